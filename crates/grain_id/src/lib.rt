@@ -1,0 +1,18 @@
+//! Names of kinds, tenants, clients and grains.
+//!
+//! A layer above may rely on this: a value is made by reading a text by the grammar, contracts see
+//! it as the bytes of its parts, and equality, order and hash are those of the parts. The grammar
+//! and the order are in `specs/Words.antt`, `specs/Names.antt` and `specs/Reading.antt`.
+#![tactic(auto)]
+
+mod caller;
+mod fault;
+mod grain;
+mod kind;
+mod tenant;
+
+pub use caller::Caller;
+pub use fault::IdFault;
+pub use grain::GrainId;
+pub use kind::Kind;
+pub use tenant::Tenant;
