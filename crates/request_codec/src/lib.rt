@@ -1,13 +1,23 @@
-// A library with one function.
+//! Values, and the bytes that spell them: messages, states and JSON.
+//!
+//! A layer above may rely on this: a `Message` is seen as the method and the value that its bytes
+//! spell, a `StateBytes` as its value, a `Datum` as the value that it shows; reading answers a value
+//! exactly where something spells the bytes, and writing gives the spelling. What spells a value is
+//! in `specs/Spelling.antt`, the values in `specs/Tree.antt`, the limits in `specs/Limits.antt`.
 #![tactic(auto)]
 
-ghost use Rattle.std.specs.Prelude.{◌≡◌};
-ghost use Rattle.request_codec.specs.Echo.{echo_of};
+mod datum;
+mod reading;
+mod writing;
+mod fault;
+mod conversion;
+mod message;
+mod state;
 
-// The `ensures` clause is the contract: what `echo` returns is `echo_of` of its argument, a definition
-// in `specs/Echo.antt`, which a caller's clause can cite too.
-pub fn echo(x: usize) -> usize
-    ensures { result ≡ echo_of x }
-{
-    x
-}
+pub use datum::Datum;
+pub use reading::{decode, decode_message, decode_state};
+pub use writing::{encode, encode_state};
+pub use fault::CodecFault;
+pub use conversion::{from_json, to_json};
+pub use message::Message;
+pub use state::StateBytes;

@@ -1,0 +1,57 @@
+-- What the calls of this crate answer, by the fault that each may have.
+use Rattle.std.specs.Prelude.{◌≡◌, ℕ, ◌<◌, ◌≤◌, ◌+◌, List, length, Option, Some, None, Result, Ok, Err}
+use Rattle.serde_json.specs.Data as json
+use Rattle.request_codec.specs.Limits.{depth_limit}
+use Rattle.request_codec.specs.Tree.{Tree, depth, null, truth, whole, text, list, map, Members, no_members, member, Fields, no_fields, field}
+use Rattle.request_codec.specs.Json.{value_of_json, json_depth}
+use Rattle.request_codec.specs.declared.fault.CodecFault.{CodecFault}
+use Rattle.request_codec.specs.declared.fault.CodecFault.TheVariants as faults
+
+-- how many bytes spell the value
+abbrev mutual
+  pub spelled_length : Tree → ℕ
+  spelled_length null = 1
+  spelled_length (truth b) = 1
+  spelled_length (whole i) = 9
+  spelled_length (text s) = 5 + length s
+  spelled_length (list vs) = 5 + members_length vs
+  spelled_length (map fs) = 5 + fields_length fs
+
+  pub members_length : Members → ℕ
+  members_length no_members = 0
+  members_length (member v vs) = spelled_length v + members_length vs
+
+  pub fields_length : Fields → ℕ
+  fields_length no_fields = 0
+  fields_length (field n v fs) = 4 + length n + (spelled_length v + fields_length fs)
+
+-- how many bytes spell the call
+abbrev pub message_length : List ℕ → Tree → ℕ
+message_length method v = 5 + length method + spelled_length v
+
+-- The answer, seen by view, is what the bytes spell, where they spell something; and NotAMessage exactly where they spell nothing.
+abbrev pub Reads : {X A : Type 0} → (X → A) → Result X CodecFault → Option A → Type 0
+Reads view (Ok x) found = found ≡ Some (view x)
+Reads view (Err faults.NotAMessage) found = found ≡ None
+Reads view (Err faults.TooDeep) found = ⊥
+Reads view (Err faults.TooLong) found = ⊥
+Reads view (Err faults.NotWhole) found = ⊥
+Reads view (Err faults.Memory) found = Unit {0}
+
+-- The answer is the value handed in, where it keeps the limits; too deep comes before too long.
+abbrev pub Writes : {A : Type 0} → Result A CodecFault → A → Tree → ℕ → ℕ → Type 0
+Writes (Ok x) written v len limit = (x ≡ written) × (depth v ≤ depth_limit) × (len ≤ limit)
+Writes (Err faults.TooDeep) written v len limit = depth_limit < depth v
+Writes (Err faults.TooLong) written v len limit = (depth v ≤ depth_limit) × (limit < len)
+Writes (Err faults.NotWhole) written v len limit = ⊥
+Writes (Err faults.NotAMessage) written v len limit = ⊥
+Writes (Err faults.Memory) written v len limit = Unit {0}
+
+-- The answer, seen by view, is the JSON's value; too deep comes before a number that isn't a whole number of 64 bits.
+abbrev pub Converts : {X : Type 0} → (X → Tree) → Result X CodecFault → json.Data → Type 0
+Converts view (Ok x) d = (json_depth d ≤ depth_limit) × (value_of_json d ≡ Some (view x))
+Converts view (Err faults.TooDeep) d = depth_limit < json_depth d
+Converts view (Err faults.NotWhole) d = (json_depth d ≤ depth_limit) × (value_of_json d ≡ None)
+Converts view (Err faults.TooLong) d = ⊥
+Converts view (Err faults.NotAMessage) d = ⊥
+Converts view (Err faults.Memory) d = Unit {0}

@@ -1,0 +1,14 @@
+-- The limits of messages and states.
+use Rattle.std.specs.Prelude.{ℕ}
+
+-- how deep a value may be
+abbrev pub depth_limit : ℕ
+depth_limit = 32
+
+-- bytes of a message
+abbrev pub message_limit : ℕ
+message_limit = 65536
+
+-- bytes of a state
+abbrev pub state_limit : ℕ
+state_limit = 262144

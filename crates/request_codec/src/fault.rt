@@ -1,0 +1,37 @@
+//! Why a value was not read or written.
+
+ghost use Rattle.std.specs.Prelude.{◌≡◌};
+ghost use Rattle.request_codec.specs.declared.fault.CodecFault.TheVariants as faults;
+
+use std::alloc::{AllocError, AllocFailed};
+
+/// Why there is no value, no message or no state.
+#[derive(Clone, Copy, Debug, PartialEq, Eq)]
+pub enum CodecFault {
+    /// The value is deeper than 32.
+    TooDeep,
+    /// A message above 65,536 bytes, or a state above 262,144.
+    TooLong,
+    /// Some number of the JSON isn't a whole number of 64 bits.
+    NotWhole,
+    /// Nothing spells the bytes.
+    NotAMessage,
+    /// Memory was refused.
+    Memory,
+}
+
+impl From<AllocError> for CodecFault {
+    ghost from_gives = { λ _ e. e ≡ faults.Memory };
+
+    fn from(_refused: AllocError) -> CodecFault {
+        CodecFault::Memory
+    }
+}
+
+impl<T: Drop> From<AllocFailed<T>> for CodecFault {
+    ghost from_gives = { λ _ e. e ≡ faults.Memory };
+
+    fn from(_refused: AllocFailed<T>) -> CodecFault {
+        CodecFault::Memory
+    }
+}
