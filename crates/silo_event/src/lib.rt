@@ -1,13 +1,16 @@
-// A library with one function.
+//! Steps, replies and faults: the plain data that goes into a silo and comes out of it.
+//!
+//! A layer above may rely on this: the generated types of `Step`, `Reply` and `Fault` are the
+//! definitions' own types, so two steps are equal exactly where their parts are; a fault's code and
+//! text are those of `specs/Fault.antt`, and a step's owner that of `specs/Owner.antt`.
 #![tactic(auto)]
 
-ghost use Rattle.std.specs.Prelude.{◌≡◌};
-ghost use Rattle.silo_event.specs.Echo.{echo_of};
+mod fault;
+mod moment;
+mod reply;
+mod step;
 
-// The `ensures` clause is the contract: what `echo` returns is `echo_of` of its argument, a definition
-// in `specs/Echo.antt`, which a caller's clause can cite too.
-pub fn echo(x: usize) -> usize
-    ensures { result ≡ echo_of x }
-{
-    x
-}
+pub use fault::Fault;
+pub use moment::Moment;
+pub use reply::{Party, Reply};
+pub use step::{Answer, Step, StepFault};

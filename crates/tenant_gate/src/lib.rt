@@ -1,13 +1,6 @@
-// A library with one function.
+//! Which tenants a silo serves, and who may call whom.
 #![tactic(auto)]
 
-ghost use Rattle.std.specs.Prelude.{◌≡◌};
-ghost use Rattle.tenant_gate.specs.Echo.{echo_of};
+mod limits;
 
-// The `ensures` clause is the contract: what `echo` returns is `echo_of` of its argument, a definition
-// in `specs/Echo.antt`, which a caller's clause can cite too.
-pub fn echo(x: usize) -> usize
-    ensures { result ≡ echo_of x }
-{
-    x
-}
+pub use limits::Limits;
