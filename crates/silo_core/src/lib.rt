@@ -1,13 +1,13 @@
-// A library with one function.
+//! A silo of virtual actors: grains that are activated, loaded and given one turn at a time.
+//!
+//! A layer above may rely on this: what a silo shows is where its journal leads from its opening,
+//! each step is its owner's machine's on the owner's part and leaves every other part as it was, and
+//! after `NotNow` and after want of memory nothing has changed. A silo is seen as the `History` of
+//! `specs/History.antt`; what a step does is defined in the crate `silo_model`.
 #![tactic(auto)]
 
-ghost use Rattle.std.specs.Prelude.{◌≡◌};
-ghost use Rattle.silo_core.specs.Echo.{echo_of};
+mod run;
+mod silo;
 
-// The `ensures` clause is the contract: what `echo` returns is `echo_of` of its argument, a definition
-// in `specs/Echo.antt`, which a caller's clause can cite too.
-pub fn echo(x: usize) -> usize
-    ensures { result ≡ echo_of x }
-{
-    x
-}
+pub use run::RunReport;
+pub use silo::Silo;

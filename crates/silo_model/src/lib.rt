@@ -1,13 +1,8 @@
-// A library with one function.
+//! The silo as definitions: one tenant's machine, all tenants' whole, and the laws between them.
+//!
+//! No code runs here. A layer above may rely on this: `specs/Step.antt` says what each step does,
+//! `specs/Whole.antt` what a silo of many tenants holds and shows to each, and every law of
+//! `specs/Laws.antt` is the contract of a function of [`laws`].
 #![tactic(auto)]
 
-ghost use Rattle.std.specs.Prelude.{◌≡◌};
-ghost use Rattle.silo_model.specs.Echo.{echo_of};
-
-// The `ensures` clause is the contract: what `echo` returns is `echo_of` of its argument, a definition
-// in `specs/Echo.antt`, which a caller's clause can cite too.
-pub fn echo(x: usize) -> usize
-    ensures { result ≡ echo_of x }
-{
-    x
-}
+pub mod laws;

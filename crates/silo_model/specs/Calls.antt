@@ -1,0 +1,60 @@
+-- How a request is accepted or refused.
+use Rattle.std.specs.Prelude.{ℕ, ◌+◌, List, [], ◌∷◌, ◌++◌, Option, Some, None, Result, Ok, Err, ◌==◌, if◌then◌else◌}
+use Rattle.std.specs.FinMap as map
+use Rattle.grain_id.specs.Names.{Grain, same_text}
+use Rattle.request_codec.specs.Tree.{Tree}
+use Rattle.request_codec.specs.Call.{Call}
+use Rattle.silo_event.specs.declared.fault.Fault.{Fault}
+use Rattle.silo_event.specs.declared.fault.Fault.TheVariants.{UnknownTenant, UnknownKind, AcrossTenants, NoNumber}
+use Rattle.silo_event.specs.declared.reply.Reply.{Reply}
+use Rattle.silo_event.specs.declared.reply.Party.{Party}
+use Rattle.silo_event.specs.declared.reply.Party.TheVariants as party
+use Rattle.silo_model.specs.Logic.{Logic}
+use Rattle.silo_model.specs.Machine.{Account, Entry, Request, waiting}
+use Rattle.silo_model.specs.Effect.{Sight, Effect, keep, put, only_replies}
+
+-- one reply
+abbrev pub told : Party → Result Tree Fault → List Reply
+told recipient outcome = record { recipient = recipient; outcome = outcome } ∷ []
+
+-- the reply to a request: a client is told, and a grain gets no answer to what it asked
+abbrev pub answered : Party → Result Tree Fault → List Reply
+answered (party.Client client id) outcome = told (party.Client client id) outcome
+answered (party.Grain grain) outcome = []
+
+-- the last number that a request may have: 2^63 - 1
+abbrev pub last_number : ℕ
+last_number = 9223372036854775807
+
+-- the grain's kind is known, and there is a number left
+abbrev pub kind_gate : Logic → Sight → Account → Grain → Result Account Fault
+kind_gate logic s account grain =
+    if logic.knows grain.kind then (if account.count == last_number then Err (NoNumber s.tenant) else Ok account)
+    else Err (UnknownKind grain.kind)
+
+-- the tenant is known, and the grain is the tenant's own
+abbrev pub gate : Logic → Sight → Option Account → Grain → Result Account Fault
+gate logic s None grain = Err (UnknownTenant s.tenant)
+gate logic s (Some account) grain = if same_text grain.tenant s.tenant then kind_gate logic s account grain else Err (AcrossTenants s.tenant grain.tenant)
+
+-- the entry with one more waiting request; a new entry waits to be activated
+abbrev pub with_request : ℕ → Request → Option Entry → Entry
+with_request clock request None = record { phase = waiting; queue = request ∷ []; turns = map.empty; last = clock }
+with_request clock request (Some e) = record e { queue = e.queue ++ request ∷ []; last = clock }
+
+-- the request is numbered and waits last
+abbrev pub accepted : Sight → Party → Call → Account → Effect
+accepted s sender call account = record {
+  account = put (record account { count = account.count + 1 });
+  entry = put (with_request s.clock (record { number = account.count + 1; sender = sender; call = call }) s.entry);
+  row = keep;
+  replies = [];
+}
+
+-- a refused request is a reply to its sender
+abbrev pub call_settled : Sight → Party → Call → Result Account Fault → Effect
+call_settled s sender call (Ok account) = accepted s sender call account
+call_settled s sender call (Err why) = only_replies (told sender (Err why))
+
+unfoldable pub called : Logic → Sight → Party → Grain → Call → Effect
+called logic s sender grain call = call_settled s sender call (gate logic s s.account grain)
