@@ -1,13 +1,19 @@
-// A library with one function.
+//! Lines of JSON in, lines of JSON out.
+//!
+//! A layer above may rely on this: `read_line` answers exactly what a line says, `reply_text` is the
+//! exact text of a reply, and `run_lines` writes exactly what the one-tenant machine replies to the
+//! lines of its input. What a line says is in `specs/Said.antt`, the texts in `specs/Text.antt`, and
+//! what is written for an input in `specs/Out.antt`.
 #![tactic(auto)]
 
-ghost use Rattle.std.specs.Prelude.{◌≡◌};
-ghost use Rattle.line_protocol.specs.Echo.{echo_of};
+mod fault;
+mod line;
+mod reading;
+mod replies;
+mod runner;
 
-// The `ensures` clause is the contract: what `echo` returns is `echo_of` of its argument, a definition
-// in `specs/Echo.antt`, which a caller's clause can cite too.
-pub fn echo(x: usize) -> usize
-    ensures { result ≡ echo_of x }
-{
-    x
-}
+pub use fault::LineFault;
+pub use line::{Line, LineRefusal};
+pub use reading::read_line;
+pub use replies::reply_text;
+pub use runner::run_lines;

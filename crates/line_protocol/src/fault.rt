@@ -1,0 +1,27 @@
+//! Why the lines of an input were not all answered.
+
+ghost use Rattle.std.specs.Prelude.{◌≡◌};
+ghost use Rattle.line_protocol.specs.declared.fault.LineFault.TheVariants.{Memory};
+
+use std::alloc::AllocError;
+
+/// Why the lines of an input were not all answered.
+#[derive(Clone, Copy, Debug, PartialEq, Eq)]
+pub enum LineFault {
+    /// The reader failed.
+    Read,
+    /// The writer failed.
+    Write,
+    /// Memory was refused.
+    Memory,
+    /// The input has more than 1,000,000 lines, or takes more than 1,073,741,824 calls of the reader.
+    TooMuch,
+}
+
+impl From<AllocError> for LineFault {
+    ghost from_gives = { λ _ e. e ≡ Memory };
+
+    fn from(_refused: AllocError) -> LineFault {
+        LineFault::Memory
+    }
+}
