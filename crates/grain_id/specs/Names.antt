@@ -40,12 +40,28 @@ IsTextOfGrain text g = IsTrue (is_grain g) × (text ≡ grain_text g)
 abbrev pub IsTextOfClient : List ℕ → Client → Type 0
 IsTextOfClient text c = IsTrue (is_client c) × (text ≡ client_text c)
 
+-- It is the text of no grain.
+abbrev pub IsTextOfNoGrain : List ℕ → Type 0
+IsTextOfNoGrain text = (g : Grain) → IsTextOfGrain text g → ⊥
+
+-- It is the text of no caller.
+abbrev pub IsTextOfNoClient : List ℕ → Type 0
+IsTextOfNoClient text = (c : Client) → IsTextOfClient text c → ⊥
+
 -- texts by their bytes
 abbrev pub text_cmp : List ℕ → List ℕ → Ordering
 text_cmp = slice_cmp nat_cmp
 
 abbrev pub same_text : List ℕ → List ℕ → Bool
 same_text = pointwise nat_eq
+
+-- one grain: the same kind, tenant and name
+abbrev pub grain_eq : Grain → Grain → Bool
+grain_eq g h = same_text g.kind h.kind && same_text g.tenant h.tenant && same_text g.name h.name
+
+-- one caller: the same tenant and client
+abbrev pub client_eq : Client → Client → Bool
+client_eq c d = same_text c.tenant d.tenant && same_text c.client d.client
 
 -- grains by kind, then tenant, then name
 abbrev pub grain_cmp : Grain → Grain → Ordering

@@ -23,6 +23,15 @@ abbrev pub Gives : {Y : Type 0} → Result Y IdFault → Result Y IdFault → Ty
 Gives (Ok x) read = read ≡ Ok x
 Gives (Err e) read = Fails e read
 
+-- What is true where a fault of the text is answered: want of memory says nothing of the text.
+abbrev pub IfFaulty : {Y : Type 0} → Result Y IdFault → Type 0 → Type 0
+IfFaulty (Ok x) said = Unit {0}
+IfFaulty (Err faults.Memory) said = Unit {0}
+IfFaulty (Err faults.Kind) said = said
+IfFaulty (Err faults.Tenant) said = said
+IfFaulty (Err faults.Name) said = said
+IfFaulty (Err faults.Client) said = said
+
 -- what stands before the first such byte, and what stands after it
 unfoldable pub cut_at : ℕ → List ℕ → Option (List ℕ × List ℕ)
 cut_at byte bytes =

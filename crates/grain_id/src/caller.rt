@@ -1,39 +1,77 @@
 //! Clients of tenants.
 
-ghost use Rattle.std.specs.Prelude.{◌≡◌, IsTrue, IfOk};
-ghost use Rattle.grain_id.specs.Names.{is_client, client_text};
-ghost use Rattle.grain_id.specs.Reading.{Gives, caller_read};
+ghost use Rattle.std.specs.Prelude.{◌≡◌, IsTrue, IfOk, MatchResult, Some, Err, refl};
+ghost use Rattle.std.specs.Hash as fed;
+ghost use Rattle.std.specs.Hash.{same_Alike};
+ghost use Rattle.std.specs.Cmp.{partial_equiv_from_equiv};
+ghost use Rattle.grain_id.specs.Names.{is_client, client_text, client_eq, client_cmp, IsTextOfClient, IsTextOfNoClient};
+ghost use Rattle.grain_id.specs.Reading.{Gives, IfFaulty, caller_read};
+ghost use Rattle.grain_id.specs.Places.{IsPlacedClient};
+ghost use Rattle.grain_id.specs.Order.{client_cmp_total, client_cmp_partial, client_eq_equiv, client_eq_decides, client_ties};
 
 use crate::fault::IdFault;
 use crate::tenant::Tenant;
+use crate::words;
 use std::alloc::{AllocError, Global};
+use std::cmp::Ordering;
+use std::hash::{Hash, Hasher};
 use std::marker::Model;
 
 /// A client of a tenant, written `tenant/client`.
+///
+/// It is one text with the place of its `/`, at most 32.
 #[derive(Debug, Drop)]
 pub struct Caller {
-    tenant: String,
-    client: String,
     text: String,
+    slash: u8,
 }
 
 impl Model for Caller {
-    ghost use Rattle.std.specs.Prelude.{IsTrue, ◌≡◌, string_bytes};
-    ghost use Rattle.grain_id.specs.Names.{Client, is_client, client_text};
+    ghost use Rattle.std.specs.Prelude.{string_bytes};
+    ghost use Rattle.grain_id.specs.Names.{Client};
+    ghost use Rattle.grain_id.specs.Places.{client_at, IsPlacedClient};
 
     ghost Value = { Client };
 
-    ghost view = { λ c. record { tenant = string_bytes c.tenant; client = string_bytes c.client } };
+    ghost view = { λ c. client_at (string_bytes c.text) c.slash };
 
-    ghost invariant = { λ c. IsTrue (is_client (record { tenant = string_bytes c.tenant; client = string_bytes c.client })) × (string_bytes c.text ≡ client_text (record { tenant = string_bytes c.tenant; client = string_bytes c.client })) };
+    ghost invariant = { λ c. IsPlacedClient (string_bytes c.text) c.slash };
+}
+
+/// The place of the `/`, or the first part from the left that isn't well formed.
+#[tactic(auto, unfolding(crate::specs::Reading::caller_read))]
+fn place(text: &str) -> Result<u8, IdFault>
+    ensures { MatchResult result (λ slash. IsPlacedClient text.now slash) (λ fault. caller_read text.now ≡ Err fault) }
+{
+    let Some((tenant, client)) = words::cut(text, '/') else {
+        return Err(IdFault::Tenant);
+    };
+    if !words::is_word(tenant) {
+        return Err(IdFault::Tenant);
+    }
+    if !words::is_word(client) {
+        return Err(IdFault::Client);
+    }
+    Ok(tenant.len() as u8)
 }
 
 impl Caller {
-    /// Reads `tenant/client`.
-    pub fn read(_alloc: Global, _text: &str) -> Result<Caller, IdFault>
-        ensures { Gives result (caller_read _text.now) }
+    /// Reads `tenant/client`: the first `/` ends the tenant.
+    ///
+    /// # Errors
+    ///
+    /// The first part from the left that isn't well formed, `Tenant` or `Client` (a missing `/` is
+    /// a fault of the tenant), or `Memory`.
+    pub fn read(alloc: Global, text: &str) -> Result<Caller, IdFault>
+        ensures gives { Gives result (caller_read text.now) }
+        ensures whole { IfOk result (λ caller. IsTextOfClient text.now caller) }
+        ensures none { IfFaulty result (IsTextOfNoClient text.now) }
     {
-        Err(IdFault::Memory)
+        let slash = place(text)?;
+        Ok(Caller {
+            text: String::from_str(alloc, text)?,
+            slash,
+        })
     }
 
     /// `tenant/client`.
@@ -48,21 +86,23 @@ impl Caller {
     pub fn tenant(&self) -> &str
         ensures { result.now ≡ self.now.tenant }
     {
-        self.tenant.as_str()
+        words::before(&self.text, usize::from(self.slash))
     }
 
     /// The client's name within the tenant.
     pub fn client(&self) -> &str
         ensures { result.now ≡ self.now.client }
     {
-        self.client.as_str()
+        words::after(&self.text, usize::from(self.slash))
     }
 
     /// The tenant, as a value of its own.
-    pub fn to_tenant(&self, _alloc: Global) -> Result<Tenant, AllocError>
+    pub fn to_tenant(&self, alloc: Global) -> Result<Tenant, AllocError>
         ensures { IfOk result (λ t. t ≡ self.now.tenant) }
     {
-        Err(AllocError)
+        // Read, so that the proof sees that the parts are well formed.
+        let _text = &self.text;
+        Tenant::of_word(alloc, self.tenant())
     }
 }
 
@@ -70,6 +110,59 @@ impl Clone for Caller {
     ghost is_clone = { λ caller copy. copy ≡ caller };
 
     fn clone(&self) -> Result<Caller, AllocError> {
-        Err(AllocError)
+        Ok(Caller {
+            text: self.text.clone()?,
+            slash: self.slash,
+        })
+    }
+}
+
+impl PartialEq for Caller {
+    ghost eq = { client_eq };
+
+    ghost laws = { partial_equiv_from_equiv client_eq_equiv };
+
+    fn eq(&self, other: &Caller) -> bool {
+        self.text() == other.text()
+    }
+}
+
+impl Eq for Caller {
+    ghost laws = { client_eq_equiv };
+}
+
+impl PartialOrd for Caller {
+    ghost partial_cmp = { λ a b. Some (client_cmp a b) };
+
+    ghost laws = { client_cmp_partial };
+
+    fn partial_cmp(&self, other: &Caller) -> Option<Ordering> {
+        Some(self.cmp(other))
+    }
+}
+
+impl Ord for Caller {
+    ghost cmp = { client_cmp };
+
+    ghost total = { client_cmp_total };
+
+    ghost matches_partial_cmp = { λ a b. refl };
+
+    ghost matches_eq = { client_ties };
+
+    fn cmp(&self, other: &Caller) -> Ordering {
+        self.tenant()
+            .cmp(other.tenant())
+            .then_with(|| self.client().cmp(other.client()))
+    }
+}
+
+impl Hash for Caller {
+    ghost hash_input = { λ caller. fed.str (client_text caller) };
+
+    ghost respects_eq = { (same_Alike (λ caller. fed.str (client_text caller)) client_eq_decides).fed };
+
+    fn hash<H: Hasher>(&self, state: &mut H) {
+        self.text().hash(state);
     }
 }

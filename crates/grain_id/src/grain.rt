@@ -1,41 +1,89 @@
 //! Grains.
 
-ghost use Rattle.std.specs.Prelude.{◌≡◌, IsTrue, IfOk};
-ghost use Rattle.grain_id.specs.Names.{is_grain, grain_text};
-ghost use Rattle.grain_id.specs.Reading.{Gives, grain_read};
+ghost use Rattle.std.specs.Prelude.{◌≡◌, IsTrue, IfOk, MatchResult, Some, Err, refl};
+ghost use Rattle.std.specs.Hash as fed;
+ghost use Rattle.std.specs.Hash.{same_Alike};
+ghost use Rattle.std.specs.Cmp.{partial_equiv_from_equiv};
+ghost use Rattle.grain_id.specs.Names.{is_grain, grain_text, grain_eq, grain_cmp, IsTextOfGrain, IsTextOfNoGrain};
+ghost use Rattle.grain_id.specs.Reading.{Gives, IfFaulty, grain_read};
+ghost use Rattle.grain_id.specs.Places.{IsPlacedGrain};
+ghost use Rattle.grain_id.specs.Order.{grain_cmp_total, grain_cmp_partial, grain_eq_equiv, grain_eq_decides, grain_ties};
 
 use crate::fault::IdFault;
 use crate::kind::Kind;
 use crate::tenant::Tenant;
+use crate::words;
 use std::alloc::{AllocError, Global};
+use std::cmp::Ordering;
+use std::hash::{Hash, Hasher};
 use std::marker::Model;
 
 /// The identity of a grain, written `kind/tenant:name`.
+///
+/// It is one text with the places of its `/` and its `:`, both below 66.
 #[derive(Debug, Drop)]
 pub struct GrainId {
-    kind: String,
-    tenant: String,
-    name: String,
     text: String,
+    slash: u8,
+    colon: u8,
 }
 
 impl Model for GrainId {
-    ghost use Rattle.std.specs.Prelude.{IsTrue, ◌≡◌, string_bytes};
-    ghost use Rattle.grain_id.specs.Names.{Grain, is_grain, grain_text};
+    ghost use Rattle.std.specs.Prelude.{string_bytes};
+    ghost use Rattle.grain_id.specs.Names.{Grain};
+    ghost use Rattle.grain_id.specs.Places.{grain_at, IsPlacedGrain};
 
     ghost Value = { Grain };
 
-    ghost view = { λ g. record { kind = string_bytes g.kind; tenant = string_bytes g.tenant; name = string_bytes g.name } };
+    ghost view = { λ g. grain_at (string_bytes g.text) g.slash g.colon };
 
-    ghost invariant = { λ g. IsTrue (is_grain (record { kind = string_bytes g.kind; tenant = string_bytes g.tenant; name = string_bytes g.name })) × (string_bytes g.text ≡ grain_text (record { kind = string_bytes g.kind; tenant = string_bytes g.tenant; name = string_bytes g.name })) };
+    ghost invariant = { λ g. IsPlacedGrain (string_bytes g.text) g.slash g.colon };
+}
+
+/// The places of the `/` and the `:`, or the first part from the left that isn't well formed.
+#[tactic(auto, unfolding(crate::specs::Reading::grain_read))]
+fn places(text: &str) -> Result<(u8, u8), IdFault>
+    ensures { MatchResult result (λ places. IsPlacedGrain text.now places.0 places.1) (λ fault. grain_read text.now ≡ Err fault) }
+{
+    let Some((kind, rest)) = words::cut(text, '/') else {
+        return Err(IdFault::Kind);
+    };
+    if !words::is_word(kind) {
+        return Err(IdFault::Kind);
+    }
+    let Some((tenant, name)) = words::cut(rest, ':') else {
+        return Err(IdFault::Tenant);
+    };
+    if !words::is_word(tenant) {
+        return Err(IdFault::Tenant);
+    }
+    if !words::is_name(name) {
+        return Err(IdFault::Name);
+    }
+    let slash = kind.len();
+    let colon = slash + 1 + tenant.len();
+    Ok((slash as u8, colon as u8))
 }
 
 impl GrainId {
-    /// Reads `kind/tenant:name`.
-    pub fn read(_alloc: Global, _text: &str) -> Result<GrainId, IdFault>
-        ensures { Gives result (grain_read _text.now) }
+    /// Reads `kind/tenant:name`: the first `/` ends the kind, the first `:` after it ends the
+    /// tenant, and the name may hold both.
+    ///
+    /// # Errors
+    ///
+    /// The first part from the left that isn't well formed, `Kind`, `Tenant` or `Name` (a missing
+    /// `/` is a fault of the kind, a missing `:` one of the tenant), or `Memory`.
+    pub fn read(alloc: Global, text: &str) -> Result<GrainId, IdFault>
+        ensures gives { Gives result (grain_read text.now) }
+        ensures whole { IfOk result (λ grain. IsTextOfGrain text.now grain) }
+        ensures none { IfFaulty result (IsTextOfNoGrain text.now) }
     {
-        Err(IdFault::Memory)
+        let (slash, colon) = places(text)?;
+        Ok(GrainId {
+            text: String::from_str(alloc, text)?,
+            slash,
+            colon,
+        })
     }
 
     /// `kind/tenant:name`.
@@ -50,35 +98,39 @@ impl GrainId {
     pub fn kind(&self) -> &str
         ensures { result.now ≡ self.now.kind }
     {
-        self.kind.as_str()
+        words::before(&self.text, usize::from(self.slash))
     }
 
     /// The tenant's name.
     pub fn tenant(&self) -> &str
         ensures { result.now ≡ self.now.tenant }
     {
-        self.tenant.as_str()
+        words::between(&self.text, usize::from(self.slash), usize::from(self.colon))
     }
 
     /// The name within its kind and tenant.
     pub fn name(&self) -> &str
         ensures { result.now ≡ self.now.name }
     {
-        self.name.as_str()
+        words::after(&self.text, usize::from(self.colon))
     }
 
     /// The kind, as a value of its own.
-    pub fn to_kind(&self, _alloc: Global) -> Result<Kind, AllocError>
+    pub fn to_kind(&self, alloc: Global) -> Result<Kind, AllocError>
         ensures { IfOk result (λ k. k ≡ self.now.kind) }
     {
-        Err(AllocError)
+        // Read, so that the proof sees that the parts are well formed.
+        let _text = &self.text;
+        Kind::of_word(alloc, self.kind())
     }
 
     /// The tenant, as a value of its own.
-    pub fn to_tenant(&self, _alloc: Global) -> Result<Tenant, AllocError>
+    pub fn to_tenant(&self, alloc: Global) -> Result<Tenant, AllocError>
         ensures { IfOk result (λ t. t ≡ self.now.tenant) }
     {
-        Err(AllocError)
+        // Read, so that the proof sees that the parts are well formed.
+        let _text = &self.text;
+        Tenant::of_word(alloc, self.tenant())
     }
 }
 
@@ -86,6 +138,61 @@ impl Clone for GrainId {
     ghost is_clone = { λ grain copy. copy ≡ grain };
 
     fn clone(&self) -> Result<GrainId, AllocError> {
-        Err(AllocError)
+        Ok(GrainId {
+            text: self.text.clone()?,
+            slash: self.slash,
+            colon: self.colon,
+        })
+    }
+}
+
+impl PartialEq for GrainId {
+    ghost eq = { grain_eq };
+
+    ghost laws = { partial_equiv_from_equiv grain_eq_equiv };
+
+    fn eq(&self, other: &GrainId) -> bool {
+        self.text() == other.text()
+    }
+}
+
+impl Eq for GrainId {
+    ghost laws = { grain_eq_equiv };
+}
+
+impl PartialOrd for GrainId {
+    ghost partial_cmp = { λ a b. Some (grain_cmp a b) };
+
+    ghost laws = { grain_cmp_partial };
+
+    fn partial_cmp(&self, other: &GrainId) -> Option<Ordering> {
+        Some(self.cmp(other))
+    }
+}
+
+impl Ord for GrainId {
+    ghost cmp = { grain_cmp };
+
+    ghost total = { grain_cmp_total };
+
+    ghost matches_partial_cmp = { λ a b. refl };
+
+    ghost matches_eq = { grain_ties };
+
+    fn cmp(&self, other: &GrainId) -> Ordering {
+        self.kind()
+            .cmp(other.kind())
+            .then_with(|| self.tenant().cmp(other.tenant()))
+            .then_with(|| self.name().cmp(other.name()))
+    }
+}
+
+impl Hash for GrainId {
+    ghost hash_input = { λ grain. fed.str (grain_text grain) };
+
+    ghost respects_eq = { (same_Alike (λ grain. fed.str (grain_text grain)) grain_eq_decides).fed };
+
+    fn hash<H: Hasher>(&self, state: &mut H) {
+        self.text().hash(state);
     }
 }

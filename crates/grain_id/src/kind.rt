@@ -1,11 +1,20 @@
 //! Kinds of grains.
 
-ghost use Rattle.std.specs.Prelude.{◌≡◌, IsTrue, IfOk};
+ghost use Rattle.std.specs.Prelude.{◌≡◌, IsTrue, IfOk, Some, false, refl};
+ghost use Rattle.std.specs.Hash as fed;
+ghost use Rattle.std.specs.Hash.{same_Alike};
+ghost use Rattle.std.specs.Cmp.{partial_equiv_from_equiv};
+ghost use Rattle.std.specs.Cmp.Lexicographic.{nat_list_eq_equiv, texts_po, texts_ties};
 ghost use Rattle.grain_id.specs.Words.{is_word};
-ghost use Rattle.grain_id.specs.Reading.{Gives, kind_read};
+ghost use Rattle.grain_id.specs.Names.{same_text, text_cmp};
+ghost use Rattle.grain_id.specs.Reading.{Gives, IfFaulty, kind_read};
+ghost use Rattle.grain_id.specs.Order.{text_cmp_total, same_text_decides};
 
 use crate::fault::IdFault;
+use crate::words;
 use std::alloc::{AllocError, Global};
+use std::cmp::Ordering;
+use std::hash::{Hash, Hasher};
 use std::marker::Model;
 
 /// The name of a kind of grains: 1 to 32 bytes of `a-z`, `0-9` and `-`, the first a letter.
@@ -27,10 +36,29 @@ impl Model for Kind {
 
 impl Kind {
     /// Reads the name of a kind.
-    pub fn read(_alloc: Global, _text: &str) -> Result<Kind, IdFault>
-        ensures { Gives result (kind_read _text.now) }
+    ///
+    /// # Errors
+    ///
+    /// `Kind` where the text is no such name, `Memory` where memory is refused.
+    pub fn read(alloc: Global, text: &str) -> Result<Kind, IdFault>
+        ensures gives { Gives result (kind_read text.now) }
+        ensures whole { IfOk result (λ kind. IsTrue (is_word text.now) × (text.now ≡ kind)) }
+        ensures none { IfFaulty result (is_word text.now ≡ false) }
     {
-        Err(IdFault::Memory)
+        if !words::is_word(text) {
+            return Err(IdFault::Kind);
+        }
+        Ok(Kind::of_word(alloc, text)?)
+    }
+
+    /// The kind of a name that is known to be well formed.
+    pub(crate) fn of_word(alloc: Global, text: &str) -> Result<Kind, AllocError>
+        requires { IsTrue (is_word text.now) }
+        ensures { IfOk result (λ kind. kind ≡ text.now) }
+    {
+        Ok(Kind {
+            text: String::from_str(alloc, text)?,
+        })
     }
 
     /// The name as text.
@@ -46,6 +74,56 @@ impl Clone for Kind {
     ghost is_clone = { λ kind copy. copy ≡ kind };
 
     fn clone(&self) -> Result<Kind, AllocError> {
-        Err(AllocError)
+        Ok(Kind {
+            text: self.text.clone()?,
+        })
+    }
+}
+
+impl PartialEq for Kind {
+    ghost eq = { same_text };
+
+    ghost laws = { partial_equiv_from_equiv nat_list_eq_equiv };
+
+    fn eq(&self, other: &Kind) -> bool {
+        self.text() == other.text()
+    }
+}
+
+impl Eq for Kind {
+    ghost laws = { nat_list_eq_equiv };
+}
+
+impl PartialOrd for Kind {
+    ghost partial_cmp = { λ a b. Some (text_cmp a b) };
+
+    ghost laws = { texts_po };
+
+    fn partial_cmp(&self, other: &Kind) -> Option<Ordering> {
+        Some(self.cmp(other))
+    }
+}
+
+impl Ord for Kind {
+    ghost cmp = { text_cmp };
+
+    ghost total = { text_cmp_total };
+
+    ghost matches_partial_cmp = { λ a b. refl };
+
+    ghost matches_eq = { texts_ties };
+
+    fn cmp(&self, other: &Kind) -> Ordering {
+        self.text().cmp(other.text())
+    }
+}
+
+impl Hash for Kind {
+    ghost hash_input = { fed.str };
+
+    ghost respects_eq = { (same_Alike fed.str same_text_decides).fed };
+
+    fn hash<H: Hasher>(&self, state: &mut H) {
+        self.text().hash(state);
     }
 }

@@ -9,10 +9,15 @@ mod caller;
 mod fault;
 mod grain;
 mod kind;
+pub mod laws;
 mod tenant;
+mod words;
 
 pub use caller::Caller;
 pub use fault::IdFault;
 pub use grain::GrainId;
 pub use kind::Kind;
 pub use tenant::Tenant;
+
+#[cfg(test)]
+mod tests;
