@@ -20,3 +20,7 @@ seen_step (Datum-F.Map m) = tree.map (fields_of (map named m.entries))
 
 abbrev pub value_of : Datum → Tree
 value_of = fold-Datum Tree seen_step
+
+-- a name and the value beside it
+abbrev pub entry_of : String Global × Datum → List ℕ × Tree
+entry_of e = (string_bytes e.0, value_of e.1)

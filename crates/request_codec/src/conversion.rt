@@ -8,19 +8,26 @@ ghost use Rattle.request_codec.specs.Answers.{Converts};
 
 use crate::datum::Datum;
 use crate::fault::CodecFault;
+use crate::json_depth::is_json_within;
+use crate::json_reader::datum_of_json;
+use crate::json_writer::json_of_datum;
+use crate::limits::MAX_DEPTH;
 use serde_json::Value;
 use std::alloc::{AllocError, Global};
 
 /// The value of JSON. `TooDeep` comes before `NotWhole`.
-pub fn from_json(_alloc: Global, _value: &Value) -> Result<Datum, CodecFault>
-    ensures { Converts value_of result (view _value.now) }
+pub fn from_json(alloc: Global, value: &Value) -> Result<Datum, CodecFault>
+    ensures { Converts value_of result (view value.now) }
 {
-    Err(CodecFault::Memory)
+    if !is_json_within(value, MAX_DEPTH) {
+        return Err(CodecFault::TooDeep);
+    }
+    datum_of_json(alloc, value)
 }
 
 /// The JSON of a value.
-pub fn to_json(_alloc: Global, _datum: &Datum) -> Result<Value, AllocError>
-    ensures { IfOk result (λ v. view v ≡ json_of (value_of _datum.now)) }
+pub fn to_json(alloc: Global, datum: &Datum) -> Result<Value, AllocError>
+    ensures { IfOk result (λ v. view v ≡ json_of (value_of datum.now)) }
 {
-    Err(AllocError)
+    json_of_datum(alloc, datum)
 }

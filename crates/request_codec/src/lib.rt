@@ -6,7 +6,16 @@
 //! in `specs/Spelling.antt`, the values in `specs/Tree.antt`, the limits in `specs/Limits.antt`.
 #![tactic(auto)]
 
+pub mod bytes;
 mod datum;
+mod datum_reader;
+mod datum_writer;
+mod depth;
+mod json_depth;
+mod json_reader;
+mod json_writer;
+pub mod laws;
+mod limits;
 mod reading;
 mod writing;
 mod fault;

@@ -1,11 +1,15 @@
 //! Messages.
 
-ghost use Rattle.std.specs.Prelude.{◌≡◌, Some, IfOk};
-ghost use Rattle.request_codec.specs.Call.{message_call};
+ghost use Rattle.std.specs.Prelude.{◌≡◌, ℕ, List, Some, Err, IfOk, IsSome};
+ghost use Rattle.request_codec.specs.Tree.{Tree};
+ghost use Rattle.request_codec.specs.Call.{message_call, call_of};
 ghost use Rattle.request_codec.specs.Spelling.{SpellsMessage};
 ghost use Rattle.request_codec.specs.Answers.{Reads};
+ghost use Rattle.request_codec.specs.declared.fault.CodecFault.TheVariants as faults;
 
+use crate::bytes::text_of;
 use crate::fault::CodecFault;
+use crate::reading::decode;
 use std::alloc::{AllocError, Global};
 use std::marker::Model;
 
@@ -30,12 +34,66 @@ impl Model for Message {
     ghost invariant = { λ m. IsSome (message_call m.bytes.items) };
 }
 
+/// The same bytes, which spell the call that is shown of them.
+fn spelled(bytes: &[u8]) -> &[u8]
+    requires { IsSome (message_call bytes.now) }
+    ensures same { result.now ≡ bytes.now }
+    ensures reads { message_call result.now ≡ Some (call_of bytes.now) }
+    ensures spelled { SpellsMessage (call_of bytes.now).method (call_of bytes.now).argument bytes.now }
+{
+    bytes
+}
+
+/// The method in a message's bytes.
+fn method_in(bytes: &[u8]) -> &str
+    requires { IsSome (message_call bytes.now) }
+    ensures { result.now ≡ (call_of bytes.now).method }
+{
+    match bytes {
+        [_, behind @ ..] => match text_of(behind) {
+            Some((method, _)) => method,
+            None => unreachable!(),
+        },
+        [] => unreachable!(),
+    }
+}
+
 impl Message {
-    /// The message whose bytes these are.
-    pub fn read(_alloc: Global, _bytes: &[u8]) -> Result<Message, CodecFault>
-        ensures { Reads (λ read. read) result (message_call _bytes.now) }
+    /// The message of bytes that are known to spell one.
+    pub fn from_spelling(bytes: Vec<u8>) -> Message
+        requires { IsSome (message_call bytes.items) }
+        ensures { message_call bytes.items ≡ Some result }
     {
-        Err(CodecFault::Memory)
+        Message {
+            bytes,
+        }
+    }
+
+    /// The message whose bytes these are. It keeps the very bytes.
+    pub fn read(alloc: Global, bytes: &[u8]) -> Result<Message, CodecFault>
+        ensures reads { Reads (λ read. read) result (message_call bytes.now) }
+        ensures spelled { IfOk result (λ read. SpellsMessage read.method read.argument bytes.now) }
+        ensures none { result ≡ Err faults.NotAMessage → (method : List ℕ) → (v : Tree) → SpellsMessage method v bytes.now → ⊥ }
+    {
+        drop(decode(alloc, bytes)?);
+        Ok(Message {
+            bytes: Vec::from_slice(alloc, bytes)?,
+        })
+    }
+
+    /// The bytes, which spell the method and the argument.
+    pub fn bytes(&self) -> &[u8]
+        ensures reads { message_call result.now ≡ Some self.now }
+        ensures spelled { SpellsMessage self.now.method self.now.argument result.now }
+    {
+        spelled(self.bytes.as_slice())
+    }
+
+    /// The method. The value behind it is not read.
+    pub fn method(&self) -> &str
+        ensures { result.now ≡ self.now.method }
+    {
+        method_in(self.bytes.as_slice())
     }
 }
 
@@ -43,6 +101,8 @@ impl Clone for Message {
     ghost is_clone = { λ message copy. copy ≡ message };
 
     fn clone(&self) -> Result<Message, AllocError> {
-        Err(AllocError)
+        Ok(Message {
+            bytes: self.bytes.clone()?,
+        })
     }
 }

@@ -1,10 +1,14 @@
 //! States.
 
-ghost use Rattle.std.specs.Prelude.{◌≡◌, Some, IfOk};
-ghost use Rattle.request_codec.specs.Call.{state_value};
+ghost use Rattle.std.specs.Prelude.{◌≡◌, Some, Err, IfOk, IsSome};
+ghost use Rattle.request_codec.specs.Tree.{Tree};
+ghost use Rattle.request_codec.specs.Call.{state_value, value_of_state};
+ghost use Rattle.request_codec.specs.Spelling.{SpellsState};
 ghost use Rattle.request_codec.specs.Answers.{Reads};
+ghost use Rattle.request_codec.specs.declared.fault.CodecFault.TheVariants as faults;
 
 use crate::fault::CodecFault;
+use crate::reading::state_datum;
 use std::alloc::{AllocError, Global};
 use std::marker::Model;
 
@@ -30,12 +34,45 @@ impl Model for StateBytes {
     ghost invariant = { λ s. IsSome (state_value s.bytes.items) };
 }
 
+/// The same bytes, which spell the value that is shown of them.
+fn spelled(bytes: &[u8]) -> &[u8]
+    requires { IsSome (state_value bytes.now) }
+    ensures same { result.now ≡ bytes.now }
+    ensures reads { state_value result.now ≡ Some (value_of_state bytes.now) }
+    ensures spelled { SpellsState (value_of_state bytes.now) bytes.now }
+{
+    bytes
+}
+
 impl StateBytes {
-    /// The state whose bytes these are.
-    pub fn read(_alloc: Global, _bytes: &[u8]) -> Result<StateBytes, CodecFault>
-        ensures { Reads (λ read. read) result (state_value _bytes.now) }
+    /// The state of bytes that are known to spell one.
+    pub fn from_spelling(bytes: Vec<u8>) -> StateBytes
+        requires { IsSome (state_value bytes.items) }
+        ensures { state_value bytes.items ≡ Some result }
     {
-        Err(CodecFault::Memory)
+        StateBytes {
+            bytes,
+        }
+    }
+
+    /// The state whose bytes these are. It keeps the very bytes.
+    pub fn read(alloc: Global, bytes: &[u8]) -> Result<StateBytes, CodecFault>
+        ensures reads { Reads (λ read. read) result (state_value bytes.now) }
+        ensures spelled { IfOk result (λ read. SpellsState read bytes.now) }
+        ensures none { result ≡ Err faults.NotAMessage → (v : Tree) → SpellsState v bytes.now → ⊥ }
+    {
+        drop(state_datum(alloc, bytes)?);
+        Ok(StateBytes {
+            bytes: Vec::from_slice(alloc, bytes)?,
+        })
+    }
+
+    /// The bytes, which spell the value.
+    pub fn bytes(&self) -> &[u8]
+        ensures reads { state_value result.now ≡ Some self.now }
+        ensures spelled { SpellsState self.now result.now }
+    {
+        spelled(self.bytes.as_slice())
     }
 }
 
@@ -43,6 +80,8 @@ impl Clone for StateBytes {
     ghost is_clone = { λ state copy. copy ≡ state };
 
     fn clone(&self) -> Result<StateBytes, AllocError> {
-        Err(AllocError)
+        Ok(StateBytes {
+            bytes: self.bytes.clone()?,
+        })
     }
 }

@@ -1,0 +1,56 @@
+-- What was answered, by what a part answered.
+use Rattle.std.proofs.Common.{◌≡◌, ℕ, ◌+◌, ◌<◌, ◌≤◌, List, length, Option, None, Result, Ok, Err, subst, arith}
+use Rattle.request_codec.specs.Limits.{depth_limit}
+use Rattle.request_codec.specs.Tree.{Tree, depth}
+use Rattle.request_codec.specs.Written.{Puts, WritesAll}
+use Rattle.request_codec.specs.Answers.{Writes}
+use Rattle.request_codec.specs.declared.fault.CodecFault.{CodecFault}
+use Rattle.request_codec.specs.declared.fault.CodecFault.TheVariants as faults
+
+-- why nothing was read
+abbrev pub Fails : {A : Type 0} → CodecFault → Option A → Type 0
+Fails faults.NotAMessage found = found ≡ None
+Fails faults.TooDeep found = ⊥
+Fails faults.TooLong found = ⊥
+Fails faults.NotWhole found = ⊥
+Fails faults.Memory found = Unit {0}
+
+-- a fault of a part is the whole's fault
+pub Fails-whole : {A B : Type 0} (e : CodecFault) (part : Option A) (whole : Option B) → (part ≡ None → whole ≡ None) → Fails e part → Fails e whole
+Fails-whole faults.NotAMessage part whole none h = none h
+Fails-whole faults.Memory part whole none h = tt
+Fails-whole faults.TooDeep part whole none h = absurd h
+Fails-whole faults.TooLong part whole none h = absurd h
+Fails-whole faults.NotWhole part whole none h = absurd h
+
+-- what was not written was too long, or there was no memory
+pub Writes-fault : {A : Type 0} (e : CodecFault) (written : A) (v : Tree) (len limit : ℕ) (bytes : List ℕ) → depth v ≤ depth_limit → length bytes ≡ len → WritesAll limit (Err e) bytes → Writes (Err e) written v len limit
+Writes-fault faults.TooLong written v len limit bytes deep same h = (deep, subst (λ (n : ℕ). limit < n) same h)
+Writes-fault faults.Memory written v len limit bytes deep same h = tt
+Writes-fault faults.TooDeep written v len limit bytes deep same h = absurd h
+Writes-fault faults.NotWhole written v len limit bytes deep same h = absurd h
+Writes-fault faults.NotAMessage written v len limit bytes deep same h = absurd h
+
+-- what was put at the end of nothing is all that was written
+pub WritesAll-fault : (e : CodecFault) (limit : ℕ) (old new : List ℕ) (bytes whole : List ℕ) → length old + length bytes ≤ length whole → Puts limit old new (Err e) bytes → WritesAll limit (Err e) whole
+WritesAll-fault faults.TooLong limit old new bytes whole le h = omega (arith, h, le)
+WritesAll-fault faults.Memory limit old new bytes whole le h = tt
+WritesAll-fault faults.TooDeep limit old new bytes whole le h = absurd h
+WritesAll-fault faults.NotWhole limit old new bytes whole le h = absurd h
+WritesAll-fault faults.NotAMessage limit old new bytes whole le h = absurd h
+
+-- why nothing was converted
+abbrev pub FailsToGive : {A : Type 0} → CodecFault → Option A → Type 0
+FailsToGive faults.NotWhole found = found ≡ None
+FailsToGive faults.TooDeep found = ⊥
+FailsToGive faults.TooLong found = ⊥
+FailsToGive faults.NotAMessage found = ⊥
+FailsToGive faults.Memory found = Unit {0}
+
+-- a fault of a part is the whole's fault
+pub FailsToGive-whole : {A B : Type 0} (e : CodecFault) (part : Option A) (whole : Option B) → (part ≡ None → whole ≡ None) → FailsToGive e part → FailsToGive e whole
+FailsToGive-whole faults.NotWhole part whole none h = none h
+FailsToGive-whole faults.Memory part whole none h = tt
+FailsToGive-whole faults.TooDeep part whole none h = absurd h
+FailsToGive-whole faults.TooLong part whole none h = absurd h
+FailsToGive-whole faults.NotAMessage part whole none h = absurd h

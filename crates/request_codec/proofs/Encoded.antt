@@ -1,0 +1,29 @@
+-- What was written as a message or a state is read as what it was written for.
+use Rattle.std.proofs.Common.{◌≡◌, ℕ, ◌≤◌, List, ◌∷◌, ◌++◌, length, Option, Some, refl, sym, ap, ◌∙◌, arith}
+use Rattle.std.specs.Prelude.{IsUtf8}
+use Rattle.std.proofs.lemmas.Option.{same_Some}
+use Rattle.request_codec.specs.Limits.{depth_limit, message_limit, state_limit}
+use Rattle.request_codec.specs.Tree.{Tree, depth}
+use Rattle.request_codec.specs.Written.{text_spelling, spelling}
+use Rattle.request_codec.specs.Formed.{IsFormed}
+use Rattle.request_codec.specs.Answers.{spelled_length, message_length}
+use Rattle.request_codec.specs.Call.{Call, asks, message_call, state_value}
+use Rattle.request_codec.proofs.Spelled.{message_spelled, state_spelled, length-message, length-spelling}
+use Rattle.request_codec.proofs.Whole.{message_again, state_again}
+
+pub encoded_message : (items method : List ℕ) (v : Tree) → IsUtf8 method → (depth v ≤ depth_limit) × IsFormed v → (items ≡ 1 ∷ (text_spelling method ++ spelling v)) × (length (1 ∷ (text_spelling method ++ spelling v)) ≤ message_limit)
+    → message_call items ≡ Some (asks method v)
+encoded_message items method v valid tested is =
+    let short : message_length method v ≤ message_limit = omega (arith, is.1, length-message method v) in
+    ap message_call is.0 ∙ message_again (1 ∷ (text_spelling method ++ spelling v)) method v (message_spelled method v valid tested.1 tested.0 short)
+
+pub encoded_state : (items : List ℕ) (v : Tree) → (depth v ≤ depth_limit) × IsFormed v → (items ≡ spelling v) × (length (spelling v) ≤ state_limit) → state_value items ≡ Some v
+encoded_state items v tested is =
+    let short : spelled_length v ≤ state_limit = omega (arith, is.1, length-spelling v) in
+    ap state_value is.0 ∙ state_again (spelling v) v (state_spelled v tested.1 tested.0 short)
+
+pub same_call : (o : Option Call) (a b : Call) → o ≡ Some a → o ≡ Some b → a ≡ b
+same_call o a b p q = same_Some a b (sym p ∙ q)
+
+pub same_value : (o : Option Tree) (a b : Tree) → o ≡ Some a → o ≡ Some b → a ≡ b
+same_value o a b p q = same_Some a b (sym p ∙ q)

@@ -1,0 +1,45 @@
+-- A map into which names go in their order.
+use Rattle.std.proofs.Common.{◌≡◌, ℕ, List, [], ◌∷◌, ◌++◌, map, Option, Some, None, String, Global, string_bytes, string_cmp, nat_cmp, Ordering, Less, Equal, Greater, Bool, true, false, refl, sym, ap, ◌∙◌}
+use Rattle.std.proofs.lemmas.Cmp.{nat_list_cmp_total}
+use Rattle.std.specs.Cmp.Lexicographic.{slice_cmp}
+use Rattle.std.specs.Ordering.{is_lt, ordering_reverse, match_ordering}
+use Rattle.std.specs.BTreeMap.{insert_entry}
+use Rattle.request_codec.specs.Tree.{Tree}
+use Rattle.request_codec.specs.Reading.{is_above}
+use Rattle.request_codec.specs.Seen.{value_of, entry_of}
+use Rattle.request_codec.specs.declared.datum.Datum.{Datum}
+
+abbrev pub Entry : Type 0
+Entry = String Global × Datum
+
+-- each name is before this one
+abbrev pub AreBelow : List Entry → List ℕ → Type 0
+AreBelow [] name = Unit {0}
+AreBelow (e ∷ es) name = (slice_cmp nat_cmp (string_bytes e.0) name ≡ Less) × AreBelow es name
+
+is_less : (o : Ordering) → is_lt o ≡ true → o ≡ Less
+is_less Less e = refl
+is_less Equal e = absurd cc
+is_less Greater e = absurd cc
+
+pub AreBelow-later : (es : List Entry) (name next : List ℕ) → AreBelow es name → slice_cmp nat_cmp name next ≡ Less → AreBelow es next
+AreBelow-later [] name next h lt = tt
+AreBelow-later (e ∷ es) name next h lt = (nat_list_cmp_total.trans (string_bytes e.0) name next h.0 lt, AreBelow-later es name next h.1 lt)
+
+pub AreBelow-push : (es : List Entry) (e : Entry) (next : List ℕ) → AreBelow es next → slice_cmp nat_cmp (string_bytes e.0) next ≡ Less → AreBelow (es ++ e ∷ []) next
+AreBelow-push [] e next h lt = (lt, tt)
+AreBelow-push (f ∷ es) e next h lt = (h.0, AreBelow-push es e next h.1 lt)
+
+-- a name that is above the others goes last
+pub insert_entry-last : (es : List Entry) (k : String Global) (d : Datum) → AreBelow es (string_bytes k) → insert_entry string_cmp es k d ≡ es ++ (k, d) ∷ []
+insert_entry-last [] k d h = refl
+insert_entry-last (e ∷ es) k d h =
+    let above : slice_cmp nat_cmp (string_bytes k) (string_bytes e.0) ≡ Greater =
+    nat_list_cmp_total.antisymm (string_bytes k) (string_bytes e.0) ∙ ap ordering_reverse h.0 in
+    rw above (ap (λ (r : List Entry). e ∷ r) (insert_entry-last es k d h.1))
+
+-- what comes after a name comes after those before it
+pub below_next : (es : List Entry) (k : String Global) (d : Datum) (name : List ℕ) → string_bytes k ≡ name → AreBelow es name → (next : List ℕ) → is_above (Some name) next ≡ true → AreBelow (es ++ (k, d) ∷ []) next
+below_next es k d name copied h next later =
+    let lt = is_less (slice_cmp nat_cmp name next) later in
+    AreBelow-push es (k, d) next (AreBelow-later es name next h lt) (ap (λ (s : List ℕ). slice_cmp nat_cmp s next) copied ∙ lt)

@@ -1,0 +1,121 @@
+-- JSON, part after part.
+use Rattle.std.proofs.Common.{◌≡◌, ℕ, ◌+◌, ◌<◌, ◌≤◌, List, [], ◌∷◌, ◌++◌, length, get_or, drop, map as each, String, Global, Option, Some, None, option_map, string_bytes, refl, sym, ap, ◌∙◌, arith}
+use Rattle.std.specs.Prelude.{max, option_and_then}
+use Rattle.std.proofs.lemmas.List.{drop_more, drop_all}
+use Rattle.serde_json.specs.Data as json
+use Rattle.serde_json.specs.View.{view, items_view, members_view}
+use Rattle.serde_json.specs.declared.value.Value.{Value}
+use Rattle.request_codec.specs.Tree.{Tree, Members, no_members, member, Fields, no_fields, field, members_of, fields_of}
+use Rattle.request_codec.specs.Json.{value_of_json, members_of_json, fields_of_json, json_depth, items_depth, json_members_depth}
+
+abbrev pub JsonEntry : Type 0
+JsonEntry = String Global × Value
+
+-- ---- depths
+
+pub items_depth-more : (vs : List Value) (i : ℕ) (d : Value) → i < length vs → items_depth (items_view (drop i vs)) ≡ max (json_depth (view (get_or vs i d))) (items_depth (items_view (drop (i + 1) vs)))
+items_depth-more vs i d lt = ap (λ (ws : List Value). items_depth (items_view ws)) (drop_more vs i d lt)
+
+pub items_depth-all : (vs : List Value) (i : ℕ) → length vs ≤ i → items_depth (items_view (drop i vs)) ≡ 0
+items_depth-all vs i le = ap (λ (ws : List Value). items_depth (items_view ws)) (drop_all i vs le)
+
+pub json_members_depth-more : (es : List JsonEntry) (e : JsonEntry) (rest : List JsonEntry) → es ≡ e ∷ rest → json_members_depth (members_view es) ≡ max (json_depth (view e.1)) (json_members_depth (members_view rest))
+json_members_depth-more es e rest is = ap (λ (l : List JsonEntry). json_members_depth (members_view l)) is
+
+pub json_members_depth-all : (es : List JsonEntry) → es ≡ [] → json_members_depth (members_view es) ≡ 0
+json_members_depth-all es is = ap (λ (l : List JsonEntry). json_members_depth (members_view l)) is
+
+-- ---- values
+
+abbrev before : List Tree → Members → Members
+before [] vs = vs
+before (f ∷ front) vs = member f (before front vs)
+
+before-nil : (front : List Tree) → before front no_members ≡ members_of front
+before-nil [] = refl
+before-nil (f ∷ front) = ap (member f) (before-nil front)
+
+before-append : (front : List Tree) (v : Tree) (vs : Members) → before front (member v vs) ≡ before (front ++ v ∷ []) vs
+before-append [] v vs = refl
+before-append (f ∷ front) v vs = ap (member f) (before-append front v vs)
+
+-- what was converted, and what is still to be converted
+abbrev pub with_front : List Tree → Option Members → Option Members
+with_front front o = option_map (before front) o
+
+regroup : (front : List Tree) (v : Tree) (o : Option Members) → with_front front (option_map (member v) o) ≡ with_front (front ++ v ∷ []) o
+regroup front v None = refl
+regroup front v (Some vs) = ap (λ (us : Members). Some us) (before-append front v vs)
+
+pub front-none : (o : Option Members) → with_front [] o ≡ o
+front-none None = refl
+front-none (Some vs) = refl
+
+items-cut : (vs : List Value) (i : ℕ) (d : Value) (found : Option Tree) → i < length vs → value_of_json (view (get_or vs i d)) ≡ found
+    → members_of_json (items_view (drop i vs)) ≡ option_and_then (λ u. option_map (member u) (members_of_json (items_view (drop (i + 1) vs)))) found
+items-cut vs i d found lt h =
+    ap (λ (ws : List Value). members_of_json (items_view ws)) (drop_more vs i d lt)
+    ∙ ap (λ (o : Option Tree). option_and_then (λ u. option_map (member u) (members_of_json (items_view (drop (i + 1) vs)))) o) h
+
+pub items-next : (front : List Tree) (vs : List Value) (i : ℕ) (d : Value) (v : Tree) (total : Option Members) → i < length vs → value_of_json (view (get_or vs i d)) ≡ Some v
+    → with_front front (members_of_json (items_view (drop i vs))) ≡ total → with_front (front ++ v ∷ []) (members_of_json (items_view (drop (i + 1) vs))) ≡ total
+items-next front vs i d v total lt h so_far =
+    let rest = members_of_json (items_view (drop (i + 1) vs)) in
+    sym (ap (with_front front) (items-cut vs i d (Some v) lt h) ∙ regroup front v rest) ∙ so_far
+
+pub items-fail : (front : List Tree) (vs : List Value) (i : ℕ) (d : Value) (total : Option Members) → i < length vs
+    → with_front front (members_of_json (items_view (drop i vs))) ≡ total → value_of_json (view (get_or vs i d)) ≡ None → total ≡ None
+items-fail front vs i d total lt so_far h = sym so_far ∙ ap (with_front front) (items-cut vs i d None lt h)
+
+pub items-done : (front : List Tree) (vs : List Value) (i : ℕ) (total : Option Members) → length vs ≤ i → with_front front (members_of_json (items_view (drop i vs))) ≡ total → total ≡ Some (members_of front)
+items-done front vs i total le so_far =
+    let one : with_front front (members_of_json (items_view (drop i vs))) ≡ Some (before front no_members) = ap (λ (ws : List Value). with_front front (members_of_json (items_view ws))) (drop_all i vs le) in
+    sym so_far ∙ one ∙ ap (λ (us : Members). Some us) (before-nil front)
+
+-- ---- named values
+
+abbrev pub Named : Type 0
+Named = List ℕ × Tree
+
+abbrev before_fields : List Named → Fields → Fields
+before_fields [] fs = fs
+before_fields (f ∷ front) fs = field f.0 f.1 (before_fields front fs)
+
+before_fields-nil : (front : List Named) → before_fields front no_fields ≡ fields_of front
+before_fields-nil [] = refl
+before_fields-nil (f ∷ front) = ap (field f.0 f.1) (before_fields-nil front)
+
+before_fields-append : (front : List Named) (f : Named) (fs : Fields) → before_fields front (field f.0 f.1 fs) ≡ before_fields (front ++ f ∷ []) fs
+before_fields-append [] f fs = refl
+before_fields-append (g ∷ front) f fs = ap (field g.0 g.1) (before_fields-append front f fs)
+
+abbrev pub with_fields : List Named → Option Fields → Option Fields
+with_fields front o = option_map (before_fields front) o
+
+regroup_fields : (front : List Named) (f : Named) (o : Option Fields) → with_fields front (option_map (field f.0 f.1) o) ≡ with_fields (front ++ f ∷ []) o
+regroup_fields front f None = refl
+regroup_fields front f (Some fs) = ap (λ (us : Fields). Some us) (before_fields-append front f fs)
+
+pub fields-none : (o : Option Fields) → with_fields [] o ≡ o
+fields-none None = refl
+fields-none (Some fs) = refl
+
+fields-cut : (es : List JsonEntry) (e : JsonEntry) (rest : List JsonEntry) (found : Option Tree) → es ≡ e ∷ rest → value_of_json (view e.1) ≡ found
+    → fields_of_json (members_view es) ≡ option_and_then (λ u. option_map (field (string_bytes e.0) u) (fields_of_json (members_view rest))) found
+fields-cut es e rest found is h =
+    ap (λ (l : List JsonEntry). fields_of_json (members_view l)) is
+    ∙ ap (λ (o : Option Tree). option_and_then (λ u. option_map (field (string_bytes e.0) u) (fields_of_json (members_view rest))) o) h
+
+pub fields-next : (front : List Named) (es : List JsonEntry) (e : JsonEntry) (rest : List JsonEntry) (v : Tree) (total : Option Fields) → es ≡ e ∷ rest → value_of_json (view e.1) ≡ Some v
+    → with_fields front (fields_of_json (members_view es)) ≡ total → with_fields (front ++ (string_bytes e.0, v) ∷ []) (fields_of_json (members_view rest)) ≡ total
+fields-next front es e rest v total is h so_far =
+    sym (ap (with_fields front) (fields-cut es e rest (Some v) is h) ∙ regroup_fields front (string_bytes e.0, v) (fields_of_json (members_view rest))) ∙ so_far
+
+pub fields-fail : (front : List Named) (es : List JsonEntry) (e : JsonEntry) (rest : List JsonEntry) (total : Option Fields) → es ≡ e ∷ rest
+    → with_fields front (fields_of_json (members_view es)) ≡ total → value_of_json (view e.1) ≡ None → total ≡ None
+fields-fail front es e rest total is so_far h = sym so_far ∙ ap (with_fields front) (fields-cut es e rest None is h)
+
+pub fields-done : (front : List Named) (es : List JsonEntry) (total : Option Fields) → es ≡ [] → with_fields front (fields_of_json (members_view es)) ≡ total → total ≡ Some (fields_of front)
+fields-done front es total is so_far =
+    let one : with_fields front (fields_of_json (members_view es)) ≡ Some (before_fields front no_fields) = ap (λ (l : List JsonEntry). with_fields front (fields_of_json (members_view l))) is in
+    sym so_far ∙ one ∙ ap (λ (us : Fields). Some us) (before_fields-nil front)

@@ -1,0 +1,177 @@
+-- Whole messages and states: what is read is spelled so, and what is spelled is read.
+use Rattle.std.proofs.Common.{◌≡◌, ℕ, ◌<◌, ◌≤◌, Bool, true, false, cond, ltb, eqb, List, [], ◌∷◌, ◌++◌, length, Option, Some, None, Result, Ok, Err, IfOk, drop, refl, sym, ap, subst, ◌∙◌, arith}
+use Rattle.std.specs.Prelude.{IsSome}
+use Rattle.std.specs.Option.{unwrap_or}
+use Rattle.std.proofs.lemmas.Option.{same_Some, some_pair_parts}
+use Rattle.std.proofs.lemmas.Bool.{ltb-false, le-ltb, eqb-true}
+use Rattle.std.proofs.lemmas.List.{append-nil}
+use Rattle.request_codec.specs.Limits.{depth_limit, message_limit, state_limit}
+use Rattle.request_codec.specs.Tree.{Tree, null}
+use Rattle.request_codec.specs.Spelling.{Spells, SpellsText, SpellsMessage, SpellsState}
+use Rattle.request_codec.specs.Reading.{◌>>=◌, text_at, value_at, if_ended}
+use Rattle.request_codec.specs.Call.{Call, asks, call_behind, behind_version, message_call, state_value, call_of, value_of_state, no_call}
+use Rattle.request_codec.specs.Answers.{Reads}
+use Rattle.request_codec.specs.declared.fault.CodecFault.{CodecFault}
+use Rattle.request_codec.specs.declared.fault.CodecFault.TheVariants as faults
+use Rattle.request_codec.proofs.Steps.{bound, unless, provided, pair_is}
+use Rattle.request_codec.proofs.Numbers.{IsBytes, IsBytes-rest, text_found, text_again}
+use Rattle.request_codec.proofs.Found.{value_found}
+use Rattle.request_codec.proofs.OneSpelling.{value_again_within}
+
+pub ended : {A : Type 0} (o : Option (A × List ℕ)) (x : A) → if_ended o ≡ Some x → o ≡ Some (x, [])
+ended None x e = absurd cc
+ended (Some (y, [])) x e = ap (λ (z : _). Some (z, [])) (same_Some y x e)
+ended (Some (y, b ∷ rest)) x e = absurd cc
+
+-- ---- states
+
+pub state_found : (bytes : List ℕ) (v : Tree) → IsBytes bytes → state_value bytes ≡ Some v → SpellsState v bytes
+unfolding state_value
+state_found bytes v fits e =
+    let g = unless (ltb state_limit (length bytes)) (if_ended (value_at depth_limit bytes)) v e in
+    let whole_read = ended (value_at depth_limit bytes) v g.1 in
+    let found = value_found depth_limit bytes v [] fits whole_read in
+    let all : bytes ≡ found.0.used = found.0.parts ∙ append-nil found.0.used in
+    record { value_spelled = subst (Spells v) (sym all) found.0.wanted; depth_within = found.1; length_within = ltb-false _ _ g.0 }
+
+pub state_again : (bytes : List ℕ) (v : Tree) → SpellsState v bytes → state_value bytes ≡ Some v
+unfolding state_value
+state_again bytes v is =
+    let read : value_at depth_limit bytes ≡ Some (v, []) = ap (value_at depth_limit) (sym (append-nil bytes)) ∙ value_again_within v depth_limit bytes [] is.value_spelled is.depth_within in
+    let short : ltb state_limit (length bytes) ≡ false = le-ltb _ _ is.length_within in
+    rw (short, read) refl
+
+state_is_known : (o : Option Tree) → IsSome o → o ≡ Some (unwrap_or o null)
+state_is_known None h = absurd cc
+state_is_known (Some v) h = refl
+
+-- the bytes of a state give the value that is shown of it
+pub state_known : (bytes : List ℕ) → IsSome (state_value bytes) → state_value bytes ≡ Some (value_of_state bytes)
+state_known bytes h = state_is_known (state_value bytes) h
+
+pub state_is_some : (bytes : List ℕ) (v : Tree) → state_value bytes ≡ Some v → IsSome (state_value bytes)
+state_is_some bytes v e = rw e refl
+
+pub state_is : (bytes : List ℕ) (v : Tree) → state_value bytes ≡ Some v → value_of_state bytes ≡ v
+state_is bytes v e = ap (λ (o : Option Tree). unwrap_or o null) e
+
+-- ---- messages
+
+call_found : (bytes : List ℕ) (call : Call) → IsBytes bytes → length (1 ∷ bytes) ≤ message_limit → call_behind bytes ≡ Some call → SpellsMessage call.method call.argument (1 ∷ bytes)
+call_found bytes call fits short e =
+    let name = bound (text_at bytes) _ call e in
+    let text = text_found bytes name.0.0 name.0.1 fits name.1 in
+    let value = bound (if_ended (value_at depth_limit name.0.1)) _ call name.2 in
+    let found = value_found depth_limit name.0.1 value.0 [] text.rest_fits (ended (value_at depth_limit name.0.1) value.0 value.1) in
+    let all : name.0.1 ≡ found.0.used = found.0.parts ∙ append-nil found.0.used in
+    let message : SpellsMessage name.0.0 value.0 (1 ∷ bytes) = record {
+      name = text.used;
+      rest = found.0.used;
+      method_spelled = text.wanted;
+      value_spelled = found.0.wanted;
+      whole_bytes = ap (λ (b : List ℕ). 1 ∷ b) (text.parts ∙ ap (λ (b : List ℕ). text.used ++ b) all);
+      depth_within = found.1;
+      length_within = short;
+    } in
+    subst (λ (c : Call). SpellsMessage c.method c.argument (1 ∷ bytes)) (pair_is value.2) message
+
+version_found : (bytes : List ℕ) (call : Call) → IsBytes bytes → length bytes ≤ message_limit → behind_version bytes ≡ Some call → SpellsMessage call.method call.argument bytes
+version_found [] call fits short e = absurd cc
+version_found (b ∷ bytes) call fits short e =
+    let g = provided (eqb b 1) (call_behind bytes) call e in
+    let one : 1 ≡ b = sym (eqb-true _ _ g.0) in
+    subst (λ (v : ℕ). SpellsMessage call.method call.argument (v ∷ bytes)) one (call_found bytes call (IsBytes-rest b bytes fits) short g.1)
+
+pub message_found : (bytes : List ℕ) (call : Call) → IsBytes bytes → message_call bytes ≡ Some call → SpellsMessage call.method call.argument bytes
+unfolding message_call
+message_found bytes call fits e =
+    let g = unless (ltb message_limit (length bytes)) (behind_version bytes) call e in
+    version_found bytes call fits (ltb-false _ _ g.0) g.1
+
+call_again : (method : List ℕ) (v : Tree) (name rest : List ℕ) → text_at (name ++ rest) ≡ Some (method, rest) → value_at depth_limit rest ≡ Some (v, []) → behind_version (1 ∷ (name ++ rest)) ≡ Some (asks method v)
+call_again method v name rest text value = rw (text, value) refl
+
+pub message_again : (bytes method : List ℕ) (v : Tree) → SpellsMessage method v bytes → message_call bytes ≡ Some (asks method v)
+unfolding message_call
+message_again bytes method v is =
+    let read : value_at depth_limit is.rest ≡ Some (v, []) = ap (value_at depth_limit) (sym (append-nil is.rest)) ∙ value_again_within v depth_limit is.rest [] is.value_spelled is.depth_within in
+    let short : ltb message_limit (length bytes) ≡ false = le-ltb _ _ is.length_within in
+    let call : behind_version bytes ≡ Some (asks method v) = ap behind_version is.whole_bytes ∙ call_again method v is.name is.rest (text_again method is.name is.rest is.method_spelled) read in
+    rw short call
+
+call_is_known : (o : Option Call) → IsSome o → o ≡ Some (unwrap_or o no_call)
+call_is_known None h = absurd cc
+call_is_known (Some c) h = refl
+
+-- the bytes of a message give the call that is shown of it
+pub message_known : (bytes : List ℕ) → IsSome (message_call bytes) → message_call bytes ≡ Some (call_of bytes)
+message_known bytes h = call_is_known (message_call bytes) h
+
+pub message_is_some : (bytes : List ℕ) (call : Call) → message_call bytes ≡ Some call → IsSome (message_call bytes)
+message_is_some bytes call e = rw e refl
+
+pub message_is : (bytes : List ℕ) (call : Call) → message_call bytes ≡ Some call → call_of bytes ≡ call
+message_is bytes call e = ap (λ (o : Option Call). unwrap_or o no_call) e
+
+-- ---- what reading answers, in the words of the relation
+
+pub state_shown : (bytes : List ℕ) → IsBytes bytes → IsSome (state_value bytes) → SpellsState (value_of_state bytes) bytes
+state_shown bytes fits h = state_found bytes (value_of_state bytes) fits (state_known bytes h)
+
+pub message_shown : (bytes : List ℕ) → IsBytes bytes → IsSome (message_call bytes) → SpellsMessage (call_of bytes).method (call_of bytes).argument bytes
+message_shown bytes fits h = message_found bytes (call_of bytes) fits (message_known bytes h)
+
+pub is_message : {X : Type 0} (view : X → Call) (r : Result X CodecFault) (bytes : List ℕ) → IsBytes bytes → Reads view r (message_call bytes) → IfOk r (λ x. SpellsMessage (view x).method (view x).argument bytes)
+is_message view (Ok x) bytes fits h = message_found bytes (view x) fits h
+is_message view (Err e) bytes fits h = tt
+
+pub no_message : {X : Type 0} (view : X → Call) (r : Result X CodecFault) (bytes : List ℕ) → Reads view r (message_call bytes) → r ≡ Err faults.NotAMessage → (method : List ℕ) → (v : Tree) → SpellsMessage method v bytes → ⊥
+no_message view r bytes h e method v is =
+    let none : message_call bytes ≡ None = subst (λ (x : _). Reads view x (message_call bytes)) e h in
+    let some = message_again bytes method v is in
+    absurd cc
+
+pub is_state : {X : Type 0} (view : X → Tree) (r : Result X CodecFault) (bytes : List ℕ) → IsBytes bytes → Reads view r (state_value bytes) → IfOk r (λ x. SpellsState (view x) bytes)
+is_state view (Ok x) bytes fits h = state_found bytes (view x) fits h
+is_state view (Err e) bytes fits h = tt
+
+pub no_state : {X : Type 0} (view : X → Tree) (r : Result X CodecFault) (bytes : List ℕ) → Reads view r (state_value bytes) → r ≡ Err faults.NotAMessage → (v : Tree) → SpellsState v bytes → ⊥
+no_state view r bytes h e v is =
+    let none : state_value bytes ≡ None = subst (λ (x : _). Reads view x (state_value bytes)) e h in
+    let some = state_again bytes v is in
+    absurd cc
+
+-- where a message spells a call, its method stands behind the first byte
+pub method_behind : (bytes : List ℕ) (call : Call) → message_call bytes ≡ Some call → (rest : List ℕ) × (text_at (drop 1 bytes) ≡ Some (call.method, rest))
+unfolding message_call
+method_behind [] call e = absurd cc
+method_behind (b ∷ bytes) call e =
+    let g = unless (ltb message_limit (length (b ∷ bytes))) (behind_version (b ∷ bytes)) call e in
+    let version = provided (eqb b 1) (call_behind bytes) call g.1 in
+    let name = bound (text_at bytes) _ call version.1 in
+    let value = bound (if_ended (value_at depth_limit name.0.1)) _ call name.2 in
+    let same : name.0.0 ≡ call.method = ap (λ (c : Call). c.method) (pair_is value.2) in
+    (name.0.1, name.1 ∙ ap (λ (s : List ℕ). Some (s, name.0.1)) same)
+
+pub no_empty_message : (bytes : List ℕ) → length bytes < 1 → IsSome (message_call bytes) → ⊥
+unfolding message_call
+no_empty_message [] lt h = absurd cc
+no_empty_message (b ∷ bytes) lt h = omega arith
+
+-- within the limit the length takes nothing away
+pub message_call-short : (bytes : List ℕ) → length bytes ≤ message_limit → message_call bytes ≡ behind_version bytes
+unfolding message_call
+message_call-short bytes le =
+    let short : ltb message_limit (length bytes) ≡ false = le-ltb _ _ le in
+    rw short refl
+
+pub method_is : (bytes method rest : List ℕ) → IsSome (message_call bytes) → Some (method, rest) ≡ text_at (drop 1 bytes) → method ≡ (call_of bytes).method
+method_is bytes method rest h e =
+    let found = method_behind bytes (call_of bytes) (message_known bytes h) in
+    (some_pair_parts method (call_of bytes).method rest found.0 (e ∙ found.1)).0
+
+pub method_there : (bytes : List ℕ) → IsSome (message_call bytes) → None ≡ text_at (drop 1 bytes) → ⊥
+method_there bytes h e =
+    let found = method_behind bytes (call_of bytes) (message_known bytes h) in
+    let both : Path (Option (List ℕ × List ℕ)) None (Some ((call_of bytes).method, found.0)) = e ∙ found.1 in
+    absurd cc

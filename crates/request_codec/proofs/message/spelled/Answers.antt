@@ -1,0 +1,6 @@
+use Rattle.std.proofs.Common.{arith}
+use Rattle.request_codec.proofs.Whole.{message_shown}
+use Rattle.request_codec.proofs.message.spelled.Goals as goal
+
+pub returns-clause-spelled : goal.returns-clause-spelled
+returns-clause-spelled c = message_shown c.args.bytes.now (λ i. omega (arith, c.type_inv.bytes i)) c.requires

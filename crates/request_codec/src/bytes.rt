@@ -1,0 +1,7 @@
+//! The parts of the message form, which every reader and writer of it stands on.
+
+mod draft;
+mod start;
+
+pub use draft::{counted, put, put_start, put_text};
+pub use start::{Start, may_follow, start_of, text_of};

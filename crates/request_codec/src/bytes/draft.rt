@@ -1,0 +1,73 @@
+//! Bytes that are being written, up to a limit.
+
+ghost use Rattle.std.specs.Prelude.{◌≡◌, ◌<◌, ◌≤◌, ◌^◌, length, MatchResult};
+ghost use Rattle.request_codec.specs.Written.{Puts, text_spelling, start_spelling};
+ghost use Rattle.request_codec.specs.Start.{begun};
+ghost use Rattle.request_codec.specs.declared.fault.CodecFault.TheVariants as faults;
+
+use crate::bytes::start::Start;
+use crate::fault::CodecFault;
+
+/// Puts the bytes at the end, if they fit below the limit.
+pub fn put(out: &mut Vec<u8>, limit: usize, bytes: &[u8]) -> Result<(), CodecFault>
+    requires { length out.old.items ≤ limit }
+    ensures { Puts limit out.old.items out.new.items result bytes.now }
+{
+    if bytes.len() > limit - out.len() {
+        return Err(CodecFault::TooLong);
+    }
+    out.extend_from_slice(bytes)?;
+    Ok(())
+}
+
+/// A count of members or bytes, each of which takes a byte at least: `TooLong` above the limit.
+pub fn counted(count: usize, limit: usize) -> Result<u32, CodecFault>
+    requires { limit < 2 ^ 32 }
+    ensures { MatchResult result (λ n. n ≡ count) (λ e. (e ≡ faults.TooLong) × (limit < count)) }
+{
+    if count > limit {
+        return Err(CodecFault::TooLong);
+    }
+    Ok(count as u32)
+}
+
+/// Puts a text at the end: its length and its bytes.
+pub fn put_text(out: &mut Vec<u8>, limit: usize, text: &str) -> Result<(), CodecFault>
+    requires room { length out.old.items ≤ limit }
+    requires small { limit < 2 ^ 32 }
+    ensures { Puts limit out.old.items out.new.items result (text_spelling text.now) }
+{
+    let count = counted(text.len(), limit)?;
+    put(out, limit, &count.to_be_bytes())?;
+    put(out, limit, text.as_bytes())
+}
+
+/// Puts the start of a value at the end.
+#[tactic(auto, unfolding(crate::specs::Written::spelling))]
+pub fn put_start(out: &mut Vec<u8>, limit: usize, start: Start<'_>) -> Result<(), CodecFault>
+    requires room { length out.old.items ≤ limit }
+    requires small { limit < 2 ^ 32 }
+    ensures { Puts limit out.old.items out.new.items result (start_spelling (begun start.entry)) }
+{
+    match start {
+        Start::Null => put(out, limit, &[0]),
+        Start::Bool(false) => put(out, limit, &[1]),
+        Start::Bool(true) => put(out, limit, &[2]),
+        Start::Int(n) => {
+            put(out, limit, &[3])?;
+            put(out, limit, &n.to_be_bytes())
+        }
+        Start::Text(text) => {
+            put(out, limit, &[4])?;
+            put_text(out, limit, text)
+        }
+        Start::List(count) => {
+            put(out, limit, &[5])?;
+            put(out, limit, &count.to_be_bytes())
+        }
+        Start::Map(count) => {
+            put(out, limit, &[6])?;
+            put(out, limit, &count.to_be_bytes())
+        }
+    }
+}
