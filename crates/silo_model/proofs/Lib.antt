@@ -1,0 +1,13 @@
+pub mod Changes
+pub mod Sights
+pub mod EntrySteps
+pub mod EndSteps
+pub mod CallSteps
+pub mod Counters
+pub mod Sound
+pub mod Proper
+pub mod Isolation
+pub mod Runs
+pub mod Opening
+pub mod Journals
+pub mod FirstCall

@@ -1,0 +1,51 @@
+-- What a step's owner sees at its own grain is what the whole has there.
+use Rattle.std.proofs.Common.{◌≡◌, ◌≢◌, ℕ, Bool, true, false, cond, List, Option, Some, None, refl, ap, ◌∙◌}
+use Rattle.std.specs.Prelude.{option_map}
+use Rattle.std.specs.FinMap as map
+use Rattle.std.specs.FinMap.{FinMap}
+use Rattle.grain_id.specs.Names.{Grain, grain_cmp, same_text}
+use Rattle.silo_event.specs.Owner.{owner_of, grain_of}
+use Rattle.silo_event.specs.declared.step.Step.{Step}
+use Rattle.silo_model.specs.Logic.{Logic}
+use Rattle.silo_model.specs.Effect.{Sight, Effect, sight_at}
+use Rattle.silo_model.specs.Step.{effect_of}
+use Rattle.silo_model.specs.Whole.{Whole, is_of, shown_to, spread, whole_step_by, whole_step}
+use Rattle.grain_id.proofs.Order.{same_text_decides}
+use Rattle.grain_id.proofs.ByGrain.{get-part}
+
+pub not_true : (b : Bool) → (b ≡ true → ⊥) → b ≡ false
+not_true true h = absurd (h refl)
+not_true false h = refl
+
+pub same_text-itself : (t : List ℕ) → same_text t t ≡ true
+same_text-itself t = (same_text_decides t t).1 refl
+
+pub same_text-apart : (s t : List ℕ) → s ≢ t → same_text s t ≡ false
+same_text-apart s t apart = not_true (same_text s t) (λ e. apart ((same_text_decides s t).0 e))
+
+-- the tenant's part has at its own grain what the whole has
+pub get-own : {X : Type 0} (m : FinMap grain_cmp X) (tenant : List ℕ) (g : Grain) → g.tenant ≡ tenant → map.get (map.retain_keys m (is_of tenant)) g ≡ map.get m g
+get-own m tenant g own = get-part m (is_of tenant) g ∙ ap (λ b. cond b (map.get m g) None) ((same_text_decides g.tenant tenant).1 own)
+
+-- and nothing at a grain of another
+pub get-apart : {X : Type 0} (m : FinMap grain_cmp X) (tenant : List ℕ) (g : Grain) → g.tenant ≢ tenant → map.get (map.retain_keys m (is_of tenant)) g ≡ None
+get-apart m tenant g apart = get-part m (is_of tenant) g ∙ ap (λ b. cond b (map.get m g) None) (same_text-apart g.tenant tenant apart)
+
+-- what the whole has of the tenant and at the grain
+abbrev pub sight_of : Whole → List ℕ → Grain → Sight
+sight_of w tenant g = record { tenant = tenant; account = map.get w.accounts tenant; clock = w.clock; entry = map.get w.entries g; row = map.get w.rows g }
+
+pub own_sight : (w : Whole) (tenant : List ℕ) (g : Grain) → g.tenant ≡ tenant → sight_at (shown_to tenant w) g ≡ sight_of w tenant g
+unfolding sight_at shown_to
+own_sight w tenant g own = λ i. record { tenant = tenant; account = map.get w.accounts tenant; clock = w.clock; entry = get-own w.entries tenant g own i; row = get-own w.rows tenant g own i }
+
+-- a step by what it does where its owner looks
+pub step_by_sight : (logic : Logic) (w : Whole) (s : Step) (owner : List ℕ) (e : Option Effect)
+    → owner_of s ≡ Some owner → effect_of logic (sight_at (shown_to owner w) (grain_of s)) s ≡ e → whole_step logic w s ≡ option_map (spread w owner (grain_of s)) e
+unfolding whole_step
+step_by_sight logic w s owner e is does = ap (whole_step_by logic w s) is ∙ ap (λ x. option_map (spread w owner (grain_of s)) x) does
+
+-- a step at a grain of its owner, by what it does to what the whole has there
+pub step_at_own : (logic : Logic) (w : Whole) (s : Step) (owner : List ℕ) (e : Option Effect)
+    → owner_of s ≡ Some owner → (grain_of s).tenant ≡ owner → effect_of logic (sight_of w owner (grain_of s)) s ≡ e → whole_step logic w s ≡ option_map (spread w owner (grain_of s)) e
+step_at_own logic w s owner e is own does = step_by_sight logic w s owner e is (ap (λ x. effect_of logic x s) (own_sight w owner (grain_of s) own) ∙ does)
