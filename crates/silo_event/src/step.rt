@@ -7,8 +7,10 @@ use grain_id::{Caller, GrainId};
 use request_codec::Message;
 use std::alloc::AllocError;
 
+mod owner;
+
 /// One event of the silo.
-#[derive(Debug, Drop)]
+#[derive(Clone, Debug, Drop)]
 pub enum Step {
     /// A client asks a grain for a method.
     Call {
@@ -18,13 +20,22 @@ pub enum Step {
         message: Message,
     },
     /// An entry that was asked for begins to load.
-    Activate { grain: GrainId },
+    Activate {
+        grain: GrainId,
+    },
     /// A loading grain gets its state.
-    Load { grain: GrainId },
+    Load {
+        grain: GrainId,
+    },
     /// The first waiting request of a ready grain becomes an open turn.
-    Begin { grain: GrainId },
+    Begin {
+        grain: GrainId,
+    },
     /// An open turn runs and is closed.
-    End { grain: GrainId, turn: u64 },
+    End {
+        grain: GrainId,
+        turn: u64,
+    },
 }
 
 /// What became of a step.
