@@ -6,10 +6,16 @@
 //! what is written for an input in `specs/Out.antt`.
 #![tactic(auto)]
 
+mod ahead;
+mod answers;
 mod fault;
+mod forms;
 mod line;
+mod members;
 mod reading;
 mod replies;
+mod reply_values;
+
 mod runner;
 
 pub use fault::LineFault;

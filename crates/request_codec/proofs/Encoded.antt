@@ -7,7 +7,7 @@ use Rattle.request_codec.specs.Tree.{Tree, depth}
 use Rattle.request_codec.specs.Written.{text_spelling, spelling}
 use Rattle.request_codec.specs.Formed.{IsFormed}
 use Rattle.request_codec.specs.Answers.{spelled_length, message_length}
-use Rattle.request_codec.specs.Call.{Call, asks, message_call, state_value}
+use Rattle.request_codec.specs.Call.{asks, message_call, state_value}
 use Rattle.request_codec.proofs.Spelled.{message_spelled, state_spelled, length-message, length-spelling}
 use Rattle.request_codec.proofs.Whole.{message_again, state_again}
 
@@ -22,8 +22,5 @@ encoded_state items v tested is =
     let short : spelled_length v ≤ state_limit = omega (arith, is.1, length-spelling v) in
     ap state_value is.0 ∙ state_again (spelling v) v (state_spelled v tested.1 tested.0 short)
 
-pub same_call : (o : Option Call) (a b : Call) → o ≡ Some a → o ≡ Some b → a ≡ b
-same_call o a b p q = same_Some a b (sym p ∙ q)
-
-pub same_value : (o : Option Tree) (a b : Tree) → o ≡ Some a → o ≡ Some b → a ≡ b
-same_value o a b p q = same_Some a b (sym p ∙ q)
+pub same_found : {A : Type 0} (o : Option A) (x y : A) → o ≡ Some x → o ≡ Some y → x ≡ y
+same_found o x y p q = same_Some x y (sym p ∙ q)

@@ -16,6 +16,9 @@ use Rattle.request_codec.proofs.Again.{AreAbove}
 abbrev pub IsRead : Parse Tree → ℕ → Type 0
 IsRead read d = (bytes : List ℕ) (v : Tree) (rest : List ℕ) → IsBytes bytes → read bytes ≡ Some (v, rest) → Found (Spells v) bytes rest × (depth v ≤ d)
 
+two_parts : (bytes first middle second rest : List ℕ) → bytes ≡ first ++ middle → middle ≡ second ++ rest → bytes ≡ (first ++ second) ++ rest
+two_parts bytes first middle second rest one two = one ∙ ap (λ (m : List ℕ). first ++ m) two ∙ sym (append_assoc first second rest)
+
 members_found : (read : Parse Tree) (d : ℕ) → IsRead read d → (n : ℕ) (bytes : List ℕ) (vs : Members) (rest : List ℕ) → IsBytes bytes → members_at read n bytes ≡ Some (vs, rest) → Found (SpellEach vs) bytes rest × (members_depth vs ≤ d) × (members_count vs ≡ n)
 unfolding members_at
 members_found read d reads zero bytes vs rest fits e =
@@ -30,7 +33,7 @@ members_found read d reads (suc n) bytes vs rest fits e =
     let result : Found (SpellEach (member b.0.0 c.0.0)) bytes c.0.1 × (members_depth (member b.0.0 c.0.0) ≤ d) × (members_count (member b.0.0 c.0.0) ≡ suc n) = (record {
         used = first.0.used ++ others.0.used;
         wanted = (first.0.used, others.0.used, first.0.wanted, others.0.wanted, refl);
-        parts = first.0.parts ∙ ap (λ (m : List ℕ). first.0.used ++ m) others.0.parts ∙ sym (append_assoc first.0.used others.0.used c.0.1);
+        parts = two_parts bytes first.0.used b.0.1 others.0.used c.0.1 first.0.parts others.0.parts;
         rest_fits = others.0.rest_fits;
       }, max-le first.1 others.1, ap (λ (k : ℕ). suc k) others.2) in
     subst (λ (p : Members × List ℕ). Found (SpellEach p.0) bytes p.1 × (members_depth p.0 ≤ d) × (members_count p.0 ≡ suc n)) (pair_is c.2) result
@@ -55,7 +58,7 @@ fields_found read d reads (suc n) last bytes fs rest fits e =
     let result : Found (SpellFields (field a.0.0 b.0.0 c.0.0)) bytes c.0.1 × (fields_depth (field a.0.0 b.0.0 c.0.0) ≤ d) × (fields_count (field a.0.0 b.0.0 c.0.0) ≡ suc n) × AreAbove last (field a.0.0 b.0.0 c.0.0) = (record {
         used = name.used ++ first.0.used ++ others.0.used;
         wanted = (name.used, first.0.used, others.0.used, name.wanted, first.0.wanted, others.0.wanted, below_first a.0.0 c.0.0 others.3, refl);
-        parts = name.parts ∙ ap (λ (m : List ℕ). name.used ++ m) (first.0.parts ∙ ap (λ (m : List ℕ). first.0.used ++ m) others.0.parts) ∙ sym (append_assoc name.used first.0.used (others.0.used ++ c.0.1)) ∙ sym (append_assoc (name.used ++ first.0.used) others.0.used c.0.1);
+        parts = two_parts bytes (name.used ++ first.0.used) b.0.1 others.0.used c.0.1 (two_parts bytes name.used a.0.1 first.0.used b.0.1 name.parts first.0.parts) others.0.parts;
         rest_fits = others.0.rest_fits;
       }, max-le first.1 others.1, ap (λ (k : ℕ). suc k) others.2, above.0) in
     subst (λ (p : Fields × List ℕ). Found (SpellFields p.0) bytes p.1 × (fields_depth p.0 ≤ d) × (fields_count p.0 ≡ suc n) × AreAbove last p.0) (pair_is c.2) result

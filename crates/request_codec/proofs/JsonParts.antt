@@ -6,6 +6,7 @@ use Rattle.serde_json.specs.Data as json
 use Rattle.serde_json.specs.View.{view, items_view, members_view}
 use Rattle.serde_json.specs.declared.value.Value.{Value}
 use Rattle.request_codec.specs.Tree.{Tree, Members, no_members, member, Fields, no_fields, field, members_of, fields_of}
+use Rattle.request_codec.proofs.Loops.{Named, before, before-nil, before-append, before_fields, before_fields-nil, before_fields-append}
 use Rattle.request_codec.specs.Json.{value_of_json, members_of_json, fields_of_json, json_depth, items_depth, json_members_depth}
 
 abbrev pub JsonEntry : Type 0
@@ -26,18 +27,6 @@ pub json_members_depth-all : (es : List JsonEntry) → es ≡ [] → json_member
 json_members_depth-all es is = ap (λ (l : List JsonEntry). json_members_depth (members_view l)) is
 
 -- ---- values
-
-abbrev before : List Tree → Members → Members
-before [] vs = vs
-before (f ∷ front) vs = member f (before front vs)
-
-before-nil : (front : List Tree) → before front no_members ≡ members_of front
-before-nil [] = refl
-before-nil (f ∷ front) = ap (member f) (before-nil front)
-
-before-append : (front : List Tree) (v : Tree) (vs : Members) → before front (member v vs) ≡ before (front ++ v ∷ []) vs
-before-append [] v vs = refl
-before-append (f ∷ front) v vs = ap (member f) (before-append front v vs)
 
 -- what was converted, and what is still to be converted
 abbrev pub with_front : List Tree → Option Members → Option Members
@@ -73,21 +62,6 @@ items-done front vs i total le so_far =
     sym so_far ∙ one ∙ ap (λ (us : Members). Some us) (before-nil front)
 
 -- ---- named values
-
-abbrev pub Named : Type 0
-Named = List ℕ × Tree
-
-abbrev before_fields : List Named → Fields → Fields
-before_fields [] fs = fs
-before_fields (f ∷ front) fs = field f.0 f.1 (before_fields front fs)
-
-before_fields-nil : (front : List Named) → before_fields front no_fields ≡ fields_of front
-before_fields-nil [] = refl
-before_fields-nil (f ∷ front) = ap (field f.0 f.1) (before_fields-nil front)
-
-before_fields-append : (front : List Named) (f : Named) (fs : Fields) → before_fields front (field f.0 f.1 fs) ≡ before_fields (front ++ f ∷ []) fs
-before_fields-append [] f fs = refl
-before_fields-append (g ∷ front) f fs = ap (field g.0 g.1) (before_fields-append front f fs)
 
 abbrev pub with_fields : List Named → Option Fields → Option Fields
 with_fields front o = option_map (before_fields front) o

@@ -14,7 +14,7 @@ unfolding value_at
 value_at-unstarted zero bytes h = refl
 value_at-unstarted (suc limit) bytes h = value_at-by_start limit bytes ∙ ap (λ o. o >>= λ s. value_behind (value_at limit) s.0 s.1) h
 
-value_at-started : (limit : ℕ) (bytes : List ℕ) (s : Begun) (rest : List ℕ) → 0 < limit → start_at bytes ≡ Some (s, rest) → value_at limit bytes ≡ value_behind (value_at (limit - 1)) s rest
+pub value_at-started : (limit : ℕ) (bytes : List ℕ) (s : Begun) (rest : List ℕ) → 0 < limit → start_at bytes ≡ Some (s, rest) → value_at limit bytes ≡ value_behind (value_at (limit - 1)) s rest
 value_at-started limit bytes s rest lt h =
     let k : limit ≡ suc (limit - 1) = omega arith in
     ap (λ (n : ℕ). value_at n bytes) k ∙ value_at-by_start (limit - 1) bytes ∙ ap (λ o. o >>= λ x. value_behind (value_at (limit - 1)) x.0 x.1) h

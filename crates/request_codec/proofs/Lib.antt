@@ -20,3 +20,4 @@ pub mod Limited
 pub mod JsonParts
 pub mod JsonObjects
 pub mod JsonMembers
+pub mod Ends

@@ -9,11 +9,11 @@ abbrev pub before : List Tree → Members → Members
 before [] ts = ts
 before (f ∷ front) ts = member f (before front ts)
 
-before-append : (front : List Tree) (t : Tree) (ts : Members) → before front (member t ts) ≡ before (front ++ t ∷ []) ts
+pub before-append : (front : List Tree) (t : Tree) (ts : Members) → before front (member t ts) ≡ before (front ++ t ∷ []) ts
 before-append [] t ts = refl
 before-append (f ∷ front) t ts = ap (member f) (before-append front t ts)
 
-before-nil : (front : List Tree) → before front no_members ≡ members_of front
+pub before-nil : (front : List Tree) → before front no_members ≡ members_of front
 before-nil [] = refl
 before-nil (f ∷ front) = ap (member f) (before-nil front)
 
@@ -61,11 +61,11 @@ abbrev pub before_fields : List Named → Fields → Fields
 before_fields [] fs = fs
 before_fields (f ∷ front) fs = field f.0 f.1 (before_fields front fs)
 
-before_fields-append : (front : List Named) (f : Named) (fs : Fields) → before_fields front (field f.0 f.1 fs) ≡ before_fields (front ++ f ∷ []) fs
+pub before_fields-append : (front : List Named) (f : Named) (fs : Fields) → before_fields front (field f.0 f.1 fs) ≡ before_fields (front ++ f ∷ []) fs
 before_fields-append [] f fs = refl
 before_fields-append (g ∷ front) f fs = ap (field g.0 g.1) (before_fields-append front f fs)
 
-before_fields-nil : (front : List Named) → before_fields front no_fields ≡ fields_of front
+pub before_fields-nil : (front : List Named) → before_fields front no_fields ≡ fields_of front
 before_fields-nil [] = refl
 before_fields-nil (f ∷ front) = ap (field f.0 f.1) (before_fields-nil front)
 

@@ -1,12 +1,16 @@
 -- The bytes that are written for a value that a spelling is there for are a spelling of it.
-use Rattle.std.proofs.Common.{◌≡◌, ℕ, ◌+◌, ◌^◌, ◌<◌, ◌≤◌, true, false, List, [], ◌∷◌, ◌++◌, length, refl, sym, ap, subst, ◌∙◌, append_assoc, arith}
-use Rattle.std.specs.Prelude.{IsUtf8}
+use Rattle.std.proofs.Common.{◌≡◌, ℕ, ◌+◌, ◌^◌, ◌<◌, ◌≤◌, Bool, true, false, Option, Some, List, [], ◌∷◌, ◌++◌, length, refl, sym, ap, subst, ◌∙◌, append_assoc, arith}
+use Rattle.std.specs.Prelude.{IsUtf8, IsTrue, ◌↔◌}
+use Rattle.std.specs.Str.{bytes_eq}
+use Rattle.std.proofs.lemmas.Slice.Eq.{bytes_eq-Decides}
+use Rattle.std.proofs.lemmas.Option.{same_Some}
+use Rattle.request_codec.specs.Call.{Call}
 use Rattle.std.specs.Int.{w32, w64, to_be_bytes, cast_unsigned}
 use Rattle.std.proofs.lemmas.List.{length-append}
 use Rattle.request_codec.specs.Limits.{depth_limit, message_limit, state_limit}
 use Rattle.request_codec.specs.Tree.{Tree, null, truth, whole, text, list, map, Members, no_members, member, Fields, no_fields, field, members_count, fields_count, depth}
 use Rattle.request_codec.specs.Spelling.{SpellsText, Spells, SpellEach, SpellFields, SpellsMessage, SpellsState}
-use Rattle.request_codec.specs.Written.{text_spelling, spelling, members_spelling, fields_spelling}
+use Rattle.request_codec.specs.Written.{text_spelling, spelling, members_spelling, fields_spelling, message_spelling}
 use Rattle.request_codec.specs.Formed.{IsFormed, AreFormed, FieldsFormed, IsSized, AreSized, FieldsSized}
 use Rattle.request_codec.specs.Answers.{spelled_length, members_length, fields_length, message_length}
 use Rattle.request_codec.proofs.OneSpelling.{spelled_once}
@@ -159,3 +163,21 @@ spelling-is v bytes h = spelled_once v bytes (spelling v) h (spelled v (formed_o
 
 pub length-spelled : (v : Tree) (bytes : List ℕ) → Spells v bytes → length bytes ≡ spelled_length v
 length-spelled v bytes h = ap (λ (b : List ℕ). length b) (spelling-is v bytes h) ∙ length-spelling v
+
+pub message_spelling-is : (call : Call) (bytes : List ℕ) → SpellsMessage call.method call.argument bytes → bytes ≡ message_spelling call
+message_spelling-is call bytes h = h.whole_bytes ∙ (λ i. 1 ∷ (h.method_spelled.2 i ++ spelling-is call.argument h.rest h.value_spelled i))
+
+pub state_spelling-is : (v : Tree) (bytes : List ℕ) → SpellsState v bytes → bytes ≡ spelling v
+state_spelling-is v bytes h = spelling-is v bytes h.value_spelled
+
+-- ---- what is shown is the same exactly where the bytes are
+
+same_bytes : (b : Bool) (x y : List ℕ) → b ≡ bytes_eq x y → IsTrue b → x ≡ y
+same_bytes b x y is equal = (bytes_eq-Decides x y).0 (sym is ∙ equal)
+
+bytes_same : (b : Bool) (x y : List ℕ) → b ≡ bytes_eq x y → x ≡ y → IsTrue b
+bytes_same b x y is same = is ∙ (bytes_eq-Decides x y).1 same
+
+pub same_where_bytes_are : {A : Type 0} (view : List ℕ → Option A) (write : A → List ℕ) (b : Bool) (x y : List ℕ) (v w : A) → b ≡ bytes_eq x y → x ≡ write v → y ≡ write w → view x ≡ Some v → view y ≡ Some w → IsTrue b ↔ (v ≡ w)
+same_where_bytes_are view write b x y v w is x_is y_is reads_x reads_y =
+    (λ equal. same_Some v w (sym reads_x ∙ ap view (same_bytes b x y is equal) ∙ reads_y), λ same. bytes_same b x y is (x_is ∙ ap write same ∙ sym y_is))

@@ -1,6 +1,6 @@
 -- Whole messages and states: what is read is spelled so, and what is spelled is read.
-use Rattle.std.proofs.Common.{◌≡◌, ℕ, ◌<◌, ◌≤◌, Bool, true, false, cond, ltb, eqb, List, [], ◌∷◌, ◌++◌, length, Option, Some, None, Result, Ok, Err, IfOk, drop, refl, sym, ap, subst, ◌∙◌, arith}
-use Rattle.std.specs.Prelude.{IsSome}
+use Rattle.std.proofs.Common.{◌≡◌, ℕ, ◌<◌, ◌≤◌, Bool, true, false, cond, ltb, eqb, List, [], ◌∷◌, ◌++◌, length, Option, Some, None, Result, Ok, Err, IfOk, drop, true≢false, refl, sym, ap, subst, ◌∙◌, arith}
+use Rattle.std.specs.Prelude.{IsSome, is_some}
 use Rattle.std.specs.Option.{unwrap_or}
 use Rattle.std.proofs.lemmas.Option.{same_Some, some_pair_parts}
 use Rattle.std.proofs.lemmas.Bool.{ltb-false, le-ltb, eqb-true}
@@ -23,6 +23,19 @@ ended None x e = absurd cc
 ended (Some (y, [])) x e = ap (λ (z : _). Some (z, [])) (same_Some y x e)
 ended (Some (y, b ∷ rest)) x e = absurd cc
 
+known : {A : Type 0} (o : Option A) (default : A) → IsSome o → o ≡ Some (unwrap_or o default)
+known None default h = absurd cc
+known (Some x) default h = refl
+
+is_there : {A : Type 0} (o : Option A) (x : A) → o ≡ Some x → IsSome o
+is_there o x e = rw e refl
+
+is_it : {A : Type 0} (o : Option A) (default x : A) → o ≡ Some x → unwrap_or o default ≡ x
+is_it {A} o default x e = ap (λ (p : Option A). unwrap_or p default) e
+
+denied : {A : Type 0} (o : Option A) (x : A) → false ≡ is_some o → o ≡ Some x → ⊥
+denied o x e there = true≢false (sym (e ∙ ap is_some there))
+
 -- ---- states
 
 pub state_found : (bytes : List ℕ) (v : Tree) → IsBytes bytes → state_value bytes ≡ Some v → SpellsState v bytes
@@ -41,19 +54,15 @@ state_again bytes v is =
     let short : ltb state_limit (length bytes) ≡ false = le-ltb _ _ is.length_within in
     rw (short, read) refl
 
-state_is_known : (o : Option Tree) → IsSome o → o ≡ Some (unwrap_or o null)
-state_is_known None h = absurd cc
-state_is_known (Some v) h = refl
-
 -- the bytes of a state give the value that is shown of it
 pub state_known : (bytes : List ℕ) → IsSome (state_value bytes) → state_value bytes ≡ Some (value_of_state bytes)
-state_known bytes h = state_is_known (state_value bytes) h
+state_known bytes h = known (state_value bytes) null h
 
 pub state_is_some : (bytes : List ℕ) (v : Tree) → state_value bytes ≡ Some v → IsSome (state_value bytes)
-state_is_some bytes v e = rw e refl
+state_is_some bytes v e = is_there (state_value bytes) v e
 
 pub state_is : (bytes : List ℕ) (v : Tree) → state_value bytes ≡ Some v → value_of_state bytes ≡ v
-state_is bytes v e = ap (λ (o : Option Tree). unwrap_or o null) e
+state_is bytes v e = is_it (state_value bytes) null v e
 
 -- ---- messages
 
@@ -99,19 +108,15 @@ message_again bytes method v is =
     let call : behind_version bytes ≡ Some (asks method v) = ap behind_version is.whole_bytes ∙ call_again method v is.name is.rest (text_again method is.name is.rest is.method_spelled) read in
     rw short call
 
-call_is_known : (o : Option Call) → IsSome o → o ≡ Some (unwrap_or o no_call)
-call_is_known None h = absurd cc
-call_is_known (Some c) h = refl
-
 -- the bytes of a message give the call that is shown of it
 pub message_known : (bytes : List ℕ) → IsSome (message_call bytes) → message_call bytes ≡ Some (call_of bytes)
-message_known bytes h = call_is_known (message_call bytes) h
+message_known bytes h = known (message_call bytes) no_call h
 
 pub message_is_some : (bytes : List ℕ) (call : Call) → message_call bytes ≡ Some call → IsSome (message_call bytes)
-message_is_some bytes call e = rw e refl
+message_is_some bytes call e = is_there (message_call bytes) call e
 
 pub message_is : (bytes : List ℕ) (call : Call) → message_call bytes ≡ Some call → call_of bytes ≡ call
-message_is bytes call e = ap (λ (o : Option Call). unwrap_or o no_call) e
+message_is bytes call e = is_it (message_call bytes) no_call call e
 
 -- ---- what reading answers, in the words of the relation
 
@@ -129,16 +134,6 @@ pub no_message : {X : Type 0} (view : X → Call) (r : Result X CodecFault) (byt
 no_message view r bytes h e method v is =
     let none : message_call bytes ≡ None = subst (λ (x : _). Reads view x (message_call bytes)) e h in
     let some = message_again bytes method v is in
-    absurd cc
-
-pub is_state : {X : Type 0} (view : X → Tree) (r : Result X CodecFault) (bytes : List ℕ) → IsBytes bytes → Reads view r (state_value bytes) → IfOk r (λ x. SpellsState (view x) bytes)
-is_state view (Ok x) bytes fits h = state_found bytes (view x) fits h
-is_state view (Err e) bytes fits h = tt
-
-pub no_state : {X : Type 0} (view : X → Tree) (r : Result X CodecFault) (bytes : List ℕ) → Reads view r (state_value bytes) → r ≡ Err faults.NotAMessage → (v : Tree) → SpellsState v bytes → ⊥
-no_state view r bytes h e v is =
-    let none : state_value bytes ≡ None = subst (λ (x : _). Reads view x (state_value bytes)) e h in
-    let some = state_again bytes v is in
     absurd cc
 
 -- where a message spells a call, its method stands behind the first byte
@@ -175,3 +170,9 @@ method_there bytes h e =
     let found = method_behind bytes (call_of bytes) (message_known bytes h) in
     let both : Path (Option (List ℕ × List ℕ)) None (Some ((call_of bytes).method, found.0)) = e ∙ found.1 in
     absurd cc
+
+pub message_denied : (bytes : List ℕ) → false ≡ is_some (message_call bytes) → (method : List ℕ) → (v : Tree) → SpellsMessage method v bytes → ⊥
+message_denied bytes e method v is = denied (message_call bytes) (asks method v) e (message_again bytes method v is)
+
+pub state_denied : (bytes : List ℕ) → false ≡ is_some (state_value bytes) → (v : Tree) → SpellsState v bytes → ⊥
+state_denied bytes e v is = denied (state_value bytes) v e (state_again bytes v is)

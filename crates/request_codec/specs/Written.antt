@@ -3,6 +3,7 @@ use Rattle.std.specs.Prelude.{◌≡◌, ℕ, ◌+◌, ◌<◌, ◌≤◌, List,
 use Rattle.std.specs.Int.{w32, w64, to_be_bytes, cast_unsigned}
 use Rattle.std.specs.declared.alloc.Global.{Global}
 use Rattle.request_codec.specs.Tree.{Tree, null, truth, whole, text, list, map, Members, no_members, member, Fields, no_fields, field, members_count, fields_count}
+use Rattle.request_codec.specs.Call.{Call}
 use Rattle.request_codec.specs.Start.{Begun, leaf, list_of, map_of}
 use Rattle.request_codec.specs.declared.fault.CodecFault.{CodecFault}
 use Rattle.request_codec.specs.declared.fault.CodecFault.TheVariants as faults
@@ -27,6 +28,10 @@ unfoldable mutual
   pub fields_spelling : Fields → List ℕ
   fields_spelling no_fields = []
   fields_spelling (field n v fs) = text_spelling n ++ (spelling v ++ fields_spelling fs)
+
+-- the message of a call that has one
+abbrev pub message_spelling : Call → List ℕ
+message_spelling call = 1 ∷ (text_spelling call.method ++ spelling call.argument)
 
 abbrev pub start_spelling : Begun → List ℕ
 start_spelling (leaf v) = spelling v

@@ -15,13 +15,14 @@ mod json_depth;
 mod json_reader;
 mod json_writer;
 pub mod laws;
-mod limits;
+pub mod limits;
 mod reading;
 mod writing;
 mod fault;
 mod conversion;
 mod message;
 mod state;
+mod value_end;
 
 pub use datum::Datum;
 pub use reading::{decode, decode_message, decode_state};
@@ -30,3 +31,6 @@ pub use fault::CodecFault;
 pub use conversion::{from_json, to_json};
 pub use message::Message;
 pub use state::StateBytes;
+
+#[cfg(test)]
+mod tests;

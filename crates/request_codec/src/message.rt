@@ -4,12 +4,16 @@ ghost use Rattle.std.specs.Prelude.{◌≡◌, ℕ, List, Some, Err, IfOk, IsSom
 ghost use Rattle.request_codec.specs.Tree.{Tree};
 ghost use Rattle.request_codec.specs.Call.{message_call, call_of};
 ghost use Rattle.request_codec.specs.Spelling.{SpellsMessage};
+ghost use Rattle.std.specs.Prelude.{◌↔◌, IsTrue, bytes_eq};
+ghost use Rattle.std.specs.Cmp.{on_equiv, on_per, partial_equiv_from_equiv};
+ghost use Rattle.std.specs.Cmp.Lexicographic.{nat_list_eq_equiv};
+ghost use Rattle.request_codec.specs.Written.{message_spelling};
 ghost use Rattle.request_codec.specs.Answers.{Reads};
 ghost use Rattle.request_codec.specs.declared.fault.CodecFault.TheVariants as faults;
 
 use crate::bytes::text_of;
 use crate::fault::CodecFault;
-use crate::reading::decode;
+use crate::value_end::is_message;
 use std::alloc::{AllocError, Global};
 use std::marker::Model;
 
@@ -40,6 +44,7 @@ fn spelled(bytes: &[u8]) -> &[u8]
     ensures same { result.now ≡ bytes.now }
     ensures reads { message_call result.now ≡ Some (call_of bytes.now) }
     ensures spelled { SpellsMessage (call_of bytes.now).method (call_of bytes.now).argument bytes.now }
+    ensures exact { result.now ≡ message_spelling (call_of bytes.now) }
 {
     bytes
 }
@@ -73,9 +78,12 @@ impl Message {
     pub fn read(alloc: Global, bytes: &[u8]) -> Result<Message, CodecFault>
         ensures reads { Reads (λ read. read) result (message_call bytes.now) }
         ensures spelled { IfOk result (λ read. SpellsMessage read.method read.argument bytes.now) }
+        ensures exact { IfOk result (λ read. message_spelling read ≡ bytes.now) }
         ensures none { result ≡ Err faults.NotAMessage → (method : List ℕ) → (v : Tree) → SpellsMessage method v bytes.now → ⊥ }
     {
-        drop(decode(alloc, bytes)?);
+        if !is_message(bytes) {
+            return Err(CodecFault::NotAMessage);
+        }
         Ok(Message {
             bytes: Vec::from_slice(alloc, bytes)?,
         })
@@ -85,6 +93,7 @@ impl Message {
     pub fn bytes(&self) -> &[u8]
         ensures reads { message_call result.now ≡ Some self.now }
         ensures spelled { SpellsMessage self.now.method self.now.argument result.now }
+        ensures exact { result.now ≡ message_spelling self.now }
     {
         spelled(self.bytes.as_slice())
     }
@@ -105,4 +114,22 @@ impl Clone for Message {
             bytes: self.bytes.clone()?,
         })
     }
+}
+
+/// Two messages are equal exactly where they spell the same call.
+impl PartialEq for Message {
+    ghost eq = { λ a b. bytes_eq (message_spelling a) (message_spelling b) };
+
+    ghost laws = { on_per message_spelling (partial_equiv_from_equiv nat_list_eq_equiv) };
+
+    fn eq(&self, other: &Message) -> bool
+        ensures by_bytes { result ≡ bytes_eq (message_spelling self.now) (message_spelling other.now) }
+        ensures by_value { IsTrue result ↔ (self.now ≡ other.now) }
+    {
+        self.bytes() == other.bytes()
+    }
+}
+
+impl Eq for Message {
+    ghost laws = { on_equiv message_spelling nat_list_eq_equiv };
 }

@@ -4,11 +4,15 @@ ghost use Rattle.std.specs.Prelude.{◌≡◌, Some, Err, IfOk, IsSome};
 ghost use Rattle.request_codec.specs.Tree.{Tree};
 ghost use Rattle.request_codec.specs.Call.{state_value, value_of_state};
 ghost use Rattle.request_codec.specs.Spelling.{SpellsState};
+ghost use Rattle.std.specs.Prelude.{◌↔◌, IsTrue, bytes_eq};
+ghost use Rattle.std.specs.Cmp.{on_equiv, on_per, partial_equiv_from_equiv};
+ghost use Rattle.std.specs.Cmp.Lexicographic.{nat_list_eq_equiv};
+ghost use Rattle.request_codec.specs.Written.{spelling};
 ghost use Rattle.request_codec.specs.Answers.{Reads};
 ghost use Rattle.request_codec.specs.declared.fault.CodecFault.TheVariants as faults;
 
 use crate::fault::CodecFault;
-use crate::reading::state_datum;
+use crate::value_end::is_state;
 use std::alloc::{AllocError, Global};
 use std::marker::Model;
 
@@ -40,6 +44,7 @@ fn spelled(bytes: &[u8]) -> &[u8]
     ensures same { result.now ≡ bytes.now }
     ensures reads { state_value result.now ≡ Some (value_of_state bytes.now) }
     ensures spelled { SpellsState (value_of_state bytes.now) bytes.now }
+    ensures exact { result.now ≡ spelling (value_of_state bytes.now) }
 {
     bytes
 }
@@ -59,9 +64,12 @@ impl StateBytes {
     pub fn read(alloc: Global, bytes: &[u8]) -> Result<StateBytes, CodecFault>
         ensures reads { Reads (λ read. read) result (state_value bytes.now) }
         ensures spelled { IfOk result (λ read. SpellsState read bytes.now) }
+        ensures exact { IfOk result (λ read. spelling read ≡ bytes.now) }
         ensures none { result ≡ Err faults.NotAMessage → (v : Tree) → SpellsState v bytes.now → ⊥ }
     {
-        drop(state_datum(alloc, bytes)?);
+        if !is_state(bytes) {
+            return Err(CodecFault::NotAMessage);
+        }
         Ok(StateBytes {
             bytes: Vec::from_slice(alloc, bytes)?,
         })
@@ -71,6 +79,7 @@ impl StateBytes {
     pub fn bytes(&self) -> &[u8]
         ensures reads { state_value result.now ≡ Some self.now }
         ensures spelled { SpellsState self.now result.now }
+        ensures exact { result.now ≡ spelling self.now }
     {
         spelled(self.bytes.as_slice())
     }
@@ -84,4 +93,22 @@ impl Clone for StateBytes {
             bytes: self.bytes.clone()?,
         })
     }
+}
+
+/// Two states are equal exactly where they spell the same value.
+impl PartialEq for StateBytes {
+    ghost eq = { λ a b. bytes_eq (spelling a) (spelling b) };
+
+    ghost laws = { on_per spelling (partial_equiv_from_equiv nat_list_eq_equiv) };
+
+    fn eq(&self, other: &StateBytes) -> bool
+        ensures by_bytes { result ≡ bytes_eq (spelling self.now) (spelling other.now) }
+        ensures by_value { IsTrue result ↔ (self.now ≡ other.now) }
+    {
+        self.bytes() == other.bytes()
+    }
+}
+
+impl Eq for StateBytes {
+    ghost laws = { on_equiv spelling nat_list_eq_equiv };
 }

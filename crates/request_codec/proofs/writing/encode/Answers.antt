@@ -8,7 +8,7 @@ use Rattle.request_codec.specs.Answers.{message_length}
 use Rattle.request_codec.proofs.Answered.{Writes-fault}
 use Rattle.request_codec.proofs.Spelled.{length-message}
 use Rattle.request_codec.proofs.Whole.{message_is_some}
-use Rattle.request_codec.proofs.Encoded.{encoded_message, same_call}
+use Rattle.request_codec.proofs.Encoded.{encoded_message, same_found}
 use Rattle.request_codec.proofs.writing.encode.Goals as goal
 
 pub returns-in_err-message_bytes : goal.returns-in_err-message_bytes
@@ -30,4 +30,4 @@ returns c =
     let method = c.args.method.now in
     let v = value_of c.args.argument.now in
     let short : message_length method v ≤ message_limit = omega (arith, c.in_ok-message_bytes.ensures.1, length-message method v) in
-    (same_call (message_call items) c.from_spelling.result (asks method v) c.from_spelling.ensures (encoded_message items method v c.utf8.method c.if-not-is_within.ensures c.in_ok-message_bytes.ensures), c.if-not-is_within.ensures.0, short)
+    (same_found (message_call items) c.from_spelling.result (asks method v) c.from_spelling.ensures (encoded_message items method v c.utf8.method c.if-not-is_within.ensures c.in_ok-message_bytes.ensures), c.if-not-is_within.ensures.0, short)

@@ -8,7 +8,7 @@ use Rattle.request_codec.specs.Answers.{spelled_length}
 use Rattle.request_codec.proofs.Answered.{Writes-fault}
 use Rattle.request_codec.proofs.Spelled.{length-spelling}
 use Rattle.request_codec.proofs.Whole.{state_is_some}
-use Rattle.request_codec.proofs.Encoded.{encoded_state, same_value}
+use Rattle.request_codec.proofs.Encoded.{encoded_state, same_found}
 use Rattle.request_codec.proofs.writing.encode_state.Goals as goal
 
 pub returns-in_err-state_bytes : goal.returns-in_err-state_bytes
@@ -28,4 +28,4 @@ returns c =
     let items = c.in_ok-state_bytes.field-0.items in
     let v = value_of c.args.value.now in
     let short : spelled_length v ≤ state_limit = omega (arith, c.in_ok-state_bytes.ensures.1, length-spelling v) in
-    (same_value (state_value items) c.from_spelling.result v c.from_spelling.ensures (encoded_state items v c.if-not-is_within.ensures c.in_ok-state_bytes.ensures), c.if-not-is_within.ensures.0, short)
+    (same_found (state_value items) c.from_spelling.result v c.from_spelling.ensures (encoded_state items v c.if-not-is_within.ensures c.in_ok-state_bytes.ensures), c.if-not-is_within.ensures.0, short)

@@ -1,0 +1,72 @@
+//! What one line leaves in the silo and adds to the text.
+
+ghost use Rattle.std.specs.Prelude.{◌≡◌, ℕ, List, ◌++◌, ◌⊎◌, OnOk, OnErr, string_bytes, take};
+ghost use Rattle.line_protocol.specs.Said.{said_of};
+ghost use Rattle.line_protocol.specs.Out.{texts_of, whole_text, LineConcerns};
+ghost use Rattle.line_protocol.specs.Running.{TakesLine, LineAlone, MayTake};
+ghost use Rattle.line_protocol.specs.declared.line.Line.TheVariants as line;
+
+use crate::line::Line;
+use crate::reading::read_line;
+use crate::replies::{push_not_now, push_refusal, push_reply};
+use silo_core::Silo;
+use silo_event::{Answer, Reply, Step, StepFault};
+use std::alloc::{AllocError, Global};
+
+/// Adds the line of each reply, with its LF.
+fn push_replies(alloc: Global, text: &mut String, replies: &[Reply]) -> Result<(), AllocError>
+    ensures { OnOk result (string_bytes text.new ≡ string_bytes text.old ++ texts_of replies.now) }
+{
+    for reply in replies {
+        push_reply(alloc, text, reply)?;
+        text.push_str("\n")?;
+    }
+    Ok(())
+}
+
+/// Takes a step, and adds its text: the replies that it added, or that it isn't possible now.
+fn answer_step(
+    alloc: Global,
+    silo: &mut Silo,
+    step: Step,
+    text: &mut String,
+) -> Result<(), AllocError>
+    ensures silo { OnOk result (TakesLine silo.old (line.Step step) silo.new) }
+    ensures text { OnOk result (string_bytes text.new ≡ string_bytes text.old ++ whole_text silo.old.whole (line.Step step)) }
+    ensures alone { OnOk result ((tenant : List ℕ) → LineConcerns tenant (line.Step step)
+        → LineAlone tenant silo.old.whole (line.Step step) silo.new.whole) }
+    ensures err { OnErr result (MayTake silo.old (line.Step step) silo.new) }
+{
+    let before = silo.replies().len();
+    match silo.apply(alloc, step) {
+        Ok(Answer::Done) => push_replies(alloc, text, &silo.replies()[before..]),
+        Ok(Answer::NotNow) => {
+            push_not_now(text)?;
+            text.push_str("\n")
+        }
+        Err(StepFault::Memory) => Err(AllocError),
+    }
+}
+
+/// Takes what a line says, and adds its text.
+pub(crate) fn answer_line(
+    alloc: Global,
+    silo: &mut Silo,
+    line: &[u8],
+    text: &mut String,
+) -> Result<(), AllocError>
+    ensures silo { OnOk result (TakesLine silo.old (said_of line.now) silo.new) }
+    ensures text { OnOk result (string_bytes text.new ≡ string_bytes text.old ++ whole_text silo.old.whole (said_of line.now)) }
+    ensures alone { OnOk result ((tenant : List ℕ) → LineConcerns tenant (said_of line.now)
+        → LineAlone tenant silo.old.whole (said_of line.now) silo.new.whole) }
+    ensures err { OnErr result (MayTake silo.old (said_of line.now) silo.new) }
+{
+    match read_line(alloc, line)? {
+        Line::Nothing => Ok(()),
+        Line::Refusal(refusal) => {
+            push_refusal(text, refusal)?;
+            text.push_str("\n")
+        }
+        Line::Step(step) => answer_step(alloc, silo, step, text),
+    }
+}

@@ -1,0 +1,87 @@
+//! Files that are read whole and written whole: the host's, and one in memory.
+
+ghost use Rattle.std.specs.Prelude.{◌≡◌, ◌≢◌, ◌↔◌, ⊤, ℕ, List, IfOk, OnOk, OnErr, IsErrOf, string_bytes};
+
+use std::alloc::Global;
+use std::fs;
+use std::io::ErrorKind;
+use std::rt::Files;
+
+/// Why a file was not read or not written.
+#[derive(Clone, Copy, Debug, PartialEq, Eq)]
+pub enum FileFault {
+    Memory,
+    Failed,
+}
+
+/// What reads a path whole and writes a path whole.
+pub trait WholeFiles {
+    // The file at a path may have these bytes. What claims nothing leaves it out.
+    ghost may_hold: { Self → List ℕ → List ℕ → Type 0 } = { λ _ _ _. ⊤ };
+
+    fn read_whole(&self, alloc: Global, path: &str) -> Result<Vec<u8>, FileFault>
+        ensures { IfOk result (λ bytes. may_hold self.now path.now bytes.items) };
+
+    fn write_whole(&mut self, alloc: Global, path: &str, bytes: &[u8]) -> Result<(), FileFault>
+        ensures { OnOk result (may_hold self.new path.now bytes.now) };
+}
+
+/// The files of the host.
+#[derive(Drop)]
+pub struct HostFiles<'a, R> {
+    pub rt: &'a R,
+}
+
+impl<R: Files + AllocGlobal> WholeFiles for HostFiles<'_, R> {
+    fn read_whole(&self, _alloc: Global, path: &str) -> Result<Vec<u8>, FileFault> {
+        fs::read(self.rt, path).map_err(|error| match error.kind() {
+            ErrorKind::OutOfMemory => FileFault::Memory,
+            _ => FileFault::Failed,
+        })
+    }
+
+    fn write_whole(&mut self, _alloc: Global, path: &str, bytes: &[u8]) -> Result<(), FileFault> {
+        fs::write(self.rt, path, bytes).map_err(|error| match error.kind() {
+            ErrorKind::OutOfMemory => FileFault::Memory,
+            _ => FileFault::Failed,
+        })
+    }
+}
+
+/// One file in memory. Every other path fails.
+#[derive(Drop)]
+pub struct MemoryFile {
+    pub path: String,
+    pub bytes: Vec<u8>,
+}
+
+impl WholeFiles for MemoryFile {
+    ghost may_hold = { λ file path bytes. (path ≡ string_bytes file.path) × (bytes ≡ file.bytes.items) };
+
+    fn read_whole(&self, alloc: Global, path: &str) -> Result<Vec<u8>, FileFault>
+        ensures read { IfOk result (λ bytes. (path.now ≡ string_bytes self.now.path) × (bytes.items ≡ self.now.bytes.items)) }
+        ensures failed { IsErrOf result FileFault.Failed ↔ (path.now ≢ string_bytes self.now.path) }
+    {
+        if path != self.path.as_str() {
+            return Err(FileFault::Failed);
+        }
+        Vec::from_slice(alloc, &self.bytes).map_err(|_| FileFault::Memory)
+    }
+
+    fn write_whole(&mut self, alloc: Global, path: &str, bytes: &[u8]) -> Result<(), FileFault>
+        ensures written { OnOk result ((path.now ≡ string_bytes self.new.path) × (bytes.now ≡ self.new.bytes.items)) }
+        ensures failed { IsErrOf result FileFault.Failed ↔ (path.now ≢ string_bytes self.old.path) }
+        ensures refused { OnErr result (self.new ≡ self.old) }
+    {
+        if path != self.path.as_str() {
+            return Err(FileFault::Failed);
+        }
+        match Vec::from_slice(alloc, bytes) {
+            Ok(written) => {
+                self.bytes = written;
+                Ok(())
+            }
+            Err(_) => Err(FileFault::Memory),
+        }
+    }
+}

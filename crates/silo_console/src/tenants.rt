@@ -1,0 +1,129 @@
+//! The tenant arguments.
+
+ghost use Rattle.std.specs.Prelude.{◌≡◌, ◌≤◌, ◌↔◌, ◌++◌, ◌∷◌, ℕ, List, false, map, slice_index, IsTrue, IfSome, IfNone, IsSomeAnd, IfOk, IfErr};
+ghost use Rattle.grain_id.specs.Words.{is_word};
+ghost use Rattle.tenant_gate.specs.declared.limits.Limits.{Limits};
+ghost use Rattle.silo_console.specs.Tenants.{HasNoColon, IsLimitText, IsLimitsText, IsTenantText, IsNoTenantText, IsOnlyTenant, IsReason};
+
+use grain_id::{IdFault, Tenant};
+use std::alloc::{AllocError, Global};
+use tenant_gate::Limits;
+
+/// The most grains of a tenant that may be active at once.
+const MAX_ACTIVATIONS: u32 = 10_000;
+
+/// The most requests that may wait at a grain.
+const MAX_MAILBOX: u32 = 1_000;
+
+/// A tenant and what it may have.
+#[derive(Drop)]
+pub struct TenantLimits {
+    pub tenant: Tenant,
+    pub limits: Limits,
+}
+
+/// Why the tenant arguments do not name one tenant.
+#[derive(Clone, Copy, Debug, PartialEq, Eq)]
+pub enum TenantsFault {
+    Memory,
+    /// The number of the first argument that is refused, from 1.
+    Refused(usize),
+}
+
+impl From<AllocError> for TenantsFault {
+    ghost use Rattle.silo_console.specs.declared.tenants.TenantsFault.TheVariants as faults;
+
+    ghost from_gives = { λ _ e. e ≡ faults.Memory };
+
+    fn from(_refused: AllocError) -> TenantsFault {
+        TenantsFault::Memory
+    }
+}
+
+/// Whether the text begins with a digit above 0.
+fn begins_above_zero(text: &str) -> bool
+    ensures { IsTrue result ↔ ((49 ≤ slice_index text.now 0) × (slice_index text.now 0 ≤ 57)) }
+{
+    matches!(text.as_bytes(), [b'1'..=b'9', ..])
+}
+
+/// The number from 1 to `most` that the text writes, if it writes one.
+fn read_limit(text: &str, most: u32) -> Option<u32>
+    ensures some { IfSome result (λ limit. IsLimitText most text.now limit) }
+    ensures none { IfNone result ((limit : ℕ) → ¬ IsLimitText most text.now limit) }
+{
+    if !begins_above_zero(text) {
+        return None;
+    }
+    match text.parse::<u32>() {
+        Ok(limit) if limit <= most => Some(limit),
+        _ => None,
+    }
+}
+
+/// What stands before the first `:`, and what stands after it.
+fn cut(text: &str) -> Option<(&str, &str)>
+    ensures parts { IfSome result (λ parts. text.now ≡ parts.0.now ++ 58 ∷ parts.1.now) }
+    ensures first { (before after : List ℕ) → HasNoColon before → text.now ≡ before ++ 58 ∷ after
+        → IsSomeAnd result (λ parts. (parts.0.now ≡ before) × (parts.1.now ≡ after)) }
+{
+    text.split_once(':')
+}
+
+/// The limits that `ACT:MAIL` writes, if it writes some.
+fn read_limits(text: &str) -> Option<Limits>
+    ensures some { IfSome result (λ limits. IsLimitsText text.now limits) }
+    ensures none { IfNone result ((limits : Limits) → ¬ IsLimitsText text.now limits) }
+{
+    let (activations, mailbox) = cut(text)?;
+    Some(Limits {
+        activations: read_limit(activations, MAX_ACTIVATIONS)?,
+        mailbox: read_limit(mailbox, MAX_MAILBOX)?,
+    })
+}
+
+/// The tenant of that name, if the text is one.
+fn read_name(alloc: Global, text: &str) -> Result<Option<Tenant>, AllocError>
+    ensures some { IfOk result (λ found. IfSome found (λ tenant. IsTrue (is_word text.now) × (text.now ≡ tenant))) }
+    ensures none { IfOk result (λ found. IfNone found (is_word text.now ≡ false)) }
+{
+    match Tenant::read(alloc, text) {
+        Ok(tenant) => Ok(Some(tenant)),
+        Err(IdFault::Memory) => Err(AllocError),
+        Err(IdFault::Kind | IdFault::Tenant | IdFault::Name | IdFault::Client) => Ok(None),
+    }
+}
+
+/// The tenant and the limits that `TENANT:ACT:MAIL` writes, if it writes some.
+fn read_tenant(alloc: Global, text: &str) -> Result<Option<TenantLimits>, AllocError>
+    ensures some { IfOk result (λ read. IfSome read (λ t. IsTenantText text.now t.tenant t.limits)) }
+    ensures none { IfOk result (λ read. IfNone read (IsNoTenantText text.now)) }
+{
+    let Some((name, limits)) = cut(text) else {
+        return Ok(None);
+    };
+    let Some(limits) = read_limits(limits) else {
+        return Ok(None);
+    };
+    let Some(tenant) = read_name(alloc, name)? else {
+        return Ok(None);
+    };
+    Ok(Some(TenantLimits { tenant, limits }))
+}
+
+/// The one tenant that the arguments name.
+pub fn only_tenant(alloc: Global, texts: &[&str]) -> Result<TenantLimits, TenantsFault>
+    ensures named { IfOk result (λ t. IsOnlyTenant (map (λ text. text.now) texts.now) t.tenant t.limits) }
+    ensures refused { IfErr result (λ fault. IsReason (map (λ text. text.now) texts.now) fault) }
+{
+    let Some((first, others)) = texts.split_first() else {
+        return Err(TenantsFault::Refused(1));
+    };
+    let Some(read) = read_tenant(alloc, first)? else {
+        return Err(TenantsFault::Refused(1));
+    };
+    if !others.is_empty() {
+        return Err(TenantsFault::Refused(2));
+    }
+    Ok(read)
+}

@@ -1,0 +1,279 @@
+use crate::files::{FileFault, MemoryFile, WholeFiles};
+use crate::program::run_program;
+use std::alloc::{AllocError, Global};
+use std::io;
+use std::io::{ErrorKind, Read, Write};
+use std::test::Fail;
+
+/// A writer that takes nothing.
+#[derive(Drop)]
+struct FullWriter;
+
+impl Write for FullWriter {
+    fn write(&mut self, _bytes: &[u8]) -> io::Result<usize> {
+        Err(io::Error::from(ErrorKind::StorageFull))
+    }
+
+    fn flush(&mut self) -> io::Result<()> {
+        Ok(())
+    }
+}
+
+/// A writer that takes everything, and fails where it is to pass it on.
+#[derive(Drop)]
+struct LosingWriter;
+
+impl Write for LosingWriter {
+    fn write(&mut self, bytes: &[u8]) -> io::Result<usize> {
+        Ok(bytes.len())
+    }
+
+    fn flush(&mut self) -> io::Result<()> {
+        Err(io::Error::from(ErrorKind::StorageFull))
+    }
+}
+
+/// A reader that gives what it has, and then fails.
+#[derive(Drop)]
+struct BrokenReader<'a> {
+    bytes: &'a [u8],
+}
+
+impl Read for BrokenReader<'_> {
+    fn read(&mut self, buffer: &mut [u8]) -> io::Result<usize> {
+        if self.bytes.is_empty() {
+            return Err(io::Error::from(ErrorKind::ConnectionReset));
+        }
+        self.bytes.read(buffer)
+    }
+}
+
+/// What a run of the program gave.
+#[derive(Drop)]
+struct Outcome<W> {
+    status: u8,
+    output: W,
+    errors: Vec<u8>,
+}
+
+fn no_file(alloc: Global) -> MemoryFile {
+    MemoryFile {
+        path: String::new(alloc),
+        bytes: Vec::new(alloc),
+    }
+}
+
+fn words_of(alloc: Global, arguments: &[&str]) -> Result<Vec<String>, AllocError> {
+    let mut words = Vec::new(alloc);
+    words.push(String::from_str(alloc, "silo")?)?;
+    for argument in arguments {
+        words.push(String::from_str(alloc, argument)?)?;
+    }
+    Ok(words)
+}
+
+fn run<H: AllocGlobal, R: Read, W: Write + Drop>(
+    rt: &H,
+    arguments: &[&str],
+    reader: &mut R,
+    mut output: W,
+) -> Result<Outcome<W>, AllocError> {
+    let words = words_of(rt.alloc(), arguments)?;
+    let mut files = no_file(rt.alloc());
+    let mut errors = Vec::new(rt.alloc());
+    let status = run_program(rt, &words, &mut files, reader, &mut output, &mut errors);
+    Ok(Outcome {
+        status,
+        output,
+        errors,
+    })
+}
+
+
+const RED: &[&str] = &["steps", "red:2:4"];
+
+const FIRST_RUN: &str = concat!(
+    r#"{"from":"red/c1","id":1,"op":"call","grain":"counter/red:a","method":"add","args":{"by":3}}"#,
+    "\n",
+    r#"{"op":"activate","grain":"counter/red:a"}"#,
+    "\n",
+    r#"{"op":"load","grain":"counter/red:a"}"#,
+    "\n",
+    r#"{"op":"begin","grain":"counter/red:a"}"#,
+    "\n",
+    r#"{"op":"end","grain":"counter/red:a","turn":1}"#,
+    "\n"
+);
+
+const FIRST_REPLY: &str = concat!(r#"{"from":"red/c1","id":1,"ok":3}"#, "\n");
+
+const ACROSS: &str = concat!(
+    r#"{"from":"red/c1","id":1,"op":"call","grain":"counter/blue:a","method":"add","args":{"by":3}}"#,
+    "\n"
+);
+
+const ACROSS_REPLY: &str = concat!(
+    r#"{"error":40,"from":"red/c1","id":1,"text":"tenant red may not call a grain of tenant blue"}"#,
+    "\n"
+);
+
+const FULL: &str = concat!(
+    r#"{"from":"red/c1","id":1,"op":"call","grain":"counter/red:a","method":"add","args":{"by":9223372036854775807}}"#,
+    "\n",
+    r#"{"from":"red/c1","id":2,"op":"call","grain":"counter/red:a","method":"add","args":{"by":1}}"#,
+    "\n",
+    r#"{"from":"red/c1","id":3,"op":"call","grain":"counter/red:a","method":"get","args":null}"#,
+    "\n",
+    r#"{"op":"activate","grain":"counter/red:a"}"#,
+    "\n",
+    r#"{"op":"load","grain":"counter/red:a"}"#,
+    "\n",
+    r#"{"op":"begin","grain":"counter/red:a"}"#,
+    "\n",
+    r#"{"op":"end","grain":"counter/red:a","turn":1}"#,
+    "\n",
+    r#"{"op":"begin","grain":"counter/red:a"}"#,
+    "\n",
+    r#"{"op":"end","grain":"counter/red:a","turn":2}"#,
+    "\n",
+    r#"{"op":"begin","grain":"counter/red:a"}"#,
+    "\n",
+    r#"{"op":"end","grain":"counter/red:a","turn":3}"#,
+    "\n"
+);
+
+const FULL_REPLIES: &str = concat!(
+    r#"{"from":"red/c1","id":1,"ok":9223372036854775807}"#,
+    "\n",
+    r#"{"error":62,"from":"red/c1","id":2,"text":"result is out of range"}"#,
+    "\n",
+    r#"{"from":"red/c1","id":3,"ok":9223372036854775807}"#,
+    "\n"
+);
+
+const NO_ENTRY: &str = concat!(r#"{"op":"begin","grain":"counter/red:a"}"#, "\n");
+
+const NOT_NOW: &str = concat!(r#"{"text":"not now"}"#, "\n");
+
+#[test]
+fn answers_lines(rt: HostRuntime) -> Result<(), Fail> {
+    let rows = [
+        (FIRST_RUN, FIRST_REPLY),
+        ("", ""),
+        (ACROSS, ACROSS_REPLY),
+        (FULL, FULL_REPLIES),
+        (NO_ENTRY, NOT_NOW),
+    ];
+    for (input, output) in rows {
+        let mut reader = input.as_bytes();
+        let outcome = run(&rt, RED, &mut reader, Vec::new(rt.alloc()))?;
+        assert!(rt; outcome.output.as_slice() == output.as_bytes(), "at {input}");
+        assert!(rt; outcome.errors.is_empty(), "at {input}");
+        assert_eq!(rt; outcome.status, 0, "at {input}");
+    }
+    Ok(())
+}
+
+#[test]
+fn refuses_tenants(rt: HostRuntime) -> Result<(), Fail> {
+    const FIRST: &str = "silo: tenant argument 1 is refused\n";
+    const SECOND: &str = "silo: tenant argument 2 is refused\n";
+    let rows: [(&[&str], &str); 15] = [
+        (&["steps", "red:2:4", "blue:2:4"], SECOND),
+        (&["steps", "red:2:4", "red:02:4"], SECOND),
+        (&["steps", "red:02:4", "blue:2:4"], FIRST),
+        (&["steps", "--age", "1", "red:2:04"], FIRST),
+        (&["steps", "Red:1:1"], FIRST),
+        (&["steps", "red:0:4"], FIRST),
+        (&["steps", "red:10001:1"], FIRST),
+        (&["steps", "red:1:1001"], FIRST),
+        (&["steps", "red:1:0"], FIRST),
+        (&["steps", "red:+1:1"], FIRST),
+        (&["steps", "red:1:99999999999999999999"], FIRST),
+        (&["steps", "red:1"], FIRST),
+        (&["steps", "red:1:1:1"], FIRST),
+        (&["steps", "red::1"], FIRST),
+        (&["steps", ""], FIRST),
+    ];
+    for (arguments, errors) in rows {
+        let mut reader = FIRST_RUN.as_bytes();
+        let outcome = run(&rt, arguments, &mut reader, Vec::new(rt.alloc()))?;
+        assert!(rt; outcome.errors.as_slice() == errors.as_bytes(), "at {arguments:?}");
+        assert!(rt; outcome.output.is_empty(), "at {arguments:?}");
+        assert_eq!(rt; outcome.status, 2, "at {arguments:?}");
+    }
+    Ok(())
+}
+
+#[test]
+fn takes_limits_to_their_ends(rt: HostRuntime) -> Result<(), Fail> {
+    let rows: [&[&str]; 3] = [
+        &["steps", "--age", "1", "a:1:1"],
+        &["steps", "--age=86400000", "a-b-1:10000:1000"],
+        &["steps", "red:2:4", "--age", "900000"],
+    ];
+    for arguments in rows {
+        let outcome = run(&rt, arguments, &mut [].as_slice(), Vec::new(rt.alloc()))?;
+        assert!(rt; outcome.errors.is_empty(), "at {arguments:?}");
+        assert!(rt; outcome.output.is_empty(), "at {arguments:?}");
+        assert_eq!(rt; outcome.status, 0, "at {arguments:?}");
+    }
+    Ok(())
+}
+
+#[test]
+fn explains_words(rt: HostRuntime) -> Result<(), Fail> {
+    let rows: [&[&str]; 8] = [
+        &[],
+        &["steps"],
+        &["serve", "red:2:4"],
+        &["steps", "--workers", "4", "red:2:4"],
+        &["steps", "--age", "0", "red:2:4"],
+        &["steps", "--age", "86400001", "red:2:4"],
+        &["steps", "--age", "x", "red:2:4"],
+        &["steps", "--age"],
+    ];
+    for arguments in rows {
+        let outcome = run(&rt, arguments, &mut [].as_slice(), Vec::new(rt.alloc()))?;
+        assert!(rt; outcome.errors.starts_with(b"error: "), "at {arguments:?}");
+        assert!(rt; outcome.output.is_empty(), "at {arguments:?}");
+        assert_eq!(rt; outcome.status, 2, "at {arguments:?}");
+    }
+    let outcome = run(&rt, &["--help"], &mut [].as_slice(), Vec::new(rt.alloc()))?;
+    assert!(rt; outcome.errors.is_empty());
+    assert!(rt; outcome.output.starts_with(b"A silo of grains that tenants share\n"));
+    assert_eq!(rt; outcome.status, 0);
+    Ok(())
+}
+
+#[test]
+fn fails_with_its_streams(rt: HostRuntime) -> Result<(), Fail> {
+    let mut reader = BrokenReader {
+        bytes: NO_ENTRY.as_bytes(),
+    };
+    let outcome = run(&rt, RED, &mut reader, Vec::new(rt.alloc()))?;
+    assert!(rt; outcome.output.as_slice() == NOT_NOW.as_bytes());
+    assert!(rt; outcome.errors.as_slice() == b"silo: reading failed\n".as_slice());
+    assert_eq!(rt; outcome.status, 1);
+    let outcome = run(&rt, RED, &mut NO_ENTRY.as_bytes(), FullWriter)?;
+    assert!(rt; outcome.errors.as_slice() == b"silo: writing failed\n".as_slice());
+    assert_eq!(rt; outcome.status, 1);
+    let outcome = run(&rt, RED, &mut NO_ENTRY.as_bytes(), LosingWriter)?;
+    assert!(rt; outcome.errors.as_slice() == b"silo: writing failed\n".as_slice());
+    assert_eq!(rt; outcome.status, 1);
+    let outcome = run(&rt, &["--help"], &mut [].as_slice(), FullWriter)?;
+    assert!(rt; outcome.errors.as_slice() == b"silo: writing failed\n".as_slice());
+    assert_eq!(rt; outcome.status, 1);
+    Ok(())
+}
+
+#[test]
+fn keeps_a_file(rt: HostRuntime) -> Result<(), Fail> {
+    let alloc = rt.alloc();
+    let mut file = no_file(alloc);
+    file.write_whole(alloc, "", b"ab")?;
+    assert_eq!(rt; file.write_whole(alloc, "j", b"c"), Err(FileFault::Failed));
+    assert_eq!(rt; file.read_whole(alloc, "")?.as_slice(), b"ab".as_slice());
+    assert!(rt; file.read_whole(alloc, "j").is_err());
+    Ok(())
+}
