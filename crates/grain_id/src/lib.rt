@@ -1,8 +1,11 @@
 //! Names of kinds, tenants, clients and grains.
 //!
 //! A layer above may rely on this: a value is made by reading a text by the grammar, contracts see
-//! it as the bytes of its parts, and equality, order and hash are those of the parts. The grammar
-//! and the order are in `specs/Words.antt`, `specs/Names.antt` and `specs/Reading.antt`.
+//! it as the bytes of its parts, and equality, order and hash are those of the parts. A value holds
+//! one text, so a clone makes one allocation and a comparison none. The grammar and the order are
+//! in `specs/Words.antt`, `specs/Names.antt` and `specs/Reading.antt`; `laws` has the round trip,
+//! and `proofs/Order.antt`, `proofs/Maps.antt` and `proofs/ByGrain.antt` have the lemmas for the
+//! layers above.
 #![tactic(auto)]
 
 mod caller;
