@@ -1,12 +1,12 @@
 -- What spells a value is read as that value, whatever follows it.
-use Rattle.std.proofs.Common.{◌≡◌, ℕ, zero, suc, ◌+◌, ◌^◌, ◌<◌, ◌≤◌, Bool, true, false, List, [], ◌∷◌, ◌++◌, Option, Some, None, refl, append_assoc, arith}
+use Rattle.std.proofs.Common.{◌≡◌, ℕ, zero, suc, ◌^◌, ◌<◌, ◌≤◌, Bool, true, false, List, ◌∷◌, ◌++◌, Option, Some, None, refl, append_assoc, arith}
 use Rattle.std.specs.Prelude.{ℤ, pos, negsuc, FitsSigned}
 use Rattle.std.specs.Int.{w32, w64, to_be_bytes, cast_signed, cast_unsigned}
 use Rattle.std.proofs.Math.Nat.{le-max_left, le-max_right}
 use Rattle.std.proofs.lemmas.Int.{to_z-of_z}
 use Rattle.request_codec.specs.Tree.{Tree, null, truth, whole, text, list, map, Members, no_members, member, Fields, no_fields, field, members_count, fields_count, depth, members_depth, fields_depth}
 use Rattle.request_codec.specs.Spelling.{Spells, SpellEach, SpellFields, IsBelowFirst}
-use Rattle.request_codec.specs.Reading.{Parse, ◌>>=◌, number_at, text_at, members_at, is_above, fields_at, node_at, value_at}
+use Rattle.request_codec.specs.Reading.{Parse, number_at, members_at, is_above, fields_at, node_at, value_at}
 use Rattle.request_codec.proofs.Numbers.{wide32, wide64, number_again, text_again}
 
 pub depth_positive : (v : Tree) → 1 ≤ depth v

@@ -1,5 +1,5 @@
 -- What was answered, by what a part answered.
-use Rattle.std.proofs.Common.{◌≡◌, ℕ, ◌+◌, ◌<◌, ◌≤◌, List, length, Option, None, Result, Ok, Err, subst, arith}
+use Rattle.std.proofs.Common.{◌≡◌, ℕ, ◌+◌, ◌<◌, ◌≤◌, List, length, Option, None, Err, subst, arith}
 use Rattle.request_codec.specs.Limits.{depth_limit}
 use Rattle.request_codec.specs.Tree.{Tree, depth}
 use Rattle.request_codec.specs.Written.{Puts, WritesAll}

@@ -1,15 +1,14 @@
 -- A test of the members one after another is a test of them all.
-use Rattle.std.proofs.Common.{◌≡◌, ℕ, ◌+◌, ◌-◌, ◌<◌, ◌≤◌, ◌≢◌, Bool, true, false, List, [], ◌∷◌, length, get_or, drop, map as each, String, Global, Less, string_bytes, string_cmp, refl, sym, ap, subst, ◌∙◌, arith}
-use Rattle.std.specs.Prelude.{IsTrue, max}
-use Rattle.std.specs.Cmp.Lexicographic.{slice_cmp}
+use Rattle.std.proofs.Common.{◌≡◌, ℕ, ◌+◌, ◌-◌, ◌<◌, ◌≤◌, ◌≢◌, Bool, true, false, List, [], ◌∷◌, length, get_or, drop, map as each, String, Global, string_bytes, string_cmp, sym, ap, subst, arith}
+use Rattle.std.specs.Prelude.{max}
 use Rattle.std.specs.List.Sorted.{IsStrictlySortedBy}
 use Rattle.std.specs.Map.{keys_of}
-use Rattle.std.specs.Ordering.{nat_cmp, is_lt}
+use Rattle.std.specs.Ordering.{is_lt}
 use Rattle.std.proofs.lemmas.List.{drop_more, drop_all}
 use Rattle.std.proofs.lemmas.Str.{IsUtf8-string_bytes}
-use Rattle.request_codec.specs.Tree.{Tree, list, map, Members, no_members, member, Fields, no_fields, field, depth, members_depth, fields_depth, members_of, fields_of}
+use Rattle.request_codec.specs.Tree.{Tree, list, map, Members, no_members, member, Fields, no_fields, depth, members_depth, fields_depth, members_of, fields_of}
 use Rattle.request_codec.specs.Spelling.{IsBelowFirst}
-use Rattle.request_codec.specs.Formed.{IsFormed, AreFormed, FieldsFormed, TestsDepth, TestDepths, TestFieldDepths}
+use Rattle.request_codec.specs.Formed.{IsFormed, TestsDepth, TestDepths, TestFieldDepths}
 use Rattle.request_codec.specs.Seen.{value_of, entry_of}
 use Rattle.request_codec.specs.declared.datum.Datum.{Datum}
 

@@ -1,5 +1,5 @@
 -- What was written as a message or a state is read as what it was written for.
-use Rattle.std.proofs.Common.{◌≡◌, ℕ, ◌≤◌, List, ◌∷◌, ◌++◌, length, Option, Some, refl, sym, ap, ◌∙◌, arith}
+use Rattle.std.proofs.Common.{◌≡◌, ℕ, ◌≤◌, List, ◌∷◌, ◌++◌, length, Option, Some, sym, ap, ◌∙◌, arith}
 use Rattle.std.specs.Prelude.{IsUtf8}
 use Rattle.std.proofs.lemmas.Option.{same_Some}
 use Rattle.request_codec.specs.Limits.{depth_limit, message_limit, state_limit}

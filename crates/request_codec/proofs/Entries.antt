@@ -1,12 +1,10 @@
 -- A map into which names go in their order.
-use Rattle.std.proofs.Common.{◌≡◌, ℕ, List, [], ◌∷◌, ◌++◌, map, Option, Some, None, String, Global, string_bytes, string_cmp, nat_cmp, Ordering, Less, Equal, Greater, Bool, true, false, refl, sym, ap, ◌∙◌}
+use Rattle.std.proofs.Common.{◌≡◌, ℕ, List, [], ◌∷◌, ◌++◌, Some, String, Global, string_bytes, string_cmp, nat_cmp, Ordering, Less, Equal, Greater, true, refl, ap, ◌∙◌}
 use Rattle.std.proofs.lemmas.Cmp.{nat_list_cmp_total}
 use Rattle.std.specs.Cmp.Lexicographic.{slice_cmp}
-use Rattle.std.specs.Ordering.{is_lt, ordering_reverse, match_ordering}
+use Rattle.std.specs.Ordering.{is_lt, ordering_reverse}
 use Rattle.std.specs.BTreeMap.{insert_entry}
-use Rattle.request_codec.specs.Tree.{Tree}
 use Rattle.request_codec.specs.Reading.{is_above}
-use Rattle.request_codec.specs.Seen.{value_of, entry_of}
 use Rattle.request_codec.specs.declared.datum.Datum.{Datum}
 
 abbrev pub Entry : Type 0

@@ -1,5 +1,5 @@
 -- Reading one level of a value.
-use Rattle.std.proofs.Common.{◌≡◌, ℕ, suc, zero, ◌-◌, ◌<◌, List, Option, Some, None, refl, sym, ap, ◌∙◌, arith}
+use Rattle.std.proofs.Common.{◌≡◌, ℕ, suc, zero, ◌-◌, ◌<◌, List, Some, None, refl, ap, ◌∙◌, arith}
 use Rattle.request_codec.specs.Tree.{Tree, list, map, Members, Fields}
 use Rattle.request_codec.specs.Reading.{◌>>=◌, members_at, fields_at, value_at}
 use Rattle.request_codec.specs.Start.{Begun, leaf, list_of, map_of, start_at, value_behind}

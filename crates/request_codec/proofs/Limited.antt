@@ -1,5 +1,5 @@
 -- A test of the greatest of several numbers, one number after another.
-use Rattle.std.proofs.Common.{◌≡◌, ℕ, ◌+◌, ◌-◌, ◌<◌, ◌≤◌, ◌≢◌, Bool, true, false, suc, sym, subst, arith}
+use Rattle.std.proofs.Common.{◌≡◌, ℕ, ◌-◌, ◌<◌, ◌≤◌, ◌≢◌, Bool, true, false, suc, sym, subst, arith}
 use Rattle.std.specs.Prelude.{max}
 use Rattle.request_codec.specs.Converted.{TestsLimit}
 

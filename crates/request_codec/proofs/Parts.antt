@@ -1,8 +1,8 @@
 -- The parts of a spelling, and what a loop has still to write.
-use Rattle.std.proofs.Common.{◌≡◌, ℕ, suc, ◌+◌, ◌<◌, ◌≤◌, List, [], ◌∷◌, ◌++◌, length, get_or, drop, map as each, Result, Ok, Err, String, Global, string_bytes, refl, sym, ap, subst, ◌∙◌, append_assoc, arith}
+use Rattle.std.proofs.Common.{◌≡◌, ℕ, suc, ◌+◌, ◌<◌, ◌≤◌, List, [], ◌∷◌, ◌++◌, length, get_or, drop, map as each, Err, String, Global, string_bytes, refl, sym, ap, subst, ◌∙◌, append_assoc, arith}
 use Rattle.std.specs.Int.{w32, to_be_bytes}
 use Rattle.std.proofs.lemmas.List.{append-nil, length-append, drop_more, drop_all}
-use Rattle.request_codec.specs.Tree.{Tree, null, truth, whole, text, list, map, Members, no_members, member, Fields, no_fields, field, members_count, fields_count, members_of, fields_of}
+use Rattle.request_codec.specs.Tree.{Tree, null, truth, whole, text, list, map, members_count, fields_count, members_of, fields_of}
 use Rattle.request_codec.specs.Written.{text_spelling, spelling, members_spelling, fields_spelling}
 use Rattle.request_codec.specs.Seen.{value_of, entry_of}
 use Rattle.request_codec.specs.declared.datum.Datum.{Datum}

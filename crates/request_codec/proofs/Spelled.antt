@@ -1,11 +1,11 @@
 -- The bytes that are written for a value that a spelling is there for are a spelling of it.
-use Rattle.std.proofs.Common.{◌≡◌, ℕ, ◌+◌, ◌^◌, ◌<◌, ◌≤◌, Bool, true, false, Option, Some, List, [], ◌∷◌, ◌++◌, length, refl, sym, ap, subst, ◌∙◌, append_assoc, arith}
+use Rattle.std.proofs.Common.{◌≡◌, ℕ, ◌+◌, ◌^◌, ◌<◌, ◌≤◌, Bool, true, false, Option, Some, List, ◌∷◌, ◌++◌, length, refl, sym, ap, ◌∙◌, append_assoc, arith}
 use Rattle.std.specs.Prelude.{IsUtf8, IsTrue, ◌↔◌}
 use Rattle.std.specs.Str.{bytes_eq}
 use Rattle.std.proofs.lemmas.Slice.Eq.{bytes_eq-Decides}
 use Rattle.std.proofs.lemmas.Option.{same_Some}
 use Rattle.request_codec.specs.Call.{Call}
-use Rattle.std.specs.Int.{w32, w64, to_be_bytes, cast_unsigned}
+use Rattle.std.specs.Int.{w32, to_be_bytes}
 use Rattle.std.proofs.lemmas.List.{length-append}
 use Rattle.request_codec.specs.Limits.{depth_limit, message_limit, state_limit}
 use Rattle.request_codec.specs.Tree.{Tree, null, truth, whole, text, list, map, Members, no_members, member, Fields, no_fields, field, members_count, fields_count, depth}
@@ -105,21 +105,21 @@ length-message method v = omega (arith, length-append (text_spelling method) (sp
 
 pub message_spelled : (method : List ℕ) (v : Tree) → IsUtf8 method → IsFormed v → depth v ≤ depth_limit → message_length method v ≤ message_limit → SpellsMessage method v (1 ∷ (text_spelling method ++ spelling v))
 message_spelled method v valid formed deep short = record {
-    name = text_spelling method;
-    rest = spelling v;
-    method_spelled = text_spelled method (omega (arith, short)) valid;
-    value_spelled = spelled v formed (sized v (omega (arith, short)));
-    whole_bytes = refl;
-    depth_within = deep;
-    length_within = omega (arith, short, length-message method v);
-  }
+  name = text_spelling method;
+  rest = spelling v;
+  method_spelled = text_spelled method (omega (arith, short)) valid;
+  value_spelled = spelled v formed (sized v (omega (arith, short)));
+  whole_bytes = refl;
+  depth_within = deep;
+  length_within = omega (arith, short, length-message method v);
+}
 
 pub state_spelled : (v : Tree) → IsFormed v → depth v ≤ depth_limit → spelled_length v ≤ state_limit → SpellsState v (spelling v)
 state_spelled v formed deep short = record {
-    value_spelled = spelled v formed (sized v (omega (arith, short)));
-    depth_within = deep;
-    length_within = omega (arith, short, length-spelling v);
-  }
+  value_spelled = spelled v formed (sized v (omega (arith, short)));
+  depth_within = deep;
+  length_within = omega (arith, short, length-spelling v);
+}
 
 -- ---- what has a spelling
 

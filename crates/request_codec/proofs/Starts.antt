@@ -1,15 +1,15 @@
 -- A value is read by its start, whose count of members may be tested against the bytes that are left.
-use Rattle.std.proofs.Common.{◌≡◌, ℕ, zero, suc, ◌+◌, ◌-◌, ◌<◌, ◌≤◌, Bool, true, false, cond, ltb, List, [], ◌∷◌, length, take, drop, Option, Some, None, refl, sym, ap, subst, ◌∙◌, arith}
+use Rattle.std.proofs.Common.{◌≡◌, ℕ, zero, suc, ◌+◌, ◌<◌, ◌≤◌, Bool, true, false, cond, ltb, List, [], ◌∷◌, length, take, drop, Option, Some, None, refl, arith}
 use Rattle.std.specs.Prelude.{if◌then◌else◌}
 use Rattle.std.specs.Int.{Width, w32, w64, byte_len, from_be_bytes}
 use Rattle.std.specs.Str.{is_utf8}
 use Rattle.std.proofs.lemmas.Bool.{ltb-true, ltb-false}
 use Rattle.std.proofs.lemmas.List.{length-drop}
 use Rattle.std.proofs.lemmas.Option.{some_pair_parts}
-use Rattle.request_codec.specs.Tree.{Tree, list, map, Members, no_members, member, Fields, no_fields, field}
+use Rattle.request_codec.specs.Tree.{Tree, list, map, Members, Fields}
 use Rattle.request_codec.specs.Reading.{Parse, ◌>>=◌, number_at, characters_at, text_at, members_at, fields_at, is_above, node_at, value_at}
 use Rattle.request_codec.specs.Start.{Begun, leaf, list_of, map_of, if_enough, count_at, start_at, value_behind}
-use Rattle.request_codec.proofs.Steps.{bound, unless, provided, pair_is}
+use Rattle.request_codec.proofs.Steps.{bound, unless, provided}
 
 -- ---- what is read takes a byte at least
 

@@ -1,5 +1,5 @@
 -- Whole messages and states: what is read is spelled so, and what is spelled is read.
-use Rattle.std.proofs.Common.{◌≡◌, ℕ, ◌<◌, ◌≤◌, Bool, true, false, cond, ltb, eqb, List, [], ◌∷◌, ◌++◌, length, Option, Some, None, Result, Ok, Err, IfOk, drop, true≢false, refl, sym, ap, subst, ◌∙◌, arith}
+use Rattle.std.proofs.Common.{◌≡◌, ℕ, ◌<◌, ◌≤◌, false, ltb, eqb, List, [], ◌∷◌, ◌++◌, length, Option, Some, None, Result, Ok, Err, IfOk, drop, true≢false, refl, sym, ap, subst, ◌∙◌, arith}
 use Rattle.std.specs.Prelude.{IsSome, is_some}
 use Rattle.std.specs.Option.{unwrap_or}
 use Rattle.std.proofs.lemmas.Option.{same_Some, some_pair_parts}
@@ -7,8 +7,8 @@ use Rattle.std.proofs.lemmas.Bool.{ltb-false, le-ltb, eqb-true}
 use Rattle.std.proofs.lemmas.List.{append-nil}
 use Rattle.request_codec.specs.Limits.{depth_limit, message_limit, state_limit}
 use Rattle.request_codec.specs.Tree.{Tree, null}
-use Rattle.request_codec.specs.Spelling.{Spells, SpellsText, SpellsMessage, SpellsState}
-use Rattle.request_codec.specs.Reading.{◌>>=◌, text_at, value_at, if_ended}
+use Rattle.request_codec.specs.Spelling.{Spells, SpellsMessage, SpellsState}
+use Rattle.request_codec.specs.Reading.{text_at, value_at, if_ended}
 use Rattle.request_codec.specs.Call.{Call, asks, call_behind, behind_version, message_call, state_value, call_of, value_of_state, no_call}
 use Rattle.request_codec.specs.Answers.{Reads}
 use Rattle.request_codec.specs.declared.fault.CodecFault.{CodecFault}

@@ -80,4 +80,3 @@ abbrev pub if_ended : {A : Type 0} → Option (A × List ℕ) → Option A
 if_ended None = None
 if_ended (Some (x, [])) = Some x
 if_ended (Some (x, b ∷ rest)) = None
-

@@ -15,11 +15,9 @@ pub fn one_spelling()
     ensures one { (v : Tree) → IsFormed v → IsSized v → (bytes : List ℕ) × Spells v bytes }
     ensures no_other { (v : Tree) (bytes : List ℕ) → Spells v bytes → IsFormed v × IsSized v }
     ensures as_long { (v : Tree) (bytes : List ℕ) → Spells v bytes → length bytes ≡ spelled_length v }
-{
-}
+{}
 
 /// No spelling is a proper prefix of another.
 pub fn no_prefix()
     ensures { (v w : Tree) (bytes more : List ℕ) → Spells v bytes → Spells w (bytes ++ more) → more ≡ [] }
-{
-}
+{}

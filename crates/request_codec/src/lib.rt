@@ -7,30 +7,30 @@
 #![tactic(auto)]
 
 pub mod bytes;
+mod conversion;
 mod datum;
 mod datum_reader;
 mod datum_writer;
 mod depth;
+mod fault;
 mod json_depth;
 mod json_reader;
 mod json_writer;
 pub mod laws;
 pub mod limits;
-mod reading;
-mod writing;
-mod fault;
-mod conversion;
 mod message;
+mod reading;
 mod state;
 mod value_end;
+mod writing;
 
-pub use datum::Datum;
-pub use reading::{decode, decode_message, decode_state};
-pub use writing::{encode, encode_state};
-pub use fault::CodecFault;
 pub use conversion::{from_json, to_json};
+pub use datum::Datum;
+pub use fault::CodecFault;
 pub use message::Message;
+pub use reading::{decode, decode_message, decode_state};
 pub use state::StateBytes;
+pub use writing::{encode, encode_state};
 
 #[cfg(test)]
 mod tests;

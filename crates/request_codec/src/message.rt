@@ -69,9 +69,7 @@ impl Message {
         requires { IsSome (message_call bytes.items) }
         ensures { message_call bytes.items ≡ Some result }
     {
-        Message {
-            bytes,
-        }
+        Message { bytes }
     }
 
     /// The message whose bytes these are. It keeps the very bytes.

@@ -80,10 +80,7 @@ pub fn decode_state(alloc: Global, state: &StateBytes) -> Result<Datum, AllocErr
 }
 
 /// The method and the argument of a message.
-pub fn decode_message(
-    alloc: Global,
-    message: &Message,
-) -> Result<(String, Datum), AllocError>
+pub fn decode_message(alloc: Global, message: &Message) -> Result<(String, Datum), AllocError>
     ensures { IfOk result (λ found. asks (string_bytes found.0) (value_of found.1) ≡ message.now) }
 {
     match decode(alloc, message.bytes()) {

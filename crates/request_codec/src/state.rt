@@ -55,9 +55,7 @@ impl StateBytes {
         requires { IsSome (state_value bytes.items) }
         ensures { state_value bytes.items ≡ Some result }
     {
-        StateBytes {
-            bytes,
-        }
+        StateBytes { bytes }
     }
 
     /// The state whose bytes these are. It keeps the very bytes.

@@ -90,17 +90,27 @@ fn refuses_names_out_of_order_or_twice(rt: HostRuntime) {
     assert_eq!(rt; decoding_fault(rt.alloc(), &out_of_order), not_a_message);
     assert_eq!(rt; decoding_fault(rt.alloc(), &twice), not_a_message);
     assert_eq!(rt; decoding_fault(rt.alloc(), &ascending), None);
-    assert_eq!(rt; decoding_fault(rt.alloc(), &[1, 0, 0, 0, 1, 0x61, 6, 0, 0, 0, 2]), not_a_message);
+    assert_eq!(rt;
+        decoding_fault(rt.alloc(), &[1, 0, 0, 0, 1, 0x61, 6, 0, 0, 0, 2]),
+        not_a_message
+    );
 }
 
 #[test]
 fn refuses_a_part_of_a_message_and_more_than_one(rt: HostRuntime) -> Result<(), Fail> {
     for len in 0..ADD.len() {
-        assert_eq!(rt; decoding_fault(rt.alloc(), &ADD[..len]), Some(CodecFault::NotAMessage), "at {len}");
+        assert_eq!(rt;
+            decoding_fault(rt.alloc(), &ADD[..len]),
+            Some(CodecFault::NotAMessage),
+            "at {len}"
+        );
     }
     let mut longer = Vec::from_slice(rt.alloc(), &ADD)?;
     longer.push(0)?;
-    assert_eq!(rt; decoding_fault(rt.alloc(), longer.as_slice()), Some(CodecFault::NotAMessage));
+    assert_eq!(rt;
+        decoding_fault(rt.alloc(), longer.as_slice()),
+        Some(CodecFault::NotAMessage)
+    );
     assert_eq!(rt; decoding_fault(rt.alloc(), &ADD), None);
     Ok(())
 }
@@ -108,21 +118,33 @@ fn refuses_a_part_of_a_message_and_more_than_one(rt: HostRuntime) -> Result<(), 
 #[test]
 fn refuses_a_count_above_what_is_left(rt: HostRuntime) {
     let many = [1, 0, 0, 0, 1, 0x61, 5, 0xFF, 0xFF, 0xFF, 0xFF];
-    assert_eq!(rt; decoding_fault(rt.alloc(), &many), Some(CodecFault::NotAMessage));
+    assert_eq!(rt;
+        decoding_fault(rt.alloc(), &many),
+        Some(CodecFault::NotAMessage)
+    );
 }
 
 #[test]
 fn reads_thirty_two_levels_and_no_more(rt: HostRuntime) -> Result<(), Fail> {
     let alloc = rt.alloc();
-    assert_eq!(rt; decoding_fault(alloc, nested_lists(alloc, 32)?.as_slice()), None);
-    assert_eq!(rt; decoding_fault(alloc, nested_lists(alloc, 33)?.as_slice()), Some(CodecFault::NotAMessage));
+    assert_eq!(rt;
+        decoding_fault(alloc, nested_lists(alloc, 32)?.as_slice()),
+        None
+    );
+    assert_eq!(rt;
+        decoding_fault(alloc, nested_lists(alloc, 33)?.as_slice()),
+        Some(CodecFault::NotAMessage)
+    );
     Ok(())
 }
 
 #[test]
 fn refuses_text_that_is_not_utf8(rt: HostRuntime) {
     let overlong = [1, 0, 0, 0, 1, 0x61, 4, 0, 0, 0, 2, 0xC0, 0x80];
-    assert_eq!(rt; decoding_fault(rt.alloc(), &overlong), Some(CodecFault::NotAMessage));
+    assert_eq!(rt;
+        decoding_fault(rt.alloc(), &overlong),
+        Some(CodecFault::NotAMessage)
+    );
 }
 
 #[test]
@@ -136,11 +158,17 @@ fn keeps_the_limit_of_a_message(rt: HostRuntime) -> Result<(), Fail> {
     assert_eq!(rt; message.bytes().len(), 65_536);
     text.push_str("x")?;
     let longer = Datum::Text(text.clone()?);
-    assert_eq!(rt; encode(alloc, "a", &longer).err(), Some(CodecFault::TooLong));
+    assert_eq!(rt;
+        encode(alloc, "a", &longer).err(),
+        Some(CodecFault::TooLong)
+    );
     let mut bytes = Vec::from_slice(alloc, &[1, 0, 0, 0, 1, 0x61, 4, 0, 0, 0xFF, 0xF6])?;
     bytes.extend_from_slice(text.as_str().as_bytes())?;
     assert_eq!(rt; bytes.len(), 65_537);
-    assert_eq!(rt; decoding_fault(alloc, bytes.as_slice()), Some(CodecFault::NotAMessage));
+    assert_eq!(rt;
+        decoding_fault(alloc, bytes.as_slice()),
+        Some(CodecFault::NotAMessage)
+    );
     Ok(())
 }
 
@@ -156,7 +184,10 @@ fn keeps_messages(rt: HostRuntime) -> Result<(), Fail> {
     assert!(rt; message.clone()? == message);
     let other = encode(alloc, "get", &Datum::Null)?;
     assert!(rt; other != message);
-    assert_eq!(rt; Message::read(alloc, &ADD[..27]).err(), Some(CodecFault::NotAMessage));
+    assert_eq!(rt;
+        Message::read(alloc, &ADD[..27]).err(),
+        Some(CodecFault::NotAMessage)
+    );
     Ok(())
 }
 
@@ -173,8 +204,14 @@ fn keeps_states(rt: HostRuntime) -> Result<(), Fail> {
     assert!(rt; StateBytes::read(alloc, &[2])? == state);
     assert!(rt; StateBytes::read(alloc, &[1])? != state);
     assert!(rt; state.clone()? == state);
-    assert_eq!(rt; StateBytes::read(alloc, &[7]).err(), Some(CodecFault::NotAMessage));
-    assert_eq!(rt; StateBytes::read(alloc, &[]).err(), Some(CodecFault::NotAMessage));
+    assert_eq!(rt;
+        StateBytes::read(alloc, &[7]).err(),
+        Some(CodecFault::NotAMessage)
+    );
+    assert_eq!(rt;
+        StateBytes::read(alloc, &[]).err(),
+        Some(CodecFault::NotAMessage)
+    );
     Ok(())
 }
 
@@ -191,7 +228,11 @@ fn converts_json_both_ways(rt: HostRuntime) -> Result<(), Fail> {
 fn converts_whole_numbers_alone(rt: HostRuntime) -> Result<(), Fail> {
     let alloc = rt.alloc();
     for text in ["1.5", "-0", "9223372036854775808", "[1.0]", "{\"a\":1e2}"] {
-        assert_eq!(rt; conversion_fault(alloc, text)?, Some(CodecFault::NotWhole), "at {text}");
+        assert_eq!(rt;
+            conversion_fault(alloc, text)?,
+            Some(CodecFault::NotWhole),
+            "at {text}"
+        );
     }
     for text in ["0", "9223372036854775807", "-9223372036854775808"] {
         assert_eq!(rt; conversion_fault(alloc, text)?, None, "at {text}");
@@ -203,8 +244,14 @@ fn converts_whole_numbers_alone(rt: HostRuntime) -> Result<(), Fail> {
 fn converts_thirty_two_levels_and_no_more(rt: HostRuntime) -> Result<(), Fail> {
     let alloc = rt.alloc();
     let deepest = from_json(alloc, &nested_json(alloc, 32)?)?;
-    assert_eq!(rt; encode(alloc, "a", &deepest)?.bytes(), nested_lists(alloc, 32)?.as_slice());
-    assert_eq!(rt; from_json(alloc, &nested_json(alloc, 33)?).err(), Some(CodecFault::TooDeep));
+    assert_eq!(rt;
+        encode(alloc, "a", &deepest)?.bytes(),
+        nested_lists(alloc, 32)?.as_slice()
+    );
+    assert_eq!(rt;
+        from_json(alloc, &nested_json(alloc, 33)?).err(),
+        Some(CodecFault::TooDeep)
+    );
     Ok(())
 }
 
@@ -215,8 +262,14 @@ fn too_deep_comes_first(rt: HostRuntime) -> Result<(), Fail> {
     let mut items = Vec::new(alloc);
     items.push(deepest)?;
     let deeper = Datum::List(items);
-    assert_eq!(rt; encode_state(alloc, &deeper).err(), Some(CodecFault::TooDeep));
-    assert_eq!(rt; encode(alloc, "a", &deeper).err(), Some(CodecFault::TooDeep));
+    assert_eq!(rt;
+        encode_state(alloc, &deeper).err(),
+        Some(CodecFault::TooDeep)
+    );
+    assert_eq!(rt;
+        encode(alloc, "a", &deeper).err(),
+        Some(CodecFault::TooDeep)
+    );
     Ok(())
 }
 

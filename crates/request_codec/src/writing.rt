@@ -18,11 +18,7 @@ use crate::state::StateBytes;
 use std::alloc::Global;
 
 /// The bytes of a message of the method and its argument.
-fn message_bytes(
-    alloc: Global,
-    method: &str,
-    argument: &Datum,
-) -> Result<Vec<u8>, CodecFault>
+fn message_bytes(alloc: Global, method: &str, argument: &Datum) -> Result<Vec<u8>, CodecFault>
     ensures { WritesAll message_limit result (1 ∷ (text_spelling method.now ++ spelling (value_of argument.now))) }
 {
     let mut out = Vec::new(alloc);

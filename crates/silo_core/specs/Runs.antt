@@ -8,6 +8,7 @@ use Rattle.silo_model.specs.Step.{machine_step}
 use Rattle.silo_model.specs.Whole.{Whole, shown_to, whole_step}
 use Rattle.silo_model.specs.Run.{machine_run, whole_run, restricted_to, concerns}
 use Rattle.silo_model.specs.Counter.{counters}
+use Rattle.silo_core.specs.History.{History}
 
 -- whether a step was done
 abbrev pub answer_of : {A : Type 0} → Option A → Answer
@@ -41,3 +42,10 @@ AllConcern tenant (s ∷ steps) = (concerns tenant s ≡ true) × AllConcern ten
 -- For every tenant the part is the run of the tenant's own machine, with the other tenants' steps struck out.
 abbrev pub RunsInParts : Whole → List Step → Whole → Type 0
 RunsInParts old steps new = (tenant : List ℕ) → shown_to tenant new ≡ machine_run counters (shown_to tenant old) (restricted_to tenant steps)
+
+-- From the old history the steps were taken, each with its answer, and led to the new one.
+pub record Takes (old : History) (steps : List Step) (given : List Answer) (new : History) : Type 0 where
+  pub answers : given ≡ whole_answers old.whole steps
+  pub whole : new.whole ≡ whole_run counters old.whole steps
+  pub journal : new.journal ≡ old.journal ++ done_steps old.whole steps
+  pub setup : new.setup ≡ old.setup

@@ -6,8 +6,12 @@
 //! `specs/History.antt`; what a step does is defined in the crate `silo_model`.
 #![tactic(auto)]
 
-mod run;
+mod activation;
+mod body;
+mod counter;
+mod directory;
+mod replies;
+mod request;
 mod silo;
 
-pub use run::RunReport;
-pub use silo::Silo;
+pub use silo::{RunReport, Silo};

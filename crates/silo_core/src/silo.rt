@@ -7,6 +7,8 @@ ghost use Rattle.silo_model.specs.Opening.{opening, start_of};
 ghost use Rattle.silo_model.specs.Whole.{shown_to};
 ghost use Rattle.silo_core.specs.History.{Answered, AnsweredInParts};
 
+use crate::body::Body;
+use crate::replies;
 use grain_id::{Caller, GrainId, Tenant};
 use request_codec::Message;
 use silo_event::{Answer, Reply, Step, StepFault};
@@ -14,20 +16,22 @@ use std::alloc::{AllocError, Global};
 use std::marker::Model;
 use tenant_gate::Limits;
 
+mod run;
+
+pub use run::RunReport;
+
 /// A silo of one known tenant: what its grains and callers have, beside the journal that led there.
 #[derive(Drop)]
 pub struct Silo {
     tenant: Tenant,
     limits: Limits,
     age: u64,
-    count: u64,
-    replies: Vec<Reply>,
+    body: Body,
     journal: Vec<Step>,
 }
 
 impl Model for Silo {
     ghost use Rattle.std.specs.Coded.{codes};
-    ghost use Rattle.std.specs.Prelude.{[]};
     ghost use Rattle.std.specs.FinMap as map;
     ghost use Rattle.request_codec.specs.Code.{coded_tree};
     ghost use Rattle.request_codec.specs.contracts.state.StateBytes as state;
@@ -42,83 +46,117 @@ impl Model for Silo {
 
     ghost view = { λ s. record {
         setup = record { limits = map.insert map.empty s.tenant s.limits; age = s.age; rows = map.empty };
-        whole = record { accounts = map.insert map.empty s.tenant (record { limits = s.limits; count = s.count; sends = [] }); age = s.age; clock = 0; entries = map.empty; rows = map.empty; replies = s.replies.items };
+        whole = s.body;
         journal = s.journal.items } };
 
-    ghost invariant = { λ s. LeadsTo counters (record { limits = map.insert map.empty s.tenant s.limits; age = s.age; rows = map.empty }) s.journal.items
-        (record { accounts = map.insert map.empty s.tenant (record { limits = s.limits; count = s.count; sends = [] }); age = s.age; clock = 0; entries = map.empty; rows = map.empty; replies = s.replies.items }) };
+    ghost invariant = { λ s. LeadsTo counters (record { limits = map.insert map.empty s.tenant s.limits; age = s.age; rows = map.empty }) s.journal.items s.body };
 }
 
 impl Silo {
     /// A silo that knows one tenant, whose idle activations may go after `age` milliseconds.
-    pub fn new(_alloc: Global, _tenant: Tenant, _limits: Limits, _age: u64) -> Result<Silo, AllocError>
-        ensures setup { IfOk result (λ s. s.setup ≡ record { limits = map.insert map.empty _tenant _limits; age = _age; rows = map.empty }) }
+    pub fn new(
+        alloc: Global,
+        tenant: Tenant,
+        limits: Limits,
+        age: u64,
+    ) -> Result<Silo, AllocError>
+        ensures setup { IfOk result (λ s. s.setup ≡ record { limits = map.insert map.empty tenant limits; age = age; rows = map.empty }) }
         ensures opening { IfOk result (λ s. (s.whole ≡ opening s.setup) × (s.journal ≡ [])) }
         ensures parts { IfOk result (λ s. (tenant : List ℕ) → shown_to tenant s.whole ≡ start_of s.setup tenant) }
     {
-        Err(AllocError)
+        let known = tenant.clone()?;
+        Ok(Silo {
+            tenant: known,
+            limits,
+            age,
+            body: Body::new(alloc, tenant, limits, age),
+            journal: Vec::new(alloc),
+        })
     }
 
     /// A client asks a grain for a method.
     pub fn call(
         &mut self,
-        _alloc: Global,
-        _caller: Caller,
-        _id: u64,
-        _grain: GrainId,
-        _message: Message,
+        alloc: Global,
+        caller: Caller,
+        id: u64,
+        grain: GrainId,
+        message: Message,
     ) -> Result<Answer, StepFault>
-        ensures answered { Answered self.old (step.Call _caller _id _grain _message) result self.new }
-        ensures parts { AnsweredInParts self.old.whole (step.Call _caller _id _grain _message) result self.new.whole }
+        ensures answered { Answered self.old (step.Call caller id grain message) result self.new }
+        ensures parts { AnsweredInParts self.old.whole (step.Call caller id grain message) result self.new.whole }
     {
-        Err(StepFault::Memory)
+        self.apply(
+            alloc,
+            Step::Call {
+                caller,
+                id,
+                grain,
+                message,
+            },
+        )
     }
 
     /// A grain's entry that waits begins to load.
-    pub fn activate(&mut self, _alloc: Global, _grain: GrainId) -> Result<Answer, StepFault>
-        ensures answered { Answered self.old (step.Activate _grain) result self.new }
-        ensures parts { AnsweredInParts self.old.whole (step.Activate _grain) result self.new.whole }
+    pub fn activate(&mut self, alloc: Global, grain: GrainId) -> Result<Answer, StepFault>
+        ensures answered { Answered self.old (step.Activate grain) result self.new }
+        ensures parts { AnsweredInParts self.old.whole (step.Activate grain) result self.new.whole }
     {
-        Err(StepFault::Memory)
+        self.apply(alloc, Step::Activate { grain })
     }
 
     /// A loading grain gets its state.
-    pub fn load(&mut self, _alloc: Global, _grain: GrainId) -> Result<Answer, StepFault>
-        ensures answered { Answered self.old (step.Load _grain) result self.new }
-        ensures parts { AnsweredInParts self.old.whole (step.Load _grain) result self.new.whole }
+    pub fn load(&mut self, alloc: Global, grain: GrainId) -> Result<Answer, StepFault>
+        ensures answered { Answered self.old (step.Load grain) result self.new }
+        ensures parts { AnsweredInParts self.old.whole (step.Load grain) result self.new.whole }
     {
-        Err(StepFault::Memory)
+        self.apply(alloc, Step::Load { grain })
     }
 
     /// The first waiting request of a ready grain becomes its open turn.
-    pub fn begin(&mut self, _alloc: Global, _grain: GrainId) -> Result<Answer, StepFault>
-        ensures answered { Answered self.old (step.Begin _grain) result self.new }
-        ensures parts { AnsweredInParts self.old.whole (step.Begin _grain) result self.new.whole }
+    pub fn begin(&mut self, alloc: Global, grain: GrainId) -> Result<Answer, StepFault>
+        ensures answered { Answered self.old (step.Begin grain) result self.new }
+        ensures parts { AnsweredInParts self.old.whole (step.Begin grain) result self.new.whole }
     {
-        Err(StepFault::Memory)
+        self.apply(alloc, Step::Begin { grain })
     }
 
     /// The open turn of that number runs and is closed.
-    pub fn end(&mut self, _alloc: Global, _grain: GrainId, _turn: u64) -> Result<Answer, StepFault>
-        ensures answered { Answered self.old (step.End _grain _turn) result self.new }
-        ensures parts { AnsweredInParts self.old.whole (step.End _grain _turn) result self.new.whole }
+    pub fn end(&mut self, alloc: Global, grain: GrainId, turn: u64) -> Result<Answer, StepFault>
+        ensures answered { Answered self.old (step.End grain turn) result self.new }
+        ensures parts { AnsweredInParts self.old.whole (step.End grain turn) result self.new.whole }
     {
-        Err(StepFault::Memory)
+        self.apply(alloc, Step::End { grain, turn })
     }
 
     /// Takes a step.
-    pub fn apply(&mut self, _alloc: Global, _step: Step) -> Result<Answer, StepFault>
-        ensures answered { Answered self.old _step result self.new }
-        ensures parts { AnsweredInParts self.old.whole _step result self.new.whole }
+    pub fn apply(&mut self, alloc: Global, step: Step) -> Result<Answer, StepFault>
+        ensures answered { Answered self.old step result self.new }
+        ensures parts { AnsweredInParts self.old.whole step result self.new.whole }
     {
-        Err(StepFault::Memory)
+        let _ = &self.journal;
+        self.take(alloc, step)
+    }
+
+    /// Takes a step, and notes it where it was done: room for the note comes first.
+    fn take(&mut self, alloc: Global, step: Step) -> Result<Answer, StepFault>
+        ensures { Answered self.old step result self.new }
+    {
+        self.journal.reserve(1)?;
+        match self.body.step(alloc, &step)? {
+            Answer::Done => {
+                self.journal.push_reserved(step);
+                Ok(Answer::Done)
+            }
+            Answer::NotNow => Ok(Answer::NotNow),
+        }
     }
 
     /// All replies, in the order in which they were made.
     pub fn replies(&self) -> &[Reply]
         ensures { result.now ≡ self.now.whole.replies }
     {
-        self.replies.as_slice()
+        self.body.replies()
     }
 
     /// The steps that were done, in order.
@@ -129,9 +167,9 @@ impl Silo {
     }
 
     /// The replies to a tenant's callers and grains, in order.
-    pub fn replies_of(&self, _alloc: Global, _tenant: &Tenant) -> Result<Vec<Reply>, AllocError>
-        ensures { IfOk result (λ found. found.items ≡ (shown_to _tenant.now self.now.whole).replies) }
+    pub fn replies_of(&self, alloc: Global, tenant: &Tenant) -> Result<Vec<Reply>, AllocError>
+        ensures { IfOk result (λ found. found.items ≡ (shown_to tenant.now self.now.whole).replies) }
     {
-        Err(AllocError)
+        replies::sent_to(alloc, self.body.replies(), tenant)
     }
 }

@@ -4,9 +4,8 @@ use Rattle.std.proofs.lemmas.List.{map_push}
 use Rattle.std.proofs.lemmas.Int.{to_z-of_z}
 use mir.Val.{to_z, of_z}
 use mir.Syntax.{w64}
-use Rattle.request_codec.specs.Tree.{null, truth, whole, text, list, members_of, fields_of}
-use Rattle.request_codec.specs.Tree as tree
-use Rattle.request_codec.specs.Reading.{text_at, is_above, value_at, members_at, fields_at}
+use Rattle.request_codec.specs.Tree.{null, truth, whole, text, members_of, fields_of}
+use Rattle.request_codec.specs.Reading.{is_above, value_at, members_at, fields_at}
 use Rattle.request_codec.specs.Start.{begun, start_at}
 use Rattle.request_codec.proofs.Answered.{Fails-whole}
 use Rattle.request_codec.proofs.Levels.{value_at-zero, value_at-unstarted, value_at-leaf, value_at-list, value_at-map, value_at-no_list, value_at-no_map}

@@ -1,4 +1,4 @@
-use Rattle.std.proofs.Common.{◌≡◌, ℕ, ◌<◌, ◌++◌, ◌∷◌, [], List, Err, ◌∙◌, sym, ap, subst, map, get_or, length, string_bytes, arith}
+use Rattle.std.proofs.Common.{◌≡◌, ℕ, ◌<◌, ◌++◌, ◌∷◌, List, Err, ◌∙◌, sym, ap, subst, map, get_or, length, string_bytes, arith}
 use Rattle.std.proofs.lemmas.Result.{err_from_is_err_and}
 use Rattle.std.proofs.lemmas.List.{length-map}
 use Rattle.std.specs.Int.{w32, to_be_bytes}
@@ -9,7 +9,7 @@ use Rattle.request_codec.specs.Written.{spelling, text_spelling, members_spellin
 use Rattle.request_codec.specs.Seen.{value_of, entry_of}
 use Rattle.request_codec.specs.declared.datum.Datum.{Datum}
 use Rattle.request_codec.proofs.Shown.{value_of-List, value_of-Map}
-use Rattle.request_codec.proofs.Puts.{Puts-then, Puts-front, Puts-part}
+use Rattle.request_codec.proofs.Puts.{Puts-then, Puts-front}
 use Rattle.request_codec.proofs.Parts.{list_parts, map_parts, list_uncounted, map_uncounted, items_next, items_done, items_part, Entry, entries_next, entries_done, name_part, member_part}
 use Rattle.request_codec.proofs.datum_writer.+writing.Goals as goal
 

@@ -10,7 +10,6 @@ use Rattle.request_codec.specs.Json.{json_of}
 use Rattle.request_codec.proofs.Shown.{value_of-Map}
 use Rattle.request_codec.proofs.Entries.{Entry}
 use Rattle.request_codec.proofs.JsonMembers.{json_of_seen, items_of-members, put_last}
-use Rattle.request_codec.specs.declared.datum.Datum.{Datum}
 use Rattle.request_codec.proofs.json_writer.+json_writing.Goals as goal
 
 pub json_of_datum-returns-in_ok-fields_to_json-in-Map : goal.json_of_datum-returns-in_ok-fields_to_json-in-Map

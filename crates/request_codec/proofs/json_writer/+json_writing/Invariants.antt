@@ -1,9 +1,8 @@
-use Rattle.std.proofs.Common.{◌≡◌, List, ◌++◌, take, map, Global, String}
+use Rattle.std.proofs.Common.{◌≡◌, List, ◌++◌, take, map}
 use Rattle.serde_json.specs.View.{view, members_view}
 use Rattle.request_codec.specs.Tree.{fields_of}
 use Rattle.request_codec.specs.Seen.{entry_of}
 use Rattle.request_codec.specs.Json.{json_members_of}
-use Rattle.request_codec.specs.declared.datum.Datum.{Datum}
 use Rattle.request_codec.proofs.Entries.{Entry}
 use Rattle.request_codec.proofs.JsonMembers.{json_of_seen}
 use Rattle.request_codec.proofs.json_writer.+json_writing.Given as goal

@@ -1,4 +1,4 @@
-use Rattle.std.proofs.Common.{◌≡◌, String, Global, string_bytes, arith}
+use Rattle.std.proofs.Common.{String, Global, string_bytes, arith}
 use Rattle.request_codec.specs.Answers.{Reads}
 use Rattle.request_codec.specs.Call.{asks, message_call}
 use Rattle.request_codec.specs.Seen.{value_of}

@@ -1,4 +1,4 @@
-use Rattle.std.proofs.Common.{◌≡◌, ◌-◌, None, Some, option_map, sym, ap, ◌∙◌, arith}
+use Rattle.std.proofs.Common.{◌≡◌, None, Some, option_map, sym, ap, ◌∙◌, arith}
 use Rattle.request_codec.specs.Tree.{null, truth, whole, text}
 use Rattle.request_codec.specs.Reading.{value_at, members_at, fields_at}
 use Rattle.request_codec.specs.Start.{begun, start_at}

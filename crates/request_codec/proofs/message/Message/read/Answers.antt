@@ -1,4 +1,4 @@
-use Rattle.std.proofs.Common.{◌≡◌, sym, ◌∙◌, arith}
+use Rattle.std.proofs.Common.{sym, ◌∙◌, arith}
 use Rattle.std.specs.Prelude.{IsSome}
 use Rattle.request_codec.specs.Call.{call_of, message_call}
 use Rattle.request_codec.proofs.Whole.{message_shown, message_denied}

@@ -1,4 +1,4 @@
-use Rattle.std.proofs.Common.{◌≡◌, sym, ◌∙◌, arith}
+use Rattle.std.proofs.Common.{sym, ◌∙◌, arith}
 use Rattle.std.specs.Prelude.{IsSome}
 use Rattle.request_codec.specs.Call.{value_of_state, state_value}
 use Rattle.request_codec.proofs.Whole.{state_shown, state_denied}

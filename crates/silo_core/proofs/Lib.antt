@@ -1,0 +1,6 @@
+pub mod Maps
+pub mod Turns
+pub mod Counters
+pub mod Steps
+pub mod Calls
+pub mod Histories

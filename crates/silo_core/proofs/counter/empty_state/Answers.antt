@@ -1,0 +1,7 @@
+use Rattle.std.proofs.Common.{rules}
+use Rattle.silo_model.specs.Counter.{counters}
+use Rattle.silo_core.proofs.counter.empty_state.Goals as goal
+
+pub returns : goal.returns
+unfolding counters
+returns c = search rules

@@ -1,0 +1,191 @@
+//! What the silo holds of a grain that was asked for.
+
+ghost use Rattle.std.specs.Prelude.{◌≡◌, ◌∷◌, ◌++◌, [], ℕ, Option, Some, None, Ok, IfOk, OnOk, OnErr, option_and_then};
+ghost use Rattle.std.specs.FinMap as map;
+ghost use Rattle.grain_id.specs.Names.{Grain};
+ghost use Rattle.silo_model.specs.Machine as machine;
+ghost use Rattle.silo_model.specs.Effect.{Sight};
+ghost use Rattle.silo_model.specs.Turns.{activated, loaded, begun, ended};
+ghost use Rattle.silo_model.specs.Calls.{with_request};
+ghost use Rattle.silo_model.specs.Counter.{counters};
+ghost use Rattle.silo_core.specs.Answers.{Turns, Closes};
+ghost use Rattle.silo_core.specs.Plans.{PlansTurn};
+ghost use Rattle.silo_core.specs.Shown.{with_state};
+
+use crate::counter;
+use crate::counter::Planned;
+use crate::request::Request;
+use request_codec::StateBytes;
+use silo_event::{Answer, Reply};
+use std::alloc::{AllocError, Global};
+use std::collections::VecDeque;
+use std::marker::Model;
+
+/// How far an activation has come. A state stands on the version of a stored row, or on none.
+#[derive(Debug, Drop)]
+pub enum Progress {
+    Waiting,
+    Loading,
+    Ready {
+        state: StateBytes,
+        version: Option<u64>,
+    },
+}
+
+/// A grain's activation: its waiting requests in the order in which they came, and the open turn.
+#[derive(Drop)]
+pub struct Activation {
+    progress: Progress,
+    mailbox: VecDeque<Request>,
+    turn: Option<Request>,
+    last: u64,
+}
+
+impl Model for Activation {
+    ghost use Rattle.std.specs.Coded.{codes};
+    ghost use Rattle.request_codec.specs.Code.{coded_tree};
+    ghost use Rattle.silo_model.specs.Codes.{by_number_code};
+    ghost use Rattle.silo_model.specs.Machine.{Entry};
+    ghost use Rattle.silo_core.specs.Shown.{phase_of, turns_of};
+
+    ghost Value = { Entry };
+
+    ghost coded = { Prim.hlevel (codes, coded_tree, by_number_code) };
+
+    ghost view = { λ a. record { phase = phase_of a.progress; queue = a.mailbox.items; turns = turns_of a.turn; last = a.last } };
+}
+
+impl Activation {
+    /// The activation that a first request makes.
+    pub fn with_request(alloc: Global, request: Request, now: u64) -> Result<Activation, AllocError>
+        ensures { IfOk result (λ a. a ≡ with_request now request None) }
+    {
+        let mut mailbox = VecDeque::new(alloc);
+        mailbox.push_back(request)?;
+        Ok(Activation {
+            progress: Progress::Waiting,
+            mailbox,
+            turn: None,
+            last: now,
+        })
+    }
+
+    /// One request more waits.
+    pub fn accept(&mut self, request: Request, now: u64) -> Result<(), AllocError>
+        ensures done { OnOk result (self.new ≡ with_request now request (Some self.old)) }
+        ensures unchanged { OnErr result (self.new ≡ self.old) }
+    {
+        self.mailbox.push_back(request)?;
+        self.last = now;
+        Ok(())
+    }
+
+    /// Begins to load, where it waits to be activated.
+    pub fn activate(&mut self) -> Answer
+        ensures { Turns (activated self.old self.old.phase) self.old result self.new }
+    {
+        match self.progress {
+            Progress::Waiting => {
+                self.progress = Progress::Loading;
+                Answer::Done
+            }
+            _ => Answer::NotNow,
+        }
+    }
+
+    /// Gets the kind's empty state, where it loads: nothing is stored.
+    pub fn load(&mut self, alloc: Global) -> Result<Answer, AllocError>
+        ensures loads { IfOk result (λ answer. (s : Sight) (grain : Grain) → s.row ≡ None → Turns (loaded counters s grain self.old self.old.phase) self.old answer self.new) }
+        ensures unchanged { OnErr result (self.new ≡ self.old) }
+    {
+        match self.progress {
+            Progress::Loading => {
+                let state = counter::empty_state(alloc)?;
+                self.progress = Progress::Ready {
+                    state,
+                    version: None,
+                };
+                Ok(Answer::Done)
+            }
+            _ => Ok(Answer::NotNow),
+        }
+    }
+
+    /// Opens a turn of the first waiting request, where it is ready and no turn is open.
+    pub fn begin(&mut self) -> Answer
+        ensures { Turns (begun self.old self.old.phase) self.old result self.new }
+    {
+        if self.turn.is_some() {
+            return Answer::NotNow;
+        }
+        match self.progress {
+            Progress::Waiting => return Answer::NotNow,
+            Progress::Loading => return Answer::NotNow,
+            Progress::Ready { .. } => {}
+        }
+        let Some(request) = self.mailbox.pop_front() else {
+            return Answer::NotNow;
+        };
+        self.turn = Some(request);
+        Answer::Done
+    }
+
+    /// Runs the open turn of that number and closes it: the reply to its request, or none where
+    /// no such turn is open.
+    pub fn end(
+        &mut self,
+        alloc: Global,
+        turn: u64,
+        now: u64,
+    ) -> Result<Option<Reply>, AllocError>
+        ensures closes { IfOk result (λ reply. (s : Sight) (grain : Grain) → s.clock ≡ now
+            → Closes (option_and_then (λ request. ended counters s grain self.old request self.old.phase) (map.get self.old.turns turn)) self.old reply self.new) }
+        ensures unchanged { OnErr result (self.new ≡ self.old) }
+    {
+        let Some(planned) = self.planned(alloc, turn)? else {
+            return Ok(None);
+        };
+        let Some(request) = self.turn.take() else {
+            unreachable!();
+        };
+        change_state(&mut self.progress, planned.next);
+        self.last = now;
+        Ok(Some(Reply {
+            recipient: request.into_sender(),
+            outcome: planned.outcome,
+        }))
+    }
+
+    /// What the open turn of that number comes to.
+    fn planned(&self, alloc: Global, turn: u64) -> Result<Option<Planned>, AllocError>
+        ensures { IfOk result (λ planned. PlansTurn self.now turn planned) }
+    {
+        let Some(request) = &self.turn else {
+            return Ok(None);
+        };
+        if request.number() != turn {
+            return Ok(None);
+        }
+        match &self.progress {
+            Progress::Waiting => Ok(None),
+            Progress::Loading => Ok(None),
+            Progress::Ready { state, .. } => {
+                Ok(Some(counter::plan_of(alloc, request.message(), state)?))
+            }
+        }
+    }
+}
+
+/// A ready activation gets another state, where there is one.
+fn change_state(progress: &mut Progress, next: Option<StateBytes>)
+    ensures { progress.new ≡ with_state progress.old next }
+{
+    let Some(next) = next else {
+        return;
+    };
+    match progress {
+        Progress::Waiting => {}
+        Progress::Loading => {}
+        Progress::Ready { state, .. } => *state = next,
+    }
+}

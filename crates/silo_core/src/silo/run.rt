@@ -1,0 +1,69 @@
+//! Lists of steps.
+
+ghost use Rattle.std.specs.Prelude.{◌≡◌, ◌<◌, ◌↔◌, ℕ, List, IsTrue, ◌++◌, length, take, vec_len};
+ghost use Rattle.silo_model.specs.Run.{whole_run};
+ghost use Rattle.silo_model.specs.Whole.{shown_to};
+ghost use Rattle.silo_model.specs.Counter.{counters};
+ghost use Rattle.silo_core.specs.Runs.{machine_answers, whole_answers, done_steps, AllConcern, RunsInParts, Takes};
+
+use crate::silo::Silo;
+use silo_event::{Answer, Step};
+use std::alloc::Global;
+use std::collections::VecDeque;
+
+/// What a run answered, one answer for each step that it took, and whether memory was refused
+/// before its end.
+#[derive(Drop)]
+pub struct RunReport {
+    pub answers: Vec<Answer>,
+    pub stopped: bool,
+}
+
+impl Silo {
+    /// Takes steps in their order, up to the first for which memory is refused. Room for all answers
+    /// comes first: where that is refused, no step is taken.
+    pub fn run(&mut self, alloc: Global, steps: Vec<Step>) -> RunReport
+        ensures stopped { IsTrue result.stopped ↔ (vec_len result.answers < vec_len steps) }
+        ensures answers { result.answers.items ≡ whole_answers self.old.whole (take (vec_len result.answers) steps.items) }
+        ensures whole { self.new.whole ≡ whole_run counters self.old.whole (take (vec_len result.answers) steps.items) }
+        ensures journal { self.new.journal ≡ self.old.journal ++ done_steps self.old.whole (take (vec_len result.answers) steps.items) }
+        ensures setup { self.new.setup ≡ self.old.setup }
+
+        // For every tenant, the run of a silo of its own.
+        ensures parts { RunsInParts self.old.whole (take (vec_len result.answers) steps.items) self.new.whole }
+        ensures alone { (tenant : List ℕ) → AllConcern tenant steps.items
+            → result.answers.items ≡ machine_answers (shown_to tenant self.old.whole) (take (vec_len result.answers) steps.items) }
+    {
+        let _ = &self.journal;
+        self.take_each(alloc, steps)
+    }
+
+    fn take_each(&mut self, alloc: Global, steps: Vec<Step>) -> RunReport
+        ensures stopped { IsTrue result.stopped ↔ (vec_len result.answers < vec_len steps) }
+        ensures taken { Takes self.old (take (vec_len result.answers) steps.items) result.answers.items self.new }
+    {
+        let mut answers = Vec::new(alloc);
+        if answers.reserve(steps.len()).is_err() {
+            return RunReport {
+                answers,
+                stopped: true,
+            };
+        }
+        let mut left = VecDeque::from(steps);
+        'each: while let Some(step) = left.pop_front() {
+            match self.apply(alloc, step) {
+                Ok(answer) => answers.push_reserved(answer),
+                Err(_) => {
+                    return RunReport {
+                        answers,
+                        stopped: true,
+                    };
+                }
+            }
+        }
+        RunReport {
+            answers,
+            stopped: false,
+        }
+    }
+}
