@@ -4,6 +4,9 @@ use clap::error::ErrorKind;
 use clap::{Arg, ArgAction, ArgMatches, Command, Error, value_parser};
 use std::alloc::{AllocError, Global};
 
+/// What the program calls itself, whatever its file is called.
+const PROGRAM: &str = "silo";
+
 /// The age when `--age` is left out.
 const DEFAULT_AGE_MILLISECONDS: u64 = 900_000;
 
@@ -56,7 +59,8 @@ fn steps_command<'a>(alloc: Global) -> Result<Command<'a>, AllocError> {
 }
 
 fn silo_command<'a>(alloc: Global) -> Result<Command<'a>, AllocError> {
-    Command::new(alloc, "silo")
+    Command::new(alloc, PROGRAM)
+        .bin_name(PROGRAM)?
         .about("A silo of grains that tenants share")
         .subcommand_required(true)
         .subcommand(steps_command(alloc)?)

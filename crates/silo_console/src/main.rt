@@ -6,6 +6,8 @@
 //! tenant argument is stands in `specs/Tenants.antt`.
 #![tactic(auto)]
 
+ghost use Rattle.std.specs.Prelude.{◌≤◌};
+
 mod command_line;
 mod failure;
 mod files;
@@ -17,36 +19,48 @@ use crate::files::HostFiles;
 use crate::program::run_program;
 use line_protocol::LineFault;
 use std::env;
-use std::io::{BufWriter, ErrorKind};
+use std::io;
+use std::io::{BufWriter, ErrorKind, Write};
 use std::process::ExitCode;
+use std::rt::Env;
 
 const OUTPUT_BUFFER_BYTES: usize = 65_536;
 
+/// The words that the host gave, the program's name first.
+fn words_of<H: Env + AllocGlobal>(rt: &H) -> io::Result<Vec<String>> {
+    let mut words = Vec::new(rt.alloc());
+    for word in env::args(rt)? {
+        words.push(word)?;
+    }
+    Ok(words)
+}
+
+/// The status where the words were not had.
+fn refuse_words<E: Write>(fault: &io::Error, errors: &mut E) -> u8
+    ensures { result ≤ 2 }
+{
+    if fault.kind() == ErrorKind::OutOfMemory {
+        return fail(errors, LineFault::Memory);
+    }
+    say(errors, "error: an argument is not UTF-8\n");
+    ARGUMENTS_STATUS
+}
+
 fn main(rt: HostRuntime) -> ExitCode {
-    let alloc = rt.alloc();
+    let mut reader = rt.stdin();
     let mut errors = rt.stderr();
-    let arguments = match env::args(&rt) {
-        Ok(arguments) => arguments,
-        Err(error) if error.kind() == ErrorKind::OutOfMemory => {
-            return ExitCode::from(fail(&mut errors, LineFault::Memory));
-        }
-        Err(_) => {
-            say(&mut errors, "error: an argument is not UTF-8\n");
-            return ExitCode::from(ARGUMENTS_STATUS);
-        }
-    };
-    let words: Vec<String> = match arguments.collect(alloc) {
+    let mut files = HostFiles { rt: &rt };
+    let words = match words_of(&rt) {
         Ok(words) => words,
-        Err(_) => return ExitCode::from(fail(&mut errors, LineFault::Memory)),
+        Err(fault) => return ExitCode::from(refuse_words(&fault, &mut errors)),
     };
-    let Ok(mut writer) = BufWriter::with_capacity(alloc, OUTPUT_BUFFER_BYTES, rt.stdout()) else {
+    let Ok(mut writer) = BufWriter::with_capacity(rt.alloc(), OUTPUT_BUFFER_BYTES, rt.stdout())
+    else {
         return ExitCode::from(fail(&mut errors, LineFault::Memory));
     };
-    let mut reader = rt.stdin();
-    let mut files = HostFiles { rt: &rt };
     ExitCode::from(run_program(
         &rt,
-        words.as_slice(),
+        &words,
         &mut files,
         &mut reader,
         &mut writer,
