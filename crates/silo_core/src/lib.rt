@@ -15,3 +15,6 @@ mod request;
 mod silo;
 
 pub use silo::{RunReport, Silo};
+
+#[cfg(test)]
+mod tests;
