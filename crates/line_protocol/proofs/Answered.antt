@@ -91,7 +91,7 @@ done_alone tenant old s new e h p =
     let own = p.own tenant e in record {
       part = ap (λ o. unwrap_or o (shown_to tenant old)) (sym own);
       text = text_done old s new h ∙ ap texts_of (behind old.replies p.added new.replies p.replies)
-      ∙ sym (ap (step_text (λ x. x.replies) (shown_to tenant old)) own ∙ ap texts_of (behind (shown_to tenant old).replies p.added (shown_to tenant new).replies (p.own_replies tenant e)));
+          ∙ sym (ap (step_text (λ x. x.replies) (shown_to tenant old)) own ∙ ap texts_of (behind (shown_to tenant old).replies p.added (shown_to tenant new).replies (p.own_replies tenant e)));
     }
 
 pub alone_done : (old : History) (s : Step) (new : History) → Advances old s new → StepsInParts old.whole s new.whole → (tenant : List ℕ) → concerns tenant s ≡ true → LineAlone tenant old.whole (line.Step s) new.whole

@@ -77,14 +77,14 @@ TakesLines-more old mid new done l p q = record {
   setup = q.setup ∙ p.setup;
   whole = q.whole ∙ ap (λ w. whole_after_line w (said_of l)) p.whole ∙ sym (whole_after-more old.whole done l);
   journal = q.journal ∙ ap₂ (λ j w. j ++ line_steps w (said_of l)) p.journal p.whole
-  ∙ append_assoc old.journal (done_steps old.whole done) (line_steps (whole_after old.whole done) (said_of l)) ∙ ap (λ k. old.journal ++ k) (sym (done_steps-more old.whole done l));
+      ∙ append_assoc old.journal (done_steps old.whole done) (line_steps (whole_after old.whole done) (said_of l)) ∙ ap (λ k. old.journal ++ k) (sym (done_steps-more old.whole done l));
 }
 
 LinesAlone-more : (tenant : List ℕ) (old mid new : Whole) (done : List (List ℕ)) (l : List ℕ) → mid ≡ whole_after old done → LinesAlone tenant old done mid → LineAlone tenant mid (said_of l) new → LinesAlone tenant old (done ++ l ∷ []) new
 LinesAlone-more tenant old mid new done l e p q = record {
   part = q.part ∙ ap (λ m. machine_after_line m (said_of l)) p.part ∙ sym (machine_after-more (shown_to tenant old) done l);
   text = whole_out-more old done l ∙ ap₂ (λ t w. t ++ whole_text w (said_of l)) p.text (sym e)
-  ∙ ap (λ t. machine_out (shown_to tenant old) done ++ t) (q.text ∙ ap (λ m. machine_text m (said_of l)) p.part) ∙ sym (machine_out-more (shown_to tenant old) done l);
+      ∙ ap (λ t. machine_out (shown_to tenant old) done ++ t) (q.text ∙ ap (λ m. machine_text m (said_of l)) p.part) ∙ sym (machine_out-more (shown_to tenant old) done l);
 }
 
 -- ---- a run, so far: these lines were taken, answered and written
@@ -121,8 +121,8 @@ SoFar-more count from left next old mid new before during after l said p took e 
       silo = TakesLines-more old mid new p.done l p.silo silo_here;
       written = subst (Appends before after) (ap (λ t. whole_out old.whole p.done ++ t) text ∙ sym (whole_out-more old.whole p.done l)) (Appends-trans before during after _ _ p.written wrote);
       alone = λ tenant c.
-      let parts = LinesConcern-more tenant p.done l c in
-      LinesAlone-more tenant old.whole mid.whole new.whole p.done l p.silo.whole (p.alone tenant parts.0) (subst (λ s. LineAlone tenant mid.whole s new.whole) e (alone tenant (subst (LineConcerns tenant) (sym e) parts.1)));
+          let parts = LinesConcern-more tenant p.done l c in
+          LinesAlone-more tenant old.whole mid.whole new.whole p.done l p.silo.whole (p.alone tenant parts.0) (subst (λ s. LineAlone tenant mid.whole s new.whole) e (alone tenant (subst (LineConcerns tenant) (sym e) parts.1)));
     }
 
 -- the same is left to read

@@ -32,7 +32,11 @@ fn argument_at<'v>(value: &'v Value, left_out: &'v Value) -> Option<&'v Value>
 }
 
 /// The message of a method and its argument, unless it is too long.
-fn encode_within(alloc: Global, method: &str, argument: &Datum) -> Result<Option<Message>, AllocError>
+fn encode_within(
+    alloc: Global,
+    method: &str,
+    argument: &Datum,
+) -> Result<Option<Message>, AllocError>
     requires { depth (value_of argument.now) ≤ depth_limit }
     ensures { IfOk result (λ message. message ≡ where_so (nat_le (message_length method.now (value_of argument.now)) message_limit)
         (Some (asks method.now (value_of argument.now)))) }
@@ -40,12 +44,21 @@ fn encode_within(alloc: Global, method: &str, argument: &Datum) -> Result<Option
     match encode(alloc, method, argument) {
         Ok(message) => Ok(Some(message)),
         Err(CodecFault::Memory) => Err(AllocError),
-        Err(CodecFault::TooDeep | CodecFault::TooLong | CodecFault::NotWhole | CodecFault::NotAMessage) => Ok(None),
+        Err(
+            CodecFault::TooDeep
+            | CodecFault::TooLong
+            | CodecFault::NotWhole
+            | CodecFault::NotAMessage,
+        ) => Ok(None),
     }
 }
 
 /// The message of a method and its argument, where it keeps the limits.
-fn read_message(alloc: Global, method: &str, argument: &Value) -> Result<Option<Message>, AllocError>
+fn read_message(
+    alloc: Global,
+    method: &str,
+    argument: &Value,
+) -> Result<Option<Message>, AllocError>
     ensures { IfOk result (λ message. message ≡ option_map (asks method.now) (message_argument method.now (view argument.now))) }
 {
     let datum = match from_json(alloc, argument) {

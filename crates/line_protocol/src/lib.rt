@@ -15,7 +15,6 @@ mod members;
 mod reading;
 mod replies;
 mod reply_values;
-
 mod runner;
 
 pub use fault::LineFault;

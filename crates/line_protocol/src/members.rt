@@ -20,7 +20,11 @@ pub(crate) fn natural_at(value: &Value, name: &str) -> Option<u64>
     ensures { result ≡ natural_at name.now (view value.now) }
 {
     let number = value.get(name).and_then(Value::as_i64)?;
-    if number < 0 { None } else { Some(number as u64) }
+    if number < 0 {
+        None
+    } else {
+        Some(number as u64)
+    }
 }
 
 /// Whether it is an object of that many members.

@@ -12,7 +12,9 @@ ghost use Rattle.silo_event.specs.declared.reply.Party.TheVariants as party;
 ghost use Rattle.line_protocol.specs.Text.{line_of, line_to, done_line, refused_line, done_to_grain_line, refused_to_grain_line, refusal_line, not_now_line};
 
 use crate::line::LineRefusal;
-use crate::reply_values::{done_to_grain_value, done_value, printed, refused_to_grain_value, refused_value};
+use crate::reply_values::{
+    done_to_grain_value, done_value, printed, refused_to_grain_value, refused_value,
+};
 use grain_id::{Caller, GrainId};
 use request_codec::{Datum, StateBytes, decode_state, to_json};
 use silo_event::{Fault, Party, Reply};
@@ -58,7 +60,13 @@ fn push_number(text: &mut String, from: &Caller, id: u64, n: i64) -> Result<(), 
     write!(text, "{{\"from\":\"{name}\",\"id\":{id},\"ok\":{n}}}")
 }
 
-fn push_done(alloc: Global, text: &mut String, from: &Caller, id: u64, value: &Datum) -> Result<(), AllocError>
+fn push_done(
+    alloc: Global,
+    text: &mut String,
+    from: &Caller,
+    id: u64,
+    value: &Datum,
+) -> Result<(), AllocError>
     ensures { OnOk result (string_bytes text.new ≡ string_bytes text.old ++ done_line (client_text from.now) id (value_of value.now)) }
 {
     match value {
@@ -70,7 +78,13 @@ fn push_done(alloc: Global, text: &mut String, from: &Caller, id: u64, value: &D
     }
 }
 
-fn push_to_client(alloc: Global, text: &mut String, from: &Caller, id: u64, outcome: &Result<StateBytes, Fault>) -> Result<(), AllocError>
+fn push_to_client(
+    alloc: Global,
+    text: &mut String,
+    from: &Caller,
+    id: u64,
+    outcome: &Result<StateBytes, Fault>,
+) -> Result<(), AllocError>
     ensures { OnOk result (string_bytes text.new ≡ string_bytes text.old ++ line_to (party.Client from.now id) outcome.now) }
 {
     match outcome {
@@ -85,7 +99,12 @@ fn push_to_client(alloc: Global, text: &mut String, from: &Caller, id: u64, outc
     }
 }
 
-fn push_to_grain(alloc: Global, text: &mut String, from: &GrainId, outcome: &Result<StateBytes, Fault>) -> Result<(), AllocError>
+fn push_to_grain(
+    alloc: Global,
+    text: &mut String,
+    from: &GrainId,
+    outcome: &Result<StateBytes, Fault>,
+) -> Result<(), AllocError>
     ensures { OnOk result (string_bytes text.new ≡ string_bytes text.old ++ line_to (party.Grain from.now) outcome.now) }
 {
     let line = match outcome {
@@ -123,7 +142,9 @@ pub(crate) fn push_refusal(text: &mut String, refusal: LineRefusal) -> Result<()
     ensures { OnOk result (string_bytes text.new ≡ string_bytes text.old ++ refusal_line refusal) }
 {
     match refusal {
-        LineRefusal::NotARequest => text.push_str("{\"error\":10,\"text\":\"line is not a request\"}"),
+        LineRefusal::NotARequest => text.push_str(
+            "{\"error\":10,\"text\":\"line is not a request\"}",
+        ),
         LineRefusal::TooLong => text.push_str("{\"error\":11,\"text\":\"line is too long\"}"),
     }
 }

@@ -18,11 +18,10 @@ use crate::failure::{ARGUMENTS_STATUS, fail, say};
 use crate::files::HostFiles;
 use crate::program::run_program;
 use line_protocol::LineFault;
-use std::env;
-use std::io;
 use std::io::{BufWriter, ErrorKind, Write};
 use std::process::ExitCode;
 use std::rt::Env;
+use std::{env, io};
 
 const OUTPUT_BUFFER_BYTES: usize = 65_536;
 

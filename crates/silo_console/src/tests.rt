@@ -89,7 +89,6 @@ fn run<H: AllocGlobal, R: Read, W: Write + Drop>(
     })
 }
 
-
 const RED: &[&str] = &["steps", "red:2:4"];
 
 const FIRST_RUN: &str = concat!(
@@ -167,7 +166,10 @@ fn answers_lines(rt: HostRuntime) -> Result<(), Fail> {
     for (input, output) in rows {
         let mut reader = input.as_bytes();
         let outcome = run(&rt, RED, &mut reader, Vec::new(rt.alloc()))?;
-        assert!(rt; outcome.output.as_slice() == output.as_bytes(), "at {input}");
+        assert!(rt;
+            outcome.output.as_slice() == output.as_bytes(),
+            "at {input}"
+        );
         assert!(rt; outcome.errors.is_empty(), "at {input}");
         assert_eq!(rt; outcome.status, 0, "at {input}");
     }
@@ -198,7 +200,10 @@ fn refuses_tenants(rt: HostRuntime) -> Result<(), Fail> {
     for (arguments, errors) in rows {
         let mut reader = FIRST_RUN.as_bytes();
         let outcome = run(&rt, arguments, &mut reader, Vec::new(rt.alloc()))?;
-        assert!(rt; outcome.errors.as_slice() == errors.as_bytes(), "at {arguments:?}");
+        assert!(rt;
+            outcome.errors.as_slice() == errors.as_bytes(),
+            "at {arguments:?}"
+        );
         assert!(rt; outcome.output.is_empty(), "at {arguments:?}");
         assert_eq!(rt; outcome.status, 2, "at {arguments:?}");
     }
@@ -241,7 +246,11 @@ fn explains_words(rt: HostRuntime) -> Result<(), Fail> {
     }
     let outcome = run(&rt, &["--help"], &mut [].as_slice(), Vec::new(rt.alloc()))?;
     assert!(rt; outcome.errors.is_empty());
-    assert!(rt; outcome.output.starts_with(b"A silo of grains that tenants share\n"));
+    assert!(rt;
+        outcome
+            .output
+            .starts_with(b"A silo of grains that tenants share\n")
+    );
     assert_eq!(rt; outcome.status, 0);
     Ok(())
 }

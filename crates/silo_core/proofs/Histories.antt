@@ -36,7 +36,7 @@ pub opening_one : (tenant : List ℕ) (limits : Limits) (age : ℕ) → opening 
 unfolding opening
 opening_one tenant limits age =
     ap (λ m. record { accounts = m; age = age; clock = 0; entries = map.empty; rows = map.empty; replies = [] })
-      (fresh_accounts-insert map.empty tenant limits ∙ ap (λ m. map.insert m tenant (fresh_account limits)) fresh_accounts-empty)
+    (fresh_accounts-insert map.empty tenant limits ∙ ap (λ m. map.insert m tenant (fresh_account limits)) fresh_accounts-empty)
 
 -- ---- one step
 

@@ -37,7 +37,7 @@ get-turn r n e = subst (λ k. map.get (turns_of (Some r)) k ≡ Some r) e (get-i
 pub get-other_turn : (r : Request) (n : ℕ) → r.number ≢ n → map.get (turns_of (Some r)) n ≡ None
 get-other_turn r n apart =
     get-insert_other nat_cmp_total nat_cmp-IsAntisymmetric map.empty r.number n r
-      (not_true (eq_by_cmp nat_cmp n r.number) (λ t. apart (sym ((eq_by_cmp-Decides nat_cmp_total nat_cmp-IsAntisymmetric n r.number).0 t))))
+    (not_true (eq_by_cmp nat_cmp n r.number) (λ t. apart (sym ((eq_by_cmp-Decides nat_cmp_total nat_cmp-IsAntisymmetric n r.number).0 t))))
     ∙ get-empty nat_cmp n
 
 len-no_turn : (map.len (turns_of None) == 0) ≡ true
@@ -46,9 +46,9 @@ len-no_turn = ap (λ n. n == 0) (len-empty nat_cmp Request)
 len-turn : (r : Request) → (map.len (turns_of (Some r)) == 0) ≡ false
 len-turn r =
     ap (λ n. n == 0)
-      (len-insert nat_cmp_total map.empty r.number r
-      ∙ ap (λ o. cond (is_some o) (map.len (turns_of None)) (map.len (turns_of None) + 1)) (get-empty nat_cmp r.number)
-      ∙ ap (λ n. n + 1) (len-empty nat_cmp Request))
+    (len-insert nat_cmp_total map.empty r.number r
+    ∙ ap (λ o. cond (is_some o) (map.len (turns_of None)) (map.len (turns_of None) + 1)) (get-empty nat_cmp r.number)
+    ∙ ap (λ n. n + 1) (len-empty nat_cmp Request))
 
 remove-turn : (r : Request) → map.remove (turns_of (Some r)) r.number ≡ turns_of None
 remove-turn r = remove-insert nat_cmp_total nat_cmp-IsAntisymmetric map.empty r.number r ∙ remove-absent nat_cmp_total nat_cmp-IsAntisymmetric map.empty r.number (get-empty nat_cmp r.number)
@@ -117,13 +117,13 @@ not_ended s grain e turn h = not_ended_by s grain e (map.get e.turns turn) h
 
 closed_as : (s : Sight) (grain : Grain) (state : Tree) (version : Option ℕ) (q : List Request) (r : Request) (l : ℕ) (planned : Planned)
     → closed s grain (seen (Ready state version) q (Some r) l) r version (plan_by planned state)
-      ≡ closing (seen (with_state (Ready state version) planned.next) q None s.clock) (record { recipient = r.sender; outcome = planned.outcome })
+    ≡ closing (seen (with_state (Ready state version) planned.next) q None s.clock) (record { recipient = r.sender; outcome = planned.outcome })
 closed_as s grain state version q r l planned = ap (λ turns. closing (record { phase = ready (unwrap_or planned.next state) version; queue = q; turns = turns; last = s.clock }) (record { recipient = r.sender; outcome = planned.outcome })) (remove-turn r)
 
 ended_ready : (s : Sight) (grain : Grain) (state : Tree) (version : Option ℕ) (q : List Request) (r : Request) (l : ℕ) (planned : Planned)
     → plan_by planned state ≡ counter_plan r.call.method state r.call.argument
     → ended counters s grain (seen (Ready state version) q (Some r) l) r (ready state version)
-      ≡ Some (closing (seen (with_state (Ready state version) planned.next) q None s.clock) (record { recipient = r.sender; outcome = planned.outcome }))
+    ≡ Some (closing (seen (with_state (Ready state version) planned.next) q None s.clock) (record { recipient = r.sender; outcome = planned.outcome }))
 unfolding counters
 ended_ready s grain state version q r l planned is =
     ap (λ (plan : Plan). closed_by s grain (seen (Ready state version) q (Some r) l) r version plan plan.storage) (sym is)
@@ -132,7 +132,7 @@ ended_ready s grain state version q r l planned is =
 ended_in : (s : Sight) (grain : Grain) (p : Progress) (q : List Request) (r : Request) (l : ℕ) (planned : Planned)
     → PlansRequest r (phase_of p) (Some planned)
     → ended counters s grain (seen p q (Some r) l) r (phase_of p)
-      ≡ Some (closing (seen (with_state p planned.next) q None s.clock) (record { recipient = r.sender; outcome = planned.outcome }))
+    ≡ Some (closing (seen (with_state p planned.next) q None s.clock) (record { recipient = r.sender; outcome = planned.outcome }))
 ended_in s grain Waiting q r l planned h = absurd h
 ended_in s grain Loading q r l planned h = absurd h
 ended_in s grain (Ready state version) q r l planned h = ended_ready s grain state version q r l planned h
@@ -140,7 +140,7 @@ ended_in s grain (Ready state version) q r l planned h = ended_ready s grain sta
 module _ (s : Sight) (grain : Grain) (p : Progress) (q : List Request) (r : Request) (l turn : ℕ) (planned : Planned) where
   ended_found : (o : Option Request) → (o ≡ Some r) ⊎ (o ≡ None) → PlansFound (seen p q (Some r) l) o (Some planned)
       → option_and_then (λ request. ended counters s grain (seen p q (Some r) l) request (phase_of p)) o
-        ≡ Some (closing (seen (with_state p planned.next) q None s.clock) (record { recipient = r.sender; outcome = planned.outcome }))
+      ≡ Some (closing (seen (with_state p planned.next) q None s.clock) (record { recipient = r.sender; outcome = planned.outcome }))
   ended_found o (inl is) h =
       ap (option_and_then (λ request. ended counters s grain (seen p q (Some r) l) request (phase_of p))) is
       ∙ ended_in s grain p q r l planned (subst (λ x. PlansFound (seen p q (Some r) l) x (Some planned)) is h)
@@ -153,7 +153,7 @@ module _ (s : Sight) (grain : Grain) (p : Progress) (q : List Request) (r : Requ
   -- the open turn is closed by its plan
   pub ended_turn : PlansTurn (seen p q (Some r) l) turn (Some planned)
       → option_and_then (λ request. ended counters s grain (seen p q (Some r) l) request (phase_of p)) (map.get (turns_of (Some r)) turn)
-        ≡ Some (closing (seen (with_state p planned.next) q None s.clock) (record { recipient = r.sender; outcome = planned.outcome }))
+      ≡ Some (closing (seen (with_state p planned.next) q None s.clock) (record { recipient = r.sender; outcome = planned.outcome }))
   ended_turn h = ended_found (map.get (turns_of (Some r)) turn) (one_or_none (eq_by_cmp nat_cmp turn r.number) refl) h
 
 -- the same, by what the activation is before and after

@@ -132,12 +132,7 @@ impl Activation {
 
     /// Runs the open turn of that number and closes it: the reply to its request, or none where
     /// no such turn is open.
-    pub fn end(
-        &mut self,
-        alloc: Global,
-        turn: u64,
-        now: u64,
-    ) -> Result<Option<Reply>, AllocError>
+    pub fn end(&mut self, alloc: Global, turn: u64, now: u64) -> Result<Option<Reply>, AllocError>
         ensures closes { IfOk result (λ reply. (s : Sight) (grain : Grain) → s.clock ≡ now
             → Closes (option_and_then (λ request. ended counters s grain self.old request self.old.phase) (map.get self.old.turns turn)) self.old reply self.new) }
         ensures unchanged { OnErr result (self.new ≡ self.old) }

@@ -44,8 +44,13 @@ impl Model for Body {
     ghost coded = { Prim.hlevel (codes, by_grain_code, by_text_code, by_number_code, coded_tree, state.the_row.coded) };
 
     ghost view = { λ b. record {
-        accounts = map.insert map.empty b.tenant (record { limits = b.limits; count = b.count; sends = [] });
-        age = b.age; clock = b.clock; entries = b.directory; rows = map.empty; replies = b.replies.items } };
+      accounts = map.insert map.empty b.tenant (record { limits = b.limits; count = b.count; sends = [] });
+      age = b.age;
+      clock = b.clock;
+      entries = b.directory;
+      rows = map.empty;
+      replies = b.replies.items;
+    } };
 
     ghost invariant = { λ b. b.count ≤ last_number };
 }

@@ -33,11 +33,7 @@ pub fn empty_state(alloc: Global) -> Result<StateBytes, AllocError>
 }
 
 /// What the message's method makes of the state.
-pub fn plan_of(
-    alloc: Global,
-    message: &Message,
-    state: &StateBytes,
-) -> Result<Planned, AllocError>
+pub fn plan_of(alloc: Global, message: &Message, state: &StateBytes) -> Result<Planned, AllocError>
     ensures { IfOk result (λ planned. plan_by planned state.now ≡ counter_plan message.now.method state.now message.now.argument) }
 {
     let (method, argument) = decode_message(alloc, message)?;

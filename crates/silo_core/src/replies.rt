@@ -8,11 +8,7 @@ use silo_event::Reply;
 use std::alloc::{AllocError, Global};
 
 /// The replies whose recipients are the tenant's, in order.
-pub fn sent_to(
-    alloc: Global,
-    replies: &[Reply],
-    tenant: &Tenant,
-) -> Result<Vec<Reply>, AllocError>
+pub fn sent_to(alloc: Global, replies: &[Reply], tenant: &Tenant) -> Result<Vec<Reply>, AllocError>
     ensures { IfOk result (λ found. found.items ≡ filter (is_to tenant.now) replies.now) }
 {
     let mut found = Vec::new(alloc);

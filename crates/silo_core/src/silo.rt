@@ -45,21 +45,17 @@ impl Model for Silo {
     ghost coded = { Prim.hlevel (codes, by_grain_code, by_text_code, by_number_code, coded_tree, state.the_row.coded) };
 
     ghost view = { λ s. record {
-        setup = record { limits = map.insert map.empty s.tenant s.limits; age = s.age; rows = map.empty };
-        whole = s.body;
-        journal = s.journal.items } };
+      setup = record { limits = map.insert map.empty s.tenant s.limits; age = s.age; rows = map.empty };
+      whole = s.body;
+      journal = s.journal.items;
+    } };
 
     ghost invariant = { λ s. LeadsTo counters (record { limits = map.insert map.empty s.tenant s.limits; age = s.age; rows = map.empty }) s.journal.items s.body };
 }
 
 impl Silo {
     /// A silo that knows one tenant, whose idle activations may go after `age` milliseconds.
-    pub fn new(
-        alloc: Global,
-        tenant: Tenant,
-        limits: Limits,
-        age: u64,
-    ) -> Result<Silo, AllocError>
+    pub fn new(alloc: Global, tenant: Tenant, limits: Limits, age: u64) -> Result<Silo, AllocError>
         ensures setup { IfOk result (λ s. s.setup ≡ record { limits = map.insert map.empty tenant limits; age = age; rows = map.empty }) }
         ensures opening { IfOk result (λ s. (s.whole ≡ opening s.setup) × (s.journal ≡ [])) }
         ensures parts { IfOk result (λ s. (tenant : List ℕ) → shown_to tenant s.whole ≡ start_of s.setup tenant) }

@@ -17,13 +17,13 @@ returns-in_err-activations-clause-none c =
 pub returns-in_err-read_limit-clause-none : goal.returns-in_err-read_limit-clause-none
 returns-in_err-read_limit-clause-none c =
     let no : (limits : Limits) → ¬ IsLimitsText c.args.text.now limits = λ limits is.
-        let parts = c.in_ok-activations.ensures.first (decimal limits.activations) (decimal limits.mailbox) (HasNoColon-decimal limits.activations (omega (arith, is.0))) is.1 in
-        c.in_err-read_limit.ensures.none limits.activations (is.0.0, parts.0) in
+    let parts = c.in_ok-activations.ensures.first (decimal limits.activations) (decimal limits.mailbox) (HasNoColon-decimal limits.activations (omega (arith, is.0))) is.1 in
+    c.in_err-read_limit.ensures.none limits.activations (is.0.0, parts.0) in
     none_of no _
 
 pub returns-in_err-read_limit-2-clause-none : goal.returns-in_err-read_limit-2-clause-none
 returns-in_err-read_limit-2-clause-none c =
     let no : (limits : Limits) → ¬ IsLimitsText c.args.text.now limits = λ limits is.
-        let parts = c.in_ok-activations.ensures.first (decimal limits.activations) (decimal limits.mailbox) (HasNoColon-decimal limits.activations (omega (arith, is.0))) is.1 in
-        c.in_err-read_limit-2.ensures.none limits.mailbox (is.0.1, parts.1) in
+    let parts = c.in_ok-activations.ensures.first (decimal limits.activations) (decimal limits.mailbox) (HasNoColon-decimal limits.activations (omega (arith, is.0))) is.1 in
+    c.in_err-read_limit-2.ensures.none limits.mailbox (is.0.1, parts.1) in
     none_of no _

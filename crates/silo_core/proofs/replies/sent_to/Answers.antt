@@ -24,8 +24,8 @@ loop-reply-preserved c =
     elim c.if-eq.branch [
       | then-eq+in_ok-copy_of+in_ok-push w ↦
           kept (is_to tenant) c.args.replies.now c.loop-reply.found.items c.if-eq.found.items c.loop-reply.reply-index reply true c.loop-reply-test.true c.reply-item.is c.loop-reply.invariant (test true w.if-eq.ensures)
-            (ap (λ v. v.items) w.found-is ∙ w.in_ok-push.ensures.items ∙ ap (λ (r : Reply). c.loop-reply.found.items ++ r ∷ []) w.in_ok-copy_of.ensures)
+          (ap (λ v. v.items) w.found-is ∙ w.in_ok-push.ensures.items ∙ ap (λ (r : Reply). c.loop-reply.found.items ++ r ∷ []) w.in_ok-copy_of.ensures)
       | else-eq w ↦
           kept (is_to tenant) c.args.replies.now c.loop-reply.found.items c.if-eq.found.items c.loop-reply.reply-index reply false c.loop-reply-test.true c.reply-item.is c.loop-reply.invariant (test false w.if-eq.ensures)
-            (ap (λ v. v.items) w.found-is ∙ sym (append-nil _))
+          (ap (λ v. v.items) w.found-is ∙ sym (append-nil _))
     ]

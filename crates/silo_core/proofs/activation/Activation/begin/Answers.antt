@@ -16,4 +16,4 @@ returns c =
     let rest = c.pop_front.new.self.items in
     let request = c.in-Some.request in
     subst (λ (e : Entry). begun e e.phase ≡ Some (on_entry (seen a.progress rest (Some request) a.last))) c.self.view_is
-      (begun_next a.progress a.mailbox.items rest a.turn a.last request c.in-Ready.state c.in-Ready.version c.in-Ready.is c.in-Some.ensures.items (sym c.if-is_some.ensures))
+    (begun_next a.progress a.mailbox.items rest a.turn a.last request c.in-Ready.state c.in-Ready.version c.in-Ready.is c.in-Some.ensures.items (sym c.if-is_some.ensures))

@@ -21,4 +21,4 @@ returns-in_ok-plan_of-in-Ready c =
     let state = c.in-Ready.state in
     let p = c.in_ok-plan_of-in-Ready.field-0 in
     rw (← c.self.view_is) (planned_ready a.progress a.mailbox.items a.turn a.last c.args.turn c.in-Some.request state c.in-Ready.version p c.in-Some.is (sym c.number.ensures ∙ c.if-number-turn.false) c.in-Ready.is
-      (subst (λ (m : Call). plan_by p state ≡ counter_plan m.method state m.argument) c.message.ensures c.in_ok-plan_of-in-Ready.ensures))
+    (subst (λ (m : Call). plan_by p state ≡ counter_plan m.method state m.argument) c.message.ensures c.in_ok-plan_of-in-Ready.ensures))

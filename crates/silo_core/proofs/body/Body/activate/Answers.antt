@@ -19,4 +19,4 @@ returns c =
     let e = c.in-Some.activation.now in
     let after = c.activate.new.self in
     subst (λ (w : Whole). Moves w (step.Activate g) (Ok c.activate.result) (the_view (record c.self.inside { directory = map.insert c.self.inside.directory g after }))) c.self.view_is
-      (activate_moves _ g e after (sym c.in-Some.ensures.value) c.activate.result c.activate.ensures)
+    (activate_moves _ g e after (sym c.in-Some.ensures.value) c.activate.result c.activate.ensures)

@@ -19,4 +19,4 @@ returns c =
     let e = c.in-Some.activation.now in
     let after = c.begin.new.self in
     subst (λ (w : Whole). Moves w (step.Begin g) (Ok c.begin.result) (the_view (record c.self.inside { directory = map.insert c.self.inside.directory g after }))) c.self.view_is
-      (begin_moves _ g e after (sym c.in-Some.ensures.value) c.begin.result c.begin.ensures)
+    (begin_moves _ g e after (sym c.in-Some.ensures.value) c.begin.result c.begin.ensures)

@@ -21,9 +21,9 @@ returns-in-Some c =
     let refuses = rw c.in-Some.is at c.in_ok-why.ensures in
     let replies = c.push_reserved.new.self.items in
     subst (λ (w : Whole). whole_step counters w (step.Call c.args.caller.now c.args.id c.args.grain.now c.args.message.now) ≡ Some (the_view (record b { replies = c.push_reserved.new.self }))) c.self.view_is
-      (call_refused _ b.tenant account refl c.args.caller.now c.args.id c.args.grain.now c.args.message.now why replies refuses
-        (c.push_reserved.ensures.items
-        ∙ (λ i. c.in_ok-reserve.ensures.items i ++ (let reply : Reply = record { recipient = party.Client (c.in_ok-clone.ensures.cases i) c.args.id; outcome = Err why } in reply ∷ []))))
+    (call_refused _ b.tenant account refl c.args.caller.now c.args.id c.args.grain.now c.args.message.now why replies refuses
+    (c.push_reserved.ensures.items
+    ∙ (λ i. c.in_ok-reserve.ensures.items i ++ (let reply : Reply = record { recipient = party.Client (c.in_ok-clone.ensures.cases i) c.args.id; outcome = Err why } in reply ∷ []))))
 
 pub returns : goal.returns
 returns c =
@@ -34,4 +34,4 @@ returns c =
     let accepts = rw none at c.in_ok-why.ensures in
     let numbered = c.new-request.ensures ∙ (λ i. let r : Request = record { number = b.count + 1; sender = party.Client (c.in_ok-clone.ensures.cases i) c.args.id; call = c.in_ok-clone-2.ensures.cases i } in r) in
     subst (λ (w : Whole). whole_step counters w (step.Call c.args.caller.now c.args.id c.args.grain.now c.args.message.now) ≡ Some (the_view (record b { count = b.count + 1; directory = c.deliver.new.self }))) c.self.view_is
-      (call_waits _ b.tenant account refl c.args.caller.now c.args.id c.args.grain.now c.args.message.now request c.deliver.new.self accepts numbered c.in_ok-deliver.ensures.delivered)
+    (call_waits _ b.tenant account refl c.args.caller.now c.args.id c.args.grain.now c.args.message.now request c.deliver.new.self accepts numbered c.in_ok-deliver.ensures.delivered)

@@ -42,4 +42,4 @@ returns c =
     let room : w ≡ c.args.self.now = (λ i. record (the_view c.self.inside) { replies = c.in_ok-reserve.ensures.items i }) ∙ c.self.view_is in
     let closes = rw c.in-Some-2.is at (c.in_ok-reply.ensures.closes (sight_of w g.tenant g) g refl) in
     subst (λ (v : Whole). whole_step counters v (step.End g turn) ≡ Some (the_view (record c.self.inside { directory = map.insert c.self.inside.directory g after; replies = c.tell.new.replies }))) room
-      (end_closes w g c.in-Some.activation.now after (sym c.in-Some.ensures.value) turn c.in-Some-2.reply c.tell.new.replies.items closes c.tell.ensures)
+    (end_closes w g c.in-Some.activation.now after (sym c.in-Some.ensures.value) turn c.in-Some-2.reply c.tell.new.replies.items closes c.tell.ensures)

@@ -26,4 +26,4 @@ returns c =
     let e = c.in-Some.activation.now in
     let after = c.load.new.self in
     subst (λ (w : Whole). Moves w (step.Load g) (Ok c.in_ok-answer.answer) (the_view (record c.self.inside { directory = map.insert c.self.inside.directory g after }))) c.self.view_is
-      (load_moves _ g e after (sym c.in-Some.ensures.value) c.in_ok-answer.answer (c.in_ok-answer.ensures.loads (sight_of (the_view c.self.inside) g.tenant g) g (map.get-empty grain_cmp g)))
+    (load_moves _ g e after (sym c.in-Some.ensures.value) c.in_ok-answer.answer (c.in_ok-answer.ensures.loads (sight_of (the_view c.self.inside) g.tenant g) g (map.get-empty grain_cmp g)))

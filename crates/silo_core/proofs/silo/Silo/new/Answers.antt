@@ -14,7 +14,7 @@ invariant_of-result c =
     let setup = setup_of c.in_ok-known.known c.args.limits c.args.age in
     let opens : c.new.result ≡ opening setup = c.new.ensures ∙ ap (λ t. opened_with t (fresh_account c.args.limits) c.args.age) (sym c.in_ok-known.ensures.cases) ∙ sym (opening_one c.in_ok-known.known c.args.limits c.args.age) in
     subst (λ (journal : List Step). LeadsTo counters setup journal c.new.result) (sym c.new-2.ensures.items)
-      (subst (λ (w : Whole). LeadsTo counters setup [] w) (sym opens) (journals_begin counters setup))
+    (subst (λ (w : Whole). LeadsTo counters setup [] w) (sym opens) (journals_begin counters setup))
 
 pub returns-clause-opening : goal.returns-clause-opening
 returns-clause-opening c =

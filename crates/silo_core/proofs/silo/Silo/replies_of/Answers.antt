@@ -9,5 +9,5 @@ pub returns : goal.returns
 unfolding shown_to
 returns c =
     IfOk-weaker c.sent_to.result _ _
-      (λ found h. h ∙ ap (filter (is_to c.args.tenant.now)) (c.replies.ensures ∙ ap (λ (k : History). k.whole.replies) c.self.view_is))
-      c.sent_to.ensures
+    (λ found h. h ∙ ap (filter (is_to c.args.tenant.now)) (c.replies.ensures ∙ ap (λ (k : History). k.whole.replies) c.self.view_is))
+    c.sent_to.ensures

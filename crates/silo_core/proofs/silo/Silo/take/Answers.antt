@@ -12,4 +12,4 @@ invariant_of-self-in-Done c =
     let setup = setup_of a.tenant a.limits a.age in
     let grown = c.push_reserved.ensures.items ∙ ap (λ (journal : List Step). journal ++ c.args.step ∷ []) c.in_ok-reserve.ensures.items in
     subst (λ (journal : List Step). LeadsTo counters setup journal c.step.new.self) (sym grown)
-      (journals_grow counters setup a.journal.items a.body c.step.new.self c.args.step c.self.invariant (rw c.in-Done.is at c.in_ok-step.ensures))
+    (journals_grow counters setup a.journal.items a.body c.step.new.self c.args.step c.self.invariant (rw c.in-Done.is at c.in_ok-step.ensures))

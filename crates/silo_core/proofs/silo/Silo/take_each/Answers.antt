@@ -22,7 +22,7 @@ each-preserved c =
     let taken = taken_more old c.each.self new (take (length had) all) had s c.each.invariant.taken a c.in-Ok.ensures.answered in
     record {
       taken = subst (λ (answers : List Answer). Takes old (take (length now) all) answers new) (sym grown)
-        (subst (λ (steps : List Step). Takes old steps (had ++ a ∷ []) new) (sym (ap (λ n. take n all) more ∙ next.0)) taken);
+          (subst (λ (steps : List Step). Takes old steps (had ++ a ∷ []) new) (sym (ap (λ n. take n all) more ∙ next.0)) taken);
       rest = ap (λ n. drop n all) more ∙ next.1;
       room = omega (arith, ap length grown, length-append had (a ∷ []), ap length front, c.each.invariant.room, c.push_reserved.ensures.capacity);
     }
