@@ -16,6 +16,8 @@ mod reading;
 mod replies;
 mod reply_values;
 mod runner;
+#[cfg(test)]
+mod tests;
 
 pub use fault::LineFault;
 pub use line::{Line, LineRefusal};
