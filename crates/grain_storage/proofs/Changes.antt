@@ -1,10 +1,10 @@
 -- Changes of a row by the cases of what was found.
-use Rattle.std.proofs.Common.{◌≡◌, ℕ, Bool, true, false, not, List, Option, Some, None, is_some, Result, Ok, Err, refl, ap, sym, ◌∙◌, if◌then◌else◌, nat_eq, ◌≢◌, ◌+◌, ◌==◌, arith}
+use Rattle.std.proofs.Common.{◌≡◌, ℕ, true, false, not, Option, Some, None, is_some, Result, Ok, Err, refl, ap, sym, ◌∙◌, if◌then◌else◌, nat_eq, ◌≢◌, ◌+◌, ◌==◌, arith}
 use Rattle.std.specs.Option.{option_eq}
 use Rattle.std.specs.FinMap as map
 use Rattle.std.specs.FinMap.{get}
 use Rattle.std.proofs.lemmas.Bool.Decides.{Decides-eqb, nat_tests}
-use Rattle.grain_id.specs.Names.{Grain, grain_cmp}
+use Rattle.grain_id.specs.Names.{Grain}
 use Rattle.request_codec.specs.Tree.{Tree}
 use Rattle.grain_storage.specs.declared.row.Row.{Row}
 use Rattle.grain_storage.specs.declared.fault.StoreFault.{StoreFault}

@@ -1,7 +1,7 @@
 -- The count of failures, at the failing call.
-use Rattle.std.proofs.Common.{◌≡◌, ℕ, ◌+◌, ◌≤◌, ◌<◌, Bool, true, false, ◌&&◌, nat_lt, nat_le, min, if◌then◌else◌, arith, refl, ap, sym, ◌∙◌}
+use Rattle.std.proofs.Common.{◌≡◌, ℕ, ◌+◌, Bool, true, false, ◌&&◌, nat_lt, nat_le, if◌then◌else◌, arith, ap, ◌∙◌}
 use Rattle.std.proofs.lemmas.Bool.Decides.{nat_tests}
-use Rattle.grain_storage.specs.Answers.{Counted, last_count}
+use Rattle.grain_storage.specs.Answers.{Counted}
 
 abbrev one_where : Bool → ℕ
 one_where b = if b then 1 else 0

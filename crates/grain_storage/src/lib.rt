@@ -18,3 +18,6 @@ pub use fused::FusedStorage;
 pub use memory::MemoryStorage;
 pub use row::Row;
 pub use storage::GrainStorage;
+
+#[cfg(test)]
+mod tests;

@@ -68,10 +68,7 @@ impl MemoryStorage {
     fn version_at(&self, grain: &GrainId) -> Option<u64>
         ensures { result ≡ version_of (get self.now grain.now) }
     {
-        match self.row_at(grain) {
-            Some(row) => Some(row.version),
-            None => None,
-        }
+        self.row_at(grain).map(|row| row.version)
     }
 
     /// Gives the grain's row the next version and this content. The key is copied only where there
@@ -151,11 +148,11 @@ impl GrainStorage for MemoryStorage {
         grain: &GrainId,
         expected: Option<u64>,
     ) -> Result<Option<u64>, StoreFault> {
-        let found = self.version_at(grain);
-        if expected != found {
-            return Err(StoreFault::Stale(found));
+        let version = self.version_at(grain);
+        if expected != version {
+            return Err(StoreFault::Stale(version));
         }
-        if found.is_none() {
+        if version.is_none() {
             return Ok(None);
         }
         Ok(Some(self.put(grain, None)?))

@@ -1,6 +1,4 @@
 use Rattle.std.proofs.Common.{◌+◌, ap, sym, ◌∙◌, refl}
-use Rattle.std.specs.Option.{IsSome}
-use Rattle.std.specs.Map.{lookup}
 use Rattle.std.proofs.lemmas.Map.Steps.{set_value_same}
 use Rattle.grain_storage.specs.Rows.{is_spent}
 use Rattle.grain_storage.specs.Memory.{rows_of}

@@ -1,25 +1,25 @@
-use Rattle.std.proofs.Common.{Err, ap, sym, subst, ◌∙◌, refl, not, is_some}
+use Rattle.std.proofs.Common.{Err, ap, sym, subst, ◌∙◌, refl, is_some}
 use Rattle.std.specs.FinMap.{get}
 use Rattle.std.proofs.lemmas.Result.{err_from_is_err_and}
-use Rattle.grain_storage.specs.Rows.{cleared, version_of}
+use Rattle.grain_storage.specs.Rows.{cleared}
 use Rattle.grain_storage.specs.Answers.{ChangeAnswers}
 use Rattle.grain_storage.proofs.Changes.{changed_where_stale, fresh_from, put_done, put_refused, cleared_there, cleared_none}
 use Rattle.grain_storage.proofs.memory.MemoryStorageGrainStorage.clear.Goals as goal
 
 pub returns-then-ne : goal.returns-then-ne
 unfolding cleared
-returns-then-ne c = record { answers = (changed_where_stale c.args.expected (get c.args.self.now c.args.grain.now) _ c.version_at-found.result c.version_at-found.ensures (sym c.if-ne.ensures), refl, refl) }
+returns-then-ne c = record { answers = (changed_where_stale c.args.expected (get c.args.self.now c.args.grain.now) _ c.version_at-version.result c.version_at-version.ensures (sym c.if-ne.ensures), refl, refl) }
 
 pub returns-then-is_none : goal.returns-then-is_none
 returns-then-is_none c =
-    let fresh = fresh_from c.args.expected (get c.args.self.now c.args.grain.now) c.version_at-found.result c.version_at-found.ensures (sym c.if-ne.ensures) in
-    record { answers = (cleared_none c.args.self.now c.args.grain.now c.args.expected fresh (ap is_some (sym c.version_at-found.ensures) ∙ c.if-is_none.ensures), refl) }
+    let fresh = fresh_from c.args.expected (get c.args.self.now c.args.grain.now) c.version_at-version.result c.version_at-version.ensures (sym c.if-ne.ensures) in
+    record { answers = (cleared_none c.args.self.now c.args.grain.now c.args.expected fresh (ap is_some (sym c.version_at-version.ensures) ∙ c.if-is_none.ensures), refl) }
 
 pub returns-in_err-put : goal.returns-in_err-put
 returns-in_err-put c =
     let p = err_from_is_err_and c.from_residual.result c.from_residual.ensures.1 in
-    let fresh = fresh_from c.args.expected (get c.args.self.now c.args.grain.now) c.version_at-found.result c.version_at-found.ensures (sym c.if-ne.ensures) in
-    let there = ap is_some (sym c.version_at-found.ensures) ∙ c.if-is_none.ensures in
+    let fresh = fresh_from c.args.expected (get c.args.self.now c.args.grain.now) c.version_at-version.result c.version_at-version.ensures (sym c.if-ne.ensures) in
+    let there = ap is_some (sym c.version_at-version.ensures) ∙ c.if-is_none.ensures in
     let rows = c.args.self.now in
     record {
       answers = rw (p.1, p.2)
@@ -29,6 +29,6 @@ returns-in_err-put c =
 
 pub returns : goal.returns
 returns c =
-    let fresh = fresh_from c.args.expected (get c.args.self.now c.args.grain.now) c.version_at-found.result c.version_at-found.ensures (sym c.if-ne.ensures) in
-    let there = ap is_some (sym c.version_at-found.ensures) ∙ c.if-is_none.ensures in
+    let fresh = fresh_from c.args.expected (get c.args.self.now c.args.grain.now) c.version_at-version.result c.version_at-version.ensures (sym c.if-ne.ensures) in
+    let there = ap is_some (sym c.version_at-version.ensures) ∙ c.if-is_none.ensures in
     record { answers = (cleared_there c.args.self.now c.args.grain.now c.args.expected there ∙ put_done c.args.expected c.args.self.now c.args.grain.now _ c.put.new.self fresh c.in_ok-put.field-0 c.in_ok-put.ensures, refl) }

@@ -1,0 +1,50 @@
+//! Why a list is no table, and why a call doesn't pass.
+
+ghost use Rattle.std.specs.Prelude.{◌≡◌};
+ghost use Rattle.tenant_gate.specs.declared.fault.TableFault.TheVariants as faults;
+ghost use Rattle.tenant_gate.specs.declared.fault.GateFault.TheVariants as refusals;
+
+use grain_id::Tenant;
+use std::alloc::AllocError;
+
+/// Why a list of tenants is no table.
+#[derive(Debug, Drop)]
+pub enum TableFault {
+    /// There is no tenant.
+    Empty,
+    /// There are more than 1,000 tenants.
+    TooMany,
+    /// The first tenant that repeats an earlier one.
+    Twice(Tenant),
+    /// The first tenant whose limits are out of range.
+    Range(Tenant),
+    /// Memory was refused.
+    Memory,
+}
+
+impl From<AllocError> for TableFault {
+    ghost from_gives = { λ _ fault. fault ≡ faults.Memory };
+
+    fn from(_refused: AllocError) -> TableFault {
+        TableFault::Memory
+    }
+}
+
+/// Why a tenant may not call a grain.
+#[derive(Debug, Drop)]
+pub enum GateFault {
+    /// The silo doesn't know the caller's tenant.
+    Unknown(Tenant),
+    /// The caller's tenant, and the tenant of the grain, which is another one.
+    Across(Tenant, Tenant),
+    /// Memory for the names in the fault was refused.
+    Memory,
+}
+
+impl From<AllocError> for GateFault {
+    ghost from_gives = { λ _ fault. fault ≡ refusals.Memory };
+
+    fn from(_refused: AllocError) -> GateFault {
+        GateFault::Memory
+    }
+}
