@@ -33,6 +33,32 @@ fn numbered(alloc: Global, count: u32) -> Result<Vec<(Tenant, Limits)>, Fail> {
     Ok(list)
 }
 
+/// What a call is answered, as a text.
+fn said(alloc: Global, answer: &Result<(), GateFault>) -> Result<String, Fail> {
+    let text = match answer {
+        Ok(()) => String::from_str(alloc, "passes")?,
+        Err(GateFault::Unknown(tenant)) => format!(in alloc; "unknown {}", tenant.text())?,
+        Err(GateFault::Across(from, to)) => {
+            format!(in alloc; "{} to {}", from.text(), to.text())?
+        }
+        Err(GateFault::Memory) => String::from_str(alloc, "memory")?,
+    };
+    Ok(text)
+}
+
+/// What a list is answered, as a text.
+fn made(alloc: Global, answer: &Result<TenantTable, TableFault>) -> Result<String, Fail> {
+    let text = match answer {
+        Ok(_) => String::from_str(alloc, "made")?,
+        Err(TableFault::Empty) => String::from_str(alloc, "empty")?,
+        Err(TableFault::TooMany) => String::from_str(alloc, "too many")?,
+        Err(TableFault::Twice(tenant)) => format!(in alloc; "twice {}", tenant.text())?,
+        Err(TableFault::Range(tenant)) => format!(in alloc; "range {}", tenant.text())?,
+        Err(TableFault::Memory) => String::from_str(alloc, "memory")?,
+    };
+    Ok(text)
+}
+
 #[test]
 fn each_of_a_thousand_tenants_is_found(rt: HostRuntime) -> Result<(), Fail> {
     let alloc = rt.alloc();
@@ -79,16 +105,12 @@ fn a_repeat_comes_before_a_range(rt: HostRuntime) -> Result<(), Fail> {
             mailbox: 1_001,
         },
     ))?;
-    match TenantTable::new(alloc, list) {
-        Err(TableFault::Range(tenant)) => assert_eq!(rt; tenant.text(), "blue"),
-        _ => assert!(rt; false, "the range is refused"),
-    }
+    let answer = TenantTable::new(alloc, list);
+    assert_eq!(rt; made(alloc, &answer)?.as_str(), "range blue");
     let mut list = tenants(alloc, &["red", "blue", "green", "blue", "red"])?;
     list.push((Tenant::read(alloc, "grey")?, none))?;
-    match TenantTable::new(alloc, list) {
-        Err(TableFault::Twice(tenant)) => assert_eq!(rt; tenant.text(), "blue"),
-        _ => assert!(rt; false, "the repeat is refused"),
-    }
+    let answer = TenantTable::new(alloc, list);
+    assert_eq!(rt; made(alloc, &answer)?.as_str(), "twice blue");
     Ok(())
 }
 
@@ -116,13 +138,8 @@ fn names_that_begin_alike_are_told_apart(rt: HostRuntime) -> Result<(), Fail> {
     let reddish_grain = GrainId::read(alloc, "counter/reddish:a")?;
     assert!(rt; table.check_call(alloc, &red, &red_grain).is_ok());
     assert!(rt; table.check_call(alloc, &reddish, &reddish_grain).is_ok());
-    match table.check_call(alloc, &reddish, &red_grain) {
-        Err(GateFault::Across(from, to)) => {
-            assert_eq!(rt; from.text(), "reddish");
-            assert_eq!(rt; to.text(), "red");
-        }
-        _ => assert!(rt; false, "another tenant's grain is refused"),
-    }
+    let answer = table.check_call(alloc, &reddish, &red_grain);
+    assert_eq!(rt; said(alloc, &answer)?.as_str(), "reddish to red");
     Ok(())
 }
 
@@ -133,16 +150,9 @@ fn only_the_caller_is_looked_up(rt: HostRuntime) -> Result<(), Fail> {
     let red = Tenant::read(alloc, "red")?;
     let blue = Tenant::read(alloc, "blue")?;
     let blue_grain = GrainId::read(alloc, "counter/blue:a")?;
-    match table.check_call(alloc, &red, &blue_grain) {
-        Err(GateFault::Across(from, to)) => {
-            assert_eq!(rt; from.text(), "red");
-            assert_eq!(rt; to.text(), "blue");
-        }
-        _ => assert!(rt; false, "a grain of a tenant that isn't there is refused"),
-    }
-    match table.check_call(alloc, &blue, &blue_grain) {
-        Err(GateFault::Unknown(tenant)) => assert_eq!(rt; tenant.text(), "blue"),
-        _ => assert!(rt; false, "a tenant that isn't there is unknown"),
-    }
+    let answer = table.check_call(alloc, &red, &blue_grain);
+    assert_eq!(rt; said(alloc, &answer)?.as_str(), "red to blue");
+    let answer = table.check_call(alloc, &blue, &blue_grain);
+    assert_eq!(rt; said(alloc, &answer)?.as_str(), "unknown blue");
     Ok(())
 }
