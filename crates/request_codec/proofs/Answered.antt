@@ -1,9 +1,11 @@
 -- What was answered, by what a part answered.
-use Rattle.std.proofs.Common.{◌≡◌, ℕ, ◌+◌, ◌<◌, ◌≤◌, List, length, Option, None, Err, subst, arith}
-use Rattle.request_codec.specs.Limits.{depth_limit}
+use Rattle.std.proofs.Common.{◌≡◌, ℕ, ◌+◌, ◌<◌, ◌≤◌, List, length, Option, Some, None, Result, Ok, Err, IfOk, subst, arith}
+use Rattle.serde_json.specs.Data.{Data}
+use Rattle.request_codec.specs.Limits.{depth_limit, message_limit}
 use Rattle.request_codec.specs.Tree.{Tree, depth}
 use Rattle.request_codec.specs.Written.{Puts, WritesAll}
-use Rattle.request_codec.specs.Answers.{Writes}
+use Rattle.request_codec.specs.Json.{value_of_json, json_depth}
+use Rattle.request_codec.specs.Answers.{Reads, Writes, WritesJson, message_length}
 use Rattle.request_codec.specs.declared.fault.CodecFault.{CodecFault}
 use Rattle.request_codec.specs.declared.fault.CodecFault.TheVariants as faults
 
@@ -23,6 +25,14 @@ Fails-whole faults.TooDeep part whole none h = absurd h
 Fails-whole faults.TooLong part whole none h = absurd h
 Fails-whole faults.NotWhole part whole none h = absurd h
 
+-- what was read, and that there was nothing to read
+pub Reads-ok : {X A : Type 0} (view : X → A) (r : Result X CodecFault) (found : Option A) → Reads view r found → IfOk r (λ x. found ≡ Some (view x))
+Reads-ok view (Ok x) found h = h
+Reads-ok view (Err e) found h = tt
+
+pub Reads-none : {X A : Type 0} (view : X → A) (r : Result X CodecFault) (found : Option A) → Reads view r found → r ≡ Err faults.NotAMessage → found ≡ None
+Reads-none {X} view r found h is = subst (λ (s : Result X CodecFault). Reads view s found) is h
+
 -- what was not written was too long, or there was no memory
 pub Writes-fault : {A : Type 0} (e : CodecFault) (written : A) (v : Tree) (len limit : ℕ) (bytes : List ℕ) → depth v ≤ depth_limit → length bytes ≡ len → WritesAll limit (Err e) bytes → Writes (Err e) written v len limit
 Writes-fault faults.TooLong written v len limit bytes deep same h = (deep, subst (λ (n : ℕ). limit < n) same h)
@@ -30,6 +40,14 @@ Writes-fault faults.Memory written v len limit bytes deep same h = tt
 Writes-fault faults.TooDeep written v len limit bytes deep same h = absurd h
 Writes-fault faults.NotWhole written v len limit bytes deep same h = absurd h
 Writes-fault faults.NotAMessage written v len limit bytes deep same h = absurd h
+
+pub WritesJson-fault : (e : CodecFault) (method : List ℕ) (d : Data) (v : Tree) (bytes : List ℕ) → json_depth d ≤ depth_limit → value_of_json d ≡ Some v → length bytes ≡ message_length method v → WritesAll message_limit (Err e) bytes
+    → WritesJson (Err e) method d
+WritesJson-fault faults.TooLong method d v bytes deep is same h = (deep, (v, is, subst (λ (n : ℕ). message_limit < n) same h))
+WritesJson-fault faults.Memory method d v bytes deep is same h = tt
+WritesJson-fault faults.TooDeep method d v bytes deep is same h = absurd h
+WritesJson-fault faults.NotWhole method d v bytes deep is same h = absurd h
+WritesJson-fault faults.NotAMessage method d v bytes deep is same h = absurd h
 
 -- what was put at the end of nothing is all that was written
 pub WritesAll-fault : (e : CodecFault) (limit : ℕ) (old new : List ℕ) (bytes whole : List ℕ) → length old + length bytes ≤ length whole → Puts limit old new (Err e) bytes → WritesAll limit (Err e) whole

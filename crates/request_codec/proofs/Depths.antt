@@ -1,21 +1,13 @@
 -- A test of the members one after another is a test of them all.
-use Rattle.std.proofs.Common.{◌≡◌, ℕ, ◌+◌, ◌-◌, ◌<◌, ◌≤◌, ◌≢◌, Bool, true, false, List, [], ◌∷◌, length, get_or, drop, map as each, String, Global, string_bytes, string_cmp, sym, ap, subst, arith}
-use Rattle.std.specs.Prelude.{max}
-use Rattle.std.specs.List.Sorted.{IsStrictlySortedBy}
-use Rattle.std.specs.Map.{keys_of}
-use Rattle.std.specs.Ordering.{is_lt}
+use Rattle.std.proofs.Common.{◌≡◌, ℕ, ◌+◌, ◌-◌, ◌<◌, ◌≤◌, ◌≢◌, Bool, true, false, List, ◌∷◌, [], length, get_or, drop, map as each, sym, ap, subst, arith}
+use Rattle.std.specs.Prelude.{max, IsUtf8}
 use Rattle.std.proofs.lemmas.List.{drop_more, drop_all}
-use Rattle.std.proofs.lemmas.Str.{IsUtf8-string_bytes}
-use Rattle.request_codec.specs.Tree.{Tree, list, map, Members, no_members, member, Fields, no_fields, depth, members_depth, fields_depth, members_of, fields_of}
+use Rattle.request_codec.specs.Tree.{Tree, list, map, Members, no_members, member, Fields, no_fields, field, depth, members_depth, fields_depth, members_of, fields_of}
 use Rattle.request_codec.specs.Spelling.{IsBelowFirst}
 use Rattle.request_codec.specs.Formed.{IsFormed, TestsDepth, TestDepths, TestFieldDepths}
-use Rattle.request_codec.specs.Seen.{value_of, entry_of}
-use Rattle.request_codec.specs.declared.datum.Datum.{Datum}
+use Rattle.request_codec.proofs.Loops.{Named}
 
-abbrev pub Entry : Type 0
-Entry = String Global × Datum
-
--- ---- a list
+-- ---- a list, where f gives the value of each thing
 
 passed : (b : Bool) (limit : ℕ) (v : Tree) (vs : Members) → TestsDepth true limit v → TestDepths b limit vs → TestDepths b limit (member v vs)
 passed true limit v vs h t =
@@ -25,61 +17,56 @@ passed false limit v vs h t =
     let above : limit < max (depth v) (members_depth vs) = omega (arith, t) in
     above
 
-pub passed-next : (limit : ℕ) (items : List Datum) (i : ℕ) (d : Datum) (goal : Bool → Type 0) → i < length items → TestsDepth true limit (value_of (get_or items i d))
-    → ((b : Bool) → TestDepths b limit (members_of (each value_of (drop i items))) → goal b) → (b : Bool) → TestDepths b limit (members_of (each value_of (drop (i + 1) items))) → goal b
-passed-next limit items i d goal lt h so_far b t =
-    let rest = members_of (each value_of (drop (i + 1) items)) in
-    let cut : members_of (each value_of (drop i items)) ≡ member (value_of (get_or items i d)) rest = ap (λ (r : List Datum). members_of (each value_of r)) (drop_more items i d lt) in
-    so_far b (subst (λ (vs : Members). TestDepths b limit vs) (sym cut) (passed b limit (value_of (get_or items i d)) rest h t))
+members_cut : {A : Type 0} (f : A → Tree) (xs : List A) (i : ℕ) (x : A) → i < length xs → members_of (each f (drop i xs)) ≡ member (f (get_or xs i x)) (members_of (each f (drop (i + 1) xs)))
+members_cut {A} f xs i x lt = ap (λ (r : List A). members_of (each f r)) (drop_more xs i x lt)
 
-pub passed-fails : (limit : ℕ) (items : List Datum) (i : ℕ) (d : Datum) (goal : Bool → Type 0) → i < length items → TestsDepth false limit (value_of (get_or items i d))
-    → ((b : Bool) → TestDepths b limit (members_of (each value_of (drop i items))) → goal b) → goal false
-passed-fails limit items i d goal lt h so_far =
-    let rest = members_of (each value_of (drop (i + 1) items)) in
-    let cut : members_of (each value_of (drop i items)) ≡ member (value_of (get_or items i d)) rest = ap (λ (r : List Datum). members_of (each value_of r)) (drop_more items i d lt) in
-    let above : limit < max (depth (value_of (get_or items i d))) (members_depth rest) = omega (arith, h) in
-    so_far false (subst (λ (vs : Members). TestDepths false limit vs) (sym cut) above)
+pub passed-next : {A : Type 0} (f : A → Tree) (limit : ℕ) (xs : List A) (i : ℕ) (x : A) (goal : Bool → Type 0) → i < length xs → TestsDepth true limit (f (get_or xs i x))
+    → ((b : Bool) → TestDepths b limit (members_of (each f (drop i xs))) → goal b) → (b : Bool) → TestDepths b limit (members_of (each f (drop (i + 1) xs))) → goal b
+passed-next f limit xs i x goal lt h so_far b t =
+    so_far b (subst (λ (vs : Members). TestDepths b limit vs) (sym (members_cut f xs i x lt)) (passed b limit (f (get_or xs i x)) (members_of (each f (drop (i + 1) xs))) h t))
 
-pub passed-all : (limit : ℕ) (items : List Datum) (i : ℕ) (goal : Bool → Type 0) → length items ≤ i
-    → ((b : Bool) → TestDepths b limit (members_of (each value_of (drop i items))) → goal b) → goal true
-passed-all limit items i goal le so_far =
-    let none : members_of (each value_of (drop i items)) ≡ no_members = ap (λ (r : List Datum). members_of (each value_of r)) (drop_all i items le) in
+pub passed-fails : {A : Type 0} (f : A → Tree) (limit : ℕ) (xs : List A) (i : ℕ) (x : A) (goal : Bool → Type 0) → i < length xs → TestsDepth false limit (f (get_or xs i x))
+    → ((b : Bool) → TestDepths b limit (members_of (each f (drop i xs))) → goal b) → goal false
+passed-fails f limit xs i x goal lt h so_far =
+    let above : limit < max (depth (f (get_or xs i x))) (members_depth (members_of (each f (drop (i + 1) xs)))) = omega (arith, h) in
+    so_far false (subst (λ (vs : Members). TestDepths false limit vs) (sym (members_cut f xs i x lt)) above)
+
+pub passed-all : {A : Type 0} (f : A → Tree) (limit : ℕ) (xs : List A) (i : ℕ) (goal : Bool → Type 0) → length xs ≤ i
+    → ((b : Bool) → TestDepths b limit (members_of (each f (drop i xs))) → goal b) → goal true
+passed-all {A} f limit xs i goal le so_far =
+    let none : members_of (each f (drop i xs)) ≡ no_members = ap (λ (r : List A). members_of (each f r)) (drop_all i xs le) in
     let nothing : TestDepths true limit no_members = (omega arith, tt) in
     so_far true (subst (λ (vs : Members). TestDepths true limit vs) (sym none) nothing)
 
--- ---- a map
+-- ---- a map, where f gives the name and the value of each thing
 
--- names that ascend
-below_rest : (e : Entry) (es : List Entry) → IsStrictlySortedBy string_cmp (keys_of (e ∷ es)) → IsBelowFirst (string_bytes e.0) (fields_of (each entry_of es))
-unfolding IsStrictlySortedBy
-below_rest e [] h = tt
-below_rest e (f ∷ es) h = ap is_lt h.0.0
-
-field_passed : (b : Bool) (limit : ℕ) (e : Entry) (es : List Entry) → IsStrictlySortedBy string_cmp (keys_of (e ∷ es)) → TestsDepth true limit (value_of e.1)
-    → TestFieldDepths b limit (fields_of (each entry_of es)) → TestFieldDepths b limit (fields_of (each entry_of (e ∷ es)))
-field_passed true limit e es ordered h t =
-    let within : max (depth (value_of e.1)) (fields_depth (fields_of (each entry_of es))) ≤ limit = omega (arith, h.0, t.0) in
-    (within, (IsUtf8-string_bytes e.0, h.1, below_rest e es ordered, t.1))
-field_passed false limit e es ordered h t =
-    let above : limit < max (depth (value_of e.1)) (fields_depth (fields_of (each entry_of es))) = omega (arith, t) in
+field_passed : (b : Bool) (limit : ℕ) (n : List ℕ) (v : Tree) (fs : Fields) → IsUtf8 n → IsBelowFirst n fs → TestsDepth true limit v → TestFieldDepths b limit fs → TestFieldDepths b limit (field n v fs)
+field_passed true limit n v fs valid below h t =
+    let within : max (depth v) (fields_depth fs) ≤ limit = omega (arith, h.0, t.0) in
+    (within, (valid, h.1, below, t.1))
+field_passed false limit n v fs valid below h t =
+    let above : limit < max (depth v) (fields_depth fs) = omega (arith, t) in
     above
 
-pub fields_passed-next : (limit : ℕ) (left : List Entry) (e : Entry) (es : List Entry) (goal : Bool → Type 0) → left ≡ e ∷ es → IsStrictlySortedBy string_cmp (keys_of left) → TestsDepth true limit (value_of e.1)
-    → ((b : Bool) → TestFieldDepths b limit (fields_of (each entry_of left)) → goal b) → (b : Bool) → TestFieldDepths b limit (fields_of (each entry_of es)) → goal b
-fields_passed-next limit left e es goal is ordered h so_far b t =
-    so_far b (subst (λ (l : List Entry). TestFieldDepths b limit (fields_of (each entry_of l))) (sym is) (field_passed b limit e es (subst (λ (l : List Entry). IsStrictlySortedBy string_cmp (keys_of l)) is ordered) h t))
+fields_cut : {A : Type 0} (f : A → Named) (xs : List A) (x : A) (rest : List A) → xs ≡ x ∷ rest → fields_of (each f xs) ≡ field (f x).0 (f x).1 (fields_of (each f rest))
+fields_cut {A} f xs x rest is = ap (λ (r : List A). fields_of (each f r)) is
 
-pub fields_passed-fails : (limit : ℕ) (left : List Entry) (e : Entry) (es : List Entry) (goal : Bool → Type 0) → left ≡ e ∷ es → TestsDepth false limit (value_of e.1)
-    → ((b : Bool) → TestFieldDepths b limit (fields_of (each entry_of left)) → goal b) → goal false
-fields_passed-fails limit left e es goal is h so_far =
-    let above : limit < max (depth (value_of e.1)) (fields_depth (fields_of (each entry_of es))) = omega (arith, h) in
-    so_far false (subst (λ (l : List Entry). TestFieldDepths false limit (fields_of (each entry_of l))) (sym is) above)
+pub fields_passed-next : {A : Type 0} (f : A → Named) (limit : ℕ) (xs : List A) (x : A) (rest : List A) (goal : Bool → Type 0) → xs ≡ x ∷ rest → IsUtf8 (f x).0 → IsBelowFirst (f x).0 (fields_of (each f rest)) → TestsDepth true limit (f x).1
+    → ((b : Bool) → TestFieldDepths b limit (fields_of (each f xs)) → goal b) → (b : Bool) → TestFieldDepths b limit (fields_of (each f rest)) → goal b
+fields_passed-next f limit xs x rest goal is valid below h so_far b t =
+    so_far b (subst (λ (fs : Fields). TestFieldDepths b limit fs) (sym (fields_cut f xs x rest is)) (field_passed b limit (f x).0 (f x).1 (fields_of (each f rest)) valid below h t))
 
-pub fields_passed-all : (limit : ℕ) (left : List Entry) (goal : Bool → Type 0) → left ≡ []
-    → ((b : Bool) → TestFieldDepths b limit (fields_of (each entry_of left)) → goal b) → goal true
-fields_passed-all limit left goal is so_far =
+pub fields_passed-fails : {A : Type 0} (f : A → Named) (limit : ℕ) (xs : List A) (x : A) (rest : List A) (goal : Bool → Type 0) → xs ≡ x ∷ rest → TestsDepth false limit (f x).1
+    → ((b : Bool) → TestFieldDepths b limit (fields_of (each f xs)) → goal b) → goal false
+fields_passed-fails f limit xs x rest goal is h so_far =
+    let above : limit < max (depth (f x).1) (fields_depth (fields_of (each f rest))) = omega (arith, h) in
+    so_far false (subst (λ (fs : Fields). TestFieldDepths false limit fs) (sym (fields_cut f xs x rest is)) above)
+
+pub fields_passed-all : {A : Type 0} (f : A → Named) (limit : ℕ) (xs : List A) (goal : Bool → Type 0) → xs ≡ []
+    → ((b : Bool) → TestFieldDepths b limit (fields_of (each f xs)) → goal b) → goal true
+fields_passed-all {A} f limit xs goal is so_far =
     let nothing : TestFieldDepths true limit no_fields = (omega arith, tt) in
-    so_far true (subst (λ (l : List Entry). TestFieldDepths true limit (fields_of (each entry_of l))) (sym is) nothing)
+    so_far true (subst (λ (r : List A). TestFieldDepths true limit (fields_of (each f r))) (sym is) nothing)
 
 -- ---- one level
 

@@ -24,7 +24,7 @@ end_of-more (Some x) f = refl
 -- ---- one level
 
 pub value_end-leaf : (limit : ℕ) (bytes : List ℕ) (v : Tree) (rest : List ℕ) → limit ≢ 0 → start_at bytes ≡ Some (leaf v, rest) → Some rest ≡ end_of (value_at limit bytes)
-value_end-leaf limit bytes v rest some h = sym (ap end_of (value_at-leaf limit bytes v rest (omega arith) h))
+value_end-leaf limit bytes v rest some h = sym (ap end_of (value_at-leaf limit bytes v v rest (omega arith) h refl))
 
 pub value_end-list : (limit : ℕ) (bytes : List ℕ) (n : ℕ) (rest : List ℕ) → limit ≢ 0 → start_at bytes ≡ Some (list_of n, rest) → end_of (members_at (value_at (limit - 1)) n rest) ≡ end_of (value_at limit bytes)
 unfolding value_behind

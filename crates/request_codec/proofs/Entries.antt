@@ -1,10 +1,15 @@
 -- A map into which names go in their order.
-use Rattle.std.proofs.Common.{◌≡◌, ℕ, List, [], ◌∷◌, ◌++◌, Some, String, Global, string_bytes, string_cmp, nat_cmp, Ordering, Less, Equal, Greater, true, refl, ap, ◌∙◌}
+use Rattle.std.proofs.Common.{◌≡◌, ℕ, List, [], ◌∷◌, ◌++◌, Some, String, Global, string_bytes, string_cmp, nat_cmp, Ordering, Less, Equal, Greater, true, map, refl, ap, ◌∙◌}
 use Rattle.std.proofs.lemmas.Cmp.{nat_list_cmp_total}
 use Rattle.std.specs.Cmp.Lexicographic.{slice_cmp}
 use Rattle.std.specs.Ordering.{is_lt, ordering_reverse}
 use Rattle.std.specs.BTreeMap.{insert_entry}
+use Rattle.std.specs.List.Sorted.{IsStrictlySortedBy}
+use Rattle.std.specs.Map.{keys_of}
+use Rattle.request_codec.specs.Tree.{fields_of}
+use Rattle.request_codec.specs.Spelling.{IsBelowFirst}
 use Rattle.request_codec.specs.Reading.{is_above}
+use Rattle.request_codec.specs.Seen.{entry_of}
 use Rattle.request_codec.specs.declared.datum.Datum.{Datum}
 
 abbrev pub Entry : Type 0
@@ -15,7 +20,7 @@ abbrev pub AreBelow : List Entry → List ℕ → Type 0
 AreBelow [] name = Unit {0}
 AreBelow (e ∷ es) name = (slice_cmp nat_cmp (string_bytes e.0) name ≡ Less) × AreBelow es name
 
-is_less : (o : Ordering) → is_lt o ≡ true → o ≡ Less
+pub is_less : (o : Ordering) → is_lt o ≡ true → o ≡ Less
 is_less Less e = refl
 is_less Equal e = absurd cc
 is_less Greater e = absurd cc
@@ -41,3 +46,9 @@ pub below_next : (es : List Entry) (k : String Global) (d : Datum) (name : List 
 below_next es k d name copied h next later =
     let lt = is_less (slice_cmp nat_cmp name next) later in
     AreBelow-push es (k, d) next (AreBelow-later es name next h lt) (ap (λ (s : List ℕ). slice_cmp nat_cmp s next) copied ∙ lt)
+
+-- the first name of a map is before the next
+pub below_rest : (e : Entry) (es : List Entry) → IsStrictlySortedBy string_cmp (keys_of (e ∷ es)) → IsBelowFirst (string_bytes e.0) (fields_of (map entry_of es))
+unfolding IsStrictlySortedBy
+below_rest e [] h = tt
+below_rest e (f ∷ es) h = ap is_lt h.0.0

@@ -20,4 +20,5 @@ pub mod Limited
 pub mod JsonParts
 pub mod JsonObjects
 pub mod JsonMembers
+pub mod Lenient
 pub mod Ends

@@ -1,15 +1,13 @@
 -- The parts of a spelling, and what a loop has still to write.
-use Rattle.std.proofs.Common.{◌≡◌, ℕ, suc, ◌+◌, ◌<◌, ◌≤◌, List, [], ◌∷◌, ◌++◌, length, get_or, drop, map as each, Err, String, Global, string_bytes, refl, sym, ap, subst, ◌∙◌, append_assoc, arith}
+use Rattle.std.proofs.Common.{◌≡◌, ℕ, suc, ◌+◌, ◌<◌, ◌≤◌, List, [], ◌∷◌, ◌++◌, length, get_or, drop, map as each, Err, refl, sym, ap, subst, ◌∙◌, append_assoc, arith}
 use Rattle.std.specs.Int.{w32, to_be_bytes}
-use Rattle.std.proofs.lemmas.List.{append-nil, length-append, drop_more, drop_all}
+use Rattle.std.proofs.lemmas.List.{append-nil, length-append, length-map, drop_more, drop_all}
 use Rattle.request_codec.specs.Tree.{Tree, null, truth, whole, text, list, map, members_count, fields_count, members_of, fields_of}
-use Rattle.request_codec.specs.Written.{text_spelling, spelling, members_spelling, fields_spelling}
-use Rattle.request_codec.specs.Seen.{value_of, entry_of}
-use Rattle.request_codec.specs.declared.datum.Datum.{Datum}
-use Rattle.request_codec.proofs.Puts.{Puts-part}
-use Rattle.request_codec.specs.Written.{Puts}
+use Rattle.request_codec.specs.Written.{Puts, text_spelling, spelling, members_spelling, fields_spelling}
 use Rattle.request_codec.specs.declared.fault.CodecFault.{CodecFault}
 use Rattle.request_codec.specs.declared.fault.CodecFault.TheVariants as faults
+use Rattle.request_codec.proofs.Puts.{Puts-part}
+use Rattle.request_codec.proofs.Loops.{Named}
 
 some_byte : (t : Tree) → 1 ≤ length (spelling t)
 unfolding spelling
@@ -25,98 +23,97 @@ unfolding spelling
 count_le [] = omega arith
 count_le (t ∷ ts) = omega (arith, some_byte t, count_le ts, length-append (spelling t) (members_spelling (members_of ts)))
 
-abbrev Named : Type 0
-Named = List ℕ × Tree
-
 fields_count_le : (fs : List Named) → length fs ≤ length (fields_spelling (fields_of fs))
 unfolding spelling
 fields_count_le [] = omega arith
 fields_count_le (f ∷ fs) = omega (arith, some_byte f.1, fields_count_le fs, length-append (text_spelling f.0) (spelling f.1 ++ fields_spelling (fields_of fs)), length-append (spelling f.1) (fields_spelling (fields_of fs)))
 
-pub members_count-of : (ts : List Tree) → members_count (members_of ts) ≡ length ts
+-- what is still to be written of a list's members and of a map's fields, where f gives the value of each thing
+abbrev pub members_left : {A : Type 0} → (A → Tree) → List A → List ℕ
+members_left f xs = members_spelling (members_of (each f xs))
+
+abbrev pub fields_left : {A : Type 0} → (A → Named) → List A → List ℕ
+fields_left f xs = fields_spelling (fields_of (each f xs))
+
+members_count-of : (ts : List Tree) → members_count (members_of ts) ≡ length ts
 members_count-of [] = refl
 members_count-of (t ∷ ts) = ap suc (members_count-of ts)
 
-pub fields_count-of : (fs : List Named) → fields_count (fields_of fs) ≡ length fs
+fields_count-of : (fs : List Named) → fields_count (fields_of fs) ≡ length fs
 fields_count-of [] = refl
 fields_count-of (f ∷ fs) = ap suc (fields_count-of fs)
 
-pub list_parts : (ts : List Tree) (n : ℕ) → n ≡ length ts → spelling (list (members_of ts)) ≡ (5 ∷ to_be_bytes w32 n) ++ members_spelling (members_of ts)
+pub list_parts : {A : Type 0} (f : A → Tree) (xs : List A) (n : ℕ) → n ≡ length xs → spelling (list (members_of (each f xs))) ≡ (5 ∷ to_be_bytes w32 n) ++ members_left f xs
 unfolding spelling
-list_parts ts n e = ap (λ (k : ℕ). 5 ∷ (to_be_bytes w32 k ++ members_spelling (members_of ts))) (members_count-of ts ∙ sym e)
+list_parts f xs n e = ap (λ (k : ℕ). 5 ∷ (to_be_bytes w32 k ++ members_left f xs)) (members_count-of (each f xs) ∙ length-map xs f ∙ sym e)
 
-pub map_parts : (fs : List Named) (n : ℕ) → n ≡ length fs → spelling (map (fields_of fs)) ≡ (6 ∷ to_be_bytes w32 n) ++ fields_spelling (fields_of fs)
+pub map_parts : {A : Type 0} (f : A → Named) (xs : List A) (n : ℕ) → n ≡ length xs → spelling (map (fields_of (each f xs))) ≡ (6 ∷ to_be_bytes w32 n) ++ fields_left f xs
 unfolding spelling
-map_parts fs n e = ap (λ (k : ℕ). 6 ∷ (to_be_bytes w32 k ++ fields_spelling (fields_of fs))) (fields_count-of fs ∙ sym e)
+map_parts f xs n e = ap (λ (k : ℕ). 6 ∷ (to_be_bytes w32 k ++ fields_left f xs)) (fields_count-of (each f xs) ∙ length-map xs f ∙ sym e)
 
 -- too many members
-pub list_uncounted : (e : CodecFault) (limit : ℕ) (old new : List ℕ) (ts : List Tree) → e ≡ faults.TooLong → limit < length ts → Puts limit old new (Err e) (spelling (list (members_of ts)))
+pub list_uncounted : {A : Type 0} (f : A → Tree) (e : CodecFault) (limit : ℕ) (old new : List ℕ) (xs : List A) → e ≡ faults.TooLong → limit < length xs → Puts limit old new (Err e) (spelling (list (members_of (each f xs))))
 unfolding spelling
-list_uncounted e limit old new ts is lt =
-    let long : limit < length old + length (spelling (list (members_of ts))) = omega (arith, lt, count_le ts, length-append (to_be_bytes w32 (members_count (members_of ts))) (members_spelling (members_of ts))) in
-    subst (λ (f : CodecFault). Puts limit old new (Err f) (spelling (list (members_of ts)))) (sym is) long
+list_uncounted f e limit old new xs is lt =
+    let vs = members_of (each f xs) in
+    let long : limit < length old + length (spelling (list vs)) = omega (arith, lt, length-map xs f, count_le (each f xs), length-append (to_be_bytes w32 (members_count vs)) (members_left f xs)) in
+    subst (λ (k : CodecFault). Puts limit old new (Err k) (spelling (list vs))) (sym is) long
 
-pub map_uncounted : (e : CodecFault) (limit : ℕ) (old new : List ℕ) (fs : List Named) → e ≡ faults.TooLong → limit < length fs → Puts limit old new (Err e) (spelling (map (fields_of fs)))
+pub map_uncounted : {A : Type 0} (f : A → Named) (e : CodecFault) (limit : ℕ) (old new : List ℕ) (xs : List A) → e ≡ faults.TooLong → limit < length xs → Puts limit old new (Err e) (spelling (map (fields_of (each f xs))))
 unfolding spelling
-map_uncounted e limit old new fs is lt =
-    let long : limit < length old + length (spelling (map (fields_of fs))) = omega (arith, lt, fields_count_le fs, length-append (to_be_bytes w32 (fields_count (fields_of fs))) (fields_spelling (fields_of fs))) in
-    subst (λ (f : CodecFault). Puts limit old new (Err f) (spelling (map (fields_of fs)))) (sym is) long
+map_uncounted f e limit old new xs is lt =
+    let fs = fields_of (each f xs) in
+    let long : limit < length old + length (spelling (map fs)) = omega (arith, lt, length-map xs f, fields_count_le (each f xs), length-append (to_be_bytes w32 (fields_count fs)) (fields_left f xs)) in
+    subst (λ (k : CodecFault). Puts limit old new (Err k) (spelling (map fs))) (sym is) long
 
 -- one more item
-pub item_next : (out item rest all new : List ℕ) → out ++ (item ++ rest) ≡ all → new ≡ out ++ item → new ++ rest ≡ all
+item_next : (out item rest all new : List ℕ) → out ++ (item ++ rest) ≡ all → new ≡ out ++ item → new ++ rest ≡ all
 item_next out item rest all new e n = ap (λ (s : List ℕ). s ++ rest) n ∙ append_assoc out item rest ∙ e
 
--- one more item of a list, and the end
-pub items_next : (out new target : List ℕ) (ds : List Datum) (i : ℕ) (d : Datum) → i < length ds → new ≡ out ++ spelling (value_of (get_or ds i d))
-    → out ++ members_spelling (members_of (each value_of (drop i ds))) ≡ target → new ++ members_spelling (members_of (each value_of (drop (i + 1) ds))) ≡ target
+-- one more member of a list, and the end
+members_cut : {A : Type 0} (f : A → Tree) (xs : List A) (i : ℕ) (x : A) → i < length xs → members_left f (drop i xs) ≡ spelling (f (get_or xs i x)) ++ members_left f (drop (i + 1) xs)
 unfolding spelling
-items_next out new target ds i d lt n e =
-    let cut : members_spelling (members_of (each value_of (drop i ds))) ≡ spelling (value_of (get_or ds i d)) ++ members_spelling (members_of (each value_of (drop (i + 1) ds))) = ap (λ (r : List Datum). members_spelling (members_of (each value_of r))) (drop_more ds i d lt) in
-    item_next out (spelling (value_of (get_or ds i d))) (members_spelling (members_of (each value_of (drop (i + 1) ds)))) target new (ap (λ (s : List ℕ). out ++ s) (sym cut) ∙ e) n
+members_cut f xs i x lt = ap (members_left f) (drop_more xs i x lt)
 
-pub items_done : (out target : List ℕ) (ds : List Datum) (i : ℕ) → length ds ≤ i → out ++ members_spelling (members_of (each value_of (drop i ds))) ≡ target → out ≡ target
+pub members_next : {A : Type 0} (f : A → Tree) (out new target : List ℕ) (xs : List A) (i : ℕ) (x : A) → i < length xs → new ≡ out ++ spelling (f (get_or xs i x))
+    → out ++ members_left f (drop i xs) ≡ target → new ++ members_left f (drop (i + 1) xs) ≡ target
+members_next f out new target xs i x lt n e =
+    item_next out (spelling (f (get_or xs i x))) (members_left f (drop (i + 1) xs)) target new (ap (λ (s : List ℕ). out ++ s) (sym (members_cut f xs i x lt)) ∙ e) n
+
+pub members_done : {A : Type 0} (f : A → Tree) (out target : List ℕ) (xs : List A) (i : ℕ) → length xs ≤ i → out ++ members_left f (drop i xs) ≡ target → out ≡ target
 unfolding spelling
-items_done out target ds i le e =
-    let none : members_spelling (members_of (each value_of (drop i ds))) ≡ [] = ap (λ (r : List Datum). members_spelling (members_of (each value_of r))) (drop_all i ds le) in
-    sym (append-nil out) ∙ ap (λ (s : List ℕ). out ++ s) (sym none) ∙ e
+members_done {A} f out target xs i le e = sym (append-nil out) ∙ ap (λ (r : List A). out ++ members_left f r) (sym (drop_all i xs le)) ∙ e
 
-pub items_part : (limit : ℕ) (out new after old all : List ℕ) (ds : List Datum) (i : ℕ) (d : Datum) (e : CodecFault) → i < length ds → out ++ members_spelling (members_of (each value_of (drop i ds))) ≡ old ++ all
-    → Puts limit out new (Err e) (spelling (value_of (get_or ds i d))) → Puts limit old after (Err e) all
+pub members_part : {A : Type 0} (f : A → Tree) (limit : ℕ) (out new after old all : List ℕ) (xs : List A) (i : ℕ) (x : A) (e : CodecFault) → i < length xs
+    → out ++ members_left f (drop i xs) ≡ old ++ all → Puts limit out new (Err e) (spelling (f (get_or xs i x))) → Puts limit old after (Err e) all
+members_part f limit out new after old all xs i x e lt w p =
+    Puts-part limit old new after out (spelling (f (get_or xs i x))) (members_left f (drop (i + 1) xs)) all e (ap (λ (s : List ℕ). out ++ s) (sym (members_cut f xs i x lt)) ∙ w) p
+
+-- one more field of a map, and the end
+fields_cut : {A : Type 0} (f : A → Named) (xs : List A) (x : A) (rest : List A) → xs ≡ x ∷ rest → fields_left f xs ≡ text_spelling (f x).0 ++ (spelling (f x).1 ++ fields_left f rest)
 unfolding spelling
-items_part limit out new after old all ds i d e lt w p =
-    let cut : members_spelling (members_of (each value_of (drop i ds))) ≡ spelling (value_of (get_or ds i d)) ++ members_spelling (members_of (each value_of (drop (i + 1) ds))) = ap (λ (r : List Datum). members_spelling (members_of (each value_of r))) (drop_more ds i d lt) in
-    Puts-part limit old new after out (spelling (value_of (get_or ds i d))) (members_spelling (members_of (each value_of (drop (i + 1) ds)))) all e (ap (λ (s : List ℕ). out ++ s) (sym cut) ∙ w) p
+fields_cut f xs x rest is = ap (fields_left f) is
 
--- one more entry of a map, and the end
-abbrev pub Entry : Type 0
-Entry = String Global × Datum
+-- behind the name
+fields_named : {A : Type 0} (f : A → Named) (out mid target : List ℕ) (xs : List A) (x : A) (rest : List A) → xs ≡ x ∷ rest → mid ≡ out ++ text_spelling (f x).0
+    → out ++ fields_left f xs ≡ target → mid ++ (spelling (f x).1 ++ fields_left f rest) ≡ target
+fields_named f out mid target xs x rest is m w =
+    item_next out (text_spelling (f x).0) (spelling (f x).1 ++ fields_left f rest) target mid (ap (λ (s : List ℕ). out ++ s) (sym (fields_cut f xs x rest is)) ∙ w) m
 
-pub entries_next : (out mid new target : List ℕ) (es : List Entry) (e : Entry) (rest : List Entry) → es ≡ e ∷ rest → mid ≡ out ++ text_spelling (string_bytes e.0) → new ≡ mid ++ spelling (value_of e.1)
-    → out ++ fields_spelling (fields_of (each entry_of es)) ≡ target → new ++ fields_spelling (fields_of (each entry_of rest)) ≡ target
+pub fields_next : {A : Type 0} (f : A → Named) (out mid new target : List ℕ) (xs : List A) (x : A) (rest : List A) → xs ≡ x ∷ rest → mid ≡ out ++ text_spelling (f x).0 → new ≡ mid ++ spelling (f x).1
+    → out ++ fields_left f xs ≡ target → new ++ fields_left f rest ≡ target
+fields_next f out mid new target xs x rest is m n w = item_next mid (spelling (f x).1) (fields_left f rest) target new (fields_named f out mid target xs x rest is m w) n
+
+pub fields_done : {A : Type 0} (f : A → Named) (out target : List ℕ) (xs : List A) → xs ≡ [] → out ++ fields_left f xs ≡ target → out ≡ target
 unfolding spelling
-entries_next out mid new target es e rest is m n w =
-    let after = fields_spelling (fields_of (each entry_of rest)) in
-    let cut : fields_spelling (fields_of (each entry_of es)) ≡ text_spelling (string_bytes e.0) ++ (spelling (value_of e.1) ++ after) = ap (λ (r : List Entry). fields_spelling (fields_of (each entry_of r))) is in
-    item_next mid (spelling (value_of e.1)) after target new (item_next out (text_spelling (string_bytes e.0)) (spelling (value_of e.1) ++ after) target mid (ap (λ (s : List ℕ). out ++ s) (sym cut) ∙ w) m) n
+fields_done {A} f out target xs is w = sym (append-nil out) ∙ ap (λ (r : List A). out ++ fields_left f r) (sym is) ∙ w
 
-pub entries_done : (out target : List ℕ) (es : List Entry) → es ≡ [] → out ++ fields_spelling (fields_of (each entry_of es)) ≡ target → out ≡ target
-unfolding spelling
-entries_done out target es is w =
-    let none : fields_spelling (fields_of (each entry_of es)) ≡ [] = ap (λ (r : List Entry). fields_spelling (fields_of (each entry_of r))) is in
-    sym (append-nil out) ∙ ap (λ (s : List ℕ). out ++ s) (sym none) ∙ w
+pub name_part : {A : Type 0} (f : A → Named) (limit : ℕ) (out new after old all : List ℕ) (xs : List A) (x : A) (rest : List A) (e : CodecFault) → xs ≡ x ∷ rest
+    → out ++ fields_left f xs ≡ old ++ all → Puts limit out new (Err e) (text_spelling (f x).0) → Puts limit old after (Err e) all
+name_part f limit out new after old all xs x rest e is w p =
+    Puts-part limit old new after out (text_spelling (f x).0) (spelling (f x).1 ++ fields_left f rest) all e (ap (λ (s : List ℕ). out ++ s) (sym (fields_cut f xs x rest is)) ∙ w) p
 
-pub name_part : (limit : ℕ) (out new after old all : List ℕ) (es : List Entry) (e : Entry) (rest : List Entry) (f : CodecFault) → es ≡ e ∷ rest → out ++ fields_spelling (fields_of (each entry_of es)) ≡ old ++ all
-    → Puts limit out new (Err f) (text_spelling (string_bytes e.0)) → Puts limit old after (Err f) all
-unfolding spelling
-name_part limit out new after old all es e rest f is w p =
-    let tail = spelling (value_of e.1) ++ fields_spelling (fields_of (each entry_of rest)) in
-    let cut : fields_spelling (fields_of (each entry_of es)) ≡ text_spelling (string_bytes e.0) ++ tail = ap (λ (r : List Entry). fields_spelling (fields_of (each entry_of r))) is in
-    Puts-part limit old new after out (text_spelling (string_bytes e.0)) tail all f (ap (λ (s : List ℕ). out ++ s) (sym cut) ∙ w) p
-
-pub member_part : (limit : ℕ) (out mid new after old all : List ℕ) (es : List Entry) (e : Entry) (rest : List Entry) (f : CodecFault) → es ≡ e ∷ rest → mid ≡ out ++ text_spelling (string_bytes e.0)
-    → out ++ fields_spelling (fields_of (each entry_of es)) ≡ old ++ all → Puts limit mid new (Err f) (spelling (value_of e.1)) → Puts limit old after (Err f) all
-unfolding spelling
-member_part limit out mid new after old all es e rest f is m w p =
-    let tail = fields_spelling (fields_of (each entry_of rest)) in
-    let cut : fields_spelling (fields_of (each entry_of es)) ≡ text_spelling (string_bytes e.0) ++ (spelling (value_of e.1) ++ tail) = ap (λ (r : List Entry). fields_spelling (fields_of (each entry_of r))) is in
-    Puts-part limit old new after mid (spelling (value_of e.1)) tail all f (item_next out (text_spelling (string_bytes e.0)) (spelling (value_of e.1) ++ tail) (old ++ all) mid (ap (λ (s : List ℕ). out ++ s) (sym cut) ∙ w) m) p
+pub value_part : {A : Type 0} (f : A → Named) (limit : ℕ) (out mid new after old all : List ℕ) (xs : List A) (x : A) (rest : List A) (e : CodecFault) → xs ≡ x ∷ rest → mid ≡ out ++ text_spelling (f x).0
+    → out ++ fields_left f xs ≡ old ++ all → Puts limit mid new (Err e) (spelling (f x).1) → Puts limit old after (Err e) all
+value_part f limit out mid new after old all xs x rest e is m w p =
+    Puts-part limit old new after mid (spelling (f x).1) (fields_left f rest) all e (fields_named f out mid (old ++ all) xs x rest is m w) p

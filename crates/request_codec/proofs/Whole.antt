@@ -1,8 +1,9 @@
 -- Whole messages and states: what is read is spelled so, and what is spelled is read.
-use Rattle.std.proofs.Common.{◌≡◌, ℕ, ◌<◌, ◌≤◌, false, ltb, eqb, List, [], ◌∷◌, ◌++◌, length, Option, Some, None, Result, Ok, Err, IfOk, drop, true≢false, refl, sym, ap, subst, ◌∙◌, arith}
+use Rattle.std.proofs.Common.{◌≡◌, ℕ, ◌<◌, ◌≤◌, false, ltb, eqb, List, [], ◌∷◌, ◌++◌, length, Option, Some, None, Result, IfOk, drop, true≢false, refl, sym, ap, subst, ◌∙◌, arith}
 use Rattle.std.specs.Prelude.{IsSome, is_some}
 use Rattle.std.specs.Option.{unwrap_or}
 use Rattle.std.proofs.lemmas.Option.{same_Some, some_pair_parts}
+use Rattle.std.proofs.lemmas.Result.{IfOk-weaker}
 use Rattle.std.proofs.lemmas.Bool.{ltb-false, le-ltb, eqb-true}
 use Rattle.std.proofs.lemmas.List.{append-nil}
 use Rattle.request_codec.specs.Limits.{depth_limit, message_limit, state_limit}
@@ -10,9 +11,6 @@ use Rattle.request_codec.specs.Tree.{Tree, null}
 use Rattle.request_codec.specs.Spelling.{Spells, SpellsMessage, SpellsState}
 use Rattle.request_codec.specs.Reading.{text_at, value_at, if_ended}
 use Rattle.request_codec.specs.Call.{Call, asks, call_behind, behind_version, message_call, state_value, call_of, value_of_state, no_call}
-use Rattle.request_codec.specs.Answers.{Reads}
-use Rattle.request_codec.specs.declared.fault.CodecFault.{CodecFault}
-use Rattle.request_codec.specs.declared.fault.CodecFault.TheVariants as faults
 use Rattle.request_codec.proofs.Steps.{bound, unless, provided, pair_is}
 use Rattle.request_codec.proofs.Numbers.{IsBytes, IsBytes-rest, text_found, text_again}
 use Rattle.request_codec.proofs.Found.{value_found}
@@ -32,6 +30,9 @@ is_there o x e = rw e refl
 
 is_it : {A : Type 0} (o : Option A) (default x : A) → o ≡ Some x → unwrap_or o default ≡ x
 is_it {A} o default x e = ap (λ (p : Option A). unwrap_or p default) e
+
+nothing : {A : Type 0} (o : Option A) (x : A) → o ≡ None → o ≡ Some x → ⊥
+nothing o x none some = absurd cc
 
 denied : {A : Type 0} (o : Option A) (x : A) → false ≡ is_some o → o ≡ Some x → ⊥
 denied o x e there = true≢false (sym (e ∙ ap is_some there))
@@ -126,15 +127,17 @@ state_shown bytes fits h = state_found bytes (value_of_state bytes) fits (state_
 pub message_shown : (bytes : List ℕ) → IsBytes bytes → IsSome (message_call bytes) → SpellsMessage (call_of bytes).method (call_of bytes).argument bytes
 message_shown bytes fits h = message_found bytes (call_of bytes) fits (message_known bytes h)
 
-pub is_message : {X : Type 0} (view : X → Call) (r : Result X CodecFault) (bytes : List ℕ) → IsBytes bytes → Reads view r (message_call bytes) → IfOk r (λ x. SpellsMessage (view x).method (view x).argument bytes)
-is_message view (Ok x) bytes fits h = message_found bytes (view x) fits h
-is_message view (Err e) bytes fits h = tt
+pub is_state : {X E : Type 0} (view : X → Tree) (r : Result X E) (bytes : List ℕ) → IsBytes bytes → IfOk r (λ x. state_value bytes ≡ Some (view x)) → IfOk r (λ x. SpellsState (view x) bytes)
+is_state view r bytes fits = IfOk-weaker r _ _ (λ x. state_found bytes (view x) fits)
 
-pub no_message : {X : Type 0} (view : X → Call) (r : Result X CodecFault) (bytes : List ℕ) → Reads view r (message_call bytes) → r ≡ Err faults.NotAMessage → (method : List ℕ) → (v : Tree) → SpellsMessage method v bytes → ⊥
-no_message view r bytes h e method v is =
-    let none : message_call bytes ≡ None = subst (λ (x : _). Reads view x (message_call bytes)) e h in
-    let some = message_again bytes method v is in
-    absurd cc
+pub is_message : {X E : Type 0} (view : X → Call) (r : Result X E) (bytes : List ℕ) → IsBytes bytes → IfOk r (λ x. message_call bytes ≡ Some (view x)) → IfOk r (λ x. SpellsMessage (view x).method (view x).argument bytes)
+is_message view r bytes fits = IfOk-weaker r _ _ (λ x. message_found bytes (view x) fits)
+
+pub no_state : (bytes : List ℕ) → state_value bytes ≡ None → (v : Tree) → SpellsState v bytes → ⊥
+no_state bytes e v is = nothing (state_value bytes) v e (state_again bytes v is)
+
+pub no_message : (bytes : List ℕ) → message_call bytes ≡ None → (method : List ℕ) → (v : Tree) → SpellsMessage method v bytes → ⊥
+no_message bytes e method v is = nothing (message_call bytes) (asks method v) e (message_again bytes method v is)
 
 -- where a message spells a call, its method stands behind the first byte
 pub method_behind : (bytes : List ℕ) (call : Call) → message_call bytes ≡ Some call → (rest : List ℕ) × (text_at (drop 1 bytes) ≡ Some (call.method, rest))
@@ -154,6 +157,12 @@ no_empty_message [] lt h = absurd cc
 no_empty_message (b ∷ bytes) lt h = omega arith
 
 -- within the limit the length takes nothing away
+pub state_value-short : (bytes : List ℕ) → length bytes ≤ state_limit → state_value bytes ≡ if_ended (value_at depth_limit bytes)
+unfolding state_value
+state_value-short bytes le =
+    let short : ltb state_limit (length bytes) ≡ false = le-ltb _ _ le in
+    rw short refl
+
 pub message_call-short : (bytes : List ℕ) → length bytes ≤ message_limit → message_call bytes ≡ behind_version bytes
 unfolding message_call
 message_call-short bytes le =

@@ -10,7 +10,7 @@ use crate::datum::Datum;
 use std::collections::BTreeMap;
 
 /// Always: each `i64` is a number that a spelling is there for.
-fn is_number(_number: i64) -> bool
+pub fn is_number(_number: i64) -> bool
     ensures always { IsTrue result }
     ensures formed { FitsSigned w64 _number }
 {

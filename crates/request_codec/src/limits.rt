@@ -1,4 +1,4 @@
-//! The limits of messages and states.
+//! The limits of messages and states, and the room that is made for a short one.
 
 /// Bytes of a message.
 pub const MAX_MESSAGE_BYTES: usize = 65_536;
@@ -8,3 +8,9 @@ pub const MAX_STATE_BYTES: usize = 262_144;
 
 /// How deep a value of a message or a state may be: 1, and one more for each list or map round it.
 pub const MAX_DEPTH: u8 = 32;
+
+/// Bytes that are made room for at once where a message is written: a short one fits.
+pub const MESSAGE_ROOM: usize = 32;
+
+/// Bytes that are made room for at once where a state is written: a number fits.
+pub const STATE_ROOM: usize = 16;

@@ -256,6 +256,28 @@ fn converts_thirty_two_levels_and_no_more(rt: HostRuntime) -> Result<(), Fail> {
 }
 
 #[test]
+fn encodes_json(rt: HostRuntime) -> Result<(), Fail> {
+    let alloc = rt.alloc();
+    let value = Value::from_str(alloc, "{\"by\":3}")?;
+    assert_eq!(rt; encode_json(alloc, "add", &value)?.bytes(), ADD.as_slice());
+    let text = "{\"a\":[-3,\"x\",null],\"b\":{\"c\":true,\"d\":false}}";
+    let value = Value::from_str(alloc, text)?;
+    assert!(rt;
+        encode_json(alloc, "add", &value)? == encode(alloc, "add", &from_json(alloc, &value)?)?
+    );
+    let float = Value::from_str(alloc, "{\"by\":[3.0]}")?;
+    assert_eq!(rt;
+        encode_json(alloc, "add", &float).err(),
+        Some(CodecFault::NotWhole)
+    );
+    assert_eq!(rt;
+        encode_json(alloc, "add", &nested_json(alloc, 33)?).err(),
+        Some(CodecFault::TooDeep)
+    );
+    Ok(())
+}
+
+#[test]
 fn too_deep_comes_first(rt: HostRuntime) -> Result<(), Fail> {
     let alloc = rt.alloc();
     let deepest = from_json(alloc, &nested_json(alloc, 32)?)?;

@@ -12,7 +12,7 @@ use crate::datum::Datum;
 use crate::datum_writer::put_datum;
 use crate::depth::is_within;
 use crate::fault::CodecFault;
-use crate::limits::{MAX_DEPTH, MAX_MESSAGE_BYTES, MAX_STATE_BYTES};
+use crate::limits::{MAX_DEPTH, MAX_MESSAGE_BYTES, MAX_STATE_BYTES, MESSAGE_ROOM, STATE_ROOM};
 use crate::message::Message;
 use crate::state::StateBytes;
 use std::alloc::Global;
@@ -21,7 +21,7 @@ use std::alloc::Global;
 fn message_bytes(alloc: Global, method: &str, argument: &Datum) -> Result<Vec<u8>, CodecFault>
     ensures { WritesAll message_limit result (1 ∷ (text_spelling method.now ++ spelling (value_of argument.now))) }
 {
-    let mut out = Vec::new(alloc);
+    let mut out = Vec::with_capacity(alloc, MESSAGE_ROOM)?;
     put(&mut out, MAX_MESSAGE_BYTES, &[1])?;
     put_text(&mut out, MAX_MESSAGE_BYTES, method)?;
     put_datum(&mut out, MAX_MESSAGE_BYTES, argument)?;
@@ -32,7 +32,7 @@ fn message_bytes(alloc: Global, method: &str, argument: &Datum) -> Result<Vec<u8
 fn state_bytes(alloc: Global, value: &Datum) -> Result<Vec<u8>, CodecFault>
     ensures { WritesAll state_limit result (spelling (value_of value.now)) }
 {
-    let mut out = Vec::new(alloc);
+    let mut out = Vec::with_capacity(alloc, STATE_ROOM)?;
     put_datum(&mut out, MAX_STATE_BYTES, value)?;
     Ok(out)
 }

@@ -6,9 +6,9 @@ use mir.Val.{to_z, of_z}
 use mir.Syntax.{w64}
 use Rattle.request_codec.specs.Tree.{null, truth, whole, text, members_of, fields_of}
 use Rattle.request_codec.specs.Reading.{is_above, value_at, members_at, fields_at}
-use Rattle.request_codec.specs.Start.{begun, start_at}
+use Rattle.request_codec.specs.Start.{begun}
 use Rattle.request_codec.proofs.Answered.{Fails-whole}
-use Rattle.request_codec.proofs.Levels.{value_at-zero, value_at-unstarted, value_at-leaf, value_at-list, value_at-map, value_at-no_list, value_at-no_map}
+use Rattle.request_codec.proofs.Levels.{value_at-zero, value_at-unstarted, started, value_at-leaf, value_at-list, value_at-map, value_at-no_list, value_at-no_map}
 use Rattle.request_codec.proofs.Loops.{members-go_on, members-end, members-done, fields-go_on, fields-unnamed, fields-misplaced, fields-end, fields-done}
 use Rattle.request_codec.specs.Seen.{value_of, entry_of}
 use Rattle.request_codec.proofs.Shown.{value_of-Null, value_of-Bool, value_of-Int, value_of-Text, value_of-List, value_of-Map}
@@ -24,63 +24,38 @@ pub datum_at-returns-in_default : goal.datum_at-returns-in_default
 datum_at-returns-in_default t c = value_at-unstarted c.args.limit c.args.bytes.now (sym c.in_default.ensures)
 
 pub datum_at-returns-in-Null : goal.datum_at-returns-in-Null
-datum_at-returns-in-Null t c =
-    let rest = c.in-Some.rest.now in
-    let h : start_at c.args.bytes.now ≡ Some (begun c.in-Some.start, rest) = sym c.in-Some.ensures in
-    value_at-leaf c.args.limit c.args.bytes.now null rest (omega arith) (h ∙ ap (λ s. Some (begun s, rest)) c.in-Null.is)
-    ∙ ap (λ v. Some (v, rest)) (sym value_of-Null)
+datum_at-returns-in-Null t c = value_at-leaf c.args.limit c.args.bytes.now null _ c.in-Some.rest.now (omega arith) (started c.in-Some.ensures (ap begun c.in-Null.is)) value_of-Null
 
 pub datum_at-returns-in-Bool : goal.datum_at-returns-in-Bool
-datum_at-returns-in-Bool t c =
-    let rest = c.in-Some.rest.now in
-    let h : start_at c.args.bytes.now ≡ Some (begun c.in-Some.start, rest) = sym c.in-Some.ensures in
-    value_at-leaf c.args.limit c.args.bytes.now (truth c.in-Bool.b) rest (omega arith) (h ∙ ap (λ s. Some (begun s, rest)) c.in-Bool.is)
-    ∙ ap (λ v. Some (v, rest)) (sym (value_of-Bool c.in-Bool.b))
+datum_at-returns-in-Bool t c = value_at-leaf c.args.limit c.args.bytes.now (truth c.in-Bool.b) _ c.in-Some.rest.now (omega arith) (started c.in-Some.ensures (ap begun c.in-Bool.is)) (value_of-Bool c.in-Bool.b)
 
 pub datum_at-returns-in-Int : goal.datum_at-returns-in-Int
 datum_at-returns-in-Int t c =
-    let rest = c.in-Some.rest.now in
-    let h : start_at c.args.bytes.now ≡ Some (begun c.in-Some.start, rest) = sym c.in-Some.ensures in
     let same : to_z w64 (of_z w64 c.in-Int.n) ≡ c.in-Int.n = grind (arith, to_z-of_z) in
-    rw same (value_at-leaf c.args.limit c.args.bytes.now (whole c.in-Int.n) rest (omega arith) (h ∙ ap (λ s. Some (begun s, rest)) c.in-Int.is)
-    ∙ ap (λ v. Some (v, rest)) (sym (value_of-Int c.in-Int.n)))
+    rw same (value_at-leaf c.args.limit c.args.bytes.now (whole c.in-Int.n) _ c.in-Some.rest.now (omega arith) (started c.in-Some.ensures (ap begun c.in-Int.is)) (value_of-Int c.in-Int.n))
 
 pub datum_at-returns-in_ok-from_str-in-Text : goal.datum_at-returns-in_ok-from_str-in-Text
-datum_at-returns-in_ok-from_str-in-Text t c =
-    let rest = c.in-Some.rest.now in
-    let h : start_at c.args.bytes.now ≡ Some (begun c.in-Some.start, rest) = sym c.in-Some.ensures in
-    value_at-leaf c.args.limit c.args.bytes.now (text c.in-Text.text.now) rest (omega arith) (h ∙ ap (λ s. Some (begun s, rest)) c.in-Text.is)
-    ∙ ap (λ s. Some (text s, rest)) (sym c.in_ok-from_str-in-Text.ensures.ok) ∙ ap (λ v. Some (v, rest)) (sym (value_of-Text c.in_ok-from_str-in-Text.field-0))
+datum_at-returns-in_ok-from_str-in-Text t c = value_at-leaf c.args.limit c.args.bytes.now (text c.in-Text.text.now) _ c.in-Some.rest.now (omega arith) (started c.in-Some.ensures (ap begun c.in-Text.is)) (value_of-Text c.in_ok-from_str-in-Text.field-0 ∙ ap text c.in_ok-from_str-in-Text.ensures.ok)
 
 pub datum_at-returns-in_ok-items-in-List : goal.datum_at-returns-in_ok-items-in-List
 datum_at-returns-in_ok-items-in-List t c =
-    let rest = c.in-Some.rest.now in
     let done = c.in_ok-items-in-List in
-    let h : start_at c.args.bytes.now ≡ Some (begun c.in-Some.start, rest) = sym c.in-Some.ensures in
-    value_at-list c.args.limit c.args.bytes.now c.in-List.count rest (members_of (map value_of done.items.items)) done.rest.now (omega arith) (h ∙ ap (λ s. Some (begun s, rest)) c.in-List.is) done.ensures
-    ∙ ap (λ v. Some (v, done.rest.now)) (sym (value_of-List done.items))
+    value_at-list c.args.limit c.args.bytes.now c.in-List.count c.in-Some.rest.now (members_of (map value_of done.items.items)) _ done.rest.now (omega arith) (started c.in-Some.ensures (ap begun c.in-List.is)) done.ensures (value_of-List done.items)
 
 pub datum_at-returns-in_ok-fields-in-Map : goal.datum_at-returns-in_ok-fields-in-Map
 datum_at-returns-in_ok-fields-in-Map t c =
-    let rest = c.in-Some.rest.now in
     let done = c.in_ok-fields-in-Map in
-    let h : start_at c.args.bytes.now ≡ Some (begun c.in-Some.start, rest) = sym c.in-Some.ensures in
-    value_at-map c.args.limit c.args.bytes.now c.in-Map.count rest (fields_of (map entry_of done.fields.entries)) done.rest.now (omega arith) (h ∙ ap (λ s. Some (begun s, rest)) c.in-Map.is) done.ensures
-    ∙ ap (λ v. Some (v, done.rest.now)) (sym (value_of-Map done.fields))
+    value_at-map c.args.limit c.args.bytes.now c.in-Map.count c.in-Some.rest.now (fields_of (map entry_of done.fields.entries)) _ done.rest.now (omega arith) (started c.in-Some.ensures (ap begun c.in-Map.is)) done.ensures (value_of-Map done.fields)
 
 pub datum_at-returns-in_err-items-in-List : goal.datum_at-returns-in_err-items-in-List
 datum_at-returns-in_err-items-in-List t c =
-    let rest = c.in-Some.rest.now in
-    let h : start_at c.args.bytes.now ≡ Some (begun c.in-Some.start, rest) = sym c.in-Some.ensures in
     let p = err_from_is_err_and c.from_residual-in_err-items-in-List.result c.from_residual-in_err-items-in-List.ensures.1 in
-    rw (p.1, p.2) (Fails-whole c.in_err-items-in-List.field-0.0 (members_at (value_at (c.args.limit - 1)) c.in-List.count rest) (value_at c.args.limit c.args.bytes.now) (value_at-no_list c.args.limit c.args.bytes.now c.in-List.count rest (omega arith) (h ∙ ap (λ s. Some (begun s, rest)) c.in-List.is)) c.in_err-items-in-List.ensures)
+    rw (p.1, p.2) (Fails-whole c.in_err-items-in-List.field-0.0 (members_at (value_at (c.args.limit - 1)) c.in-List.count c.in-Some.rest.now) (value_at c.args.limit c.args.bytes.now) (value_at-no_list c.args.limit c.args.bytes.now c.in-List.count c.in-Some.rest.now (omega arith) (started c.in-Some.ensures (ap begun c.in-List.is))) c.in_err-items-in-List.ensures)
 
 pub datum_at-returns-in_err-fields-in-Map : goal.datum_at-returns-in_err-fields-in-Map
 datum_at-returns-in_err-fields-in-Map t c =
-    let rest = c.in-Some.rest.now in
-    let h : start_at c.args.bytes.now ≡ Some (begun c.in-Some.start, rest) = sym c.in-Some.ensures in
     let p = err_from_is_err_and c.from_residual-in_err-fields-in-Map.result c.from_residual-in_err-fields-in-Map.ensures.1 in
-    rw (p.1, p.2) (Fails-whole c.in_err-fields-in-Map.field-0.0 (fields_at (value_at (c.args.limit - 1)) c.in-Map.count None rest) (value_at c.args.limit c.args.bytes.now) (value_at-no_map c.args.limit c.args.bytes.now c.in-Map.count rest (omega arith) (h ∙ ap (λ s. Some (begun s, rest)) c.in-Map.is)) c.in_err-fields-in-Map.ensures)
+    rw (p.1, p.2) (Fails-whole c.in_err-fields-in-Map.field-0.0 (fields_at (value_at (c.args.limit - 1)) c.in-Map.count None c.in-Some.rest.now) (value_at c.args.limit c.args.bytes.now) (value_at-no_map c.args.limit c.args.bytes.now c.in-Map.count c.in-Some.rest.now (omega arith) (started c.in-Some.ensures (ap begun c.in-Map.is))) c.in_err-fields-in-Map.ensures)
 
 -- ---- the members of a list
 

@@ -13,7 +13,8 @@ use Rattle.request_codec.specs.Formed.{TestsDepth, TestDepths, TestFieldDepths}
 use Rattle.request_codec.specs.Seen.{value_of, entry_of}
 use Rattle.request_codec.specs.declared.datum.Datum.{Datum}
 use Rattle.request_codec.proofs.Shown.{value_of-Int, value_of-Text, value_of-List, value_of-Map}
-use Rattle.request_codec.proofs.Depths.{Entry, passed-next, passed-fails, passed-all, fields_passed-next, fields_passed-fails, fields_passed-all, list_tested, map_tested, leaf_tested}
+use Rattle.request_codec.proofs.Entries.{Entry, below_rest}
+use Rattle.request_codec.proofs.Depths.{passed-next, passed-fails, passed-all, fields_passed-next, fields_passed-fails, fields_passed-all, list_tested, map_tested, leaf_tested}
 use Rattle.request_codec.proofs.depth.+depth.Goals as goal
 
 -- ---- one value
@@ -44,21 +45,21 @@ pub are_within-items-preserved : goal.are_within-items-preserved
 are_within-items-preserved t c =
     let x = c.item-item.result in
     let at : TestsDepth true c.args.limit (value_of (get_or c.args.items.now c.items.item-index x)) = subst (λ (d : Datum). TestsDepth true c.args.limit (value_of d)) c.item-item.is c.if-not-is_within.ensures in
-    passed-next c.args.limit c.args.items.now c.items.item-index x (λ b. TestDepths b c.args.limit (members_of (map value_of c.args.items.now))) c.items-test.true at c.items.invariant
+    passed-next value_of c.args.limit c.args.items.now c.items.item-index x (λ b. TestDepths b c.args.limit (members_of (map value_of c.args.items.now))) c.items-test.true at c.items.invariant
 
 pub are_within-returns-then-not-is_within : goal.are_within-returns-then-not-is_within
 are_within-returns-then-not-is_within t c =
     let x = c.item-item.result in
     let at : TestsDepth false c.args.limit (value_of (get_or c.args.items.now c.items.item-index x)) = subst (λ (d : Datum). TestsDepth false c.args.limit (value_of d)) c.item-item.is c.if-not-is_within.ensures in
-    passed-fails c.args.limit c.args.items.now c.items.item-index x (λ b. TestDepths b c.args.limit (members_of (map value_of c.args.items.now))) c.items-test.true at c.items.invariant
+    passed-fails value_of c.args.limit c.args.items.now c.items.item-index x (λ b. TestDepths b c.args.limit (members_of (map value_of c.args.items.now))) c.items-test.true at c.items.invariant
 
 pub are_within-returns : goal.are_within-returns
-are_within-returns t c = passed-all c.args.limit c.args.items.now c.items.item-index (λ b. TestDepths b c.args.limit (members_of (map value_of c.args.items.now))) (omega arith) c.items.invariant
+are_within-returns t c = passed-all value_of c.args.limit c.args.items.now c.items.item-index (λ b. TestDepths b c.args.limit (members_of (map value_of c.args.items.now))) (omega arith) c.items.invariant
 
 pub fields_within-returns-then-not-is_within : goal.fields_within-returns-then-not-is_within
 fields_within-returns-then-not-is_within t c =
     let e : Entry = (c.in-Some._name.now, c.in-Some.field.now) in
-    fields_passed-fails c.args.limit c.fields._name-iterator e c.next.new.self (λ b. TestFieldDepths b c.args.limit (fields_of (map entry_of c.args.fields.now.entries))) c.in-Some.ensures.steps c.if-not-is_within.ensures c.fields.invariant.so_far
+    fields_passed-fails entry_of c.args.limit c.fields._name-iterator e c.next.new.self (λ b. TestFieldDepths b c.args.limit (fields_of (map entry_of c.args.fields.now.entries))) c.in-Some.ensures.steps c.if-not-is_within.ensures c.fields.invariant.so_far
 
 pub fields_within-fields-preserved : goal.fields_within-fields-preserved
 fields_within-fields-preserved t c =
@@ -67,8 +68,8 @@ fields_within-fields-preserved t c =
     let sorted : IsStrictlySortedBy string_cmp (keys_of (e ∷ c.next.new.self)) = subst (λ (es : List Entry). IsStrictlySortedBy string_cmp (keys_of es)) c.in-Some.ensures.steps l.invariant.ordered in
     record {
       ordered = sorted_tail string_cmp e.0 (keys_of c.next.new.self) sorted;
-      so_far = fields_passed-next c.args.limit l._name-iterator e c.next.new.self (λ b. TestFieldDepths b c.args.limit (fields_of (map entry_of c.args.fields.now.entries))) c.in-Some.ensures.steps l.invariant.ordered c.if-not-is_within.ensures l.invariant.so_far;
+      so_far = fields_passed-next entry_of c.args.limit l._name-iterator e c.next.new.self (λ b. TestFieldDepths b c.args.limit (fields_of (map entry_of c.args.fields.now.entries))) c.in-Some.ensures.steps (IsUtf8-string_bytes e.0) (below_rest e c.next.new.self sorted) c.if-not-is_within.ensures l.invariant.so_far;
     }
 
 pub fields_within-returns : goal.fields_within-returns
-fields_within-returns t c = fields_passed-all c.args.limit c.fields._name-iterator (λ b. TestFieldDepths b c.args.limit (fields_of (map entry_of c.args.fields.now.entries))) c.in-None.ensures.steps.0 c.fields.invariant.so_far
+fields_within-returns t c = fields_passed-all entry_of c.args.limit c.fields._name-iterator (λ b. TestFieldDepths b c.args.limit (fields_of (map entry_of c.args.fields.now.entries))) c.in-None.ensures.steps.0 c.fields.invariant.so_far

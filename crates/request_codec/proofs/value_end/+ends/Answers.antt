@@ -1,9 +1,9 @@
-use Rattle.std.proofs.Common.{◌≡◌, None, Some, option_map, sym, ap, ◌∙◌, arith}
+use Rattle.std.proofs.Common.{None, option_map, sym, ap, ◌∙◌, arith}
 use Rattle.request_codec.specs.Tree.{null, truth, whole, text}
 use Rattle.request_codec.specs.Reading.{value_at, members_at, fields_at}
-use Rattle.request_codec.specs.Start.{begun, start_at}
+use Rattle.request_codec.specs.Start.{begun}
 use Rattle.request_codec.specs.Ends.{end_of}
-use Rattle.request_codec.proofs.Levels.{value_at-zero, value_at-unstarted}
+use Rattle.request_codec.proofs.Levels.{value_at-zero, value_at-unstarted, started}
 use Rattle.request_codec.proofs.Ends.{value_end-leaf, value_end-list, value_end-map, members_end-next, members_end-none, members_end-done, fields_end-next, fields_end-unnamed, fields_end-misplaced, fields_end-none, fields_end-done}
 use Rattle.request_codec.proofs.value_end.+ends.Goals as goal
 
@@ -16,40 +16,22 @@ pub value_end-returns-in_default : goal.value_end-returns-in_default
 value_end-returns-in_default t c = sym (ap end_of (value_at-unstarted c.args.limit c.args.bytes.now (sym c.in_default.ensures)))
 
 pub value_end-returns-in-Null : goal.value_end-returns-in-Null
-value_end-returns-in-Null t c =
-    let rest = c.in-Some.rest.now in
-    let h : start_at c.args.bytes.now ≡ Some (begun c.in-Some.start, rest) = sym c.in-Some.ensures in
-    value_end-leaf c.args.limit c.args.bytes.now null rest c.if-limit-eq0.false (h ∙ ap (λ s. Some (begun s, rest)) c.in-Null.is)
+value_end-returns-in-Null t c = value_end-leaf c.args.limit c.args.bytes.now null c.in-Some.rest.now c.if-limit-eq0.false (started c.in-Some.ensures (ap begun c.in-Null.is))
 
 pub value_end-returns-in-Bool : goal.value_end-returns-in-Bool
-value_end-returns-in-Bool t c =
-    let rest = c.in-Some.rest.now in
-    let h : start_at c.args.bytes.now ≡ Some (begun c.in-Some.start, rest) = sym c.in-Some.ensures in
-    value_end-leaf c.args.limit c.args.bytes.now (truth c.in-Bool.field-0) rest c.if-limit-eq0.false (h ∙ ap (λ s. Some (begun s, rest)) c.in-Bool.is)
+value_end-returns-in-Bool t c = value_end-leaf c.args.limit c.args.bytes.now (truth c.in-Bool.field-0) c.in-Some.rest.now c.if-limit-eq0.false (started c.in-Some.ensures (ap begun c.in-Bool.is))
 
 pub value_end-returns-in-Int : goal.value_end-returns-in-Int
-value_end-returns-in-Int t c =
-    let rest = c.in-Some.rest.now in
-    let h : start_at c.args.bytes.now ≡ Some (begun c.in-Some.start, rest) = sym c.in-Some.ensures in
-    value_end-leaf c.args.limit c.args.bytes.now (whole c.in-Int.field-0) rest c.if-limit-eq0.false (h ∙ ap (λ s. Some (begun s, rest)) c.in-Int.is)
+value_end-returns-in-Int t c = value_end-leaf c.args.limit c.args.bytes.now (whole c.in-Int.field-0) c.in-Some.rest.now c.if-limit-eq0.false (started c.in-Some.ensures (ap begun c.in-Int.is))
 
 pub value_end-returns-in-Text : goal.value_end-returns-in-Text
-value_end-returns-in-Text t c =
-    let rest = c.in-Some.rest.now in
-    let h : start_at c.args.bytes.now ≡ Some (begun c.in-Some.start, rest) = sym c.in-Some.ensures in
-    value_end-leaf c.args.limit c.args.bytes.now (text c.in-Text.field-0.now) rest c.if-limit-eq0.false (h ∙ ap (λ s. Some (begun s, rest)) c.in-Text.is)
+value_end-returns-in-Text t c = value_end-leaf c.args.limit c.args.bytes.now (text c.in-Text.field-0.now) c.in-Some.rest.now c.if-limit-eq0.false (started c.in-Some.ensures (ap begun c.in-Text.is))
 
 pub value_end-returns-in-List : goal.value_end-returns-in-List
-value_end-returns-in-List t c =
-    let rest = c.in-Some.rest.now in
-    let h : start_at c.args.bytes.now ≡ Some (begun c.in-Some.start, rest) = sym c.in-Some.ensures in
-    c.members_end.ensures ∙ value_end-list c.args.limit c.args.bytes.now c.in-List.count rest c.if-limit-eq0.false (h ∙ ap (λ s. Some (begun s, rest)) c.in-List.is)
+value_end-returns-in-List t c = c.members_end.ensures ∙ value_end-list c.args.limit c.args.bytes.now c.in-List.count c.in-Some.rest.now c.if-limit-eq0.false (started c.in-Some.ensures (ap begun c.in-List.is))
 
 pub value_end-returns-in-Map : goal.value_end-returns-in-Map
-value_end-returns-in-Map t c =
-    let rest = c.in-Some.rest.now in
-    let h : start_at c.args.bytes.now ≡ Some (begun c.in-Some.start, rest) = sym c.in-Some.ensures in
-    c.fields_end.ensures ∙ value_end-map c.args.limit c.args.bytes.now c.in-Map.count rest c.if-limit-eq0.false (h ∙ ap (λ s. Some (begun s, rest)) c.in-Map.is)
+value_end-returns-in-Map t c = c.fields_end.ensures ∙ value_end-map c.args.limit c.args.bytes.now c.in-Map.count c.in-Some.rest.now c.if-limit-eq0.false (started c.in-Some.ensures (ap begun c.in-Map.is))
 
 -- ---- members
 
