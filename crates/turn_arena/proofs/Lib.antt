@@ -1,0 +1,4 @@
+pub mod Answered
+pub mod Ascends
+pub mod Levels
+pub mod Placed

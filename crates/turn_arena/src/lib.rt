@@ -1,0 +1,31 @@
+//! Values as trees of borrowed nodes, whose parts lie in the arena of one turn.
+//!
+//! A layer above may rely on this: a `Node` shows the value that `specs/Shape.antt` gives of it; reading
+//! answers a tree exactly where something spells the bytes, and the names of each of its maps ascend
+//! strictly; the tree operations copy nodes and no tree; writing gives the spelling of the shape.
+//! What spells a value is in `request_codec`.
+#![tactic(auto)]
+
+mod depth;
+mod fault;
+mod fields;
+mod node;
+mod node_reader;
+mod node_writer;
+mod reading;
+mod trees;
+mod writing;
+
+pub use fault::ArenaFault;
+pub use fields::{drop_in, put_in};
+pub use node::{Field, Node};
+pub use reading::{decode_in, node_in};
+pub use trees::{list_in, map_in, text_in};
+pub use writing::{encode_call, encode_node};
+
+#[cfg(test)]
+mod tests;
+#[cfg(test)]
+mod trees_tests;
+#[cfg(test)]
+mod writing_tests;

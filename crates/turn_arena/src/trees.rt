@@ -1,0 +1,35 @@
+//! Texts, lists and maps made in an arena. An `Err` says that memory was refused.
+
+ghost use Rattle.std.specs.Prelude.{◌≡◌, IfOk};
+ghost use Rattle.request_codec.specs.Tree as tree;
+ghost use Rattle.turn_arena.specs.Ascending.{NamesAscend};
+ghost use Rattle.turn_arena.specs.Made.{IsListOf, IsMapOf};
+ghost use Rattle.turn_arena.specs.Shape.{shape, shapes, field_shapes};
+
+use crate::node::{Field, Node};
+use bumpalo::Bump;
+use std::alloc::AllocError;
+
+/// A text, which is copied into the arena.
+pub fn text_in<'a>(bump: &'a Bump, content: &str) -> Result<Node<'a>, AllocError>
+    ensures { IfOk result (λ n. shape n ≡ tree.text content.now) }
+{
+    Ok(Node::Text(bump.try_alloc_str(content)?))
+}
+
+/// A list of the nodes. What they hold is shared.
+pub fn list_in<'a>(bump: &'a Bump, items: &[Node<'a>]) -> Result<Node<'a>, AllocError>
+    ensures value { IfOk result (λ n. shape n ≡ tree.list (shapes items.now)) }
+    ensures exact { IfOk result (IsListOf items.now) }
+{
+    Ok(Node::List(bump.try_alloc_slice_copy(items)?))
+}
+
+/// A map of the fields. What they hold is shared.
+pub fn map_in<'a>(bump: &'a Bump, members: &[Field<'a>]) -> Result<Node<'a>, AllocError>
+    requires { NamesAscend members.now }
+    ensures value { IfOk result (λ n. shape n ≡ tree.map (field_shapes members.now)) }
+    ensures exact { IfOk result (IsMapOf members.now) }
+{
+    Ok(Node::Map(bump.try_alloc_slice_copy(members)?))
+}

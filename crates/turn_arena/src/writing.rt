@@ -1,0 +1,62 @@
+//! Writing a tree as a message or a state.
+
+ghost use Rattle.std.specs.Prelude.{◌∷◌, ◌++◌};
+ghost use Rattle.request_codec.specs.Answers.{Writes, spelled_length, message_length};
+ghost use Rattle.request_codec.specs.Call.{asks};
+ghost use Rattle.request_codec.specs.Limits.{message_limit, state_limit};
+ghost use Rattle.request_codec.specs.Written.{WritesAll, text_spelling, spelling};
+ghost use Rattle.turn_arena.specs.Ascending.{MapsAscend};
+ghost use Rattle.turn_arena.specs.Shape.{shape};
+
+use crate::depth::is_within;
+use crate::node::Node;
+use crate::node_writer::put_node;
+use request_codec::bytes::{put, put_text};
+use request_codec::limits::{
+    MAX_DEPTH, MAX_MESSAGE_BYTES, MAX_STATE_BYTES, MESSAGE_ROOM, STATE_ROOM,
+};
+use request_codec::{CodecFault, Message, StateBytes};
+use std::alloc::Global;
+
+/// The bytes of a message of the method and its argument.
+fn message_bytes(alloc: Global, method: &str, argument: Node<'_>) -> Result<Vec<u8>, CodecFault>
+    ensures { WritesAll message_limit result (1 ∷ (text_spelling method.now ++ spelling (shape argument.entry))) }
+{
+    let mut out = Vec::with_capacity(alloc, MESSAGE_ROOM)?;
+    put(&mut out, MAX_MESSAGE_BYTES, &[1])?;
+    put_text(&mut out, MAX_MESSAGE_BYTES, method)?;
+    put_node(&mut out, MAX_MESSAGE_BYTES, argument)?;
+    Ok(out)
+}
+
+/// The bytes of a state of the value.
+fn state_bytes(alloc: Global, value: Node<'_>) -> Result<Vec<u8>, CodecFault>
+    ensures { WritesAll state_limit result (spelling (shape value.entry)) }
+{
+    let mut out = Vec::with_capacity(alloc, STATE_ROOM)?;
+    put_node(&mut out, MAX_STATE_BYTES, value)?;
+    Ok(out)
+}
+
+/// The message of a method and its argument. `TooDeep` comes before `TooLong`.
+pub fn encode_call(alloc: Global, method: &str, argument: Node<'_>) -> Result<Message, CodecFault>
+    requires { MapsAscend (shape argument) }
+    ensures { Writes result (asks method.now (shape argument.entry)) (shape argument.entry)
+        (message_length method.now (shape argument.entry)) message_limit }
+{
+    if !is_within(argument, MAX_DEPTH) {
+        return Err(CodecFault::TooDeep);
+    }
+    Ok(Message::from_spelling(message_bytes(alloc, method, argument)?))
+}
+
+/// The state of a value. `TooDeep` comes before `TooLong`.
+pub fn encode_node(alloc: Global, node: Node<'_>) -> Result<StateBytes, CodecFault>
+    requires { MapsAscend (shape node) }
+    ensures { Writes result (shape node.entry) (shape node.entry) (spelled_length (shape node.entry)) state_limit }
+{
+    if !is_within(node, MAX_DEPTH) {
+        return Err(CodecFault::TooDeep);
+    }
+    Ok(StateBytes::from_spelling(state_bytes(alloc, node)?))
+}
