@@ -14,7 +14,7 @@ use Rattle.silo_model.specs.Whole.{Whole, shown_to, spread, whole_step}
 use Rattle.silo_model.specs.Run.{whole_run}
 use Rattle.silo_model.specs.Opening.{Setup, opening}
 use Rattle.silo_model.specs.Journal.{all_done, LeadsTo}
-use Rattle.silo_model.specs.Laws.{OwnPart, OtherParts, NotNow, RunsOn, JournalsReplay, JournalsGrow}
+use Rattle.silo_model.specs.Laws.{OwnPart, OtherParts, NotNow, RunsOn, JournalsReplay, JournalsGrow, OneTurnAtATime}
 use Rattle.silo_model.proofs.Sound.{IsEntryOf, IsSound}
 use Rattle.silo_model.proofs.Proper.{AllTo}
 use Rattle.silo_model.proofs.Isolation as isolation
@@ -72,13 +72,16 @@ not_now logic w s owner is step = isolation.not_now logic w s owner is step
 pub runs_on : RunsOn
 runs_on logic setup journal w tenant steps leads = run_shown logic tenant steps w (journal_sound logic setup journal w leads)
 
--- each entry's requests were sent from its own tenant, and a turn is open at its request's number
+-- each entry's requests were sent from its own tenant, and a turn is open at its request's number and alone
 pub entry_of_own : (logic : Logic) (setup : Setup) (journal : List Step) (w : Whole) (g : Grain) (e : Entry) → LeadsTo logic setup journal w → map.get w.entries g ≡ Some e → IsEntryOf g.tenant e
 entry_of_own logic setup journal w g e leads found = journal_sound logic setup journal w leads g e found
 
 pub turn_number : (logic : Logic) (setup : Setup) (journal : List Step) (w : Whole) (g : Grain) (e : Entry) (turn : ℕ) (request : Request)
     → LeadsTo logic setup journal w → map.get w.entries g ≡ Some e → map.get e.turns turn ≡ Some request → request.number ≡ turn
 turn_number logic setup journal w g e turn request leads found open_turn = ((entry_of_own logic setup journal w g e leads found).turns turn request open_turn).1
+
+pub one_turn_at_a_time : OneTurnAtATime
+one_turn_at_a_time logic setup journal w g e n m r q leads found open_turn other = (entry_of_own logic setup journal w g e leads found).alone n m r q open_turn other
 
 -- ---- what a step replies
 

@@ -4,6 +4,7 @@ pub mod EntrySteps
 pub mod EndSteps
 pub mod CallSteps
 pub mod Counters
+pub mod OneTurn
 pub mod Sound
 pub mod Proper
 pub mod Isolation

@@ -22,6 +22,7 @@ use Rattle.silo_model.specs.Turns.{activated, loaded, begun, opened, ended, clos
 use Rattle.silo_model.specs.Step.{effect_of}
 use Rattle.grain_id.proofs.Order.{same_text_decides}
 use Rattle.silo_model.proofs.Changes.{WhereChanged, OfPut}
+use Rattle.silo_model.proofs.OneTurn.{insert-IsOneTurn, remove-IsOneTurn}
 use Rattle.silo_model.proofs.Sound.{AllFrom, IsEntryOf, with_request-IsEntryOf, insert-AreOpenFrom, remove-AreOpenFrom}
 
 -- each of the replies is to the tenant
@@ -76,24 +77,24 @@ called_proper logic s tenant sender g call is from sees = settled_proper s tenan
 -- ---- entries and turns
 
 activated_proper : (tenant : List ℕ) (g : Grain) (e : Entry) (p : Phase) → g.tenant ≡ tenant → IsEntryOf tenant e → Proper tenant g (activated e p)
-activated_proper tenant g e waiting own entry = on_entry_proper tenant g _ own (record { queue = entry.queue; turns = entry.turns })
+activated_proper tenant g e waiting own entry = on_entry_proper tenant g _ own (record { queue = entry.queue; turns = entry.turns; alone = entry.alone })
 activated_proper tenant g e loading own entry = tt
 activated_proper tenant g e (ready state version) own entry = tt
 
 loaded_proper : (logic : Logic) (s : Sight) (tenant : List ℕ) (g : Grain) (e : Entry) (p : Phase) → g.tenant ≡ tenant → IsEntryOf tenant e → Proper tenant g (loaded logic s g e p)
 loaded_proper logic s tenant g e waiting own entry = tt
-loaded_proper logic s tenant g e loading own entry = on_entry_proper tenant g _ own (record { queue = entry.queue; turns = entry.turns })
+loaded_proper logic s tenant g e loading own entry = on_entry_proper tenant g _ own (record { queue = entry.queue; turns = entry.turns; alone = entry.alone })
 loaded_proper logic s tenant g e (ready state version) own entry = tt
 
-where_test : (tenant : List ℕ) (g : Grain) (b : Bool) (e : Option Effect) → Proper tenant g e → Proper tenant g (if b then e else None)
-where_test tenant g true e h = h
+where_test : (tenant : List ℕ) (g : Grain) (b : Bool) (e : Option Effect) → (b ≡ true → Proper tenant g e) → Proper tenant g (if b then e else None)
+where_test tenant g true e h = h refl
 where_test tenant g false e h = tt
 
 opened_proper : (tenant : List ℕ) (g : Grain) (e : Entry) (queue : List Request) → g.tenant ≡ tenant → IsEntryOf tenant e → AllFrom tenant queue → Proper tenant g (opened e queue)
 opened_proper tenant g e [] own entry from = tt
 opened_proper tenant g e (first ∷ others) own entry from =
     where_test tenant g (map.len e.turns == 0) (Some (on_entry (record e { queue = others; turns = map.insert e.turns first.number first })))
-    (on_entry_proper tenant g _ own (record { queue = from.1; turns = insert-AreOpenFrom tenant e.turns first entry.turns from.0 }))
+    (λ none. on_entry_proper tenant g _ own (record { queue = from.1; turns = insert-AreOpenFrom tenant e.turns first entry.turns from.0; alone = insert-IsOneTurn e.turns first none }))
 
 begun_proper : (tenant : List ℕ) (g : Grain) (e : Entry) (p : Phase) → g.tenant ≡ tenant → IsEntryOf tenant e → Proper tenant g (begun e p)
 begun_proper tenant g e waiting own entry = tt
@@ -102,7 +103,7 @@ begun_proper tenant g e (ready state version) own entry = opened_proper tenant g
 
 module _ (s : Sight) (tenant : List ℕ) (g : Grain) (e : Entry) (request : Request) (own : g.tenant ≡ tenant) (entry : IsEntryOf tenant e) (from : tenant_of request.sender ≡ tenant) where
   closed_proper : (version : Option ℕ) (plan : Plan) (storage : StorageCall) → Proper tenant g (closed_by s g e request version plan storage)
-  closed_proper version plan asks_nothing = record { entry = own; row = tt; left = record { queue = entry.queue; turns = remove-AreOpenFrom tenant e.turns request.number entry.turns }; replies = answered_to tenant request.sender plan.outcome from }
+  closed_proper version plan asks_nothing = record { entry = own; row = tt; left = record { queue = entry.queue; turns = remove-AreOpenFrom tenant e.turns request.number entry.turns; alone = remove-IsOneTurn e.turns request.number entry.alone }; replies = answered_to tenant request.sender plan.outcome from }
   closed_proper version plan reads_row = tt
   closed_proper version plan writes_row = tt
   closed_proper version plan clears_row = tt

@@ -1,8 +1,11 @@
 -- What holds of the definitions: the statements of the laws (src/laws.rt has a function for each).
 use Rattle.std.specs.Prelude.{◌≡◌, ◌≢◌, ℕ, List, [], ◌∷◌, ◌++◌, Some, None}
+use Rattle.std.specs.FinMap as map
+use Rattle.grain_id.specs.Names.{Grain}
 use Rattle.silo_event.specs.Owner.{owner_of}
 use Rattle.silo_event.specs.declared.step.Step.{Step}
 use Rattle.silo_model.specs.Logic.{Logic}
+use Rattle.silo_model.specs.Machine.{Entry, Request}
 use Rattle.silo_model.specs.Step.{machine_step}
 use Rattle.silo_model.specs.Whole.{Whole, shown_to, whole_step}
 use Rattle.silo_model.specs.Run.{machine_run, whole_run, restricted_to}
@@ -50,3 +53,8 @@ JournalsReplay = (logic : Logic) (setup : Setup) (journal : List Step) (w : Whol
 abbrev pub JournalsGrow : Type 0
 JournalsGrow = (logic : Logic) (setup : Setup) (journal : List Step) (w after : Whole) (s : Step)
     → LeadsTo logic setup journal w → whole_step logic w s ≡ Some after → LeadsTo logic setup (journal ++ s ∷ []) after
+
+-- Where a turn of a grain is open, no other turn of it is.
+abbrev pub OneTurnAtATime : Type 0
+OneTurnAtATime = (logic : Logic) (setup : Setup) (journal : List Step) (w : Whole) (g : Grain) (e : Entry) (n m : ℕ) (r q : Request)
+    → LeadsTo logic setup journal w → map.get w.entries g ≡ Some e → map.get e.turns n ≡ Some r → map.get e.turns m ≡ Some q → n ≡ m

@@ -2,7 +2,7 @@
 //! nothing, so that it is proved with the crate.
 
 ghost use Rattle.silo_model.specs.FirstCall.{FirstCallAnswered};
-ghost use Rattle.silo_model.specs.Laws.{ReplayIsRun, AgreeingLists, OwnPart, OtherParts, NotNow, RunsOn, JournalsReplay, JournalsGrow};
+ghost use Rattle.silo_model.specs.Laws.{ReplayIsRun, AgreeingLists, OwnPart, OtherParts, NotNow, RunsOn, JournalsReplay, JournalsGrow, OneTurnAtATime};
 
 /// What a run of the whole shows to each tenant is the run of the tenant's own machine, with the
 /// other tenants' steps struck out.
@@ -44,6 +44,11 @@ pub fn journals_replay()
 /// A journal grows by a step that is done.
 pub fn journals_grow()
     ensures { JournalsGrow }
+{}
+
+/// Where a turn of a grain is open, no other turn of it is.
+pub fn one_turn_at_a_time()
+    ensures { OneTurnAtATime }
 {}
 
 /// A counter's first call is answered by the number that was added: so the other laws are said of
