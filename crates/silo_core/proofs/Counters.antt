@@ -1,18 +1,12 @@
 -- What a counter's plan is, by its method and its argument.
-use Rattle.std.proofs.Common.{◌≡◌, ◌≢◌, ℕ, ℤ, Bool, true, false, cond, List, [], ◌∷◌, length, map, String, Global, string_bytes, Option, Some, None, refl, ap, sym, ◌∙◌, subst, arith}
-use Rattle.std.specs.Prelude.{codes, option_map, option_and_then, if◌then◌else◌}
-use Rattle.std.specs.Ordering.{is_eq, eq_by_cmp}
-use Rattle.std.specs.Map.{lookup}
-use Rattle.std.proofs.lemmas.Bool.Decides.{same_from_decides}
-use Rattle.grain_id.specs.Names.{text_cmp, same_text}
-use Rattle.grain_id.proofs.Order.{eq_by_cmp-Decides, text_cmp_total, text_cmp_exact, same_text_decides}
+use Rattle.std.proofs.Common.{◌≡◌, ℕ, ◌≤◌, ◌<◌, Bool, true, false, not, List, [], ◌∷◌, length, get_or, Some, None, refl, ap, sym, arith}
+use Rattle.std.specs.Prelude.{codes, option_and_then, if◌then◌else◌}
+use Rattle.grain_id.specs.Names.{same_text}
 use Rattle.request_codec.specs.Tree as tree
-use Rattle.request_codec.specs.Tree.{Tree, fields_of}
+use Rattle.request_codec.specs.Tree.{Tree}
 use Rattle.request_codec.specs.Call.{Call, asks}
-use Rattle.request_codec.specs.Seen.{value_of, entry_of}
-use Rattle.request_codec.specs.declared.datum.Datum.{Datum}
-use Rattle.silo_event.specs.declared.fault.Fault.{Fault}
-use Rattle.silo_model.specs.Logic.{Plan}
+use Rattle.turn_arena.specs.Shape.{shape, field_shapes}
+use Rattle.turn_arena.specs.declared.node.Field.{Field}
 use Rattle.silo_model.specs.Counter.{whole_value, only_field, add_plan, get_plan, keeps, counter_plan}
 use Rattle.silo_event.specs.declared.fault.Fault.TheVariants.{UnknownMethod}
 use Rattle.std.specs.Prelude.{Err}
@@ -41,20 +35,18 @@ plan-call method state argument call is = ap (λ (c : Call). counter_plan c.meth
 
 -- ---- the only field
 
-one_test : (s t : List ℕ) → is_eq (text_cmp s t) ≡ same_text t s
-one_test s t = same_from_decides (eq_by_cmp text_cmp s t) (same_text t s) (eq_by_cmp-Decides text_cmp_total text_cmp_exact s t) ((λ h. sym ((same_text_decides t s).0 h)), (λ e. (same_text_decides t s).1 (sym e)))
+swapped : {A : Type 0} (x y : A) (t b : Bool) → b ≡ not t → (if t then x else y) ≡ (if b then y else x)
+swapped x y true b h = ap (λ o. if o then y else x) (sym h)
+swapped x y false b h = ap (λ o. if o then y else x) (sym h)
 
-pub only_field-one : (name : List ℕ) (es : List (String Global × Datum)) → length es ≡ 1
-    → only_field name (tree.map (fields_of (map entry_of es))) ≡ option_map value_of (lookup (λ k. is_eq (text_cmp name (string_bytes k))) es)
-only_field-one name [] h = absurd (omega arith)
-only_field-one name (e ∷ []) h = by (same_text (string_bytes e.0) name) ∙ ap (λ b. option_map value_of (cond b (Some e.1) None)) (sym (one_test name (string_bytes e.0)))
-  where
-    by : (b : Bool) → (if b then Some (value_of e.1) else None) ≡ option_map value_of (cond b (Some e.1) None)
-    by true = refl
-    by false = refl
-only_field-one name (e ∷ f ∷ es) h = absurd (omega arith)
+-- the first of one field, by whether it has another name
+pub only_field-one : (name : List ℕ) (fs : List Field) (other : Field) (b : Bool) → 1 ≤ length fs → length fs < 2 → b ≡ not (same_text (get_or fs 0 other).name.now name)
+    → only_field name (tree.map (field_shapes fs)) ≡ (if b then None else Some (shape (get_or fs 0 other).node))
+only_field-one name [] other b least most h = absurd (omega arith)
+only_field-one name (f ∷ []) other b least most h = swapped (Some (shape f.node)) None (same_text f.name.now name) b h
+only_field-one name (f ∷ g ∷ fs) other b least most h = absurd (omega arith)
 
-pub only_field-many : (name : List ℕ) (es : List (String Global × Datum)) → length es ≢ 1 → only_field name (tree.map (fields_of (map entry_of es))) ≡ None
-only_field-many name [] h = refl
-only_field-many name (e ∷ []) h = absurd (h refl)
-only_field-many name (e ∷ f ∷ es) h = refl
+pub only_field-many : (name : List ℕ) (fs : List Field) → 2 ≤ length fs → only_field name (tree.map (field_shapes fs)) ≡ None
+only_field-many name [] least = refl
+only_field-many name (f ∷ []) least = absurd (omega arith)
+only_field-many name (f ∷ g ∷ fs) least = refl

@@ -1,9 +1,8 @@
 -- What a silo's steps and runs show of each tenant, by its journal.
-use Rattle.std.proofs.Common.{◌≡◌, ◌≢◌, ℕ, zero, suc, Bool, true, List, [], ◌∷◌, ◌++◌, length, take, drop, Option, Some, None, unwrap_or, Ok, refl, ap, sym, ◌∙◌, subst}
+use Rattle.std.proofs.Common.{◌≡◌, ℕ, zero, suc, true, List, [], ◌∷◌, ◌++◌, take, drop, Option, Some, None, unwrap_or, Ok, refl, ap, sym, ◌∙◌}
 use Rattle.std.specs.Prelude.{Result, Err, option_map}
 use Rattle.std.specs.FinMap as map
 use Rattle.std.proofs.lemmas.List.{append-nil, append_assoc}
-use Rattle.grain_id.specs.Names.{same_text}
 use Rattle.grain_id.proofs.Order.{same_text_decides}
 use Rattle.tenant_gate.specs.declared.limits.Limits.{Limits}
 use Rattle.silo_event.specs.Owner.{owner_of}
@@ -12,16 +11,16 @@ use Rattle.silo_event.specs.declared.step.Answer.{Answer}
 use Rattle.silo_event.specs.declared.step.Answer.TheVariants.{Done, NotNow}
 use Rattle.silo_event.specs.declared.step.StepFault.{StepFault}
 use Rattle.silo_event.specs.declared.step.StepFault.TheVariants.{Memory}
-use Rattle.silo_model.specs.Machine.{Machine, Account}
+use Rattle.silo_model.specs.Machine.{Account}
 use Rattle.silo_model.specs.Step.{machine_step, step_by}
 use Rattle.silo_model.specs.Whole.{Whole, shown_to, whole_step, whole_step_by}
-use Rattle.silo_model.specs.Run.{whole_run, concerns, concerns_by}
-use Rattle.silo_model.specs.Opening.{Setup, fresh_account, opening, start_of}
+use Rattle.silo_model.specs.Run.{whole_run, concerns_by}
+use Rattle.silo_model.specs.Opening.{Setup, fresh_account, opening}
 use Rattle.silo_model.specs.Journal.{LeadsTo}
 use Rattle.silo_model.specs.Counter.{counters}
-use Rattle.silo_model.proofs.Journals.{own_part, other_parts, not_now, journals_begin, journals_grow, adds_replies}
-use Rattle.silo_model.proofs.Opening.{opening_shown, fresh_accounts-empty, fresh_accounts-insert}
-use Rattle.silo_core.specs.History.{History, Advances, Answered, StepsInParts, AnsweredInParts}
+use Rattle.silo_model.proofs.Journals.{own_part, other_parts, not_now, journals_grow, adds_replies}
+use Rattle.silo_model.proofs.Opening.{fresh_accounts-empty, fresh_accounts-insert}
+use Rattle.silo_core.specs.History.{History, Answered, AnsweredInParts}
 use Rattle.silo_core.specs.Runs.{answer_of, machine_answers, whole_answers, noted, done_steps, AllConcern, Takes}
 
 -- ---- the opening

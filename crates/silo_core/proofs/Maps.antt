@@ -1,5 +1,5 @@
 -- An ordered map of the code, seen as a finite map.
-use Rattle.std.proofs.Common.{◌≡◌, Bool, true, false, cond, List, [], ◌∷◌, Option, Some, None, is_some, refl, ap, sym, ◌∙◌}
+use Rattle.std.proofs.Common.{◌≡◌, true, cond, List, [], ◌∷◌, Option, Some, None, is_some, refl, ap, sym, ◌∙◌}
 use Rattle.std.specs.Option.{ghost_name_of, option_copied_mut}
 use mathlib.Core.Logic.{inr}
 use borrow.Follows.Closed.{read_of}

@@ -13,7 +13,7 @@ use Rattle.silo_event.specs.declared.step.Answer.{Answer}
 use Rattle.silo_event.specs.declared.step.Answer.TheVariants.{Done, NotNow}
 use Rattle.silo_event.specs.declared.step.StepFault.{StepFault}
 use Rattle.silo_event.specs.declared.step.StepFault.TheVariants.{Memory}
-use Rattle.silo_model.specs.Machine.{Entry, Entries}
+use Rattle.silo_model.specs.Machine.{Entry}
 use Rattle.silo_model.specs.Effect.{Effect, on_entry}
 use Rattle.silo_model.specs.Calls.{answered}
 use Rattle.silo_model.specs.Turns.{activated, loaded, begun, ended}

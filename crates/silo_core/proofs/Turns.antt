@@ -11,8 +11,8 @@ use Rattle.grain_id.proofs.Maps.{get-insert_same, get-insert_other, remove-inser
 use Rattle.request_codec.specs.Tree.{Tree}
 use Rattle.silo_event.specs.declared.reply.Reply.{Reply}
 use Rattle.silo_model.specs.Logic.{Plan}
-use Rattle.silo_model.specs.Machine.{Entry, Request, Phase, waiting, loading, ready}
-use Rattle.silo_model.specs.Effect.{Sight, Effect, on_entry}
+use Rattle.silo_model.specs.Machine.{Entry, Request, ready}
+use Rattle.silo_model.specs.Effect.{Sight, on_entry}
 use Rattle.silo_model.specs.Turns.{begun, opened, ended, closed_by, closed}
 use Rattle.silo_model.specs.Counter.{counters, counter_plan}
 use Rattle.silo_core.specs.Answers.{closing}

@@ -1,5 +1,5 @@
 -- How the silo's own types are seen by the definitions.
-use Rattle.std.specs.Prelude.{ℕ, Option, Some, None, unwrap_or}
+use Rattle.std.specs.Prelude.{Option, Some, None, unwrap_or}
 use Rattle.std.specs.Ordering.{nat_cmp}
 use Rattle.std.specs.FinMap as map
 use Rattle.std.specs.FinMap.{FinMap}

@@ -15,6 +15,7 @@ ghost use Rattle.silo_core.specs.Shown.{with_state};
 use crate::counter;
 use crate::counter::Planned;
 use crate::request::Request;
+use bumpalo::Bump;
 use request_codec::StateBytes;
 use silo_event::{Answer, Reply};
 use std::alloc::{AllocError, Global};
@@ -131,13 +132,19 @@ impl Activation {
     }
 
     /// Runs the open turn of that number and closes it: the reply to its request, or none where
-    /// no such turn is open.
-    pub fn end(&mut self, alloc: Global, turn: u64, now: u64) -> Result<Option<Reply>, AllocError>
+    /// no such turn is open. What the turn reads is put into the arena.
+    pub fn end(
+        &mut self,
+        alloc: Global,
+        bump: &Bump,
+        turn: u64,
+        now: u64,
+    ) -> Result<Option<Reply>, AllocError>
         ensures closes { IfOk result (λ reply. (s : Sight) (grain : Grain) → s.clock ≡ now
             → Closes (option_and_then (λ request. ended counters s grain self.old request self.old.phase) (map.get self.old.turns turn)) self.old reply self.new) }
         ensures unchanged { OnErr result (self.new ≡ self.old) }
     {
-        let Some(planned) = self.planned(alloc, turn)? else {
+        let Some(planned) = self.planned(alloc, bump, turn)? else {
             return Ok(None);
         };
         let Some(request) = self.turn.take() else {
@@ -152,7 +159,7 @@ impl Activation {
     }
 
     /// What the open turn of that number comes to.
-    fn planned(&self, alloc: Global, turn: u64) -> Result<Option<Planned>, AllocError>
+    fn planned(&self, alloc: Global, bump: &Bump, turn: u64) -> Result<Option<Planned>, AllocError>
         ensures { IfOk result (λ planned. PlansTurn self.now turn planned) }
     {
         let Some(request) = &self.turn else {
@@ -165,7 +172,7 @@ impl Activation {
             Progress::Waiting => Ok(None),
             Progress::Loading => Ok(None),
             Progress::Ready { state, .. } => {
-                Ok(Some(counter::plan_of(alloc, request.message(), state)?))
+                Ok(Some(counter::plan_of(alloc, bump, request.message(), state)?))
             }
         }
     }

@@ -2,14 +2,17 @@
 
 ghost use Rattle.std.specs.Prelude.{◌≡◌, ℕ, ℤ, pos, List, None, Some, Err, IfOk, codes, option_and_then};
 ghost use Rattle.request_codec.specs.Tree.{Tree, whole};
-ghost use Rattle.request_codec.specs.Seen.{value_of};
 ghost use Rattle.silo_model.specs.Counter as counter;
 ghost use Rattle.silo_model.specs.Counter.{counters, whole_value, only_field, add_plan, get_plan, counter_plan};
 ghost use Rattle.silo_core.specs.Plans.{plan_by};
+ghost use Rattle.turn_arena.specs.Shape.{shape};
 
-use request_codec::{Datum, Message, StateBytes, decode_message, decode_state, encode_state};
+use crate::reading::{asked_in, state_in};
+use bumpalo::Bump;
+use request_codec::{Message, StateBytes};
 use silo_event::Fault;
 use std::alloc::{AllocError, Global};
+use turn_arena::{Node, encode_node};
 
 /// What a turn comes to: the state after it, where that is another one, and the answer.
 #[derive(Drop)]
@@ -32,18 +35,22 @@ pub fn empty_state(alloc: Global) -> Result<StateBytes, AllocError>
     state_of(alloc, 0)
 }
 
-/// What the message's method makes of the state.
-pub fn plan_of(alloc: Global, message: &Message, state: &StateBytes) -> Result<Planned, AllocError>
+/// What the message's method makes of the state. Both are read into the arena.
+pub fn plan_of(
+    alloc: Global,
+    bump: &Bump,
+    message: &Message,
+    state: &StateBytes,
+) -> Result<Planned, AllocError>
     ensures { IfOk result (λ planned. plan_by planned state.now ≡ counter_plan message.now.method state.now message.now.argument) }
 {
-    let (method, argument) = decode_message(alloc, message)?;
-    let state = decode_state(alloc, state)?;
-    let number = number_of(&state);
-    if method.as_str() == "add" {
-        return add(alloc, number, addend(&argument));
+    let (method, argument) = asked_in(bump, message)?;
+    let number = number_of(state_in(bump, state)?);
+    if method == "add" {
+        return add(alloc, number, addend(argument));
     }
-    if method.as_str() == "get" {
-        return get(alloc, number, &argument);
+    if method == "get" {
+        return get(alloc, number, argument);
     }
     Ok(refused(Fault::UnknownMethod))
 }
@@ -66,19 +73,19 @@ fn add(alloc: Global, number: i64, by: Option<i64>) -> Result<Planned, AllocErro
 }
 
 /// The number is the answer.
-fn get(alloc: Global, number: i64, argument: &Datum) -> Result<Planned, AllocError>
-    ensures { IfOk result (λ planned. (state : Tree) → counter.number_of state ≡ number → plan_by planned state ≡ get_plan state (value_of argument.now)) }
+fn get(alloc: Global, number: i64, argument: Node<'_>) -> Result<Planned, AllocError>
+    ensures { IfOk result (λ planned. (state : Tree) → counter.number_of state ≡ number → plan_by planned state ≡ get_plan state (shape argument.entry)) }
 {
     match argument {
-        Datum::Null => Ok(Planned {
+        Node::Null => Ok(Planned {
             next: None,
             outcome: Ok(state_of(alloc, number)?),
         }),
-        Datum::Bool(_) => Ok(refused(Fault::Misfit)),
-        Datum::Int(_) => Ok(refused(Fault::Misfit)),
-        Datum::Text(_) => Ok(refused(Fault::Misfit)),
-        Datum::List(_) => Ok(refused(Fault::Misfit)),
-        Datum::Map(_) => Ok(refused(Fault::Misfit)),
+        Node::Bool(_) => Ok(refused(Fault::Misfit)),
+        Node::Int(_) => Ok(refused(Fault::Misfit)),
+        Node::Text(_) => Ok(refused(Fault::Misfit)),
+        Node::List(_) => Ok(refused(Fault::Misfit)),
+        Node::Map(_) => Ok(refused(Fault::Misfit)),
     }
 }
 
@@ -93,46 +100,46 @@ fn refused(why: Fault) -> Planned
 }
 
 /// A counter's number. A state that is no whole number counts as 0.
-fn number_of(state: &Datum) -> i64
-    ensures { result ≡ counter.number_of (value_of state.now) }
+fn number_of(state: Node<'_>) -> i64
+    ensures { result ≡ counter.number_of (shape state.entry) }
 {
     match state {
-        Datum::Int(number) => *number,
-        Datum::Null => 0,
-        Datum::Bool(_) => 0,
-        Datum::Text(_) => 0,
-        Datum::List(_) => 0,
-        Datum::Map(_) => 0,
+        Node::Int(number) => number,
+        Node::Null => 0,
+        Node::Bool(_) => 0,
+        Node::Text(_) => 0,
+        Node::List(_) => 0,
+        Node::Map(_) => 0,
     }
 }
 
 /// The number that `{"by": n}` adds.
-fn addend(argument: &Datum) -> Option<i64>
-    ensures { result ≡ option_and_then whole_value (only_field (codes "by") (value_of argument.now)) }
+fn addend(argument: Node<'_>) -> Option<i64>
+    ensures { result ≡ option_and_then whole_value (only_field (codes "by") (shape argument.entry)) }
 {
-    let Datum::Map(fields) = argument else {
+    let Node::Map(fields) = argument else {
         return None;
     };
-    if fields.len() != 1 {
+    let [field] = fields else {
+        return None;
+    };
+    if field.name != "by" {
         return None;
     }
-    match fields.get("by") {
-        Some(value) => whole_of(value),
-        None => None,
-    }
+    whole_of(field.node)
 }
 
 /// The whole number that a value is.
-fn whole_of(value: &Datum) -> Option<i64>
-    ensures { result ≡ whole_value (value_of value.now) }
+fn whole_of(value: Node<'_>) -> Option<i64>
+    ensures { result ≡ whole_value (shape value.entry) }
 {
     match value {
-        Datum::Int(number) => Some(*number),
-        Datum::Null => None,
-        Datum::Bool(_) => None,
-        Datum::Text(_) => None,
-        Datum::List(_) => None,
-        Datum::Map(_) => None,
+        Node::Int(number) => Some(number),
+        Node::Null => None,
+        Node::Bool(_) => None,
+        Node::Text(_) => None,
+        Node::List(_) => None,
+        Node::Map(_) => None,
     }
 }
 
@@ -140,7 +147,7 @@ fn whole_of(value: &Datum) -> Option<i64>
 fn state_of(alloc: Global, number: i64) -> Result<StateBytes, AllocError>
     ensures { IfOk result (λ state. state ≡ whole number) }
 {
-    match encode_state(alloc, &Datum::Int(number)) {
+    match encode_node(alloc, Node::Int(number)) {
         Ok(state) => Ok(state),
         Err(_) => Err(AllocError),
     }

@@ -10,6 +10,7 @@ mod activation;
 mod body;
 mod counter;
 mod directory;
+mod reading;
 mod replies;
 mod request;
 mod silo;

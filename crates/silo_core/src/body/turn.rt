@@ -7,6 +7,7 @@ ghost use Rattle.silo_core.specs.Answers.{is_told};
 ghost use Rattle.silo_core.specs.Moves.{Moves};
 
 use crate::body::Body;
+use bumpalo::Bump;
 use grain_id::GrainId;
 use silo_event::{Answer, Party, Reply, StepFault};
 use std::alloc::Global;
@@ -22,7 +23,7 @@ impl Body {
         activation.begin()
     }
 
-    /// The open turn of that number runs and is closed.
+    /// The open turn of that number runs, in an arena of its own, and is closed.
     pub fn end(&mut self, alloc: Global, grain: &GrainId, turn: u64) -> Result<Answer, StepFault>
         ensures { Moves self.old (step.End grain.now turn) result self.new }
     {
@@ -30,7 +31,8 @@ impl Body {
         let Some(activation) = self.directory.get_mut(grain) else {
             return Ok(Answer::NotNow);
         };
-        let Some(reply) = activation.end(alloc, turn, self.clock)? else {
+        let bump = Bump::new(alloc);
+        let Some(reply) = activation.end(alloc, &bump, turn, self.clock)? else {
             return Ok(Answer::NotNow);
         };
         tell(&mut self.replies, reply);

@@ -1,4 +1,3 @@
-use Rattle.std.proofs.Common.{rules}
 use Rattle.silo_model.specs.Counter.{counters}
 use Rattle.silo_core.proofs.counter.knows.Goals as goal
 

@@ -1,9 +1,7 @@
-use Rattle.std.proofs.Common.{◌≡◌, List, ℕ, true, false, ap, sym, ◌∙◌, rules, w64, SFits}
-use Rattle.std.specs.Prelude.{codes}
+use Rattle.std.proofs.Common.{ap, sym, ◌∙◌, rules, w64, SFits}
 use Rattle.std.proofs.lemmas.Result.{IfOk-weaker}
 use Rattle.std.proofs.lemmas.Int.{to_z-of_z}
-use Rattle.grain_id.specs.Names.{same_text}
-use Rattle.request_codec.specs.Seen.{value_of}
+use Rattle.turn_arena.specs.Shape.{shape}
 use Rattle.silo_model.specs.Counter.{number_of, add_plan}
 use Rattle.silo_core.proofs.Counters.{plan-add, plan-get, plan-unknown, plan-call}
 use Rattle.silo_core.proofs.counter.plan_of.Goals as goal
@@ -11,31 +9,26 @@ use Rattle.silo_core.proofs.counter.plan_of.Goals as goal
 pub returns-then-eq : goal.returns-then-eq
 returns-then-eq c =
     let state = c.args.state.now in
-    let method = c.as_str.result.now in
-    let argument = value_of c.in_ok-method.argument in
+    let method = c.in_ok-method.method.now in
+    let argument = shape c.in_ok-method.argument in
     let fits : SFits w64 c.number_of-number.result = search rules in
-    let number = sym (c.number_of-number.ensures ∙ ap number_of c.in_ok-state.ensures) ∙ sym (to_z-of_z w64 c.number_of-number.result fits) in
-    let call = ap (λ (m : List ℕ). record { method = m; argument = argument }) c.as_str.ensures.value ∙ c.in_ok-method.ensures in
+    let number = sym (c.number_of-number.ensures ∙ ap number_of c.in_ok-state_in.ensures) ∙ sym (to_z-of_z w64 c.number_of-number.result fits) in
     let plan = plan-add method state argument (sym c.if-eq.ensures) in
-    IfOk-weaker c.add.result _ _ (λ p h. h state number ∙ ap (add_plan state) c.addend.ensures ∙ sym plan ∙ plan-call method state argument c.args.message.now call) c.add.ensures
+    IfOk-weaker c.add.result _ _ (λ p h. h state number ∙ ap (add_plan state) c.addend.ensures ∙ sym plan ∙ plan-call method state argument c.args.message.now c.in_ok-method.ensures) c.add.ensures
 
 pub returns-then-eq-2 : goal.returns-then-eq-2
 returns-then-eq-2 c =
     let state = c.args.state.now in
-    let method = c.as_str.result.now in
-    let argument = value_of c.in_ok-method.argument in
+    let method = c.in_ok-method.method.now in
+    let argument = shape c.in_ok-method.argument in
     let fits : SFits w64 c.number_of-number.result = search rules in
-    let number = sym (c.number_of-number.ensures ∙ ap number_of c.in_ok-state.ensures) ∙ sym (to_z-of_z w64 c.number_of-number.result fits) in
-    let call = ap (λ (m : List ℕ). record { method = m; argument = argument }) c.as_str.ensures.value ∙ c.in_ok-method.ensures in
-    let second = ap (λ (m : List ℕ). same_text m (codes "get")) (c.as_str.ensures.value ∙ sym c.as_str-2.ensures.value) ∙ sym c.if-eq-2.ensures in
-    let plan = plan-get method state argument (sym c.if-eq.ensures) second in
-    IfOk-weaker c.get.result _ _ (λ p h. h state number ∙ sym plan ∙ plan-call method state argument c.args.message.now call) c.get.ensures
+    let number = sym (c.number_of-number.ensures ∙ ap number_of c.in_ok-state_in.ensures) ∙ sym (to_z-of_z w64 c.number_of-number.result fits) in
+    let plan = plan-get method state argument (sym c.if-eq.ensures) (sym c.if-eq-2.ensures) in
+    IfOk-weaker c.get.result _ _ (λ p h. h state number ∙ sym plan ∙ plan-call method state argument c.args.message.now c.in_ok-method.ensures) c.get.ensures
 
 pub returns : goal.returns
 returns c =
     let state = c.args.state.now in
-    let method = c.as_str.result.now in
-    let argument = value_of c.in_ok-method.argument in
-    let call = ap (λ (m : List ℕ). record { method = m; argument = argument }) c.as_str.ensures.value ∙ c.in_ok-method.ensures in
-    let second = ap (λ (m : List ℕ). same_text m (codes "get")) (c.as_str.ensures.value ∙ sym c.as_str-2.ensures.value) ∙ sym c.if-eq-2.ensures in
-    rw c.refused.ensures (sym (plan-unknown method state argument (sym c.if-eq.ensures) second) ∙ plan-call method state argument c.args.message.now call)
+    let method = c.in_ok-method.method.now in
+    let argument = shape c.in_ok-method.argument in
+    rw c.refused.ensures (sym (plan-unknown method state argument (sym c.if-eq.ensures) (sym c.if-eq-2.ensures)) ∙ plan-call method state argument c.args.message.now c.in_ok-method.ensures)

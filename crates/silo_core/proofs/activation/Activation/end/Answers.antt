@@ -1,4 +1,4 @@
-use Rattle.std.proofs.Common.{◌≡◌, Some, ap, sym, subst, ◌∙◌}
+use Rattle.std.proofs.Common.{◌≡◌, Some, sym, subst}
 use Rattle.silo_model.specs.Machine.{Entry}
 use Rattle.silo_core.specs.Plans.{PlansTurn}
 use Rattle.std.specs.Prelude.{option_and_then}

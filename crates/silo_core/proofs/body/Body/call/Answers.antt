@@ -1,15 +1,12 @@
-use Rattle.std.proofs.Common.{◌≡◌, None, Some, Ok, ap, refl, sym, subst, ◌∙◌, ◌∷◌, ◌++◌, [], ◌+◌}
+use Rattle.std.proofs.Common.{◌≡◌, Some, refl, subst, ◌∙◌, ◌∷◌, ◌++◌, [], ◌+◌}
 use Rattle.std.specs.Prelude.{Err}
-use Rattle.std.specs.FinMap as map
 use Rattle.silo_event.specs.declared.step.Step.TheVariants as step
 use Rattle.silo_event.specs.declared.reply.Party.TheVariants as party
 use Rattle.silo_event.specs.declared.reply.Reply.{Reply}
 use Rattle.silo_model.specs.Counter.{counters}
 use Rattle.silo_model.specs.Machine.{Account, Request}
-use Rattle.silo_model.specs.Calls.{with_request}
 use Rattle.silo_model.specs.Whole.{Whole, whole_step}
 use Rattle.silo_core.specs.contracts.body.Body.{the_view}
-use Rattle.silo_core.specs.Refusals.{Refuses}
 use Rattle.silo_core.proofs.Calls.{call_refused, call_waits}
 use Rattle.silo_core.proofs.body.Body.call.Goals as goal
 

@@ -1,4 +1,4 @@
-use Rattle.std.proofs.Common.{◌≡◌, None, Some, Ok, ap, refl, sym, subst, ◌∙◌}
+use Rattle.std.proofs.Common.{◌≡◌, None, Some, refl, sym, subst, ◌∙◌}
 use Rattle.std.specs.FinMap as map
 use Rattle.silo_event.specs.declared.step.Step.TheVariants as step
 use Rattle.silo_model.specs.Counter.{counters}

@@ -1,4 +1,4 @@
-use Rattle.std.proofs.Common.{◌≡◌, None, Ok, ap, sym, subst, ◌∙◌}
+use Rattle.std.proofs.Common.{◌≡◌, None, Ok, sym, subst, ◌∙◌}
 use Rattle.std.specs.FinMap as map
 use Rattle.grain_id.specs.Names.{grain_cmp}
 use Rattle.silo_event.specs.declared.step.Step.TheVariants as step

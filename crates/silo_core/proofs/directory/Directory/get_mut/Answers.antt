@@ -1,6 +1,5 @@
-use Rattle.std.proofs.Common.{◌≡◌, is_some, ap, sym, ◌∙◌}
+use Rattle.std.proofs.Common.{ap, sym, ◌∙◌}
 use Rattle.std.specs.FinMap as map
-use Rattle.silo_model.specs.Machine.{Entry}
 use Rattle.silo_core.proofs.Maps.{get-shown, shown-updated, shown, lent, there}
 use Rattle.silo_core.proofs.directory.Directory.get_mut.Goals as goal
 

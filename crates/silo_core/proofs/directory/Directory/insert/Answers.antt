@@ -1,5 +1,3 @@
-use Rattle.std.proofs.Common.{◌≡◌, ap, sym, ◌∙◌}
-use Rattle.std.specs.FinMap as map
 use Rattle.silo_core.proofs.Maps.{shown-updated}
 use Rattle.silo_core.proofs.directory.Directory.insert.Goals as goal
 
