@@ -1,25 +1,23 @@
 -- What one step leaves and adds to the text: by the whole, and by its owner's machine alone.
-use Rattle.std.proofs.Common.{◌≡◌, ℕ, List, [], ◌∷◌, ◌++◌, ◌+◌, ◌<◌, length, take, drop, get_or, Bool, true, false, Option, Some, None, Result, Ok, Err, OnOk, refl, sym, ap, ap₂, ◌∙◌, subst, append_assoc, append-nil, true≢false}
+use Rattle.std.proofs.Common.{◌≡◌, ℕ, List, [], ◌∷◌, ◌++◌, ◌+◌, ◌<◌, length, take, drop, get_or, true, Some, None, Result, Ok, Err, OnOk, refl, sym, ap, ◌∙◌, append_assoc, append-nil}
 use Rattle.std.proofs.Math.Seq.{drop-append_seam}
 use Rattle.std.proofs.lemmas.List.{take_more}
 use Rattle.std.proofs.lemmas.Bool.Decides.{Decides-eqb}
 use Rattle.std.proofs.lemmas.Slice.Eq.{slice_eq-Decides}
-use Rattle.std.specs.Prelude.{unwrap_or, nat_eq}
+use Rattle.std.specs.Prelude.{unwrap_or}
 use Rattle.grain_id.specs.Names.{same_text}
 use Rattle.silo_event.specs.Owner.{owner_of}
 use Rattle.silo_event.specs.declared.reply.Reply.{Reply}
 use Rattle.silo_event.specs.declared.step.Step.{Step}
 use Rattle.silo_event.specs.declared.step.Step.TheVariants.{Call, Activate, Load, Begin, End}
 use Rattle.silo_model.specs.Counter.{counters}
-use Rattle.silo_model.specs.Machine.{Machine}
 use Rattle.silo_model.specs.Run.{concerns, concerns_by}
 use Rattle.silo_model.specs.Step.{machine_step}
 use Rattle.silo_model.specs.Whole.{Whole, whole_step, shown_to}
 use Rattle.silo_core.specs.History.{History, Advances, StepsInParts}
-use Rattle.line_protocol.specs.Out.{ended, texts_of, step_text, whole_text, whole_after_line, machine_text, machine_after_line}
+use Rattle.line_protocol.specs.Out.{ended, texts_of, step_text, whole_text}
 use Rattle.line_protocol.specs.Text.{line_of, not_now_line}
-use Rattle.line_protocol.specs.Running.{noted, line_steps, TakesLine, LineAlone}
-use Rattle.line_protocol.specs.declared.line.Line.{Line}
+use Rattle.line_protocol.specs.Running.{noted, TakesLine, LineAlone}
 use Rattle.line_protocol.specs.declared.line.Line.TheVariants as line
 
 pub texts_of-more : (rs : List Reply) (r : Reply) → texts_of (rs ++ r ∷ []) ≡ texts_of rs ++ ended (line_of r)

@@ -1,5 +1,4 @@
 pub mod Said
-pub mod Arguments
 pub mod Texts
 pub mod Plain
 pub mod Pushes

@@ -2,12 +2,12 @@
 use Rattle.std.proofs.Common.{ℤ, codes, decimal, ◌≡◌, ◌≢◌, ◌≤◌, ◌++◌, ℕ, List, [], ◌∷◌, Bool, true, false, ◌==◌, nat_lt, refl, ap, ap₂, sym, ◌∙◌, arith, append_assoc}
 use Rattle.std.specs.Fmt.{signed_decimal}
 use Rattle.std.specs.Prelude.{IsTrue, ◌&&◌}
-use Rattle.std.specs.List.{list_all, flat_map}
+use Rattle.std.specs.List.{list_all}
 use Rattle.std.proofs.lemmas.Bool.Decides.{nat_tests}
 use Rattle.std.proofs.lemmas.Grind.{flat_map-append}
 use Rattle.std.proofs.lemmas.List.Concat.{flat_map-cons}
-use Rattle.json.specs.Print.{escape_letter, escape_byte, escape, quoted}
-use Rattle.grain_id.specs.Words.{is_word, is_word_byte, begins_with_letter}
+use Rattle.json.specs.Print.{escape_byte, escape, quoted}
+use Rattle.grain_id.specs.Words.{is_word, is_word_byte}
 use Rattle.grain_id.specs.Names.{Client, is_client, client_text}
 use Rattle.request_codec.specs.Tree.{whole}
 use Rattle.line_protocol.specs.Text.{done_line}

@@ -1,17 +1,16 @@
 -- One line more of a run.
-use Rattle.std.proofs.Common.{◌≡◌, ℕ, zero, suc, ◌+◌, ◌≤◌, ◌<◌, List, [], ◌∷◌, ◌++◌, length, take, true, Option, Some, None, IfSome, Result, Ok, Err, IfErr, refl, sym, ap, ap₂, ◌∙◌, subst, inl, inr, arith, append_assoc, append-nil, length-append, length-take, take_all, ⊎_elim}
+use Rattle.std.proofs.Common.{◌≡◌, ℕ, suc, ◌+◌, List, [], ◌∷◌, ◌++◌, length, take, Option, Some, None, IfSome, Result, Err, IfErr, refl, sym, ap, ap₂, ◌∙◌, subst, inl, inr, arith, append_assoc, append-nil, length-append, length-take, take_all, ⊎_elim}
 use Rattle.std.specs.Prelude.{◌⊎◌}
 use Rattle.std.proofs.lemmas.Bool.{cases_lt}
 use Rattle.std.specs.Io.KnownBytes.{Appends, Keeps, IsAtEnd, prepend_known}
 use Rattle.std.proofs.KnownBytes.{Appends-trans, Appends-kept, Appends-nil}
-use Rattle.silo_event.specs.declared.step.Step.{Step}
 use Rattle.silo_model.specs.Machine.{Machine}
 use Rattle.silo_model.specs.Whole.{Whole, shown_to}
 use Rattle.silo_core.specs.History.{History}
 use Rattle.line_protocol.specs.Lines.{lines_of, line_limit}
 use Rattle.line_protocol.specs.Said.{said_of}
 use Rattle.line_protocol.specs.Out.{whole_text, whole_after_line, whole_after, whole_out, machine_text, machine_after_line, machine_after, machine_out, LineConcerns, LinesConcern}
-use Rattle.line_protocol.specs.Running.{line_steps, done_steps, TakesLine, TakesLines, TakesNext, LineAlone, LinesAlone, left_of, LinesTaken, AnswersAll, AnswersAlone, StopsBefore, StopsAt, StopsAfter, StopsBy, MayTake, LineStopsBy}
+use Rattle.line_protocol.specs.Running.{line_steps, done_steps, TakesLine, TakesLines, LineAlone, LinesAlone, LinesTaken, AnswersAll, AnswersAlone, StopsBefore, StopsAt, StopsAfter, StopsBy, MayTake, LineStopsBy}
 use Rattle.line_protocol.specs.declared.fault.LineFault.{LineFault}
 use Rattle.line_protocol.specs.declared.fault.LineFault.TheVariants as fault
 use Rattle.line_protocol.specs.declared.line.Line.{Line}

@@ -1,5 +1,5 @@
 -- What a line that has bytes says.
-use Rattle.std.proofs.Common.{◌≡◌, ◌<◌, ◌≤◌, ℕ, List, [], ◌∷◌, length, Bool, true, false, cond, Option, Some, None, refl, ap, sym, ◌∙◌, arith, nat_lt, ◌==◌, true≢false}
+use Rattle.std.proofs.Common.{◌≡◌, ◌<◌, ◌≤◌, ℕ, List, [], ◌∷◌, length, Bool, true, false, cond, Some, None, refl, ap, sym, ◌∙◌, arith, nat_lt, ◌==◌, true≢false}
 use Rattle.std.specs.Prelude.{option_and_then, IsUtf8}
 use Rattle.std.specs.Str.{is_utf8}
 use Rattle.std.proofs.lemmas.Bool.Decides.{nat_tests}

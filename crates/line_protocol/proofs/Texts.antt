@@ -1,11 +1,10 @@
 -- What is printed of a value's JSON is its text.
-use Rattle.std.proofs.Common.{◌≡◌, ◌≤◌, ◌<◌, ◌++◌, ◌∷◌, [], ℕ, ℤ, pos, negsuc, List, true, false, codes, decimal, refl, ap, ap₂, sym, ◌∙◌, lit<, lit≤}
+use Rattle.std.proofs.Common.{◌≡◌, ◌++◌, ◌∷◌, [], ℕ, ℤ, pos, negsuc, List, true, false, codes, decimal, refl, ap, ap₂, ◌∙◌, lit<, lit≤}
 use Rattle.std.specs.Fmt.{signed_decimal}
 use Rattle.std.proofs.lemmas.Fmt.{decimal_digit, decimal_step}
 use Rattle.json.specs.Print.{quoted}
 use Rattle.serde_json.specs.Find.{of_integer, is_float}
 use Rattle.serde_json.specs.Written.{compact_text, items_text, members_text, has_float, items_have_float, members_have_float, number_text}
-use Rattle.serde_json.specs.Data as json
 use Rattle.serde_json.specs.Data.{Data, object, member as json_member, no_members as no_json_members, string, number, unsigned}
 use Rattle.serde_json.proofs.OnLiterals.{serde_json_on_literals}
 use Rattle.request_codec.specs.Json.{json_of, items_of, json_members_of}

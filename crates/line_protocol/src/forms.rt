@@ -1,18 +1,14 @@
 //! The step that JSON asks for.
 
-ghost use Rattle.std.specs.Prelude.{◌≡◌, ◌≤◌, IfOk, Some, nat_le, option_map};
+ghost use Rattle.std.specs.Prelude.{◌≡◌, IfOk, option_map};
 ghost use Rattle.serde_json.specs.Data.{null};
 ghost use Rattle.serde_json.specs.View.{view};
-ghost use Rattle.request_codec.specs.Answers.{message_length};
 ghost use Rattle.request_codec.specs.Call.{asks};
-ghost use Rattle.request_codec.specs.Limits.{depth_limit, message_limit};
-ghost use Rattle.request_codec.specs.Seen.{value_of};
-ghost use Rattle.request_codec.specs.Tree.{depth};
 ghost use Rattle.line_protocol.specs.Form.{where_so, has_members, grain_at, argument_at, message_argument, call_of, end_of, step_of_json};
 
 use crate::members::{caller_at, grain_at, has_members, natural_at, text_at};
 use grain_id::GrainId;
-use request_codec::{CodecFault, Datum, Message, encode, from_json};
+use request_codec::{CodecFault, Message, encode_json};
 use serde_json::Value;
 use silo_event::Step;
 use std::alloc::{AllocError, Global};
@@ -31,28 +27,6 @@ fn argument_at<'v>(value: &'v Value, left_out: &'v Value) -> Option<&'v Value>
     None
 }
 
-/// The message of a method and its argument, unless it is too long.
-fn encode_within(
-    alloc: Global,
-    method: &str,
-    argument: &Datum,
-) -> Result<Option<Message>, AllocError>
-    requires { depth (value_of argument.now) ≤ depth_limit }
-    ensures { IfOk result (λ message. message ≡ where_so (nat_le (message_length method.now (value_of argument.now)) message_limit)
-        (Some (asks method.now (value_of argument.now)))) }
-{
-    match encode(alloc, method, argument) {
-        Ok(message) => Ok(Some(message)),
-        Err(CodecFault::Memory) => Err(AllocError),
-        Err(
-            CodecFault::TooDeep
-            | CodecFault::TooLong
-            | CodecFault::NotWhole
-            | CodecFault::NotAMessage,
-        ) => Ok(None),
-    }
-}
-
 /// The message of a method and its argument, where it keeps the limits.
 fn read_message(
     alloc: Global,
@@ -61,12 +35,11 @@ fn read_message(
 ) -> Result<Option<Message>, AllocError>
     ensures { IfOk result (λ message. message ≡ option_map (asks method.now) (message_argument method.now (view argument.now))) }
 {
-    let datum = match from_json(alloc, argument) {
-        Ok(datum) => datum,
-        Err(CodecFault::Memory) => return Err(AllocError),
-        Err(_) => return Ok(None),
-    };
-    encode_within(alloc, method, &datum)
+    match encode_json(alloc, method, argument) {
+        Ok(message) => Ok(Some(message)),
+        Err(CodecFault::Memory) => Err(AllocError),
+        Err(_) => Ok(None),
+    }
 }
 
 #[tactic(auto, unfolding(crate::specs::Form::call_of))]

@@ -1,4 +1,3 @@
-use Rattle.std.proofs.Common.{◌≡◌}
 use Rattle.silo_core.specs.History.{Advances, StepsInParts}
 use Rattle.line_protocol.proofs.Answered.{alone_done, whatever}
 use Rattle.line_protocol.proofs.answers.answer_step.Goals as goal

@@ -1,5 +1,4 @@
-use Rattle.std.proofs.Common.{◌≡◌, ◌<◌, Some, None, sym, ap, ◌∙◌, arith, length}
-use Rattle.std.proofs.lemmas.Bool.Decides.{nat_tests}
+use Rattle.std.proofs.Common.{sym, ap, ◌∙◌}
 use Rattle.line_protocol.specs.Said.{said_by}
 use Rattle.line_protocol.proofs.Said.{said_of_asked, said_of_long, said_of_empty}
 use Rattle.line_protocol.proofs.reading.read_line.Goals as goal

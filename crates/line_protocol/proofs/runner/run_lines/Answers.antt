@@ -1,4 +1,4 @@
-use Rattle.std.proofs.Common.{◌≡◌, Ok, Err, ap, ◌∙◌, sym}
+use Rattle.std.proofs.Common.{Ok, Err, ap, ◌∙◌, sym}
 use Rattle.std.proofs.lemmas.Result.{err_from_is_err_and}
 use Rattle.line_protocol.specs.Said.{said_of}
 use Rattle.line_protocol.specs.declared.fault.LineFault.TheVariants as fault
