@@ -1,1 +1,2 @@
 pub mod TenantLemmas
+pub mod EndLemmas

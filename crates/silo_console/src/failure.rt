@@ -1,6 +1,7 @@
 //! What the program says when it fails, and the status that it then ends with.
 
-ghost use Rattle.std.specs.Prelude.{◌≡◌};
+ghost use Rattle.std.specs.Prelude.{◌≡◌, IsTrue};
+ghost use Rattle.std.specs.Io.KnownBytes.{Appends};
 
 use line_protocol::LineFault;
 use std::io::Write;
@@ -12,7 +13,9 @@ pub const FAILED_STATUS: u8 = 1;
 pub const ARGUMENTS_STATUS: u8 = 2;
 
 /// Writes a text whole, and says whether that was done.
-pub fn say<W: Write>(to: &mut W, text: &str) -> bool {
+pub fn say<W: Write>(to: &mut W, text: &str) -> bool
+    ensures { IsTrue result → Appends (W.contents to.old) (W.contents to.new) text.now }
+{
     to.write_all(text.as_bytes()).is_ok() && to.flush().is_ok()
 }
 

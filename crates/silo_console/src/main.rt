@@ -6,7 +6,8 @@
 //! tenant argument is stands in `specs/Tenants.antt`.
 #![tactic(auto)]
 
-ghost use Rattle.std.specs.Prelude.{◌≤◌};
+ghost use Rattle.std.specs.Prelude.{◌≡◌, ◌≢◌};
+ghost use Rattle.std.specs.IoError.{error_kind};
 
 mod command_line;
 mod failure;
@@ -36,7 +37,8 @@ fn words_of<H: Env + AllocGlobal>(rt: &H) -> io::Result<Vec<String>> {
 
 /// The status where the words were not had.
 fn refuse_words<E: Write>(fault: &io::Error, errors: &mut E) -> u8
-    ensures { result ≤ 2 }
+    ensures memory { error_kind fault.now ≡ ErrorKind.OutOfMemory → result ≡ 1 }
+    ensures other { error_kind fault.now ≢ ErrorKind.OutOfMemory → result ≡ 2 }
 {
     if fault.kind() == ErrorKind::OutOfMemory {
         return fail(errors, LineFault::Memory);

@@ -1,7 +1,8 @@
 //! What the program does, over any files and streams.
 
-ghost use Rattle.std.specs.Prelude.{◌≤◌};
-ghost use Rattle.silo_console.specs.Status.{IsWordsStatus, IsTenantsStatus};
+ghost use Rattle.std.specs.Prelude.{◌≡◌, ◌≤◌, IfSome};
+ghost use Rattle.silo_console.specs.Status.{IsWordsStatus, IsTenantsStatus, WritesHelp};
+ghost use Rattle.silo_console.specs.Steps.{setup_of, AnswersSteps, EndsWell};
 
 use crate::command_line::{Task, WordsFault, read_words};
 use crate::failure::{ARGUMENTS_STATUS, fail, say};
@@ -11,10 +12,12 @@ use line_protocol::{LineFault, run_lines};
 use silo_core::Silo;
 use std::alloc::Global;
 use std::io::{Read, Write};
+use std::mem;
 
 /// Help goes to the writer with status 0, and what is wrong with the words to the errors with status 2.
 fn explain_words<W: Write, E: Write>(fault: &WordsFault, writer: &mut W, errors: &mut E) -> u8
-    ensures { IsWordsStatus fault.now result }
+    ensures status { IsWordsStatus fault.now result }
+    ensures help { WritesHelp fault.now result (W.contents writer.old) (W.contents writer.new) }
 {
     match fault {
         WordsFault::Memory => fail(errors, LineFault::Memory),
@@ -48,7 +51,9 @@ fn run_steps<R: Read, W: Write, E: Write>(
     writer: &mut W,
     errors: &mut E,
 ) -> u8
-    ensures { result ≤ 1 }
+    ensures status { result ≤ 1 }
+    ensures answered { result ≡ 0 → IfSome (R.remaining reader.old) (λ input.
+        AnswersSteps (setup_of served.tenant served.limits age) input (R.remaining reader.new) (W.contents writer.old) (W.contents writer.new)) }
 {
     let TenantLimits { tenant, limits } = served;
     let Ok(mut silo) = Silo::new(alloc, tenant, limits, age) else {
@@ -56,6 +61,9 @@ fn run_steps<R: Read, W: Write, E: Write>(
     };
     let done = run_lines(alloc, reader, writer, &mut silo);
     let flushed = writer.flush().is_ok();
+
+    // The process ends here, and gives all of its memory back at once.
+    mem::forget(silo);
     match done {
         Ok(_) if flushed => 0,
         Ok(_) => fail(errors, LineFault::Write),
@@ -73,7 +81,8 @@ pub fn run_program<H: AllocGlobal, F: WholeFiles, R: Read, W: Write, E: Write>(
     writer: &mut W,
     errors: &mut E,
 ) -> u8
-    ensures { result ≤ 2 }
+    ensures status { result ≤ 2 }
+    ensures well { result ≡ 0 → EndsWell (R.remaining reader.old) (R.remaining reader.new) (W.contents writer.old) (W.contents writer.new) }
 {
     let alloc = rt.alloc();
     let task = match read_words(alloc, words) {
