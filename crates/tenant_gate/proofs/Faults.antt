@@ -1,7 +1,7 @@
 -- Why a list is no table, by what was found.
-use Rattle.std.proofs.Common.{◌≡◌, ◌≢◌, ℕ, ◌<◌, ◌≤◌, ◌==◌, nat_lt, Bool, true, false, not, cond, IsTrue, List, [], ◌∷◌, length, Option, Some, None, option_map, arith, refl, ap, sym, ◌∙◌, if◌then◌else◌}
+use Rattle.std.proofs.Common.{◌≡◌, ℕ, ◌<◌, ◌≤◌, ◌==◌, nat_lt, Bool, true, false, not, cond, IsTrue, List, [], ◌∷◌, length, Option, Some, None, option_map, arith, refl, ap, sym, ◌∙◌, if◌then◌else◌}
 use Rattle.std.specs.Option.{option_or}
-use Rattle.std.specs.Prelude.{Result, Err, find, IfSome}
+use Rattle.std.specs.Prelude.{Err, find, IfSome}
 use Rattle.grain_id.specs.Names.{same_text}
 use Rattle.std.proofs.lemmas.Bool.Decides.{nat_tests}
 use Rattle.tenant_gate.specs.declared.limits.Limits.{Limits}

@@ -1,11 +1,10 @@
 -- What making a table and asking it answer.
-use Rattle.std.specs.Prelude.{◌≡◌, ℕ, List, Option, Some, None, Result, Ok, Err, IsSome}
-use Rattle.grain_id.specs.Names.{Grain}
+use Rattle.std.specs.Prelude.{◌≡◌, Option, Some, None, Result, Ok, Err, IsSome}
 use Rattle.tenant_gate.specs.declared.fault.TableFault.{TableFault}
 use Rattle.tenant_gate.specs.declared.fault.TableFault.TheVariants as faults
 use Rattle.tenant_gate.specs.declared.fault.GateFault.{GateFault}
 use Rattle.tenant_gate.specs.declared.fault.GateFault.TheVariants as refusals
-use Rattle.tenant_gate.specs.Table.{Table, table_fault, call_fault}
+use Rattle.tenant_gate.specs.Table.{Table, table_fault}
 
 -- A list without fault is the table; else its fault is answered. Want of memory may come in place of either.
 abbrev pub TableAnswers : Table → Result Table TableFault → Type 0

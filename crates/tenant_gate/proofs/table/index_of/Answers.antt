@@ -1,4 +1,4 @@
-use Rattle.std.proofs.Common.{◌≡◌, Bool, true, false, List, ℕ, Some, is_some, take, drop, get_or, ap, sym, ◌∙◌, if◌then◌else◌, ◌∷◌, [], ◌++◌, subst, ◌+◌}
+use Rattle.std.proofs.Common.{◌≡◌, true, false, Some, is_some, take, get_or, ap, sym, ◌∙◌, ◌∷◌, [], ◌++◌, subst, ◌+◌}
 use Rattle.std.specs.List.{list_any}
 use Rattle.std.specs.BTreeMap.{get_by_text}
 use Rattle.std.proofs.lemmas.List.{take_more}

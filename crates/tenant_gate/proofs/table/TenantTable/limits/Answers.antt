@@ -1,4 +1,4 @@
-use Rattle.std.proofs.Common.{◌≡◌, IsTrue, ap, sym, ◌∙◌, subst}
+use Rattle.std.proofs.Common.{IsTrue, sym, ◌∙◌, subst}
 use Rattle.std.specs.Prelude.{IfSome}
 use Rattle.tenant_gate.specs.Table.{are_in_range}
 use Rattle.tenant_gate.proofs.Faults.{limits_of-in_range}
