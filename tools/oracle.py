@@ -331,6 +331,10 @@ def is_age(text):
     return is_number(text.removeprefix("+"), MAX_AGE)
 
 
+# words that ask for help, whose text isn't modelled
+HELP = [[word] for word in ("--help", "-h", "help")] + [["steps", "--help"], ["steps", "-h"], ["help", "steps"]]
+
+
 def tenant_words(words):
     """The words that aren't options, or None where the options don't fit."""
     if words[:1] != ["steps"]:
@@ -355,6 +359,8 @@ def tenant_words(words):
 
 def run_program(words, data):
     """What the program writes on both streams, and its status; None for what isn't modelled."""
+    if words in HELP:
+        return None, b"", 0
     found = tenant_words(words)
     if found is None:
         return b"", None, 2
@@ -366,7 +372,7 @@ def run_program(words, data):
 
 def main():
     out, errors, status = run_program(sys.argv[1:], sys.stdin.buffer.read())
-    sys.stdout.buffer.write(out)
+    sys.stdout.buffer.write(out or b"")
     sys.stderr.buffer.write(errors or b"")
     return status
 
