@@ -2,6 +2,7 @@
 
 ghost use Rattle.std.specs.Prelude.{◌≡◌, IsTrue, IfOk, MatchResult, Some, Err, refl};
 ghost use Rattle.std.specs.Hash as fed;
+ghost use Rattle.std.specs.Arc.{arc_value};
 ghost use Rattle.std.specs.Hash.{same_Alike};
 ghost use Rattle.std.specs.Cmp.{partial_equiv_from_equiv};
 ghost use Rattle.grain_id.specs.Names.{is_client, client_text, client_eq, client_cmp, IsTextOfClient, IsTextOfNoClient};
@@ -16,26 +17,34 @@ use std::alloc::{AllocError, Global};
 use std::cmp::Ordering;
 use std::hash::{Hash, Hasher};
 use std::marker::Model;
+use std::sync::Arc;
 
 /// A client of a tenant, written `tenant/client`.
 ///
-/// It is one text with the place of its `/`, at most 32.
+/// It is one text with the place of its `/`, at most 32. Clones share it.
 #[derive(Debug, Drop)]
 pub struct Caller {
+    placed: Arc<Placed>,
+}
+
+/// The text and the place of its `/`, shared by all clones.
+#[derive(Debug, Drop)]
+struct Placed {
     text: String,
     slash: u8,
 }
 
 impl Model for Caller {
+    ghost use Rattle.std.specs.Arc.{arc_value};
     ghost use Rattle.std.specs.Prelude.{string_bytes};
     ghost use Rattle.grain_id.specs.Names.{Client};
     ghost use Rattle.grain_id.specs.Places.{client_at, IsPlacedClient};
 
     ghost Value = { Client };
 
-    ghost view = { λ c. client_at (string_bytes c.text) c.slash };
+    ghost view = { λ c. client_at (string_bytes (arc_value c.placed).text) (arc_value c.placed).slash };
 
-    ghost invariant = { λ c. IsPlacedClient (string_bytes c.text) c.slash };
+    ghost invariant = { λ c. IsPlacedClient (string_bytes (arc_value c.placed).text) (arc_value c.placed).slash };
 }
 
 /// The place of the `/`, or the first part from the left that isn't well formed.
@@ -55,6 +64,13 @@ fn place(text: &str) -> Result<u8, IdFault>
     Ok(tenant.len() as u8)
 }
 
+/// The text and its place, to be shared.
+fn share(alloc: Global, placed: Placed) -> Result<Arc<Placed>, AllocError>
+    ensures { IfOk result (λ shared. arc_value shared ≡ placed) }
+{
+    Ok(Arc::new(alloc, placed)?)
+}
+
 impl Caller {
     /// Reads `tenant/client`: the first `/` ends the tenant.
     ///
@@ -68,9 +84,9 @@ impl Caller {
         ensures none { IfFaulty result (IsTextOfNoClient text.now) }
     {
         let slash = place(text)?;
+        let text = String::from_str(alloc, text)?;
         Ok(Caller {
-            text: String::from_str(alloc, text)?,
-            slash,
+            placed: share(alloc, Placed { text, slash })?,
         })
     }
 
@@ -79,21 +95,21 @@ impl Caller {
         ensures text { result.now ≡ client_text self.now }
         ensures well_formed { IsTrue (is_client self.now) }
     {
-        self.text.as_str()
+        self.placed.text.as_str()
     }
 
     /// The tenant's name.
     pub fn tenant(&self) -> &str
         ensures { result.now ≡ self.now.tenant }
     {
-        words::before(&self.text, usize::from(self.slash))
+        words::before(&self.placed.text, usize::from(self.placed.slash))
     }
 
     /// The client's name within the tenant.
     pub fn client(&self) -> &str
         ensures { result.now ≡ self.now.client }
     {
-        words::after(&self.text, usize::from(self.slash))
+        words::after(&self.placed.text, usize::from(self.placed.slash))
     }
 
     /// The tenant, as a value of its own.
@@ -101,7 +117,7 @@ impl Caller {
         ensures { IfOk result (λ t. t ≡ self.now.tenant) }
     {
         // Read, so that the proof sees that the parts are well formed.
-        let _text = &self.text;
+        let _text = &self.placed.text;
         Tenant::of_word(alloc, self.tenant())
     }
 }
@@ -111,8 +127,7 @@ impl Clone for Caller {
 
     fn clone(&self) -> Result<Caller, AllocError> {
         Ok(Caller {
-            text: self.text.clone()?,
-            slash: self.slash,
+            placed: self.placed.clone()?,
         })
     }
 }

@@ -2,6 +2,7 @@
 
 ghost use Rattle.std.specs.Prelude.{◌≡◌, IsTrue, IfOk, MatchResult, Some, Err, refl};
 ghost use Rattle.std.specs.Hash as fed;
+ghost use Rattle.std.specs.Arc.{arc_value};
 ghost use Rattle.std.specs.Hash.{same_Alike};
 ghost use Rattle.std.specs.Cmp.{partial_equiv_from_equiv};
 ghost use Rattle.grain_id.specs.Names.{is_grain, grain_text, grain_eq, grain_cmp, IsTextOfGrain, IsTextOfNoGrain};
@@ -17,27 +18,35 @@ use std::alloc::{AllocError, Global};
 use std::cmp::Ordering;
 use std::hash::{Hash, Hasher};
 use std::marker::Model;
+use std::sync::Arc;
 
 /// The identity of a grain, written `kind/tenant:name`.
 ///
-/// It is one text with the places of its `/` and its `:`, both below 66.
+/// It is one text with the places of its `/` and its `:`, both below 66. Clones share it.
 #[derive(Debug, Drop)]
 pub struct GrainId {
+    placed: Arc<Placed>,
+}
+
+/// The text and the places of its separators, shared by all clones.
+#[derive(Debug, Drop)]
+struct Placed {
     text: String,
     slash: u8,
     colon: u8,
 }
 
 impl Model for GrainId {
+    ghost use Rattle.std.specs.Arc.{arc_value};
     ghost use Rattle.std.specs.Prelude.{string_bytes};
     ghost use Rattle.grain_id.specs.Names.{Grain};
     ghost use Rattle.grain_id.specs.Places.{grain_at, IsPlacedGrain};
 
     ghost Value = { Grain };
 
-    ghost view = { λ g. grain_at (string_bytes g.text) g.slash g.colon };
+    ghost view = { λ g. grain_at (string_bytes (arc_value g.placed).text) (arc_value g.placed).slash (arc_value g.placed).colon };
 
-    ghost invariant = { λ g. IsPlacedGrain (string_bytes g.text) g.slash g.colon };
+    ghost invariant = { λ g. IsPlacedGrain (string_bytes (arc_value g.placed).text) (arc_value g.placed).slash (arc_value g.placed).colon };
 }
 
 /// The places of the `/` and the `:`, or the first part from the left that isn't well formed.
@@ -65,6 +74,13 @@ fn places(text: &str) -> Result<(u8, u8), IdFault>
     Ok((slash as u8, colon as u8))
 }
 
+/// The text and its places, to be shared.
+fn share(alloc: Global, placed: Placed) -> Result<Arc<Placed>, AllocError>
+    ensures { IfOk result (λ shared. arc_value shared ≡ placed) }
+{
+    Ok(Arc::new(alloc, placed)?)
+}
+
 impl GrainId {
     /// Reads `kind/tenant:name`: the first `/` ends the kind, the first `:` after it ends the
     /// tenant, and the name may hold both.
@@ -79,10 +95,9 @@ impl GrainId {
         ensures none { IfFaulty result (IsTextOfNoGrain text.now) }
     {
         let (slash, colon) = places(text)?;
+        let text = String::from_str(alloc, text)?;
         Ok(GrainId {
-            text: String::from_str(alloc, text)?,
-            slash,
-            colon,
+            placed: share(alloc, Placed { text, slash, colon })?,
         })
     }
 
@@ -91,28 +106,32 @@ impl GrainId {
         ensures text { result.now ≡ grain_text self.now }
         ensures well_formed { IsTrue (is_grain self.now) }
     {
-        self.text.as_str()
+        self.placed.text.as_str()
     }
 
     /// The kind's name.
     pub fn kind(&self) -> &str
         ensures { result.now ≡ self.now.kind }
     {
-        words::before(&self.text, usize::from(self.slash))
+        words::before(&self.placed.text, usize::from(self.placed.slash))
     }
 
     /// The tenant's name.
     pub fn tenant(&self) -> &str
         ensures { result.now ≡ self.now.tenant }
     {
-        words::between(&self.text, usize::from(self.slash), usize::from(self.colon))
+        words::between(
+            &self.placed.text,
+            usize::from(self.placed.slash),
+            usize::from(self.placed.colon),
+        )
     }
 
     /// The name within its kind and tenant.
     pub fn name(&self) -> &str
         ensures { result.now ≡ self.now.name }
     {
-        words::after(&self.text, usize::from(self.colon))
+        words::after(&self.placed.text, usize::from(self.placed.colon))
     }
 
     /// The kind, as a value of its own.
@@ -120,7 +139,7 @@ impl GrainId {
         ensures { IfOk result (λ k. k ≡ self.now.kind) }
     {
         // Read, so that the proof sees that the parts are well formed.
-        let _text = &self.text;
+        let _text = &self.placed.text;
         Kind::of_word(alloc, self.kind())
     }
 
@@ -129,7 +148,7 @@ impl GrainId {
         ensures { IfOk result (λ t. t ≡ self.now.tenant) }
     {
         // Read, so that the proof sees that the parts are well formed.
-        let _text = &self.text;
+        let _text = &self.placed.text;
         Tenant::of_word(alloc, self.tenant())
     }
 }
@@ -139,9 +158,7 @@ impl Clone for GrainId {
 
     fn clone(&self) -> Result<GrainId, AllocError> {
         Ok(GrainId {
-            text: self.text.clone()?,
-            slash: self.slash,
-            colon: self.colon,
+            placed: self.placed.clone()?,
         })
     }
 }

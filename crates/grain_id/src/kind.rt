@@ -16,22 +16,24 @@ use std::alloc::{AllocError, Global};
 use std::cmp::Ordering;
 use std::hash::{Hash, Hasher};
 use std::marker::Model;
+use std::sync::ArcStr;
 
 /// The name of a kind of grains: 1 to 32 bytes of `a-z`, `0-9` and `-`, the first a letter.
 #[derive(Debug, Drop)]
 pub struct Kind {
-    text: String,
+    text: ArcStr,
 }
 
 impl Model for Kind {
-    ghost use Rattle.std.specs.Prelude.{ℕ, List, IsTrue, string_bytes};
+    ghost use Rattle.std.specs.Prelude.{ℕ, List, IsTrue};
+    ghost use Rattle.std.specs.Arc.{arc_str_bytes};
     ghost use Rattle.grain_id.specs.Words.{is_word};
 
     ghost Value = { List ℕ };
 
-    ghost view = { λ t. string_bytes t.text };
+    ghost view = { λ t. arc_str_bytes t.text };
 
-    ghost invariant = { λ t. IsTrue (is_word (string_bytes t.text)) };
+    ghost invariant = { λ t. IsTrue (is_word (arc_str_bytes t.text)) };
 }
 
 impl Kind {
@@ -57,7 +59,7 @@ impl Kind {
         ensures { IfOk result (λ kind. kind ≡ text.now) }
     {
         Ok(Kind {
-            text: String::from_str(alloc, text)?,
+            text: ArcStr::from_str(alloc, text)?,
         })
     }
 

@@ -12,6 +12,7 @@ mod caller;
 mod fault;
 mod grain;
 mod kind;
+mod lately;
 pub mod laws;
 mod tenant;
 mod words;
@@ -20,6 +21,7 @@ pub use caller::Caller;
 pub use fault::IdFault;
 pub use grain::GrainId;
 pub use kind::Kind;
+pub use lately::LatelyRead;
 pub use tenant::Tenant;
 
 #[cfg(test)]

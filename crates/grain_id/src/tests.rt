@@ -2,6 +2,7 @@ use crate::caller::Caller;
 use crate::fault::IdFault;
 use crate::grain::GrainId;
 use crate::kind::Kind;
+use crate::lately::LatelyRead;
 use crate::laws;
 use crate::tenant::Tenant;
 use std::alloc::{AllocError, Global};
@@ -204,5 +205,30 @@ fn keys_of_a_hashed_map(rt: HostRuntime) -> Result<(), Fail> {
     let mut kinds = HashMap::new(alloc);
     kinds.insert(Kind::read(alloc, "sheet")?, 1)?;
     assert_eq!(rt; kinds.get(&Kind::read(alloc, "relay")?).copied(), None);
+    Ok(())
+}
+
+/// The text of a grain, by number.
+fn numbered(alloc: Global, number: u32) -> Result<String, AllocError> {
+    format!(in alloc; "counter/red:{number}")
+}
+
+#[test]
+fn names_read_lately(rt: HostRuntime) -> Result<(), Fail> {
+    let alloc = rt.alloc();
+    let mut names = LatelyRead::new(alloc)?;
+    // More names than are kept, so that some take the place of others; each is read twice.
+    for number in 0..20_000 {
+        let text = numbered(alloc, number)?;
+        for _ in 0..2 {
+            let grain = names.read_grain(alloc, text.as_str())?;
+            assert_eq!(rt; grain.text(), text.as_str());
+        }
+    }
+    for _ in 0..2 {
+        assert_eq!(rt; names.read_caller(alloc, "red/c1")?.client(), "c1");
+        assert_eq!(rt; names.read_grain(alloc, "counter:red"), Err(IdFault::Kind));
+        assert_eq!(rt; names.read_caller(alloc, "red"), Err(IdFault::Tenant));
+    }
     Ok(())
 }
