@@ -39,5 +39,5 @@ pub fn encode_json(alloc: Global, method: &str, argument: &Value) -> Result<Mess
     if !is_json_whole(argument) {
         return Err(CodecFault::NotWhole);
     }
-    Ok(Message::from_spelling(json_message_bytes(alloc, method, argument)?))
+    Ok(Message::from_spelling(json_message_bytes(alloc, method, argument)?)?)
 }

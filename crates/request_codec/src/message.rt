@@ -13,17 +13,21 @@ ghost use Rattle.request_codec.specs.declared.fault.CodecFault.TheVariants as fa
 
 use crate::bytes::text_of;
 use crate::fault::CodecFault;
+use crate::kept::{Kept, keep, keep_copy, show};
 use crate::value_end::is_message;
 use std::alloc::{AllocError, Global};
 use std::marker::Model;
+use std::sync::Arc;
 
 /// Bytes that spell a method and one value: at most 65,536 of them, the value no deeper than 32.
 #[derive(Debug, Drop)]
 pub struct Message {
-    bytes: Vec<u8>,
+    kept: Arc<Kept>,
 }
 
 impl Model for Message {
+    ghost use Rattle.std.specs.Arc.{arc_value};
+    ghost use Rattle.request_codec.specs.Kept.{kept_bytes};
     ghost use Rattle.std.specs.Prelude.{IsSome};
     ghost use Rattle.request_codec.specs.Call.{Call, coded_call};
 
@@ -33,9 +37,9 @@ impl Model for Message {
 
     ghost use Rattle.request_codec.specs.Call.{message_call, call_of};
 
-    ghost view = { λ m. call_of m.bytes.items };
+    ghost view = { λ m. call_of (kept_bytes (arc_value m.kept)) };
 
-    ghost invariant = { λ m. IsSome (message_call m.bytes.items) };
+    ghost invariant = { λ m. IsSome (message_call (kept_bytes (arc_value m.kept))) };
 }
 
 /// The same bytes, which spell the call that is shown of them.
@@ -65,11 +69,21 @@ fn method_in(bytes: &[u8]) -> &str
 
 impl Message {
     /// The message of bytes that are known to spell one.
-    pub fn from_spelling(bytes: Vec<u8>) -> Message
+    pub fn from_spelling(bytes: Vec<u8>) -> Result<Message, AllocError>
         requires { IsSome (message_call bytes.items) }
-        ensures { message_call bytes.items ≡ Some result }
+        ensures { IfOk result (λ made. message_call bytes.items ≡ Some made) }
     {
-        Message { bytes }
+        Ok(Message { kept: keep(bytes)? })
+    }
+
+    /// The message of a copy of bytes that are known to spell one.
+    pub fn copy_spelling(alloc: Global, bytes: &[u8]) -> Result<Message, AllocError>
+        requires { IsSome (message_call bytes.now) }
+        ensures { IfOk result (λ made. message_call bytes.now ≡ Some made) }
+    {
+        Ok(Message {
+            kept: keep_copy(alloc, bytes)?,
+        })
     }
 
     /// The message whose bytes these are. It keeps the very bytes.
@@ -83,7 +97,7 @@ impl Message {
             return Err(CodecFault::NotAMessage);
         }
         Ok(Message {
-            bytes: Vec::from_slice(alloc, bytes)?,
+            kept: keep_copy(alloc, bytes)?,
         })
     }
 
@@ -93,14 +107,14 @@ impl Message {
         ensures spelled { SpellsMessage self.now.method self.now.argument result.now }
         ensures exact { result.now ≡ message_spelling self.now }
     {
-        spelled(self.bytes.as_slice())
+        spelled(show(&self.kept))
     }
 
     /// The method. The value behind it is not read.
     pub fn method(&self) -> &str
         ensures { result.now ≡ self.now.method }
     {
-        method_in(self.bytes.as_slice())
+        method_in(show(&self.kept))
     }
 }
 
@@ -109,7 +123,7 @@ impl Clone for Message {
 
     fn clone(&self) -> Result<Message, AllocError> {
         Ok(Message {
-            bytes: self.bytes.clone()?,
+            kept: self.kept.clone()?,
         })
     }
 }

@@ -12,6 +12,7 @@ ghost use Rattle.request_codec.specs.Answers.{Reads};
 ghost use Rattle.request_codec.specs.declared.fault.CodecFault.TheVariants as faults;
 
 use crate::fault::CodecFault;
+use crate::held::{Held, copy_held, hold, hold_copy, show};
 use crate::value_end::is_state;
 use std::alloc::{AllocError, Global};
 use std::marker::Model;
@@ -19,10 +20,11 @@ use std::marker::Model;
 /// Bytes that spell one value: at most 262,144 of them, the value no deeper than 32.
 #[derive(Debug, Drop)]
 pub struct StateBytes {
-    bytes: Vec<u8>,
+    held: Held,
 }
 
 impl Model for StateBytes {
+    ghost use Rattle.request_codec.specs.Held.{held_bytes};
     ghost use Rattle.std.specs.Prelude.{IsSome};
     ghost use Rattle.request_codec.specs.Tree.{Tree};
     ghost use Rattle.request_codec.specs.Code.{coded_tree};
@@ -33,9 +35,9 @@ impl Model for StateBytes {
 
     ghost use Rattle.request_codec.specs.Call.{state_value, value_of_state};
 
-    ghost view = { λ s. value_of_state s.bytes.items };
+    ghost view = { λ s. value_of_state (held_bytes s.held) };
 
-    ghost invariant = { λ s. IsSome (state_value s.bytes.items) };
+    ghost invariant = { λ s. IsSome (state_value (held_bytes s.held)) };
 }
 
 /// The same bytes, which spell the value that is shown of them.
@@ -51,11 +53,11 @@ fn spelled(bytes: &[u8]) -> &[u8]
 
 impl StateBytes {
     /// The state of bytes that are known to spell one.
-    pub fn from_spelling(bytes: Vec<u8>) -> StateBytes
+    pub fn from_spelling(bytes: Vec<u8>) -> Result<StateBytes, AllocError>
         requires { IsSome (state_value bytes.items) }
-        ensures { state_value bytes.items ≡ Some result }
+        ensures { IfOk result (λ made. state_value bytes.items ≡ Some made) }
     {
-        StateBytes { bytes }
+        Ok(StateBytes { held: hold(bytes)? })
     }
 
     /// The state whose bytes these are. It keeps the very bytes.
@@ -69,7 +71,7 @@ impl StateBytes {
             return Err(CodecFault::NotAMessage);
         }
         Ok(StateBytes {
-            bytes: Vec::from_slice(alloc, bytes)?,
+            held: hold_copy(alloc, bytes)?,
         })
     }
 
@@ -79,7 +81,7 @@ impl StateBytes {
         ensures spelled { SpellsState self.now result.now }
         ensures exact { result.now ≡ spelling self.now }
     {
-        spelled(self.bytes.as_slice())
+        spelled(show(&self.held))
     }
 }
 
@@ -88,7 +90,7 @@ impl Clone for StateBytes {
 
     fn clone(&self) -> Result<StateBytes, AllocError> {
         Ok(StateBytes {
-            bytes: self.bytes.clone()?,
+            held: copy_held(&self.held)?,
         })
     }
 }

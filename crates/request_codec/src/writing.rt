@@ -45,7 +45,7 @@ pub fn encode(alloc: Global, method: &str, argument: &Datum) -> Result<Message, 
     if !is_within(argument, MAX_DEPTH) {
         return Err(CodecFault::TooDeep);
     }
-    Ok(Message::from_spelling(message_bytes(alloc, method, argument)?))
+    Ok(Message::from_spelling(message_bytes(alloc, method, argument)?)?)
 }
 
 /// The state of a value. `TooDeep` comes before `TooLong`.
@@ -55,5 +55,5 @@ pub fn encode_state(alloc: Global, value: &Datum) -> Result<StateBytes, CodecFau
     if !is_within(value, MAX_DEPTH) {
         return Err(CodecFault::TooDeep);
     }
-    Ok(StateBytes::from_spelling(state_bytes(alloc, value)?))
+    Ok(StateBytes::from_spelling(state_bytes(alloc, value)?)?)
 }

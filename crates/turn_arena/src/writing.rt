@@ -47,7 +47,7 @@ pub fn encode_call(alloc: Global, method: &str, argument: Node<'_>) -> Result<Me
     if !is_within(argument, MAX_DEPTH) {
         return Err(CodecFault::TooDeep);
     }
-    Ok(Message::from_spelling(message_bytes(alloc, method, argument)?))
+    Ok(Message::from_spelling(message_bytes(alloc, method, argument)?)?)
 }
 
 /// The state of a value. `TooDeep` comes before `TooLong`.
@@ -58,5 +58,5 @@ pub fn encode_node(alloc: Global, node: Node<'_>) -> Result<StateBytes, CodecFau
     if !is_within(node, MAX_DEPTH) {
         return Err(CodecFault::TooDeep);
     }
-    Ok(StateBytes::from_spelling(state_bytes(alloc, node)?))
+    Ok(StateBytes::from_spelling(state_bytes(alloc, node)?)?)
 }

@@ -35,5 +35,5 @@ returns c =
     let v = lenient c.args.argument.now in
     let tested = lenient_tested (view c.args.argument.now) c.if-not-is_json_within.ensures c.if-not-is_json_whole.ensures in
     let short : message_length method v ≤ message_limit = omega (arith, c.in_ok-json_message_bytes.ensures.1, length-message method v) in
-    let same = same_found (message_call items) c.from_spelling.result (asks method v) c.from_spelling.ensures (encoded_message items method v c.utf8.method tested c.in_ok-json_message_bytes.ensures) in
+    let same = same_found (message_call items) c.in_ok-from_spelling.field-0 (asks method v) c.in_ok-from_spelling.ensures (encoded_message items method v c.utf8.method tested c.in_ok-json_message_bytes.ensures) in
     (c.if-not-is_json_within.ensures, (v, c.if-not-is_json_whole.ensures.0, same, short))

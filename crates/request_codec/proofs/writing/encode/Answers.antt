@@ -30,4 +30,4 @@ returns c =
     let method = c.args.method.now in
     let v = value_of c.args.argument.now in
     let short : message_length method v ≤ message_limit = omega (arith, c.in_ok-message_bytes.ensures.1, length-message method v) in
-    (same_found (message_call items) c.from_spelling.result (asks method v) c.from_spelling.ensures (encoded_message items method v c.utf8.method c.if-not-is_within.ensures c.in_ok-message_bytes.ensures), c.if-not-is_within.ensures.0, short)
+    (same_found (message_call items) c.in_ok-from_spelling.field-0 (asks method v) c.in_ok-from_spelling.ensures (encoded_message items method v c.utf8.method c.if-not-is_within.ensures c.in_ok-message_bytes.ensures), c.if-not-is_within.ensures.0, short)

@@ -28,4 +28,4 @@ returns c =
     let items = c.in_ok-state_bytes.field-0.items in
     let v = value_of c.args.value.now in
     let short : spelled_length v ≤ state_limit = omega (arith, c.in_ok-state_bytes.ensures.1, length-spelling v) in
-    (same_found (state_value items) c.from_spelling.result v c.from_spelling.ensures (encoded_state items v c.if-not-is_within.ensures c.in_ok-state_bytes.ensures), c.if-not-is_within.ensures.0, short)
+    (same_found (state_value items) c.in_ok-from_spelling.field-0 v c.in_ok-from_spelling.ensures (encoded_state items v c.if-not-is_within.ensures c.in_ok-state_bytes.ensures), c.if-not-is_within.ensures.0, short)

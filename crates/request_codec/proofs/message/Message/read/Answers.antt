@@ -11,9 +11,9 @@ returns-then-not-is_message-clause-none c = λ _. message_denied c.args.bytes.no
 pub returns-clause-spelled : goal.returns-clause-spelled
 returns-clause-spelled c =
     let known : IsSome (message_call c.args.bytes.now) = sym c.is_message.ensures ∙ c.if-not-is_message.false in
-    rw c.in_ok-from_slice.ensures.items (message_shown c.args.bytes.now (λ i. omega (arith, c.type_inv.bytes i)) known)
+    rw c.in_ok-keep_copy.ensures (message_shown c.args.bytes.now (λ i. omega (arith, c.type_inv.bytes i)) known)
 
 pub returns-clause-exact : goal.returns-clause-exact
 returns-clause-exact c =
     let known : IsSome (message_call c.args.bytes.now) = sym c.is_message.ensures ∙ c.if-not-is_message.false in
-    rw c.in_ok-from_slice.ensures.items (sym (message_spelling-is (call_of c.args.bytes.now) c.args.bytes.now (message_shown c.args.bytes.now (λ i. omega (arith, c.type_inv.bytes i)) known)))
+    rw c.in_ok-keep_copy.ensures (sym (message_spelling-is (call_of c.args.bytes.now) c.args.bytes.now (message_shown c.args.bytes.now (λ i. omega (arith, c.type_inv.bytes i)) known)))

@@ -11,9 +11,9 @@ returns-then-not-is_state-clause-none c = λ _. state_denied c.args.bytes.now (s
 pub returns-clause-spelled : goal.returns-clause-spelled
 returns-clause-spelled c =
     let known : IsSome (state_value c.args.bytes.now) = sym c.is_state.ensures ∙ c.if-not-is_state.false in
-    rw c.in_ok-from_slice.ensures.items (state_shown c.args.bytes.now (λ i. omega (arith, c.type_inv.bytes i)) known)
+    rw c.in_ok-hold_copy.ensures (state_shown c.args.bytes.now (λ i. omega (arith, c.type_inv.bytes i)) known)
 
 pub returns-clause-exact : goal.returns-clause-exact
 returns-clause-exact c =
     let known : IsSome (state_value c.args.bytes.now) = sym c.is_state.ensures ∙ c.if-not-is_state.false in
-    rw c.in_ok-from_slice.ensures.items (sym (state_spelling-is (value_of_state c.args.bytes.now) c.args.bytes.now (state_shown c.args.bytes.now (λ i. omega (arith, c.type_inv.bytes i)) known)))
+    rw c.in_ok-hold_copy.ensures (sym (state_spelling-is (value_of_state c.args.bytes.now) c.args.bytes.now (state_shown c.args.bytes.now (λ i. omega (arith, c.type_inv.bytes i)) known)))

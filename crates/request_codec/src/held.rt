@@ -1,0 +1,70 @@
+//! The bytes of a state: in place if they are few, and otherwise shared by all clones.
+
+ghost use Rattle.std.specs.Prelude.{◌≡◌, ◌≤◌, length, IfOk};
+ghost use Rattle.request_codec.specs.Held.{held_bytes};
+
+use std::alloc::{AllocError, Global};
+use std::sync::ArcSlice;
+
+/// The most bytes in place: a number's state has 9.
+const SHORT: usize = 15;
+
+/// Bytes: as many in place as the count says, or shared.
+#[derive(Debug, Drop)]
+pub(crate) enum Held {
+    Short(u8, [u8; SHORT]),
+    Long(ArcSlice<u8>),
+}
+
+/// The bytes, in place.
+fn hold_short(bytes: &[u8]) -> Held
+    requires { length bytes.now ≤ 15 }
+    ensures { held_bytes result ≡ bytes.now }
+{
+    let mut short = [0; SHORT];
+    let count = bytes.len();
+    short[..count].copy_from_slice(bytes);
+    Held::Short(count as u8, short)
+}
+
+/// The bytes, held. Shared ones keep no spare room.
+pub(crate) fn hold(bytes: Vec<u8>) -> Result<Held, AllocError>
+    ensures { IfOk result (λ held. held_bytes held ≡ bytes.items) }
+{
+    if bytes.len() <= SHORT {
+        return Ok(hold_short(bytes.as_slice()));
+    }
+    let mut bytes = bytes;
+    bytes.shrink_to_fit();
+    Ok(Held::Long(ArcSlice::from_vec(bytes)?))
+}
+
+/// A copy of the bytes, held.
+pub(crate) fn hold_copy(alloc: Global, bytes: &[u8]) -> Result<Held, AllocError>
+    ensures { IfOk result (λ held. held_bytes held ≡ bytes.now) }
+{
+    if bytes.len() <= SHORT {
+        return Ok(hold_short(bytes));
+    }
+    Ok(Held::Long(ArcSlice::from_slice(alloc, bytes)?))
+}
+
+/// The bytes that are held.
+pub(crate) fn show(held: &Held) -> &[u8]
+    ensures { result.now ≡ held_bytes held.now }
+{
+    match held {
+        Held::Short(count, bytes) => &bytes[..usize::from(*count).min(SHORT)],
+        Held::Long(bytes) => bytes.as_slice(),
+    }
+}
+
+/// The same bytes, held once more.
+pub(crate) fn copy_held(held: &Held) -> Result<Held, AllocError>
+    ensures { IfOk result (λ copy. held_bytes copy ≡ held_bytes held.now) }
+{
+    match held {
+        Held::Short(count, bytes) => Ok(Held::Short(*count, *bytes)),
+        Held::Long(bytes) => Ok(Held::Long(bytes.clone()?)),
+    }
+}
