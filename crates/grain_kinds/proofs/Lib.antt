@@ -1,0 +1,5 @@
+pub mod Fits
+pub mod Nodes
+pub mod Shapes
+pub mod Fields
+pub mod Members

@@ -1,0 +1,17 @@
+pub mod Logic
+pub mod Laws
+pub mod Shared
+pub mod Counter
+pub mod Sheet
+pub mod Relay
+pub mod Kinds
+pub mod Counters
+pub mod Planned
+pub mod Finished
+pub mod Room
+pub mod Held
+pub mod LawsOfForms
+pub mod LawsOfCounter
+pub mod LawsOfSheet
+pub mod LawsOfRelay
+pub mod LawsOfKinds

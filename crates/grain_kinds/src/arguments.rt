@@ -1,0 +1,106 @@
+//! The shapes of arguments. `None` says that an argument has another one.
+
+ghost use Rattle.std.specs.Prelude.{◌≡◌, Some, None, option_map, if◌then◌else◌};
+ghost use Rattle.grain_id.specs.Names.{same_text};
+ghost use Rattle.turn_arena.specs.Shape.{shape};
+ghost use Rattle.grain_kinds.specs.Shared as shared;
+
+use turn_arena::{Field, Node};
+
+pub(crate) fn is_null(argument: Node<'_>) -> bool
+    ensures { result ≡ shared.is_null (shape argument.entry) }
+{
+    match argument {
+        Node::Null => true,
+        Node::Bool(_) => false,
+        Node::Int(_) => false,
+        Node::Text(_) => false,
+        Node::List(_) => false,
+        Node::Map(_) => false,
+    }
+}
+
+/// The whole number that a value is.
+fn whole_value(value: Node<'_>) -> Option<i64>
+    ensures { result ≡ shared.whole_value (shape value.entry) }
+{
+    match value {
+        Node::Int(number) => Some(number),
+        Node::Null => None,
+        Node::Bool(_) => None,
+        Node::Text(_) => None,
+        Node::List(_) => None,
+        Node::Map(_) => None,
+    }
+}
+
+/// The text that a value is.
+pub(crate) fn text_value<'a>(value: Node<'a>) -> Option<&'a str>
+    ensures { option_map (λ s. s.now) result ≡ shared.text_value (shape value.entry) }
+{
+    match value {
+        Node::Text(text) => Some(text),
+        Node::Null => None,
+        Node::Bool(_) => None,
+        Node::Int(_) => None,
+        Node::List(_) => None,
+        Node::Map(_) => None,
+    }
+}
+
+/// The value of a field, if it has this name.
+fn named<'a>(field: &Field<'a>, name: &str) -> Option<Node<'a>>
+    ensures { option_map shape result ≡ (if same_text field.now.name.now name.now then Some (shape field.now.node) else None) }
+{
+    if field.name == name {
+        return Some(field.node);
+    }
+    None
+}
+
+/// The value of the only field, if it has this name.
+fn only_field<'a>(argument: Node<'a>, name: &str) -> Option<Node<'a>>
+    ensures { option_map shape result ≡ shared.only_field name.now (shape argument.entry) }
+{
+    let Node::Map(fields) = argument else {
+        return None;
+    };
+    match fields {
+        [field] => named(field, name),
+        [] => None,
+        [_, _, ..] => None,
+    }
+}
+
+/// The values of the only two fields, if they have these names.
+pub(crate) fn only_fields<'a>(
+    argument: Node<'a>,
+    first: &str,
+    second: &str,
+) -> Option<(Node<'a>, Node<'a>)>
+    ensures { option_map (λ values. (shape values.0, shape values.1)) result ≡ shared.only_fields first.now second.now (shape argument.entry) }
+{
+    let Node::Map(fields) = argument else {
+        return None;
+    };
+    match fields {
+        [one, other] => Some((named(one, first)?, named(other, second)?)),
+        [] => None,
+        [_] => None,
+        [_, _, _, ..] => None,
+    }
+}
+
+/// The number in `{"name": int}`.
+pub(crate) fn whole_field(argument: Node<'_>, name: &str) -> Option<i64>
+    ensures { result ≡ shared.whole_field name.now (shape argument.entry) }
+{
+    whole_value(only_field(argument, name)?)
+}
+
+/// The text in `{"name": text}`.
+pub(crate) fn text_field<'a>(argument: Node<'a>, name: &str) -> Option<&'a str>
+    ensures { option_map (λ s. s.now) result ≡ shared.text_field name.now (shape argument.entry) }
+{
+    text_value(only_field(argument, name)?)
+}

@@ -1,0 +1,13 @@
+//! Laws over the definitions alone, each the contract of a function that does nothing.
+
+ghost use Rattle.grain_kinds.specs.Counters.{counters};
+ghost use Rattle.grain_kinds.specs.Kinds.{kinds};
+ghost use Rattle.grain_kinds.specs.Laws.{IsLawful, ReadersAskNothing};
+ghost use Rattle.grain_kinds.specs.Logic.{Logic};
+
+/// The logics of this crate are lawful, and a lawful logic asks nothing of the storage in a method that only reads.
+pub fn lawful()
+    ensures kinds { IsLawful kinds }
+    ensures counters { IsLawful counters }
+    ensures readers { (logic : Logic) → IsLawful logic → ReadersAskNothing logic }
+{}

@@ -1,0 +1,31 @@
+//! What grains do with their messages: the logic of each kind of grain.
+//!
+//! A layer above may rely on this: a logic says which kinds it knows, which methods only read, the
+//! empty state of a kind, and the plan of a method, a state and an argument. What a logic is, and its
+//! laws, are in `specs/Logic.antt` and `specs/Laws.antt`; the kinds are in `specs/Kinds.antt` and the
+//! page of each.
+#![tactic(auto)]
+
+mod arguments;
+mod counter;
+mod fault;
+mod kinds;
+pub mod laws;
+mod length;
+mod logic;
+mod plan;
+mod reading;
+mod relay;
+mod shared;
+mod sheet;
+mod turn;
+mod writing;
+
+pub use fault::MethodFault;
+pub use kinds::Kinds;
+pub use logic::GrainLogic;
+pub use plan::{Plan, Send, StoreCall};
+pub use turn::{FinishedTurn, OpenedTurn, run_turn};
+
+#[cfg(test)]
+mod tests;

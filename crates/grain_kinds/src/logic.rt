@@ -1,0 +1,49 @@
+//! What a logic is.
+
+use crate::plan::Plan;
+use bumpalo::Bump;
+use request_codec::StateBytes;
+use std::alloc::{AllocError, Global};
+use turn_arena::Node;
+
+/// What grains do with their messages. The functions belong to the type: two values of one type plan alike.
+pub trait GrainLogic {
+    ghost use Rattle.std.specs.Prelude.{◌≡◌, true, IfOk};
+    ghost use Rattle.request_codec.specs.Call.{asks};
+    ghost use Rattle.turn_arena.specs.Shape.{shape};
+    ghost use Rattle.grain_kinds.specs.Logic.{Logic};
+    ghost use Rattle.grain_kinds.specs.Laws.{IsLawful, FitsState, FitsMessage};
+    ghost use Rattle.grain_kinds.specs.Planned.{plan_shown};
+
+    ghost logic: { Logic };
+
+    /// Whether grains of this kind are known.
+    fn knows(&self, kind: &str) -> bool
+        ensures { result ≡ logic.knows kind.now };
+
+    /// Whether the method of this kind only reads: it changes nothing, whatever the state and the argument.
+    fn is_read(&self, kind: &str, method: &str) -> bool
+        ensures { result ≡ logic.is_read kind.now method.now };
+
+    /// The state of a grain of this kind that was never written.
+    fn empty(&self, alloc: Global, kind: &str) -> Result<StateBytes, AllocError>
+        requires { logic.knows kind.now ≡ true }
+        ensures { IfOk result (λ state. state ≡ logic.empty kind.now) };
+
+    /// What a turn of the method comes to. The state and the call have to keep the limits of a state and a message.
+    fn plan<'a>(
+        &self,
+        alloc: Global,
+        bump: &'a Bump,
+        kind: &str,
+        method: &'a str,
+        state: Node<'a>,
+        args: Node<'a>,
+    ) -> Result<Plan<'a>, AllocError>
+        requires state_fits { FitsState (shape state) }
+        requires call_fits { FitsMessage (asks method.now (shape args)) }
+        ensures { IfOk result (λ plan. plan_shown (shape state.entry) plan ≡ logic.plan kind.now method.now (shape state.entry) (shape args.entry)) };
+
+    // The laws of a logic.
+    ghost lawful: { IsLawful logic };
+}

@@ -1,0 +1,38 @@
+//! A turn's message and state, read into its arena.
+
+ghost use Rattle.std.specs.Prelude.{◌≡◌, IfOk};
+ghost use Rattle.request_codec.specs.Call.{asks};
+ghost use Rattle.turn_arena.specs.Shape.{shape};
+ghost use Rattle.grain_kinds.specs.Laws.{FitsState, FitsMessage};
+
+use bumpalo::Bump;
+use request_codec::{Message, StateBytes};
+use std::alloc::AllocError;
+use turn_arena::{ArenaFault, Node, decode_in, node_in};
+
+/// The method and the argument of a message.
+pub(crate) fn asked_in<'a>(
+    bump: &'a Bump,
+    message: &Message,
+) -> Result<(&'a str, Node<'a>), AllocError>
+    ensures same { IfOk result (λ found. asks found.0.now (shape found.1) ≡ message.now) }
+    ensures fits { IfOk result (λ found. FitsMessage (asks found.0.now (shape found.1))) }
+{
+    match decode_in(bump, message.bytes()) {
+        Ok(found) => Ok(found),
+        Err(ArenaFault::Memory) => Err(AllocError),
+        Err(ArenaFault::NotAMessage) => unreachable!(),
+    }
+}
+
+/// The value of a state.
+pub(crate) fn state_in<'a>(bump: &'a Bump, state: &StateBytes) -> Result<Node<'a>, AllocError>
+    ensures same { IfOk result (λ node. shape node ≡ state.now) }
+    ensures fits { IfOk result (λ node. FitsState (shape node)) }
+{
+    match node_in(bump, state.bytes()) {
+        Ok(node) => Ok(node),
+        Err(ArenaFault::Memory) => Err(AllocError),
+        Err(ArenaFault::NotAMessage) => unreachable!(),
+    }
+}

@@ -1,0 +1,149 @@
+//! Turns: one that was opened, and one whose plan was made.
+
+ghost use Rattle.std.specs.Prelude.{◌≡◌, map, IfOk, MatchResult};
+ghost use Rattle.grain_kinds.specs.Finished.{planned_shown, sent, turn_plan};
+ghost use Rattle.grain_kinds.specs.Planned.{storage_call};
+
+use crate::fault::MethodFault;
+use crate::logic::GrainLogic;
+use crate::plan::StoreCall;
+use crate::reading::{asked_in, state_in};
+use crate::writing::written;
+use bumpalo::Bump;
+use grain_id::GrainId;
+use request_codec::{Message, StateBytes};
+use std::alloc::{AllocError, Global};
+use std::marker::{Model, PhantomData};
+
+/// A turn that was opened: what its plan is made of.
+#[derive(Drop)]
+pub struct OpenedTurn {
+    pub grain: GrainId,
+    /// The turn's number in its tenant, from 1.
+    pub number: u64,
+    /// Whether other turns of the grain may be open beside it.
+    pub reading: bool,
+    /// The grain's state.
+    pub state: StateBytes,
+    pub message: Message,
+}
+
+/// What a turn came to, in bytes of its own.
+#[derive(Drop)]
+pub(crate) struct Planned {
+    /// The state after the turn, if it is another one.
+    pub state: Option<StateBytes>,
+    pub outcome: Result<StateBytes, MethodFault>,
+    pub store: StoreCall,
+    pub sends: Vec<(GrainId, Message)>,
+}
+
+/// A turn whose plan was made. It is seen as the turn that was opened; its plan is the logic's.
+#[derive(Drop)]
+pub struct FinishedTurn<L: GrainLogic> {
+    opened: OpenedTurn,
+    planned: Planned,
+    of: PhantomData<L>,
+}
+
+impl<L: GrainLogic> Model for FinishedTurn<L> {
+    ghost use Rattle.std.specs.Prelude.{◌≡◌};
+    ghost use Rattle.grain_kinds.specs.declared.turn.OpenedTurn.{OpenedTurn};
+    ghost use Rattle.grain_kinds.specs.Finished.{planned_shown, coded_turn, turn_plan};
+
+    ghost Value = { OpenedTurn };
+
+    ghost coded = { coded_turn };
+
+    ghost view = { λ f. f.opened };
+
+    ghost invariant = { λ f. planned_shown f.opened.state f.planned ≡ turn_plan L.logic f.opened };
+}
+
+/// The plan of a turn, in bytes of its own.
+fn planned_by<L: GrainLogic>(
+    alloc: Global,
+    bump: &Bump,
+    logic: &L,
+    opened: &OpenedTurn,
+) -> Result<Planned, AllocError>
+    ensures { IfOk result (λ planned. planned_shown opened.now.state planned ≡ turn_plan L.logic opened.now) }
+{
+    let (method, argument) = asked_in(bump, &opened.message)?;
+    let state = state_in(bump, &opened.state)?;
+    let plan = logic.plan(alloc, bump, opened.grain.kind(), method, state, argument)?;
+    written(alloc, plan)
+}
+
+/// Makes the plan of a turn. If memory is refused, the opened turn comes back.
+pub fn run_turn<L: GrainLogic>(
+    alloc: Global,
+    bump: &Bump,
+    logic: &L,
+    opened: OpenedTurn,
+) -> Result<FinishedTurn<L>, OpenedTurn>
+    ensures { MatchResult result (λ finished. finished ≡ opened) (λ back. back ≡ opened) }
+{
+    match planned_by(alloc, bump, logic, &opened) {
+        Ok(planned) => Ok(FinishedTurn {
+            opened,
+            planned,
+            of: PhantomData,
+        }),
+        Err(AllocError) => Err(opened),
+    }
+}
+
+impl<L: GrainLogic> FinishedTurn<L> {
+    /// The turn that was opened.
+    pub fn input(&self) -> &OpenedTurn
+        ensures { result.now ≡ self.now }
+    {
+        &self.opened
+    }
+
+    /// The grain whose turn it is.
+    pub fn grain(&self) -> &GrainId
+        ensures { result.now ≡ self.now.grain }
+    {
+        &self.opened.grain
+    }
+
+    /// The turn's number in its tenant.
+    pub fn number(&self) -> u64
+        ensures { result ≡ self.now.number }
+    {
+        self.opened.number
+    }
+
+    /// The state after the turn.
+    pub fn state(&self) -> &StateBytes
+        ensures { result.now ≡ (turn_plan L.logic self.now).state }
+    {
+        match &self.planned.state {
+            Some(state) => state,
+            None => &self.opened.state,
+        }
+    }
+
+    /// The answer, or the code of its fault.
+    pub fn outcome(&self) -> &Result<StateBytes, MethodFault>
+        ensures { result.now ≡ (turn_plan L.logic self.now).outcome }
+    {
+        &self.planned.outcome
+    }
+
+    /// What is asked of the storage.
+    pub fn store_call(&self) -> StoreCall
+        ensures { storage_call result ≡ (turn_plan L.logic self.now).storage }
+    {
+        self.planned.store
+    }
+
+    /// What is sent, in order: a grain and the message for it, each.
+    pub fn sends(&self) -> &[(GrainId, Message)]
+        ensures { map sent result.now ≡ (turn_plan L.logic self.now).sends }
+    {
+        self.planned.sends.as_slice()
+    }
+}

@@ -1,0 +1,104 @@
+//! A plan's values, written as bytes of their own.
+
+ghost use Rattle.std.specs.Prelude.{◌≡◌, map, option_map, IfOk, IfSome};
+ghost use Rattle.std.specs.List.{AllByRecursion};
+ghost use Rattle.request_codec.specs.Call.{asks};
+ghost use Rattle.request_codec.specs.Tree.{Tree};
+ghost use Rattle.turn_arena.specs.Shape.{shape};
+ghost use Rattle.grain_kinds.specs.Finished.{planned_shown, sent};
+ghost use Rattle.grain_kinds.specs.Laws.{FitsState, FitsMessage};
+ghost use Rattle.grain_kinds.specs.Planned.{send_shown, outcome_shown, plan_shown, NodesFit};
+
+use crate::fault::MethodFault;
+use crate::plan::{Plan, Send};
+use crate::turn::Planned;
+use grain_id::GrainId;
+use request_codec::{CodecFault, Message, StateBytes};
+use std::alloc::{AllocError, Global};
+use turn_arena::{Node, encode_call, encode_node};
+
+/// The state of a value that keeps the limits of one.
+#[tactic(auto, using(crate::proofs::Fits::formed_ascends))]
+pub(crate) fn state_of(alloc: Global, node: Node<'_>) -> Result<StateBytes, AllocError>
+    requires { FitsState (shape node) }
+    ensures { IfOk result (λ state. state ≡ shape node.entry) }
+{
+    match encode_node(alloc, node) {
+        Ok(state) => Ok(state),
+        Err(CodecFault::Memory) => Err(AllocError),
+        Err(CodecFault::TooDeep) => unreachable!(),
+        Err(CodecFault::TooLong) => unreachable!(),
+        Err(CodecFault::NotWhole) => unreachable!(),
+        Err(CodecFault::NotAMessage) => unreachable!(),
+    }
+}
+
+/// The message of a call that keeps the limits of one.
+#[tactic(auto, using(crate::proofs::Fits::formed_ascends))]
+fn message_of(alloc: Global, method: &str, argument: Node<'_>) -> Result<Message, AllocError>
+    requires { FitsMessage (asks method.now (shape argument)) }
+    ensures { IfOk result (λ message. message ≡ asks method.now (shape argument.entry)) }
+{
+    match encode_call(alloc, method, argument) {
+        Ok(message) => Ok(message),
+        Err(CodecFault::Memory) => Err(AllocError),
+        Err(CodecFault::TooDeep) => unreachable!(),
+        Err(CodecFault::TooLong) => unreachable!(),
+        Err(CodecFault::NotWhole) => unreachable!(),
+        Err(CodecFault::NotAMessage) => unreachable!(),
+    }
+}
+
+/// The new state, if there is one.
+fn next_of(alloc: Global, state: Option<Node<'_>>) -> Result<Option<StateBytes>, AllocError>
+    requires { IfSome state (λ node. FitsState (shape node)) }
+    ensures { IfOk result (λ next. next ≡ option_map shape state.entry) }
+{
+    match state {
+        Some(node) => Ok(Some(state_of(alloc, node)?)),
+        None => Ok(None),
+    }
+}
+
+/// The answer, or the code of its fault.
+fn outcome_of(
+    alloc: Global,
+    outcome: Result<Node<'_>, MethodFault>,
+) -> Result<Result<StateBytes, MethodFault>, AllocError>
+    requires { IfOk outcome (λ node. FitsState (shape node)) }
+    ensures { IfOk result (λ written. written ≡ outcome_shown outcome.entry) }
+{
+    match outcome {
+        Ok(node) => Ok(Ok(state_of(alloc, node)?)),
+        Err(fault) => Ok(Err(fault)),
+    }
+}
+
+/// Each call that is sent, with the grain that it is sent to.
+fn sends_of(alloc: Global, sends: Vec<Send<'_>>) -> Result<Vec<(GrainId, Message)>, AllocError>
+    requires { AllByRecursion (λ send. FitsMessage (asks send.method.now (shape send.args))) sends.items }
+    ensures { IfOk result (λ written. map sent written.items ≡ map send_shown sends.entry.items) }
+{
+    let mut written = Vec::new(alloc);
+    'sends: for Send {
+        target,
+        method,
+        args,
+    } in sends {
+        written.push((target, message_of(alloc, method, args)?))?;
+    }
+    Ok(written)
+}
+
+/// All that a plan holds.
+pub(crate) fn written(alloc: Global, plan: Plan<'_>) -> Result<Planned, AllocError>
+    requires { NodesFit plan }
+    ensures { IfOk result (λ planned. (state : Tree) → planned_shown state planned ≡ plan_shown state plan.entry) }
+{
+    Ok(Planned {
+        state: next_of(alloc, plan.state)?,
+        outcome: outcome_of(alloc, plan.outcome)?,
+        store: plan.store,
+        sends: sends_of(alloc, plan.sends)?,
+    })
+}
