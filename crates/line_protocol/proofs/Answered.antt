@@ -1,23 +1,20 @@
--- What one step leaves and adds to the text: by the whole, and by its owner's machine alone.
-use Rattle.std.proofs.Common.{◌≡◌, ℕ, List, [], ◌∷◌, ◌++◌, ◌+◌, ◌<◌, length, take, drop, get_or, true, Some, None, Result, Ok, Err, OnOk, refl, sym, ap, ◌∙◌, append_assoc, append-nil}
+-- What one step leaves and adds to the text: by the whole, and by the machine of a tenant that it concerns.
+use Rattle.std.proofs.Common.{◌≡◌, ℕ, List, [], ◌∷◌, ◌++◌, ◌+◌, ◌<◌, length, take, drop, get_or, Bool, true, false, cond, Option, Some, None, Result, Ok, Err, OnOk, refl, sym, ap, ◌∙◌, append_assoc, append-nil}
 use Rattle.std.proofs.Math.Seq.{drop-append_seam}
 use Rattle.std.proofs.lemmas.List.{take_more}
-use Rattle.std.proofs.lemmas.Bool.Decides.{Decides-eqb}
-use Rattle.std.proofs.lemmas.Slice.Eq.{slice_eq-Decides}
-use Rattle.std.specs.Prelude.{unwrap_or}
-use Rattle.grain_id.specs.Names.{same_text}
-use Rattle.silo_event.specs.Owner.{owner_of}
+use Rattle.std.specs.Prelude.{unwrap_or, if◌then◌else◌}
 use Rattle.silo_event.specs.declared.reply.Reply.{Reply}
 use Rattle.silo_event.specs.declared.step.Step.{Step}
-use Rattle.silo_event.specs.declared.step.Step.TheVariants.{Call, Activate, Load, Begin, End}
-use Rattle.silo_model.specs.Counter.{counters}
-use Rattle.silo_model.specs.Run.{concerns, concerns_by}
+use Rattle.grain_kinds.specs.Logic.{Logic}
+use Rattle.silo_model.specs.Machine.{Machine}
+use Rattle.silo_model.specs.Run.{concerns, machine_run, restricted_to, if_possible}
 use Rattle.silo_model.specs.Step.{machine_step}
 use Rattle.silo_model.specs.Whole.{Whole, whole_step, shown_to}
+use Rattle.silo_core.specs.Built.{is_built, built_step, built_machine_step}
 use Rattle.silo_core.specs.History.{History, Advances, StepsInParts}
-use Rattle.line_protocol.specs.Out.{ended, texts_of, step_text, whole_text}
+use Rattle.line_protocol.specs.Out.{whole_stepper, ended, texts_of, step_text, line_text}
 use Rattle.line_protocol.specs.Text.{line_of, not_now_line}
-use Rattle.line_protocol.specs.Running.{noted, TakesLine, LineAlone}
+use Rattle.line_protocol.specs.Running.{TakesSteps, TakesLine, LineConcerns, LineAlone}
 use Rattle.line_protocol.specs.declared.line.Line.TheVariants as line
 
 pub texts_of-more : (rs : List Reply) (r : Reply) → texts_of (rs ++ r ∷ []) ≡ texts_of rs ++ ended (line_of r)
@@ -37,71 +34,81 @@ pub whatever : {X E : Type 0} {P : Type 0} (r : Result X E) → P → OnOk r P
 whatever (Ok x) h = h
 whatever (Err e) h = tt
 
--- ---- the whole
+-- ---- a line that says no step
 
-pub taken_done : (old : History) (s : Step) (new : History) → Advances old s new → TakesLine old (line.Step s) new
-taken_done old s new h = record {
-  setup = h.setup;
-  whole = ap (λ o. unwrap_or o old.whole) (sym h.whole);
-  journal = h.journal ∙ ap (λ o. old.journal ++ noted s o) (sym h.whole);
-}
-
-pub taken_not_now : (old : History) (s : Step) (new : History) → whole_step counters old.whole s ≡ None → new ≡ old → TakesLine old (line.Step s) new
-taken_not_now old s new h e = record {
+-- nothing was taken
+pub taken_nothing : (logic : Logic) (old new : History) → new ≡ old → TakesSteps logic old [] new
+taken_nothing logic old new e = record {
   setup = ap (λ x. x.setup) e;
-  whole = ap (λ x. x.whole) e ∙ ap (λ o. unwrap_or o old.whole) (sym h);
-  journal = ap (λ x. x.journal) e ∙ sym (append-nil old.journal) ∙ ap (λ o. old.journal ++ noted s o) (sym h);
+  whole = ap (λ x. x.whole) e;
+  journal = ap (λ x. x.journal) e ∙ sym (append-nil old.journal);
+  parts = λ tenant. ap (λ x. shown_to tenant x.whole) e;
 }
 
--- a line that says no step leaves the silo as it is
-pub taken_nothing : (old new : History) → new ≡ old → TakesLine old line.Nothing new
-taken_nothing old new e = record { setup = ap (λ x. x.setup) e; whole = ap (λ x. x.whole) e; journal = ap (λ x. x.journal) e ∙ sym (append-nil old.journal) }
-
-pub text_done : (old : Whole) (s : Step) (new : Whole) → whole_step counters old s ≡ Some new → whole_text old (line.Step s) ≡ texts_of (drop (length old.replies) new.replies)
-text_done old s new h = ap (step_text (λ x. x.replies) old) h
-
-pub text_not_now : (old : Whole) (s : Step) → whole_step counters old s ≡ None → whole_text old (line.Step s) ≡ ended not_now_line
-text_not_now old s h = ap (step_text (λ x. x.replies) old) h
-
--- ---- one tenant
-
-owned : (s : Step) → (owner : List ℕ) × (owner_of s ≡ Some owner)
-owned (Call caller id grain message) = (caller.tenant, refl)
-owned (Activate grain) = (grain.tenant, refl)
-owned (Load grain) = (grain.tenant, refl)
-owned (Begin grain) = (grain.tenant, refl)
-owned (End grain turn) = (grain.tenant, refl)
-
-same_text-equal : (a b : List ℕ) → same_text a b ≡ true → a ≡ b
-same_text-equal a b h = (slice_eq-Decides Decides-eqb a b (same_text a b) refl).0 h
-
--- the owner of a step that concerns the tenant is the tenant
-concerned : (tenant owner : List ℕ) (s : Step) → concerns tenant s ≡ true → owner_of s ≡ Some owner → owner ≡ tenant
-concerned tenant owner s h e = same_text-equal owner tenant (ap (concerns_by tenant) (sym e) ∙ h)
+-- ---- a step of a kind that is built
 
 -- what stands behind the replies that were there
 behind : (old added new : List Reply) → new ≡ old ++ added → drop (length old) new ≡ added
 behind old added new e = ap (drop (length old)) e ∙ drop-append_seam old added
 
--- a step that is done
-done_alone : (tenant : List ℕ) (old : Whole) (s : Step) (new : Whole) → owner_of s ≡ Some tenant → whole_step counters old s ≡ Some new → StepsInParts old s new → LineAlone tenant old (line.Step s) new
-done_alone tenant old s new e h p =
-    let own = p.own tenant e in record {
-      part = ap (λ o. unwrap_or o (shown_to tenant old)) (sym own);
-      text = text_done old s new h ∙ ap texts_of (behind old.replies p.added new.replies p.replies)
-          ∙ sym (ap (step_text (λ x. x.replies) (shown_to tenant old)) own ∙ ap texts_of (behind (shown_to tenant old).replies p.added (shown_to tenant new).replies (p.own_replies tenant e)));
-    }
+module _ (logic : Logic) (s : Step) (is : is_built s ≡ true) where
+  whole_is : (w : Whole) → whole_step logic w s ≡ built_step logic w s
+  whole_is w = sym (ap (λ b. if b then whole_step logic w s else None) is)
 
-pub alone_done : (old : History) (s : Step) (new : History) → Advances old s new → StepsInParts old.whole s new.whole → (tenant : List ℕ) → concerns tenant s ≡ true → LineAlone tenant old.whole (line.Step s) new.whole
-alone_done old s new h p tenant c =
-    let o = owned s in done_alone tenant old.whole s new.whole (o.1 ∙ ap Some (concerned tenant o.0 s c o.1)) h.whole p
+  machine_is : (m : Machine) → machine_step logic m s ≡ built_machine_step logic m s
+  machine_is m = sym (ap (λ b. if b then machine_step logic m s else None) is)
 
-pub alone_not_now : (old : History) (s : Step) (new : History) → whole_step counters old.whole s ≡ None → new ≡ old
-    → ((owner : List ℕ) → owner_of s ≡ Some owner → machine_step counters (shown_to owner old.whole) s ≡ None)
-    → (tenant : List ℕ) → concerns tenant s ≡ true → LineAlone tenant old.whole (line.Step s) new.whole
-alone_not_now old s new h same p tenant c =
-    let o = owned s in
-    let own = p tenant (o.1 ∙ ap Some (concerned tenant o.0 s c o.1)) in record {
-      part = ap (λ x. shown_to tenant x.whole) same ∙ ap (λ r. unwrap_or r (shown_to tenant old.whole)) (sym own);
-      text = text_not_now old.whole s h ∙ sym (ap (step_text (λ x. x.replies) (shown_to tenant old.whole)) own);
-    }
+  pub text_done : (old new : Whole) → built_step logic old s ≡ Some new → line_text (whole_stepper logic) old (line.Step s) ≡ texts_of (drop (length old.replies) new.replies)
+  text_done old new h = ap (step_text (λ x. x.replies) old) (whole_is old ∙ h)
+
+  pub text_not_now : (old : Whole) → built_step logic old s ≡ None → line_text (whole_stepper logic) old (line.Step s) ≡ ended not_now_line
+  text_not_now old h = ap (step_text (λ x. x.replies) old) (whole_is old ∙ h)
+
+  -- a tenant's part, by whether the step concerns the tenant
+  module _ (tenant : List ℕ) (old new : Machine) where
+    part_by : (b : Bool) → concerns tenant s ≡ b → new ≡ machine_run logic old (cond b (s ∷ []) []) → new ≡ machine_run logic old (restricted_to tenant (s ∷ []))
+    part_by b concerned h = h ∙ ap (λ c. machine_run logic old (cond c (s ∷ []) [])) (sym concerned)
+
+    concerned_part : (r : Option Machine) → concerns tenant s ≡ true → built_machine_step logic old s ≡ r → new ≡ unwrap_or r old → new ≡ machine_run logic old (restricted_to tenant (s ∷ []))
+    concerned_part r concerned step e = part_by true concerned (e ∙ ap (λ o. unwrap_or o old) (sym (machine_is old ∙ step)))
+
+  module _ (old new : History) where
+    done_part : StepsInParts logic old.whole s new.whole → (tenant : List ℕ) (b : Bool) → concerns tenant s ≡ b → shown_to tenant new.whole ≡ machine_run logic (shown_to tenant old.whole) (restricted_to tenant (s ∷ []))
+    done_part p tenant true concerned = concerned_part tenant (shown_to tenant old.whole) (shown_to tenant new.whole) (Some (shown_to tenant new.whole)) concerned (p.own tenant concerned) refl
+    done_part p tenant false apart = part_by tenant (shown_to tenant old.whole) (shown_to tenant new.whole) false apart (p.others tenant apart)
+
+    pub taken_done : Advances logic old s new → StepsInParts logic old.whole s new.whole → TakesLine logic old (line.Step s) new
+    taken_done h p =
+        let step = whole_is old.whole ∙ h.whole in record {
+          setup = h.setup;
+          whole = ap (λ o. unwrap_or o old.whole) (sym step);
+          journal = h.journal ∙ ap (λ o. old.journal ++ (if_possible s o ++ [])) (sym step);
+          parts = λ tenant. done_part p tenant (concerns tenant s) refl;
+        }
+
+    idle_part : new ≡ old → ((tenant : List ℕ) → concerns tenant s ≡ true → built_machine_step logic (shown_to tenant old.whole) s ≡ None)
+        → (tenant : List ℕ) (b : Bool) → concerns tenant s ≡ b → shown_to tenant new.whole ≡ machine_run logic (shown_to tenant old.whole) (restricted_to tenant (s ∷ []))
+    idle_part e p tenant true concerned = concerned_part tenant (shown_to tenant old.whole) (shown_to tenant new.whole) None concerned (p tenant concerned) (ap (λ x. shown_to tenant x.whole) e)
+    idle_part e p tenant false apart = part_by tenant (shown_to tenant old.whole) (shown_to tenant new.whole) false apart (ap (λ x. shown_to tenant x.whole) e)
+
+    pub taken_not_now : built_step logic old.whole s ≡ None → new ≡ old → ((tenant : List ℕ) → concerns tenant s ≡ true → built_machine_step logic (shown_to tenant old.whole) s ≡ None)
+        → TakesLine logic old (line.Step s) new
+    taken_not_now h e p =
+        let step = whole_is old.whole ∙ h in record {
+          setup = ap (λ x. x.setup) e;
+          whole = ap (λ x. x.whole) e ∙ ap (λ o. unwrap_or o old.whole) (sym step);
+          journal = ap (λ x. x.journal) e ∙ sym (append-nil old.journal) ∙ ap (λ o. old.journal ++ (if_possible s o ++ [])) (sym step);
+          parts = λ tenant. idle_part e p tenant (concerns tenant s) refl;
+        }
+
+  -- ---- one tenant
+
+  pub alone_done : (old new : Whole) → built_step logic old s ≡ Some new → StepsInParts logic old s new → (tenant : List ℕ) → LineConcerns tenant (line.Step s) → LineAlone logic tenant old (line.Step s)
+  alone_done old new h p tenant c =
+      text_done old new h ∙ ap texts_of (behind old.replies p.added new.replies p.replies)
+      ∙ sym (ap (step_text (λ x. x.replies) (shown_to tenant old)) (machine_is (shown_to tenant old) ∙ p.own tenant c.0)
+      ∙ ap texts_of (behind (shown_to tenant old).replies p.added (shown_to tenant new).replies (p.own_replies tenant c.0)))
+
+  pub alone_not_now : (old : Whole) → built_step logic old s ≡ None → ((tenant : List ℕ) → concerns tenant s ≡ true → built_machine_step logic (shown_to tenant old) s ≡ None)
+      → (tenant : List ℕ) → LineConcerns tenant (line.Step s) → LineAlone logic tenant old (line.Step s)
+  alone_not_now old h p tenant c = text_not_now old h ∙ sym (ap (step_text (λ x. x.replies) (shown_to tenant old)) (machine_is (shown_to tenant old) ∙ p tenant c.0))

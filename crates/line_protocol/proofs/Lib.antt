@@ -5,4 +5,13 @@ pub mod Pushes
 pub mod Pieces
 pub mod Taken
 pub mod Answered
+pub mod BuiltForms
 pub mod Run
+pub mod Turns
+pub mod SoFar
+pub mod Numbers
+pub mod Counts
+pub mod Values
+pub mod Placed
+pub mod Steps
+pub mod ValueTexts

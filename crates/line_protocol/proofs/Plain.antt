@@ -1,6 +1,5 @@
 -- Texts that stand in JSON as they are.
-use Rattle.std.proofs.Common.{ℤ, codes, decimal, ◌≡◌, ◌≢◌, ◌≤◌, ◌++◌, ℕ, List, [], ◌∷◌, Bool, true, false, ◌==◌, nat_lt, refl, ap, ap₂, sym, ◌∙◌, arith, append_assoc}
-use Rattle.std.specs.Fmt.{signed_decimal}
+use Rattle.std.proofs.Common.{◌≡◌, ◌≢◌, ◌≤◌, ◌++◌, ℕ, List, [], ◌∷◌, Bool, true, false, ◌==◌, nat_lt, refl, ap, ap₂, ◌∙◌, arith}
 use Rattle.std.specs.Prelude.{IsTrue, ◌&&◌}
 use Rattle.std.specs.List.{list_all}
 use Rattle.std.proofs.lemmas.Bool.Decides.{nat_tests}
@@ -9,8 +8,6 @@ use Rattle.std.proofs.lemmas.List.Concat.{flat_map-cons}
 use Rattle.json.specs.Print.{escape_byte, escape, quoted}
 use Rattle.grain_id.specs.Words.{is_word, is_word_byte}
 use Rattle.grain_id.specs.Names.{Client, is_client, client_text}
-use Rattle.request_codec.specs.Tree.{whole}
-use Rattle.line_protocol.specs.Text.{done_line}
 
 both : (a b : Bool) → (a && b) ≡ true → (a ≡ true) × (b ≡ true)
 both true b h = (refl, h)
@@ -48,12 +45,3 @@ quoted-client_text c h =
     let parts = both (is_word c.tenant) (is_word c.client) h in
     let slash : escape (47 ∷ c.client) ≡ 47 ∷ c.client = flat_map-cons escape_byte 47 c.client ∙ ap₂ (λ l m. l ++ m) (escape_byte-plain 47 (omega arith) (omega arith)) (escape-word c.client parts.1) in
     ap (λ l. 34 ∷ (l ++ 34 ∷ [])) (flat_map-append escape_byte c.tenant (47 ∷ c.client) ∙ ap₂ (λ l m. l ++ m) (escape-word c.tenant parts.0) slash)
-
--- what is written for a whole number is its line
-pub number_line : (c : Client) (from : List ℕ) (id : ℕ) (m n : ℤ) → IsTrue (is_client c) → from ≡ client_text c → m ≡ n
-    → codes "{\"from\":\"" ++ (from ++ (codes "\",\"id\":" ++ (decimal id ++ (codes ",\"ok\":" ++ (signed_decimal m ++ codes "}"))))) ≡ done_line (client_text c) id (whole n)
-number_line c from id m n h e is =
-    let rest : List ℕ = codes ",\"id\":" ++ (decimal id ++ (codes ",\"ok\":" ++ (signed_decimal n ++ codes "}"))) in
-    ap (λ i. codes "{\"from\":\"" ++ (from ++ (codes "\",\"id\":" ++ (decimal id ++ (codes ",\"ok\":" ++ (signed_decimal i ++ codes "}")))))) is
-    ∙ ap (λ l. codes "{\"from\":\"" ++ l) (ap (λ l. l ++ 34 ∷ rest) e ∙ sym (append_assoc (client_text c) (34 ∷ []) rest))
-    ∙ ap (λ l. codes "{\"from\":" ++ (l ++ rest)) (sym (quoted-client_text c h))

@@ -1,16 +1,23 @@
 -- One line more of a run.
-use Rattle.std.proofs.Common.{◌≡◌, ℕ, suc, ◌+◌, List, [], ◌∷◌, ◌++◌, length, take, Option, Some, None, IfSome, Result, Err, IfErr, refl, sym, ap, ap₂, ◌∙◌, subst, inl, inr, arith, append_assoc, append-nil, length-append, length-take, take_all, ⊎_elim}
+use Rattle.std.proofs.Common.{◌≡◌, ◌≢◌, ℕ, suc, ◌+◌, ◌<◌, ◌==◌, Bool, true, false, List, [], ◌∷◌, ◌++◌, length, take, cond, Option, Some, None, IfSome, Result, Err, IfErr, refl, sym, ap, ap₂, ◌∙◌, subst, inl, inr, arith, append_assoc, append-nil, length-append, length-take, take_all, ⊎_elim}
 use Rattle.std.specs.Prelude.{◌⊎◌}
 use Rattle.std.proofs.lemmas.Bool.{cases_lt}
 use Rattle.std.specs.Io.KnownBytes.{Appends, Keeps, IsAtEnd, prepend_known}
 use Rattle.std.proofs.KnownBytes.{Appends-trans, Appends-kept, Appends-nil}
-use Rattle.silo_model.specs.Machine.{Machine}
-use Rattle.silo_model.specs.Whole.{Whole, shown_to}
+use Rattle.silo_event.specs.declared.step.Step.{Step}
+use Rattle.grain_kinds.specs.Logic.{Logic}
+use Rattle.silo_model.specs.Step.{machine_step}
+use Rattle.silo_model.specs.Whole.{whole_step, shown_to}
+use Rattle.silo_model.specs.Run.{run_by, done_by, machine_run, whole_run, restricted_to}
+use Rattle.silo_model.proofs.Runs.{run_by-append, done_by-append, restricted-append}
 use Rattle.silo_core.specs.History.{History}
-use Rattle.line_protocol.specs.Lines.{lines_of, line_limit}
+use Rattle.silo_core.specs.Runs.{AllConcern}
+use Rattle.line_protocol.specs.Calls.{HasCause}
+use Rattle.line_protocol.specs.Lines.{lines_of, onto, line_limit, lines_limit}
 use Rattle.line_protocol.specs.Said.{said_of}
-use Rattle.line_protocol.specs.Out.{whole_text, whole_after_line, whole_after, whole_out, machine_text, machine_after_line, machine_after, machine_out, LineConcerns, LinesConcern}
-use Rattle.line_protocol.specs.Running.{line_steps, done_steps, TakesLine, TakesLines, LineAlone, LinesAlone, LinesTaken, AnswersAll, AnswersAlone, StopsBefore, StopsAt, StopsAfter, StopsBy, MayTake, LineStopsBy}
+use Rattle.line_protocol.specs.Out.{Stepper, whole_stepper, machine_stepper, step_said, steps_of, line_text, lines_text}
+use Rattle.line_protocol.specs.Running.{TakesSteps, TakesLine, TakesLines, LineConcerns, LinesConcern, LineAlone, LinesAlone, LinesTaken, AnswersAll, AnswersAlone, StopsBefore, StopsAt, WrittenInPart, StopsAfter, IsFull, StopsBy, MayTake, LineStopsBy}
+use Rattle.line_protocol.specs.declared.calls.ReaderCalls.{ReaderCalls}
 use Rattle.line_protocol.specs.declared.fault.LineFault.{LineFault}
 use Rattle.line_protocol.specs.declared.fault.LineFault.TheVariants as fault
 use Rattle.line_protocol.specs.declared.line.Line.{Line}
@@ -33,106 +40,119 @@ said_cut l = said_of-under (take 65537 l) ∙ said_cut_at line_limit 65537 l ref
 
 -- ---- the definitions, by their last line
 
-whole_after-more : (w : Whole) (done : List (List ℕ)) (l : List ℕ) → whole_after w (done ++ l ∷ []) ≡ whole_after_line (whole_after w done) (said_of l)
-whole_after-more w [] l = refl
-whole_after-more w (d ∷ done) l = whole_after-more (whole_after_line w (said_of d)) done l
+steps_of-more : (done : List (List ℕ)) (l : List ℕ) → steps_of (done ++ l ∷ []) ≡ steps_of done ++ step_said (said_of l)
+steps_of-more [] l = append-nil (step_said (said_of l))
+steps_of-more (d ∷ done) l = ap (λ k. step_said (said_of d) ++ k) (steps_of-more done l) ∙ sym (append_assoc (step_said (said_of d)) (steps_of done) (step_said (said_of l)))
 
-whole_out-more : (w : Whole) (done : List (List ℕ)) (l : List ℕ) → whole_out w (done ++ l ∷ []) ≡ whole_out w done ++ whole_text (whole_after w done) (said_of l)
-whole_out-more w [] l = append-nil (whole_text w (said_of l))
-whole_out-more w (d ∷ done) l =
-    let first = whole_text w (said_of d) in
-    let after = whole_after_line w (said_of d) in
-    ap (λ k. first ++ k) (whole_out-more after done l) ∙ sym (append_assoc first (whole_out after done) (whole_text (whole_after after done) (said_of l)))
+lines_text-more : {M : Type 0} (by : Stepper M) (m : M) (done : List (List ℕ)) (l : List ℕ) → lines_text by m (done ++ l ∷ []) ≡ lines_text by m done ++ line_text by (run_by by.step m (steps_of done)) (said_of l)
+lines_text-more by m [] l = append-nil (line_text by m (said_of l))
+lines_text-more by m (d ∷ done) l =
+    let first = line_text by m (said_of d) in
+    let after = run_by by.step m (step_said (said_of d)) in
+    ap (λ k. first ++ k) (lines_text-more by after done l)
+    ∙ sym (append_assoc first (lines_text by after done) (line_text by (run_by by.step after (steps_of done)) (said_of l)))
+    ∙ ap (λ x. (first ++ lines_text by after done) ++ line_text by x (said_of l)) (sym (run_by-append by.step m (step_said (said_of d)) (steps_of done)))
 
-done_steps-more : (w : Whole) (done : List (List ℕ)) (l : List ℕ) → done_steps w (done ++ l ∷ []) ≡ done_steps w done ++ line_steps (whole_after w done) (said_of l)
-done_steps-more w [] l = append-nil (line_steps w (said_of l))
-done_steps-more w (d ∷ done) l =
-    let first = line_steps w (said_of d) in
-    let after = whole_after_line w (said_of d) in
-    ap (λ k. first ++ k) (done_steps-more after done l) ∙ sym (append_assoc first (done_steps after done) (line_steps (whole_after after done) (said_of l)))
-
-machine_after-more : (m : Machine) (done : List (List ℕ)) (l : List ℕ) → machine_after m (done ++ l ∷ []) ≡ machine_after_line (machine_after m done) (said_of l)
-machine_after-more m [] l = refl
-machine_after-more m (d ∷ done) l = machine_after-more (machine_after_line m (said_of d)) done l
-
-machine_out-more : (m : Machine) (done : List (List ℕ)) (l : List ℕ) → machine_out m (done ++ l ∷ []) ≡ machine_out m done ++ machine_text (machine_after m done) (said_of l)
-machine_out-more m [] l = append-nil (machine_text m (said_of l))
-machine_out-more m (d ∷ done) l =
-    let first = machine_text m (said_of d) in
-    let after = machine_after_line m (said_of d) in
-    ap (λ k. first ++ k) (machine_out-more after done l) ∙ sym (append_assoc first (machine_out after done) (machine_text (machine_after after done) (said_of l)))
+AllConcern-append : (tenant : List ℕ) (steps others : List Step) → AllConcern tenant (steps ++ others) → AllConcern tenant steps × AllConcern tenant others
+AllConcern-append tenant [] others h = (tt, h)
+AllConcern-append tenant (s ∷ steps) others h = let more = AllConcern-append tenant steps others h.1 in ((h.0, more.0), more.1)
 
 LinesConcern-more : (tenant : List ℕ) (done : List (List ℕ)) (l : List ℕ) → LinesConcern tenant (done ++ l ∷ []) → LinesConcern tenant done × LineConcerns tenant (said_of l)
-LinesConcern-more tenant [] l h = (tt, h.0)
-LinesConcern-more tenant (d ∷ done) l h = let more = LinesConcern-more tenant done l h.1 in ((h.0, more.0), more.1)
+LinesConcern-more tenant done l h = AllConcern-append tenant (steps_of done) (step_said (said_of l)) (subst (AllConcern tenant) (steps_of-more done l) h)
+
+-- of steps that all concern the tenant none is struck out
+restricted-all : (tenant : List ℕ) (steps : List Step) → AllConcern tenant steps → restricted_to tenant steps ≡ steps
+restricted-all tenant [] h = refl
+restricted-all tenant (s ∷ steps) h = ap (λ b. cond b (s ∷ restricted_to tenant steps) (restricted_to tenant steps)) h.0 ∙ ap (λ rest. s ∷ rest) (restricted-all tenant steps h.1)
 
 -- ---- the silo
 
-TakesLines-none : (old : History) → TakesLines old [] old
-TakesLines-none old = record { setup = refl; whole = refl; journal = sym (append-nil old.journal) }
+TakesSteps-none : (logic : Logic) (old : History) → TakesSteps logic old [] old
+TakesSteps-none logic old = record { setup = refl; whole = refl; journal = sym (append-nil old.journal); parts = λ tenant. refl }
 
-TakesLines-more : (old mid new : History) (done : List (List ℕ)) (l : List ℕ) → TakesLines old done mid → TakesLine mid (said_of l) new → TakesLines old (done ++ l ∷ []) new
-TakesLines-more old mid new done l p q = record {
+TakesSteps-append : (logic : Logic) (old mid new : History) (steps others : List Step) → TakesSteps logic old steps mid → TakesSteps logic mid others new → TakesSteps logic old (steps ++ others) new
+TakesSteps-append logic old mid new steps others p q = record {
   setup = q.setup ∙ p.setup;
-  whole = q.whole ∙ ap (λ w. whole_after_line w (said_of l)) p.whole ∙ sym (whole_after-more old.whole done l);
-  journal = q.journal ∙ ap₂ (λ j w. j ++ line_steps w (said_of l)) p.journal p.whole
-      ∙ append_assoc old.journal (done_steps old.whole done) (line_steps (whole_after old.whole done) (said_of l)) ∙ ap (λ k. old.journal ++ k) (sym (done_steps-more old.whole done l));
+  whole = q.whole ∙ ap (λ w. whole_run logic w others) p.whole ∙ sym (run_by-append (whole_step logic) old.whole steps others);
+  journal = q.journal ∙ ap₂ (λ j w. j ++ done_by (whole_step logic) w others) p.journal p.whole
+      ∙ append_assoc old.journal (done_by (whole_step logic) old.whole steps) (done_by (whole_step logic) (whole_run logic old.whole steps) others)
+      ∙ ap (λ k. old.journal ++ k) (sym (done_by-append (whole_step logic) old.whole steps others));
+  parts = λ tenant.
+      q.parts tenant ∙ ap (λ m. machine_run logic m (restricted_to tenant others)) (p.parts tenant)
+      ∙ sym (run_by-append (machine_step logic) (shown_to tenant old.whole) (restricted_to tenant steps) (restricted_to tenant others))
+      ∙ ap (machine_run logic (shown_to tenant old.whole)) (sym (restricted-append tenant steps others));
 }
 
-LinesAlone-more : (tenant : List ℕ) (old mid new : Whole) (done : List (List ℕ)) (l : List ℕ) → mid ≡ whole_after old done → LinesAlone tenant old done mid → LineAlone tenant mid (said_of l) new → LinesAlone tenant old (done ++ l ∷ []) new
-LinesAlone-more tenant old mid new done l e p q = record {
-  part = q.part ∙ ap (λ m. machine_after_line m (said_of l)) p.part ∙ sym (machine_after-more (shown_to tenant old) done l);
-  text = whole_out-more old done l ∙ ap₂ (λ t w. t ++ whole_text w (said_of l)) p.text (sym e)
-      ∙ ap (λ t. machine_out (shown_to tenant old) done ++ t) (q.text ∙ ap (λ m. machine_text m (said_of l)) p.part) ∙ sym (machine_out-more (shown_to tenant old) done l);
-}
+TakesLines-more : (logic : Logic) (old mid new : History) (done : List (List ℕ)) (l : List ℕ) → TakesLines logic old done mid → TakesLine logic mid (said_of l) new → TakesLines logic old (done ++ l ∷ []) new
+TakesLines-more logic old mid new done l p q =
+    subst (λ steps. TakesSteps logic old steps new) (sym (steps_of-more done l)) (TakesSteps-append logic old mid new (steps_of done) (step_said (said_of l)) p q)
+
+-- the part of a tenant whom all lines concern
+part_alone : (logic : Logic) (tenant : List ℕ) (old new : History) (done : List (List ℕ)) → TakesLines logic old done new → LinesConcern tenant done
+    → shown_to tenant new.whole ≡ machine_run logic (shown_to tenant old.whole) (steps_of done)
+part_alone logic tenant old new done p c = p.parts tenant ∙ ap (machine_run logic (shown_to tenant old.whole)) (restricted-all tenant (steps_of done) c)
+
+LinesAlone-more : (logic : Logic) (tenant : List ℕ) (old mid : History) (done : List (List ℕ)) (l : List ℕ) → TakesLines logic old done mid → LinesConcern tenant done
+    → LinesAlone logic tenant old.whole done → LineAlone logic tenant mid.whole (said_of l) → LinesAlone logic tenant old.whole (done ++ l ∷ [])
+LinesAlone-more logic tenant old mid done l p c text last =
+    let alone = shown_to tenant old.whole in
+    lines_text-more (whole_stepper logic) old.whole done l ∙ ap₂ (λ t w. t ++ line_text (whole_stepper logic) w (said_of l)) text (sym p.whole)
+    ∙ ap (λ t. lines_text (machine_stepper logic) alone done ++ t) (last ∙ ap (λ m. line_text (machine_stepper logic) m (said_of l)) (part_alone logic tenant old mid done p c))
+    ∙ sym (lines_text-more (machine_stepper logic) alone done l)
 
 -- ---- a run, so far: these lines were taken, answered and written
 
-pub record SoFar (count : ℕ) (from left : Option (List ℕ)) (old new : History) (before after : Option (List ℕ)) : Type 0 where
+pub record SoFar (logic : Logic) (count : ℕ) (from left : Option (List ℕ)) (old new : History) (before after : Option (List ℕ)) : Type 0 where
   pub done : List (List ℕ)
   pub counted : length done ≡ count
   pub taken : LinesTaken from left done
-  pub silo : TakesLines old done new
-  pub written : Appends before after (whole_out old.whole done)
-  pub alone : (tenant : List ℕ) → LinesConcern tenant done → LinesAlone tenant old.whole done new.whole
+  pub silo : TakesLines logic old done new
+  pub written : Appends before after (lines_text (whole_stepper logic) old.whole done)
+  pub alone : (tenant : List ℕ) → LinesConcern tenant done → LinesAlone logic tenant old.whole done
 
-pub SoFar-none : (from left : Option (List ℕ)) (old : History) (before : Option (List ℕ)) → LinesTaken from left [] → SoFar 0 from left old old before before
-SoFar-none from left old before h = record {
+pub SoFar-none : (logic : Logic) (from left : Option (List ℕ)) (old : History) (before : Option (List ℕ)) → LinesTaken from left [] → SoFar logic 0 from left old old before before
+SoFar-none logic from left old before h = record {
   done = [];
   counted = refl;
   taken = h;
-  silo = TakesLines-none old;
+  silo = TakesSteps-none logic old;
   written = Appends-nil before;
-  alone = λ tenant c. record { part = refl; text = refl };
+  alone = λ tenant c. refl;
 }
 
-pub SoFar-more : (count : ℕ) (from left next : Option (List ℕ)) (old mid new : History) (before during after : Option (List ℕ)) (l : List ℕ) (said : Line)
-    → SoFar count from left old mid before during → LinesTaken left next (l ∷ []) → said ≡ said_of l
-    → TakesLine mid said new → Appends during after (whole_text mid.whole said) → ((tenant : List ℕ) → LineConcerns tenant said → LineAlone tenant mid.whole said new.whole)
-    → SoFar (count + 1) from next old new before after
-SoFar-more count from left next old mid new before during after l said p took e silo wrote alone =
-    let silo_here : TakesLine mid (said_of l) new = subst (λ s. TakesLine mid s new) e silo in
-    let text : whole_text mid.whole said ≡ whole_text (whole_after old.whole p.done) (said_of l) = ap₂ whole_text p.silo.whole e in
+pub SoFar-more : (logic : Logic) (count : ℕ) (from left next : Option (List ℕ)) (old mid new : History) (before during after : Option (List ℕ)) (l : List ℕ) (said : Line)
+    → SoFar logic count from left old mid before during → LinesTaken left next (l ∷ []) → said ≡ said_of l
+    → TakesLine logic mid said new → Appends during after (line_text (whole_stepper logic) mid.whole said) → ((tenant : List ℕ) → LineConcerns tenant said → LineAlone logic tenant mid.whole said)
+    → SoFar logic (count + 1) from next old new before after
+SoFar-more logic count from left next old mid new before during after l said p took e silo wrote alone =
+    let by = whole_stepper logic in
+    let text : line_text by mid.whole said ≡ line_text by (whole_run logic old.whole (steps_of p.done)) (said_of l) = ap₂ (line_text by) p.silo.whole e in
     record {
       done = p.done ++ l ∷ [];
       counted = omega (arith, p.counted, length-append p.done (l ∷ []));
       taken = LinesTaken-trans from left next p.done (l ∷ []) p.taken took;
-      silo = TakesLines-more old mid new p.done l p.silo silo_here;
-      written = subst (Appends before after) (ap (λ t. whole_out old.whole p.done ++ t) text ∙ sym (whole_out-more old.whole p.done l)) (Appends-trans before during after _ _ p.written wrote);
+      silo = TakesLines-more logic old mid new p.done l p.silo (subst (λ s. TakesLine logic mid s new) e silo);
+      written = subst (Appends before after) (ap (λ t. lines_text by old.whole p.done ++ t) text ∙ sym (lines_text-more by old.whole p.done l)) (Appends-trans before during after _ _ p.written wrote);
       alone = λ tenant c.
           let parts = LinesConcern-more tenant p.done l c in
-          LinesAlone-more tenant old.whole mid.whole new.whole p.done l p.silo.whole (p.alone tenant parts.0) (subst (λ s. LineAlone tenant mid.whole s new.whole) e (alone tenant (subst (LineConcerns tenant) (sym e) parts.1)));
+          LinesAlone-more logic tenant old mid p.done l p.silo parts.0 (p.alone tenant parts.0) (subst (LineAlone logic tenant mid.whole) e (alone tenant (subst (LineConcerns tenant) (sym e) parts.1)));
     }
 
 -- the same is left to read
-pub SoFar-kept : (count : ℕ) (from left next : Option (List ℕ)) (old new : History) (before after : Option (List ℕ)) → SoFar count from left old new before after → Keeps left next → SoFar count from next old new before after
-SoFar-kept count from left next old new before after p h =
+pub SoFar-kept : (logic : Logic) (count : ℕ) (from left next : Option (List ℕ)) (old new : History) (before after : Option (List ℕ)) → SoFar logic count from left old new before after → Keeps left next → SoFar logic count from next old new before after
+SoFar-kept logic count from left next old new before after p h =
     record { done = p.done; counted = p.counted; taken = LinesTaken-kept from left next p.done p.taken h; silo = p.silo; written = p.written; alone = p.alone }
 
+-- what was written went out
+pub SoFar-flushed : (logic : Logic) (count : ℕ) (from left : Option (List ℕ)) (old new : History) (before during after : Option (List ℕ)) → SoFar logic count from left old new before during → Keeps during after
+    → SoFar logic count from left old new before after
+SoFar-flushed logic count from left old new before during after p h =
+    record { done = p.done; counted = p.counted; taken = p.taken; silo = p.silo; written = Appends-kept before during after _ p.written h; alone = p.alone }
+
 -- no line more was taken
-pub SoFar-same : (count : ℕ) (from left next : Option (List ℕ)) (old new : History) (before after : Option (List ℕ)) → SoFar count from left old new before after → LinesTaken left next []
-    → SoFar count from next old new before after
-SoFar-same count from left next old new before after p h =
+pub SoFar-same : (logic : Logic) (count : ℕ) (from left next : Option (List ℕ)) (old new : History) (before after : Option (List ℕ)) → SoFar logic count from left old new before after → LinesTaken left next []
+    → SoFar logic count from next old new before after
+SoFar-same logic count from left next old new before after p h =
     let taken = subst (LinesTaken from next) (append-nil p.done) (LinesTaken-trans from left next p.done [] p.taken h) in
     record { done = p.done; counted = p.counted; taken = taken; silo = p.silo; written = p.written; alone = p.alone }
 
@@ -142,85 +162,146 @@ all_taken_here : (input ahead : List ℕ) (rest : Option (List ℕ)) (done : Lis
 all_taken_here input ahead None done none end h = absurd h
 all_taken_here input ahead (Some bytes) done none end h = (ap Some end, h ∙ ap (λ l. done ++ lines_of l) (ap₂ (λ a b. a ++ b) none end) ∙ append-nil done)
 
-pub SoFar-all : (count : ℕ) (from : Option (List ℕ)) (ahead : List ℕ) (rest : Option (List ℕ)) (old new : History) (before after : Option (List ℕ)) → ahead ≡ [] → IsAtEnd rest
-    → SoFar count from (prepend_known ahead rest) old new before after → IfSome from (λ input. AnswersAll input count old new rest before after)
-SoFar-all count None ahead rest old new before after none end p = tt
-SoFar-all count (Some input) ahead rest old new before after none end p =
+pub SoFar-all : (logic : Logic) (count : ℕ) (from : Option (List ℕ)) (ahead : List ℕ) (rest : Option (List ℕ)) (old new : History) (before after : Option (List ℕ)) → ahead ≡ [] → IsAtEnd rest
+    → SoFar logic count from (prepend_known ahead rest) old new before after → IfSome from (λ input. AnswersAll logic input count old new rest before after)
+SoFar-all logic count None ahead rest old new before after none end p = tt
+SoFar-all logic count (Some input) ahead rest old new before after none end p =
     let whole = all_taken_here input ahead rest p.done none end p.taken in record {
       read = whole.0;
       count = sym p.counted ∙ ap length (sym whole.1);
-      silo = subst (λ ls. TakesLines old ls new) (sym whole.1) p.silo;
-      written = subst (λ ls. Appends before after (whole_out old.whole ls)) (sym whole.1) p.written;
+      silo = subst (λ ls. TakesLines logic old ls new) (sym whole.1) p.silo;
+      written = subst (λ ls. Appends before after (lines_text (whole_stepper logic) old.whole ls)) (sym whole.1) p.written;
     }
 
-pub SoFar-alone : (count : ℕ) (from : Option (List ℕ)) (ahead : List ℕ) (rest : Option (List ℕ)) (old new : History) (before after : Option (List ℕ)) → ahead ≡ [] → IsAtEnd rest
-    → SoFar count from (prepend_known ahead rest) old new before after
-    → IfSome from (λ input. (tenant : List ℕ) → LinesConcern tenant (lines_of input) → AnswersAlone tenant input old.whole new.whole before after)
-SoFar-alone count None ahead rest old new before after none end p = tt
-SoFar-alone count (Some input) ahead rest old new before after none end p =
+pub SoFar-alone : (logic : Logic) (count : ℕ) (from : Option (List ℕ)) (ahead : List ℕ) (rest : Option (List ℕ)) (old new : History) (before after : Option (List ℕ)) → ahead ≡ [] → IsAtEnd rest
+    → SoFar logic count from (prepend_known ahead rest) old new before after
+    → IfSome from (λ input. (tenant : List ℕ) → LinesConcern tenant (lines_of input) → AnswersAlone logic tenant input old.whole new.whole before after)
+SoFar-alone logic count None ahead rest old new before after none end p = tt
+SoFar-alone logic count (Some input) ahead rest old new before after none end p =
     let whole = all_taken_here input ahead rest p.done none end p.taken in
     λ tenant c.
-    let alone = p.alone tenant (subst (LinesConcern tenant) whole.1 c) in record {
-      part = alone.part ∙ ap (machine_after (shown_to tenant old.whole)) (sym whole.1);
-      written = subst (Appends before after) (alone.text ∙ ap (machine_out (shown_to tenant old.whole)) (sym whole.1)) p.written;
+    let here = subst (LinesConcern tenant) whole.1 c in
+    let alone = shown_to tenant old.whole in record {
+      part = part_alone logic tenant old new p.done p.silo here ∙ ap (λ ls. machine_run logic alone (steps_of ls)) (sym whole.1);
+      written = subst (Appends before after) (p.alone tenant here ∙ ap (lines_text (machine_stepper logic) alone) (sym whole.1)) p.written;
     }
 
 -- ---- a fault
 
-stops_before : (from left : Option (List ℕ)) (old new : History) (before after : Option (List ℕ)) (done : List (List ℕ)) → LinesTaken from left done → TakesLines old done new → Appends before after (whole_out old.whole done)
-    → IfSome from (λ input. StopsBefore (lines_of input) old new before after)
-stops_before None left old new before after done h silo written = tt
-stops_before (Some input) None old new before after done h silo written = absurd h
-stops_before (Some input) (Some bytes) old new before after done h silo written = record { done = done; rest = lines_of bytes; parts = h; silo = silo; written = written }
+stops_before : (logic : Logic) (from left : Option (List ℕ)) (old new : History) (before after : Option (List ℕ)) (done : List (List ℕ)) → LinesTaken from left done → TakesLines logic old done new → Appends before after (lines_text (whole_stepper logic) old.whole done)
+    → IfSome from (λ input. StopsBefore logic (lines_of input) old new before after)
+stops_before logic None left old new before after done h silo written = tt
+stops_before logic (Some input) None old new before after done h silo written = absurd h
+stops_before logic (Some input) (Some bytes) old new before after done h silo written = record { done = done; rest = lines_of bytes; parts = h; silo = silo; written = written }
 
-stops_at : (from left : Option (List ℕ)) (old new : History) (before after : Option (List ℕ)) (done : List (List ℕ)) → LinesTaken from left done → TakesLines old done new → Appends before after (whole_out old.whole done)
-    → IfSome from (λ input. StopsAt (lines_of input) old new before after)
-stops_at None left old new before after done h silo written = tt
-stops_at (Some input) None old new before after done h silo written = absurd h
-stops_at (Some input) (Some bytes) old new before after done h silo written = record { done = done; rest = lines_of bytes; parts = h; silo = inl silo; written = written }
+stops_at : (logic : Logic) (from left : Option (List ℕ)) (old new : History) (before after : Option (List ℕ)) (done : List (List ℕ)) → LinesTaken from left done → TakesLines logic old done new → Appends before after (lines_text (whole_stepper logic) old.whole done)
+    → IfSome from (λ input. StopsAt logic (lines_of input) old new before after)
+stops_at logic None left old new before after done h silo written = tt
+stops_at logic (Some input) None old new before after done h silo written = absurd h
+stops_at logic (Some input) (Some bytes) old new before after done h silo written = record { done = done; rest = lines_of bytes; parts = h; silo = inl silo; written = written }
+
+-- for a reason beside it
+for_reason : (from : Option (List ℕ)) (P Q : List ℕ → Type 0) → ((input : List ℕ) → P input → Q input) → IfSome from P → IfSome from Q
+for_reason None P Q f h = tt
+for_reason (Some input) P Q f h = f input h
+
+-- the writer failed before a read
+stops_flushing : (logic : Logic) (count : ℕ) (from left : Option (List ℕ)) (old new : History) (before after : Option (List ℕ)) → SoFar logic count from left old new before after
+    → IfSome from (λ input. StopsAfter logic (lines_of input) old new before after)
+stops_flushing logic count None left old new before after p = tt
+stops_flushing logic count (Some input) None old new before after p = absurd p.taken
+stops_flushing logic count (Some input) (Some bytes) old new before after p = record {
+  done = p.done;
+  last = [];
+  rest = lines_of bytes;
+  at_most_one = omega arith;
+  parts = p.taken ∙ ap (λ ls. ls ++ lines_of bytes) (sym (append-nil p.done));
+  silo = subst (λ ls. TakesLines logic old ls new) (sym (append-nil p.done)) p.silo;
+  during = after;
+  written = p.written;
+  part = record { front = []; back = []; parts = refl; written = Appends-nil after };
+}
 
 -- while the next line is read, or memory is refused before
-pub stops_reading : (e : LineFault) (count : ℕ) (from left : Option (List ℕ)) (old new : History) (before after : Option (List ℕ)) → (e ≡ fault.Write → ⊥) → SoFar count from left old new before after
-    → IfSome from (λ input. StopsBy e (lines_of input) old new before after)
-stops_reading fault.Read count from left old new before after apart p = stops_before from left old new before after p.done p.taken p.silo p.written
-stops_reading fault.TooMuch count from left old new before after apart p = stops_before from left old new before after p.done p.taken p.silo p.written
-stops_reading fault.Memory count from left old new before after apart p = stops_at from left old new before after p.done p.taken p.silo p.written
-stops_reading fault.Write count from left old new before after apart p = absurd (apart refl)
+pub stops_reading : (logic : Logic) (e : LineFault) (calls : ReaderCalls) (count : ℕ) (from left : Option (List ℕ)) (old new : History) (before after : Option (List ℕ)) → HasCause e calls
+    → SoFar logic count from left old new before after → IfSome from (λ input. StopsBy logic e (lines_of input) calls old new before after)
+stops_reading logic fault.Read calls count from left old new before after cause p =
+    for_reason from _ _ (λ input stops. (stops, cause)) (stops_before logic from left old new before after p.done p.taken p.silo p.written)
+stops_reading logic fault.TooMuch calls count from left old new before after cause p =
+    for_reason from _ _ (λ input stops. (stops, inr cause)) (stops_before logic from left old new before after p.done p.taken p.silo p.written)
+stops_reading logic fault.Memory calls count from left old new before after cause p = stops_at logic from left old new before after p.done p.taken p.silo p.written
+stops_reading logic fault.Write calls count from left old new before after cause p = stops_flushing logic count from left old new before after p
+
+-- bytes that are there are some line
+onto_some : (b : ℕ) (lines : List (List ℕ)) → onto b lines ≢ []
+onto_some b [] h = absurd cc
+onto_some b (l ∷ lines) h = absurd cc
+
+first_some : (t : Bool) (b : ℕ) (lines : List (List ℕ)) → cond t ([] ∷ lines) (onto b lines) ≢ []
+first_some true b lines h = absurd cc
+first_some false b lines h = onto_some b lines h
+
+lines_some : (bytes : List ℕ) → 0 < length bytes → lines_of bytes ≢ []
+lines_some [] some h = absurd (omega arith)
+lines_some (b ∷ bytes) some h = first_some (b == 10) b (lines_of bytes) h
+
+-- there are more lines than an input may have
+pub stops_full : (logic : Logic) (calls : ReaderCalls) (count : ℕ) (from : Option (List ℕ)) (ahead : List ℕ) (rest : Option (List ℕ)) (old new : History) (before after : Option (List ℕ)) → count ≡ lines_limit → 0 < length ahead
+    → SoFar logic count from (prepend_known ahead rest) old new before after → IfSome from (λ input. StopsBy logic fault.TooMuch (lines_of input) calls old new before after)
+stops_full logic calls count None ahead rest old new before after full some p = tt
+stops_full logic calls count (Some input) ahead None old new before after full some p = absurd p.taken
+stops_full logic calls count (Some input) ahead (Some bytes) old new before after full some p = (
+  record { done = p.done; rest = lines_of (ahead ++ bytes); parts = p.taken; silo = p.silo; written = p.written },
+  inl (p.counted ∙ full, lines_some (ahead ++ bytes) (omega (arith, some, length-append ahead bytes))),
+)
 
 -- while a line is answered
-stops_in_writing : (from left next : Option (List ℕ)) (old new : History) (done : List (List ℕ)) (l : List ℕ) → LinesTaken from left done → LinesTaken left next (l ∷ []) → TakesLines old (done ++ l ∷ []) new
-    → IfSome from (λ input. StopsAfter (lines_of input) old new)
-stops_in_writing None left next old new done l h g silo = tt
-stops_in_writing (Some input) None next old new done l h g silo = absurd h
-stops_in_writing (Some input) (Some bytes) None old new done l h g silo = absurd g
-stops_in_writing (Some input) (Some bytes) (Some others) old new done l h g silo = record { done = done; last = l; rest = lines_of others; parts = h ∙ ap (λ ls. done ++ ls) g; silo = silo }
+stops_in_writing : (logic : Logic) (from left next : Option (List ℕ)) (old mid new : History) (before during after : Option (List ℕ)) (done : List (List ℕ)) (l : List ℕ) → LinesTaken from left done → LinesTaken left next (l ∷ [])
+    → TakesLines logic old done mid → TakesLines logic old (done ++ l ∷ []) new → Appends before during (lines_text (whole_stepper logic) old.whole done)
+    → WrittenInPart during after (line_text (whole_stepper logic) mid.whole (said_of l)) → IfSome from (λ input. StopsAfter logic (lines_of input) old new before after)
+stops_in_writing logic None left next old mid new before during after done l h g taken silo written part = tt
+stops_in_writing logic (Some input) None next old mid new before during after done l h g taken silo written part = absurd h
+stops_in_writing logic (Some input) (Some bytes) None old mid new before during after done l h g taken silo written part = absurd g
+stops_in_writing logic (Some input) (Some bytes) (Some others) old mid new before during after done l h g taken silo written part = record {
+  done = done;
+  last = l ∷ [];
+  rest = lines_of others;
+  at_most_one = omega arith;
+  parts = h ∙ ap (λ ls. done ++ ls) g ∙ sym (append_assoc done (l ∷ []) (lines_of others));
+  silo = silo;
+  during = during;
+  written = written;
+  part = subst (WrittenInPart during after) (ap (λ w. line_text (whole_stepper logic) w (said_of l)) taken.whole ∙ sym (append-nil (line_text (whole_stepper logic) (whole_run logic old.whole (steps_of done)) (said_of l)))) part;
+}
 
-stops_for_memory : (from left next : Option (List ℕ)) (old mid new : History) (before after : Option (List ℕ)) (done : List (List ℕ)) (l : List ℕ) → LinesTaken from left done → LinesTaken left next (l ∷ [])
-    → TakesLines old done mid → Appends before after (whole_out old.whole done) → MayTake mid (said_of l) new → IfSome from (λ input. StopsAt (lines_of input) old new before after)
-stops_for_memory None left next old mid new before after done l h g silo written may = tt
-stops_for_memory (Some input) None next old mid new before after done l h g silo written may = absurd h
-stops_for_memory (Some input) (Some bytes) None old mid new before after done l h g silo written may = absurd g
-stops_for_memory (Some input) (Some bytes) (Some others) old mid new before after done l h g silo written may = record {
+stops_for_memory : (logic : Logic) (from left next : Option (List ℕ)) (old mid new : History) (before after : Option (List ℕ)) (done : List (List ℕ)) (l : List ℕ) → LinesTaken from left done → LinesTaken left next (l ∷ [])
+    → TakesLines logic old done mid → Appends before after (lines_text (whole_stepper logic) old.whole done) → MayTake logic mid (said_of l) new → IfSome from (λ input. StopsAt logic (lines_of input) old new before after)
+stops_for_memory logic None left next old mid new before after done l h g silo written may = tt
+stops_for_memory logic (Some input) None next old mid new before after done l h g silo written may = absurd h
+stops_for_memory logic (Some input) (Some bytes) None old mid new before after done l h g silo written may = absurd g
+stops_for_memory logic (Some input) (Some bytes) (Some others) old mid new before after done l h g silo written may = record {
   done = done;
   rest = l ∷ lines_of others;
   parts = h ∙ ap (λ ls. done ++ ls) g;
-  silo = ⊎_elim (λ same. inl (subst (TakesLines old done) (sym same) silo)) (λ took. inr (TakesLines-more old mid new done l silo took)) may;
+  silo = ⊎_elim (λ same. inl (subst (TakesLines logic old done) (sym same) silo)) (λ took. inr (TakesLines-more logic old mid new done l silo took)) may;
   written = written;
 }
 
-pub stops_answering : (e : LineFault) (count : ℕ) (from left next : Option (List ℕ)) (old mid new : History) (before during after : Option (List ℕ)) (l : List ℕ) (said : Line)
-    → SoFar count from left old mid before during → LinesTaken left next (l ∷ []) → said ≡ said_of l → LineStopsBy e said mid new during after
-    → IfSome from (λ input. StopsBy e (lines_of input) old new before after)
-stops_answering fault.Read count from left next old mid new before during after l said p took e h = absurd h
-stops_answering fault.TooMuch count from left next old mid new before during after l said p took e h = absurd h
-stops_answering fault.Memory count from left next old mid new before during after l said p took e h =
-    stops_for_memory from left next old mid new before after p.done l p.taken took p.silo (Appends-kept before during after _ p.written h.1) (subst (λ s. MayTake mid s new) e h.0)
-stops_answering fault.Write count from left next old mid new before during after l said p took e h =
-    stops_in_writing from left next old new p.done l p.taken took (TakesLines-more old mid new p.done l p.silo (subst (λ s. TakesLine mid s new) e h))
+pub stops_answering : (logic : Logic) (e : LineFault) (calls : ReaderCalls) (count : ℕ) (from left next : Option (List ℕ)) (old mid new : History) (before during after : Option (List ℕ)) (l : List ℕ) (said : Line)
+    → SoFar logic count from left old mid before during → LinesTaken left next (l ∷ []) → said ≡ said_of l → LineStopsBy logic e said mid new during after
+    → IfSome from (λ input. StopsBy logic e (lines_of input) calls old new before after)
+stops_answering logic fault.Read calls count from left next old mid new before during after l said p took e h = absurd h
+stops_answering logic fault.TooMuch calls count from left next old mid new before during after l said p took e h = absurd h
+stops_answering logic fault.Memory calls count from left next old mid new before during after l said p took e h =
+    stops_for_memory logic from left next old mid new before after p.done l p.taken took p.silo (Appends-kept before during after _ p.written h.1) (subst (λ s. MayTake logic mid s new) e h.0)
+stops_answering logic fault.Write calls count from left next old mid new before during after l said p took e h =
+    stops_in_writing logic from left next old mid new before during after p.done l p.taken took p.silo (TakesLines-more logic old mid new p.done l p.silo (subst (λ s. TakesLine logic mid s new) e h.0)) p.written
+    (subst (λ s. WrittenInPart during after (line_text (whole_stepper logic) mid.whole s)) e h.1)
 
 -- what a `?` hands on
 pub handed_on : {T E : Type 0} (r : Result T E) (P : E → Type 0) (e : E) → r ≡ Err e → P e → IfErr r P
 handed_on r P e is h = subst (λ x. IfErr x P) (sym is) h
 
-pub not_write : (e : LineFault) → (e ≡ fault.Read) ⊎ (e ≡ fault.TooMuch) → e ≡ fault.Write → ⊥
-not_write e h is = ⊎_elim (λ read. let wrong : fault.Read ≡ fault.Write = sym read ∙ is in cc) (λ much. let wrong : fault.TooMuch ≡ fault.Write = sym much ∙ is in cc) h
+-- a line that is cut in the same place says the same
+pub same_said : (found shown l : List ℕ) → found ≡ shown → take 65537 shown ≡ take 65537 l → said_of found ≡ said_of l
+same_said found shown l e h = ap said_of e ∙ sym (said_cut shown) ∙ ap said_of h ∙ said_cut l

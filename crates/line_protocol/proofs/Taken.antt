@@ -86,3 +86,21 @@ step_broken k0 k1 seen front back whole rest p q h g e =
 pub step_whole : (k0 k1 : Option (List ℕ)) (seen back whole : List ℕ) (rest : Option (List ℕ)) → Consumes k0 k1 seen → Keeps k1 (prepend_known whole rest) → back ≡ [] → Consumes k0 (prepend_known back rest) (seen ++ whole)
 step_whole k0 k1 seen back whole rest p q e =
     Consumes-trans k0 (prepend_known whole rest) (prepend_known back rest) seen whole (Consumes-kept k0 k1 (prepend_known whole rest) seen p q) (all_taken whole back rest e)
+
+-- ---- nothing is taken yet
+
+pub LinesTaken-self : (a : Option (List ℕ)) → LinesTaken a a []
+LinesTaken-self None = tt
+LinesTaken-self (Some bytes) = refl
+
+pub prepend-nil : (a : Option (List ℕ)) → prepend_known [] a ≡ a
+prepend-nil None = refl
+prepend-nil (Some bytes) = refl
+
+pub nothing_taken : (a : Option (List ℕ)) (ahead : List ℕ) → ahead ≡ [] → LinesTaken a (prepend_known ahead a) []
+nothing_taken a ahead e = subst (λ l. LinesTaken a l []) (sym (ap (λ l. prepend_known l a) e ∙ prepend-nil a)) (LinesTaken-self a)
+
+-- a line and its LF stand whole in what was read ahead
+pub whole_taken : (front back whole : List ℕ) (rest : Option (List ℕ)) → HasNoBreak front → whole ≡ front ++ 10 ∷ back → LinesTaken (prepend_known whole rest) (prepend_known back rest) (front ∷ [])
+whole_taken front back whole rest h e =
+    LinesTaken-broken (prepend_known whole rest) (prepend_known back rest) front h (front_taken whole (front ++ 10 ∷ []) back rest (e ∙ sym (append_assoc front (10 ∷ []) back)))

@@ -76,7 +76,7 @@ unfoldable pub form_of : List ℕ → Data → Option Step
 form_of op d =
     if bytes_eq op (codes "call") then call_of d
     else if bytes_eq op (codes "activate") then grain_form Activate d
-    else if bytes_eq op (codes "load") then grain_form Load d
+    else if bytes_eq op (codes "load") then grain_form (λ grain. Load grain false) d
     else if bytes_eq op (codes "begin") then grain_form Begin d
     else if bytes_eq op (codes "end") then end_of d
     else None

@@ -1,13 +1,15 @@
 //! What one line leaves in the silo and adds to the text.
 
-ghost use Rattle.std.specs.Prelude.{◌≡◌, ℕ, List, ◌++◌, ◌⊎◌, OnOk, OnErr, string_bytes, take};
+ghost use Rattle.std.specs.Prelude.{◌≡◌, ℕ, List, ◌++◌, ◌⊎◌, OnOk, OnErr, string_bytes, take, true};
 ghost use Rattle.line_protocol.specs.Said.{said_of};
-ghost use Rattle.line_protocol.specs.Out.{texts_of, whole_text, LineConcerns};
-ghost use Rattle.line_protocol.specs.Running.{TakesLine, LineAlone, MayTake};
+ghost use Rattle.grain_kinds.specs.Counters.{counters};
+ghost use Rattle.silo_core.specs.Built.{is_built};
+ghost use Rattle.line_protocol.specs.Out.{texts_of, whole_stepper, line_text};
+ghost use Rattle.line_protocol.specs.Running.{TakesLine, LineConcerns, LineAlone, MayTake};
 ghost use Rattle.line_protocol.specs.declared.line.Line.TheVariants as line;
 
 use crate::line::Line;
-use crate::reading::read_line;
+use crate::reading::{LineRoom, read_line};
 use crate::replies::{push_not_now, push_refusal, push_reply};
 use silo_core::Silo;
 use silo_event::{Answer, Reply, Step, StepFault};
@@ -24,44 +26,49 @@ fn push_replies(alloc: Global, text: &mut String, replies: &[Reply]) -> Result<(
     Ok(())
 }
 
-/// Takes a step, and adds its text: the replies that it added, or that it isn't possible now.
+/// Takes a step of a kind that is built, and adds its text: the replies that it added, or that it
+/// isn't possible now.
 fn answer_step(
     alloc: Global,
     silo: &mut Silo,
     step: Step,
     text: &mut String,
 ) -> Result<(), AllocError>
-    ensures silo { OnOk result (TakesLine silo.old (line.Step step) silo.new) }
-    ensures text { OnOk result (string_bytes text.new ≡ string_bytes text.old ++ whole_text silo.old.whole (line.Step step)) }
+    requires built { is_built step ≡ true }
+    ensures silo { OnOk result (TakesLine counters silo.old (line.Step step) silo.new) }
+    ensures text { OnOk result (string_bytes text.new ≡ string_bytes text.old ++ line_text (whole_stepper counters) silo.old.whole (line.Step step)) }
     ensures alone { OnOk result ((tenant : List ℕ) → LineConcerns tenant (line.Step step)
-        → LineAlone tenant silo.old.whole (line.Step step) silo.new.whole) }
-    ensures err { OnErr result (MayTake silo.old (line.Step step) silo.new) }
+        → LineAlone counters tenant silo.old.whole (line.Step step)) }
+    ensures err { OnErr result (MayTake counters silo.old (line.Step step) silo.new) }
 {
     let before = silo.replies().len();
     match silo.apply(alloc, step) {
         Ok(Answer::Done) => push_replies(alloc, text, &silo.replies()[before..]),
+        Ok(Answer::Failed) => unreachable!(),
         Ok(Answer::NotNow) => {
             push_not_now(text)?;
             text.push_str("\n")
         }
         Err(StepFault::Memory) => Err(AllocError),
+        Err(StepFault::Stranger) => unreachable!(),
     }
 }
 
 /// Takes what a line says, and adds its text.
 pub(crate) fn answer_line(
     alloc: Global,
+    room: &mut LineRoom,
     silo: &mut Silo,
     line: &[u8],
     text: &mut String,
 ) -> Result<(), AllocError>
-    ensures silo { OnOk result (TakesLine silo.old (said_of line.now) silo.new) }
-    ensures text { OnOk result (string_bytes text.new ≡ string_bytes text.old ++ whole_text silo.old.whole (said_of line.now)) }
+    ensures silo { OnOk result (TakesLine counters silo.old (said_of line.now) silo.new) }
+    ensures text { OnOk result (string_bytes text.new ≡ string_bytes text.old ++ line_text (whole_stepper counters) silo.old.whole (said_of line.now)) }
     ensures alone { OnOk result ((tenant : List ℕ) → LineConcerns tenant (said_of line.now)
-        → LineAlone tenant silo.old.whole (said_of line.now) silo.new.whole) }
-    ensures err { OnErr result (MayTake silo.old (said_of line.now) silo.new) }
+        → LineAlone counters tenant silo.old.whole (said_of line.now)) }
+    ensures err { OnErr result (MayTake counters silo.old (said_of line.now) silo.new) }
 {
-    match read_line(alloc, line)? {
+    match read_line(alloc, room, line)? {
         Line::Nothing => Ok(()),
         Line::Refusal(refusal) => {
             push_refusal(text, refusal)?;

@@ -6,21 +6,31 @@
 //! what is written for an input in `specs/Out.antt`.
 #![tactic(auto)]
 
-mod ahead;
 mod answers;
+mod argument;
+mod calls;
 mod fault;
 mod forms;
 mod line;
+mod line_reader;
 mod members;
+mod number;
 mod reading;
 mod replies;
-mod reply_values;
 mod runner;
+mod slots;
+mod step;
 #[cfg(test)]
 mod tests;
+mod text;
+mod unread;
+mod value_text;
+mod written;
 
+pub use calls::ReaderCalls;
 pub use fault::LineFault;
 pub use line::{Line, LineRefusal};
-pub use reading::read_line;
+pub use line_reader::LineReader;
+pub use reading::{LineRoom, read_line};
 pub use replies::reply_text;
 pub use runner::run_lines;

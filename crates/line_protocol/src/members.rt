@@ -4,7 +4,7 @@ ghost use Rattle.std.specs.Prelude.{◌≡◌, IfOk, option_map};
 ghost use Rattle.serde_json.specs.View.{view};
 ghost use Rattle.line_protocol.specs.Form.{text_at, natural_at, grain_at, caller_at, has_members};
 
-use grain_id::{Caller, GrainId, IdFault};
+use grain_id::{Caller, GrainId, IdFault, LatelyRead};
 use serde_json::Value;
 use std::alloc::{AllocError, Global};
 
@@ -38,13 +38,17 @@ pub(crate) fn has_members(value: &Value, count: usize) -> bool
 }
 
 /// The grain that `grain` names.
-pub(crate) fn grain_at(alloc: Global, value: &Value) -> Result<Option<GrainId>, AllocError>
+pub(crate) fn grain_at(
+    alloc: Global,
+    names: &mut LatelyRead,
+    value: &Value,
+) -> Result<Option<GrainId>, AllocError>
     ensures { IfOk result (λ grain. grain ≡ grain_at (view value.now)) }
 {
     let Some(text) = text_at(value, "grain") else {
         return Ok(None);
     };
-    match GrainId::read(alloc, text) {
+    match names.read_grain(alloc, text) {
         Ok(grain) => Ok(Some(grain)),
         Err(IdFault::Memory) => Err(AllocError),
         Err(IdFault::Kind | IdFault::Tenant | IdFault::Name | IdFault::Client) => Ok(None),
@@ -52,13 +56,17 @@ pub(crate) fn grain_at(alloc: Global, value: &Value) -> Result<Option<GrainId>, 
 }
 
 /// The caller that `from` names.
-pub(crate) fn caller_at(alloc: Global, value: &Value) -> Result<Option<Caller>, AllocError>
+pub(crate) fn caller_at(
+    alloc: Global,
+    names: &mut LatelyRead,
+    value: &Value,
+) -> Result<Option<Caller>, AllocError>
     ensures { IfOk result (λ caller. caller ≡ caller_at (view value.now)) }
 {
     let Some(text) = text_at(value, "from") else {
         return Ok(None);
     };
-    match Caller::read(alloc, text) {
+    match names.read_caller(alloc, text) {
         Ok(caller) => Ok(Some(caller)),
         Err(IdFault::Memory) => Err(AllocError),
         Err(IdFault::Kind | IdFault::Tenant | IdFault::Name | IdFault::Client) => Ok(None),

@@ -1,83 +1,124 @@
 //! The text of a reply.
 
-ghost use Rattle.std.specs.Prelude.{◌≡◌, ◌++◌, ℕ, ℤ, List, IfOk, OnOk, Ok, Err, string_bytes, codes, decimal};
-ghost use Rattle.std.specs.Fmt.{signed_decimal};
+ghost use Rattle.std.specs.Prelude.{◌≡◌, ◌++◌, IfOk, OnOk, string_bytes, codes, decimal};
+ghost use Rattle.json.specs.Print.{quoted};
 ghost use Rattle.grain_id.specs.Names.{client_text, grain_text};
-ghost use Rattle.serde_json.specs.View.{view};
-ghost use Rattle.request_codec.specs.Json.{json_of};
-ghost use Rattle.request_codec.specs.Seen.{value_of};
-ghost use Rattle.request_codec.specs.Tree.{whole};
 ghost use Rattle.silo_event.specs.Fault.{fault_code, fault_text};
 ghost use Rattle.silo_event.specs.declared.reply.Party.TheVariants as party;
 ghost use Rattle.line_protocol.specs.Text.{line_of, line_to, done_line, refused_line, done_to_grain_line, refused_to_grain_line, refusal_line, not_now_line};
 
 use crate::line::LineRefusal;
-use crate::reply_values::{
-    done_to_grain_value, done_value, printed, refused_to_grain_value, refused_value,
-};
+use crate::text::{push, push_natural, push_quoted};
+use crate::value_text::push_state;
 use grain_id::{Caller, GrainId};
-use request_codec::{Datum, StateBytes, decode_state, to_json};
+use request_codec::StateBytes;
 use silo_event::{Fault, Party, Reply};
 use std::alloc::{AllocError, Global};
 
-fn done_text(alloc: Global, from: &str, id: u64, value: &Datum) -> Result<String, AllocError>
-    ensures { IfOk result (λ text. string_bytes text ≡ done_line from.now id (value_of value.now)) }
+/// Adds a caller's text as JSON. Nothing in it has to be escaped.
+fn push_client(text: &mut String, from: &Caller) -> Result<(), AllocError>
+    ensures { OnOk result (string_bytes text.new ≡ string_bytes text.old ++ quoted (client_text from.now)) }
 {
-    let ok = to_json(alloc, value)?;
-    let line = done_value(alloc, from, id, ok)?;
-    printed(alloc, line)
+    push(text, "\"")?;
+    push(text, from.text())?;
+    push(text, "\"")?;
+    Ok(())
 }
 
-fn refused_text(alloc: Global, from: &str, id: u64, fault: &Fault) -> Result<String, AllocError>
-    ensures { IfOk result (λ text. string_bytes text ≡ refused_line from.now id (fault_code fault.now) (fault_text fault.now)) }
-{
-    let why = fault.text(alloc)?;
-    let line = refused_value(alloc, from, id, fault.code(), why.as_str())?;
-    printed(alloc, line)
-}
-
-fn done_to_grain_text(alloc: Global, from: &str, value: &Datum) -> Result<String, AllocError>
-    ensures { IfOk result (λ text. string_bytes text ≡ done_to_grain_line from.now (value_of value.now)) }
-{
-    let ok = to_json(alloc, value)?;
-    let line = done_to_grain_value(alloc, from, ok)?;
-    printed(alloc, line)
-}
-
-fn refused_to_grain_text(alloc: Global, from: &str, fault: &Fault) -> Result<String, AllocError>
-    ensures { IfOk result (λ text. string_bytes text ≡ refused_to_grain_line from.now (fault_code fault.now) (fault_text fault.now)) }
-{
-    let why = fault.text(alloc)?;
-    let line = refused_to_grain_value(alloc, from, fault.code(), why.as_str())?;
-    printed(alloc, line)
-}
-
-/// Adds the line of a whole number, by far the most common one, without a JSON value in between.
-fn push_number(text: &mut String, from: &Caller, id: u64, n: i64) -> Result<(), AllocError>
-    ensures { OnOk result (string_bytes text.new ≡ string_bytes text.old ++ done_line (client_text from.now) id (whole n)) }
-{
-    let name = from.text();
-    write!(text, "{{\"from\":\"{name}\",\"id\":{id},\"ok\":{n}}}")
-}
-
+/// Adds `{"from":F,"id":I,"ok":V}`.
 fn push_done(
     alloc: Global,
     text: &mut String,
     from: &Caller,
     id: u64,
-    value: &Datum,
+    state: &StateBytes,
 ) -> Result<(), AllocError>
-    ensures { OnOk result (string_bytes text.new ≡ string_bytes text.old ++ done_line (client_text from.now) id (value_of value.now)) }
+    ensures { OnOk result (string_bytes text.new ≡ string_bytes text.old ++ done_line (client_text from.now) id state.now) }
 {
-    match value {
-        Datum::Int(n) => push_number(text, from, id, *n),
-        _ => {
-            let line = done_text(alloc, from.text(), id, value)?;
-            text.push_str(line.as_str())
-        }
-    }
+    push(text, "{\"from\":")?;
+    push_client(text, from)?;
+    push(text, ",\"id\":")?;
+    push_natural(text, id)?;
+    push(text, ",\"ok\":")?;
+    push_state(alloc, text, state)?;
+    push(text, "}")?;
+    Ok(())
 }
 
+/// Adds `{"error":C,"from":`.
+fn push_code(text: &mut String, fault: &Fault) -> Result<(), AllocError>
+    ensures { OnOk result (string_bytes text.new ≡ string_bytes text.old
+        ++ (codes "{\"error\":" ++ (decimal (fault_code fault.now) ++ codes ",\"from\":"))) }
+{
+    push(text, "{\"error\":")?;
+    push_natural(text, u64::from(fault.code()))?;
+    push(text, ",\"from\":")?;
+    Ok(())
+}
+
+/// Adds `,"text":T}`.
+fn push_why(alloc: Global, text: &mut String, fault: &Fault) -> Result<(), AllocError>
+    ensures { OnOk result (string_bytes text.new ≡ string_bytes text.old
+        ++ (codes ",\"text\":" ++ (quoted (fault_text fault.now) ++ codes "}"))) }
+{
+    let why = fault.text(alloc)?;
+    push(text, ",\"text\":")?;
+    push_quoted(alloc, text, why.as_str())?;
+    push(text, "}")?;
+    Ok(())
+}
+
+/// Adds `{"error":C,"from":F,"id":I,"text":T}`.
+fn push_refused(
+    alloc: Global,
+    text: &mut String,
+    from: &Caller,
+    id: u64,
+    fault: &Fault,
+) -> Result<(), AllocError>
+    ensures { OnOk result (string_bytes text.new ≡ string_bytes text.old ++ refused_line (client_text from.now) id (fault_code fault.now) (fault_text fault.now)) }
+{
+    push_code(text, fault)?;
+    push_client(text, from)?;
+    push(text, ",\"id\":")?;
+    push_natural(text, id)?;
+    push_why(alloc, text, fault)?;
+    Ok(())
+}
+
+/// Adds `{"from":F,"ok":V}`.
+fn push_done_to_grain(
+    alloc: Global,
+    text: &mut String,
+    from: &GrainId,
+    state: &StateBytes,
+) -> Result<(), AllocError>
+    ensures { OnOk result (string_bytes text.new ≡ string_bytes text.old ++ done_to_grain_line (grain_text from.now) state.now) }
+{
+    push(text, "{\"from\":")?;
+    push_quoted(alloc, text, from.text())?;
+    push(text, ",\"ok\":")?;
+    push_state(alloc, text, state)?;
+    push(text, "}")?;
+    Ok(())
+}
+
+/// Adds `{"error":C,"from":F,"text":T}`.
+fn push_refused_to_grain(
+    alloc: Global,
+    text: &mut String,
+    from: &GrainId,
+    fault: &Fault,
+) -> Result<(), AllocError>
+    ensures { OnOk result (string_bytes text.new ≡ string_bytes text.old ++ refused_to_grain_line (grain_text from.now) (fault_code fault.now) (fault_text fault.now)) }
+{
+    push_code(text, fault)?;
+    push_quoted(alloc, text, from.text())?;
+    push_why(alloc, text, fault)?;
+    Ok(())
+}
+
+/// Adds the line of a reply to a client.
 fn push_to_client(
     alloc: Global,
     text: &mut String,
@@ -88,17 +129,12 @@ fn push_to_client(
     ensures { OnOk result (string_bytes text.new ≡ string_bytes text.old ++ line_to (party.Client from.now id) outcome.now) }
 {
     match outcome {
-        Ok(state) => {
-            let value = decode_state(alloc, state)?;
-            push_done(alloc, text, from, id, &value)
-        }
-        Err(fault) => {
-            let line = refused_text(alloc, from.text(), id, fault)?;
-            text.push_str(line.as_str())
-        }
+        Ok(state) => push_done(alloc, text, from, id, state),
+        Err(fault) => push_refused(alloc, text, from, id, fault),
     }
 }
 
+/// Adds the line of a reply to a grain.
 fn push_to_grain(
     alloc: Global,
     text: &mut String,
@@ -107,14 +143,10 @@ fn push_to_grain(
 ) -> Result<(), AllocError>
     ensures { OnOk result (string_bytes text.new ≡ string_bytes text.old ++ line_to (party.Grain from.now) outcome.now) }
 {
-    let line = match outcome {
-        Ok(state) => {
-            let value = decode_state(alloc, state)?;
-            done_to_grain_text(alloc, from.text(), &value)?
-        }
-        Err(fault) => refused_to_grain_text(alloc, from.text(), fault)?,
-    };
-    text.push_str(line.as_str())
+    match outcome {
+        Ok(state) => push_done_to_grain(alloc, text, from, state),
+        Err(fault) => push_refused_to_grain(alloc, text, from, fault),
+    }
 }
 
 /// Adds the line of a reply to the text, without its LF. After an `Err` the text may hold a part

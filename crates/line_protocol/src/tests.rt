@@ -1,4 +1,4 @@
-use crate::{Line, LineFault, LineRefusal, read_line, reply_text, run_lines};
+use crate::{Line, LineFault, LineReader, LineRefusal, LineRoom, read_line, reply_text, run_lines};
 use grain_id::{Caller, GrainId, Tenant};
 use request_codec::StateBytes;
 use silo_core::Silo;
@@ -64,12 +64,16 @@ fn red_silo(alloc: Global) -> Result<Silo, Fail> {
     Ok(Silo::new(alloc, Tenant::read(alloc, "red")?, limits, 900000)?)
 }
 
+/// More bytes than a run of these tests writes: a writer that needs no more memory, so that a refusal is the run's own.
+const ROOM: usize = 4_096;
+
 /// What a new silo writes for the lines.
 fn written(alloc: Global, input: &[u8]) -> Result<Vec<u8>, Fail> {
     let mut silo = red_silo(alloc)?;
-    let mut out: Vec<u8> = Vec::new(alloc);
+    let mut out: Vec<u8> = Vec::with_capacity(alloc, ROOM)?;
     let mut left = input;
-    run_lines(alloc, &mut left, &mut out, &mut silo)?;
+    let mut lines = LineReader::new(alloc)?;
+    run_lines(alloc, &mut lines, &mut left, &mut out, &mut silo)?;
     Ok(out)
 }
 
@@ -192,7 +196,8 @@ fn run_empty(alloc: Global, count: usize, more: &[u8]) -> Result<Result<u64, Lin
     let mut silo = red_silo(alloc)?;
     let mut out: Vec<u8> = Vec::new(alloc);
     let mut left = input.as_slice();
-    Ok(run_lines(alloc, &mut left, &mut out, &mut silo))
+    let mut lines = LineReader::new(alloc)?;
+    Ok(run_lines(alloc, &mut lines, &mut left, &mut out, &mut silo))
 }
 
 #[test]
@@ -237,8 +242,9 @@ fn writes_what_came_before_a_failed_read(rt: HostRuntime) -> Result<(), Fail> {
         interrupts: false,
     };
     let mut silo = red_silo(rt.alloc())?;
-    let mut out: Vec<u8> = Vec::new(rt.alloc());
-    let done = run_lines(rt.alloc(), &mut reader, &mut out, &mut silo);
+    let mut out: Vec<u8> = Vec::with_capacity(rt.alloc(), ROOM)?;
+    let mut lines = LineReader::new(rt.alloc())?;
+    let done = run_lines(rt.alloc(), &mut lines, &mut reader, &mut out, &mut silo);
     assert_eq!(rt; done, Err(LineFault::Read));
     let want = joined(rt.alloc(), &[OK_3])?;
     assert!(rt; out.as_slice() == want.as_slice());
@@ -264,7 +270,14 @@ fn keeps_the_step_of_a_failed_write(rt: HostRuntime) -> Result<(), Fail> {
     let input = joined(rt.alloc(), &[ADD_3, ACTIVATE, LOAD, BEGIN, END_1])?;
     let mut left = input.as_slice();
     let mut silo = red_silo(rt.alloc())?;
-    let done = run_lines(rt.alloc(), &mut left, &mut FullWriter, &mut silo);
+    let mut lines = LineReader::new(rt.alloc())?;
+    let done = run_lines(
+        rt.alloc(),
+        &mut lines,
+        &mut left,
+        &mut FullWriter,
+        &mut silo,
+    );
     assert_eq!(rt; done, Err(LineFault::Write));
     assert_eq!(rt; silo.journal().len(), 5);
     assert_eq!(rt; silo.replies().len(), 1);
@@ -273,7 +286,7 @@ fn keeps_the_step_of_a_failed_write(rt: HostRuntime) -> Result<(), Fail> {
 
 /// Whether the line is a call with that number.
 fn says_call(alloc: Global, line: &[u8], number: u64) -> Result<bool, Fail> {
-    match read_line(alloc, line)? {
+    match read_line(alloc, &mut LineRoom::new(alloc)?, line)? {
         Line::Step(Step::Call { id, .. }) => Ok(id == number),
         _ => Ok(false),
     }
@@ -281,7 +294,7 @@ fn says_call(alloc: Global, line: &[u8], number: u64) -> Result<bool, Fail> {
 
 /// Whether the line is refused so.
 fn says_refusal(alloc: Global, line: &[u8], refusal: LineRefusal) -> Result<bool, Fail> {
-    match read_line(alloc, line)? {
+    match read_line(alloc, &mut LineRoom::new(alloc)?, line)? {
         Line::Refusal(said) => Ok(said == refusal),
         _ => Ok(false),
     }

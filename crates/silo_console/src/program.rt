@@ -8,7 +8,7 @@ use crate::command_line::{Task, WordsFault, read_words};
 use crate::failure::{ARGUMENTS_STATUS, fail, say};
 use crate::files::WholeFiles;
 use crate::tenants::{TenantLimits, TenantsFault, only_tenant};
-use line_protocol::{LineFault, run_lines};
+use line_protocol::{LineFault, LineReader, run_lines};
 use silo_core::Silo;
 use std::alloc::Global;
 use std::io::{Read, Write};
@@ -59,7 +59,10 @@ fn run_steps<R: Read, W: Write, E: Write>(
     let Ok(mut silo) = Silo::new(alloc, tenant, limits, age) else {
         return fail(errors, LineFault::Memory);
     };
-    let done = run_lines(alloc, reader, writer, &mut silo);
+    let Ok(mut lines) = LineReader::new(alloc) else {
+        return fail(errors, LineFault::Memory);
+    };
+    let done = run_lines(alloc, &mut lines, reader, writer, &mut silo);
     let flushed = writer.flush().is_ok();
 
     // The process ends here, and gives all of its memory back at once.

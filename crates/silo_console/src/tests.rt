@@ -72,6 +72,15 @@ fn words_of(alloc: Global, arguments: &[&str]) -> Result<Vec<String>, AllocError
     Ok(words)
 }
 
+/// More bytes than a run of these tests writes to one stream.
+const ROOM: usize = 4_096;
+
+/// A stream that needs no more memory while the program runs.
+fn room(alloc: Global) -> Result<Vec<u8>, AllocError> {
+    Vec::with_capacity(alloc, ROOM)
+}
+
+/// A run that had too little memory is an error, as it is where a call answers so.
 fn run<H: AllocGlobal, R: Read, W: Write + Drop>(
     rt: &H,
     arguments: &[&str],
@@ -80,8 +89,11 @@ fn run<H: AllocGlobal, R: Read, W: Write + Drop>(
 ) -> Result<Outcome<W>, AllocError> {
     let words = words_of(rt.alloc(), arguments)?;
     let mut files = no_file(rt.alloc());
-    let mut errors = Vec::new(rt.alloc());
+    let mut errors = room(rt.alloc())?;
     let status = run_program(rt, &words, &mut files, reader, &mut output, &mut errors);
+    if errors.as_slice() == b"silo: out of memory\n".as_slice() {
+        return Err(AllocError);
+    }
     Ok(Outcome {
         status,
         output,
@@ -165,7 +177,7 @@ fn answers_lines(rt: HostRuntime) -> Result<(), Fail> {
     ];
     for (input, output) in rows {
         let mut reader = input.as_bytes();
-        let outcome = run(&rt, RED, &mut reader, Vec::new(rt.alloc()))?;
+        let outcome = run(&rt, RED, &mut reader, room(rt.alloc())?)?;
         assert!(rt;
             outcome.output.as_slice() == output.as_bytes(),
             "at {input}"
@@ -199,7 +211,7 @@ fn refuses_tenants(rt: HostRuntime) -> Result<(), Fail> {
     ];
     for (arguments, errors) in rows {
         let mut reader = FIRST_RUN.as_bytes();
-        let outcome = run(&rt, arguments, &mut reader, Vec::new(rt.alloc()))?;
+        let outcome = run(&rt, arguments, &mut reader, room(rt.alloc())?)?;
         assert!(rt;
             outcome.errors.as_slice() == errors.as_bytes(),
             "at {arguments:?}"
@@ -218,7 +230,7 @@ fn takes_limits_to_their_ends(rt: HostRuntime) -> Result<(), Fail> {
         &["steps", "red:2:4", "--age", "900000"],
     ];
     for arguments in rows {
-        let outcome = run(&rt, arguments, &mut [].as_slice(), Vec::new(rt.alloc()))?;
+        let outcome = run(&rt, arguments, &mut [].as_slice(), room(rt.alloc())?)?;
         assert!(rt; outcome.errors.is_empty(), "at {arguments:?}");
         assert!(rt; outcome.output.is_empty(), "at {arguments:?}");
         assert_eq!(rt; outcome.status, 0, "at {arguments:?}");
@@ -239,12 +251,12 @@ fn explains_words(rt: HostRuntime) -> Result<(), Fail> {
         &["steps", "--age"],
     ];
     for arguments in rows {
-        let outcome = run(&rt, arguments, &mut [].as_slice(), Vec::new(rt.alloc()))?;
+        let outcome = run(&rt, arguments, &mut [].as_slice(), room(rt.alloc())?)?;
         assert!(rt; outcome.errors.starts_with(b"error: "), "at {arguments:?}");
         assert!(rt; outcome.output.is_empty(), "at {arguments:?}");
         assert_eq!(rt; outcome.status, 2, "at {arguments:?}");
     }
-    let outcome = run(&rt, &["--help"], &mut [].as_slice(), Vec::new(rt.alloc()))?;
+    let outcome = run(&rt, &["--help"], &mut [].as_slice(), room(rt.alloc())?)?;
     assert!(rt; outcome.errors.is_empty());
     assert!(rt;
         outcome
@@ -260,7 +272,7 @@ fn fails_with_its_streams(rt: HostRuntime) -> Result<(), Fail> {
     let mut reader = BrokenReader {
         bytes: NO_ENTRY.as_bytes(),
     };
-    let outcome = run(&rt, RED, &mut reader, Vec::new(rt.alloc()))?;
+    let outcome = run(&rt, RED, &mut reader, room(rt.alloc())?)?;
     assert!(rt; outcome.output.as_slice() == NOT_NOW.as_bytes());
     assert!(rt; outcome.errors.as_slice() == b"silo: reading failed\n".as_slice());
     assert_eq!(rt; outcome.status, 1);

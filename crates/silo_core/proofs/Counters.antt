@@ -1,29 +1,31 @@
 -- What a counter's plan is, by its method and its argument.
 use Rattle.std.proofs.Common.{◌≡◌, ℕ, ◌≤◌, ◌<◌, Bool, true, false, not, List, [], ◌∷◌, length, get_or, Some, None, refl, ap, sym, arith}
-use Rattle.std.specs.Prelude.{codes, option_and_then, if◌then◌else◌}
+use Rattle.std.specs.Prelude.{codes, if◌then◌else◌}
 use Rattle.grain_id.specs.Names.{same_text}
 use Rattle.request_codec.specs.Tree as tree
 use Rattle.request_codec.specs.Tree.{Tree}
 use Rattle.request_codec.specs.Call.{Call, asks}
 use Rattle.turn_arena.specs.Shape.{shape, field_shapes}
 use Rattle.turn_arena.specs.declared.node.Field.{Field}
-use Rattle.silo_model.specs.Counter.{whole_value, only_field, add_plan, get_plan, keeps, counter_plan}
-use Rattle.silo_event.specs.declared.fault.Fault.TheVariants.{UnknownMethod}
+use Rattle.grain_kinds.specs.Counter.{add_plan, get_plan, number_plan}
+use Rattle.grain_kinds.specs.Shared.{keeps, for_shape, for_null, only_field, whole_field}
+use Rattle.silo_core.specs.Plans.{counter_plan}
+use Rattle.grain_kinds.specs.declared.fault.MethodFault.TheVariants.{UnknownMethod}
 use Rattle.std.specs.Prelude.{Err}
 
 -- ---- the plan by the method
 
-pub plan-add : (method : List ℕ) (state argument : Tree) → same_text method (codes "add") ≡ true → counter_plan method state argument ≡ add_plan state (option_and_then whole_value (only_field (codes "by") argument))
-unfolding counter_plan
+pub plan-add : (method : List ℕ) (state argument : Tree) → same_text method (codes "add") ≡ true → counter_plan method state argument ≡ for_shape state (whole_field (codes "by") argument) (add_plan state)
+unfolding number_plan
 plan-add method state argument is =
-    ap (λ b. if b then add_plan state (option_and_then whole_value (only_field (codes "by") argument)) else if same_text method (codes "get") then get_plan state argument else keeps state (Err UnknownMethod)) is
+    ap (λ b. if b then for_shape state (whole_field (codes "by") argument) (add_plan state) else if same_text method (codes "get") then for_null state argument (get_plan state) else keeps state (Err UnknownMethod)) is
 
 module _ (method : List ℕ) (state argument : Tree) (other : same_text method (codes "add") ≡ false) where
-  plan-by_get : (b : Bool) → same_text method (codes "get") ≡ b → counter_plan method state argument ≡ (if b then get_plan state argument else keeps state (Err UnknownMethod))
-  unfolding counter_plan
-  plan-by_get b is = λ i. if other i then add_plan state (option_and_then whole_value (only_field (codes "by") argument)) else if is i then get_plan state argument else keeps state (Err UnknownMethod)
+  plan-by_get : (b : Bool) → same_text method (codes "get") ≡ b → counter_plan method state argument ≡ (if b then for_null state argument (get_plan state) else keeps state (Err UnknownMethod))
+  unfolding number_plan
+  plan-by_get b is = λ i. if other i then for_shape state (whole_field (codes "by") argument) (add_plan state) else if is i then for_null state argument (get_plan state) else keeps state (Err UnknownMethod)
 
-  pub plan-get : same_text method (codes "get") ≡ true → counter_plan method state argument ≡ get_plan state argument
+  pub plan-get : same_text method (codes "get") ≡ true → counter_plan method state argument ≡ for_null state argument (get_plan state)
   plan-get is = plan-by_get true is
 
   pub plan-unknown : same_text method (codes "get") ≡ false → counter_plan method state argument ≡ keeps state (Err UnknownMethod)

@@ -1,7 +1,7 @@
 -- What an entry answers when it is asked to change, by what its tenant's machine would do to it.
 use Rattle.std.specs.Prelude.{◌≡◌, Bool, true, false, Option, Some, None}
 use Rattle.silo_event.specs.declared.step.Answer.{Answer}
-use Rattle.silo_event.specs.declared.step.Answer.TheVariants.{Done, NotNow}
+use Rattle.silo_event.specs.declared.step.Answer.TheVariants.{Done, Failed, NotNow}
 use Rattle.silo_event.specs.declared.reply.Party.{Party}
 use Rattle.silo_event.specs.declared.reply.Party.TheVariants as party
 use Rattle.silo_event.specs.declared.reply.Reply.{Reply}
@@ -12,6 +12,7 @@ use Rattle.silo_model.specs.Calls.{answered}
 -- The effect puts the new entry there; or there is no effect, and the entry stays.
 abbrev pub Turns : Option Effect → Entry → Answer → Entry → Type 0
 Turns effect old Done new = effect ≡ Some (on_entry new)
+Turns effect old Failed new = ⊥
 Turns effect old NotNow new = (effect ≡ None) × (new ≡ old)
 
 -- the new entry, and the reply where the recipient is told one

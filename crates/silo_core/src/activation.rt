@@ -1,13 +1,12 @@
 //! What the silo holds of a grain that was asked for.
 
-ghost use Rattle.std.specs.Prelude.{◌≡◌, ◌∷◌, ◌++◌, [], ℕ, Option, Some, None, Ok, IfOk, OnOk, OnErr, option_and_then};
-ghost use Rattle.std.specs.FinMap as map;
+ghost use Rattle.std.specs.Prelude.{◌≡◌, Some, None, false, IfOk, OnOk, OnErr, length};
 ghost use Rattle.grain_id.specs.Names.{Grain};
-ghost use Rattle.silo_model.specs.Machine as machine;
 ghost use Rattle.silo_model.specs.Effect.{Sight};
-ghost use Rattle.silo_model.specs.Turns.{activated, loaded, begun, ended};
+ghost use Rattle.silo_model.specs.Step.{at_turn};
+ghost use Rattle.silo_model.specs.Turns.{activated, loaded, begun, ended, outcome_of};
 ghost use Rattle.silo_model.specs.Calls.{with_request};
-ghost use Rattle.silo_model.specs.Counter.{counters};
+ghost use Rattle.grain_kinds.specs.Counters.{counters};
 ghost use Rattle.silo_core.specs.Answers.{Turns, Closes};
 ghost use Rattle.silo_core.specs.Plans.{PlansTurn};
 ghost use Rattle.silo_core.specs.Shown.{with_state};
@@ -16,8 +15,10 @@ use crate::counter;
 use crate::counter::Planned;
 use crate::request::Request;
 use bumpalo::Bump;
+use grain_kinds::MethodFault;
 use request_codec::StateBytes;
-use silo_event::{Answer, Reply};
+use silo_event::{Answer, Fault, Reply};
+use silo_model::fault_of_method;
 use std::alloc::{AllocError, Global};
 use std::collections::VecDeque;
 use std::marker::Model;
@@ -81,6 +82,13 @@ impl Activation {
         Ok(())
     }
 
+    /// How many requests wait.
+    pub fn waiting(&self) -> usize
+        ensures { result ≡ length self.now.queue }
+    {
+        self.mailbox.len()
+    }
+
     /// Begins to load, where it waits to be activated.
     pub fn activate(&mut self) -> Answer
         ensures { Turns (activated self.old self.old.phase) self.old result self.new }
@@ -96,7 +104,7 @@ impl Activation {
 
     /// Gets the kind's empty state, where it loads: nothing is stored.
     pub fn load(&mut self, alloc: Global) -> Result<Answer, AllocError>
-        ensures loads { IfOk result (λ answer. (s : Sight) (grain : Grain) → s.row ≡ None → Turns (loaded counters s grain self.old self.old.phase) self.old answer self.new) }
+        ensures loads { IfOk result (λ answer. (s : Sight) (grain : Grain) → s.row ≡ None → Turns (loaded counters s grain false self.old self.old.phase) self.old answer self.new) }
         ensures unchanged { OnErr result (self.new ≡ self.old) }
     {
         match self.progress {
@@ -114,7 +122,7 @@ impl Activation {
 
     /// Opens a turn of the first waiting request, where it is ready and no turn is open.
     pub fn begin(&mut self) -> Answer
-        ensures { Turns (begun self.old self.old.phase) self.old result self.new }
+        ensures { (grain : Grain) → Turns (begun counters grain self.old self.old.phase) self.old result self.new }
     {
         if self.turn.is_some() {
             return Answer::NotNow;
@@ -141,7 +149,7 @@ impl Activation {
         now: u64,
     ) -> Result<Option<Reply>, AllocError>
         ensures closes { IfOk result (λ reply. (s : Sight) (grain : Grain) → s.clock ≡ now
-            → Closes (option_and_then (λ request. ended counters s grain self.old request self.old.phase) (map.get self.old.turns turn)) self.old reply self.new) }
+            → Closes (at_turn (λ e request. ended counters s grain e request e.phase) turn self.old) self.old reply self.new) }
         ensures unchanged { OnErr result (self.new ≡ self.old) }
     {
         let Some(planned) = self.planned(alloc, bump, turn)? else {
@@ -154,13 +162,13 @@ impl Activation {
         self.last = now;
         Ok(Some(Reply {
             recipient: request.into_sender(),
-            outcome: planned.outcome,
+            outcome: told_outcome(planned.outcome),
         }))
     }
 
     /// What the open turn of that number comes to.
     fn planned(&self, alloc: Global, bump: &Bump, turn: u64) -> Result<Option<Planned>, AllocError>
-        ensures { IfOk result (λ planned. PlansTurn self.now turn planned) }
+        ensures { IfOk result (λ planned. (grain : Grain) → PlansTurn counters grain self.now turn planned) }
     {
         let Some(request) = &self.turn else {
             return Ok(None);
@@ -175,6 +183,16 @@ impl Activation {
                 Ok(Some(counter::plan_of(alloc, bump, request.message(), state)?))
             }
         }
+    }
+}
+
+/// What the request's sender is told of a turn that came to this.
+fn told_outcome(outcome: Result<StateBytes, MethodFault>) -> Result<StateBytes, Fault>
+    ensures { result ≡ outcome_of outcome }
+{
+    match outcome {
+        Ok(state) => Ok(state),
+        Err(why) => Err(fault_of_method(why)),
     }
 }
 

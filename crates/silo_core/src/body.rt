@@ -3,8 +3,10 @@
 ghost use Rattle.std.specs.Prelude.{◌≡◌, []};
 ghost use Rattle.std.specs.FinMap as map;
 ghost use Rattle.silo_model.specs.Opening.{fresh_account};
+ghost use Rattle.grain_kinds.specs.Counters.{counters};
 ghost use Rattle.silo_core.specs.Moves.{Moves};
 
+use crate::account::Account;
 use crate::directory::Directory;
 use grain_id::Tenant;
 use silo_event::{Answer, Reply, Step, StepFault};
@@ -16,35 +18,32 @@ mod call;
 mod load;
 mod turn;
 
-/// The shared state of all grains: how many requests were accepted, the activations, and the
-/// replies in the order in which they were made.
+/// The shared state of all grains: what is kept of their tenant, the activations, and the replies in the order in which they were made.
 #[derive(Drop)]
 pub struct Body {
-    tenant: Tenant,
-    limits: Limits,
+    account: Account,
     age: u64,
-    count: u64,
     clock: u64,
     directory: Directory,
     replies: Vec<Reply>,
 }
 
 impl Model for Body {
-    ghost use Rattle.std.specs.Prelude.{[], ◌≤◌};
+    ghost use Rattle.std.specs.Prelude.{[], ◌≤◌, ◌≡◌};
     ghost use Rattle.std.specs.Coded.{codes};
     ghost use Rattle.std.specs.FinMap as map;
     ghost use Rattle.request_codec.specs.Code.{coded_tree};
     ghost use Rattle.request_codec.specs.contracts.state.StateBytes as state;
     ghost use Rattle.silo_model.specs.Codes.{by_grain_code, by_text_code, by_number_code};
     ghost use Rattle.silo_model.specs.Calls.{last_number};
-    ghost use Rattle.silo_model.specs.Whole.{Whole};
+    ghost use Rattle.silo_model.specs.Whole.{Whole, is_of};
 
     ghost Value = { Whole };
 
     ghost coded = { Prim.hlevel (codes, by_grain_code, by_text_code, by_number_code, coded_tree, state.the_row.coded) };
 
     ghost view = { λ b. record {
-      accounts = map.insert map.empty b.tenant (record { limits = b.limits; count = b.count; sends = [] });
+      accounts = map.insert map.empty b.account.tenant (record { limits = b.account.limits; count = b.account.count; sends = [] });
       age = b.age;
       clock = b.clock;
       entries = b.directory;
@@ -52,7 +51,7 @@ impl Model for Body {
       replies = b.replies.items;
     } };
 
-    ghost invariant = { λ b. b.count ≤ last_number };
+    ghost invariant = { λ b. (b.account.count ≤ last_number) × (b.account.active ≡ map.len (map.retain_keys b.directory (is_of b.account.tenant))) };
 }
 
 impl Body {
@@ -61,19 +60,22 @@ impl Body {
         ensures { result ≡ record { accounts = map.insert map.empty tenant (fresh_account limits); age = age; clock = 0; entries = map.empty; rows = map.empty; replies = [] } }
     {
         Body {
-            tenant,
-            limits,
+            account: Account {
+                tenant,
+                limits,
+                count: 0,
+                active: 0,
+            },
             age,
-            count: 0,
             clock: 0,
             directory: Directory::new(alloc),
             replies: Vec::new(alloc),
         }
     }
 
-    /// Takes a step.
+    /// Takes a step. A step of a kind that isn't built is not possible.
     pub fn step(&mut self, alloc: Global, step: &Step) -> Result<Answer, StepFault>
-        ensures { Moves self.old step.now result self.new }
+        ensures { Moves counters self.old step.now result self.new }
     {
         match step {
             Step::Call {
@@ -83,9 +85,13 @@ impl Body {
                 message,
             } => self.call(alloc, caller, *id, grain, message),
             Step::Activate { grain } => Ok(self.activate(grain)),
-            Step::Load { grain } => self.load(alloc, grain),
+            Step::Load {
+                grain,
+                failed: false,
+            } => self.load(alloc, grain),
             Step::Begin { grain } => Ok(self.begin(grain)),
             Step::End { grain, turn } => self.end(alloc, grain, *turn),
+            _ => Ok(Answer::NotNow),
         }
     }
 

@@ -1,16 +1,18 @@
 //! Counters: what a turn of one comes to.
 
-ghost use Rattle.std.specs.Prelude.{◌≡◌, ℕ, ℤ, pos, List, None, Some, Err, IfOk, codes, option_and_then};
+ghost use Rattle.std.specs.Prelude.{◌≡◌, ℕ, ℤ, pos, List, None, Some, Err, IfOk, codes};
 ghost use Rattle.request_codec.specs.Tree.{Tree, whole};
-ghost use Rattle.silo_model.specs.Counter as counter;
-ghost use Rattle.silo_model.specs.Counter.{counters, whole_value, only_field, add_plan, get_plan, counter_plan};
-ghost use Rattle.silo_core.specs.Plans.{plan_by};
+ghost use Rattle.grain_kinds.specs.Counter as counter;
+ghost use Rattle.grain_kinds.specs.Counter.{add_plan, get_plan};
+ghost use Rattle.grain_kinds.specs.Counters.{counters};
+ghost use Rattle.grain_kinds.specs.Shared.{for_shape, for_null, whole_value, whole_field};
+ghost use Rattle.silo_core.specs.Plans.{plan_by, counter_plan};
 ghost use Rattle.turn_arena.specs.Shape.{shape};
 
 use crate::reading::{asked_in, state_in};
 use bumpalo::Bump;
+use grain_kinds::MethodFault;
 use request_codec::{Message, StateBytes};
-use silo_event::Fault;
 use std::alloc::{AllocError, Global};
 use turn_arena::{Node, encode_node};
 
@@ -18,7 +20,7 @@ use turn_arena::{Node, encode_node};
 #[derive(Drop)]
 pub struct Planned {
     pub next: Option<StateBytes>,
-    pub outcome: Result<StateBytes, Fault>,
+    pub outcome: Result<StateBytes, MethodFault>,
 }
 
 /// Whether it is the kind of counters.
@@ -52,18 +54,18 @@ pub fn plan_of(
     if method == "get" {
         return get(alloc, number, argument);
     }
-    Ok(refused(Fault::UnknownMethod))
+    Ok(refused(MethodFault::UnknownMethod))
 }
 
 /// The sum is the new number and the answer.
 fn add(alloc: Global, number: i64, by: Option<i64>) -> Result<Planned, AllocError>
-    ensures { IfOk result (λ planned. (state : Tree) → counter.number_of state ≡ number → plan_by planned state ≡ add_plan state by) }
+    ensures { IfOk result (λ planned. (state : Tree) → counter.number_of state ≡ number → plan_by planned state ≡ for_shape state by (add_plan state)) }
 {
     let Some(by) = by else {
-        return Ok(refused(Fault::Misfit));
+        return Ok(refused(MethodFault::Misfit));
     };
     let Some(sum) = number.checked_add(by) else {
-        return Ok(refused(Fault::OutOfRange));
+        return Ok(refused(MethodFault::OutOfRange));
     };
     let answer = state_of(alloc, sum)?;
     Ok(Planned {
@@ -74,23 +76,23 @@ fn add(alloc: Global, number: i64, by: Option<i64>) -> Result<Planned, AllocErro
 
 /// The number is the answer.
 fn get(alloc: Global, number: i64, argument: Node<'_>) -> Result<Planned, AllocError>
-    ensures { IfOk result (λ planned. (state : Tree) → counter.number_of state ≡ number → plan_by planned state ≡ get_plan state (shape argument.entry)) }
+    ensures { IfOk result (λ planned. (state : Tree) → counter.number_of state ≡ number → plan_by planned state ≡ for_null state (shape argument.entry) (get_plan state)) }
 {
     match argument {
         Node::Null => Ok(Planned {
             next: None,
             outcome: Ok(state_of(alloc, number)?),
         }),
-        Node::Bool(_) => Ok(refused(Fault::Misfit)),
-        Node::Int(_) => Ok(refused(Fault::Misfit)),
-        Node::Text(_) => Ok(refused(Fault::Misfit)),
-        Node::List(_) => Ok(refused(Fault::Misfit)),
-        Node::Map(_) => Ok(refused(Fault::Misfit)),
+        Node::Bool(_) => Ok(refused(MethodFault::Misfit)),
+        Node::Int(_) => Ok(refused(MethodFault::Misfit)),
+        Node::Text(_) => Ok(refused(MethodFault::Misfit)),
+        Node::List(_) => Ok(refused(MethodFault::Misfit)),
+        Node::Map(_) => Ok(refused(MethodFault::Misfit)),
     }
 }
 
 /// The state stays, and the answer is a fault.
-fn refused(why: Fault) -> Planned
+fn refused(why: MethodFault) -> Planned
     ensures { result ≡ record { next = None; outcome = Err why } }
 {
     Planned {
@@ -115,7 +117,7 @@ fn number_of(state: Node<'_>) -> i64
 
 /// The number that `{"by": n}` adds.
 fn addend(argument: Node<'_>) -> Option<i64>
-    ensures { result ≡ option_and_then whole_value (only_field (codes "by") (shape argument.entry)) }
+    ensures { result ≡ whole_field (codes "by") (shape argument.entry) }
 {
     let Node::Map(fields) = argument else {
         return None;

@@ -1,6 +1,6 @@
 //! The directory: which activation a grain has.
 
-ghost use Rattle.std.specs.Prelude.{◌≡◌, Some, None, OnOk, OnErr};
+ghost use Rattle.std.specs.Prelude.{◌≡◌, Some, None, OnOk, OnErr, option_map, length};
 ghost use Rattle.std.specs.Option.{option_copied, option_copied_mut};
 ghost use Rattle.std.specs.FinMap as map;
 ghost use Rattle.std.specs.Borrow.{sem};
@@ -49,6 +49,16 @@ impl Directory {
         ensures value { option_copied_mut result ≡ map.get self.old grain.now }
     {
         self.activations.get_mut(grain)
+    }
+
+    /// How many requests wait at the grain, or nothing if it has no activation.
+    pub fn waiting(&self, grain: &GrainId) -> Option<usize>
+        ensures { result ≡ option_map (λ e. length e.queue) (map.get self.now grain.now) }
+    {
+        match self.activations.get(grain) {
+            Some(activation) => Some(activation.waiting()),
+            None => None,
+        }
     }
 
     /// Adds an activation, or puts it in the place of the grain's last one.

@@ -1,10 +1,15 @@
 //! The silo, and the journal that led to what it shows.
 
-ghost use Rattle.std.specs.Prelude.{◌≡◌, ℕ, List, [], IfOk};
+ghost use Rattle.std.specs.Prelude.{◌≡◌, ℕ, false, List, [], ◌∷◌, IfOk};
 ghost use Rattle.std.specs.FinMap as map;
 ghost use Rattle.silo_event.specs.declared.step.Step.TheVariants as step;
 ghost use Rattle.silo_model.specs.Opening.{opening, start_of};
 ghost use Rattle.silo_model.specs.Whole.{shown_to};
+ghost use Rattle.silo_model.specs.Run.{restricted_to};
+ghost use Rattle.silo_model.specs.Journal.{LeadsTo};
+ghost use Rattle.silo_model.specs.Exclusive.{Exclusive, done_answers};
+ghost use Rattle.silo_model.specs.Settled.{Settled};
+ghost use Rattle.grain_kinds.specs.Counters.{counters};
 ghost use Rattle.silo_core.specs.History.{Answered, AnsweredInParts};
 
 use crate::body::Body;
@@ -31,13 +36,14 @@ pub struct Silo {
 }
 
 impl Model for Silo {
+    ghost use Rattle.std.specs.Prelude.{[], ◌∷◌};
     ghost use Rattle.std.specs.Coded.{codes};
     ghost use Rattle.std.specs.FinMap as map;
     ghost use Rattle.request_codec.specs.Code.{coded_tree};
     ghost use Rattle.request_codec.specs.contracts.state.StateBytes as state;
     ghost use Rattle.silo_model.specs.Codes.{by_grain_code, by_text_code, by_number_code};
     ghost use Rattle.silo_model.specs.Journal.{LeadsTo};
-    ghost use Rattle.silo_model.specs.Counter.{counters};
+    ghost use Rattle.grain_kinds.specs.Counters.{counters};
     ghost use Rattle.silo_core.specs.History.{History};
 
     ghost Value = { History };
@@ -45,18 +51,18 @@ impl Model for Silo {
     ghost coded = { Prim.hlevel (codes, by_grain_code, by_text_code, by_number_code, coded_tree, state.the_row.coded) };
 
     ghost view = { λ s. record {
-      setup = record { limits = map.insert map.empty s.tenant s.limits; age = s.age; rows = map.empty };
+      setup = record { tenants = (s.tenant, s.limits) ∷ []; age = s.age; rows = map.empty };
       whole = s.body;
       journal = s.journal.items;
     } };
 
-    ghost invariant = { λ s. LeadsTo counters (record { limits = map.insert map.empty s.tenant s.limits; age = s.age; rows = map.empty }) s.journal.items s.body };
+    ghost invariant = { λ s. LeadsTo counters (record { tenants = (s.tenant, s.limits) ∷ []; age = s.age; rows = map.empty }) s.journal.items s.body };
 }
 
 impl Silo {
     /// A silo that knows one tenant, whose idle activations may go after `age` milliseconds.
     pub fn new(alloc: Global, tenant: Tenant, limits: Limits, age: u64) -> Result<Silo, AllocError>
-        ensures setup { IfOk result (λ s. s.setup ≡ record { limits = map.insert map.empty tenant limits; age = age; rows = map.empty }) }
+        ensures setup { IfOk result (λ s. s.setup ≡ record { tenants = (tenant, limits) ∷ []; age = age; rows = map.empty }) }
         ensures opening { IfOk result (λ s. (s.whole ≡ opening s.setup) × (s.journal ≡ [])) }
         ensures parts { IfOk result (λ s. (tenant : List ℕ) → shown_to tenant s.whole ≡ start_of s.setup tenant) }
     {
@@ -79,8 +85,8 @@ impl Silo {
         grain: GrainId,
         message: Message,
     ) -> Result<Answer, StepFault>
-        ensures answered { Answered self.old (step.Call caller id grain message) result self.new }
-        ensures parts { AnsweredInParts self.old.whole (step.Call caller id grain message) result self.new.whole }
+        ensures answered { Answered counters self.old (step.Call caller id grain message) result self.new }
+        ensures parts { AnsweredInParts counters self.old.whole (step.Call caller id grain message) result self.new.whole }
     {
         self.apply(
             alloc,
@@ -95,40 +101,46 @@ impl Silo {
 
     /// A grain's entry that waits begins to load.
     pub fn activate(&mut self, alloc: Global, grain: GrainId) -> Result<Answer, StepFault>
-        ensures answered { Answered self.old (step.Activate grain) result self.new }
-        ensures parts { AnsweredInParts self.old.whole (step.Activate grain) result self.new.whole }
+        ensures answered { Answered counters self.old (step.Activate grain) result self.new }
+        ensures parts { AnsweredInParts counters self.old.whole (step.Activate grain) result self.new.whole }
     {
         self.apply(alloc, Step::Activate { grain })
     }
 
     /// A loading grain gets its state.
     pub fn load(&mut self, alloc: Global, grain: GrainId) -> Result<Answer, StepFault>
-        ensures answered { Answered self.old (step.Load grain) result self.new }
-        ensures parts { AnsweredInParts self.old.whole (step.Load grain) result self.new.whole }
+        ensures answered { Answered counters self.old (step.Load grain false) result self.new }
+        ensures parts { AnsweredInParts counters self.old.whole (step.Load grain false) result self.new.whole }
     {
-        self.apply(alloc, Step::Load { grain })
+        self.apply(
+            alloc,
+            Step::Load {
+                grain,
+                failed: false,
+            },
+        )
     }
 
     /// The first waiting request of a ready grain becomes its open turn.
     pub fn begin(&mut self, alloc: Global, grain: GrainId) -> Result<Answer, StepFault>
-        ensures answered { Answered self.old (step.Begin grain) result self.new }
-        ensures parts { AnsweredInParts self.old.whole (step.Begin grain) result self.new.whole }
+        ensures answered { Answered counters self.old (step.Begin grain) result self.new }
+        ensures parts { AnsweredInParts counters self.old.whole (step.Begin grain) result self.new.whole }
     {
         self.apply(alloc, Step::Begin { grain })
     }
 
     /// The open turn of that number runs and is closed.
     pub fn end(&mut self, alloc: Global, grain: GrainId, turn: u64) -> Result<Answer, StepFault>
-        ensures answered { Answered self.old (step.End grain turn) result self.new }
-        ensures parts { AnsweredInParts self.old.whole (step.End grain turn) result self.new.whole }
+        ensures answered { Answered counters self.old (step.End grain turn) result self.new }
+        ensures parts { AnsweredInParts counters self.old.whole (step.End grain turn) result self.new.whole }
     {
         self.apply(alloc, Step::End { grain, turn })
     }
 
-    /// Takes a step.
+    /// Takes a step. One of a kind that isn't built is never possible.
     pub fn apply(&mut self, alloc: Global, step: Step) -> Result<Answer, StepFault>
-        ensures answered { Answered self.old step result self.new }
-        ensures parts { AnsweredInParts self.old.whole step result self.new.whole }
+        ensures answered { Answered counters self.old step result self.new }
+        ensures parts { AnsweredInParts counters self.old.whole step result self.new.whole }
     {
         let _ = &self.journal;
         self.take(alloc, step)
@@ -136,7 +148,7 @@ impl Silo {
 
     /// Takes a step, and notes it where it was done: room for the note comes first.
     fn take(&mut self, alloc: Global, step: Step) -> Result<Answer, StepFault>
-        ensures { Answered self.old step result self.new }
+        ensures { Answered counters self.old step result self.new }
     {
         self.journal.reserve(1)?;
         match self.body.step(alloc, &step)? {
@@ -144,6 +156,7 @@ impl Silo {
                 self.journal.push_reserved(step);
                 Ok(Answer::Done)
             }
+            Answer::Failed => unreachable!(),
             Answer::NotNow => Ok(Answer::NotNow),
         }
     }
@@ -157,7 +170,16 @@ impl Silo {
 
     /// The steps that were done, in order.
     pub fn journal(&self) -> &[Step]
-        ensures { result.now ≡ self.now.journal }
+        ensures steps { result.now ≡ self.now.journal }
+
+        // They lead from the opening to what the silo shows.
+        ensures leads { LeadsTo counters self.now.setup self.now.journal self.now.whole }
+
+        // At every prefix of them, a turn that may write is the only open turn of its grain.
+        ensures exclusive { Exclusive counters self.now.setup self.now.journal (done_answers self.now.journal) }
+
+        // Of every tenant, what a client asked is answered once, or waits, or is open.
+        ensures settled { (tenant : List ℕ) → Settled (restricted_to tenant self.now.journal) (shown_to tenant self.now.whole) }
     {
         self.journal.as_slice()
     }

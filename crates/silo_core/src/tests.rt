@@ -1,6 +1,6 @@
 //! Worked runs of a silo, step by step.
 
-use crate::Silo;
+use crate::{Silo, laws};
 use grain_id::{Caller, GrainId, Tenant};
 use request_codec::{Datum, Message, decode_state, encode};
 use silo_event::{Answer, Reply, Step};
@@ -145,6 +145,73 @@ fn a_step_that_is_not_possible_is_not_noted(rt: HostRuntime) -> Result<(), Fail>
     Ok(())
 }
 
+/// Red's client asks each of the grains for its number, in order.
+fn ask_each(alloc: Global, silo: &mut Silo, grains: &[&str]) -> Result<(), Fail> {
+    for grain in grains {
+        let message = get(alloc)?;
+        let step = call(alloc, "red/c1", 1, grain, message)?;
+        drop(silo.apply(alloc, step)?);
+    }
+    Ok(())
+}
+
+#[test]
+fn a_tenant_has_as_many_activations_as_it_may(rt: HostRuntime) -> Result<(), Fail> {
+    let alloc = rt.alloc();
+    let mut silo = opened(alloc)?;
+    let (first, second, third) = ("counter/red:a", "counter/red:b", "counter/red:c");
+    ask_each(alloc, &mut silo, &[first, second, first, third, second])?;
+    assert!(rt; are(alloc, silo.replies(), &[Err(41)])?);
+    assert_eq!(rt; silo.journal().len(), 5);
+    Ok(())
+}
+
+#[test]
+fn as_many_requests_wait_at_a_grain_as_may(rt: HostRuntime) -> Result<(), Fail> {
+    let alloc = rt.alloc();
+    let mut silo = opened(alloc)?;
+    ask_each(alloc, &mut silo, &["counter/red:a"; 5])?;
+    assert!(rt; are(alloc, silo.replies(), &[Err(42)])?);
+    assert!(rt; is_activated(alloc, &mut silo)?);
+    assert!(rt; is_loaded(alloc, &mut silo)?);
+    assert!(rt; is_begun(alloc, &mut silo)?);
+    // An open turn doesn't wait.
+    ask_each(alloc, &mut silo, &["counter/red:a"; 2])?;
+    assert!(rt; are(alloc, silo.replies(), &[Err(42), Err(42)])?);
+    Ok(())
+}
+
+#[test]
+fn a_step_that_is_not_built_is_not_possible(rt: HostRuntime) -> Result<(), Fail> {
+    let alloc = rt.alloc();
+    let mut silo = opened(alloc)?;
+    ask_each(alloc, &mut silo, &["counter/red:a"])?;
+    assert!(rt; is_activated(alloc, &mut silo)?);
+    let caller = Caller::read(alloc, "red/c1")?;
+    assert!(rt; !is_done(alloc, &mut silo, Step::Status { caller, id: 2 })?);
+    assert!(rt; !is_done(alloc, &mut silo, Step::Sweep)?);
+    let loading = grain(alloc)?;
+    assert!(rt;
+        !is_done(
+            alloc,
+            &mut silo,
+            Step::Load {
+                grain: loading,
+                failed: true
+            }
+        )?
+    );
+    assert_eq!(rt; silo.journal().len(), 2);
+    assert!(rt; is_loaded(alloc, &mut silo)?);
+    Ok(())
+}
+
+#[test]
+fn laws_are_passed_on() {
+    laws::replay_is_run();
+    laws::agreeing_lists();
+}
+
 /// The steps that open and close a turn.
 fn push_turn(alloc: Global, steps: &mut Vec<Step>, turn: u64) -> Result<(), Fail> {
     let begun = grain(alloc)?;
@@ -165,7 +232,10 @@ fn push_calls(alloc: Global, steps: &mut Vec<Step>) -> Result<(), Fail> {
     let activated = grain(alloc)?;
     steps.push(Step::Activate { grain: activated })?;
     let loaded = grain(alloc)?;
-    steps.push(Step::Load { grain: loaded })?;
+    steps.push(Step::Load {
+        grain: loaded,
+        failed: false,
+    })?;
     Ok(())
 }
 
@@ -185,8 +255,8 @@ fn a_sum_out_of_range_is_refused(rt: HostRuntime) -> Result<(), Fail> {
         push_turn(alloc, &mut steps, turn)?;
     }
     let (count, whole) = answered(alloc, &mut silo, steps);
+    assert!(rt; whole, "it ran out of memory");
     assert_eq!(rt; count, 11);
-    assert!(rt; whole);
     let greatest = 9_223_372_036_854_775_807;
     assert!(rt;
         are(

@@ -1,8 +1,10 @@
--- The code and the text of a fault, as docs/formats.md lists them.
+-- The code and the text of a fault, as docs/formats.md lists them; and the faults that refused lines are told as.
 use Rattle.std.specs.Prelude.{ℕ, List, ◌++◌, codes}
 use Rattle.grain_id.specs.Names.{grain_text}
 use Rattle.silo_event.specs.declared.fault.Fault.{Fault}
 use Rattle.silo_event.specs.declared.fault.Fault.TheVariants.{NotARequest, TooLong, TooDeep, NotWhole, NotWellFormed, UnknownTenant, UnknownKind, AcrossTenants, NoActivation, MailboxFull, NoNumber, StorageFailed, StateChanged, VersionsSpent, UnknownMethod, Misfit, OutOfRange, TooLarge, NoMemory}
+use Rattle.silo_event.specs.declared.refusal.Refusal.{Refusal}
+use Rattle.silo_event.specs.declared.refusal.Refusal.TheVariants as refusal
 
 abbrev pub fault_code : Fault → ℕ
 fault_code NotARequest = 10
@@ -45,3 +47,11 @@ fault_text Misfit = codes "arguments do not fit"
 fault_text OutOfRange = codes "result is out of range"
 fault_text TooLarge = codes "state is too large"
 fault_text NoMemory = codes "turn met want of memory"
+
+-- what a client is told whose line is refused
+abbrev pub refusal_fault : Refusal → Fault
+refusal_fault refusal.TooLong = TooLong
+refusal_fault refusal.TooDeep = TooDeep
+refusal_fault refusal.NotWhole = NotWhole
+refusal_fault refusal.NotWellFormed = NotWellFormed
+refusal_fault refusal.TooLarge = TooLarge

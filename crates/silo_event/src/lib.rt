@@ -1,19 +1,26 @@
 //! Steps, replies and faults: the plain data that goes into a silo and comes out of it.
 //!
 //! A layer above may rely on this: the generated types of `Step`, `Reply` and `Fault` are the
-//! definitions' own types, so two steps are equal exactly where their parts are, and a clone equals
-//! its source; a fault's code and text are those of `specs/Fault.antt`; a step's owner, the grain
-//! that it is about and the tenant of a party are those of `specs/Owner.antt`.
+//! definitions' own types, so two steps are equal exactly if their parts are, and a clone equals
+//! its source; a fault's code and text, and the fault of a refused line, are those of
+//! `specs/Fault.antt`; a step's owner and the tenant of a party are those of `specs/Owner.antt`; a
+//! step whose storage call failed is that of `specs/Failed.antt`; a fault's text is visible ASCII and
+//! spaces (`specs/Visible.antt`).
 #![tactic(auto)]
 
+mod copies;
 mod fault;
+pub mod laws;
 mod moment;
+mod refusal;
 mod reply;
 mod step;
 #[cfg(test)]
 mod tests;
 
+pub use copies::{copy_of_fault, copy_of_party, copy_of_reply, copy_of_step};
 pub use fault::Fault;
 pub use moment::Moment;
+pub use refusal::Refusal;
 pub use reply::{Party, Reply};
 pub use step::{Answer, Step, StepFault};

@@ -3,21 +3,48 @@
 ghost use Rattle.std.specs.Prelude.{◌≡◌};
 ghost use Rattle.silo_event.specs.declared.step.StepFault.TheVariants.{Memory};
 
+use crate::moment::Moment;
+use crate::refusal::Refusal;
 use grain_id::{Caller, GrainId};
-use request_codec::Message;
+use request_codec::{Message, StateBytes};
 use std::alloc::AllocError;
 
+mod failed;
 mod owner;
 
-/// One event of the silo.
+/// One event of the silo. If a step has its mark `failed` set, the storage is not called, and the
+/// step is taken as one whose storage call failed.
 #[derive(Clone, Debug, Drop)]
 pub enum Step {
+    /// A client's line asked for something that can't be asked.
+    Refuse {
+        caller: Caller,
+        id: u64,
+        code: Refusal,
+    },
     /// A client asks a grain for a method.
     Call {
         caller: Caller,
         id: u64,
         grain: GrainId,
         message: Message,
+    },
+    /// A client overwrites a grain's stored row.
+    Poke {
+        caller: Caller,
+        id: u64,
+        grain: GrainId,
+        state: StateBytes,
+        failed: bool,
+    },
+    /// A client asks how much its tenant has.
+    Status {
+        caller: Caller,
+        id: u64,
+    },
+    /// The first call that a grain sent, and that is not yet delivered, is asked of its target.
+    Deliver {
+        grain: GrainId,
     },
     /// An entry that was asked for begins to load.
     Activate {
@@ -26,16 +53,34 @@ pub enum Step {
     /// A loading grain gets its state.
     Load {
         grain: GrainId,
+        failed: bool,
     },
     /// The first waiting request of a ready grain becomes an open turn.
     Begin {
         grain: GrainId,
     },
-    /// An open turn runs and is closed.
+    /// An open turn that asks for the storage runs and is closed.
+    Store {
+        grain: GrainId,
+        turn: u64,
+        failed: bool,
+    },
+    /// An open turn that doesn't ask for the storage runs and is closed.
     End {
         grain: GrainId,
         turn: u64,
     },
+    /// An open turn that ran out of memory is closed.
+    Abandon {
+        grain: GrainId,
+        turn: u64,
+    },
+    /// The clock is set.
+    Tick {
+        now: Moment,
+    },
+    /// The grains that were idle long enough go.
+    Sweep,
 }
 
 /// What became of a step.
@@ -43,6 +88,8 @@ pub enum Step {
 pub enum Answer {
     /// The step was taken.
     Done,
+    /// The step was taken as one whose storage call failed, since the storage failed in it.
+    Failed,
     /// The step isn't possible now: nothing changed.
     NotNow,
 }
@@ -52,6 +99,9 @@ pub enum Answer {
 pub enum StepFault {
     /// Memory was refused: nothing changed.
     Memory,
+    /// What was handed in to close a turn is not of that turn's own message and state: nothing
+    /// changed.
+    Stranger,
 }
 
 impl From<AllocError> for StepFault {

@@ -1,4 +1,7 @@
-use crate::{Fault, Moment, Party, Reply, Step};
+use crate::{
+    Fault, Moment, Party, Refusal, Reply, Step, copy_of_fault, copy_of_party, copy_of_reply,
+    copy_of_step,
+};
 use grain_id::{Caller, GrainId, Kind, Tenant};
 use request_codec::{Datum, encode, encode_state};
 use std::alloc::Global;
@@ -7,7 +10,7 @@ use std::test::Fail;
 
 fn shows<R: Abort>(rt: &R, alloc: Global, fault: &Fault, code: u8, text: &str) -> Result<(), Fail> {
     assert_eq!(rt; fault.code(), code);
-    let copy = fault.clone()?;
+    let copy = copy_of_fault(fault)?;
     assert!(rt; copy == *fault);
     let shown = copy.text(alloc)?;
     assert_eq!(rt; shown.as_str(), text);
@@ -144,10 +147,9 @@ fn moments(rt: HostRuntime) {
 }
 
 fn is_of<R: Abort>(rt: &R, step: &Step, owner: &str) -> Result<(), Fail> {
-    let copy = step.clone()?;
+    let copy = copy_of_step(step)?;
     let found = copy.owner().unwrap_or("nobody");
     assert_eq!(rt; found, owner);
-    assert_eq!(rt; copy.grain().text(), "counter/red:a");
     Ok(())
 }
 
@@ -178,7 +180,14 @@ fn owner_of_activate(rt: HostRuntime) -> Result<(), Fail> {
 #[test]
 fn owner_of_load(rt: HostRuntime) -> Result<(), Fail> {
     let grain = grain(rt.alloc())?;
-    is_of(&rt, &Step::Load { grain }, "red")
+    is_of(
+        &rt,
+        &Step::Load {
+            grain,
+            failed: false,
+        },
+        "red",
+    )
 }
 
 #[test]
@@ -191,6 +200,74 @@ fn owner_of_begin(rt: HostRuntime) -> Result<(), Fail> {
 fn owner_of_end(rt: HostRuntime) -> Result<(), Fail> {
     let grain = grain(rt.alloc())?;
     is_of(&rt, &Step::End { grain, turn: 1 }, "red")
+}
+
+#[test]
+fn owner_of_a_poke(rt: HostRuntime) -> Result<(), Fail> {
+    let step = Step::Poke {
+        caller: Caller::read(rt.alloc(), "reddish/c1")?,
+        id: 7,
+        grain: grain(rt.alloc())?,
+        state: encode_state(rt.alloc(), &Datum::Int(3))?,
+        failed: false,
+    };
+    is_of(&rt, &step, "reddish")
+}
+
+#[test]
+fn owner_of_a_refusal(rt: HostRuntime) -> Result<(), Fail> {
+    let caller = Caller::read(rt.alloc(), "red/c1")?;
+    let code = Refusal::TooDeep;
+    is_of(
+        &rt,
+        &Step::Refuse {
+            caller,
+            id: 7,
+            code,
+        },
+        "red",
+    )
+}
+
+#[test]
+fn owner_of_deliver(rt: HostRuntime) -> Result<(), Fail> {
+    let grain = grain(rt.alloc())?;
+    is_of(&rt, &Step::Deliver { grain }, "red")
+}
+
+#[test]
+fn owner_of_a_sweep(rt: HostRuntime) -> Result<(), Fail> {
+    is_of(&rt, &Step::Sweep, "nobody")
+}
+
+fn failed_load(step: &Step) -> bool {
+    matches!(step, Step::Load { failed: true, .. })
+}
+
+#[test]
+fn load_into_failed(rt: HostRuntime) -> Result<(), Fail> {
+    let grain = grain(rt.alloc())?;
+    let step = Step::Load {
+        grain,
+        failed: false,
+    };
+    assert!(rt; !failed_load(&step));
+    assert!(rt; failed_load(&step.into_failed()));
+    Ok(())
+}
+
+#[test]
+fn codes_of_refusals(rt: HostRuntime) {
+    let table = [
+        (Refusal::TooLong, 11),
+        (Refusal::TooDeep, 12),
+        (Refusal::NotWhole, 13),
+        (Refusal::NotWellFormed, 20),
+        (Refusal::TooLarge, 63),
+    ];
+    for (refusal, code) in &table {
+        assert_eq!(rt; refusal.fault().code(), *code);
+    }
 }
 
 fn value(alloc: Global) -> Result<Reply, Fail> {
@@ -208,9 +285,9 @@ fn refusal(alloc: Global) -> Result<Reply, Fail> {
 #[test]
 fn reply_to_a_client(rt: HostRuntime) -> Result<(), Fail> {
     let reply = value(rt.alloc())?;
-    let copy = reply.clone()?;
+    let copy = copy_of_reply(&reply)?;
     assert_eq!(rt; copy.tenant(), "red");
-    assert!(rt; copy.recipient == reply.recipient);
+    assert!(rt; copy_of_party(&copy.recipient)? == reply.recipient);
     Ok(())
 }
 

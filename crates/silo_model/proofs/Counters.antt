@@ -1,18 +1,22 @@
 -- A counter's turn asks nothing of the storage and sends nothing, so every End of an open turn closes it.
 use Rattle.std.proofs.Common.{◌≡◌, ℕ, Bool, true, false, List, [], Option, Some, None, refl}
-use Rattle.std.specs.Prelude.{codes, option_and_then, if◌then◌else◌, Result, Err, ℤ, ◌+ℤ◌, ◌++◌}
+use Rattle.std.specs.Prelude.{codes, if◌then◌else◌, Result, Ok, Err, ℤ, ◌+ℤ◌, ◌++◌}
 use Rattle.std.specs.FinMap as map
 use Rattle.grain_id.specs.Names.{Grain, same_text}
-use Rattle.request_codec.specs.Tree.{Tree, null, whole}
-use Rattle.silo_event.specs.declared.fault.Fault.{Fault}
-use Rattle.silo_event.specs.declared.fault.Fault.TheVariants.{UnknownMethod, Misfit, OutOfRange}
+use Rattle.request_codec.specs.Tree.{Tree, whole}
+use Rattle.grain_kinds.specs.declared.fault.MethodFault.{MethodFault}
+use Rattle.grain_kinds.specs.declared.fault.MethodFault.TheVariants.{UnknownMethod, Misfit, OutOfRange}
+use Rattle.grain_kinds.specs.Logic.{Plan, asks_nothing}
+use Rattle.grain_kinds.specs.Laws.{ReadersAskNothing}
+use Rattle.grain_kinds.specs.Shared.{keeps, becomes, is_null, for_shape, for_null, whole_field}
+use Rattle.grain_kinds.specs.Counter.{add_plan, get_plan, fits_64, number_of, number_plan}
+use Rattle.grain_kinds.specs.Counters.{counters}
 use Rattle.silo_event.specs.declared.step.Step.TheVariants.{End}
-use Rattle.silo_model.specs.Logic.{Plan, asks_nothing}
 use Rattle.silo_model.specs.Machine.{Entry, Request, ready}
 use Rattle.silo_model.specs.Calls.{answered}
-use Rattle.silo_model.specs.Counter.{add_to, add_plan, get_plan, fits_64, number_of, becomes, keeps, counter_plan, counters, whole_value, only_field}
+use Rattle.silo_model.specs.Turns.{plan_of, outcome_of}
 use Rattle.silo_model.specs.Whole.{Whole, whole_step}
-use Rattle.silo_model.proofs.EndSteps.{ended_entry, end_silent_turn}
+use Rattle.silo_model.proofs.TurnSteps.{closed_turn, end_silent_turn}
 
 pub record IsSilent (plan : Plan) : Type 0 where
   pub storage : plan.storage ≡ asks_nothing
@@ -22,36 +26,38 @@ either : (b : Bool) (p q : Plan) → IsSilent p → IsSilent q → IsSilent (if 
 either true p q h k = h
 either false p q h k = k
 
-keeps_silent : (state : Tree) (outcome : Result Tree Fault) → IsSilent (keeps state outcome)
+keeps_silent : (state : Tree) (outcome : Result Tree MethodFault) → IsSilent (keeps state outcome)
 keeps_silent state outcome = record { storage = refl; sends = refl }
 
-add_to_silent : (state : Tree) (sum : ℤ) → IsSilent (add_to state sum)
-add_to_silent state sum = either (fits_64 sum) (becomes (whole sum) (whole sum)) (keeps state (Err OutOfRange)) (record { storage = refl; sends = refl }) (keeps_silent state (Err OutOfRange))
-
-add_silent : (state : Tree) (by : Option ℤ) → IsSilent (add_plan state by)
+add_silent : (state : Tree) (by : Option ℤ) → IsSilent (for_shape state by (add_plan state))
 add_silent state None = keeps_silent state (Err Misfit)
-add_silent state (Some by) = add_to_silent state (number_of state +ℤ by)
+add_silent state (Some by) =
+    let sum = number_of state +ℤ by in
+    either (fits_64 sum) (becomes (whole sum) (whole sum)) (keeps state (Err OutOfRange)) (record { storage = refl; sends = refl }) (keeps_silent state (Err OutOfRange))
 
-get_silent : (state argument : Tree) → IsSilent (get_plan state argument)
-get_silent state null = record { storage = refl; sends = refl }
-get_silent state _ = record { storage = refl; sends = refl }
+get_silent : (state argument : Tree) → IsSilent (for_null state argument (get_plan state))
+get_silent state argument = either (is_null argument) (get_plan state) (keeps state (Err Misfit)) (keeps_silent state (Ok (whole (number_of state)))) (keeps_silent state (Err Misfit))
 
-pub counter_silent : (method : List ℕ) (state argument : Tree) → IsSilent (counter_plan method state argument)
-unfolding counter_plan
-counter_silent method state argument =
-    let by = option_and_then whole_value (only_field (codes "by") argument) in
+pub counter_silent : (kind method : List ℕ) (state argument : Tree) → IsSilent (counters.plan kind method state argument)
+unfolding counters number_plan
+counter_silent kind method state argument =
+    let by = whole_field (codes "by") argument in
     let unknown = keeps state (Err UnknownMethod) in
-    either (same_text method (codes "add")) (add_plan state by) (if same_text method (codes "get") then get_plan state argument else unknown) (add_silent state by)
-    (either (same_text method (codes "get")) (get_plan state argument) unknown (get_silent state argument) (keeps_silent state (Err UnknownMethod)))
+    let get = for_null state argument (get_plan state) in
+    either (same_text method (codes "add")) (for_shape state by (add_plan state)) (if same_text method (codes "get") then get else unknown) (add_silent state by)
+    (either (same_text method (codes "get")) get unknown (get_silent state argument) (keeps_silent state (Err UnknownMethod)))
 
 -- a counter's turn is closed by its plan
 pub end_counter : (w : Whole) (g : Grain) (turn : ℕ) (e : Entry) (request : Request) (state : Tree) (version : Option ℕ)
     → map.get w.entries g ≡ Some e → map.get e.turns turn ≡ Some request → e.phase ≡ ready state version
     → whole_step counters w (End g turn) ≡ Some (record w {
-      entries = map.insert w.entries g (ended_entry w e request (counter_plan request.call.method state request.call.argument).state version);
-      replies = w.replies ++ answered request.sender (counter_plan request.call.method state request.call.argument).outcome;
+      entries = map.insert w.entries g (closed_turn w e request (plan_of counters g state request).state version);
+      replies = w.replies ++ answered request.sender (outcome_of (plan_of counters g state request).outcome);
     })
-unfolding counters
 end_counter w g turn e request state version found open_turn is =
-    let silent = counter_silent request.call.method state request.call.argument in
-    end_silent_turn counters w g turn e found request state version open_turn is (counter_plan request.call.method state request.call.argument) refl silent.storage silent.sends
+    let silent = counter_silent g.kind request.call.method state request.call.argument in
+    end_silent_turn counters w g turn e found request open_turn state version is (plan_of counters g state request) refl silent.storage silent.sends
+
+-- no method asks for the storage, so none that only reads does
+pub counters_ask_nothing : ReadersAskNothing counters
+counters_ask_nothing kind method state argument reads = (counter_silent kind method state argument).storage

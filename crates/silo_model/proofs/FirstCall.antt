@@ -1,7 +1,8 @@
 -- A counter's first call, step by step.
 use Rattle.std.proofs.Common.{◌≡◌, ℕ, ◌+◌, ◌==◌, true, false, List, [], ◌∷◌, ◌++◌, Some, None, refl, ap, ◌∙◌}
 use Rattle.std.proofs.Math.IntN.{+ℤ_idl}
-use Rattle.std.specs.Prelude.{Ok, Err, ℤ, pos, codes, option_map, option_and_then, if◌then◌else◌}
+use Rattle.std.proofs.lemmas.Bool.{lt-ltb}
+use Rattle.std.specs.Prelude.{Ok, Err, ℤ, pos, codes, option_map, option_and_then, nat_lt, if◌then◌else◌}
 use Rattle.std.specs.Ordering.{nat_cmp}
 use Rattle.std.specs.Cmp.{nat_cmp_total}
 use Rattle.std.specs.FinMap as map
@@ -11,23 +12,28 @@ use Rattle.grain_id.proofs.Order.{grain_cmp_total, grain_cmp_exact}
 use Rattle.grain_id.proofs.Maps.{get-insert_same}
 use Rattle.grain_storage.specs.Rows.{version_of, content_or}
 use Rattle.request_codec.specs.Tree.{Tree, whole}
-use Rattle.silo_event.specs.declared.fault.Fault.TheVariants.{OutOfRange}
+use Rattle.grain_kinds.specs.Shared.{becomes, keeps}
+use Rattle.grain_kinds.specs.Counter.{add_to, fits_64, number_plan}
+use Rattle.grain_kinds.specs.Counters.{counters}
+use Rattle.grain_kinds.specs.declared.fault.MethodFault.TheVariants.{OutOfRange}
 use Rattle.silo_event.specs.declared.reply.Party.TheVariants as party
 use Rattle.silo_event.specs.declared.step.Step.{Step}
 use Rattle.silo_event.specs.declared.step.Step.TheVariants.{Call, Activate, Load, Begin, End}
 use Rattle.silo_model.specs.Machine.{Account, Entry, Request, loading, waiting, ready}
 use Rattle.silo_model.specs.Calls.{told, answered, last_number}
-use Rattle.silo_model.specs.Counter.{add_to, becomes, keeps, fits_64, counter_plan, counters}
-use Rattle.silo_model.specs.Logic.{Logic}
+use Rattle.silo_model.specs.Turns.{plan_of, outcome_of}
+use Rattle.grain_kinds.specs.Logic.{Logic}
 use Rattle.silo_model.specs.Whole.{Whole, whole_step}
-use Rattle.silo_model.specs.Opening.{fresh_account, opening}
+use Rattle.silo_model.specs.Opening.{Setup, fresh_account, opening}
 use Rattle.silo_model.specs.Journal.{all_done}
 use Rattle.silo_model.specs.FirstCall.{add_call, FirstCallAnswered}
 use Rattle.silo_model.proofs.CallSteps.{next_request, call_new}
 use Rattle.silo_model.proofs.EntrySteps.{activate_waiting, load_loading, begin_first}
-use Rattle.silo_model.proofs.EndSteps.{ended_entry}
+use Rattle.silo_model.proofs.TurnSteps.{closed_turn}
 use Rattle.silo_model.proofs.Counters.{end_counter}
-use Rattle.silo_model.proofs.Opening.{get-fresh_accounts}
+use Rattle.silo_model.proofs.Opening.{get-fresh_accounts, no_entry_of}
+use Rattle.silo_model.proofs.Fair.{may_open_alone}
+use Rattle.silo_model.proofs.Sights.{active_of}
 
 then_done : (logic : Logic) (w next after : Whole) (s : Step) (steps : List Step) → whole_step logic w s ≡ Some next → all_done logic next steps ≡ Some after → all_done logic w (s ∷ steps) ≡ Some after
 then_done logic w next after s steps step rest = ap (option_and_then (λ x. all_done logic x steps)) step ∙ rest
@@ -41,10 +47,10 @@ unfolding counters
 knows_counter = refl
 
 -- what a new counter answers to its first number
-first_outcome : (state : Tree) (n : ℤ) → state ≡ whole (pos 0) → fits_64 n ≡ true → (counter_plan (add_call n).method state (add_call n).argument).outcome ≡ Ok (whole n)
-unfolding counter_plan
-first_outcome state n is fits =
-    ap (λ s. (counter_plan (add_call n).method s (add_call n).argument).outcome) is
+first_outcome : (kind : List ℕ) (state : Tree) (n : ℤ) → state ≡ whole (pos 0) → fits_64 n ≡ true → (counters.plan kind (add_call n).method state (add_call n).argument).outcome ≡ Ok (whole n)
+unfolding counters number_plan
+first_outcome kind state n is fits =
+    ap (λ s. (counters.plan kind (add_call n).method s (add_call n).argument).outcome) is
     ∙ ap (λ z. (add_to (whole (pos 0)) z).outcome) (+ℤ_idl n)
     ∙ ap (λ b. (if b then becomes (whole n) (whole n) else keeps (whole (pos 0)) (Err OutOfRange)).outcome) fits
 
@@ -82,8 +88,8 @@ module _ (w : Whole) (a : Account) (caller : Client) (id : ℕ) (g : Grain) (n :
 
   abbrev after_end : Whole
   after_end = record after_begin {
-    entries = map.insert after_begin.entries g (ended_entry after_begin entry_begun request (counter_plan request.call.method state_loaded request.call.argument).state (version_of (map.get w.rows g)));
-    replies = w.replies ++ answered request.sender (counter_plan request.call.method state_loaded request.call.argument).outcome;
+    entries = map.insert after_begin.entries g (closed_turn after_begin entry_begun request (plan_of counters g state_loaded request).state (version_of (map.get w.rows g)));
+    replies = w.replies ++ answered request.sender (outcome_of (plan_of counters g state_loaded request).outcome);
   }
 
   put_there : {X : Type 0} (m : FinMap grain_cmp X) (x : X) → map.get (map.insert m g x) g ≡ Some x
@@ -96,34 +102,38 @@ module _ (w : Whole) (a : Account) (caller : Client) (id : ℕ) (g : Grain) (n :
   beginning = Begin g ∷ ending
 
   abbrev loads : List Step
-  loads = Load g ∷ beginning
+  loads = Load g false ∷ beginning
 
   abbrev activates : List Step
   activates = Activate g ∷ loads
 
-  pub all_five : map.get w.accounts caller.tenant ≡ Some a → g.tenant ≡ caller.tenant → counters.knows g.kind ≡ true → (a.count == last_number) ≡ false → map.get w.entries g ≡ None
+  pub all_five : map.get w.accounts caller.tenant ≡ Some a → g.tenant ≡ caller.tenant → counters.knows g.kind ≡ true → (a.count == last_number) ≡ false → map.get w.entries g ≡ None → nat_lt (active_of w caller.tenant) a.limits.activations ≡ true
       → all_done counters w (Call caller id g (add_call n) ∷ activates) ≡ Some after_end
-  all_five known own knows left absent =
+  all_five known own knows left absent free =
       let version = version_of (map.get w.rows g) in
-      let called = call_new counters w caller id g (add_call n) a known own knows left absent in
+      let called = call_new counters w caller id g (add_call n) a known own knows left absent free in
       let activated = activate_waiting counters after_call g entry_called (put_there w.entries entry_called) refl in
       let loaded = load_loading counters after_activate g entry_activated (put_there after_call.entries entry_activated) refl in
-      let begun = begin_first counters after_load g entry_loaded (put_there after_activate.entries entry_loaded) state_loaded version request [] refl refl (ap (λ k. k == 0) (map.len-empty nat_cmp Request)) in
+      let begun = begin_first counters after_load g entry_loaded (put_there after_activate.entries entry_loaded) state_loaded version request [] refl refl (may_open_alone counters g entry_loaded request (map.len-empty nat_cmp Request)) in
       let ended = end_counter after_begin g request.number entry_begun request state_loaded version (put_there after_load.entries entry_begun) (get-insert_same nat_cmp_total nat_cmp-IsAntisymmetric map.empty request.number request) refl in
       then_done counters w after_call after_end (Call caller id g (add_call n)) activates called
       (then_done counters after_call after_activate after_end (Activate g) loads activated
-      (then_done counters after_activate after_load after_end (Load g) beginning loaded
+      (then_done counters after_activate after_load after_end (Load g false) beginning loaded
       (then_done counters after_load after_begin after_end (Begin g) ending begun
       (then_done counters after_begin after_end after_end (End g request.number) [] ended refl))))
 
   pub reply_is : map.get w.rows g ≡ None → fits_64 n ≡ true → after_end.replies ≡ w.replies ++ told (party.Client caller id) (Ok (whole n))
-  reply_is none fits = ap (λ o. w.replies ++ told (party.Client caller id) o) (first_outcome state_loaded n (ap (content_or (counters.empty g.kind)) none ∙ empty_counter g.kind) fits)
+  reply_is none fits = ap (λ o. w.replies ++ told (party.Client caller id) (outcome_of o)) (first_outcome g.kind state_loaded n (ap (content_or (counters.empty g.kind)) none ∙ empty_counter g.kind) fits)
+
+none_active : (setup : Setup) (t : List ℕ) → active_of (opening setup) t ≡ 0
+unfolding opening
+none_active setup t = ap map.len (no_entry_of t) ∙ map.len-empty grain_cmp Entry
 
 pub first_call_answered : FirstCallAnswered
 unfolding opening
-first_call_answered setup limits caller id g n known own kind none fits =
+first_call_answered setup limits caller id g n known may own kind none fits =
     let a = fresh_account limits in (
       after_end (opening setup) a caller id g n,
-      all_five (opening setup) a caller id g n (get-fresh_accounts setup.limits caller.tenant ∙ ap (option_map fresh_account) known) own (ap counters.knows kind ∙ knows_counter) refl (map.get-empty grain_cmp g),
+      all_five (opening setup) a caller id g n (get-fresh_accounts setup.tenants caller.tenant ∙ ap (option_map fresh_account) known) own (ap counters.knows kind ∙ knows_counter) refl (map.get-empty grain_cmp g) (ap (λ k. nat_lt k limits.activations) (none_active setup caller.tenant) ∙ lt-ltb 0 limits.activations may),
       reply_is (opening setup) a caller id g n none fits,
     )

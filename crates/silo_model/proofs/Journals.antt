@@ -1,29 +1,29 @@
 -- What holds of every whole that a journal leads to.
-use Rattle.std.proofs.Common.{◌≡◌, ℕ, List, [], ◌∷◌, ◌++◌, Option, Some, None, unwrap_or, refl, ap, sym, ◌∙◌, subst}
+use Rattle.std.proofs.Common.{◌≡◌, ◌≢◌, ℕ, Bool, true, false, cond, List, [], ◌∷◌, ◌++◌, Option, Some, None, unwrap_or, refl, ap, sym, ◌∙◌, subst}
 use Rattle.std.specs.Prelude.{option_and_then}
+use Rattle.std.proofs.lemmas.List.{append-nil}
 use Rattle.std.proofs.lemmas.Option.{same_Some, none-some}
 use Rattle.std.specs.FinMap as map
 use Rattle.grain_id.specs.Names.{Grain}
-use Rattle.silo_event.specs.Owner.{owner_of, grain_of}
+use Rattle.silo_event.specs.Owner.{owner_of}
 use Rattle.silo_event.specs.declared.reply.Reply.{Reply}
 use Rattle.silo_event.specs.declared.step.Step.{Step}
-use Rattle.silo_model.specs.Logic.{Logic}
+use Rattle.grain_kinds.specs.Logic.{Logic}
 use Rattle.silo_model.specs.Machine.{Machine, Entry, Request}
+use Rattle.silo_model.specs.Step.{machine_step}
 use Rattle.silo_model.specs.Effect.{Effect, applied}
 use Rattle.silo_model.specs.Whole.{Whole, shown_to, spread, whole_step}
-use Rattle.silo_model.specs.Run.{whole_run}
+use Rattle.silo_model.specs.Run.{whole_run, concerns_by, concerns, restricted_to}
 use Rattle.silo_model.specs.Opening.{Setup, opening}
-use Rattle.silo_model.specs.Journal.{all_done, LeadsTo}
-use Rattle.silo_model.specs.Laws.{OwnPart, OtherParts, NotNow, RunsOn, JournalsReplay, JournalsGrow, OneTurnAtATime}
+use Rattle.silo_model.specs.Journal.{machine_all_done, all_done, LeadsTo}
+use Rattle.silo_model.specs.Laws.{OwnPart, OtherParts, NotNow, RunsOn, JournalsReplay, JournalsGrow, PartsLead}
+use Rattle.silo_model.proofs.Changes.{bound}
 use Rattle.silo_model.proofs.Sound.{IsEntryOf, IsSound}
 use Rattle.silo_model.proofs.Proper.{AllTo}
+use Rattle.silo_model.proofs.SharedSteps.{shared_leaves}
 use Rattle.silo_model.proofs.Isolation as isolation
 use Rattle.silo_model.proofs.Runs.{run_shown}
-use Rattle.silo_model.proofs.Opening.{opening_sound}
-
-bound : {A B : Type 0} (f : A → Option B) (o : Option A) (y : B) → option_and_then f o ≡ Some y → (x : A) × (o ≡ Some x) × (f x ≡ Some y)
-bound f None y e = absurd (none-some y e)
-bound f (Some x) y e = (x, refl, e)
+use Rattle.silo_model.proofs.Opening.{opening_sound, opening_shown}
 
 -- ---- from any whole
 
@@ -61,27 +61,55 @@ pub journals_grow : JournalsGrow
 journals_grow logic setup journal w after s leads step = all_done_grown logic (opening setup) w after journal s leads step
 
 pub own_part : OwnPart
-own_part logic setup journal w after s owner leads is step = isolation.own_part logic w after s owner (journal_sound logic setup journal w leads) is step
+own_part logic setup journal w after s tenant leads concerned step = isolation.own_part logic w s tenant after (journal_sound logic setup journal w leads) concerned step
 
 pub other_parts : OtherParts
-other_parts logic setup journal w after s owner tenant leads is apart step = isolation.other_parts logic w after s owner tenant (journal_sound logic setup journal w leads) is apart step
+other_parts logic setup journal w after s tenant leads apart step = isolation.other_parts logic w s tenant after (journal_sound logic setup journal w leads) apart step
 
 pub not_now : NotNow
-not_now logic w s owner is step = isolation.not_now logic w s owner is step
+not_now logic w s tenant concerned step = isolation.not_now logic w s tenant concerned step
+
+-- the same by the step's owner
+pub owners_part : (logic : Logic) (setup : Setup) (journal : List Step) (w after : Whole) (s : Step) (owner : List ℕ)
+    → LeadsTo logic setup journal w → owner_of s ≡ Some owner → whole_step logic w s ≡ Some after → machine_step logic (shown_to owner w) s ≡ Some (shown_to owner after)
+owners_part logic setup journal w after s owner leads is step = isolation.owners_part logic w after s owner (journal_sound logic setup journal w leads) is step
+
+pub others_parts : (logic : Logic) (setup : Setup) (journal : List Step) (w after : Whole) (s : Step) (owner tenant : List ℕ)
+    → LeadsTo logic setup journal w → owner_of s ≡ Some owner → tenant ≢ owner → whole_step logic w s ≡ Some after → shown_to tenant after ≡ shown_to tenant w
+others_parts logic setup journal w after s owner tenant leads is apart step = isolation.others_parts logic w after s owner tenant (journal_sound logic setup journal w leads) is apart step
+
+-- a step of nobody is every tenant's
+pub everyones_part : (logic : Logic) (setup : Setup) (journal : List Step) (w after : Whole) (s : Step) (tenant : List ℕ)
+    → LeadsTo logic setup journal w → owner_of s ≡ None → whole_step logic w s ≡ Some after → machine_step logic (shown_to tenant w) s ≡ Some (shown_to tenant after)
+everyones_part logic setup journal w after s tenant leads is step = own_part logic setup journal w after s tenant leads (ap (concerns_by tenant) is) step
 
 pub runs_on : RunsOn
 runs_on logic setup journal w tenant steps leads = run_shown logic tenant steps w (journal_sound logic setup journal w leads)
 
--- each entry's requests were sent from its own tenant, and a turn is open at its request's number and alone
+-- the steps that concern a tenant are all done in its own machine
+struck_done : (logic : Logic) (tenant : List ℕ) (w after : Whole) (steps : List Step) → IsSound w → all_done logic w steps ≡ Some after → machine_all_done logic (shown_to tenant w) (restricted_to tenant steps) ≡ Some (shown_to tenant after)
+struck_done logic tenant w after [] sound e = ap (λ (x : Whole). Some (shown_to tenant x)) (same_Some w after e)
+struck_done logic tenant w after (s ∷ steps) sound e =
+    let next = bound (λ x. all_done logic x steps) (whole_step logic w s) after e in
+    by_concern (concerns tenant s) refl next.0 next.1 (struck_done logic tenant next.0 after steps (isolation.step_sound logic w next.0 s sound next.1) next.2)
+  where
+    by_concern : (b : Bool) → concerns tenant s ≡ b → (next : Whole) → whole_step logic w s ≡ Some next → machine_all_done logic (shown_to tenant next) (restricted_to tenant steps) ≡ Some (shown_to tenant after)
+        → machine_all_done logic (shown_to tenant w) (cond b (s ∷ restricted_to tenant steps) (restricted_to tenant steps)) ≡ Some (shown_to tenant after)
+    by_concern true is next step rest = ap (option_and_then (λ m. machine_all_done logic m (restricted_to tenant steps))) (isolation.own_part logic w s tenant next sound is step) ∙ rest
+    by_concern false is next step rest = ap (λ m. machine_all_done logic m (restricted_to tenant steps)) (sym (isolation.other_parts logic w s tenant next sound is step)) ∙ rest
+
+pub parts_lead : PartsLead
+parts_lead logic setup journal w tenant leads =
+    ap (λ m. machine_all_done logic m (restricted_to tenant journal)) (sym (opening_shown setup tenant))
+    ∙ struck_done logic tenant (opening setup) w journal (opening_sound setup) leads
+
+-- each entry's requests were sent from its own tenant, and a turn is open at its request's number
 pub entry_of_own : (logic : Logic) (setup : Setup) (journal : List Step) (w : Whole) (g : Grain) (e : Entry) → LeadsTo logic setup journal w → map.get w.entries g ≡ Some e → IsEntryOf g.tenant e
 entry_of_own logic setup journal w g e leads found = journal_sound logic setup journal w leads g e found
 
 pub turn_number : (logic : Logic) (setup : Setup) (journal : List Step) (w : Whole) (g : Grain) (e : Entry) (turn : ℕ) (request : Request)
     → LeadsTo logic setup journal w → map.get w.entries g ≡ Some e → map.get e.turns turn ≡ Some request → request.number ≡ turn
 turn_number logic setup journal w g e turn request leads found open_turn = ((entry_of_own logic setup journal w g e leads found).turns turn request open_turn).1
-
-pub one_turn_at_a_time : OneTurnAtATime
-one_turn_at_a_time logic setup journal w g e n m r q leads found open_turn other = (entry_of_own logic setup journal w g e leads found).alone n m r q open_turn other
 
 -- ---- what a step replies
 
@@ -92,31 +120,39 @@ pub record Adds (w : Whole) (s : Step) (after : Whole) : Type 0 where
   pub to_owner : (owner : List ℕ) → owner_of s ≡ Some owner → AllTo owner added
   pub own_replies : (owner : List ℕ) → owner_of s ≡ Some owner → (shown_to owner after).replies ≡ (shown_to owner w).replies ++ added
 
-spread_replies : (w : Whole) (owner : List ℕ) (g : Grain) (e : Effect) → (spread w owner g e).replies ≡ w.replies ++ e.replies
+spread_replies : (w : Whole) (owner : List ℕ) (g : Option Grain) (e : Effect) → (spread w owner g e).replies ≡ w.replies ++ e.replies
 unfolding spread
 spread_replies w owner g e = refl
 
-applied_replies : (m : Machine) (g : Grain) (e : Effect) → (applied m g e).replies ≡ m.replies ++ e.replies
+applied_replies : (m : Machine) (g : Option Grain) (e : Effect) → (applied m g e).replies ≡ m.replies ++ e.replies
 unfolding applied
 applied_replies m g e = refl
 
 adds_by : (logic : Logic) (w after : Whole) (s : Step) (owner : List ℕ) → IsSound w → owner_of s ≡ Some owner → whole_step logic w s ≡ Some after → Adds w s after
 adds_by logic w after s owner sound is step =
     let d = isolation.did logic w after s owner is step in
+    let place = isolation.place_in w owner s in
     let proper = isolation.did_proper logic w after s owner is sound d in
-    let own : shown_to owner after ≡ applied (shown_to owner w) (grain_of s) d.what = sym (ap (shown_to owner) d.leaves) ∙ isolation.spread_own w owner (grain_of s) d.what proper in
+    let own : shown_to owner after ≡ applied (shown_to owner w) place d.what = sym (ap (shown_to owner) d.leaves) ∙ isolation.spread_own w owner place d.what proper in
     let P : List ℕ → Type 0 = λ o. AllTo o d.what.replies in
     let Q : List ℕ → Type 0 = λ o. (shown_to o after).replies ≡ (shown_to o w).replies ++ d.what.replies in
     let same : (other : List ℕ) → owner_of s ≡ Some other → owner ≡ other = λ other e. same_Some owner other (sym is ∙ e) in
     record {
       added = d.what.replies;
-      replies = sym (ap (λ (x : Whole). x.replies) d.leaves) ∙ spread_replies w owner (grain_of s) d.what;
+      replies = sym (ap (λ (x : Whole). x.replies) d.leaves) ∙ spread_replies w owner place d.what;
       to_owner = λ other e. subst P (same other e) proper.replies;
-      own_replies = λ other e. subst Q (same other e) (ap (λ (m : Machine). m.replies) own ∙ applied_replies (shown_to owner w) (grain_of s) d.what);
+      own_replies = λ other e. subst Q (same other e) (ap (λ (m : Machine). m.replies) own ∙ applied_replies (shown_to owner w) place d.what);
     }
 
-adds_owned : (logic : Logic) (w after : Whole) (s : Step) (o : Option (List ℕ)) → owner_of s ≡ o → IsSound w → whole_step logic w s ≡ Some after → Adds w s after
-adds_owned logic w after s None is sound step = absurd (isolation.no_owner logic w after s is step)
+pub adds_owned : (logic : Logic) (w after : Whole) (s : Step) (o : Option (List ℕ)) → owner_of s ≡ o → IsSound w → whole_step logic w s ≡ Some after → Adds w s after
+adds_owned logic w after s None is sound step =
+    let leaves = shared_leaves w after s (sym (isolation.shared_by logic w s is) ∙ step) in
+    record {
+      added = [];
+      replies = leaves.replies ∙ sym (append-nil w.replies);
+      to_owner = λ owner e. tt;
+      own_replies = λ owner e. absurd (none-some owner (sym is ∙ e));
+    }
 adds_owned logic w after s (Some owner) is sound step = adds_by logic w after s owner sound is step
 
 pub adds_replies : (logic : Logic) (setup : Setup) (journal : List Step) (w after : Whole) (s : Step) → LeadsTo logic setup journal w → whole_step logic w s ≡ Some after → Adds w s after

@@ -3,17 +3,18 @@ use Rattle.std.proofs.Common.{◌≡◌, ℕ, Bool, true, false, cond, List, [],
 use Rattle.std.specs.Prelude.{option_map, map as map_list}
 use Rattle.std.specs.Ordering.{eq_by_cmp}
 use Rattle.std.specs.FinMap as map
-use Rattle.std.specs.FinMap.{FinMap, find}
+use Rattle.std.specs.FinMap.{find}
 use Rattle.std.proofs.lemmas.Option.{none-some}
-use Rattle.grain_id.specs.Names.{grain_cmp, text_cmp}
+use Rattle.grain_id.specs.Names.{grain_cmp, text_cmp, same_text}
 use Rattle.tenant_gate.specs.declared.limits.Limits.{Limits}
+use Rattle.tenant_gate.specs.Table.{Table, limits_of}
 use Rattle.silo_model.specs.Machine.{Account, Entry}
 use Rattle.silo_model.specs.Whole.{is_of, shown_to}
 use Rattle.silo_model.specs.Run.{machine_run, restricted_to}
-use Rattle.silo_model.specs.Opening.{Setup, fresh_account, opening, start_of}
+use Rattle.silo_model.specs.Opening.{Setup, fresh_account, fresh_accounts, opening, start_of}
 use Rattle.silo_model.specs.Laws.{ReplayIsRun, AgreeingLists}
-use Rattle.grain_id.proofs.Order.{text_cmp_total}
-use Rattle.grain_id.proofs.ByGrain.{alike, get-part, text_alike}
+use Rattle.grain_id.proofs.Order.{text_cmp_total, text_cmp_exact, same_text_decides, ties_from_Decides}
+use Rattle.grain_id.proofs.ByGrain.{alike, get-part}
 use Rattle.silo_model.proofs.Sound.{IsSound}
 use Rattle.silo_model.proofs.Runs.{run_shown}
 
@@ -23,33 +24,30 @@ opening_sound setup g e found = absurd (none-some e (sym (map.get-empty grain_cm
 
 -- ---- accounts
 
-of_first : (b : Bool) (l : Limits) (accounts : Option _) (limits : Option Limits) → accounts ≡ option_map fresh_account limits → cond b (Some (fresh_account l)) accounts ≡ option_map fresh_account (cond b (Some l) limits)
-of_first true l accounts limits e = refl
-of_first false l accounts limits e = e
+of_first : (same : Bool) (l : Limits) (account : Option Account) (limits : Option Limits) → account ≡ option_map fresh_account limits → cond same (Some (fresh_account l)) account ≡ option_map fresh_account (cond same (Some l) limits)
+of_first true l account limits e = refl
+of_first false l account limits e = e
 
-find-fresh : (t : List ℕ) (limits : List (List ℕ × Limits)) → find text_cmp t (map_list (λ e. (e.0, fresh_account e.1)) limits) ≡ option_map fresh_account (find text_cmp t limits)
+-- a name is told from another alike by the texts and by their order
+text_ties : (s t : List ℕ) → eq_by_cmp text_cmp s t ≡ same_text s t
+text_ties s t = sym (ties_from_Decides same_text text_cmp_total text_cmp_exact same_text_decides s t)
+
+find-fresh : (t : List ℕ) (tenants : Table) → find text_cmp t (map_list (λ e. (e.0, fresh_account e.1)) tenants) ≡ option_map fresh_account (limits_of tenants t)
 find-fresh t [] = refl
-find-fresh t (e ∷ limits) = of_first (eq_by_cmp text_cmp t e.0) e.1 _ (find text_cmp t limits) (find-fresh t limits)
+find-fresh t (e ∷ tenants) =
+    of_first (eq_by_cmp text_cmp t e.0) e.1 _ (limits_of tenants t) (find-fresh t tenants)
+    ∙ ap (λ same. option_map fresh_account (cond same (Some e.1) (limits_of tenants t))) (text_ties t e.0)
 
--- the account of each tenant that is known, as a silo opens
-abbrev pub fresh_accounts : FinMap text_cmp Limits → FinMap text_cmp Account
-fresh_accounts limits = map.from_entries (map_list (λ e. (e.0, fresh_account e.1)) (map.entries limits))
+-- what is known of a tenant as a silo opens: the limits that the table has of it
+pub get-fresh_accounts : (tenants : Table) (t : List ℕ) → map.get (fresh_accounts tenants) t ≡ option_map fresh_account (limits_of tenants t)
+get-fresh_accounts tenants t = map.get-from_entries text_cmp_total (map_list (λ e. (e.0, fresh_account e.1)) tenants) t ∙ find-fresh t tenants
 
-pub get-fresh_accounts : (limits : FinMap text_cmp Limits) (t : List ℕ) → map.get (fresh_accounts limits) t ≡ option_map fresh_account (map.get limits t)
-get-fresh_accounts limits t =
-    map.get-from_entries text_cmp_total (map_list (λ e. (e.0, fresh_account e.1)) (map.entries limits)) t
-    ∙ find-fresh t (map.entries limits)
-    ∙ ap (option_map fresh_account) (sym (map.get-entries limits t))
+pub fresh_accounts-empty : fresh_accounts [] ≡ map.empty
+fresh_accounts-empty = refl
 
-pub fresh_accounts-empty : fresh_accounts map.empty ≡ map.empty
-fresh_accounts-empty = text_alike _ _ (λ t. get-fresh_accounts map.empty t ∙ ap (option_map fresh_account) (map.get-empty text_cmp t) ∙ sym (map.get-empty text_cmp t))
-
-pub fresh_accounts-insert : (limits : FinMap text_cmp Limits) (t : List ℕ) (l : Limits) → fresh_accounts (map.insert limits t l) ≡ map.insert (fresh_accounts limits) t (fresh_account l)
-fresh_accounts-insert limits t l = text_alike _ _ (λ q.
-    get-fresh_accounts (map.insert limits t l) q
-    ∙ ap (option_map fresh_account) (map.get-insert text_cmp_total limits t l q)
-    ∙ sym (of_first (eq_by_cmp text_cmp q t) l _ (map.get limits q) (get-fresh_accounts limits q))
-    ∙ sym (map.get-insert text_cmp_total (fresh_accounts limits) t (fresh_account l) q))
+-- the account of the first tenant of a table, beside those of the others
+pub fresh_accounts-first : (t : List ℕ) (limits : Limits) (tenants : Table) → fresh_accounts ((t, limits) ∷ tenants) ≡ map.insert (fresh_accounts tenants) t (fresh_account limits)
+fresh_accounts-first t limits tenants = refl
 
 -- ---- entries
 
@@ -57,14 +55,14 @@ either_none : (b : Bool) (o : Option Entry) → o ≡ None → cond b o None ≡
 either_none true o e = refl
 either_none false o e = sym e
 
-no_entry_of : (t : List ℕ) → map.retain_keys (map.empty {X = Entry} {R = grain_cmp}) (is_of t) ≡ map.empty
+pub no_entry_of : (t : List ℕ) → map.retain_keys (map.empty {X = Entry} {R = grain_cmp}) (is_of t) ≡ map.empty
 no_entry_of t = alike _ _ (λ q. get-part (map.empty {X = Entry} {R = grain_cmp}) (is_of t) q ∙ either_none (is_of t q) _ (map.get-empty grain_cmp q))
 
 pub opening_shown : (setup : Setup) (t : List ℕ) → shown_to t (opening setup) ≡ start_of setup t
 unfolding opening start_of shown_to
 opening_shown setup t = λ i. record {
   tenant = t;
-  account = get-fresh_accounts setup.limits t i;
+  account = get-fresh_accounts setup.tenants t i;
   age = setup.age;
   clock = 0;
   entries = no_entry_of t i;

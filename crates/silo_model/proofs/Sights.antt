@@ -4,12 +4,12 @@ use Rattle.std.specs.Prelude.{option_map}
 use Rattle.std.specs.FinMap as map
 use Rattle.std.specs.FinMap.{FinMap}
 use Rattle.grain_id.specs.Names.{Grain, grain_cmp, same_text}
-use Rattle.silo_event.specs.Owner.{owner_of, grain_of}
+use Rattle.silo_event.specs.Owner.{owner_of}
 use Rattle.silo_event.specs.declared.step.Step.{Step}
-use Rattle.silo_model.specs.Logic.{Logic}
+use Rattle.grain_kinds.specs.Logic.{Logic}
 use Rattle.silo_model.specs.Effect.{Sight, Effect, sight_at}
-use Rattle.silo_model.specs.Step.{effect_of}
-use Rattle.silo_model.specs.Whole.{Whole, is_of, shown_to, spread, whole_step_by, whole_step}
+use Rattle.silo_model.specs.Step.{grain_of, effect_of}
+use Rattle.silo_model.specs.Whole.{Whole, is_of, shown_to, spread, whole_owned_step, whole_step_by, whole_step}
 use Rattle.grain_id.proofs.Order.{same_text_decides}
 use Rattle.grain_id.proofs.ByGrain.{get-part}
 
@@ -31,21 +31,30 @@ get-own m tenant g own = get-part m (is_of tenant) g ∙ ap (λ b. cond b (map.g
 pub get-apart : {X : Type 0} (m : FinMap grain_cmp X) (tenant : List ℕ) (g : Grain) → g.tenant ≢ tenant → map.get (map.retain_keys m (is_of tenant)) g ≡ None
 get-apart m tenant g apart = get-part m (is_of tenant) g ∙ ap (λ b. cond b (map.get m g) None) (same_text-apart g.tenant tenant apart)
 
+-- how many entries the whole has of the tenant
+abbrev pub active_of : Whole → List ℕ → ℕ
+active_of w tenant = map.len (map.retain_keys w.entries (is_of tenant))
+
 -- what the whole has of the tenant and at the grain
 abbrev pub sight_of : Whole → List ℕ → Grain → Sight
-sight_of w tenant g = record { tenant = tenant; account = map.get w.accounts tenant; clock = w.clock; entry = map.get w.entries g; row = map.get w.rows g }
+sight_of w tenant g = record { tenant = tenant; account = map.get w.accounts tenant; clock = w.clock; active = active_of w tenant; entry = map.get w.entries g; row = map.get w.rows g }
 
-pub own_sight : (w : Whole) (tenant : List ℕ) (g : Grain) → g.tenant ≡ tenant → sight_at (shown_to tenant w) g ≡ sight_of w tenant g
+pub own_sight : (w : Whole) (tenant : List ℕ) (g : Grain) → g.tenant ≡ tenant → sight_at (shown_to tenant w) (Some g) ≡ sight_of w tenant g
 unfolding sight_at shown_to
-own_sight w tenant g own = λ i. record { tenant = tenant; account = map.get w.accounts tenant; clock = w.clock; entry = get-own w.entries tenant g own i; row = get-own w.rows tenant g own i }
+own_sight w tenant g own = λ i. record { tenant = tenant; account = map.get w.accounts tenant; clock = w.clock; active = active_of w tenant; entry = get-own w.entries tenant g own i; row = get-own w.rows tenant g own i }
+
+pub shown_account : (w : Whole) (tenant : List ℕ) → (shown_to tenant w).account ≡ map.get w.accounts tenant
+unfolding shown_to
+shown_account w tenant = refl
 
 -- a step by what it does where its owner looks
-pub step_by_sight : (logic : Logic) (w : Whole) (s : Step) (owner : List ℕ) (e : Option Effect)
-    → owner_of s ≡ Some owner → effect_of logic (sight_at (shown_to owner w) (grain_of s)) s ≡ e → whole_step logic w s ≡ option_map (spread w owner (grain_of s)) e
+pub step_by_sight : (logic : Logic) (w : Whole) (s : Step) (owner : List ℕ) (grain : Option Grain) (e : Option Effect)
+    → owner_of s ≡ Some owner → grain_of (map.get w.accounts owner) s ≡ grain → effect_of logic (sight_at (shown_to owner w) grain) s ≡ e → whole_step logic w s ≡ option_map (spread w owner grain) e
 unfolding whole_step
-step_by_sight logic w s owner e is does = ap (whole_step_by logic w s) is ∙ ap (λ x. option_map (spread w owner (grain_of s)) x) does
+step_by_sight logic w s owner grain e is place does =
+    ap (whole_step_by logic w s) is ∙ ap (whole_owned_step logic w s owner) place ∙ ap (λ x. option_map (spread w owner grain) x) does
 
 -- a step at a grain of its owner, by what it does to what the whole has there
-pub step_at_own : (logic : Logic) (w : Whole) (s : Step) (owner : List ℕ) (e : Option Effect)
-    → owner_of s ≡ Some owner → (grain_of s).tenant ≡ owner → effect_of logic (sight_of w owner (grain_of s)) s ≡ e → whole_step logic w s ≡ option_map (spread w owner (grain_of s)) e
-step_at_own logic w s owner e is own does = step_by_sight logic w s owner e is (ap (λ x. effect_of logic x s) (own_sight w owner (grain_of s) own) ∙ does)
+pub step_at_own : (logic : Logic) (w : Whole) (s : Step) (owner : List ℕ) (g : Grain) (e : Option Effect)
+    → owner_of s ≡ Some owner → grain_of (map.get w.accounts owner) s ≡ Some g → g.tenant ≡ owner → effect_of logic (sight_of w owner g) s ≡ e → whole_step logic w s ≡ option_map (spread w owner (Some g)) e
+step_at_own logic w s owner g e is place own does = step_by_sight logic w s owner (Some g) e is place (ap (λ x. effect_of logic x s) (own_sight w owner g own) ∙ does)

@@ -1,15 +1,15 @@
 -- How a request is accepted or refused.
-use Rattle.std.specs.Prelude.{ℕ, ◌+◌, List, [], ◌∷◌, ◌++◌, Option, Some, None, Result, Ok, Err, ◌==◌, if◌then◌else◌}
+use Rattle.std.specs.Prelude.{ℕ, ◌+◌, List, [], ◌∷◌, ◌++◌, length, Option, Some, None, Result, Ok, Err, nat_lt, ◌==◌, if◌then◌else◌}
 use Rattle.std.specs.FinMap as map
 use Rattle.grain_id.specs.Names.{Grain, same_text}
 use Rattle.request_codec.specs.Tree.{Tree}
 use Rattle.request_codec.specs.Call.{Call}
 use Rattle.silo_event.specs.declared.fault.Fault.{Fault}
-use Rattle.silo_event.specs.declared.fault.Fault.TheVariants.{UnknownTenant, UnknownKind, AcrossTenants, NoNumber}
+use Rattle.silo_event.specs.declared.fault.Fault.TheVariants.{UnknownTenant, UnknownKind, AcrossTenants, NoActivation, MailboxFull, NoNumber}
 use Rattle.silo_event.specs.declared.reply.Reply.{Reply}
 use Rattle.silo_event.specs.declared.reply.Party.{Party}
 use Rattle.silo_event.specs.declared.reply.Party.TheVariants as party
-use Rattle.silo_model.specs.Logic.{Logic}
+use Rattle.grain_kinds.specs.Logic.{Logic}
 use Rattle.silo_model.specs.Machine.{Account, Entry, Request, waiting}
 use Rattle.silo_model.specs.Effect.{Sight, Effect, keep, put, only_replies}
 
@@ -22,20 +22,32 @@ abbrev pub answered : Party → Result Tree Fault → List Reply
 answered (party.Client client id) outcome = told (party.Client client id) outcome
 answered (party.Grain grain) outcome = []
 
--- the last number that a request may have: 2^63 - 1
-abbrev pub last_number : ℕ
-last_number = 9223372036854775807
+-- ---- the gate: for calls and for pokes
 
--- the grain's kind is known, and there is a number left
-abbrev pub kind_gate : Logic → Sight → Account → Grain → Result Account Fault
-kind_gate logic s account grain =
-    if logic.knows grain.kind then (if account.count == last_number then Err (NoNumber s.tenant) else Ok account)
-    else Err (UnknownKind grain.kind)
+-- the grain's kind is known
+abbrev pub kind_gate : Logic → Account → Grain → Result Account Fault
+kind_gate logic account grain = if logic.knows grain.kind then Ok account else Err (UnknownKind grain.kind)
 
 -- the tenant is known, and the grain is the tenant's own
 abbrev pub gate : Logic → Sight → Option Account → Grain → Result Account Fault
 gate logic s None grain = Err (UnknownTenant s.tenant)
-gate logic s (Some account) grain = if same_text grain.tenant s.tenant then kind_gate logic s account grain else Err (AcrossTenants s.tenant grain.tenant)
+gate logic s (Some account) grain = if same_text grain.tenant s.tenant then kind_gate logic account grain else Err (AcrossTenants s.tenant grain.tenant)
+
+-- ---- behind the gate
+
+-- the last number that a request may have: 2^63 - 1
+abbrev pub last_number : ℕ
+last_number = 9223372036854775807
+
+-- there is room in the grain's mailbox, or for one more entry of the tenant
+abbrev pub room : Sight → Account → Grain → Option Entry → Result Account Fault
+room s account grain None = if nat_lt s.active account.limits.activations then Ok account else Err (NoActivation s.tenant)
+room s account grain (Some e) = if nat_lt (length e.queue) account.limits.mailbox then Ok account else Err (MailboxFull grain)
+
+-- there is a number left, and room
+abbrev pub admitted : Sight → Grain → Result Account Fault → Result Account Fault
+admitted s grain (Ok account) = if account.count == last_number then Err (NoNumber s.tenant) else room s account grain s.entry
+admitted s grain (Err why) = Err why
 
 -- the entry with one more waiting request; a new entry waits to be activated
 abbrev pub with_request : ℕ → Request → Option Entry → Entry
@@ -57,4 +69,4 @@ call_settled s sender call (Ok account) = accepted s sender call account
 call_settled s sender call (Err why) = only_replies (told sender (Err why))
 
 unfoldable pub called : Logic → Sight → Party → Grain → Call → Effect
-called logic s sender grain call = call_settled s sender call (gate logic s s.account grain)
+called logic s sender grain call = call_settled s sender call (admitted s grain (gate logic s s.account grain))

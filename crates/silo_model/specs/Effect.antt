@@ -1,4 +1,4 @@
--- What a step looks at, and what it does: both in its owner's part alone, and at one grain.
+-- What a step of a tenant looks at, and what it does: both in its owner's part alone, and at one grain or at none.
 use Rattle.std.specs.Prelude.{ℕ, List, [], ◌++◌, Option, Some, None}
 use Rattle.std.specs.FinMap as map
 use Rattle.std.specs.FinMap.{FinMap}
@@ -8,11 +8,12 @@ use Rattle.grain_storage.specs.declared.row.Row.{Row}
 use Rattle.silo_event.specs.declared.reply.Reply.{Reply}
 use Rattle.silo_model.specs.Machine.{Machine, Account, Entry}
 
--- what a step sees: the owner's account, the clock, and the entry and the row of the step's grain
+-- what a step sees: the owner's account, the clock, how many entries the owner has, and the entry and the row of the step's grain
 pub record Sight : Type 0 where
   pub tenant : List ℕ
   pub account : Option Account
   pub clock : ℕ
+  pub active : ℕ
   pub entry : Option Entry
   pub row : Option Row
 
@@ -47,15 +48,24 @@ change_at m k keep = m
 change_at m k (put x) = map.insert m k x
 change_at m k drop = map.remove m k
 
+-- what a map has at a key, and a change there, if there is a key
+abbrev pub found_at : {K X : Type 0} {R : K → K → Ordering} → FinMap R X → Option K → Option X
+found_at m None = None
+found_at m (Some k) = map.get m k
+
+abbrev pub changed_at : {K X : Type 0} {R : K → K → Ordering} → FinMap R X → Option K → Change X → FinMap R X
+changed_at m None c = m
+changed_at m (Some k) c = change_at m k c
+
 -- what the machine lets a step at the grain see
-unfoldable pub sight_at : Machine → Grain → Sight
-sight_at m grain = record { tenant = m.tenant; account = m.account; clock = m.clock; entry = map.get m.entries grain; row = map.get m.rows grain }
+unfoldable pub sight_at : Machine → Option Grain → Sight
+sight_at m grain = record { tenant = m.tenant; account = m.account; clock = m.clock; active = map.len m.entries; entry = found_at m.entries grain; row = found_at m.rows grain }
 
 -- the machine after the effect at the grain
-unfoldable pub applied : Machine → Grain → Effect → Machine
+unfoldable pub applied : Machine → Option Grain → Effect → Machine
 applied m grain e = record m {
   account = change_option m.account e.account;
-  entries = change_at m.entries grain e.entry;
-  rows = change_at m.rows grain e.row;
+  entries = changed_at m.entries grain e.entry;
+  rows = changed_at m.rows grain e.row;
   replies = m.replies ++ e.replies;
 }

@@ -1,12 +1,22 @@
 -- How an entry is activated and loaded, and how its turns are opened and closed.
-use Rattle.std.specs.Prelude.{ℕ, List, [], ◌∷◌, ◌++◌, map, Option, Some, None, if◌then◌else◌, ◌==◌}
+use Rattle.std.specs.Prelude.{ℕ, Bool, List, [], ◌∷◌, ◌++◌, map, flat_map, Option, Some, None, option_map, Result, Ok, Err, if◌then◌else◌, ◌==◌}
+use Rattle.std.specs.List.{list_all}
 use Rattle.std.specs.FinMap as finite
 use Rattle.grain_id.specs.Names.{Grain}
-use Rattle.grain_storage.specs.Rows.{version_of, content_or}
-use Rattle.silo_model.specs.Logic.{Logic, Plan, Outgoing, StorageCall, asks_nothing, reads_row, writes_row, clears_row}
-use Rattle.silo_model.specs.Machine.{Account, Entry, Request, Phase, waiting, loading, ready}
-use Rattle.silo_model.specs.Effect.{Sight, Effect, Change, keep, put, on_entry}
+use Rattle.request_codec.specs.Tree.{Tree}
+use Rattle.grain_storage.specs.declared.row.Row.{Row}
+use Rattle.grain_storage.specs.Rows.{RowFault, stale, spent, version_of, content_or}
+use Rattle.silo_event.specs.declared.fault.Fault.{Fault}
+use Rattle.silo_event.specs.declared.fault.Fault.TheVariants.{StorageFailed, StateChanged, VersionsSpent, NoMemory}
+use Rattle.grain_kinds.specs.declared.fault.MethodFault.{MethodFault}
+use Rattle.grain_kinds.specs.Logic.{Logic, Plan, Outgoing, StorageCall, asks_nothing, reads_row, writes_row, clears_row}
+use Rattle.silo_model.specs.Methods.{method_fault}
+use Rattle.silo_model.specs.Machine.{Account, Entry, Request, Send, Phase, waiting, loading, ready}
+use Rattle.silo_model.specs.Effect.{Sight, Effect, Change, keep, put, drop, on_entry}
 use Rattle.silo_model.specs.Calls.{answered}
+use Rattle.silo_model.specs.Stores.{row_written, row_cleared, version_value}
+
+-- ---- activating and loading
 
 -- an entry that waits begins to load
 abbrev pub activated : Entry → Phase → Option Effect
@@ -14,49 +24,127 @@ activated e waiting = Some (on_entry (record e { phase = loading }))
 activated e loading = None
 activated e (ready state version) = None
 
+-- each request that waits, in order, is told that the storage failed, and the entry goes
+abbrev pub unloaded : Entry → Effect
+unloaded e = record { account = keep; entry = drop; row = keep; replies = flat_map (λ q. answered q.sender (Err StorageFailed)) e.queue }
+
 -- an entry that loads gets the row's content, or the kind's empty state, and stands on the row's version
-abbrev pub loaded : Logic → Sight → Grain → Entry → Phase → Option Effect
-loaded logic s grain e waiting = None
-loaded logic s grain e loading = Some (on_entry (record e { phase = ready (content_or (logic.empty grain.kind) s.row) (version_of s.row) }))
-loaded logic s grain e (ready state version) = None
+abbrev pub loaded : Logic → Sight → Grain → Bool → Entry → Phase → Option Effect
+loaded logic s grain failed e waiting = None
+loaded logic s grain failed e loading = Some (if failed then unloaded e else on_entry (record e { phase = ready (content_or (logic.empty grain.kind) s.row) (version_of s.row) }))
+loaded logic s grain failed e (ready state version) = None
 
--- The first waiting request becomes an open turn, where no turn is open.
-abbrev pub opened : Entry → List Request → Option Effect
-opened e [] = None
-opened e (first ∷ others) =
-    if finite.len e.turns == 0 then Some (on_entry (record e { queue = others; turns = finite.insert e.turns first.number first })) else None
+-- ---- opening a turn
 
-abbrev pub begun : Entry → Phase → Option Effect
-begun e waiting = None
-begun e loading = None
-begun e (ready state version) = opened e e.queue
+-- the request asks for a method that only reads
+abbrev pub reads : Logic → Grain → Request → Bool
+reads logic grain request = logic.is_read grain.kind request.call.method
+
+-- One that only reads may begin if each open turn only reads, another if no turn is open.
+abbrev pub may_open : Logic → Grain → Entry → Request → Bool
+may_open logic grain e request = if reads logic grain request then list_all (reads logic grain) (finite.values e.turns) else finite.len e.turns == 0
+
+-- the first waiting request becomes an open turn, if it may
+abbrev pub opened : Logic → Grain → Entry → List Request → Option Effect
+opened logic grain e [] = None
+opened logic grain e (first ∷ others) =
+    if may_open logic grain e first then Some (on_entry (record e { queue = others; turns = finite.insert e.turns first.number first })) else None
+
+abbrev pub begun : Logic → Grain → Entry → Phase → Option Effect
+begun logic grain e waiting = None
+begun logic grain e loading = None
+begun logic grain e (ready state version) = opened logic grain e e.queue
+
+-- ---- closing a turn
+
+-- what the turn's own message comes to, on the entry's state
+abbrev pub plan_of : Logic → Grain → Tree → Request → Plan
+plan_of logic grain state request = logic.plan grain.kind request.call.method state request.call.argument
+
+-- the entry without the turn
+abbrev pub without_turn : Entry → Request → Entry
+without_turn e request = record e { turns = finite.remove e.turns request.number }
+
+-- The turn is closed, and its request answered. The entry stays ready with this state, and stands on this version.
+abbrev pub closed : Sight → Entry → Request → Tree → Option ℕ → Change Row → Result Tree Fault → Effect
+closed s e request state version row outcome = record {
+  account = keep;
+  entry = put (record (without_turn e request) { phase = ready state version; last = s.clock });
+  row = row;
+  replies = answered request.sender outcome;
+}
+
+-- ---- a turn that asks nothing of the storage ends by its plan
+
+-- the grain sent these
+abbrev pub sent_by : Grain → List Outgoing → List Send
+sent_by grain outgoing = map (λ m. record { source = grain; message = m }) outgoing
 
 -- what a turn sends goes last among what its tenant's grains sent
 abbrev pub with_sends : Grain → Option Account → List Outgoing → Change Account
 with_sends grain account [] = keep
 with_sends grain None (o ∷ os) = keep
-with_sends grain (Some a) (o ∷ os) = put (record a { sends = a.sends ++ map (λ m. record { source = grain; message = m }) (o ∷ os) })
+with_sends grain (Some a) (o ∷ os) = put (record a { sends = a.sends ++ sent_by grain (o ∷ os) })
 
--- the turn is closed: its plan's state stands, its sends go out, and its outcome is the reply
-abbrev pub closed : Sight → Grain → Entry → Request → Option ℕ → Plan → Effect
-closed s grain e request version plan = record {
-  account = with_sends grain s.account plan.sends;
-  entry = put (record e { phase = ready plan.state version; turns = finite.remove e.turns request.number; last = s.clock });
-  row = keep;
-  replies = answered request.sender plan.outcome;
-}
+abbrev pub outcome_of : Result Tree MethodFault → Result Tree Fault
+outcome_of (Ok v) = Ok v
+outcome_of (Err why) = Err (method_fault why)
 
--- a turn that asks nothing of the storage ends by its plan
-abbrev pub closed_by : Sight → Grain → Entry → Request → Option ℕ → Plan → StorageCall → Option Effect
-closed_by s grain e request version plan asks_nothing = Some (closed s grain e request version plan)
-closed_by s grain e request version plan reads_row = None
-closed_by s grain e request version plan writes_row = None
-closed_by s grain e request version plan clears_row = None
+-- the plan's state stands, its sends go out, and its outcome is the reply
+abbrev pub ended_by : Sight → Grain → Entry → Request → Option ℕ → Plan → StorageCall → Option Effect
+ended_by s grain e request version plan asks_nothing =
+    Some (record (closed s e request plan.state version keep (outcome_of plan.outcome)) { account = with_sends grain s.account plan.sends })
+ended_by s grain e request version plan reads_row = None
+ended_by s grain e request version plan writes_row = None
+ended_by s grain e request version plan clears_row = None
 
--- the plan of the turn's own state and call
 abbrev pub ended : Logic → Sight → Grain → Entry → Request → Phase → Option Effect
 ended logic s grain e request waiting = None
 ended logic s grain e request loading = None
 ended logic s grain e request (ready state version) =
-    let plan = logic.plan grain.kind request.call.method state request.call.argument in
-    closed_by s grain e request version plan plan.storage
+    let plan = plan_of logic grain state request in
+    ended_by s grain e request version plan plan.storage
+
+-- ---- a turn that asks for the storage is closed by what the storage answers
+
+-- the activation ends: its waiting requests wait for a new one, and it goes if none waits
+abbrev pub ends_activation : Entry → Request → List Request → Change Entry
+ends_activation e request [] = drop
+ends_activation e request (first ∷ others) = put (record (without_turn e request) { phase = waiting })
+
+-- what a change of the row answered: if it was done, the entry has the new state and stands on the row's version
+abbrev pub row_changed : Sight → Grain → Entry → Request → Tree → Option ℕ → Tree → Result (Option ℕ × Change Row) RowFault → Effect
+row_changed s grain e request state version new (Ok done) = closed s e request new done.0 done.1 (Ok (version_value done.0))
+row_changed s grain e request state version new (Err (stale found)) = record {
+  account = keep;
+  entry = ends_activation e request e.queue;
+  row = keep;
+  replies = answered request.sender (Err (StateChanged grain));
+}
+row_changed s grain e request state version new (Err spent) = closed s e request state version keep (Err (VersionsSpent grain))
+
+-- what the storage is asked for, at the row that the step sees
+abbrev pub stored_by : Logic → Sight → Grain → Entry → Request → Tree → Option ℕ → StorageCall → Option Effect
+stored_by logic s grain e request state version asks_nothing = None
+stored_by logic s grain e request state version reads_row =
+    Some (closed s e request (content_or (logic.empty grain.kind) s.row) (version_of s.row) keep (Ok (version_value (version_of s.row))))
+stored_by logic s grain e request state version writes_row = Some (row_changed s grain e request state version state (row_written version s.row state))
+stored_by logic s grain e request state version clears_row = Some (row_changed s grain e request state version (logic.empty grain.kind) (row_cleared version s.row))
+
+-- if the storage failed, the entry stays as it is but for the turn
+abbrev pub stored : Logic → Sight → Grain → Bool → Entry → Request → Phase → Option Effect
+stored logic s grain failed e request waiting = None
+stored logic s grain failed e request loading = None
+stored logic s grain failed e request (ready state version) =
+    option_map (λ answer. if failed then closed s e request state version keep (Err StorageFailed) else answer)
+    (stored_by logic s grain e request state version (plan_of logic grain state request).storage)
+
+-- ---- a turn that ran out of memory
+
+abbrev pub abandoned : Sight → Entry → Request → Effect
+abandoned s e request = record {
+  account = keep;
+  entry = put (record (without_turn e request) { last = s.clock });
+  row = keep;
+  replies = answered request.sender (Err NoMemory);
+}

@@ -1,16 +1,18 @@
 -- All tenants' parts together, as one silo holds them.
-use Rattle.std.specs.Prelude.{ℕ, Bool, List, ◌++◌, Option, Some, None, option_map, filter}
+use Rattle.std.specs.Prelude.{ℕ, Bool, List, ◌++◌, Option, Some, None, option_map, filter, nat_le, if◌then◌else◌}
 use Rattle.std.specs.FinMap as map
 use Rattle.std.specs.FinMap.{FinMap}
 use Rattle.grain_id.specs.Names.{Grain, text_cmp, same_text}
 use Rattle.grain_storage.specs.Rows.{Rows}
-use Rattle.silo_event.specs.Owner.{owner_of, grain_of, tenant_of}
+use Rattle.silo_event.specs.Owner.{owner_of, tenant_of}
 use Rattle.silo_event.specs.declared.reply.Reply.{Reply}
 use Rattle.silo_event.specs.declared.step.Step.{Step}
-use Rattle.silo_model.specs.Logic.{Logic}
+use Rattle.silo_event.specs.declared.step.Step.TheVariants.{Tick, Sweep}
+use Rattle.grain_kinds.specs.Logic.{Logic}
 use Rattle.silo_model.specs.Machine.{Machine, Account, Entries}
-use Rattle.silo_model.specs.Effect.{Effect, change_at, sight_at}
-use Rattle.silo_model.specs.Step.{effect_of}
+use Rattle.silo_model.specs.Effect.{Effect, change_at, changed_at, sight_at}
+use Rattle.silo_model.specs.Idle.{kept_entries}
+use Rattle.silo_model.specs.Step.{grain_of, effect_of}
 
 pub record Whole : Type 0 where
   -- of each tenant that is known
@@ -40,18 +42,34 @@ shown_to tenant w = record {
 }
 
 -- what a step did in its owner's part, done to the whole
-unfoldable pub spread : Whole → List ℕ → Grain → Effect → Whole
+unfoldable pub spread : Whole → List ℕ → Option Grain → Effect → Whole
 spread w tenant grain e = record w {
   accounts = change_at w.accounts tenant e.account;
-  entries = change_at w.entries grain e.entry;
-  rows = change_at w.rows grain e.row;
+  entries = changed_at w.entries grain e.entry;
+  rows = changed_at w.rows grain e.row;
   replies = w.replies ++ e.replies;
 }
 
-abbrev pub whole_step_by : Logic → Whole → Step → Option (List ℕ) → Option Whole
-whole_step_by logic w s None = None
-whole_step_by logic w s (Some owner) = option_map (spread w owner (grain_of s)) (effect_of logic (sight_at (shown_to owner w) (grain_of s)) s)
+-- the step's owner looks at its own part alone, and what it does there is done to the whole
+abbrev pub whole_owned_step : Logic → Whole → Step → List ℕ → Option Grain → Option Whole
+whole_owned_step logic w s owner grain = option_map (spread w owner grain) (effect_of logic (sight_at (shown_to owner w) grain) s)
 
--- one step of the silo: the step's owner looks at its own part alone, and what it does there is done to the whole
+-- a step of nobody is taken in every part
+abbrev pub whole_ticked : Whole → ℕ → Option Whole
+whole_ticked w now = if nat_le w.clock now then Some (record w { clock = now }) else None
+
+abbrev pub whole_swept : Whole → Whole
+whole_swept w = record w { entries = kept_entries w.clock w.age w.entries }
+
+abbrev pub whole_shared_step : Whole → Step → Option Whole
+whole_shared_step w (Tick now) = whole_ticked w now
+whole_shared_step w Sweep = Some (whole_swept w)
+whole_shared_step w _ = None
+
+abbrev pub whole_step_by : Logic → Whole → Step → Option (List ℕ) → Option Whole
+whole_step_by logic w s None = whole_shared_step w s
+whole_step_by logic w s (Some owner) = whole_owned_step logic w s owner (grain_of (map.get w.accounts owner) s)
+
+-- one step of the silo
 unfoldable pub whole_step : Logic → Whole → Step → Option Whole
 whole_step logic w s = whole_step_by logic w s (owner_of s)

@@ -1,8 +1,18 @@
 //! Laws over the definitions alone. No code runs: a law is the contract of a function that does
 //! nothing, so that it is proved with the crate.
 
+ghost use Rattle.silo_model.specs.Collected.{IdleGoes};
+ghost use Rattle.silo_model.specs.Exclusive.{JournalsAreExclusive, RunsAreExclusive};
 ghost use Rattle.silo_model.specs.FirstCall.{FirstCallAnswered};
-ghost use Rattle.silo_model.specs.Laws.{ReplayIsRun, AgreeingLists, OwnPart, OtherParts, NotNow, RunsOn, JournalsReplay, JournalsGrow, OneTurnAtATime};
+ghost use Rattle.silo_model.specs.Gates.{GateIsTables};
+ghost use Rattle.silo_model.specs.Laws.{FailingIsPossible, ReplayIsRun, AgreeingLists, OwnPart, OtherParts, NotNow, RunsOn, JournalsReplay, JournalsGrow, PartsLead};
+ghost use Rattle.silo_model.specs.Parts.{AnsweredInParts, RunsAnswer};
+ghost use Rattle.silo_model.specs.Readers.{ReadersTogether};
+ghost use Rattle.silo_model.specs.Replies.{RepliesInOrder};
+ghost use Rattle.silo_model.specs.Saved.{SavedComesBack};
+ghost use Rattle.silo_model.specs.Sent.{SentArrives};
+ghost use Rattle.silo_model.specs.Settled.{JournalsSettle, RunsSettle};
+ghost use Rattle.silo_model.specs.Stores.{StoresAtOneRow};
 
 /// What a run of the whole shows to each tenant is the run of the tenant's own machine, with the
 /// other tenants' steps struck out.
@@ -16,17 +26,19 @@ pub fn agreeing_lists()
     ensures { AgreeingLists }
 {}
 
-/// A step that is done is the machine's on its owner's part.
+/// A step that is done and concerns a tenant, as its own or as nobody's, is the machine's on the
+/// tenant's part.
 pub fn own_part()
     ensures { OwnPart }
 {}
 
-/// A step that is done leaves every other tenant's part as it was.
+/// A step that is done leaves the part of a tenant that it doesn't concern.
 pub fn other_parts()
     ensures { OtherParts }
 {}
 
-/// A step that isn't possible for the whole isn't possible for its owner's machine.
+/// A step that isn't possible for the whole isn't possible for the machine of a tenant that it
+/// concerns.
 pub fn not_now()
     ensures { NotNow }
 {}
@@ -34,6 +46,24 @@ pub fn not_now()
 /// From where a journal leads, a run shows to each tenant the run of the tenant's own machine.
 pub fn runs_on()
     ensures { RunsOn }
+{}
+
+/// Whatever the answers that the whole gives to a list, those at a tenant's steps are its own
+/// machine's over these steps alone, which lead that machine to the tenant's part.
+pub fn answered_in_parts()
+    ensures { AnsweredInParts }
+{}
+
+/// If no storage call fails, the answers are told by the steps: by the whole and by each tenant's
+/// machine alike.
+pub fn runs_answer()
+    ensures { RunsAnswer }
+{}
+
+/// The replies after a list are those before it, and then, step by step, what each step's owner's
+/// machine adds.
+pub fn replies_in_order()
+    ensures { RepliesInOrder }
 {}
 
 /// A journal leads where the run of its steps leads.
@@ -46,13 +76,72 @@ pub fn journals_grow()
     ensures { JournalsGrow }
 {}
 
-/// Where a turn of a grain is open, no other turn of it is.
-pub fn one_turn_at_a_time()
-    ensures { OneTurnAtATime }
+/// The steps of a journal that concern a tenant are all done in the tenant's own machine, and lead
+/// to the tenant's part.
+pub fn parts_lead()
+    ensures { PartsLead }
+{}
+
+/// Whatever the steps and whoever's, a turn that may write is the only open turn of its grain.
+pub fn runs_are_exclusive()
+    ensures { RunsAreExclusive }
+{}
+
+/// So it is at every prefix of a journal.
+pub fn journals_are_exclusive()
+    ensures { JournalsAreExclusive }
+{}
+
+/// What a client asked is answered once, or waits, or is open; and no number stands twice.
+pub fn runs_settle()
+    ensures { RunsSettle }
+{}
+
+/// So it is in each part of a whole that a journal leads to.
+pub fn journals_settle()
+    ensures { JournalsSettle }
 {}
 
 /// A counter's first call is answered by the number that was added: so the other laws are said of
 /// a silo that does something.
 pub fn first_call_answered()
     ensures { FirstCallAnswered }
+{}
+
+/// A step is possible exactly if it is possible as one whose storage call failed.
+pub fn failing_is_possible()
+    ensures { FailingIsPossible }
+{}
+
+/// The gate of calls and pokes refuses what the table of tenants refuses, for the same reason.
+pub fn gate_is_tables()
+    ensures { GateIsTables }
+{}
+
+/// What the storage's calls answer of all rows is what a step does to the one row that it sees.
+pub fn stores_at_one_row()
+    ensures { StoresAtOneRow }
+{}
+
+/// A state that was saved comes back if the grain is loaded again: so the laws are said of a
+/// silo that stores something.
+pub fn saved_comes_back()
+    ensures { SavedComesBack }
+{}
+
+/// What a turn sends arrives: so the laws are said of a silo that delivers something.
+pub fn sent_arrives()
+    ensures { SentArrives }
+{}
+
+/// Two requests that only read may be open together, each on the state of its begin: so the turn
+/// rule is said of a silo that lets more than one turn be open.
+pub fn readers_together()
+    ensures { ReadersTogether }
+{}
+
+/// A sweep takes the entries that were idle for as long as the age, leaves every other, and leaves
+/// every row: so the laws are said of a silo that lets go of what isn't used.
+pub fn idle_goes()
+    ensures { IdleGoes }
 {}

@@ -3,8 +3,9 @@
 ghost use Rattle.std.specs.Prelude.{◌≡◌, ◌<◌, ◌↔◌, ℕ, List, IsTrue, ◌++◌, length, take, vec_len};
 ghost use Rattle.silo_model.specs.Run.{whole_run};
 ghost use Rattle.silo_model.specs.Whole.{shown_to};
-ghost use Rattle.silo_model.specs.Counter.{counters};
-ghost use Rattle.silo_core.specs.Runs.{machine_answers, whole_answers, done_steps, AllConcern, RunsInParts, Takes};
+ghost use Rattle.grain_kinds.specs.Counters.{counters};
+ghost use Rattle.silo_core.specs.Built.{built};
+ghost use Rattle.silo_core.specs.Runs.{machine_answers, whole_answers, done_steps, AllConcern, RunsInParts, AnswersInParts, Takes};
 
 use crate::silo::Silo;
 use silo_event::{Answer, Step};
@@ -24,15 +25,16 @@ impl Silo {
     /// comes first: where that is refused, no step is taken.
     pub fn run(&mut self, alloc: Global, steps: Vec<Step>) -> RunReport
         ensures stopped { IsTrue result.stopped ↔ (vec_len result.answers < vec_len steps) }
-        ensures answers { result.answers.items ≡ whole_answers self.old.whole (take (vec_len result.answers) steps.items) }
-        ensures whole { self.new.whole ≡ whole_run counters self.old.whole (take (vec_len result.answers) steps.items) }
-        ensures journal { self.new.journal ≡ self.old.journal ++ done_steps self.old.whole (take (vec_len result.answers) steps.items) }
+        ensures answers { result.answers.items ≡ whole_answers counters self.old.whole (take (vec_len result.answers) steps.items) }
+        ensures whole { self.new.whole ≡ whole_run counters self.old.whole (built (take (vec_len result.answers) steps.items)) }
+        ensures journal { self.new.journal ≡ self.old.journal ++ done_steps counters self.old.whole (take (vec_len result.answers) steps.items) }
         ensures setup { self.new.setup ≡ self.old.setup }
 
         // For every tenant, the run of a silo of its own.
-        ensures parts { RunsInParts self.old.whole (take (vec_len result.answers) steps.items) self.new.whole }
+        ensures parts { RunsInParts counters self.old.whole (take (vec_len result.answers) steps.items) self.new.whole }
+        ensures own_answers { AnswersInParts counters self.old.whole (take (vec_len result.answers) steps.items) result.answers.items }
         ensures alone { (tenant : List ℕ) → AllConcern tenant steps.items
-            → result.answers.items ≡ machine_answers (shown_to tenant self.old.whole) (take (vec_len result.answers) steps.items) }
+            → result.answers.items ≡ machine_answers counters (shown_to tenant self.old.whole) (take (vec_len result.answers) steps.items) }
     {
         let _ = &self.journal;
         self.take_each(alloc, steps)
@@ -40,7 +42,7 @@ impl Silo {
 
     fn take_each(&mut self, alloc: Global, steps: Vec<Step>) -> RunReport
         ensures stopped { IsTrue result.stopped ↔ (vec_len result.answers < vec_len steps) }
-        ensures taken { Takes self.old (take (vec_len result.answers) steps.items) result.answers.items self.new }
+        ensures taken { Takes counters self.old (take (vec_len result.answers) steps.items) result.answers.items self.new }
     {
         let mut answers = Vec::new(alloc);
         if answers.reserve(steps.len()).is_err() {

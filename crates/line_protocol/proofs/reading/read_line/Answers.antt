@@ -1,18 +1,17 @@
-use Rattle.std.proofs.Common.{sym, ap, ◌∙◌}
+use Rattle.std.proofs.Common.{◌≡◌, None, cond, sym, ap, ◌∙◌}
+use Rattle.std.specs.Prelude.{option_and_then, IsUtf8}
+use Rattle.std.proofs.lemmas.Str.{is_utf8-from_IsUtf8}
+use Rattle.serde_json.specs.Read.{read}
+use Rattle.line_protocol.specs.Form.{step_of_json}
 use Rattle.line_protocol.specs.Said.{said_by}
-use Rattle.line_protocol.proofs.Said.{said_of_asked, said_of_long, said_of_empty}
+use Rattle.line_protocol.proofs.Said.{said_of_asked}
 use Rattle.line_protocol.proofs.reading.read_line.Goals as goal
 
-pub returns-then-is_empty : goal.returns-then-is_empty
-returns-then-is_empty c = sym (said_of_empty c.args.line.now c.is_empty.ensures c.if-is_empty.true)
-
-pub returns-then-line-gt-LINE_LIMIT : goal.returns-then-line-gt-LINE_LIMIT
-returns-then-line-gt-LINE_LIMIT c = sym (said_of_long c.args.line.now c.if-line-gt-LINE_LIMIT.true)
-
-pub returns-in-Some : goal.returns-in-Some
-returns-in-Some c =
-    ap said_by (sym c.in-Some.is ∙ c.in_ok-step.ensures) ∙ sym (said_of_asked c.args.line.now c.is_empty.ensures c.if-is_empty.false c.if-line-gt-LINE_LIMIT.false)
-
-pub returns-in-None : goal.returns-in-None
-returns-in-None c =
-    ap said_by (sym c.in-None.is ∙ c.in_ok-step.ensures) ∙ sym (said_of_asked c.args.line.now c.is_empty.ensures c.if-is_empty.false c.if-line-gt-LINE_LIMIT.false)
+pub returns-in-Ok-read_text_step : goal.returns-in-Ok-read_text_step
+returns-in-Ok-read_text_step c =
+    let line = c.args.line.now in
+    let same : c.in-Ok.text.now ≡ line = c.in-Ok.ensures.cases.0 in
+    let valid : IsUtf8 line = c.in-Ok.ensures.cases.1 in
+    let json = ap (λ b. cond b (read line) None) (is_utf8-from_IsUtf8 line valid) in
+    let said = ap (option_and_then step_of_json) (json ∙ ap read (sym same)) ∙ c.in-Ok-read_text_step.ensures in
+    ap said_by (sym said) ∙ sym (said_of_asked line c.is_empty.ensures c.if-is_empty.false c.if-line-gt-LINE_LIMIT.false)

@@ -2,7 +2,7 @@ use Rattle.std.proofs.Common.{true, false, ap, sym, ◌∙◌}
 use Rattle.std.specs.Prelude.{codes, option_and_then}
 use Rattle.turn_arena.specs.Shape.{shape}
 use Rattle.turn_arena.proofs.Levels.{shape-Map}
-use Rattle.silo_model.specs.Counter.{whole_value, only_field}
+use Rattle.grain_kinds.specs.Shared.{whole_value, only_field}
 use Rattle.silo_core.proofs.Counters.{only_field-one, only_field-many}
 use Rattle.silo_core.proofs.counter.addend.Goals as goal
 

@@ -1,5 +1,5 @@
 use Rattle.std.proofs.Common.{rules}
-use Rattle.silo_model.specs.Counter.{counters}
+use Rattle.grain_kinds.specs.Counters.{counters}
 use Rattle.silo_core.proofs.counter.empty_state.Goals as goal
 
 pub returns : goal.returns

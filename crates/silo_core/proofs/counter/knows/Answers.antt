@@ -1,4 +1,4 @@
-use Rattle.silo_model.specs.Counter.{counters}
+use Rattle.grain_kinds.specs.Counters.{counters}
 use Rattle.silo_core.proofs.counter.knows.Goals as goal
 
 pub returns : goal.returns

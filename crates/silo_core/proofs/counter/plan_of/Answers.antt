@@ -2,7 +2,8 @@ use Rattle.std.proofs.Common.{ap, sym, ◌∙◌, rules, w64, SFits}
 use Rattle.std.proofs.lemmas.Result.{IfOk-weaker}
 use Rattle.std.proofs.lemmas.Int.{to_z-of_z}
 use Rattle.turn_arena.specs.Shape.{shape}
-use Rattle.silo_model.specs.Counter.{number_of, add_plan}
+use Rattle.grain_kinds.specs.Counter.{number_of, add_plan}
+use Rattle.grain_kinds.specs.Shared.{for_shape}
 use Rattle.silo_core.proofs.Counters.{plan-add, plan-get, plan-unknown, plan-call}
 use Rattle.silo_core.proofs.counter.plan_of.Goals as goal
 
@@ -14,7 +15,7 @@ returns-then-eq c =
     let fits : SFits w64 c.number_of-number.result = search rules in
     let number = sym (c.number_of-number.ensures ∙ ap number_of c.in_ok-state_in.ensures) ∙ sym (to_z-of_z w64 c.number_of-number.result fits) in
     let plan = plan-add method state argument (sym c.if-eq.ensures) in
-    IfOk-weaker c.add.result _ _ (λ p h. h state number ∙ ap (add_plan state) c.addend.ensures ∙ sym plan ∙ plan-call method state argument c.args.message.now c.in_ok-method.ensures) c.add.ensures
+    IfOk-weaker c.add.result _ _ (λ p h. h state number ∙ ap (λ by. for_shape state by (add_plan state)) c.addend.ensures ∙ sym plan ∙ plan-call method state argument c.args.message.now c.in_ok-method.ensures) c.add.ensures
 
 pub returns-then-eq-2 : goal.returns-then-eq-2
 returns-then-eq-2 c =

@@ -1,6 +1,6 @@
 use Rattle.std.proofs.Common.{◌≡◌, List, [], ap, sym, subst, ◌∙◌}
 use Rattle.silo_event.specs.declared.step.Step.{Step}
-use Rattle.silo_model.specs.Counter.{counters}
+use Rattle.grain_kinds.specs.Counters.{counters}
 use Rattle.silo_model.specs.Journal.{LeadsTo}
 use Rattle.silo_model.specs.Opening.{fresh_account, opening}
 use Rattle.silo_model.specs.Whole.{Whole, shown_to}

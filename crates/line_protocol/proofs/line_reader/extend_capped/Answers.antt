@@ -1,0 +1,10 @@
+use Rattle.std.proofs.Common.{◌≡◌, ◌++◌, take, min, ◌-◌, length, ap, ◌∙◌, arith}
+use Rattle.line_protocol.proofs.Pieces.{capped}
+use Rattle.line_protocol.proofs.line_reader.extend_capped.Goals as goal
+
+pub returns : goal.returns
+returns c =
+    let line = c.args.line.now in
+    let front = c.args.front.now in
+    let kept : c.min-kept.result ≡ min (length front) (65537 - length line.items) = omega (arith, line.ok.0) in
+    c.in_ok-extend_from_slice.ensures.items ∙ ap (λ n. line.items ++ take n front) kept ∙ capped line.items front 65537 (omega (arith, line.ok.0))

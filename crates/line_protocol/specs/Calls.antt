@@ -1,0 +1,30 @@
+-- What a call of a reader comes to, and why reading ends with a fault.
+use Rattle.std.specs.Prelude.{◌≡◌, ◌≤◌, ℕ, Bool, true, false, List, length, take, Option}
+use Rattle.std.specs.Io.KnownBytes.{Keeps, Consumes, IsAtEnd}
+use Rattle.line_protocol.specs.declared.calls.Call.{Call}
+use Rattle.line_protocol.specs.declared.calls.Call.TheVariants.{Gave, Interrupted, Failed}
+use Rattle.line_protocol.specs.declared.calls.ReaderCalls.{ReaderCalls}
+use Rattle.line_protocol.specs.declared.fault.LineFault.{LineFault}
+use Rattle.line_protocol.specs.declared.fault.LineFault.TheVariants as fault
+
+abbrev pub has_failed : Call → Bool
+has_failed (Gave n) = false
+has_failed Interrupted = false
+has_failed Failed = true
+
+-- The call consumed the bytes that it gave, none only at the end; or it consumed nothing.
+abbrev pub Called : Option (List ℕ) → Option (List ℕ) → List ℕ → Call → Type 0
+Called old new buffer (Gave n) = (n ≤ length buffer) × Consumes old new (take n buffer) × (n ≡ 0 → IsAtEnd new)
+Called old new buffer Interrupted = Keeps old new
+Called old new buffer Failed = Keeps old new
+
+-- calls of a reader, at most
+abbrev pub calls_limit : ℕ
+calls_limit = 1073741824
+
+-- Reading fails only if the last call of the reader failed, and gives up only if all calls were made.
+abbrev pub HasCause : LineFault → ReaderCalls → Type 0
+HasCause fault.Read calls = calls.failed ≡ true
+HasCause fault.TooMuch calls = calls.made ≡ 1073741824
+HasCause fault.Memory calls = Unit {0}
+HasCause fault.Write calls = Unit {0}

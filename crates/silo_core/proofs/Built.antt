@@ -1,0 +1,52 @@
+-- Steps by whether their kind is built.
+use Rattle.std.proofs.Common.{◌≡◌, Bool, true, false, cond, List, [], ◌∷◌, ◌++◌, Option, Some, None, unwrap_or, refl, ap}
+use Rattle.std.specs.Prelude.{if◌then◌else◌, option_map}
+use Rattle.std.proofs.lemmas.Option.{none-some}
+use Rattle.silo_event.specs.declared.step.Step.{Step}
+use Rattle.silo_event.specs.declared.step.Answer.{Answer}
+use Rattle.grain_kinds.specs.Logic.{Logic}
+use Rattle.silo_model.specs.Whole.{Whole, whole_step}
+use Rattle.silo_model.specs.Run.{whole_run}
+use Rattle.silo_core.specs.Built.{is_built, built, built_step}
+use Rattle.silo_core.specs.Runs.{answer_of, answers_by}
+
+-- what is done is of a kind that is built
+pub inside : {X : Type 0} (b : Bool) (o : Option X) (x : X) → (if b then o else None) ≡ Some x → (b ≡ true) × (o ≡ Some x)
+inside true o x e = (refl, e)
+inside false o x e = absurd (none-some x e)
+
+-- where one isn't possible another isn't, of one kind
+pub none_beside : {X Y : Type 0} (b : Bool) (o : Option X) (m : Option Y) → (if b then o else None) ≡ None → (o ≡ None → m ≡ None) → (if b then m else None) ≡ None
+none_beside true o m e h = h e
+none_beside false o m e h = refl
+
+pub mapped_beside : {X Y : Type 0} (f : X → Y) (b : Bool) (o : Option X) (m : Option Y) → m ≡ option_map f o → (if b then m else None) ≡ option_map f (if b then o else None)
+mapped_beside f true o m e = e
+mapped_beside f false o m e = refl
+
+pub step_is_built : (logic : Logic) (w : Whole) (s : Step) → is_built s ≡ true → built_step logic w s ≡ whole_step logic w s
+step_is_built logic w s is = ap (λ b. if b then whole_step logic w s else None) is
+
+-- ---- runs of what takes a step where it is possible
+
+abbrev pub after_by : {A : Type 0} → (A → Step → Option A) → A → List Step → A
+after_by step x [] = x
+after_by step x (s ∷ steps) = after_by step (unwrap_or (step x s) x) steps
+
+pub after_push : {A : Type 0} (step : A → Step → Option A) (x : A) (ss : List Step) (s : Step) → after_by step x (ss ++ s ∷ []) ≡ unwrap_or (step (after_by step x ss) s) (after_by step x ss)
+after_push step x [] s = refl
+after_push step x (r ∷ ss) s = after_push step (unwrap_or (step x r) x) ss s
+
+pub answers_push : {A : Type 0} (step : A → Step → Option A) (x : A) (ss : List Step) (s : Step) → answers_by step x (ss ++ s ∷ []) ≡ answers_by step x ss ++ answer_of (step (after_by step x ss) s) ∷ []
+answers_push step x [] s = refl
+answers_push step x (r ∷ ss) s = ap (λ (later : List Answer). answer_of (step x r) ∷ later) (answers_push step (unwrap_or (step x r) x) ss s)
+
+run_by_kind : (logic : Logic) (w : Whole) (s : Step) (ss : List Step) (b : Bool) → ((x : Whole) → whole_run logic x (built ss) ≡ after_by (built_step logic) x ss)
+    → whole_run logic w (cond b (s ∷ built ss) (built ss)) ≡ after_by (built_step logic) (unwrap_or (if b then whole_step logic w s else None) w) ss
+run_by_kind logic w s ss true later = later (unwrap_or (whole_step logic w s) w)
+run_by_kind logic w s ss false later = later w
+
+-- the run of the steps that are built
+pub run_built : (logic : Logic) (w : Whole) (ss : List Step) → whole_run logic w (built ss) ≡ after_by (built_step logic) w ss
+run_built logic w [] = refl
+run_built logic w (s ∷ ss) = run_by_kind logic w s ss (is_built s) (λ x. run_built logic x ss)

@@ -1,0 +1,36 @@
+//! Why a line asks for nothing that a silo does.
+
+ghost use Rattle.std.specs.Prelude.{◌≡◌};
+ghost use Rattle.silo_event.specs.Fault.{refusal_fault};
+
+use crate::fault::Fault;
+
+/// Why a client's line is no call and no poke.
+#[derive(Clone, Copy, Debug, PartialEq, Eq)]
+pub enum Refusal {
+    /// The message would be too long.
+    TooLong,
+    /// The arguments or the state are deeper than 32.
+    TooDeep,
+    /// A number in them isn't a whole number of 64 bits.
+    NotWhole,
+    /// The text is no grain's name.
+    NotWellFormed,
+    /// The state would be too large.
+    TooLarge,
+}
+
+impl Refusal {
+    /// The fault that the client is told.
+    pub fn fault(self) -> Fault
+        ensures { result ≡ refusal_fault self }
+    {
+        match self {
+            Refusal::TooLong => Fault::TooLong,
+            Refusal::TooDeep => Fault::TooDeep,
+            Refusal::NotWhole => Fault::NotWhole,
+            Refusal::NotWellFormed => Fault::NotWellFormed,
+            Refusal::TooLarge => Fault::TooLarge,
+        }
+    }
+}

@@ -1,0 +1,135 @@
+-- What a refused line, a poke and a status come to: by what the whole has of the asker's tenant and at the grain.
+use Rattle.std.proofs.Common.{◌≡◌, ◌≢◌, ℕ, Bool, true, false, ◌++◌, Option, Some, None, refl, ap, sym, ◌∙◌}
+use Rattle.std.specs.Prelude.{Result, Ok, Err, if◌then◌else◌}
+use Rattle.std.specs.FinMap as map
+use Rattle.grain_id.specs.Names.{Grain, Client}
+use Rattle.request_codec.specs.Tree.{Tree}
+use Rattle.grain_storage.specs.declared.row.Row.{Row}
+use Rattle.grain_storage.specs.Rows.{RowFault, spent}
+use Rattle.silo_event.specs.Fault.{refusal_fault}
+use Rattle.silo_event.specs.declared.fault.Fault.{Fault}
+use Rattle.silo_event.specs.declared.fault.Fault.TheVariants.{UnknownTenant, UnknownKind, AcrossTenants, StorageFailed, VersionsSpent}
+use Rattle.silo_event.specs.declared.refusal.Refusal.{Refusal}
+use Rattle.silo_event.specs.declared.reply.Party.{Party}
+use Rattle.silo_event.specs.declared.reply.Party.TheVariants as party
+use Rattle.silo_event.specs.declared.step.Step.TheVariants.{Refuse, Poke, Status}
+use Rattle.grain_kinds.specs.Logic.{Logic}
+use Rattle.silo_model.specs.Machine.{Account}
+use Rattle.silo_model.specs.Effect.{Sight, Change, sight_at, change_at, only_replies}
+use Rattle.silo_model.specs.Calls.{told, gate}
+use Rattle.silo_model.specs.Stores.{row_poked, version_value}
+use Rattle.silo_model.specs.Asks.{refused, row_told, poke_settled, poked, status_of, status_told}
+use Rattle.silo_model.specs.Step.{effect_of}
+use Rattle.silo_model.specs.Whole.{Whole, shown_to, spread, whole_step}
+use Rattle.silo_model.proofs.Sights.{active_of, sight_of, step_by_sight, step_at_own}
+use Rattle.silo_model.proofs.CallRule.{gate_unknown_tenant, gate_across, gate_unknown_kind, gate_passed}
+use Rattle.silo_model.proofs.CallSteps.{spread-only_replies}
+
+module _ (logic : Logic) (w : Whole) (caller : Client) (id : ℕ) where
+  abbrev asker : Party
+  asker = party.Client caller id
+
+  abbrev told_whole : Result Tree Fault → Whole
+  told_whole outcome = record w { replies = w.replies ++ told (party.Client caller id) outcome }
+
+  -- ---- refused lines
+
+  pub refuse_is : (code : Refusal) → whole_step logic w (Refuse caller id code) ≡ Some (told_whole (Err (refusal_fault code)))
+  unfolding effect_of
+  refuse_is code =
+      step_by_sight logic w (Refuse caller id code) caller.tenant None (Some (refused asker code)) refl refl refl
+      ∙ ap Some (spread-only_replies w caller.tenant None asker (Err (refusal_fault code)))
+
+  -- ---- status
+
+  -- what the whole has of the tenant, at no grain
+  abbrev tenant_sight : Sight
+  tenant_sight = record { tenant = caller.tenant; account = map.get w.accounts caller.tenant; clock = w.clock; active = active_of w caller.tenant; entry = None; row = None }
+
+  sees_tenant : sight_at (shown_to caller.tenant w) None ≡ tenant_sight
+  unfolding sight_at shown_to
+  sees_tenant = refl
+
+  status_by : (account : Option Account) → map.get w.accounts caller.tenant ≡ account → whole_step logic w (Status caller id) ≡ Some (spread w caller.tenant None (status_told tenant_sight asker account))
+  unfolding effect_of
+  status_by account known =
+      step_by_sight logic w (Status caller id) caller.tenant None (Some (status_told tenant_sight asker account)) refl refl
+      (ap (λ (s : Sight). Some (status_told s asker s.account)) sees_tenant ∙ ap (λ a. Some (status_told tenant_sight asker a)) known)
+
+  pub status_unknown_tenant : map.get w.accounts caller.tenant ≡ None → whole_step logic w (Status caller id) ≡ Some (told_whole (Err (UnknownTenant caller.tenant)))
+  status_unknown_tenant none = status_by None none ∙ ap Some (spread-only_replies w caller.tenant None asker (Err (UnknownTenant caller.tenant)))
+
+  pub status_is : (a : Account) → map.get w.accounts caller.tenant ≡ Some a → whole_step logic w (Status caller id) ≡ Some (told_whole (Ok (status_of tenant_sight a)))
+  status_is a known = status_by (Some a) known ∙ ap Some (spread-only_replies w caller.tenant None asker (Ok (status_of tenant_sight a)))
+
+  -- ---- pokes
+
+  module _ (g : Grain) (state : Tree) (failed : Bool) where
+    abbrev seen : Sight
+    seen = sight_at (shown_to caller.tenant w) (Some g)
+
+    seen_account : (sight_at (shown_to caller.tenant w) (Some g)).account ≡ map.get w.accounts caller.tenant
+    unfolding sight_at shown_to
+    seen_account = refl
+
+    seen_tenant : (sight_at (shown_to caller.tenant w) (Some g)).tenant ≡ caller.tenant
+    unfolding sight_at shown_to
+    seen_tenant = refl
+
+    poke_refused : (why : Fault) → gate logic seen seen.account g ≡ Err why → whole_step logic w (Poke caller id g state failed) ≡ Some (told_whole (Err why))
+    unfolding effect_of poked
+    poke_refused why is =
+        step_by_sight logic w (Poke caller id g state failed) caller.tenant (Some g) _ refl refl (ap (λ r. Some (poke_settled seen asker g state failed r)) is)
+        ∙ ap Some (spread-only_replies w caller.tenant (Some g) asker (Err why))
+
+    -- the asker's tenant isn't known
+    pub poke_unknown_tenant : map.get w.accounts caller.tenant ≡ None → whole_step logic w (Poke caller id g state failed) ≡ Some (told_whole (Err (UnknownTenant caller.tenant)))
+    poke_unknown_tenant none = poke_refused (UnknownTenant caller.tenant) (gate_unknown_tenant logic seen g (seen_account ∙ none) ∙ ap (λ t. Err (UnknownTenant t)) seen_tenant)
+
+    module _ (a : Account) (known : map.get w.accounts caller.tenant ≡ Some a) where
+      -- the grain is another tenant's
+      pub poke_across : g.tenant ≢ caller.tenant → whole_step logic w (Poke caller id g state failed) ≡ Some (told_whole (Err (AcrossTenants caller.tenant g.tenant)))
+      poke_across apart =
+          poke_refused (AcrossTenants caller.tenant g.tenant)
+          (gate_across logic seen g a (seen_account ∙ known) (λ same. apart (same ∙ seen_tenant)) ∙ ap (λ t. Err (AcrossTenants t g.tenant)) seen_tenant)
+
+      module _ (own : g.tenant ≡ caller.tenant) where
+        pub poke_unknown_kind : logic.knows g.kind ≡ false → whole_step logic w (Poke caller id g state failed) ≡ Some (told_whole (Err (UnknownKind g.kind)))
+        poke_unknown_kind unknown = poke_refused (UnknownKind g.kind) (gate_unknown_kind logic seen g a (seen_account ∙ known) (own ∙ sym seen_tenant) unknown)
+
+        abbrev own_seen : Sight
+        own_seen = sight_of w caller.tenant g
+
+        module _ (knows : logic.knows g.kind ≡ true) where
+          poke_passed : whole_step logic w (Poke caller id g state failed)
+              ≡ Some (spread w caller.tenant (Some g) (if failed then only_replies (told asker (Err StorageFailed)) else row_told asker g (row_poked (map.get w.rows g) state)))
+          unfolding effect_of poked
+          poke_passed =
+              step_at_own logic w (Poke caller id g state failed) caller.tenant g (Some (poke_settled own_seen asker g state failed (Ok a))) refl refl own
+              (ap (λ r. Some (poke_settled own_seen asker g state failed r)) (gate_passed logic own_seen g a known own knows))
+
+          -- the storage failed
+          pub poke_failed : failed ≡ true → whole_step logic w (Poke caller id g state failed) ≡ Some (told_whole (Err StorageFailed))
+          poke_failed is =
+              poke_passed
+              ∙ ap (λ b. Some (spread w caller.tenant (Some g) (if b then only_replies (told asker (Err StorageFailed)) else row_told asker g (row_poked (map.get w.rows g) state)))) is
+              ∙ ap Some (spread-only_replies w caller.tenant (Some g) asker (Err StorageFailed))
+
+          poke_answered : (r : Result (Option ℕ × Change Row) RowFault) → failed ≡ false → row_poked (map.get w.rows g) state ≡ r → whole_step logic w (Poke caller id g state failed) ≡ Some (spread w caller.tenant (Some g) (row_told asker g r))
+          poke_answered r is answers =
+              poke_passed
+              ∙ ap (λ b. Some (spread w caller.tenant (Some g) (if b then only_replies (told asker (Err StorageFailed)) else row_told asker g (row_poked (map.get w.rows g) state)))) is
+              ∙ ap (λ x. Some (spread w caller.tenant (Some g) (row_told asker g x))) answers
+
+          -- the row has no version left
+          pub poke_spent : failed ≡ false → row_poked (map.get w.rows g) state ≡ Err spent → whole_step logic w (Poke caller id g state failed) ≡ Some (told_whole (Err (VersionsSpent g)))
+          poke_spent is answers = poke_answered (Err spent) is answers ∙ ap Some (spread-only_replies w caller.tenant (Some g) asker (Err (VersionsSpent g)))
+
+          spread-poked : (version : Option ℕ) (row : Change Row) → spread w caller.tenant (Some g) (row_told asker g (Ok (version, row))) ≡ record w { rows = change_at w.rows g row; replies = w.replies ++ told (party.Client caller id) (Ok (version_value version)) }
+          unfolding spread
+          spread-poked version row = refl
+
+          -- the row is overwritten, and its version is told
+          pub poke_done : (version : Option ℕ) (row : Change Row) → failed ≡ false → row_poked (map.get w.rows g) state ≡ Ok (version, row)
+              → whole_step logic w (Poke caller id g state failed) ≡ Some (record w { rows = change_at w.rows g row; replies = w.replies ++ told (party.Client caller id) (Ok (version_value version)) })
+          poke_done version row is answers = poke_answered (Ok (version, row)) is answers ∙ ap Some (spread-poked version row)

@@ -1,0 +1,23 @@
+-- What a tick and a sweep come to.
+use Rattle.std.proofs.Common.{◌≡◌, ℕ, true, false, Some, None, refl, ap}
+use Rattle.std.specs.Prelude.{nat_le, if◌then◌else◌}
+use Rattle.silo_event.specs.declared.step.Step.TheVariants.{Tick, Sweep}
+use Rattle.grain_kinds.specs.Logic.{Logic}
+use Rattle.silo_model.specs.Idle.{kept_entries}
+use Rattle.silo_model.specs.Whole.{Whole, whole_step}
+
+module _ (logic : Logic) (w : Whole) where
+  -- the clock goes on
+  pub tick_on : (now : ℕ) → nat_le w.clock now ≡ true → whole_step logic w (Tick now) ≡ Some (record w { clock = now })
+  unfolding whole_step
+  tick_on now on = ap (λ b. if b then Some (record w { clock = now }) else None) on
+
+  -- and never back
+  pub tick_back : (now : ℕ) → nat_le w.clock now ≡ false → whole_step logic w (Tick now) ≡ None
+  unfolding whole_step
+  tick_back now back = ap (λ b. if b then Some (record w { clock = now }) else None) back
+
+  -- the entries that are due go
+  pub sweep_is : whole_step logic w Sweep ≡ Some (record w { entries = kept_entries w.clock w.age w.entries })
+  unfolding whole_step
+  sweep_is = refl

@@ -1,0 +1,53 @@
+-- A step is possible exactly where it is possible as one whose storage call failed.
+use Rattle.std.proofs.Common.{◌≡◌, ℕ, Bool, true, List, Option, Some, None, is_some, refl, ap, sym, ◌∙◌, true≢false}
+use Rattle.std.specs.Prelude.{option_map, option_and_then}
+use Rattle.std.specs.FinMap as map
+use Rattle.grain_id.specs.Names.{Grain}
+use Rattle.silo_event.specs.Failed.{as_failed}
+use Rattle.silo_event.specs.declared.step.Step.{Step}
+use Rattle.silo_event.specs.declared.step.Step.TheVariants.{Poke, Load, Store}
+use Rattle.grain_kinds.specs.Logic.{Logic}
+use Rattle.silo_model.specs.Machine.{Entry, Request, Phase, waiting, loading, ready}
+use Rattle.silo_model.specs.Effect.{Sight, Effect, sight_at}
+use Rattle.silo_model.specs.Turns.{plan_of, loaded, stored_by, stored}
+use Rattle.silo_model.specs.Step.{effect_of}
+use Rattle.silo_model.specs.Whole.{Whole, shown_to, spread, whole_step}
+use Rattle.silo_model.specs.Laws.{FailingIsPossible}
+
+is_some-map : {A B : Type 0} (f : A → B) (o : Option A) → is_some (option_map f o) ≡ is_some o
+is_some-map f None = refl
+is_some-map f (Some x) = refl
+
+is_some-and_then : {A B C : Type 0} (f : A → Option B) (g : A → Option C) (o : Option A) → ((x : A) → is_some (f x) ≡ is_some (g x)) → is_some (option_and_then f o) ≡ is_some (option_and_then g o)
+is_some-and_then f g None h = refl
+is_some-and_then f g (Some x) h = h x
+
+loaded_alike : (logic : Logic) (s : Sight) (g : Grain) (failed : Bool) (e : Entry) (p : Phase) → is_some (loaded logic s g failed e p) ≡ is_some (loaded logic s g true e p)
+loaded_alike logic s g failed e waiting = refl
+loaded_alike logic s g failed e loading = refl
+loaded_alike logic s g failed e (ready state version) = refl
+
+stored_alike : (logic : Logic) (s : Sight) (g : Grain) (failed : Bool) (e : Entry) (request : Request) (p : Phase) → is_some (stored logic s g failed e request p) ≡ is_some (stored logic s g true e request p)
+stored_alike logic s g failed e request waiting = refl
+stored_alike logic s g failed e request loading = refl
+stored_alike logic s g failed e request (ready state version) =
+    let asked = stored_by logic s g e request state version (plan_of logic g state request).storage in
+    is_some-map _ asked ∙ sym (is_some-map _ asked)
+
+both_done : (w : Whole) (owner : List ℕ) (g : Grain) (r q : Option Effect) → is_some r ≡ is_some q → is_some (option_map (spread w owner (Some g)) r) ≡ is_some (option_map (spread w owner (Some g)) q)
+both_done w owner g r q same = is_some-map _ r ∙ same ∙ sym (is_some-map _ q)
+
+alike : (logic : Logic) (w : Whole) (s : Step) → is_some (whole_step logic w s) ≡ is_some (whole_step logic w (as_failed s))
+unfolding whole_step effect_of
+alike logic w (Poke caller id g state failed) = refl
+alike logic w (Load g failed) = both_done w g.tenant g _ _ (is_some-and_then _ _ (sight_at (shown_to g.tenant w) (Some g)).entry (λ e. loaded_alike logic (sight_at (shown_to g.tenant w) (Some g)) g failed e e.phase))
+alike logic w (Store g turn failed) =
+    both_done w g.tenant g _ _ (is_some-and_then _ _ (sight_at (shown_to g.tenant w) (Some g)).entry (λ e. is_some-and_then _ _ (map.get e.turns turn) (λ request. stored_alike logic (sight_at (shown_to g.tenant w) (Some g)) g failed e request e.phase)))
+alike logic w _ = refl
+
+none_of : {A B : Type 0} (o : Option A) (q : Option B) → is_some o ≡ is_some q → o ≡ None → q ≡ None
+none_of o None same none = refl
+none_of o (Some y) same none = absurd (true≢false (sym same ∙ ap is_some none))
+
+pub failing_is_possible : FailingIsPossible
+failing_is_possible logic w s = (none_of _ _ (alike logic w s), none_of _ _ (sym (alike logic w s)))

@@ -1,0 +1,134 @@
+-- Along every run a machine stays fair, and each request is answered once, or waits, or is open.
+use Rattle.std.proofs.Common.{◌≡◌, ℕ, ◌+◌, ◌≤◌, Bool, true, false, List, [], ◌∷◌, Option, Some, None, unwrap_or, refl, ap, sym, ◌∙◌, subst, arith}
+use Rattle.std.specs.Prelude.{nat_eq, sum_by, map as map_list}
+use Rattle.std.specs.List.{AllByRecursion, IsDistinct}
+use Rattle.std.specs.FinMap as map
+use Rattle.std.proofs.lemmas.Bool.{eqb-true, eq-eqb}
+use Rattle.std.proofs.lemmas.List.Sums.{sum_by-cons, sum_by-append}
+use Rattle.std.proofs.lemmas.Map.Keys.{IsDistinct-cons}
+use Rattle.std.proofs.lemmas.Option.{none-some}
+use Rattle.grain_id.specs.Names.{Client, grain_cmp}
+use Rattle.silo_event.specs.declared.reply.Party.{Party}
+use Rattle.silo_event.specs.declared.step.Step.{Step}
+use Rattle.silo_event.specs.declared.step.Step.TheVariants.{Refuse, Call, Poke, Status}
+use Rattle.grain_kinds.specs.Logic.{Logic}
+use Rattle.grain_kinds.specs.Laws.{ReadersAskNothing}
+use Rattle.silo_model.specs.Machine.{Machine, Entry, Request}
+use Rattle.silo_model.specs.Step.{effect_of, machine_step}
+use Rattle.silo_model.specs.Run.{machine_run, restricted_to}
+use Rattle.silo_model.specs.Opening.{Setup, start_of}
+use Rattle.silo_model.specs.Settled.{asks, is_client_with, pending_at, all_pending, Settled, RunsSettle}
+use Rattle.silo_model.proofs.Opening.{replay_is_run}
+use Rattle.silo_model.proofs.Runs.{machine_after}
+use Rattle.silo_model.proofs.Counts.{total-none, sum_alike, sum_flat, sum_map}
+use Rattle.silo_model.proofs.Fair.{held, pend, one_if, numbered}
+use Rattle.silo_model.proofs.Moves.{replied, sent, Quiet, asked_by}
+use Rattle.silo_model.proofs.StepMoves.{IsFairMachine, machine_moves}
+
+-- ---- the start
+
+no_entry_pends : (f : Request → ℕ) → pend f (map.empty {X = Entry} {R = grain_cmp}) ≡ 0
+no_entry_pends f = total-none (held f) map.empty (map.len-empty grain_cmp Entry)
+
+pub start_fair : (logic : Logic) (setup : Setup) (t : List ℕ) → IsFairMachine logic (start_of setup t)
+unfolding start_of
+start_fair logic setup t = record {
+  each = λ g e found. absurd (none-some e (sym (map.get-empty grain_cmp g) ∙ found));
+  once = λ n. omega (arith, no_entry_pends (numbered n));
+  unused = λ n above. no_entry_pends (numbered n);
+}
+
+pub start_balance : (setup : Setup) (t : List ℕ) (w : Party → ℕ) → replied w (start_of setup t).replies + pend (sent w) (start_of setup t).entries ≡ 0
+unfolding start_of
+start_balance setup t w = omega (arith, no_entry_pends (sent w))
+
+-- ---- runs
+
+-- what clients ask is always possible
+asks_nothing : (logic : Logic) (m : Machine) (w : Party → ℕ) (s : Step) → machine_step logic m s ≡ None → asked_by w s ≡ 0
+unfolding machine_step effect_of
+asks_nothing logic m w (Refuse caller id code) e = absurd (none-some _ (sym e))
+asks_nothing logic m w (Call caller id grain message) e = absurd (none-some _ (sym e))
+asks_nothing logic m w (Poke caller id grain state failed) e = absurd (none-some _ (sym e))
+asks_nothing logic m w (Status caller id) e = absurd (none-some _ (sym e))
+asks_nothing logic m w _ e = refl
+
+module _ (logic : Logic) (law : ReadersAskNothing logic) where
+  after_fair : (m : Machine) (s : Step) (r : Option Machine) → machine_step logic m s ≡ r → IsFairMachine logic m → IsFairMachine logic (unwrap_or r m)
+  after_fair m s None is fair = fair
+  after_fair m s (Some new) is fair = (machine_moves logic law m new s fair is).fair
+
+  after_balance : (w : Party → ℕ) → Quiet w → (m : Machine) (s : Step) (r : Option Machine) → machine_step logic m s ≡ r → IsFairMachine logic m
+      → replied w (unwrap_or r m).replies + pend (sent w) (unwrap_or r m).entries ≡ replied w m.replies + pend (sent w) m.entries + asked_by w s
+  after_balance w quiet m s None is fair = omega (arith, asks_nothing logic m w s is)
+  after_balance w quiet m s (Some new) is fair = (machine_moves logic law m new s fair is).balance w quiet
+
+  pub run_fair : (m : Machine) (steps : List Step) → IsFairMachine logic m → IsFairMachine logic (machine_run logic m steps)
+  run_fair m [] fair = fair
+  run_fair m (s ∷ steps) fair = run_fair (machine_after logic m s) steps (after_fair m s (machine_step logic m s) refl fair)
+
+  pub run_balance : (w : Party → ℕ) → Quiet w → (m : Machine) (steps : List Step) → IsFairMachine logic m
+      → replied w (machine_run logic m steps).replies + pend (sent w) (machine_run logic m steps).entries ≡ replied w m.replies + pend (sent w) m.entries + sum_by (asked_by w) steps
+  run_balance w quiet m [] fair = omega arith
+  run_balance w quiet m (s ∷ steps) fair =
+      omega (arith, run_balance w quiet (machine_after logic m s) steps (after_fair m s (machine_step logic m s) refl fair), after_balance w quiet m s (machine_step logic m s) refl fair, sum_by-cons (asked_by w) s steps)
+
+-- ---- in the words of the definition
+
+abbrev weigh_client : Client → ℕ → Party → ℕ
+weigh_client client id p = one_if (is_client_with client id p)
+
+asked_as : (client : Client) (id : ℕ) (s : Step) → asked_by (weigh_client client id) s ≡ one_if (asks client id s)
+asked_as client id (Refuse caller n code) = refl
+asked_as client id (Call caller n grain message) = refl
+asked_as client id (Poke caller n grain state failed) = refl
+asked_as client id (Status caller n) = refl
+asked_as client id _ = refl
+
+-- the weight of all that waits or is open
+pub pending_weight : (f : Request → ℕ) (m : Machine) → sum_by f (all_pending m) ≡ pend f m.entries
+pending_weight f m = sum_flat f pending_at (map.values m.entries) ∙ sum_alike (λ e. sum_by f (pending_at e)) (held f) (map.values m.entries) (λ e. sum_by-append f e.queue (map.values e.turns))
+
+nat_apart : (a b : ℕ) → (nat_eq a b ≡ true → ⊥) → nat_eq a b ≡ false
+nat_apart a b apart = elim (nat_eq a b) as (λ x. nat_eq a b ≡ x → x ≡ false) [ true ↦ λ e. absurd (apart e) | false ↦ λ e. refl ] refl
+
+-- no number that is in the list weighs in it
+uncounted : (x : ℕ) (xs : List ℕ) → sum_by (λ y. one_if (nat_eq y x)) xs ≡ 0 → AllByRecursion (λ y. nat_eq x y ≡ false) xs
+uncounted x [] e = tt
+uncounted x (y ∷ ys) e = (
+  nat_apart x y (λ same. heavy (nat_eq y x) (eq-eqb y x (sym (eqb-true x y same))) (sym (sum_by-cons (λ z. one_if (nat_eq z x)) y ys) ∙ e)),
+  uncounted x ys (rest (one_if (nat_eq y x)) (sym (sum_by-cons (λ z. one_if (nat_eq z x)) y ys) ∙ e)),
+)
+  where
+    heavy : (b : Bool) → b ≡ true → one_if b + sum_by (λ z. one_if (nat_eq z x)) ys ≡ 0 → ⊥
+    heavy true is none = omega arith
+    heavy false is none = absurd cc
+
+    rest : (n : ℕ) → n + sum_by (λ z. one_if (nat_eq z x)) ys ≡ 0 → sum_by (λ z. one_if (nat_eq z x)) ys ≡ 0
+    rest n none = omega arith
+
+distinct : (xs : List ℕ) → ((n : ℕ) → sum_by (λ y. one_if (nat_eq y n)) xs ≤ 1) → IsDistinct nat_eq xs
+unfolding IsDistinct
+distinct [] once = tt
+distinct (x ∷ xs) once =
+    IsDistinct-cons nat_eq x xs
+    (uncounted x xs (omega (arith, once x, sum_by-cons (λ y. one_if (nat_eq y x)) x xs, ap one_if (eq-eqb x x refl))))
+    (distinct xs (λ n. omega (arith, once n, sum_by-cons (λ y. one_if (nat_eq y n)) x xs)))
+
+machine_settles : (logic : Logic) → ReadersAskNothing logic → (setup : Setup) (t : List ℕ) (steps : List Step) → Settled steps (machine_run logic (start_of setup t) steps)
+machine_settles logic law setup t steps =
+    let start : Machine = start_of setup t in
+    let after : Machine = machine_run logic start steps in
+    record {
+      answered = λ client id.
+          let w : Party → ℕ = weigh_client client id in
+          let balance : replied w after.replies + pend (sent w) after.entries ≡ sum_by (asked_by w) steps = omega (arith, run_balance logic law w (λ g. refl) start steps (start_fair logic setup t), start_balance setup t w) in
+          sym (sum_alike (asked_by w) (λ s. one_if (asks client id s)) steps (asked_as client id))
+          ∙ sym balance
+          ∙ ap (λ n. replied w after.replies + n) (sym (pending_weight (sent w) after));
+      numbers = distinct (map_list (λ (q : Request). q.number) (all_pending after))
+          (λ n. omega (arith, (run_fair logic law start steps (start_fair logic setup t)).once n, sum_map (λ y. one_if (nat_eq y n)) (λ (q : Request). q.number) (all_pending after), pending_weight (numbered n) after));
+    }
+
+pub runs_settle : RunsSettle
+runs_settle logic law setup t steps = subst (Settled (restricted_to t steps)) (sym (replay_is_run logic setup t steps)) (machine_settles logic law setup t (restricted_to t steps))
