@@ -1,0 +1,4 @@
+pub mod Lasts
+pub mod Ties
+pub mod Prefix
+pub mod Due
