@@ -1,0 +1,4 @@
+pub mod Places
+pub mod Contents
+pub mod Kept
+pub mod Mapped

@@ -1,0 +1,17 @@
+//! The requests of a grain: those that wait, and the open turns.
+//!
+//! A layer above may rely on this: a mailbox is seen as the list of the requests that wait, the open
+//! turns as a finite map by number, and how many may wait; only the first that waits begins, as the
+//! turn rule allows. What a mailbox holds and what its calls do is in `specs/Contents.antt`,
+//! `specs/Kept.antt` says how its parts stay together, and `specs/Places.antt` how values stand at
+//! places and are found by keys; `proofs/Places.antt` has the lemmas on that for any keys.
+#![tactic(auto)]
+
+mod mailbox;
+mod request;
+
+pub use mailbox::{Mailbox, NoTurn};
+pub use request::Request;
+
+#[cfg(test)]
+mod tests;

@@ -1,0 +1,233 @@
+//! The requests of one grain: those that wait, in their order, and the open turns, by number.
+
+ghost use Rattle.std.specs.Prelude.{◌≡◌, ◌↔◌, ◌≤◌, ◌++◌, ◌∷◌, [], true, None, if◌then◌else◌, OnOk, OnErr, IsErr, IfOk, IfErr, length, slice_get};
+ghost use Rattle.std.specs.Option.{option_copied};
+ghost use Rattle.std.specs.List.{list_any};
+ghost use Rattle.std.specs.FinMap as map;
+ghost use Rattle.slab.specs.Slab.{Updates};
+ghost use Rattle.turn_mailbox.specs.Contents.{may_begin, begun, turn_of, is_idle, has_from, is_from, Finishes};
+
+use crate::request::Request;
+use grain_id::{Caller, GrainId};
+use grain_kinds::OpenedTurn;
+use indexmap::IndexMap;
+use request_codec::StateBytes;
+use slab::Slab;
+use std::alloc::{AllocError, Global};
+use std::collections::VecDeque;
+use std::marker::Model;
+
+/// No turn of that number is open.
+#[derive(Clone, Copy, Debug, PartialEq, Eq)]
+pub struct NoTurn;
+
+/// The requests of one grain. An open turn stands at a place of a slab, and its number leads there.
+#[derive(Drop)]
+pub struct Mailbox {
+    waiting: VecDeque<Request>,
+    places: IndexMap<u64, usize>,
+    turns: Slab<Request>,
+    capacity: usize,
+}
+
+impl Model for Mailbox {
+    ghost use Rattle.std.specs.Coded.{codes};
+    ghost use Rattle.std.specs.VecDeque.{deque_len, deque_capacity};
+    ghost use Rattle.std.specs.FinMap.{from_entries};
+    ghost use Rattle.request_codec.specs.Code.{coded_tree};
+    ghost use Rattle.turn_mailbox.specs.Places.{placed};
+    ghost use Rattle.turn_mailbox.specs.Kept.{by_number_code, IsMailbox};
+    ghost use Rattle.turn_mailbox.specs.Contents.{Contents};
+
+    ghost Value = { Contents };
+
+    ghost coded = { Prim.hlevel (codes, by_number_code, coded_tree) };
+
+    ghost view = { λ m. record { waiting = m.waiting.items; opened = from_entries (placed m.turns m.places.entries); capacity = m.capacity } };
+
+    ghost invariant = { λ m. IsMailbox (deque_len m.waiting) (deque_capacity m.waiting) m.places.entries m.turns m.capacity };
+}
+
+impl Mailbox {
+    /// Nothing waits and no turn is open. The memory for the requests that may wait, `capacity` of
+    /// them, is taken here.
+    pub fn new(alloc: Global, capacity: usize) -> Result<Mailbox, AllocError>
+        ensures { IfOk result (λ m. m ≡ record { waiting = []; opened = map.empty; capacity = capacity }) }
+    {
+        Ok(Mailbox {
+            waiting: VecDeque::with_capacity(alloc, capacity)?,
+            places: IndexMap::new(alloc),
+            turns: Slab::new(alloc),
+            capacity,
+        })
+    }
+
+    /// How many requests wait.
+    pub fn len(&self) -> usize
+        ensures count { result ≡ length self.now.waiting }
+        ensures bound { result ≤ self.now.capacity }
+    {
+        self.waiting.len()
+    }
+
+    /// The request at that place among those that wait, from 0.
+    pub fn at(&self, place: usize) -> Option<&Request>
+        ensures { option_copied result ≡ slice_get self.now.waiting place }
+    {
+        self.waiting.get(place)
+    }
+
+    /// The request of the open turn of that number.
+    pub fn opened(&self, number: u64) -> Option<&Request>
+        ensures { option_copied result ≡ map.get self.now.opened number }
+    {
+        let place = *self.places.get(&number)?;
+        self.turns.get(place)
+    }
+
+    /// Adds a request behind those that wait. It comes back if the mailbox is full. Takes no memory.
+    pub fn push(&mut self, request: Request) -> Result<(), Request>
+        ensures full { IsErr result ↔ (length self.old.waiting ≡ self.old.capacity) }
+        ensures given_back { IfErr result (λ back. back ≡ request) }
+        ensures unchanged { OnErr result (self.new ≡ self.old) }
+        ensures waits { OnOk result (self.new ≡ record self.old { waiting = self.old.waiting ++ request ∷ [] }) }
+    {
+        if self.waiting.len() == self.capacity {
+            return Err(request);
+        }
+        self.waiting.push_back_reserved(request);
+        Ok(())
+    }
+
+    /// Whether no request waits and no turn is open.
+    pub fn is_idle(&self) -> bool
+        ensures { result ≡ is_idle self.now }
+    {
+        self.waiting.is_empty() && self.places.is_empty()
+    }
+
+    /// Whether the first waiting request may begin: one that only reads, if each open turn only reads,
+    /// and another, if no turn is open. Looks at one open turn, since a turn that writes is open alone.
+    pub fn may_begin(&self) -> bool
+        ensures { result ≡ may_begin self.now }
+    {
+        let Some(front) = self.waiting.front() else {
+            return false;
+        };
+        match self.some_turn() {
+            Some(turn) => front.reading && turn.reading,
+            None => true,
+        }
+    }
+
+    ghost use Rattle.turn_mailbox.specs.Kept.{IsSomeTurn};
+
+    /// One of the open turns.
+    fn some_turn(&self) -> Option<&Request>
+        ensures { IsSomeTurn self.now.opened (option_copied result) }
+    {
+        let (_, place) = self.places.get_index(0)?;
+        self.turns.get(*place)
+    }
+
+    /// Opens a turn of the first waiting request, if it may begin: for this grain, in this state. If
+    /// nothing may begin there is no turn. A turn of that number that is open already is replaced.
+    ///
+    /// # Errors
+    ///
+    /// Out of memory: the mailbox is as before.
+    pub fn begin(
+        &mut self,
+        grain: &GrainId,
+        state: &StateBytes,
+    ) -> Result<Option<OpenedTurn>, AllocError>
+        ensures turn { IfOk result (λ turn. turn ≡ (if may_begin self.old then turn_of grain.now state.now self.old.waiting else None)) }
+        ensures begun { OnOk result (self.new ≡ (if may_begin self.old then begun self.old self.old.waiting else self.old)) }
+        ensures unchanged { OnErr result (self.new ≡ self.old) }
+    {
+        if !self.may_begin() {
+            return Ok(None);
+        }
+        let Some(front) = self.at(0) else {
+            return Ok(None);
+        };
+        let turn = OpenedTurn {
+            grain: grain.clone()?,
+            number: front.number,
+            reading: front.reading,
+            state: state.clone()?,
+            message: front.message.clone()?,
+        };
+        self.open_front()?;
+        Ok(Some(turn))
+    }
+
+    /// Makes the first waiting request an open turn.
+    fn open_front(&mut self) -> Result<(), AllocError>
+        requires { may_begin self.old ≡ true }
+        ensures begun { OnOk result (self.new ≡ begun self.old self.old.waiting) }
+        ensures unchanged { OnErr result (self.new ≡ self.old) }
+    {
+        self.turns.reserve(1)?;
+        self.places.reserve(1)?;
+        let Some(request) = self.waiting.pop_front() else {
+            return Ok(());
+        };
+        let number = request.number;
+        let place = self.turns.insert_reserved(request);
+        match self.places.insert(number, place) {
+            Ok(None) => {}
+            Ok(Some(earlier)) => free(&mut self.turns, earlier),
+            Err(_) => unreachable!(),
+        }
+        Ok(())
+    }
+
+    /// Whether a request of this client waits or is open. Looks at every request.
+    pub fn has_from(&self, client: &Caller) -> bool
+        ensures { result ≡ has_from self.now client.now }
+    {
+        self.has_waiting_from(client) || self.has_turn_from(client)
+    }
+
+    /// Whether a request that waits came from this client.
+    fn has_waiting_from(&self, client: &Caller) -> bool
+        ensures { result ≡ list_any (is_from client.now) self.now.waiting }
+    {
+        self.waiting.iter().any(|request| request.is_from(client))
+    }
+
+    /// Whether an open turn's request came from this client.
+    fn has_turn_from(&self, client: &Caller) -> bool
+        ensures { result ≡ list_any (is_from client.now) (map.values self.now.opened) }
+    {
+        for (_, place) in self.places.iter() {
+            if let Some(turn) = self.turns.get(*place) {
+                if turn.is_from(client) {
+                    return true;
+                }
+            }
+        }
+        false
+    }
+
+    /// Closes the turn of that number: its request. Takes no memory.
+    pub fn finish(&mut self, number: u64) -> Result<Request, NoTurn>
+        ensures { Finishes self.old number result self.new }
+    {
+        let Some(place) = self.places.swap_remove(&number) else {
+            return Err(NoTurn);
+        };
+        match self.turns.try_remove(place) {
+            Some(request) => Ok(request),
+            None => unreachable!(),
+        }
+    }
+}
+
+/// Drops what stands at a place.
+fn free(turns: &mut Slab<Request>, place: usize)
+    ensures { Updates turns.old turns.new place None }
+{
+    turns.try_remove(place);
+}
