@@ -1,0 +1,4 @@
+pub mod Register
+pub mod Counts
+pub mod Kept
+pub mod Lending

@@ -1,0 +1,18 @@
+//! Which activation a grain has.
+//!
+//! A layer above may rely on this: a directory is seen as a finite map from grains to activations, and
+//! the grains in some order; `get_mut` lends an activation where it stands, and `count` is a tenant's
+//! part of the map. What a directory shows is in `specs/Register.antt`, a tenant's number in
+//! `specs/Counts.antt`, what a write through `get_mut` leaves in `specs/Lending.antt`, and how index,
+//! slab and numbers stay together in `specs/Kept.antt`.
+#![tactic(auto)]
+
+mod activation;
+mod counts;
+mod directory;
+
+pub use activation::{Activation, Phase};
+pub use directory::Directory;
+
+#[cfg(test)]
+mod tests;
