@@ -1,0 +1,44 @@
+//! Why a line, or a whole journal, was not read.
+
+ghost use Rattle.std.specs.Prelude.{◌≡◌};
+
+use std::alloc::AllocError;
+
+/// Why bytes are no journal.
+#[derive(Clone, Copy, Debug, PartialEq, Eq)]
+pub enum JournalFault {
+    /// The first line that fits no form in its place, counted from 1, or one past the last line if
+    /// the end is missing.
+    At { line: usize },
+    /// Memory was refused.
+    Memory,
+}
+
+impl From<AllocError> for JournalFault {
+    ghost use Rattle.tenant_audit.specs.declared.fault.JournalFault.TheVariants as faults;
+
+    ghost from_gives = { λ _ e. e ≡ faults.Memory };
+
+    fn from(_refused: AllocError) -> JournalFault {
+        JournalFault::Memory
+    }
+}
+
+/// Why a line, or a field of one, was not read.
+#[derive(Clone, Copy, Debug, PartialEq, Eq)]
+pub enum LineFault {
+    /// It has no form that a line or the field may have.
+    NoForm,
+    /// Memory was refused.
+    Memory,
+}
+
+impl From<AllocError> for LineFault {
+    ghost use Rattle.tenant_audit.specs.declared.fault.LineFault.TheVariants as faults;
+
+    ghost from_gives = { λ _ e. e ≡ faults.Memory };
+
+    fn from(_refused: AllocError) -> LineFault {
+        LineFault::Memory
+    }
+}
