@@ -1,148 +1,186 @@
 #!/usr/bin/env python3
-"""Runs a built program beside the oracle, and compares what they write, byte for byte.
+"""Runs a built program beside the slow silo, and compares what they write, byte for byte.
 
-    tools/compare.py random PROGRAM [--seed N] [--count N] [--keep FOLDER]
+    tools/compare.py [--everything] random PROGRAM [--seed N] [--count N] [--keep FOLDER]
+    tools/compare.py [--everything] rows PROGRAM
     tools/compare.py limits PROGRAM
-    tools/compare.py examples PROGRAM [FOLDER]
+    tools/compare.py [--everything] examples PROGRAM [FOLDER]
 
-`random` makes so many inputs from the seed, and `limits` those that are at a limit and too large to keep.
-`examples` takes the folders of examples/: the files `args` (one word a line), `stdin`, `stdout`, `status`, and
-`stderr` where it is fixed. The program `oracle` is the oracle itself. Each ends with status 1 at a difference;
-`random` then keeps the input, as a folder of that form.
+`random` makes so many inputs from the seed, `rows` takes the worked rows, and `limits` those inputs that are at a limit
+and too large to keep. `examples` takes the folders of examples/: the files `args` (one word a line), `stdin`, `stdout`,
+`status`, and `stderr` if it is fixed. The program `oracle` is the slow silo itself. The slow silo does what the program
+does today, and with --everything what it is to do. Each prints what differs, and last 'N passed, M failed'; `random`
+keeps an input that differs, as a folder of that form.
 """
+
+from __future__ import annotations
 
 import argparse
 import pathlib
 import random
 import subprocess
 import sys
+import tempfile
+from typing import Optional
 
-import oracle
 import random_input
+from random_input import Input
+from slow_silo import row_checks
+from slow_silo.built import EVERYTHING, TODAY, Built
+from slow_silo.lines import MAX_LINE, MAX_LINES
+from slow_silo.program import Run, run_program
+from slow_silo.rows import ROWS
 
 ROOT = pathlib.Path(__file__).resolve().parent.parent
 SECONDS = 120
+MOST_SHOWN = 10
 
 
-def run_it(program, words, data):
-    """What the program writes on both streams, and its status."""
+def run_it(program: str, given: Input, built: Built) -> Run:
+    """The program's run, in a folder with the input's files."""
     if program == "oracle":
-        return oracle.run_program(words, data)
-    done = subprocess.run([program, *words], input=data, capture_output=True, timeout=SECONDS, check=False)
-    return done.stdout, done.stderr, done.returncode
+        return run_program(given.words, given.data, given.files, built)
+    with tempfile.TemporaryDirectory() as place:
+        folder = pathlib.Path(place)
+        for path, content in given.files.items():
+            (folder / path).write_bytes(content)
+        words = [str(pathlib.Path(program).resolve()), *given.words]
+        done = subprocess.run(words, input=given.data, capture_output=True, timeout=SECONDS, check=False, cwd=folder)
+        files = {path.name: path.read_bytes() for path in folder.iterdir()}
+    return Run(done.stdout, done.stderr, done.returncode, files)
 
 
-def differs(found, wanted):
-    """What differs, as a text, or None. Standard error counts where it is known."""
-    for name, one, other in zip(("stdout", "stderr", "status"), found, wanted):
-        if None not in (one, other) and one != other:
-            return f"{name}\n  program: {shortened(one)}\n  wanted:  {shortened(other)}"
+def difference(found: Run, wanted: Run) -> Optional[str]:
+    """What differs, or None. What isn't modelled isn't compared."""
+    for name, one, other in zip(("stdout", "stderr", "status", "files"), found, wanted):
+        if one is not None and other is not None and one != other:
+            return f"{name}\n{first_difference(one, other)}"
     return None
 
 
-def shortened(written):
-    """The first line that is written, or what there is of it."""
+def first_difference(found: object, wanted: object) -> str:
+    """The first line that differs."""
+    if isinstance(found, bytes) and isinstance(wanted, bytes):
+        for number, (one, other) in enumerate(zip(found.split(b"\n"), wanted.split(b"\n")), 1):
+            if one != other:
+                return f"  program: line {number}, {shortened(one)}\n  wanted:  {shortened(other)}"
+    return f"  program: {shortened(found)}\n  wanted:  {shortened(wanted)}"
+
+
+def shortened(written: object) -> str:
     return repr(written)[:400]
 
 
-def first_difference(found, wanted):
-    """The number of the first line that differs, with both lines."""
-    pairs = list(zip(found.split(b"\n"), wanted.split(b"\n")))
-    for number, (one, other) in enumerate(pairs, 1):
-        if one != other:
-            return f"line {number} of stdout\n  program: {shortened(one)}\n  wanted:  {shortened(other)}"
-    return "stdout is cut short or goes on"
+class Count:
+    """How many were compared, and how many of them differ."""
+
+    def __init__(self) -> None:
+        self.passed = 0
+        self.failed = 0
+
+    def add(self, name: str, what: Optional[str]) -> None:
+        if what is None:
+            self.passed += 1
+            return
+        self.failed += 1
+        if self.failed <= MOST_SHOWN:
+            print(f"FAILED {name}: differs in {what}")
+
+    def end(self) -> int:
+        print(f"{self.passed} passed, {self.failed} failed")
+        return 1 if self.failed else 0
 
 
-def keep(folder, words, data, wanted):
+def keep(folder: pathlib.Path, given: Input, wanted: Run) -> None:
     folder.mkdir(parents=True, exist_ok=True)
-    (folder / "args").write_text("".join(word + "\n" for word in words))
-    (folder / "stdin").write_bytes(data)
-    (folder / "stdout").write_bytes(wanted[0])
-    (folder / "status").write_text(f"{wanted[2]}\n")
+    (folder / "args").write_text("".join(word + "\n" for word in given.words))
+    (folder / "stdin").write_bytes(given.data)
+    (folder / "stdout").write_bytes(wanted.out or b"")
+    (folder / "status").write_text(f"{wanted.status}\n")
+    for path, content in given.files.items():
+        (folder / path).write_bytes(content)
 
 
-def compare_random(options):
-    lines = 0
+def compare_random(options: argparse.Namespace, built: Built) -> int:
+    count, lines = Count(), 0
     for place in range(options.count):
-        words, data = random_input.make_input(random.Random(f"{options.seed}/{place}"))
-        found = run_it(options.program, words, data)
-        wanted = oracle.run_program(words, data)
-        what = differs(found, wanted)
+        given = random_input.make_input(random.Random(f"{options.seed}/{place}"), built)
+        wanted = run_program(given.words, given.data, given.files, built)
+        what = difference(run_it(options.program, given, built), wanted)
+        count.add(f"input {place} of seed {options.seed}", what)
+        lines += given.data.count(b"\n")
         if what is not None:
-            folder = options.keep / f"seed-{options.seed}-{place}"
-            keep(folder, words, data, wanted)
-            detail = first_difference(found[0], wanted[0]) if found[0] != wanted[0] else what
-            print(f"input {place} of seed {options.seed} differs in {detail}\n  kept in {folder}")
-            return 1
-        lines += data.count(b"\n")
-    print(f"{options.count} inputs of seed {options.seed}, {lines} lines: no difference")
-    return 0
+            keep(options.keep / f"seed-{options.seed}-{place}", given, wanted)
+    kept = f"; those that differ are in {options.keep}" if count.failed else ""
+    print(f"{options.count} inputs of seed {options.seed}, {lines} lines{kept}")
+    return count.end()
 
 
-def compare_limits(options):
-    most = oracle.MAX_LINES
+def compare_rows(options: argparse.Namespace, built: Built) -> int:
+    """Those rows that a program does which does what is built."""
+    count, others = Count(), 0
+    for row in ROWS:
+        if row_checks.difference(row, built) is not None:
+            others += 1
+            continue
+        given = Input(row.words, row_checks.input_of(row), {path: text.encode() for path, text in row.files.items()})
+        count.add(row.name, difference(run_it(options.program, given, built), run_it("oracle", given, built)))
+    print(f"{others} rows ask for what isn't built")
+    return count.end()
+
+
+def compare_limits(options: argparse.Namespace, built: Built) -> int:
     asked = b'{"op":"begin","grain":"counter/red:a"}'
     inputs = {
-        "as many lines as there may be": b"\n" * most,
-        "one line more, of no bytes": b"\n" * (most + 1),
-        "one line more, without LF": b"\n" * most + b"x",
-        "a last line that is answered": b"\n" * (most - 1) + asked,
-        "an answer before too many lines": asked + b"\n" * (most + 1),
-        "many lines that are too long": (b"x" * (oracle.MAX_LINE + 1) + b"\n") * 100,
+        "as many lines as there may be": b"\n" * MAX_LINES,
+        "one line more, of no bytes": b"\n" * (MAX_LINES + 1),
+        "one line more, without LF": b"\n" * MAX_LINES + b"x",
+        "a last line that is answered": b"\n" * (MAX_LINES - 1) + asked,
+        "an answer before too many lines": asked + b"\n" * (MAX_LINES + 1),
+        "many lines that are too long": (b"x" * (MAX_LINE + 1) + b"\n") * 100,
         "one line of a hundred million bytes": b"x" * 100_000_000,
     }
-    wrong = 0
+    count = Count()
     for name, data in inputs.items():
-        words = ["steps", "red:2:4"]
-        what = differs(run_it(options.program, words, data), oracle.run_program(words, data))
-        if what is not None:
-            print(f"{name}: differs in {what}")
-            wrong += 1
-    print(f"{len(inputs)} inputs at the limits, {wrong} differences")
-    return 1 if wrong else 0
+        given = Input(["steps", "red:2:4"], data)
+        count.add(name, difference(run_it(options.program, given, built), run_it("oracle", given, built)))
+    return count.end()
 
 
-def read_example(folder):
-    """The words, the input, and what is wanted."""
-    errors = folder / "stderr"
-    wanted = ((folder / "stdout").read_bytes(), errors.read_bytes() if errors.exists() else None,
-              int((folder / "status").read_text()))
-    return (folder / "args").read_text().splitlines(), (folder / "stdin").read_bytes(), wanted
+def read_example(folder: pathlib.Path) -> tuple[Input, Run]:
+    """The input, and what is wanted."""
+    def given(name: str) -> bytes:
+        return (folder / name).read_bytes() if (folder / name).exists() else b""
+    errors = given("stderr") if (folder / "stderr").exists() else None
+    words = given("args").decode().splitlines()
+    return Input(words, given("stdin")), Run(given("stdout"), errors, int(given("status") or b"0"), {})
 
 
-def compare_examples(options):
-    wrong = 0
-    folders = sorted(path for path in options.folder.iterdir() if path.is_dir())
-    for folder in folders:
-        words, data, wanted = read_example(folder)
-        for program in (options.program, "oracle"):
-            what = differs(run_it(program, words, data), wanted)
-            if what is not None:
-                print(f"{folder.name}: {program} differs in {what}")
-                wrong += 1
-    print(f"{len(folders)} examples, {wrong} differences")
-    return 1 if wrong else 0
+def compare_examples(options: argparse.Namespace, built: Built) -> int:
+    count = Count()
+    for folder in sorted(path for path in options.folder.iterdir() if path.is_dir()):
+        given, wanted = read_example(folder)
+        count.add(folder.name, difference(run_it(options.program, given, built), wanted))
+    return count.end()
 
 
-def main():
+def main() -> int:
     reader = argparse.ArgumentParser(description=__doc__, formatter_class=argparse.RawDescriptionHelpFormatter)
+    reader.add_argument("--everything", action="store_true")
     modes = reader.add_subparsers(required=True)
-    mode = modes.add_parser("random")
-    mode.add_argument("program")
-    mode.add_argument("--seed", default="1")
-    mode.add_argument("--count", type=int, default=1000)
-    mode.add_argument("--keep", type=pathlib.Path, default=pathlib.Path("differences"))
-    mode.set_defaults(run=compare_random)
-    mode = modes.add_parser("limits")
-    mode.add_argument("program")
-    mode.set_defaults(run=compare_limits)
-    mode = modes.add_parser("examples")
-    mode.add_argument("program")
-    mode.add_argument("folder", type=pathlib.Path, nargs="?", default=ROOT / "examples")
-    mode.set_defaults(run=compare_examples)
+    for name, run in (("random", compare_random), ("rows", compare_rows), ("limits", compare_limits),
+                      ("examples", compare_examples)):
+        mode = modes.add_parser(name)
+        mode.add_argument("program")
+        mode.set_defaults(run=run)
+        if name == "random":
+            mode.add_argument("--seed", default="1")
+            mode.add_argument("--count", type=int, default=1000)
+            mode.add_argument("--keep", type=pathlib.Path, default=pathlib.Path("differences"))
+        if name == "examples":
+            mode.add_argument("folder", type=pathlib.Path, nargs="?", default=ROOT / "examples")
     options = reader.parse_args()
-    return options.run(options)
+    return options.run(options, EVERYTHING if options.everything else TODAY)
 
 
 if __name__ == "__main__":

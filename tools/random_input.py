@@ -1,272 +1,344 @@
-"""Inputs for the program, made from a seed: steps that are possible, steps that aren't, and hostile lines."""
+"""Inputs of the program, made from a seed: steps that are possible, steps that aren't, and lines that are broken.
 
-import json
+Most of an input's lines are chosen by what the slow silo holds after the lines before, so that its entries load, its
+turns open and close, its mailboxes fill and its sends arrive.
+"""
 
-import oracle
+from __future__ import annotations
 
-GRAINS = [
-    "counter/red:a", "counter/red:b", "counter/red:a/b:c", 'counter/red:"\\', "counter/red:" + "n" * 128,
-]
-OTHER_GRAINS = [
-    "counter/blue:a", "counter/reddish:a", "counter/r:a", "clock/red:a", "sheet/red:a", "relay/blue:a",
-]
-BAD_GRAINS = [
-    "", "counter", "counter/red", "counter:red/a", "/red:a", "counter/:a", "counter/red:", "Counter/red:a",
-    "counter/red:a b", "counter/red:é", "counter/red:" + "n" * 129, "c" * 33 + "/red:a", "9c/red:a", "-/red:a",
-]
-CALLERS = ["red/c1", "red/c2", "red/c-9"]
-OTHER_CALLERS = ["blue/c1", "reddish/c1", "r/c", "r" * 32 + "/" + "c" * 32]
-BAD_CALLERS = ["", "red", "red/", "/c1", "red/C1", "red/c1/", "red /c1", "red/" + "c" * 33, "rot/ç"]
-NUMBERS = [
-    "0", "1", "-1", "3", "-7", "9223372036854775807", "-9223372036854775808", "9223372036854775806",
-    "-0", "1.0", "1e2", "-1.5E-3", "9223372036854775808", "-9223372036854775809", "18446744073709551615",
-    "18446744073709551616", "1e308", "1e999", "-1e400", "0e999", "1e-999", "1.7976931348623158e308",
-    "1.7976931348623159e308", "9" * 400, "0." + "0" * 400 + "1", "01", "-01", "+1", ".5", "1.", "1e", "1e+",
-    "-", "--1", "0x10", "NaN", "Infinity", "-Infinity", "1_000",
-]
-TEXTS = [
-    '""', '"x"', '"\\u0000"', '"\\ud83d\\ude00"', '"\\ud83d"', '"\\ude00"', '"\\ud83dx"', '"\\ud83d\\ud83d"',
-    '"\\u00E9é😀"', '"\\/\\b\\f\\n\\r\\t\\"\\\\"', '"\\x41"', '"\\u12"', '"a\tb"', '"\x7f"', '"open', "'x'",
-]
-SPACES = ["", "", " ", "\t", "\r", " \r\t ", "\v", "\f", "\u00a0", "\ufeff"]
-VALUES = [
-    "null", "true", "false", "nul", "True", "nulll", "[]", "{}", "[1,]", "[,1]", "[1 2]", '{"a":1,}', '{"a"}',
-    "{1:2}", '{"a":1,"a":2}',
-]
-BY_VALUES = [
-    '{"by":1,"by":2}', '{"by":1.5,"by":2}', '{"by":2,"by":1.5}', '{"by":3,"to":4}', '{"By":3}', '{"":3}',
-    '{"b\\u0079":3}', '{"by":[3]}', '{"by":{}}', '{"by":"3"}', '{"by":null}', '{"by":true}', "{}", "3", "[3]",
-]
-EXTRA_MEMBERS = [
-    '"failed":true', '"failed":false', '"from":"red/c1"', '"id":1', '"turn":1', '"x":[]', '"op":"begin"',
-    '"grain":"counter/red:b"', '"method":"get"', '"args":null',
-]
-NOT_BUILT = [
-    '{"op":"tick","now":1}', '{"op":"sweep"}', '{"from":"red/c1","id":1,"op":"status"}',
-    '{"op":"store","grain":"counter/red:a","turn":1}', '{"op":"abandon","grain":"counter/red:a","turn":1}',
-    '{"op":"deliver","grain":"counter/red:a"}',
-    '{"from":"red/c1","id":1,"op":"poke","grain":"counter/red:a","state":1}',
-]
-LETTERS = b'{}[]":,0123456789eE+-.\\utrfalsn \t\r\x00\x7f\x80\xc3\xa9\xed\xa0\x80\xf0\xff'
-RAW_LINES = [
-    b"hello", b"\r", b" ", b"\xef\xbb\xbf{}", b"{", b'"', b"\xff\xfe", b"null", b"[]", b"0", b'"op"', b"{}",
-]
-GOOD_WORDS = [["steps", "red:2:4"], ["steps", "red:1:1"], ["steps", "red:10000:1000"]]
-OTHER_WORDS = [
+from random import Random
+from typing import NamedTuple
+
+from random_lines import (BAD_CALLERS, BAD_GRAINS, NUMBERS, ODD_ARGUMENTS, OTHER_CALLERS, SPACES, TEXTS, VALUES,
+                          asked_line, damaged, dumped, grain_line, long_line, object_line, odd_argument, raw_line,
+                          some_value, with_extra)
+from slow_silo import lines, program
+from slow_silo.built import STORED, Built
+from slow_silo.journal import journal_of, journal_text
+from slow_silo.machine import LOADING, WAITING, Limits
+from slow_silo.silo import Setup, Silo
+
+TENANTS = ["red", "blue", "reddish", "r"]
+NAMES = ["a", "a", "a", "b", "a/b:c", '"\\', "n" * 128]
+ODD_METHODS = ["fly", "", "get", "add\u0000", "GET", "save"]
+STRANGE_GRAINS = ["counter/blue:a", "counter/reddish:a", "counter/r:a", "clock/red:a", "sheet/red:a", "relay/blue:a"]
+ACTIVATIONS = ["1", "2", "3", "4", "10000"]
+MAILBOXES = ["1", "1", "2", "4", "1000"]
+AGES = ["1", "5", "100", "900000"]
+LENGTHS = [1, 3, 12, 40, 120, 120]
+ODD_WORDS = [
+    ["steps", "--age", "0", "red:2:4"], ["steps", "--age", "86400001", "red:2:4"], ["steps", "--age", "x", "red:2:4"],
     ["steps", "--age", "1", "red:2:4"], ["steps", "red:2:4", "--age=86400000"], ["steps", "blue:2:4"],
-    ["steps", "--age", "0", "red:2:4"], ["steps", "--age", "86400001", "red:2:4"],
-    ["steps", "--age", "x", "red:2:4"], ["steps", "--years", "red:2:4"], ["steps"], ["walk", "red:2:4"],
-    ["steps", "red:2:4", "red:2:4"], ["steps", "red:02:4", "x"], ["steps", "red:0:4"], ["steps", "red:10001:4"],
-    ["steps", "red:2:1001"], ["steps", "red:2"], ["steps", "red:2:4:8"], ["steps", "Red:2:4"],
-    ["steps", "red:+2:4"], ["steps", "red:2:"], ["steps", ""], ["steps", "r" * 33 + ":2:4"],
-    ["steps", "red:99999999999999999999:4"], ["steps", "réd:2:4"],
+    ["steps", "--years", "red:2:4"], ["steps"], ["walk", "red:2:4"], ["steps", "red:2:4", "red:2:4"],
+    ["steps", "red:02:4", "x"], ["steps", "red:0:4"], ["steps", "red:10001:4"], ["steps", "red:2:1001"],
+    ["steps", "red:2"], ["steps", "red:2:4:8"], ["steps", "Red:2:4"], ["steps", "red:+2:4"], ["steps", "red:2:"],
+    ["steps", ""], ["steps", "r" * 33 + ":2:4"], ["steps", "red:99999999999999999999:4"], ["steps", "réd:2:4"],
+    ["steps", "red:1:1", "blue:1:1", "x", "red:1:1"],
 ]
 
 
-def dumped(value):
-    return json.dumps(value, separators=(",", ":"), ensure_ascii=False)
+class Input(NamedTuple):
+    words: list[str]
+    data: bytes
+    # the files that there are, by their paths
+    files: dict = {}
 
 
-def nested(random):
-    """Lists or objects in one another, around the depths at which something changes."""
-    levels = random.choice([1, 2, 31, 32, 33, 64, 125, 126, 127, 128, 300])
-    inner = random.choice(["", "", "1", '"x"', "1.5", "1e999"])
-    if random.random() < 0.5:
-        return "[" * levels + inner + "]" * levels
-    return '{"a":' * levels + (inner or "null") + "}" * levels
+class World:
+    """The names that an input's lines are made of, and the silo that they have led to."""
 
+    def __init__(self, random: Random, tenants: list[str], silo: Silo, crowded: bool):
+        self.random = random
+        self.tenants = tenants
+        self.silo = silo
+        self.built = silo.setup.built
+        # how often a grain that the silo holds is asked for again
+        self.again = 0.3 if crowded else 0.7
+        # many grains, so that the limit of activations is met
+        self.names = [f"c{number}" for number in range(6)] if crowded else NAMES
 
-def wide(random):
-    """A list whose message, with the method `get`, is at the limit of its length or one byte beside it."""
-    zeros = 7_270
-    length = random.choice([oracle.MAX_MESSAGE - 1, oracle.MAX_MESSAGE, oracle.MAX_MESSAGE + 1])
-    filler = length - oracle.spelled_length([0] * zeros + [""]) - 5 - len("get")
-    return "[" + "0," * zeros + dumped("x" * filler) + "]"
+    def tenant(self) -> str:
+        return self.random.choice(self.tenants)
 
+    def caller(self, tenant: str) -> str:
+        return f"{tenant}/{self.random.choice(['c1', 'c2', 'c-9'])}"
 
-def argument(random):
-    """An argument that fits no method, as a rule."""
-    kind = random.random()
-    if kind < 0.25:
-        return '{"by":%s}' % random.choice(NUMBERS)
-    if kind < 0.40:
-        return random.choice(NUMBERS)
-    if kind < 0.55:
-        return random.choice(TEXTS)
-    if kind < 0.75:
-        return random.choice(VALUES + BY_VALUES)
-    return nested(random) if kind < 0.97 else wide(random)
+    def grain(self, tenant: str) -> str:
+        """A grain of the tenant: as often as not one that the silo holds."""
+        held = [grain.text() for grain in self.silo.machine(tenant).entries]
+        if held and self.random.random() < self.again:
+            return self.random.choice(held)
+        kind = self.random.choice(sorted(self.built.methods))
+        return f"{kind}/{tenant}:{self.random.choice(self.names)}"
 
+    def any_grain(self) -> str:
+        own = self.grain(self.tenant())
+        return self.random.choice([own, own, self.random.choice(STRANGE_GRAINS)])
 
-def object_line(random, members):
-    """The members in some order, sometimes with spaces between."""
-    members = list(members)
-    if random.random() < 0.5:
-        random.shuffle(members)
-    if random.random() < 0.8:
-        return "{" + ",".join(f"{dumped(name)}:{value}" for name, value in members) + "}"
-    space = lambda: random.choice(SPACES[:6])
-    inner = ",".join(f"{space()}{dumped(name)}{space()}:{space()}{value}{space()}" for name, value in members)
-    return space() + "{" + inner + "}" + space()
+    # ---- calls
 
+    def method_and_argument(self, kind: str) -> tuple[str, str]:
+        """A method of the kind as a rule, with an argument that fits it as a rule."""
+        random = self.random
+        known = sorted(self.built.methods.get(kind, ["get"]))
+        own = [method for method in known if method not in STORED]
+        chance = random.random()
+        method = random.choice(ODD_METHODS if chance < 0.15 else own if chance < 0.8 else known)
+        if random.random() < 0.12:
+            return method, random.choice([random.choice(ODD_ARGUMENTS), odd_argument(random)])
+        return method, dumped(self.fitting(kind, method))
 
-def good_call(random):
-    """A call of red to one of its counters; its method and its argument may not fit."""
-    method = random.choice(["add", "add", "add", "get", "get", "fly", "", "save", "add\u0000", "GET"])
-    by = random.choice([1, 3, -2, 2**62, 2**63 - 1, -(2**63)])
-    fitting = '{"by":%d}' % by if method == "add" else "null"
-    args = random.choice([fitting] * 10 + [random.choice(BY_VALUES), argument(random)])
-    return call_line(random, random.choice(CALLERS), random.choice(GRAINS), method, args)
+    def fitting(self, kind: str, method: str) -> object:
+        random = self.random
+        if method == "add":
+            return {"by": random.choice([1, 3, -2, 2**62, 2**63 - 1, -(2**63)])}
+        if method == "put":
+            return {"name": random.choice(["k", "l", "", "é"]), "value": some_value(random)}
+        if method == "drop" or method == "get" and kind == "sheet":
+            return {"name": random.choice(["k", "l", "", "é"])}
+        if method in ("join", "leave"):
+            joined = [f"counter/{self.tenant()}:{name}" for name in "abcde"]
+            return {"grain": random.choice([*joined, self.any_grain(), "counter/blue:x", "x"])}
+        if method == "send":
+            to, sent = random.choice([("counter", "get"), ("counter", "add"), ("sheet", "put"), ("relay", "join"),
+                                      ("relay", "leave"), ("counter", "save"), ("counter", "fly")])
+            return {"args": self.fitting(to, sent), "method": sent}
+        return None
 
+    def good_call(self) -> str:
+        """A call of a tenant to one of its own grains."""
+        tenant = self.tenant()
+        grain = self.grain(tenant)
+        method, argument = self.method_and_argument(grain.split("/")[0])
+        return self.call(self.caller(tenant), grain, method, argument)
 
-def other_call(random):
-    """A call of any tenant to any grain."""
-    caller = random.choice(CALLERS + OTHER_CALLERS)
-    return call_line(random, caller, random.choice(GRAINS + OTHER_GRAINS), "get", "null")
+    def other_call(self) -> str:
+        """A call of any tenant to any grain."""
+        caller = self.random.choice([self.caller(self.tenant()), *OTHER_CALLERS])
+        return self.call(caller, self.any_grain(), "get", "null")
 
+    def call(self, caller: str, grain: str, method: str, argument: str) -> str:
+        return asked_line(self.random, "call", caller, grain=dumped(grain), method=dumped(method), args=argument)
 
-def call_line(random, caller, grain, method, args):
-    number = random.choice([0, 1, 7, 2**63 - 1])
-    members = [("from", dumped(caller)), ("id", str(number)), ("op", '"call"'), ("grain", dumped(grain)),
-               ("method", dumped(method))]
-    left_out = args == "null" and random.random() < 0.3
-    return object_line(random, members if left_out else members + [("args", args)])
+    # ---- steps that are possible now, as a rule
 
+    def possible(self) -> list[tuple[str, str, dict]]:
+        """What may be done to the entries, as the op, the grain and the members beside."""
+        found = []
+        for grain, entry in self.silo.entries().items():
+            machine = self.silo.machine(grain.tenant)
+            if entry.phase == WAITING:
+                found.append(("activate", grain.text(), {}))
+            elif entry.phase == LOADING:
+                found.append(("load", grain.text(), self.failed(0.05)))
+            elif entry.queue and machine.may_open(grain, entry):
+                found += [("begin", grain.text(), {})] * 2
+            for number in entry.turns:
+                _entry, _request, plan = machine.turn(grain, number)
+                closing = ("end", {}) if plan.asks is None else ("store", self.failed(0.1))
+                found += [(closing[0], grain.text(), {"turn": str(number), **closing[1]})] * 2
+        for machine in self.silo.machines.values():
+            found += [("deliver", source.text(), {}) for source, _sent in machine.sends]
+        return [step for step in found if step[0] in self.built.ops]
 
-def grain_line(random, op, grain, turn=None):
-    members = [("op", dumped(op)), ("grain", dumped(grain))]
-    return object_line(random, members if turn is None else members + [("turn", str(turn))])
+    def failed(self, chance: float) -> dict:
+        """The member `failed`, now and then."""
+        if not self.built.failed_member or self.random.random() > 2 * chance:
+            return {}
+        return {"failed": self.random.choice(["true", "false"])}
 
+    def asked(self) -> str:
+        """What a client asks beside calls, and what nobody asks."""
+        random, tenant = self.random, self.tenant()
+        op = random.choice(["poke", "status", "tick", "tick", "sweep", "abandon"])
+        if op == "poke":
+            state = random.choice([dumped(self.state()), dumped(self.state()), odd_argument(random)])
+            grain = random.choice([self.grain(tenant), self.any_grain()])
+            return asked_line(random, "poke", self.caller(tenant), grain=dumped(grain), state=state)
+        if op == "status":
+            return asked_line(random, "status", random.choice([self.caller(tenant), *OTHER_CALLERS]))
+        if op == "sweep":
+            return object_line(random, [("op", '"sweep"')])
+        if op == "tick":
+            now = max(0, self.silo.clock + random.choice([0, 1, 1, 3, 5, 100, -1]))
+            return object_line(random, [("op", '"tick"'), ("now", str(now))])
+        turns = [(grain, number) for grain, entry in self.silo.entries().items() for number in entry.turns]
+        grain, number = random.choice(turns) if turns else (None, 1)
+        return grain_line(random, "abandon", self.grain(tenant) if grain is None else grain.text(), turn=str(number))
 
-def likely_step(random, silo):
-    """A step that is possible now, as a rule."""
-    found = []
-    for grain, entry in silo.machine("red").entries.items():
-        text = f"{grain[0]}/{grain[1]}:{grain[2]}"
-        if entry.phase == "waiting":
-            found.append(("activate", text, None))
-        elif entry.phase == "loading":
-            found.append(("load", text, None))
-        elif entry.open is not None:
-            found.append(("end", text, entry.open[0]))
-        elif entry.queue:
-            found.append(("begin", text, None))
-    if not found or random.random() < 0.35:
-        return good_call(random)
-    return grain_line(random, *random.choice(found))
+    def state(self) -> object:
+        """A state of some kind, or of none."""
+        grains = [self.grain(self.tenant()) for _ in range(self.random.randrange(6))]
+        return self.random.choice([5, {"k": some_value(self.random)}, grains, some_value(self.random)])
 
+    def likely_step(self) -> str:
+        possible = self.possible()
+        kind = self.random.random()
+        if kind < 0.07 and "poke" in self.built.ops:
+            return self.asked()
+        if kind < 0.35 or not possible:
+            return self.good_call()
+        op, grain, members = self.random.choice(possible)
+        return grain_line(self.random, op, grain, **members)
 
-def odd_call(random):
-    """A call with a member that may not be what it should be, or that is missing, or one too many."""
-    members = {
-        "from": dumped(random.choice(CALLERS)), "id": "1", "op": '"call"',
-        "grain": dumped(random.choice(GRAINS)), "method": random.choice(['"get"', '"add"']), "args": "null",
-    }
-    for _ in range(random.choice([1, 1, 2])):
-        name = random.choice(list(members))
-        members[name] = random.choice([
-            dumped(random.choice(BAD_GRAINS + OTHER_GRAINS)), dumped(random.choice(BAD_CALLERS + OTHER_CALLERS)),
-            random.choice(NUMBERS), random.choice(TEXTS), random.choice(VALUES), argument(random),
-            argument(random),
-        ])
-    if random.random() < 0.2:
-        members.pop(random.choice(list(members)))
-    return with_extra(random, object_line(random, members.items()))
+    # ---- lines with something that isn't as it should be
 
-
-def odd_step(random):
-    """A step that isn't possible now, as a rule, or has a member that isn't what it should be."""
-    op = random.choice(["activate", "load", "begin", "end", "end", "Begin", "", "call", "begin "])
-    grain = random.choice(random.choice([GRAINS, GRAINS, OTHER_GRAINS, BAD_GRAINS]))
-    turn = random.choice(["0", "1", "2", "3", random.choice(NUMBERS), '"1"', "null", None])
-    has_turn = op == "end" or random.random() < 0.1
-    return with_extra(random, grain_line(random, op, grain, turn if has_turn else None))
-
-
-def doubled_member(random):
-    """A call whose argument stands twice: the last one counts, and both have to be JSON."""
-    line = call_line(random, random.choice(CALLERS), random.choice(GRAINS), "get", argument(random))
-    return line.rstrip(" \t\r").removesuffix("}") + ',"args":' + random.choice(["null", argument(random)]) + "}"
-
-
-def with_extra(random, line):
-    """The line, now and then with a member more."""
-    if random.random() < 0.85:
-        return line
-    return line.rstrip(" \t\r").removesuffix("}") + "," + random.choice(EXTRA_MEMBERS) + "}"
-
-
-def long_line(random):
-    """A line near the limit of its length: filled with spaces, or with a text."""
-    length = random.choice([65_534, 65_535, 65_536, 65_537, 65_538, 70_000, 140_000])
-    line = good_call(random).encode()
-    if random.random() < 0.5:
-        return line[:-1] + b" " * (length - len(line)) + b"}"
-    return line + random.choice([b" ", b"x", b"\r"]) * (length - len(line))
-
-
-def raw_line(random):
-    """Bytes without any form."""
-    some = bytes(random.choice(LETTERS) for _ in range(random.randrange(1, 60)))
-    return random.choice([some, some, random.choice(RAW_LINES)])
-
-
-def damaged(random, line):
-    """A line with a few bytes changed, cut out, doubled or added."""
-    line = bytearray(line)
-    for _ in range(random.choice([1, 1, 1, 2, 4])):
-        if not line:
-            break
-        place = random.randrange(len(line))
-        kind = random.randrange(5)
-        if kind == 0:
-            line[place] = random.randrange(256)
-        elif kind == 1:
-            del line[place : place + random.choice([1, 1, 3, 20])]
-        elif kind == 2:
-            line[place:place] = line[place : place + random.choice([1, 2, 8])]
-        elif kind == 3:
-            line[place:place] = bytes([random.choice(b'{}[]":,0e-.\\ \t\r\x00\xc3')])
+    def odd_call(self) -> str:
+        """A call with a member that may not be what it should be, or that is missing, or one too many."""
+        random = self.random
+        op = random.choice(["call", "call", "call", "poke"])
+        members = {"from": dumped(self.caller(self.tenant())), "id": "1", "op": dumped(op)}
+        members["grain"] = dumped(self.any_grain())
+        if op == "call":
+            members.update(method=random.choice(['"get"', '"add"']), args="null")
         else:
-            del line[place:]
-    return bytes(line)
+            members.update(state="5")
+        for _ in range(random.choice([1, 1, 2])):
+            members[random.choice(list(members))] = random.choice([
+                dumped(random.choice(BAD_GRAINS + STRANGE_GRAINS)),
+                dumped(random.choice(BAD_CALLERS + OTHER_CALLERS)),
+                random.choice(NUMBERS), random.choice(TEXTS), random.choice(VALUES), odd_argument(random),
+                odd_argument(random),
+            ])
+        if random.random() < 0.2:
+            members.pop(random.choice(list(members)))
+        return with_extra(random, object_line(random, members.items()))
+
+    def odd_step(self) -> str:
+        """A step that isn't possible now, as a rule, or has a member that isn't what it should be."""
+        random = self.random
+        op = random.choice(["activate", "load", "begin", "end", "end", "store", "abandon", "deliver", "tick", "sweep",
+                            "status", "Begin", "", "call", "begin "])
+        grain = random.choice([self.any_grain(), self.any_grain(), random.choice(STRANGE_GRAINS + BAD_GRAINS)])
+        number = random.choice(["0", "1", "2", "3", random.choice(NUMBERS), '"1"', "null"])
+        if op == "tick":
+            return with_extra(random, object_line(random, [("op", '"tick"'), ("now", number)]))
+        if op == "sweep":
+            return with_extra(random, '{"op":"sweep"}')
+        if op == "status":
+            return with_extra(random, object_line(random, [("op", '"status"'), ("from", '"red/c1"'), ("id", number)]))
+        has_turn = op in ("end", "store", "abandon") and random.random() < 0.95 or random.random() < 0.1
+        return with_extra(random, grain_line(random, op, grain, **({"turn": number} if has_turn else {})))
+
+    def doubled_member(self) -> str:
+        """A call whose argument stands twice: the last one counts, and both have to be JSON."""
+        line = self.call(self.caller(self.tenant()), self.any_grain(), "get", odd_argument(self.random))
+        last = self.random.choice(["null", odd_argument(self.random)])
+        return line.rstrip(" \t\r").removesuffix("}") + ',"args":' + last + "}"
+
+    def line(self) -> bytes:
+        """One line; one that has an LF inside becomes several."""
+        random, kind = self.random, self.random.random()
+        if kind < 0.70:
+            return self.likely_step().encode()
+        if kind < 0.76:
+            return self.other_call().encode()
+        if kind < 0.78:
+            return self.doubled_member().encode()
+        if kind < 0.82:
+            return self.odd_call().encode()
+        if kind < 0.88:
+            return self.odd_step().encode()
+        if kind < 0.93:
+            make = random.choice([self.good_call, self.other_call, self.odd_call, self.odd_step, self.likely_step])
+            return damaged(random, make().encode())
+        if kind < 0.95:
+            return raw_line(random)
+        if kind < 0.97:
+            return (random.choice(SPACES) + self.likely_step() + random.choice(SPACES)).encode()
+        return long_line(random, self.good_call().encode()) if kind < 0.975 else b""
 
 
-def make_line(random, silo):
-    """One line; one that has an LF inside becomes several."""
-    kind = random.random()
-    if kind < 0.68:
-        return likely_step(random, silo).encode()
-    if kind < 0.74:
-        return other_call(random).encode()
-    if kind < 0.76:
-        return doubled_member(random).encode()
-    if kind < 0.80:
-        return odd_call(random).encode()
-    if kind < 0.87:
-        return odd_step(random).encode()
-    if kind < 0.92:
-        make = random.choice([good_call, other_call, odd_call, odd_step])
-        return damaged(random, make(random).encode())
-    if kind < 0.94:
-        return raw_line(random)
-    if kind < 0.95:
-        return random.choice(NOT_BUILT).encode()
-    if kind < 0.97:
-        return (random.choice(SPACES) + likely_step(random, silo) + random.choice(SPACES)).encode()
-    return long_line(random) if kind < 0.975 else b""
+# ---- inputs
+
+def tenant_words(random: Random, tenants: list[str]) -> list[str]:
+    return [f"{tenant}:{random.choice(ACTIVATIONS)}:{random.choice(MAILBOXES)}" for tenant in tenants]
 
 
-def make_input(random):
-    """The arguments of one run, and its standard input."""
-    words = random.choice(GOOD_WORDS if random.random() < 0.9 else OTHER_WORDS)
-    silo = oracle.Silo(["red"])
-    lines = []
-    for _ in range(random.choice([0, 1, 3, 12, 40, 120])):
-        line = make_line(random, silo)
-        for part in line.split(b"\n"):
-            silo.answer(part)
-        lines.append(line)
+def steps_input(random: Random, built: Built) -> Input:
+    """An input of `steps`."""
+    count = 1 if built.tenants == 1 else random.choice([1, 1, 2, 2, 3, 4])
+    tenants = TENANTS[:count]
+    if random.random() < 0.05:
+        return Input(random.choice(ODD_WORDS), b"")
+    crowded = random.random() < 0.3
+    words = tenant_words(random, tenants)
+    age = random.choice(AGES)
+    silo = Silo(Setup(program.tenants_of(words, built), int(age), built=built))
+    world = World(random, tenants, silo, crowded)
+    made = []
+    for _ in range(random.choice(LENGTHS)):
+        made.append(world.line())
+        for line in made[-1].split(b"\n"):
+            lines.answer(silo, line)
     ending = random.choice([b"\n", b"\n", b"\n", b"\r\n"])
-    data = ending.join(lines)
-    return words, data + (ending if lines and random.random() < 0.8 else b"")
+    data = ending.join(made) + (ending if made and random.random() < 0.8 else b"")
+    return Input(["steps", "--age", age, *words], data)
+
+
+def serve_input(random: Random, built: Built) -> Input:
+    """An input of `serve` whose output is the same in every order: no two lanes ask for one grain, or for a status."""
+    tenants = TENANTS[: random.choice([1, 2, 3])]
+    silo = Silo(Setup(tuple((tenant, Limits(10_000, 1_000)) for tenant in tenants), built=built))
+    world = World(random, tenants, silo, False)
+    made = []
+    for _ in range(random.choice(LENGTHS)):
+        caller = world.caller(world.tenant())
+        tenant, client = caller.split("/")
+        kind = random.choice(["counter", "sheet"])
+        method, argument = world.method_and_argument(kind)
+        grain = f"{kind}/{tenant}:{client}"
+        line = world.call(caller, grain, method, argument)
+        if random.random() < 0.15:
+            line = random.choice([world.call("red/c1", "counter/red:c1", "get", odd_argument(random)), "hello",
+                                  grain_line(random, "begin", grain), '{"op":"sweep"}', '{"op":"tick","now":3}',
+                                  world.call(caller, random.choice(BAD_GRAINS), "get", "null")])
+        made.append(line.encode() + b"\n")
+    words = ["serve", "--workers", random.choice(["1", "2", "4", "64"])]
+    return Input(words + [f"{tenant}:10000:1000" for tenant in tenants], b"".join(made))
+
+
+def audit_input(random: Random, built: Built) -> Input:
+    """A journal of a silo, as it is or with something changed."""
+    made = steps_input(random, built)
+    while len(made.words) < 4 or made.words[1] != "--age":
+        made = steps_input(random, built)
+    silo = Silo(Setup(program.tenants_of(made.words[3:], built), int(made.words[2]), built=built))
+    for line in made.data.split(b"\n"):
+        lines.answer(silo, line)
+    text = journal_text(journal_of(silo))
+    kind = random.random()
+    if kind < 0.3:
+        text = damaged(random, text)
+    elif kind < 0.8:
+        text = with_lines_changed(random, text)
+    return Input(["audit", "j"], b"", {"j": text})
+
+
+def with_lines_changed(random: Random, text: bytes) -> bytes:
+    """A line is left out, stands twice, or changes places with the next; the number of steps is made to fit again."""
+    changed = text.splitlines(keepends=True)
+    place = random.randrange(len(changed))
+    kind = random.randrange(4)
+    if kind == 0:
+        del changed[place]
+    elif kind == 1:
+        changed.insert(place, changed[place])
+    elif kind == 2:
+        changed[place : place + 2] = reversed(changed[place : place + 2])
+    else:
+        changed[place] = damaged(random, changed[place])
+    heads = (b"silo-journal", b"age", b"tenant", b"reply", b"row", b"close")
+    steps = sum(not line.startswith(heads) for line in changed)
+    if changed and changed[-1].startswith(b"close") and random.random() < 0.8:
+        changed[-1] = b"close %d\n" % steps
+    return b"".join(changed)
+
+
+MAKERS = {"steps": steps_input, "serve": serve_input, "audit": audit_input}
+
+
+def make_input(random: Random, built: Built) -> Input:
+    """An input of one of the subcommands that are built."""
+    command = random.choice(["steps"] * 8 + sorted(built.commands))
+    return MAKERS[command](random, built)

@@ -1,0 +1,257 @@
+"""A journal's text: what a silo was set up with, the steps that it did, what it replied, and its rows."""
+
+from __future__ import annotations
+
+import re
+from typing import NamedTuple, Optional
+
+from . import codes
+from .machine import Limits
+from .names import Caller, Grain, is_word, read_caller, read_grain
+from .silo import Silo
+from .steps import (MAX_NUMBER, Abandon, Activate, Begin, Call, Client, Deliver, End, Load, Poke, Refuse, Reply, Status,
+                    Step, Store, Sweep, Tick)
+from .storage import CLEARED, LAST_VERSION, Row
+from .values import NotSpelled, read_message, read_state, spelled, spelled_message
+
+MAX_AGE = 86_400_000
+MAX_TENANTS = 1_000
+MAX_ACTIVATIONS = 10_000
+MAX_MAILBOX = 1_000
+
+
+class Journal(NamedTuple):
+    tenants: tuple[tuple[str, Limits], ...]
+    age: int
+    steps: tuple[Step, ...]
+    replies: tuple[Reply, ...]
+    rows: tuple[tuple[Grain, Row], ...]
+
+
+class RefusedAt(Exception):
+    """A line that fits no form in its place, counted from 1."""
+
+    def __init__(self, line: int):
+        super().__init__(line)
+        self.line = line
+
+
+def journal_of(silo: Silo) -> Journal:
+    setup = silo.setup
+    return Journal(setup.tenants, setup.age, tuple(silo.journal), tuple(silo.replies), tuple(silo.rows()))
+
+
+# ---- writing
+
+def whether_failed(failed: bool) -> str:
+    return "failed" if failed else "ok"
+
+
+def step_fields(step: Step) -> list:
+    """The fields of a step's line behind its first word."""
+    if isinstance(step, Call):
+        return [step.caller.text(), step.id, step.grain.text(), spelled_message(step.method, step.args).hex()]
+    if isinstance(step, Poke):
+        return [step.caller.text(), step.id, step.grain.text(), whether_failed(step.failed), spelled(step.state).hex()]
+    if isinstance(step, Load):
+        return [step.grain.text(), whether_failed(step.failed)]
+    if isinstance(step, Store):
+        return [step.grain.text(), step.turn, whether_failed(step.failed)]
+    return [field.text() if isinstance(field, (Caller, Grain)) else field for field in step]
+
+
+def reply_fields(reply: Reply) -> list:
+    to = [reply.to.caller.text(), reply.to.id] if isinstance(reply.to, Client) else [reply.to.text(), "-"]
+    return [*to, "ok", spelled(reply.value).hex()] if reply.code is None else [*to, "no", reply.code, reply.text]
+
+
+def row_fields(grain: Grain, row: Row) -> list:
+    return [grain.text(), row.version, "-" if row.content is CLEARED else spelled(row.content).hex()]
+
+
+def journal_text(journal: Journal) -> bytes:
+    lines = [["silo-journal", 1], ["age", journal.age]]
+    lines += [["tenant", tenant, *limits] for tenant, limits in journal.tenants]
+    lines += [[type(step).__name__.lower(), *step_fields(step)] for step in journal.steps]
+    lines += [["reply", *reply_fields(reply)] for reply in journal.replies]
+    lines += [["row", *row_fields(grain, row)] for grain, row in journal.rows]
+    lines += [["close", len(journal.steps)]]
+    return "".join(" ".join(map(str, fields)) + "\n" for fields in lines).encode()
+
+
+# ---- reading fields
+
+class Misfit(Exception):
+    """A field isn't what stands in its place."""
+
+
+def fits(value: object) -> object:
+    if value is None or value is False:
+        raise Misfit
+    return value
+
+
+def number(field: str, least: int = 0, most: int = MAX_NUMBER) -> int:
+    fits(re.fullmatch("0|[1-9][0-9]{0,19}", field, re.ASCII))
+    fits(least <= int(field) <= most)
+    return int(field)
+
+
+def caller(field: str) -> Caller:
+    return fits(read_caller(field))
+
+
+def grain(field: str) -> Grain:
+    return fits(read_grain(field))
+
+
+def failed(field: str) -> bool:
+    fits(field in ("ok", "failed"))
+    return field == "failed"
+
+
+def data(field: str) -> bytes:
+    fits(re.fullmatch("([0-9a-f]{2})*", field, re.ASCII))
+    return bytes.fromhex(field)
+
+
+def spelled_as(read, field: str) -> object:
+    try:
+        return read(data(field))
+    except NotSpelled as error:
+        raise Misfit from error
+
+
+# ---- reading lines
+
+def refuse_line(who: str, asked: str, code: str) -> Refuse:
+    fits(code in map(str, codes.LINE_REFUSALS))
+    return Refuse(caller(who), number(asked), int(code))
+
+
+def call_line(who: str, asked: str, target: str, message: str) -> Call:
+    return Call(caller(who), number(asked), grain(target), *spelled_as(read_message, message))
+
+
+def poke_line(who: str, asked: str, target: str, went: str, state: str) -> Poke:
+    return Poke(caller(who), number(asked), grain(target), spelled_as(read_state, state), failed(went))
+
+
+# how many fields stand behind the first word, and what they read as
+STEP_LINES = {
+    "refuse": (3, refuse_line),
+    "call": (4, call_line),
+    "poke": (5, poke_line),
+    "status": (2, lambda who, asked: Status(caller(who), number(asked))),
+    "deliver": (1, lambda at: Deliver(grain(at))),
+    "activate": (1, lambda at: Activate(grain(at))),
+    "load": (2, lambda at, went: Load(grain(at), failed(went))),
+    "begin": (1, lambda at: Begin(grain(at))),
+    "store": (3, lambda at, turn, went: Store(grain(at), number(turn), failed(went))),
+    "end": (2, lambda at, turn: End(grain(at), number(turn))),
+    "abandon": (2, lambda at, turn: Abandon(grain(at), number(turn))),
+    "tick": (1, lambda now: Tick(number(now))),
+    "sweep": (0, Sweep),
+}
+
+
+def read_tenant(line: str, before: list) -> tuple[str, Limits]:
+    word, tenant, activations, mailbox = split(line, 4)
+    fits(word == "tenant" and is_word(tenant) and tenant not in dict(before) and len(before) < MAX_TENANTS)
+    return tenant, Limits(number(activations, 1, MAX_ACTIVATIONS), number(mailbox, 1, MAX_MAILBOX))
+
+
+def read_step(line: str, _before: list) -> Step:
+    word, *fields = line.split(" ")
+    fits(word in STEP_LINES)
+    count, read = STEP_LINES[word]
+    fits(len(fields) == count)
+    return read(*fields)
+
+
+def read_reply(line: str, _before: list) -> Reply:
+    fields = line.split(" ", 5)
+    fits(fields[0] == "reply" and len(fields) >= 5)
+    to = grain(fields[1]) if fields[2] == "-" else Client(caller(fields[1]), number(fields[2]))
+    if fields[3] == "ok":
+        fits(len(fields) == 5)
+        return Reply(to, spelled_as(read_state, fields[4]))
+    fits(fields[3] == "no" and len(fields) == 6 and fields[4] in map(str, codes.TEXTS))
+    fits(re.fullmatch("[ -~]+", fields[5], re.ASCII))
+    return Reply(to, code=int(fields[4]), text=fields[5])
+
+
+def read_row(line: str, before: list) -> tuple[Grain, Row]:
+    word, at, version, content = split(line, 4)
+    fits(word == "row" and (not before or before[-1][0] < grain(at)))
+    held = CLEARED if content == "-" else spelled_as(read_state, content)
+    return grain(at), Row(number(version, 1, LAST_VERSION), held)
+
+
+def split(line: str, count: int) -> list[str]:
+    fields = line.split(" ")
+    fits(len(fields) == count)
+    return fields
+
+
+class Reader:
+    """The lines of a text, each looked at until it fits."""
+
+    def __init__(self, text: bytes):
+        *self.lines, self.rest = text.split(b"\n")
+        self.place = 0
+
+    def refused(self) -> RefusedAt:
+        return RefusedAt(self.place + 1)
+
+    def next_if(self, read, before: list) -> Optional[object]:
+        """What the next line reads as, or None if it doesn't fit."""
+        if self.place == len(self.lines):
+            return None
+        try:
+            found = read(self.lines[self.place].decode("ascii"), before)
+        except (Misfit, UnicodeDecodeError):
+            return None
+        self.place += 1
+        return found
+
+    def all_that(self, read) -> list:
+        found: list = []
+        while True:
+            one = self.next_if(read, found)
+            if one is None:
+                return found
+            found.append(one)
+
+    def next(self, read) -> object:
+        found = self.next_if(read, [])
+        if found is None:
+            raise self.refused()
+        return found
+
+
+def read_head(line: str, _before: list) -> bool:
+    return fits(line == "silo-journal 1")
+
+
+def read_age(line: str, _before: list) -> int:
+    word, age = split(line, 2)
+    fits(word == "age")
+    return number(age, 1, MAX_AGE)
+
+
+def read_journal(text: bytes) -> Journal:
+    """The journal, or RefusedAt."""
+    reader = Reader(text)
+    reader.next(read_head)
+    age = reader.next(read_age)
+    tenants = reader.all_that(read_tenant)
+    if not tenants:
+        raise reader.refused()
+    steps = reader.all_that(read_step)
+    replies = reader.all_that(read_reply)
+    rows = reader.all_that(read_row)
+    reader.next(lambda line, _before: fits(line == f"close {len(steps)}"))
+    if reader.place < len(reader.lines) or reader.rest:
+        raise reader.refused()
+    return Journal(tuple(tenants), age, tuple(steps), tuple(replies), tuple(rows))

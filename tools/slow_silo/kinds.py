@@ -1,0 +1,180 @@
+"""What the methods of grains come to: one function for each method, each a row of the table in docs/steps.md.
+
+A method's function takes the state and the argument, and gives the plan of a turn. A state of another shape, as a poke
+can leave one, counts as the kind's empty state; a plan that keeps the state leaves such a state as it is.
+"""
+
+from __future__ import annotations
+
+from typing import Callable, NamedTuple, Optional
+
+from . import codes
+from .built import Built
+from .names import Grain, read_grain
+from .values import MAX_STATE, is_whole, spelled_length
+
+MAX_MEMBERS = 4
+READ, WRITE, CLEAR = "read", "write", "clear"
+
+
+class Send(NamedTuple):
+    """A call that a turn sends to a grain."""
+
+    target: Grain
+    method: str
+    args: object
+
+
+class Plan(NamedTuple):
+    """What a turn comes to. Where there is a code, it is the answer, and the value isn't looked at."""
+
+    state: object
+    value: object = None
+    code: Optional[int] = None
+    # what is asked of the storage, if anything
+    asks: Optional[str] = None
+    sends: tuple = ()
+
+
+def answers(state: object, value: object) -> Plan:
+    return Plan(state, value)
+
+
+def refuses(state: object, code: int) -> Plan:
+    return Plan(state, code=code)
+
+
+def has_fields(args: object, /, **kinds: type) -> bool:
+    """The argument is a map with exactly these fields, each of its type."""
+    if not isinstance(args, dict) or set(args) != set(kinds):
+        return False
+    return all(kind is object or type(args[name]) is kind for name, kind in kinds.items())
+
+
+# ---- counters
+
+def number_of(state: object) -> int:
+    return state if is_whole(state) else 0
+
+
+def add(state: object, args: object) -> Plan:
+    if not has_fields(args, by=int):
+        return refuses(state, codes.MISFIT)
+    total = number_of(state) + args["by"]
+    return answers(total, total) if is_whole(total) else refuses(state, codes.OUT_OF_RANGE)
+
+
+def get_number(state: object, args: object) -> Plan:
+    return answers(state, number_of(state)) if args is None else refuses(state, codes.MISFIT)
+
+
+# ---- sheets
+
+def names_of(state: object) -> dict:
+    return state if isinstance(state, dict) else {}
+
+
+def put(state: object, args: object) -> Plan:
+    if not has_fields(args, name=str, value=object):
+        return refuses(state, codes.MISFIT)
+    changed = {**names_of(state), args["name"]: args["value"]}
+    if spelled_length(changed) > MAX_STATE:
+        return refuses(state, codes.STATE_TOO_LARGE)
+    return answers(changed, None)
+
+
+def get_value(state: object, args: object) -> Plan:
+    if not has_fields(args, name=str):
+        return refuses(state, codes.MISFIT)
+    return answers(state, names_of(state).get(args["name"]))
+
+
+def drop(state: object, args: object) -> Plan:
+    if not has_fields(args, name=str):
+        return refuses(state, codes.MISFIT)
+    others = {name: value for name, value in names_of(state).items() if name != args["name"]}
+    return answers(others, args["name"] in names_of(state))
+
+
+def list_names(state: object, args: object) -> Plan:
+    return answers(state, sorted(names_of(state))) if args is None else refuses(state, codes.MISFIT)
+
+
+# ---- relays
+
+def members_of(state: object) -> list:
+    """The texts of the grains in a relay: at most 4, no two alike."""
+    fits = (
+        isinstance(state, list)
+        and len(state) <= MAX_MEMBERS
+        and all(isinstance(member, str) and read_grain(member) for member in state)
+        and len(set(state)) == len(state)
+    )
+    return state if fits else []
+
+
+def join(state: object, args: object) -> Plan:
+    if not has_fields(args, grain=str) or read_grain(args["grain"]) is None:
+        return refuses(state, codes.MISFIT)
+    members = members_of(state)
+    if args["grain"] in members:
+        return answers(state, False)
+    if len(members) == MAX_MEMBERS:
+        return refuses(state, codes.OUT_OF_RANGE)
+    return answers(members + [args["grain"]], True)
+
+
+def leave(state: object, args: object) -> Plan:
+    if not has_fields(args, grain=str):
+        return refuses(state, codes.MISFIT)
+    members = members_of(state)
+    return answers([member for member in members if member != args["grain"]], args["grain"] in members)
+
+
+def send(state: object, args: object) -> Plan:
+    if not has_fields(args, args=object, method=str):
+        return refuses(state, codes.MISFIT)
+    members = members_of(state)
+    sends = tuple(Send(read_grain(member), args["method"], args["args"]) for member in members)
+    return Plan(state, len(members), sends=sends)
+
+
+# ---- every kind
+
+def asking(storage_call: str) -> Callable[[object, object], Plan]:
+    """A method that asks one thing of the storage: its answer is the storage's."""
+    def method(state: object, args: object) -> Plan:
+        return Plan(state, asks=storage_call) if args is None else refuses(state, codes.MISFIT)
+    return method
+
+
+STORING = {"save": asking(WRITE), "reload": asking(READ), "clear": asking(CLEAR)}
+METHODS = {
+    "counter": {"add": add, "get": get_number, **STORING},
+    "sheet": {"put": put, "get": get_value, "drop": drop, "list": list_names, **STORING},
+    "relay": {"join": join, "leave": leave, "send": send, **STORING},
+}
+READ_METHODS = {"counter": ["get"], "sheet": ["get", "list"], "relay": []}
+EMPTY_STATES = {"counter": 0, "sheet": {}, "relay": []}
+
+
+class Logic:
+    """The kinds and the methods that are built."""
+
+    def __init__(self, built: Built):
+        self.built = built
+
+    def knows(self, kind: str) -> bool:
+        return kind in self.built.methods
+
+    def is_read(self, kind: str, method: str) -> bool:
+        """The method never changes the state, asks nothing of the storage and sends nothing."""
+        return self.built.reads_together and method in self.built.methods[kind] and method in READ_METHODS[kind]
+
+    def empty(self, kind: str) -> object:
+        return EMPTY_STATES[kind]
+
+    def plan(self, kind: str, method: str, state: object, args: object) -> Plan:
+        if method not in self.built.methods[kind]:
+            return refuses(state, codes.UNKNOWN_METHOD)
+        return METHODS[kind][method](state, args)

@@ -1,0 +1,220 @@
+"""The lines of an input, and the lines that are written."""
+
+from __future__ import annotations
+
+import json
+from typing import Callable, Iterable, Optional, Union
+
+from . import codes, plain_json
+from .built import Built
+from .names import read_caller, read_grain
+from .silo import NOT_NOW, Silo
+from .steps import (Abandon, Activate, Begin, Call, Client, Deliver, End, Load, Poke, Refuse, Reply, Status,
+                    Step, Store, Sweep, Tick)
+from .values import (MAX_DEPTH, MAX_MESSAGE, MAX_STATE, depth, is_value, is_whole, message_length, spelled_length)
+
+MAX_LINE = 65_536
+MAX_LINES = 1_000_000
+
+
+class NotARequest(Exception):
+    """The line is refused with code 10."""
+
+
+# ---- what a line says
+
+# The members of each form beside `op`, and those that may be left out with what they then are.
+FORMS = {
+    "call": (["from", "id", "grain", "method"], {"args": None}),
+    "poke": (["from", "id", "grain", "state"], {}),
+    "status": (["from", "id"], {}),
+    "deliver": (["grain"], {}),
+    "activate": (["grain"], {}),
+    "load": (["grain"], {"failed": False}),
+    "begin": (["grain"], {}),
+    "store": (["grain", "turn"], {"failed": False}),
+    "end": (["grain", "turn"], {}),
+    "abandon": (["grain", "turn"], {}),
+    "tick": (["now"], {}),
+    "sweep": ([], {}),
+}
+ON_A_GRAIN = {"deliver": Deliver, "activate": Activate, "begin": Begin}
+ON_A_TURN = {"end": End, "abandon": Abandon}
+
+
+def read_with(read: Callable, value: object) -> object:
+    """What a text reads as."""
+    found = read(value) if isinstance(value, str) else None
+    if found is None:
+        raise NotARequest
+    return found
+
+
+def natural(value: object) -> int:
+    if not is_whole(value) or value < 0:
+        raise NotARequest
+    return value
+
+
+def of_type(kind: type, value: object) -> object:
+    if not isinstance(value, kind):
+        raise NotARequest
+    return value
+
+
+def members_of(line: bytes, built: Built) -> dict:
+    """The members that a line's form has."""
+    try:
+        said = plain_json.read(line)
+    except plain_json.NotJson as error:
+        raise NotARequest from error
+    if not isinstance(said, dict) or not isinstance(said.get("op"), str) or said["op"] not in built.ops:
+        raise NotARequest
+    needed, left_out = FORMS[said["op"]]
+    if "failed" in left_out and not built.failed_member:
+        left_out = {}
+    names = set(said) - {"op"}
+    if not set(needed) <= names <= set(needed) | set(left_out):
+        raise NotARequest
+    return {**left_out, **said}
+
+
+def step_said(said: dict, built: Built) -> Step:
+    op = said["op"]
+    if op in ("call", "poke"):
+        return asked_step(said, built)
+    if op == "status":
+        return Status(read_with(read_caller, said["from"]), natural(said["id"]))
+    if op == "tick":
+        return Tick(natural(said["now"]))
+    if op == "sweep":
+        return Sweep()
+    grain = read_with(read_grain, said["grain"])
+    if op in ON_A_GRAIN:
+        return ON_A_GRAIN[op](grain)
+    if op == "load":
+        return Load(grain, of_type(bool, said.get("failed", False)))
+    turn = natural(said["turn"])
+    if op in ON_A_TURN:
+        return ON_A_TURN[op](grain, turn)
+    return Store(grain, turn, of_type(bool, said["failed"]))
+
+
+def asked_step(said: dict, built: Built) -> Step:
+    """A call or a poke; one whose value or grain is refused is the step that says so."""
+    caller, number = read_with(read_caller, said["from"]), natural(said["id"])
+    text = of_type(str, said["grain"])
+    if said["op"] == "call":
+        of_type(str, said["method"])
+    code = refusal(said)
+    if code is None:
+        grain = read_grain(text)
+        if said["op"] == "call":
+            return Call(caller, number, grain, said["method"], said["args"])
+        return Poke(caller, number, grain, said["state"])
+    if not built.refusals_are_steps:
+        raise NotARequest
+    return Refuse(caller, number, code)
+
+
+def refusal(said: dict) -> Optional[int]:
+    """The first of these that fits."""
+    value = said["args"] if said["op"] == "call" else said["state"]
+    if depth(value) > MAX_DEPTH:
+        return codes.TOO_DEEP
+    if not is_value(value):
+        return codes.NOT_WHOLE
+    if said["op"] == "call" and message_length(said["method"], value) > MAX_MESSAGE:
+        return codes.TOO_LONG
+    if said["op"] == "poke" and spelled_length(value) > MAX_STATE:
+        return codes.STATE_TOO_LARGE
+    return codes.BAD_GRAIN if read_grain(said["grain"]) is None else None
+
+
+def read_line(line: bytes, built: Built) -> Union[Step, int, None]:
+    """A step, the code of a refusal that is no step, or nothing."""
+    if line == b"":
+        return None
+    if len(line) > MAX_LINE:
+        return codes.TOO_LONG
+    try:
+        return step_said(members_of(line, built), built)
+    except NotARequest:
+        return codes.NOT_A_REQUEST
+
+
+# ---- what is written
+
+def compact(members: dict) -> str:
+    return json.dumps(members, ensure_ascii=False, separators=(",", ":"), sort_keys=True)
+
+
+def reply_text(reply: Reply) -> str:
+    if isinstance(reply.to, Client):
+        to = {"from": reply.to.caller.text(), "id": reply.to.id}
+    else:
+        to = {"from": reply.to.text()}
+    if reply.code is None:
+        return compact({**to, "ok": reply.value})
+    return compact({**to, "error": reply.code, "text": reply.text})
+
+
+def refusal_text(code: int) -> str:
+    """What is written for a line that is no step."""
+    return compact({"error": code, "text": codes.text_of(code)})
+
+
+NOT_NOW_TEXT = compact({"text": NOT_NOW})
+
+
+# ---- the lines of an input, one after the other
+
+class TooMuchInput(Exception):
+    """The input has more lines than there may be."""
+
+
+class ReaderFailed(Exception):
+    """The reader failed."""
+
+
+class WriterFailed(Exception):
+    """The writer failed."""
+
+
+def lines_of(pieces: Iterable[bytes]) -> Iterable[bytes]:
+    """The lines of an input that comes in pieces. A last one without LF is a line if it has bytes."""
+    count, rest = 0, b""
+    for piece in pieces:
+        *whole, rest = (rest + piece).split(b"\n")
+        for line in whole:
+            count += 1
+            if count > MAX_LINES:
+                raise TooMuchInput
+            yield line
+    if rest:
+        if count == MAX_LINES:
+            raise TooMuchInput
+        yield rest
+
+
+def answer(silo: Silo, line: bytes) -> list[str]:
+    """The lines that are written for a line."""
+    said = read_line(line, silo.setup.built)
+    if said is None:
+        return []
+    if isinstance(said, int):
+        return [refusal_text(said)]
+    before = len(silo.replies)
+    if silo.apply(said) == NOT_NOW:
+        return [NOT_NOW_TEXT]
+    return [reply_text(reply) for reply in silo.replies[before:]]
+
+
+def run_lines(silo: Silo, pieces: Iterable[bytes], write: Callable[[bytes], None]) -> int:
+    """Answers each line as it comes. Gives the number of lines."""
+    count = 0
+    for line in lines_of(pieces):
+        for text in answer(silo, line):
+            write(text.encode() + b"\n")
+        count += 1
+    return count

@@ -1,0 +1,203 @@
+"""The program: its words, what it writes on both streams, and its status."""
+
+from __future__ import annotations
+
+from random import Random
+from typing import Iterable, NamedTuple, Optional
+
+from . import codes, lines
+from .audit import audit
+from .built import EVERYTHING, Built
+from .journal import (MAX_ACTIVATIONS, MAX_AGE, MAX_MAILBOX, RefusedAt, journal_of, journal_text, read_journal)
+from .machine import Limits
+from .names import is_word
+from .serve import answers_of, lanes_of, replies_to_grains, serve
+from .silo import DEFAULT_AGE, Setup, Silo
+from .steps import OF_A_CALLER, OF_NOBODY
+
+MAX_WORKERS = 64
+DEFAULT_WORKERS = 4
+FINE, BROKEN, BAD_WORDS, DIFFERS, BAD_JOURNAL = range(5)
+
+
+class Ended(Exception):
+    """The program ends with this status, and this line on standard error; with None the line isn't modelled."""
+
+    def __init__(self, status: int, line: Optional[str] = None):
+        super().__init__(status, line)
+        self.status = status
+        self.line = line
+
+
+class Run(NamedTuple):
+    """What a run gives. A stream that isn't modelled is None."""
+
+    out: Optional[bytes]
+    errors: Optional[bytes]
+    status: int
+    # the files after it, by their paths
+    files: dict
+
+
+# ---- words
+
+def is_number(text: str, most: int) -> bool:
+    """Digits of a number from 1 on."""
+    digits = text.lstrip("0")
+    return all(letter in "0123456789" for letter in text) and 1 <= len(digits) <= 8 and int(digits) <= most
+
+
+def is_decimal(text: str, most: int) -> bool:
+    """Digits of a number from 1 on, without a sign or a leading zero."""
+    return not text.startswith("0") and is_number(text, most)
+
+
+def is_option_number(text: str, most: int) -> bool:
+    """As the reader of arguments takes a number: a plus sign and zeros may stand before it."""
+    return is_number(text[1:] if text.startswith("+") else text, most)
+
+
+def tenant_of(word: str) -> Optional[tuple[str, Limits]]:
+    parts = word.split(":")
+    if len(parts) != 3 or not is_word(parts[0]):
+        return None
+    if not is_decimal(parts[1], MAX_ACTIVATIONS) or not is_decimal(parts[2], MAX_MAILBOX):
+        return None
+    return parts[0], Limits(int(parts[1]), int(parts[2]))
+
+
+def tenants_of(words: list[str], built: Built) -> tuple[tuple[str, Limits], ...]:
+    """The table; the first word that is malformed, out of range, repeated or one too many is refused."""
+    found: dict[str, Limits] = {}
+    for place, word in enumerate(words, 1):
+        read = tenant_of(word)
+        if read is None or read[0] in found or place > built.tenants:
+            raise Ended(BAD_WORDS, f"silo: tenant argument {place} is refused")
+        found[read[0]] = read[1]
+    return tuple(found.items())
+
+
+# what each subcommand takes: its options, with what their values are
+IS_AGE = ("--age", lambda text: is_option_number(text, MAX_AGE))
+IS_WORKERS = ("--workers", lambda text: is_option_number(text, MAX_WORKERS))
+IS_PATH = ("--journal", lambda text: True)
+OPTIONS = {"steps": dict([IS_AGE]), "serve": dict([IS_AGE, IS_WORKERS, IS_PATH]), "audit": {}}
+
+
+def split_words(words: list[str], options: dict) -> tuple[dict, list[str]]:
+    """The options' values, and the words that aren't options."""
+    rest, given, others = list(words), {}, []
+    while rest:
+        word = rest.pop(0)
+        name, equals, value = word.partition("=")
+        if word == "--":
+            return given, others + rest
+        if name in options:
+            if not equals and (not rest or rest[0].startswith("-")):
+                raise Ended(BAD_WORDS)
+            value = value if equals else rest.pop(0)
+            if name in given or not options[name](value):
+                raise Ended(BAD_WORDS)
+            given[name] = value
+        elif word.startswith("-"):
+            raise Ended(BAD_WORDS)
+        else:
+            others.append(word)
+    return given, others
+
+
+def asks_for_help(words: list[str], built: Built) -> bool:
+    """The words ask for a text that isn't modelled."""
+    of_commands = [asked for name in built.commands for asked in ([name, "--help"], [name, "-h"], ["help", name])]
+    return words in [["--help"], ["-h"], ["help"], *of_commands]
+
+
+# ---- the three commands
+
+def run_steps(given: dict, words: list[str], data: bytes, built: Built, written: list[bytes]) -> None:
+    if not words:
+        raise Ended(BAD_WORDS)
+    setup = Setup(tenants_of(words, built), int(given.get("--age", DEFAULT_AGE)), built=built)
+    try:
+        lines.run_lines(Silo(setup), [data], written.append)
+    except lines.TooMuchInput as error:
+        raise Ended(BROKEN, "silo: too much input") from error
+
+
+def written_lines(texts: Iterable[str]) -> bytes:
+    return "".join(text + "\n" for text in texts).encode()
+
+
+def run_serve(given: dict, words: list[str], data: bytes, built: Built, files: dict,
+              chance: Optional[Random]) -> bytes:
+    if not words:
+        raise Ended(BAD_WORDS)
+    setup = Setup(tenants_of(words, built), int(given.get("--age", DEFAULT_AGE)), built=built)
+    try:
+        read = [lines.read_line(line, built) for line in lines.lines_of([data])]
+    except lines.TooMuchInput as error:
+        raise Ended(BROKEN, "silo: too much input") from error
+    refusals, steps = sort_lines(read)
+    lanes = lanes_of(steps)
+    silo = serve(setup, lanes, chance)
+    if "--journal" in given:
+        files[given["--journal"]] = journal_text(journal_of(silo))
+    replies = [reply for lane in lanes if lane.caller is not None for reply in answers_of(silo, lane)]
+    replies += replies_to_grains(silo)
+    return written_lines([*map(lines.refusal_text, refusals), *map(lines.reply_text, replies)])
+
+
+def sort_lines(read: list) -> tuple[list[int], list]:
+    """The codes of refused lines, and the steps of lanes: a step that is no lane's is refused."""
+    refusals, steps = [], []
+    for said in read:
+        if isinstance(said, int):
+            refusals.append(said)
+        elif isinstance(said, OF_A_CALLER + OF_NOBODY):
+            steps.append(said)
+        elif said is not None:
+            refusals.append(codes.NOT_A_REQUEST)
+    return refusals, steps
+
+
+def run_audit(words: list[str], files: dict) -> tuple[bytes, int]:
+    if len(words) != 1:
+        raise Ended(BAD_WORDS)
+    if words[0] not in files:
+        raise Ended(BROKEN, "silo: reading failed")
+    try:
+        reports = audit(read_journal(files[words[0]]))
+    except RefusedAt as refusal:
+        raise Ended(BAD_JOURNAL, f"silo: journal line {refusal.line} is refused") from refusal
+    differs = any(report.difference is not None for report in reports)
+    return written_lines(report.text() for report in reports), DIFFERS if differs else FINE
+
+
+# ---- one run
+
+def run_program(words: list[str], data: bytes = b"", files: Optional[dict] = None, built: Built = EVERYTHING,
+                chance: Optional[Random] = None) -> Run:
+    """A run on this standard input; `files` are the contents of the files that there are, by their paths.
+
+    With a chance, `serve` does its steps in any order.
+    """
+    files = dict(files or {})
+    if asks_for_help(words, built):
+        return Run(None, b"", FINE, files)
+    written: list[bytes] = []
+    status, errors = FINE, b""
+    try:
+        if not words or words[0] not in built.commands:
+            raise Ended(BAD_WORDS)
+        given, others = split_words(words[1:], OPTIONS[words[0]])
+        if words[0] == "steps":
+            run_steps(given, others, data, built, written)
+        elif words[0] == "serve":
+            written.append(run_serve(given, others, data, built, files, chance))
+        else:
+            out, status = run_audit(others, files)
+            written.append(out)
+    except Ended as end:
+        status = end.status
+        errors = None if end.line is None else end.line.encode() + b"\n"
+    return Run(b"".join(written), errors, status, files)

@@ -1,0 +1,58 @@
+"""Runs the worked rows on the slow silo, and what lines can't show by its functions."""
+
+from __future__ import annotations
+
+from typing import Optional
+
+from .built import EVERYTHING, Built
+from .call_rows import CALL_ROWS
+from .program import run_program
+from .rows import ROWS, Row
+
+
+def input_of(row: Row) -> bytes:
+    return "".join(line + "\n" for line in row.lines).encode()
+
+
+def output_of(row: Row) -> bytes:
+    return "".join(line + "\n" for line in row.out).encode()
+
+
+def errors_of(row: Row) -> bytes:
+    return row.errors.encode() + b"\n" if row.errors else b""
+
+
+def difference(row: Row, built: Built = EVERYTHING) -> Optional[str]:
+    """What of a row differs."""
+    files = {path: content.encode() for path, content in row.files.items()}
+    run = run_program(row.words, input_of(row), files, built)
+    if run.out != output_of(row):
+        return f"standard output is {run.out[:300]!r}"
+    if run.errors is not None and run.errors != errors_of(row):
+        return f"standard error is {run.errors!r}"
+    if run.status != row.status:
+        return f"the status is {run.status}"
+    for path, content in row.files_after.items():
+        if run.files.get(path) != content.encode():
+            return f"the file {path} is {run.files.get(path)!r}"
+    return None
+
+
+def call_difference(check) -> Optional[str]:
+    return None if check() else "it doesn't hold"
+
+
+def main() -> int:
+    """Prints each row that differs, and last 'N passed, M failed'."""
+    passed = failed = 0
+    checks = [(row.name, difference, row) for row in ROWS]
+    checks += [(check.__name__.replace("_", " "), call_difference, check) for check in CALL_ROWS]
+    for name, run, row in checks:
+        what = run(row)
+        if what is None:
+            passed += 1
+        else:
+            failed += 1
+            print(f"FAILED {name}: {what}")
+    print(f"{passed} passed, {failed} failed")
+    return 1 if failed else 0

@@ -1,0 +1,119 @@
+"""The silo of all tenants: their machines, one beside the other, none of which looks at another."""
+
+from __future__ import annotations
+
+from typing import Iterable, NamedTuple, Optional
+
+from .built import EVERYTHING, Built
+from .kinds import Logic
+from .machine import LOADING, WAITING, Limits, Machine
+from .names import Caller, Grain
+from .steps import (Activate, Begin, Client, Deliver, Load, Poke, Reply, Step, Store, Tick, owner)
+from .storage import Fuse, Row, Storage
+
+DEFAULT_AGE = 900_000
+DONE, FAILED, NOT_NOW = "done", "failed", "not now"
+MAY_FAIL = (Poke, Load, Store)
+
+
+class Setup(NamedTuple):
+    # in the order in which they were given
+    tenants: tuple[tuple[str, Limits], ...]
+    age: int = DEFAULT_AGE
+    rows: tuple[tuple[Grain, Row], ...] = ()
+    # which of the storage's calls fail, by their numbers from 1
+    failing: tuple[int, ...] = ()
+    built: Built = EVERYTHING
+
+
+class Silo:
+    def __init__(self, setup: Setup):
+        self.setup = setup
+        self.logic = Logic(setup.built)
+        self.fuse = Fuse(setup.failing)
+        self.limits = dict(setup.tenants)
+        self.clock = 0
+        self.machines: dict[str, Machine] = {}
+        for tenant, _limits in setup.tenants:
+            self.machine(tenant)
+        # of all tenants, in the order in which they came
+        self.replies: list[Reply] = []
+        # the steps that were done; those whose storage call failed say so
+        self.journal: list[Step] = []
+
+    def machine(self, tenant: str) -> Machine:
+        """The tenant's machine. One that was never asked for is as it was at the start, but for the clock."""
+        if tenant not in self.machines:
+            rows = [(grain, row) for grain, row in self.setup.rows if grain.tenant == tenant]
+            storage = Storage(rows, self.fuse)
+            made = Machine(tenant, self.limits.get(tenant), self.setup.age, self.logic, storage)
+            made.clock = self.clock
+            self.machines[tenant] = made
+        return self.machines[tenant]
+
+    def apply(self, step: Step) -> str:
+        """Takes a step, and says whether it was done, done with a storage call that failed, or not possible now."""
+        tenant = owner(step)
+        failures = self.fuse.failures
+        if tenant is not None:
+            replies = self.machine(tenant).step(step)
+        else:
+            replies = self.shared_step(step)
+        if replies is None:
+            return NOT_NOW
+        failed = self.fuse.failures > failures
+        self.replies.extend(replies)
+        self.journal.append(step._replace(failed=True) if failed else step)
+        return FAILED if failed else DONE
+
+    def shared_step(self, step: Step) -> Optional[list]:
+        """A step of nobody is each machine's."""
+        answers = [machine.step(step) for machine in self.machines.values()]
+        if any(answer is None for answer in answers):
+            return None
+        if isinstance(step, Tick):
+            self.clock = step.now
+        return []
+
+    def run(self, steps: Iterable[Step]) -> list[str]:
+        return [self.apply(step) for step in steps]
+
+    # ---- what it shows
+
+    def replies_of(self, tenant: str) -> list[Reply]:
+        return [reply for reply in self.replies if reply.tenant() == tenant]
+
+    def rows(self) -> list[tuple[Grain, Row]]:
+        return sorted((grain, row) for machine in self.machines.values() for grain, row in machine.storage.rows.items())
+
+    def rows_of(self, tenant: str) -> list[tuple[Grain, Row]]:
+        return [(grain, row) for grain, row in self.rows() if grain.tenant == tenant]
+
+    # ---- for those who drive it
+
+    def todos(self) -> list[Step]:
+        """The steps on grains that are possible now beside those that close turns, the least grain's first."""
+        found: list[Step] = []
+        for grain, entry in sorted(self.entries().items()):
+            if entry.phase == WAITING:
+                found.append(Activate(grain))
+            elif entry.phase == LOADING:
+                found.append(Load(grain))
+            elif entry.queue and self.machine(grain.tenant).may_open(grain, entry):
+                found.append(Begin(grain))
+        sources = {source for machine in self.machines.values() for source, _sent in machine.sends}
+        return found + [Deliver(source) for source in sorted(sources)]
+
+    def entries(self) -> dict:
+        return {grain: entry for machine in self.machines.values() for grain, entry in machine.entries.items()}
+
+    def has_pending(self, caller: Caller) -> bool:
+        """A request of the caller waits or is open."""
+        pending = [request for entry in self.entries().values() for request in [*entry.queue, *entry.turns.values()]]
+        return any(isinstance(request.sender, Client) and request.sender.caller == caller for request in pending)
+
+    def is_quiet(self) -> bool:
+        """No request waits, no turn is open, and nothing that a grain sent is left."""
+        machines = self.machines.values()
+        busy = any(entry.queue or entry.turns for entry in self.entries().values())
+        return not busy and not any(machine.sends for machine in machines)
