@@ -40,6 +40,7 @@ whatever (Err e) h = tt
 pub taken_nothing : (logic : Logic) (old new : History) → new ≡ old → TakesSteps logic old [] new
 taken_nothing logic old new e = record {
   setup = ap (λ x. x.setup) e;
+  failures = ap (λ x. x.failures) e;
   whole = ap (λ x. x.whole) e;
   journal = ap (λ x. x.journal) e ∙ sym (append-nil old.journal);
   parts = λ tenant. ap (λ x. shown_to tenant x.whole) e;
@@ -77,10 +78,11 @@ module _ (logic : Logic) (s : Step) (is : is_built s ≡ true) where
     done_part p tenant true concerned = concerned_part tenant (shown_to tenant old.whole) (shown_to tenant new.whole) (Some (shown_to tenant new.whole)) concerned (p.own tenant concerned) refl
     done_part p tenant false apart = part_by tenant (shown_to tenant old.whole) (shown_to tenant new.whole) false apart (p.others tenant apart)
 
-    pub taken_done : Advances logic old s new → StepsInParts logic old.whole s new.whole → TakesLine logic old (line.Step s) new
+    pub taken_done : Advances logic old s old.failures new → StepsInParts logic old.whole s new.whole → TakesLine logic old (line.Step s) new
     taken_done h p =
         let step = whole_is old.whole ∙ h.whole in record {
           setup = h.setup;
+          failures = h.failures;
           whole = ap (λ o. unwrap_or o old.whole) (sym step);
           journal = h.journal ∙ ap (λ o. old.journal ++ (if_possible s o ++ [])) (sym step);
           parts = λ tenant. done_part p tenant (concerns tenant s) refl;
@@ -96,6 +98,7 @@ module _ (logic : Logic) (s : Step) (is : is_built s ≡ true) where
     taken_not_now h e p =
         let step = whole_is old.whole ∙ h in record {
           setup = ap (λ x. x.setup) e;
+          failures = ap (λ x. x.failures) e;
           whole = ap (λ x. x.whole) e ∙ ap (λ o. unwrap_or o old.whole) (sym step);
           journal = ap (λ x. x.journal) e ∙ sym (append-nil old.journal) ∙ ap (λ o. old.journal ++ (if_possible s o ++ [])) (sym step);
           parts = λ tenant. idle_part e p tenant (concerns tenant s) refl;

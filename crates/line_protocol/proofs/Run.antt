@@ -68,11 +68,12 @@ restricted-all tenant (s ∷ steps) h = ap (λ b. cond b (s ∷ restricted_to te
 -- ---- the silo
 
 TakesSteps-none : (logic : Logic) (old : History) → TakesSteps logic old [] old
-TakesSteps-none logic old = record { setup = refl; whole = refl; journal = sym (append-nil old.journal); parts = λ tenant. refl }
+TakesSteps-none logic old = record { setup = refl; failures = refl; whole = refl; journal = sym (append-nil old.journal); parts = λ tenant. refl }
 
 TakesSteps-append : (logic : Logic) (old mid new : History) (steps others : List Step) → TakesSteps logic old steps mid → TakesSteps logic mid others new → TakesSteps logic old (steps ++ others) new
 TakesSteps-append logic old mid new steps others p q = record {
   setup = q.setup ∙ p.setup;
+  failures = q.failures ∙ p.failures;
   whole = q.whole ∙ ap (λ w. whole_run logic w others) p.whole ∙ sym (run_by-append (whole_step logic) old.whole steps others);
   journal = q.journal ∙ ap₂ (λ j w. j ++ done_by (whole_step logic) w others) p.journal p.whole
       ∙ append_assoc old.journal (done_by (whole_step logic) old.whole steps) (done_by (whole_step logic) (whole_run logic old.whole steps) others)

@@ -19,9 +19,10 @@ use Rattle.line_protocol.specs.declared.fault.LineFault.TheVariants as fault
 
 -- ---- the silo
 
--- The silo took these steps, one after another; and for every tenant its part is the run of the tenant's own machine, with the other tenants' steps struck out.
+-- The silo took these steps, one after another, and no call of the storage failed; and for every tenant its part is the run of the tenant's own machine, with the other tenants' steps struck out.
 pub record TakesSteps (logic : Logic) (old : History) (steps : List Step) (new : History) : Type 0 where
   pub setup : new.setup ≡ old.setup
+  pub failures : new.failures ≡ old.failures
   pub whole : new.whole ≡ whole_run logic old.whole steps
   pub journal : new.journal ≡ old.journal ++ done_by (whole_step logic) old.whole steps
   pub parts : (tenant : List ℕ) → shown_to tenant new.whole ≡ machine_run logic (shown_to tenant old.whole) (restricted_to tenant steps)

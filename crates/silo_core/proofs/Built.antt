@@ -1,8 +1,10 @@
 -- Steps by whether their kind is built.
-use Rattle.std.proofs.Common.{◌≡◌, Bool, true, false, cond, List, [], ◌∷◌, ◌++◌, Option, Some, None, unwrap_or, refl, ap}
+use Rattle.std.proofs.Common.{◌≡◌, Bool, true, false, true≢false, cond, List, [], ◌∷◌, ◌++◌, Option, Some, None, unwrap_or, refl, ap, sym}
 use Rattle.std.specs.Prelude.{if◌then◌else◌, option_map}
 use Rattle.std.proofs.lemmas.Option.{none-some}
+use Rattle.silo_event.specs.Failed.{may_fail, as_failed}
 use Rattle.silo_event.specs.declared.step.Step.{Step}
+use Rattle.silo_event.specs.declared.step.Step.TheVariants.{Poke, Load, Store}
 use Rattle.silo_event.specs.declared.step.Answer.{Answer}
 use Rattle.grain_kinds.specs.Logic.{Logic}
 use Rattle.silo_model.specs.Whole.{Whole, whole_step}
@@ -26,6 +28,13 @@ mapped_beside f false o m e = refl
 
 pub step_is_built : (logic : Logic) (w : Whole) (s : Step) → is_built s ≡ true → built_step logic w s ≡ whole_step logic w s
 step_is_built logic w s is = ap (λ b. if b then whole_step logic w s else None) is
+
+-- a step isn't taken as one whose storage call failed
+pub never_failed : (s : Step) → may_fail s ≡ true → is_built (as_failed s) ≡ false
+never_failed (Poke caller id grain state failed) may = refl
+never_failed (Load grain failed) may = refl
+never_failed (Store grain turn failed) may = refl
+never_failed _ may = absurd (true≢false (sym may))
 
 -- ---- runs of what takes a step where it is possible
 

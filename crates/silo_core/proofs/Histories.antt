@@ -1,11 +1,12 @@
 -- What a silo's steps and runs show of each tenant, by its journal.
-use Rattle.std.proofs.Common.{◌≡◌, ℕ, zero, suc, Bool, true, false, cond, List, [], ◌∷◌, ◌++◌, take, drop, Option, Some, None, unwrap_or, Ok, refl, ap, sym, ◌∙◌, subst}
+use Rattle.std.proofs.Common.{◌≡◌, ℕ, zero, suc, Bool, true, false, true≢false, cond, List, [], ◌∷◌, ◌++◌, take, drop, Option, Some, None, unwrap_or, Ok, refl, ap, sym, ◌∙◌, subst}
 use Rattle.std.specs.Prelude.{Result, Err, filter, option_map, if◌then◌else◌}
 use Rattle.std.specs.FinMap as map
 use Rattle.std.proofs.lemmas.List.{append-nil, append_assoc}
 use Rattle.grain_id.proofs.Order.{same_text_decides}
 use Rattle.tenant_gate.specs.declared.limits.Limits.{Limits}
 use Rattle.silo_event.specs.Owner.{owner_of}
+use Rattle.silo_event.specs.Failed.{as_failed}
 use Rattle.silo_event.specs.declared.reply.Reply.{Reply}
 use Rattle.silo_event.specs.declared.step.Step.{Step}
 use Rattle.silo_event.specs.declared.step.Answer.{Answer}
@@ -24,14 +25,12 @@ use Rattle.silo_model.proofs.SharedSteps.{shared_leaves}
 use Rattle.silo_model.proofs.Journals.{own_part, other_parts, not_now, journals_grow, adds_replies}
 use Rattle.silo_model.proofs.Opening.{fresh_accounts-empty, fresh_accounts-first}
 use Rattle.silo_core.specs.Built.{is_built, built_step, built_machine_step}
-use Rattle.silo_core.specs.History.{History, Answered, AnsweredInParts}
+use Rattle.silo_core.specs.Shown.{setup_of}
+use Rattle.silo_core.specs.History.{History, Answered, StepsInParts, AnsweredInParts}
 use Rattle.silo_core.specs.Runs.{answer_of, answers_by, answers_to, machine_answers, whole_answers, noted, done_steps, AllConcern, Takes}
-use Rattle.silo_core.proofs.Built.{inside, none_beside, mapped_beside, after_by, after_push, answers_push, run_built}
+use Rattle.silo_core.proofs.Built.{inside, never_failed, none_beside, mapped_beside, after_by, after_push, answers_push, run_built}
 
 -- ---- the opening
-
-abbrev pub setup_of : List ℕ → Limits → ℕ → Setup
-setup_of tenant limits age = record { tenants = (tenant, limits) ∷ []; age = age; rows = map.empty }
 
 abbrev pub opened_with : List ℕ → Account → ℕ → Whole
 opened_with tenant account age = record { accounts = map.insert map.empty tenant account; age = age; clock = 0; entries = map.empty; rows = map.empty; replies = [] }
@@ -71,9 +70,9 @@ module _ (logic : Logic) (setup : Setup) (journal : List Step) (w after : Whole)
         own_replies = λ tenant concerned. adds.own_replies tenant (is ∙ ap Some ((same_text_decides owner tenant).0 (sym (ap (concerns_by tenant) is) ∙ concerned)));
       }
 
-pub step_parts : (logic : Logic) (old new : History) (s : Step) (r : Result Answer StepFault) → LeadsTo logic old.setup old.journal old.whole → Answered logic old s r new → AnsweredInParts logic old.whole s r new.whole
-step_parts logic old new s (Ok Done) leads h =
-    let done = inside (is_built s) (whole_step logic old.whole s) new.whole h.whole in
+done_parts : (logic : Logic) (old new : History) (s : Step) → LeadsTo logic old.setup old.journal old.whole → built_step logic old.whole s ≡ Some new.whole → StepsInParts logic old.whole s new.whole
+done_parts logic old new s leads step =
+    let done = inside (is_built s) (whole_step logic old.whole s) new.whole step in
     let adds = adds_by logic old.setup old.journal old.whole new.whole s leads done.1 (owner_of s) refl in
     record {
       own = λ tenant concerned.
@@ -84,11 +83,18 @@ step_parts logic old new s (Ok Done) leads h =
       replies = adds.replies;
       own_replies = adds.own_replies;
     }
-step_parts logic old new s (Ok Failed) leads h = h
+
+pub step_parts : (logic : Logic) (old new : History) (s : Step) (r : Result Answer StepFault) → LeadsTo logic old.setup old.journal old.whole → Answered logic old s r new → AnsweredInParts logic old.whole s r new.whole
+step_parts logic old new s (Ok Done) leads h = done_parts logic old new s leads h.whole
+step_parts logic old new s (Ok Failed) leads h = done_parts logic old new (as_failed s) leads h.1.whole
 step_parts logic old new s (Ok NotNow) leads h = λ tenant concerned.
     none_beside (is_built s) (whole_step logic old.whole s) (machine_step logic (shown_to tenant old.whole) s) h.0 (not_now logic old.whole s tenant concerned)
 step_parts logic old new s (Err Memory) leads h = ap (λ (k : History). k.whole) h
 step_parts logic old new s (Err Stranger) leads h = h
+
+-- no step is answered as one whose storage call failed
+pub no_failure : (logic : Logic) (old new : History) (s : Step) → Answered logic old s (Ok Failed) new → ⊥
+no_failure logic old new s h = true≢false (sym (inside (is_built (as_failed s)) (whole_step logic old.whole (as_failed s)) new.whole h.1.whole).0 ∙ never_failed s h.0)
 
 -- ---- one step more of a run
 
@@ -108,8 +114,8 @@ module _ (logic : Logic) where
       ∙ noted_append (built_step logic w x) x (done_steps logic next ss) (noted (built_step logic (reached next ss) s) s [])
 
   module _ (old mid new : History) (ss : List Step) (answers : List Answer) (s : Step) (t : Takes logic old ss answers mid) where
-    taken_by : (o : Option Whole) (a : Answer) → built_step logic mid.whole s ≡ o → a ≡ answer_of o → new.whole ≡ unwrap_or o mid.whole → new.journal ≡ mid.journal ++ noted o s [] → new.setup ≡ mid.setup → Takes logic old (ss ++ s ∷ []) (answers ++ a ∷ []) new
-    taken_by o a step told led grown same =
+    taken_by : (o : Option Whole) (a : Answer) → built_step logic mid.whole s ≡ o → a ≡ answer_of o → new.whole ≡ unwrap_or o mid.whole → new.journal ≡ mid.journal ++ noted o s [] → new.setup ≡ mid.setup → new.failures ≡ mid.failures → Takes logic old (ss ++ s ∷ []) (answers ++ a ∷ []) new
+    taken_by o a step told led grown same kept =
         let there : mid.whole ≡ reached old.whole ss = t.whole ∙ run_built logic old.whole ss in
         let at : built_step logic (reached old.whole ss) s ≡ o = ap (λ w. built_step logic w s) (sym there) ∙ step in
         record {
@@ -117,15 +123,16 @@ module _ (logic : Logic) where
           whole = led ∙ (λ i. unwrap_or (sym at i) (there i)) ∙ sym (after_push (built_step logic) old.whole ss s) ∙ sym (run_built logic old.whole (ss ++ s ∷ []));
           journal = grown ∙ (λ i. t.journal i ++ noted (sym at i) s []) ∙ append_assoc old.journal (done_steps logic old.whole ss) (noted (built_step logic (reached old.whole ss) s) s []) ∙ ap (λ (js : List Step). old.journal ++ js) (sym (done_push old.whole ss s));
           setup = same ∙ t.setup;
+          failures = kept ∙ t.failures;
         }
 
     pub taken_more : (a : Answer) → Answered logic mid s (Ok a) new → Takes logic old (ss ++ s ∷ []) (answers ++ a ∷ []) new
-    taken_more Done h = taken_by (Some new.whole) Done h.whole refl refl h.journal h.setup
-    taken_more Failed h = absurd h
-    taken_more NotNow h = taken_by None NotNow h.0 refl (ap (λ (k : History). k.whole) h.1) (ap (λ (k : History). k.journal) h.1 ∙ sym (append-nil mid.journal)) (ap (λ (k : History). k.setup) h.1)
+    taken_more Done h = taken_by (Some new.whole) Done h.whole refl refl h.journal h.setup h.failures
+    taken_more Failed h = absurd (no_failure logic mid new s h)
+    taken_more NotNow h = taken_by None NotNow h.0 refl (ap (λ (k : History). k.whole) h.1) (ap (λ (k : History). k.journal) h.1 ∙ sym (append-nil mid.journal)) (ap (λ (k : History). k.setup) h.1) (ap (λ (k : History). k.failures) h.1)
 
   pub taken_none : (old : History) → Takes logic old [] [] old
-  taken_none old = record { answers = refl; whole = refl; journal = sym (append-nil old.journal); setup = refl }
+  taken_none old = record { answers = refl; whole = refl; journal = sym (append-nil old.journal); setup = refl; failures = refl }
 
 -- the next of what is left goes to the end of what was taken
 pub next_of : (n : ℕ) (ss : List Step) (s : Step) (rest : List Step) → drop n ss ≡ s ∷ rest → (take (suc n) ss ≡ take n ss ++ s ∷ []) × (drop (suc n) ss ≡ rest)

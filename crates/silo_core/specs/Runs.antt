@@ -62,3 +62,4 @@ pub record Takes (logic : Logic) (old : History) (steps : List Step) (given : Li
   pub whole : new.whole ≡ whole_run logic old.whole (built steps)
   pub journal : new.journal ≡ old.journal ++ done_steps logic old.whole steps
   pub setup : new.setup ≡ old.setup
+  pub failures : new.failures ≡ old.failures

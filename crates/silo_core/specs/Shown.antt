@@ -1,13 +1,20 @@
 -- How the silo's own types are seen by the definitions.
-use Rattle.std.specs.Prelude.{Option, Some, None, unwrap_or}
+use Rattle.std.specs.Prelude.{ℕ, List, [], ◌∷◌, Option, Some, None, unwrap_or}
 use Rattle.std.specs.Ordering.{nat_cmp}
 use Rattle.std.specs.FinMap as map
 use Rattle.std.specs.FinMap.{FinMap}
 use Rattle.request_codec.specs.Tree.{Tree}
+use Rattle.tenant_gate.specs.declared.limits.Limits.{Limits}
 use Rattle.silo_model.specs.Machine.{Request, Phase, waiting, loading, ready}
+use Rattle.silo_model.specs.Opening.{Setup}
 use Rattle.silo_core.specs.declared.activation.Progress.{Progress}
 use Rattle.silo_core.specs.declared.activation.Progress.TheVariants.{Waiting, Loading, Ready}
 
+-- one tenant is known, and nothing is stored
+abbrev pub setup_of : List ℕ → Limits → ℕ → Setup
+setup_of tenant limits age = record { tenants = (tenant, limits) ∷ []; age = age; rows = map.empty }
+
+-- a phase, with the state of a grain that is ready
 abbrev pub phase_of : Progress → Phase
 phase_of Waiting = waiting
 phase_of Loading = loading

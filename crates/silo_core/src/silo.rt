@@ -1,7 +1,6 @@
 //! The silo, and the journal that led to what it shows.
 
-ghost use Rattle.std.specs.Prelude.{◌≡◌, ℕ, false, List, [], ◌∷◌, IfOk};
-ghost use Rattle.std.specs.FinMap as map;
+ghost use Rattle.std.specs.Prelude.{◌≡◌, ℕ, false, List, [], IfOk};
 ghost use Rattle.silo_event.specs.declared.step.Step.TheVariants as step;
 ghost use Rattle.silo_model.specs.Opening.{opening, start_of};
 ghost use Rattle.silo_model.specs.Whole.{shown_to};
@@ -10,7 +9,8 @@ ghost use Rattle.silo_model.specs.Journal.{LeadsTo};
 ghost use Rattle.silo_model.specs.Exclusive.{Exclusive, done_answers};
 ghost use Rattle.silo_model.specs.Settled.{Settled};
 ghost use Rattle.grain_kinds.specs.Counters.{counters};
-ghost use Rattle.silo_core.specs.History.{Answered, AnsweredInParts};
+ghost use Rattle.silo_core.specs.History.{Answered, AnsweredInParts, no_failures};
+ghost use Rattle.silo_core.specs.Shown.{setup_of};
 
 use crate::body::Body;
 use crate::replies;
@@ -36,34 +36,35 @@ pub struct Silo {
 }
 
 impl Model for Silo {
-    ghost use Rattle.std.specs.Prelude.{[], ◌∷◌};
     ghost use Rattle.std.specs.Coded.{codes};
-    ghost use Rattle.std.specs.FinMap as map;
     ghost use Rattle.request_codec.specs.Code.{coded_tree};
     ghost use Rattle.request_codec.specs.contracts.state.StateBytes as state;
     ghost use Rattle.silo_model.specs.Codes.{by_grain_code, by_text_code, by_number_code};
     ghost use Rattle.silo_model.specs.Journal.{LeadsTo};
     ghost use Rattle.grain_kinds.specs.Counters.{counters};
-    ghost use Rattle.silo_core.specs.History.{History};
+    ghost use Rattle.silo_core.specs.History.{History, no_failures};
+    ghost use Rattle.silo_core.specs.Shown.{setup_of};
 
     ghost Value = { History };
 
     ghost coded = { Prim.hlevel (codes, by_grain_code, by_text_code, by_number_code, coded_tree, state.the_row.coded) };
 
     ghost view = { λ s. record {
-      setup = record { tenants = (s.tenant, s.limits) ∷ []; age = s.age; rows = map.empty };
+      setup = setup_of s.tenant s.limits s.age;
       whole = s.body;
       journal = s.journal.items;
+      failures = no_failures;
     } };
 
-    ghost invariant = { λ s. LeadsTo counters (record { tenants = (s.tenant, s.limits) ∷ []; age = s.age; rows = map.empty }) s.journal.items s.body };
+    ghost invariant = { λ s. LeadsTo counters (setup_of s.tenant s.limits s.age) s.journal.items s.body };
 }
 
 impl Silo {
     /// A silo that knows one tenant, whose idle activations may go after `age` milliseconds.
     pub fn new(alloc: Global, tenant: Tenant, limits: Limits, age: u64) -> Result<Silo, AllocError>
-        ensures setup { IfOk result (λ s. s.setup ≡ record { tenants = (tenant, limits) ∷ []; age = age; rows = map.empty }) }
+        ensures setup { IfOk result (λ s. s.setup ≡ setup_of tenant limits age) }
         ensures opening { IfOk result (λ s. (s.whole ≡ opening s.setup) × (s.journal ≡ [])) }
+        ensures failures { IfOk result (λ s. s.failures ≡ no_failures) }
         ensures parts { IfOk result (λ s. (tenant : List ℕ) → shown_to tenant s.whole ≡ start_of s.setup tenant) }
     {
         let known = tenant.clone()?;
@@ -182,6 +183,22 @@ impl Silo {
         ensures settled { (tenant : List ℕ) → Settled (restricted_to tenant self.now.journal) (shown_to tenant self.now.whole) }
     {
         self.journal.as_slice()
+    }
+
+    /// How many calls of the storage had failed as the silo opened.
+    pub fn opening_failures(&self) -> u64
+        ensures { result ≡ self.now.failures.at_opening }
+    {
+        let _ = &self.journal;
+        0
+    }
+
+    /// How many calls of the storage have failed by now: none, since no step calls one yet.
+    pub fn failures(&self) -> u64
+        ensures { result ≡ self.now.failures.now }
+    {
+        let _ = &self.journal;
+        0
     }
 
     /// The replies to a tenant's callers and grains, in order.

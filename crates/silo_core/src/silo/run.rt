@@ -29,6 +29,7 @@ impl Silo {
         ensures whole { self.new.whole ≡ whole_run counters self.old.whole (built (take (vec_len result.answers) steps.items)) }
         ensures journal { self.new.journal ≡ self.old.journal ++ done_steps counters self.old.whole (take (vec_len result.answers) steps.items) }
         ensures setup { self.new.setup ≡ self.old.setup }
+        ensures failures { self.new.failures ≡ self.old.failures }
 
         // For every tenant, the run of a silo of its own.
         ensures parts { RunsInParts counters self.old.whole (take (vec_len result.answers) steps.items) self.new.whole }

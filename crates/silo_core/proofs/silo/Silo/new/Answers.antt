@@ -6,7 +6,8 @@ use Rattle.silo_model.specs.Opening.{fresh_account, opening}
 use Rattle.silo_model.specs.Whole.{Whole, shown_to}
 use Rattle.silo_model.proofs.Journals.{journals_begin}
 use Rattle.silo_model.proofs.Opening.{opening_shown}
-use Rattle.silo_core.proofs.Histories.{setup_of, opened_with, opening_one}
+use Rattle.silo_core.specs.Shown.{setup_of}
+use Rattle.silo_core.proofs.Histories.{opened_with, opening_one}
 use Rattle.silo_core.proofs.silo.Silo.new.Goals as goal
 
 pub invariant_of-result : goal.invariant_of-result

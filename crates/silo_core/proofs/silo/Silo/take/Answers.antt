@@ -6,7 +6,7 @@ use Rattle.silo_model.specs.Whole.{whole_step}
 use Rattle.silo_core.specs.Built.{is_built}
 use Rattle.silo_core.proofs.Built.{inside}
 use Rattle.silo_model.proofs.Journals.{journals_grow}
-use Rattle.silo_core.proofs.Histories.{setup_of}
+use Rattle.silo_core.specs.Shown.{setup_of}
 use Rattle.silo_core.proofs.silo.Silo.take.Goals as goal
 
 pub invariant_of-self-in-Done : goal.invariant_of-self-in-Done
