@@ -7,7 +7,7 @@ use std::alloc::Global;
 use std::io;
 use std::io::{Error, ErrorKind, Read, Write};
 use std::test::Fail;
-use tenant_gate::Limits;
+use tenant_gate::{Age, Limits};
 
 const ACTIVATE: &str = r#"{"op":"activate","grain":"counter/red:a"}"#;
 
@@ -61,7 +61,8 @@ fn red_silo(alloc: Global) -> Result<Silo, Fail> {
         activations: 2,
         mailbox: 4,
     };
-    Ok(Silo::new(alloc, Tenant::read(alloc, "red")?, limits, 900000)?)
+    let age = Age::new(900_000).ok_or("no age")?;
+    Ok(Silo::new(alloc, Tenant::read(alloc, "red")?, limits, age)?)
 }
 
 /// More bytes than a run of these tests writes: a writer that needs no more memory, so that a refusal is the run's own.

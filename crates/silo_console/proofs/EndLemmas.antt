@@ -2,7 +2,8 @@
 use Rattle.std.proofs.Common.{ℕ, List, [], ◌∷◌, Option, IfSome, IsTrue, inr}
 use Rattle.grain_id.specs.Words.{is_word}
 use Rattle.tenant_gate.specs.declared.limits.Limits.{Limits}
-use Rattle.silo_console.specs.Steps.{setup_of, AnswersSteps, EndsWell}
+use Rattle.silo_core.specs.Shown.{setup_of}
+use Rattle.silo_console.specs.Steps.{AnswersSteps, EndsWell}
 use Rattle.silo_console.specs.Tenants.{AreLimits, IsOnlyTenant}
 
 only_within : (texts : List (List ℕ)) (tenant : List ℕ) (limits : Limits) → IsOnlyTenant texts tenant limits → IsTrue (is_word tenant) × AreLimits limits

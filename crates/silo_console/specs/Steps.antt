@@ -1,19 +1,15 @@
 -- What the program leaves behind where it ends with status 0.
-use Rattle.std.specs.Prelude.{◌≡◌, ◌⊎◌, ℕ, List, [], ◌∷◌, Option, Some, IfSome, IsTrue}
-use Rattle.std.specs.FinMap as map
+use Rattle.std.specs.Prelude.{◌≡◌, ◌⊎◌, ℕ, List, [], Option, Some, IfSome, IsTrue}
 use Rattle.std.specs.Io.KnownBytes.{Appends, Keeps}
 use Rattle.grain_id.specs.Words.{is_word}
 use Rattle.tenant_gate.specs.declared.limits.Limits.{Limits}
 use Rattle.grain_kinds.specs.Counters.{counters}
 use Rattle.silo_model.specs.Opening.{Setup, opening, start_of}
+use Rattle.silo_core.specs.Shown.{setup_of}
 use Rattle.line_protocol.specs.Lines.{lines_of}
 use Rattle.line_protocol.specs.Out.{whole_stepper, machine_stepper, lines_text}
 use Rattle.line_protocol.specs.Running.{LinesConcern}
 use Rattle.silo_console.specs.Tenants.{AreLimits}
-
--- one tenant is known, and nothing is stored
-abbrev pub setup_of : List ℕ → Limits → ℕ → Setup
-setup_of tenant limits age = record { tenants = (tenant, limits) ∷ []; age = age; rows = map.empty }
 
 -- All of the input was read, and what was written is what a silo answers to its lines from its opening, and nothing else: if all lines concern one tenant, what the tenant's own machine answers from its start.
 pub record AnswersSteps (setup : Setup) (input : List ℕ) (left before after : Option (List ℕ)) : Type 0 where

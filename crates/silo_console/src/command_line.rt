@@ -3,6 +3,7 @@
 use clap::error::ErrorKind;
 use clap::{Arg, ArgAction, ArgMatches, Command, Error, value_parser};
 use std::alloc::{AllocError, Global};
+use tenant_gate::Age;
 
 /// What the program calls itself, whatever its file is called.
 const PROGRAM: &str = "silo";
@@ -10,12 +11,15 @@ const PROGRAM: &str = "silo";
 /// The age when `--age` is left out.
 const DEFAULT_AGE_MILLISECONDS: u64 = 900_000;
 
+/// What is wrong with an age that is out of its range. `clap` says so first, in its own words.
+const AGE_REFUSED: &str = "error: the age is not 1 to 86400000 milliseconds\n";
+
 /// What the words ask for.
 #[derive(Drop)]
 pub enum Task<'a> {
-    /// Read every step from standard input, with the age in milliseconds (1 to 86,400,000) and the
-    /// tenant arguments as they are written.
-    Steps { age: u64, tenants: Vec<&'a str> },
+    /// Read every step from standard input, with the age and the tenant arguments as they are
+    /// written.
+    Steps { age: Age, tenants: Vec<&'a str> },
 }
 
 /// Why the words ask for nothing.
@@ -81,10 +85,14 @@ fn fault_of(alloc: Global, error: &Error) -> WordsFault {
     }
 }
 
-fn steps_task<'a>(alloc: Global, found: &ArgMatches<'a>) -> Result<Task<'a>, AllocError> {
+fn steps_task<'a>(alloc: Global, found: &ArgMatches<'a>) -> Result<Task<'a>, WordsFault> {
     let tenants = found.get_strs("tenants").unwrap_or(&[]);
+    let milliseconds = found.get_one("age").unwrap_or(DEFAULT_AGE_MILLISECONDS);
+    let Some(age) = Age::new(milliseconds) else {
+        return Err(WordsFault::Wrong(String::from_str(alloc, AGE_REFUSED)?));
+    };
     Ok(Task::Steps {
-        age: found.get_one("age").unwrap_or(DEFAULT_AGE_MILLISECONDS),
+        age,
         tenants: Vec::from_slice(alloc, tenants)?,
     })
 }
@@ -94,8 +102,8 @@ pub fn read_words<'a>(alloc: Global, words: &'a [String]) -> Result<Task<'a>, Wo
     match matches_of(alloc, words) {
         Err(error) => Err(fault_of(alloc, &error)),
         Ok(matches) => match matches.subcommand() {
-            Some((_, found)) => Ok(steps_task(alloc, found)?),
-            None => Ok(steps_task(alloc, &matches)?),
+            Some((_, found)) => steps_task(alloc, found),
+            None => steps_task(alloc, &matches),
         },
     }
 }

@@ -2,7 +2,8 @@
 
 ghost use Rattle.std.specs.Prelude.{◌≡◌, ◌≤◌, IfSome};
 ghost use Rattle.silo_console.specs.Status.{IsWordsStatus, IsTenantsStatus, WritesHelp};
-ghost use Rattle.silo_console.specs.Steps.{setup_of, AnswersSteps, EndsWell};
+ghost use Rattle.silo_core.specs.Shown.{setup_of};
+ghost use Rattle.silo_console.specs.Steps.{AnswersSteps, EndsWell};
 
 use crate::command_line::{Task, WordsFault, read_words};
 use crate::failure::{ARGUMENTS_STATUS, fail, say};
@@ -13,6 +14,7 @@ use silo_core::Silo;
 use std::alloc::Global;
 use std::io::{Read, Write};
 use std::mem;
+use tenant_gate::Age;
 
 /// Help goes to the writer with status 0, and what is wrong with the words to the errors with status 2.
 fn explain_words<W: Write, E: Write>(fault: &WordsFault, writer: &mut W, errors: &mut E) -> u8
@@ -46,7 +48,7 @@ fn explain_tenants<E: Write>(fault: TenantsFault, errors: &mut E) -> u8
 fn run_steps<R: Read, W: Write, E: Write>(
     alloc: Global,
     served: TenantLimits,
-    age: u64,
+    age: Age,
     reader: &mut R,
     writer: &mut W,
     errors: &mut E,

@@ -12,7 +12,7 @@ use grain_id::Tenant;
 use silo_event::{Answer, Reply, Step, StepFault};
 use std::alloc::Global;
 use std::marker::Model;
-use tenant_gate::Limits;
+use tenant_gate::{Age, Limits};
 
 mod call;
 mod load;
@@ -22,7 +22,7 @@ mod turn;
 #[derive(Drop)]
 pub struct Body {
     account: Account,
-    age: u64,
+    age: Age,
     clock: u64,
     directory: Directory,
     replies: Vec<Reply>,
@@ -56,7 +56,7 @@ impl Model for Body {
 
 impl Body {
     /// Nothing is asked yet, and nothing answered.
-    pub fn new(alloc: Global, tenant: Tenant, limits: Limits, age: u64) -> Body
+    pub fn new(alloc: Global, tenant: Tenant, limits: Limits, age: Age) -> Body
         ensures { result ≡ record { accounts = map.insert map.empty tenant (fresh_account limits); age = age; clock = 0; entries = map.empty; rows = map.empty; replies = [] } }
     {
         Body {

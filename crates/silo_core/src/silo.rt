@@ -8,6 +8,7 @@ ghost use Rattle.silo_model.specs.Run.{restricted_to};
 ghost use Rattle.silo_model.specs.Journal.{LeadsTo};
 ghost use Rattle.silo_model.specs.Exclusive.{Exclusive, done_answers};
 ghost use Rattle.silo_model.specs.Settled.{Settled};
+ghost use Rattle.tenant_gate.specs.Age.{IsAge};
 ghost use Rattle.grain_kinds.specs.Counters.{counters};
 ghost use Rattle.silo_core.specs.History.{Answered, AnsweredInParts, no_failures};
 ghost use Rattle.silo_core.specs.Shown.{setup_of};
@@ -19,7 +20,7 @@ use request_codec::Message;
 use silo_event::{Answer, Reply, Step, StepFault};
 use std::alloc::{AllocError, Global};
 use std::marker::Model;
-use tenant_gate::Limits;
+use tenant_gate::{Age, Limits};
 
 mod run;
 
@@ -30,7 +31,7 @@ pub use run::RunReport;
 pub struct Silo {
     tenant: Tenant,
     limits: Limits,
-    age: u64,
+    age: Age,
     body: Body,
     journal: Vec<Step>,
 }
@@ -60,8 +61,8 @@ impl Model for Silo {
 }
 
 impl Silo {
-    /// A silo that knows one tenant, whose idle activations may go after `age` milliseconds.
-    pub fn new(alloc: Global, tenant: Tenant, limits: Limits, age: u64) -> Result<Silo, AllocError>
+    /// A silo that knows one tenant, whose idle activations may go after the age.
+    pub fn new(alloc: Global, tenant: Tenant, limits: Limits, age: Age) -> Result<Silo, AllocError>
         ensures setup { IfOk result (λ s. s.setup ≡ setup_of tenant limits age) }
         ensures opening { IfOk result (λ s. (s.whole ≡ opening s.setup) × (s.journal ≡ [])) }
         ensures failures { IfOk result (λ s. s.failures ≡ no_failures) }
@@ -183,6 +184,14 @@ impl Silo {
         ensures settled { (tenant : List ℕ) → Settled (restricted_to tenant self.now.journal) (shown_to tenant self.now.whole) }
     {
         self.journal.as_slice()
+    }
+
+    /// The milliseconds after which an idle activation may go, 1 to 86,400,000.
+    pub fn age(&self) -> u64
+        ensures age { result ≡ self.now.setup.age }
+        ensures in_range { IsAge self.now.setup.age }
+    {
+        self.age.millis()
     }
 
     /// How many calls of the storage had failed as the silo opened.

@@ -7,7 +7,7 @@ use silo_event::{Answer, Reply, Step};
 use std::alloc::Global;
 use std::collections::BTreeMap;
 use std::test::Fail;
-use tenant_gate::Limits;
+use tenant_gate::{Age, Limits};
 
 /// A silo that knows the tenant red.
 fn opened(alloc: Global) -> Result<Silo, Fail> {
@@ -16,7 +16,8 @@ fn opened(alloc: Global) -> Result<Silo, Fail> {
         mailbox: 4,
     };
     let tenant = Tenant::read(alloc, "red")?;
-    Ok(Silo::new(alloc, tenant, limits, 900_000)?)
+    let age = Age::new(900_000).ok_or("no age")?;
+    Ok(Silo::new(alloc, tenant, limits, age)?)
 }
 
 fn grain(alloc: Global) -> Result<GrainId, Fail> {

@@ -1,6 +1,6 @@
 //! Tables of tenants, the order of their faults, and who may call whom.
 
-use crate::{GateFault, Limits, TableFault, TenantTable};
+use crate::{Age, GateFault, Limits, TableFault, TenantTable};
 use grain_id::{GrainId, Tenant};
 use std::alloc::Global;
 use std::test::Fail;
@@ -155,4 +155,15 @@ fn only_the_caller_is_looked_up(rt: HostRuntime) -> Result<(), Fail> {
     let answer = table.check_call(alloc, &blue, &blue_grain);
     assert_eq!(rt; said(alloc, &answer)?.as_str(), "unknown blue");
     Ok(())
+}
+
+#[test]
+fn an_age_is_a_millisecond_to_a_day(rt: HostRuntime) {
+    assert!(rt; Age::new(0).is_none());
+    assert_eq!(rt; Age::new(1).map(|age| age.millis()), Some(1));
+    assert_eq!(rt;
+        Age::new(86_400_000).map(|age| age.millis()),
+        Some(86_400_000)
+    );
+    assert!(rt; Age::new(86_400_001).is_none());
 }
