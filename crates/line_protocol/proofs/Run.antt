@@ -12,6 +12,7 @@ use Rattle.silo_model.specs.Run.{run_by, done_by, machine_run, whole_run, restri
 use Rattle.silo_model.proofs.Runs.{run_by-append, done_by-append, restricted-append}
 use Rattle.silo_core.specs.History.{History}
 use Rattle.silo_core.specs.Runs.{AllConcern}
+use Rattle.silo_core.proofs.Histories.{all_restricted}
 use Rattle.line_protocol.specs.Calls.{HasCause}
 use Rattle.line_protocol.specs.Lines.{lines_of, onto, line_limit, lines_limit}
 use Rattle.line_protocol.specs.Said.{said_of}
@@ -60,11 +61,6 @@ AllConcern-append tenant (s ∷ steps) others h = let more = AllConcern-append t
 LinesConcern-more : (tenant : List ℕ) (done : List (List ℕ)) (l : List ℕ) → LinesConcern tenant (done ++ l ∷ []) → LinesConcern tenant done × LineConcerns tenant (said_of l)
 LinesConcern-more tenant done l h = AllConcern-append tenant (steps_of done) (step_said (said_of l)) (subst (AllConcern tenant) (steps_of-more done l) h)
 
--- of steps that all concern the tenant none is struck out
-restricted-all : (tenant : List ℕ) (steps : List Step) → AllConcern tenant steps → restricted_to tenant steps ≡ steps
-restricted-all tenant [] h = refl
-restricted-all tenant (s ∷ steps) h = ap (λ b. cond b (s ∷ restricted_to tenant steps) (restricted_to tenant steps)) h.0 ∙ ap (λ rest. s ∷ rest) (restricted-all tenant steps h.1)
-
 -- ---- the silo
 
 TakesSteps-none : (logic : Logic) (old : History) → TakesSteps logic old [] old
@@ -91,7 +87,7 @@ TakesLines-more logic old mid new done l p q =
 -- the part of a tenant whom all lines concern
 part_alone : (logic : Logic) (tenant : List ℕ) (old new : History) (done : List (List ℕ)) → TakesLines logic old done new → LinesConcern tenant done
     → shown_to tenant new.whole ≡ machine_run logic (shown_to tenant old.whole) (steps_of done)
-part_alone logic tenant old new done p c = p.parts tenant ∙ ap (machine_run logic (shown_to tenant old.whole)) (restricted-all tenant (steps_of done) c)
+part_alone logic tenant old new done p c = p.parts tenant ∙ ap (machine_run logic (shown_to tenant old.whole)) (all_restricted tenant (steps_of done) c)
 
 LinesAlone-more : (logic : Logic) (tenant : List ℕ) (old mid : History) (done : List (List ℕ)) (l : List ℕ) → TakesLines logic old done mid → LinesConcern tenant done
     → LinesAlone logic tenant old.whole done → LineAlone logic tenant mid.whole (said_of l) → LinesAlone logic tenant old.whole (done ++ l ∷ [])

@@ -17,7 +17,7 @@ use Rattle.grain_kinds.specs.Logic.{Logic}
 use Rattle.silo_model.specs.Machine.{Account}
 use Rattle.silo_model.specs.Step.{machine_step}
 use Rattle.silo_model.specs.Whole.{Whole, is_to, shown_to, whole_step}
-use Rattle.silo_model.specs.Run.{restricted_to, concerns, concerns_by}
+use Rattle.silo_model.specs.Run.{run_by, answer_of, answers_by, if_possible, done_by, restricted_to, concerns, concerns_by, answers_to}
 use Rattle.silo_model.specs.Opening.{Setup, fresh_account, opening}
 use Rattle.silo_model.specs.Journal.{LeadsTo}
 use Rattle.silo_model.proofs.Isolation.{shared_by}
@@ -27,8 +27,8 @@ use Rattle.silo_model.proofs.Opening.{fresh_accounts-empty, fresh_accounts-first
 use Rattle.silo_core.specs.Built.{is_built, built_step, built_machine_step}
 use Rattle.silo_core.specs.Shown.{setup_of}
 use Rattle.silo_core.specs.History.{History, Answered, StepsInParts, AnsweredInParts}
-use Rattle.silo_core.specs.Runs.{answer_of, answers_by, answers_to, machine_answers, whole_answers, noted, done_steps, AllConcern, Takes}
-use Rattle.silo_core.proofs.Built.{inside, never_failed, none_beside, mapped_beside, after_by, after_push, answers_push, run_built}
+use Rattle.silo_core.specs.Runs.{AllConcern, Takes}
+use Rattle.silo_core.proofs.Built.{inside, never_failed, none_beside, mapped_beside, run_push, done_push, answers_push, run_built}
 
 -- ---- the opening
 
@@ -100,28 +100,17 @@ no_failure logic old new s h = true≢false (sym (inside (is_built (as_failed s)
 
 module _ (logic : Logic) where
   abbrev reached : Whole → List Step → Whole
-  reached w ss = after_by (built_step logic) w ss
-
-  noted_append : (o : Option Whole) (s : Step) (xs ys : List Step) → noted o s (xs ++ ys) ≡ noted o s xs ++ ys
-  noted_append None s xs ys = refl
-  noted_append (Some w) s xs ys = refl
-
-  done_push : (w : Whole) (ss : List Step) (s : Step) → done_steps logic w (ss ++ s ∷ []) ≡ done_steps logic w ss ++ noted (built_step logic (reached w ss) s) s []
-  done_push w [] s = refl
-  done_push w (x ∷ ss) s =
-      let next = unwrap_or (built_step logic w x) w in
-      ap (noted (built_step logic w x) x) (done_push next ss s)
-      ∙ noted_append (built_step logic w x) x (done_steps logic next ss) (noted (built_step logic (reached next ss) s) s [])
+  reached w ss = run_by (built_step logic) w ss
 
   module _ (old mid new : History) (ss : List Step) (answers : List Answer) (s : Step) (t : Takes logic old ss answers mid) where
-    taken_by : (o : Option Whole) (a : Answer) → built_step logic mid.whole s ≡ o → a ≡ answer_of o → new.whole ≡ unwrap_or o mid.whole → new.journal ≡ mid.journal ++ noted o s [] → new.setup ≡ mid.setup → new.failures ≡ mid.failures → Takes logic old (ss ++ s ∷ []) (answers ++ a ∷ []) new
+    taken_by : (o : Option Whole) (a : Answer) → built_step logic mid.whole s ≡ o → a ≡ answer_of o → new.whole ≡ unwrap_or o mid.whole → new.journal ≡ mid.journal ++ if_possible s o → new.setup ≡ mid.setup → new.failures ≡ mid.failures → Takes logic old (ss ++ s ∷ []) (answers ++ a ∷ []) new
     taken_by o a step told led grown same kept =
         let there : mid.whole ≡ reached old.whole ss = t.whole ∙ run_built logic old.whole ss in
         let at : built_step logic (reached old.whole ss) s ≡ o = ap (λ w. built_step logic w s) (sym there) ∙ step in
         record {
-          answers = (λ i. t.answers i ++ told i ∷ []) ∙ (λ i. whole_answers logic old.whole ss ++ answer_of (sym at i) ∷ []) ∙ sym (answers_push (built_step logic) old.whole ss s);
-          whole = led ∙ (λ i. unwrap_or (sym at i) (there i)) ∙ sym (after_push (built_step logic) old.whole ss s) ∙ sym (run_built logic old.whole (ss ++ s ∷ []));
-          journal = grown ∙ (λ i. t.journal i ++ noted (sym at i) s []) ∙ append_assoc old.journal (done_steps logic old.whole ss) (noted (built_step logic (reached old.whole ss) s) s []) ∙ ap (λ (js : List Step). old.journal ++ js) (sym (done_push old.whole ss s));
+          answers = (λ i. t.answers i ++ told i ∷ []) ∙ (λ i. answers_by (built_step logic) old.whole ss ++ answer_of (sym at i) ∷ []) ∙ sym (answers_push (built_step logic) old.whole ss s);
+          whole = led ∙ (λ i. unwrap_or (sym at i) (there i)) ∙ sym (run_push (built_step logic) old.whole ss s) ∙ sym (run_built logic old.whole (ss ++ s ∷ []));
+          journal = grown ∙ (λ i. t.journal i ++ if_possible s (sym at i)) ∙ append_assoc old.journal (done_by (built_step logic) old.whole ss) (if_possible s (built_step logic (reached old.whole ss) s)) ∙ ap (λ (js : List Step). old.journal ++ js) (sym (done_push (built_step logic) old.whole ss s));
           setup = same ∙ t.setup;
           failures = kept ∙ t.failures;
         }
@@ -164,27 +153,27 @@ module _ (logic : Logic) (tenant : List ℕ) (setup : Setup) where
   stays journal w s None leads apart e = refl
   stays journal w s (Some after) leads apart e = other_parts logic setup journal w after s tenant leads apart (inside (is_built s) (whole_step logic w s) after e).1
 
-  leads_on : (journal : List Step) (w : Whole) (s : Step) (r : Option Whole) → LeadsTo logic setup journal w → built_step logic w s ≡ r → LeadsTo logic setup (journal ++ noted r s []) (unwrap_or r w)
+  leads_on : (journal : List Step) (w : Whole) (s : Step) (r : Option Whole) → LeadsTo logic setup journal w → built_step logic w s ≡ r → LeadsTo logic setup (journal ++ if_possible s r) (unwrap_or r w)
   leads_on journal w s None leads e = subst (λ (j : List Step). LeadsTo logic setup j w) (sym (append-nil journal)) leads
   leads_on journal w s (Some after) leads e = journals_grow logic setup journal w after s leads (inside (is_built s) (whole_step logic w s) after e).1
 
   by_concern : (journal : List Step) (w : Whole) (s : Step) (ss : List Step) (rest : List Answer) (b : Bool) → LeadsTo logic setup journal w → concerns tenant s ≡ b
-      → rest ≡ machine_answers logic (shown_to tenant (unwrap_or (built_step logic w s) w)) ss
-      → cond b (answer_of (built_step logic w s) ∷ rest) rest ≡ machine_answers logic (shown_to tenant w) (cond b (s ∷ ss) ss)
+      → rest ≡ answers_by (built_machine_step logic) (shown_to tenant (unwrap_or (built_step logic w s) w)) ss
+      → cond b (answer_of (built_step logic w s) ∷ rest) rest ≡ answers_by (built_machine_step logic) (shown_to tenant w) (cond b (s ∷ ss) ss)
   by_concern journal w s ss rest true leads is later =
       let r = built_step logic w s in
       let machine = built_stepped journal w s leads is in
       (λ i. answer_mapped (shown_to tenant) r i ∷ later i)
-      ∙ (λ i. answer_of (option_map (shown_to tenant) r) ∷ machine_answers logic (unwrapped (shown_to tenant) r w i) ss)
-      ∙ (λ i. answer_of (sym machine i) ∷ machine_answers logic (unwrap_or (sym machine i) (shown_to tenant w)) ss)
-  by_concern journal w s ss rest false leads is later = later ∙ ap (λ m. machine_answers logic m ss) (stays journal w s (built_step logic w s) leads is refl)
+      ∙ (λ i. answer_of (option_map (shown_to tenant) r) ∷ answers_by (built_machine_step logic) (unwrapped (shown_to tenant) r w i) ss)
+      ∙ (λ i. answer_of (sym machine i) ∷ answers_by (built_machine_step logic) (unwrap_or (sym machine i) (shown_to tenant w)) ss)
+  by_concern journal w s ss rest false leads is later = later ∙ ap (λ m. answers_by (built_machine_step logic) m ss) (stays journal w s (built_step logic w s) leads is refl)
 
-  pub own_answers : (ss : List Step) (journal : List Step) (w : Whole) → LeadsTo logic setup journal w → answers_to tenant ss (whole_answers logic w ss) ≡ machine_answers logic (shown_to tenant w) (restricted_to tenant ss)
+  pub own_answers : (ss : List Step) (journal : List Step) (w : Whole) → LeadsTo logic setup journal w → answers_to tenant ss (answers_by (built_step logic) w ss) ≡ answers_by (built_machine_step logic) (shown_to tenant w) (restricted_to tenant ss)
   own_answers [] journal w leads = refl
   own_answers (s ∷ ss) journal w leads =
       let r = built_step logic w s in
-      by_concern journal w s (restricted_to tenant ss) (answers_to tenant ss (whole_answers logic (unwrap_or r w) ss)) (concerns tenant s) leads refl
-      (own_answers ss (journal ++ noted r s []) (unwrap_or r w) (leads_on journal w s r leads refl))
+      by_concern journal w s (restricted_to tenant ss) (answers_to tenant ss (answers_by (built_step logic) (unwrap_or r w) ss)) (concerns tenant s) leads refl
+      (own_answers ss (journal ++ if_possible s r) (unwrap_or r w) (leads_on journal w s r leads refl))
 
 -- ---- a run of one tenant's steps
 
@@ -194,7 +183,7 @@ concern_take tenant (suc n) [] h = tt
 concern_take tenant (suc n) (s ∷ ss) h = (h.0, concern_take tenant n ss h.1)
 
 -- none is struck out
-all_restricted : (tenant : List ℕ) (ss : List Step) → AllConcern tenant ss → restricted_to tenant ss ≡ ss
+pub all_restricted : (tenant : List ℕ) (ss : List Step) → AllConcern tenant ss → restricted_to tenant ss ≡ ss
 all_restricted tenant [] h = refl
 all_restricted tenant (s ∷ ss) h = (λ i. cond (h.0 i) (s ∷ restricted_to tenant ss) (restricted_to tenant ss)) ∙ ap (λ (rest : List Step). s ∷ rest) (all_restricted tenant ss h.1)
 
@@ -206,9 +195,9 @@ all_answers step x tenant (s ∷ ss) h =
     (λ i. cond (h.0 i) (a ∷ answers_to tenant ss later) (answers_to tenant ss later))
     ∙ ap (λ (rest : List Answer). a ∷ rest) (all_answers step (unwrap_or (step x s) x) tenant ss h.1)
 
-pub alone : (logic : Logic) (old : History) (tenant : List ℕ) (n : ℕ) (ss : List Step) → LeadsTo logic old.setup old.journal old.whole → AllConcern tenant ss → whole_answers logic old.whole (take n ss) ≡ machine_answers logic (shown_to tenant old.whole) (take n ss)
+pub alone : (logic : Logic) (old : History) (tenant : List ℕ) (n : ℕ) (ss : List Step) → LeadsTo logic old.setup old.journal old.whole → AllConcern tenant ss → answers_by (built_step logic) old.whole (take n ss) ≡ answers_by (built_machine_step logic) (shown_to tenant old.whole) (take n ss)
 alone logic old tenant n ss leads h =
     let own = concern_take tenant n ss h in
     sym (all_answers (built_step logic) old.whole tenant (take n ss) own)
     ∙ own_answers logic tenant old.setup (take n ss) old.journal old.whole leads
-    ∙ ap (machine_answers logic (shown_to tenant old.whole)) (all_restricted tenant (take n ss) own)
+    ∙ ap (answers_by (built_machine_step logic) (shown_to tenant old.whole)) (all_restricted tenant (take n ss) own)

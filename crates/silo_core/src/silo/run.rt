@@ -1,11 +1,11 @@
 //! Lists of steps.
 
 ghost use Rattle.std.specs.Prelude.{◌≡◌, ◌<◌, ◌↔◌, ℕ, List, IsTrue, ◌++◌, length, take, vec_len};
-ghost use Rattle.silo_model.specs.Run.{whole_run};
+ghost use Rattle.silo_model.specs.Run.{whole_run, answers_by, done_by};
 ghost use Rattle.silo_model.specs.Whole.{shown_to};
 ghost use Rattle.grain_kinds.specs.Counters.{counters};
-ghost use Rattle.silo_core.specs.Built.{built};
-ghost use Rattle.silo_core.specs.Runs.{machine_answers, whole_answers, done_steps, AllConcern, RunsInParts, AnswersInParts, Takes};
+ghost use Rattle.silo_core.specs.Built.{built, built_step, built_machine_step};
+ghost use Rattle.silo_core.specs.Runs.{AllConcern, RunsInParts, AnswersInParts, Takes};
 
 use crate::silo::Silo;
 use silo_event::{Answer, Step};
@@ -25,9 +25,9 @@ impl Silo {
     /// comes first: where that is refused, no step is taken.
     pub fn run(&mut self, alloc: Global, steps: Vec<Step>) -> RunReport
         ensures stopped { IsTrue result.stopped ↔ (vec_len result.answers < vec_len steps) }
-        ensures answers { result.answers.items ≡ whole_answers counters self.old.whole (take (vec_len result.answers) steps.items) }
+        ensures answers { result.answers.items ≡ answers_by (built_step counters) self.old.whole (take (vec_len result.answers) steps.items) }
         ensures whole { self.new.whole ≡ whole_run counters self.old.whole (built (take (vec_len result.answers) steps.items)) }
-        ensures journal { self.new.journal ≡ self.old.journal ++ done_steps counters self.old.whole (take (vec_len result.answers) steps.items) }
+        ensures journal { self.new.journal ≡ self.old.journal ++ done_by (built_step counters) self.old.whole (take (vec_len result.answers) steps.items) }
         ensures setup { self.new.setup ≡ self.old.setup }
         ensures failures { self.new.failures ≡ self.old.failures }
 
@@ -35,7 +35,7 @@ impl Silo {
         ensures parts { RunsInParts counters self.old.whole (take (vec_len result.answers) steps.items) self.new.whole }
         ensures own_answers { AnswersInParts counters self.old.whole (take (vec_len result.answers) steps.items) result.answers.items }
         ensures alone { (tenant : List ℕ) → AllConcern tenant steps.items
-            → result.answers.items ≡ machine_answers counters (shown_to tenant self.old.whole) (take (vec_len result.answers) steps.items) }
+            → result.answers.items ≡ answers_by (built_machine_step counters) (shown_to tenant self.old.whole) (take (vec_len result.answers) steps.items) }
     {
         let _ = &self.journal;
         self.take_each(alloc, steps)

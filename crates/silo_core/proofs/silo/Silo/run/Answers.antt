@@ -2,10 +2,10 @@ use Rattle.std.proofs.Common.{List, vec_len, take, ap, subst, ◌∙◌}
 use Rattle.grain_kinds.specs.Counters.{counters}
 use Rattle.silo_model.specs.Journal.{LeadsTo}
 use Rattle.silo_model.specs.Whole.{shown_to}
+use Rattle.silo_model.specs.Run.{answers_to}
 use Rattle.silo_model.proofs.Journals.{runs_on}
 use Rattle.silo_event.specs.declared.step.Answer.{Answer}
 use Rattle.silo_core.specs.Built.{built}
-use Rattle.silo_core.specs.Runs.{answers_to}
 use Rattle.silo_core.specs.History.{History}
 use Rattle.silo_core.proofs.Histories.{own_answers, alone}
 use Rattle.silo_core.proofs.silo.Silo.run.Goals as goal
