@@ -26,6 +26,9 @@ mod run;
 
 pub use run::RunReport;
 
+/// How many calls of the storage have failed: no step calls one yet.
+const NO_FAILURES: u64 = 0;
+
 /// A silo of one known tenant: what its grains and callers have, beside the journal that led there.
 #[derive(Drop)]
 pub struct Silo {
@@ -199,15 +202,15 @@ impl Silo {
         ensures { result ≡ self.now.failures.at_opening }
     {
         let _ = &self.journal;
-        0
+        NO_FAILURES
     }
 
-    /// How many calls of the storage have failed by now: none, since no step calls one yet.
+    /// How many calls of the storage have failed by now.
     pub fn failures(&self) -> u64
         ensures { result ≡ self.now.failures.now }
     {
         let _ = &self.journal;
-        0
+        NO_FAILURES
     }
 
     /// The replies to a tenant's callers and grains, in order.
