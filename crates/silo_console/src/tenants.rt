@@ -7,13 +7,7 @@ ghost use Rattle.silo_console.specs.Tenants.{HasNoColon, IsLimitText, IsLimitsTe
 
 use grain_id::{IdFault, Tenant};
 use std::alloc::{AllocError, Global};
-use tenant_gate::Limits;
-
-/// The most grains of a tenant that may be active at once.
-const MAX_ACTIVATIONS: u32 = 10_000;
-
-/// The most requests that may wait at a grain.
-const MAX_MAILBOX: u32 = 1_000;
+use tenant_gate::{Limits, MAX_ACTIVATIONS, MAX_MAILBOX};
 
 /// A tenant and what it may have.
 #[derive(Drop)]
