@@ -3,8 +3,8 @@ pub mod Texts
 pub mod Plain
 pub mod Pushes
 pub mod Pieces
-pub mod Taken
-pub mod Answered
+pub mod LinesOfBytes
+pub mod StepTexts
 pub mod BuiltForms
 pub mod Run
 pub mod Turns

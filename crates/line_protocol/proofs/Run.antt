@@ -23,7 +23,7 @@ use Rattle.line_protocol.specs.declared.fault.LineFault.{LineFault}
 use Rattle.line_protocol.specs.declared.fault.LineFault.TheVariants as fault
 use Rattle.line_protocol.specs.declared.line.Line.{Line}
 use Rattle.line_protocol.proofs.Said.{said_under, said_of-under, long_under}
-use Rattle.line_protocol.proofs.Taken.{LinesTaken-trans, LinesTaken-kept}
+use Rattle.line_protocol.proofs.LinesOfBytes.{LinesTaken-trans, LinesTaken-kept}
 
 -- ---- a line that was cut says what the whole line says
 

@@ -1,5 +1,5 @@
 use Rattle.std.proofs.Common.{string_bytes}
-use Rattle.line_protocol.proofs.Answered.{push_more}
+use Rattle.line_protocol.proofs.StepTexts.{push_more}
 use Rattle.line_protocol.proofs.answers.push_replies.Goals as goal
 
 pub loop-reply-preserved : goal.loop-reply-preserved

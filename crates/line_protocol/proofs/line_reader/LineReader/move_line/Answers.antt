@@ -3,7 +3,7 @@ use Rattle.std.proofs.lemmas.List.{nil_from_length}
 use Rattle.std.specs.Io.KnownBytes.{Consumes}
 use Rattle.std.proofs.KnownBytes.{Consumes-kept, Keeps-trans}
 use Rattle.line_protocol.proofs.Pieces.{some_unless, take_again, slice_range_empty}
-use Rattle.line_protocol.proofs.Taken.{HasNoBreak-append, IsAtEnd-left, LinesTaken-last, LinesTaken-none, step_broken, step_whole}
+use Rattle.line_protocol.proofs.LinesOfBytes.{HasNoBreak-append, IsAtEnd-left, LinesTaken-last, LinesTaken-none, step_broken, step_whole}
 use Rattle.line_protocol.proofs.line_reader.LineReader.move_line.Goals as goal
 
 pub take_ready-requires : goal.take_ready-requires
