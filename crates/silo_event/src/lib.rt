@@ -23,4 +23,4 @@ pub use fault::Fault;
 pub use moment::Moment;
 pub use refusal::Refusal;
 pub use reply::{Party, Reply};
-pub use step::{Answer, Step, StepFault};
+pub use step::{Answer, Step, StepFault, same_but_failed};

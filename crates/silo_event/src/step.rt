@@ -11,6 +11,9 @@ use std::alloc::AllocError;
 
 mod failed;
 mod owner;
+mod same;
+
+pub use same::same_but_failed;
 
 /// One event of the silo. If a step has its mark `failed` set, the storage is not called, and the
 /// step is taken as one whose storage call failed.
