@@ -1,5 +1,5 @@
 -- A counter's first call, step by step.
-use Rattle.std.proofs.Common.{◌≡◌, ℕ, ◌+◌, ◌==◌, true, false, List, [], ◌∷◌, ◌++◌, Some, None, refl, ap, ◌∙◌}
+use Rattle.std.proofs.Common.{◌≡◌, ℕ, ◌+◌, ◌<◌, ◌==◌, true, false, List, [], ◌∷◌, ◌++◌, Some, None, refl, ap, ◌∙◌}
 use Rattle.std.proofs.Math.IntN.{+ℤ_idl}
 use Rattle.std.proofs.lemmas.Bool.{lt-ltb}
 use Rattle.std.specs.Prelude.{Ok, Err, ℤ, pos, codes, option_map, option_and_then, nat_lt, if◌then◌else◌}
@@ -10,6 +10,8 @@ use Rattle.std.specs.FinMap.{FinMap, nat_cmp-IsAntisymmetric}
 use Rattle.grain_id.specs.Names.{Grain, Client, grain_cmp}
 use Rattle.grain_id.proofs.Order.{grain_cmp_total, grain_cmp_exact}
 use Rattle.grain_id.proofs.Maps.{get-insert_same}
+use Rattle.tenant_gate.specs.declared.limits.Limits.{Limits}
+use Rattle.tenant_gate.specs.Table.{limits_of}
 use Rattle.grain_storage.specs.Rows.{version_of, content_or}
 use Rattle.request_codec.specs.Tree.{Tree, whole}
 use Rattle.grain_kinds.specs.Shared.{becomes, keeps}
@@ -25,8 +27,8 @@ use Rattle.silo_model.specs.Turns.{plan_of, outcome_of}
 use Rattle.grain_kinds.specs.Logic.{Logic}
 use Rattle.silo_model.specs.Whole.{Whole, whole_step}
 use Rattle.silo_model.specs.Opening.{Setup, fresh_account, opening}
-use Rattle.silo_model.specs.Journal.{all_done}
-use Rattle.silo_model.specs.FirstCall.{add_call, FirstCallAnswered}
+use Rattle.silo_model.specs.Journal.{all_done, LeadsTo}
+use Rattle.silo_model.specs.FirstCall.{add_call, first_call, FirstCallAnswered}
 use Rattle.silo_model.proofs.CallSteps.{next_request, call_new}
 use Rattle.silo_model.proofs.EntrySteps.{activate_waiting, load_loading, begin_first}
 use Rattle.silo_model.proofs.TurnSteps.{closed_turn}
@@ -86,7 +88,7 @@ module _ (w : Whole) (a : Account) (caller : Client) (id : ℕ) (g : Grain) (n :
   abbrev after_begin : Whole
   after_begin = record after_load { entries = map.insert after_load.entries g entry_begun }
 
-  abbrev after_end : Whole
+  abbrev pub after_end : Whole
   after_end = record after_begin {
     entries = map.insert after_begin.entries g (closed_turn after_begin entry_begun request (plan_of counters g state_loaded request).state (version_of (map.get w.rows g)));
     replies = w.replies ++ answered request.sender (outcome_of (plan_of counters g state_loaded request).outcome);
@@ -129,11 +131,20 @@ none_active : (setup : Setup) (t : List ℕ) → active_of (opening setup) t ≡
 unfolding opening
 none_active setup t = ap map.len (no_entry_of t) ∙ map.len-empty grain_cmp Entry
 
-pub first_call_answered : FirstCallAnswered
+-- where it leads, entry by entry: the entry is ready, with no request that waits and no turn that is open
+pub first_call_leads : (setup : Setup) (limits : Limits) (caller : Client) (id : ℕ) (g : Grain) (n : ℤ)
+    → limits_of setup.tenants caller.tenant ≡ Some limits → 0 < limits.activations → g.tenant ≡ caller.tenant → g.kind ≡ codes "counter"
+    → LeadsTo counters setup (first_call caller id g n) (after_end (opening setup) (fresh_account limits) caller id g n)
 unfolding opening
+first_call_leads setup limits caller id g n known may own kind =
+    all_five (opening setup) (fresh_account limits) caller id g n (get-fresh_accounts setup.tenants caller.tenant ∙ ap (option_map fresh_account) known) own (ap counters.knows kind ∙ knows_counter) refl (map.get-empty grain_cmp g)
+    (ap (λ k. nat_lt k limits.activations) (none_active setup caller.tenant) ∙ lt-ltb 0 limits.activations may)
+
+pub first_call_replies : (setup : Setup) (limits : Limits) (caller : Client) (id : ℕ) (g : Grain) (n : ℤ) → map.get setup.rows g ≡ None → fits_64 n ≡ true
+    → (after_end (opening setup) (fresh_account limits) caller id g n).replies ≡ told (party.Client caller id) (Ok (whole n))
+unfolding opening
+first_call_replies setup limits caller id g n none fits = reply_is (opening setup) (fresh_account limits) caller id g n none fits
+
+pub first_call_answered : FirstCallAnswered
 first_call_answered setup limits caller id g n known may own kind none fits =
-    let a = fresh_account limits in (
-      after_end (opening setup) a caller id g n,
-      all_five (opening setup) a caller id g n (get-fresh_accounts setup.tenants caller.tenant ∙ ap (option_map fresh_account) known) own (ap counters.knows kind ∙ knows_counter) refl (map.get-empty grain_cmp g) (ap (λ k. nat_lt k limits.activations) (none_active setup caller.tenant) ∙ lt-ltb 0 limits.activations may),
-      reply_is (opening setup) a caller id g n none fits,
-    )
+    (after_end (opening setup) (fresh_account limits) caller id g n, first_call_leads setup limits caller id g n known may own kind, first_call_replies setup limits caller id g n none fits)
