@@ -1,0 +1,166 @@
+-- After a step there is something new to do at the step's own grains alone.
+use Rattle.std.proofs.Common.{◌≡◌, ℕ, Bool, true, false, List, ◌∷◌, Option, Some, None, refl, ap, sym, ◌∙◌, subst, true≢false}
+use Rattle.std.specs.Prelude.{◌||◌, option_to_list, is_some, nat_le, option_map, if◌then◌else◌}
+use Rattle.std.specs.Ordering.{eq_by_cmp}
+use Rattle.std.specs.Cmp.{Equal-is}
+use Rattle.std.specs.FinMap as map
+use Rattle.std.proofs.lemmas.List.Folds.{list_any-append}
+use Rattle.std.proofs.lemmas.Option.{same_Some, none-some}
+use Rattle.grain_id.specs.Names.{Grain, grain_eq, grain_cmp, text_cmp}
+use Rattle.grain_id.proofs.Order.{grain_cmp_total, grain_cmp_exact, grain_eq_decides, text_cmp_total, text_cmp_exact}
+use Rattle.silo_event.specs.Owner.{owner_of}
+use Rattle.silo_event.specs.declared.step.Step.{Step}
+use Rattle.silo_event.specs.declared.step.Step.TheVariants.{Deliver, Tick, Sweep}
+use Rattle.tenant_gate.specs.declared.limits.Limits.{Limits}
+use Rattle.tenant_gate.specs.Table.{limits_of}
+use Rattle.silo_model.specs.Opening.{fresh_account, opening}
+use Rattle.silo_model.proofs.Opening.{get-fresh_accounts}
+use Rattle.grain_kinds.specs.Logic.{Logic}
+use Rattle.silo_model.specs.Machine.{Account, Entry, Entries}
+use Rattle.silo_model.specs.Effect.{Effect, Change, change_option, change_at, changed_at, sight_at}
+use Rattle.silo_model.specs.Sends.{first_from}
+use Rattle.silo_model.specs.Whole.{Whole, shown_to, spread, whole_swept, whole_shared_step, whole_step}
+use Rattle.silo_model.proofs.Changes.{get-change_same, get-change_other}
+use Rattle.silo_model.proofs.SharedSteps.{shared_leaves}
+use Rattle.silo_model.proofs.Isolation.{place_in, Did, did, shared_by}
+use Rattle.silo_lanes.specs.Todo.{work_on, delivery_of, is_among, grain_by_owner, grain_changed_by, sender_by, Covers, CoversBegin, CoversGrow}
+use Rattle.silo_lanes.specs.Asking.{sends_of}
+use Rattle.silo_lanes.proofs.Sends.{has_sent, mapped, effect_less}
+
+neither : (a b : Bool) → (a || b) ≡ false → a ≡ false
+neither true b e = e
+neither false b e = refl
+
+not_so : (b : Bool) → (b ≡ true → ⊥) → b ≡ false
+not_so true h = absurd (h refl)
+not_so false h = refl
+
+grain_apart : (p g : Grain) → grain_eq p g ≡ false → eq_by_cmp grain_cmp g p ≡ false
+grain_apart p g apart = not_so _ (λ tied. true≢false (sym ((grain_eq_decides p g).1 (sym (grain_cmp_exact g p ((Equal-is (grain_cmp g p)).0 tied)))) ∙ apart))
+
+-- a change at a grain leaves the entry of another
+get-elsewhere : (entries : Entries) (place : Option Grain) (c : Change Entry) (g : Grain) → is_among (option_to_list place) g ≡ false → map.get (changed_at entries place c) g ≡ map.get entries g
+get-elsewhere entries None c g apart = refl
+get-elsewhere entries (Some p) c g apart = get-change_other grain_cmp_total grain_cmp_exact entries p g c (grain_apart p g (neither (grain_eq p g) false apart))
+
+spread_elsewhere : (w : Whole) (owner : List ℕ) (place : Option Grain) (e : Effect) (g : Grain) → is_among (option_to_list place) g ≡ false → map.get (spread w owner place e).entries g ≡ map.get w.entries g
+unfolding spread
+spread_elsewhere w owner place e g apart = get-elsewhere w.entries place e.entry g apart
+
+-- the entry of another grain was there
+was_there : (logic : Logic) (w after : Whole) (s : Step) (g : Grain) (o : Option (List ℕ)) → owner_of s ≡ o → whole_step logic w s ≡ Some after → is_among (grain_by_owner w s o) g ≡ false
+    → (e : Entry) → map.get after.entries g ≡ Some e → map.get w.entries g ≡ Some e
+was_there logic w after s g None is step apart e found = (shared_leaves w after s (sym (shared_by logic w s is) ∙ step)).entries g e found
+was_there logic w after s g (Some owner) is step apart e found =
+    let d = did logic w after s owner is step in
+    sym (spread_elsewhere w owner (place_in w owner s) d.what g apart) ∙ ap (λ (x : Whole). map.get x.entries g) d.leaves ∙ found
+
+work_stays : (logic : Logic) (w after : Whole) (s : Step) (g : Grain) → whole_step logic w s ≡ Some after → is_among (grain_changed_by w s) g ≡ false → is_some (work_on logic g (map.get after.entries g)) ≡ true
+    → work_on logic g (map.get w.entries g) ≡ work_on logic g (map.get after.entries g)
+work_stays logic w after s g step apart some = by_entry (map.get after.entries g) refl some
+  where
+    by_entry : (o : Option Entry) → map.get after.entries g ≡ o → is_some (work_on logic g o) ≡ true → work_on logic g (map.get w.entries g) ≡ work_on logic g (map.get after.entries g)
+    by_entry None is h = absurd (true≢false (sym h))
+    by_entry (Some e) is h = ap (work_on logic g) (was_there logic w after s g (owner_of s) refl step apart e is ∙ sym is)
+
+-- ---- what is to be delivered
+
+delivers : (g : Grain) (account : Option Account) → is_some (delivery_of g account) ≡ has_sent g (sends_of account)
+delivers g None = refl
+delivers g (Some a) = mapped (λ found. Deliver g) (first_from g a.sends)
+
+shared_accounts : (w after : Whole) (s : Step) → whole_shared_step w s ≡ Some after → after.accounts ≡ w.accounts
+shared_accounts w after (Tick now) h = by_clock (nat_le w.clock now) h
+  where
+    by_clock : (b : Bool) → (if b then Some (record w { clock = now }) else None) ≡ Some after → after.accounts ≡ w.accounts
+    by_clock true h = ap (λ (x : Whole). x.accounts) (sym (same_Some (record w { clock = now }) after h))
+    by_clock false h = absurd (none-some after h)
+shared_accounts w after Sweep h = ap (λ (x : Whole). x.accounts) (sym (same_Some (whole_swept w) after h))
+shared_accounts w after _ h = absurd (none-some after h)
+
+seen_account : (w : Whole) (tenant : List ℕ) (place : Option Grain) → (sight_at (shown_to tenant w) place).account ≡ map.get w.accounts tenant
+unfolding sight_at shown_to
+seen_account w tenant place = refl
+
+spread_accounts : (w : Whole) (owner : List ℕ) (place : Option Grain) (e : Effect) → (spread w owner place e).accounts ≡ change_at w.accounts owner e.account
+unfolding spread
+spread_accounts w owner place e = refl
+
+-- of the owner's account nothing is sent that wasn't; another's stays
+sends_stay : (logic : Logic) (w after : Whole) (s : Step) (g : Grain) (o : Option (List ℕ)) → owner_of s ≡ o → whole_step logic w s ≡ Some after → is_among (sender_by s) g ≡ false
+    → has_sent g (sends_of (map.get after.accounts g.tenant)) ≡ true → has_sent g (sends_of (map.get w.accounts g.tenant)) ≡ true
+sends_stay logic w after s g None is step apart h = ap (λ accounts. has_sent g (sends_of (map.get accounts g.tenant))) (sym (shared_accounts w after s (sym (shared_by logic w s is) ∙ step))) ∙ h
+sends_stay logic w after s g (Some owner) is step apart h = by_tenant (eq_by_cmp text_cmp g.tenant owner) refl
+  where
+    d : Did logic w s owner after
+    d = did logic w after s owner is step
+
+    changed : map.get after.accounts g.tenant ≡ map.get (change_at w.accounts owner d.what.account) g.tenant
+    changed = ap (λ (x : Whole). map.get x.accounts g.tenant) (sym d.leaves) ∙ ap (λ accounts. map.get accounts g.tenant) (spread_accounts w owner (place_in w owner s) d.what)
+
+    fewer : has_sent g (sends_of (change_option (map.get w.accounts owner) d.what.account)) ≡ true → has_sent g (sends_of (map.get w.accounts owner)) ≡ true
+    fewer = subst (λ account. has_sent g (sends_of (change_option account d.what.account)) ≡ true → has_sent g (sends_of account) ≡ true) (seen_account w owner (place_in w owner s))
+        (effect_less logic (sight_at (shown_to owner w) (place_in w owner s)) g d.what s apart d.does)
+
+    by_tenant : (b : Bool) → eq_by_cmp text_cmp g.tenant owner ≡ b → has_sent g (sends_of (map.get w.accounts g.tenant)) ≡ true
+    by_tenant true tied =
+        let own : g.tenant ≡ owner = text_cmp_exact g.tenant owner ((Equal-is (text_cmp g.tenant owner)).0 tied) in
+        let there : map.get after.accounts g.tenant ≡ change_option (map.get w.accounts owner) d.what.account = changed
+        ∙ ap (map.get (change_at w.accounts owner d.what.account)) own
+        ∙ get-change_same text_cmp_total text_cmp_exact w.accounts owner d.what.account in
+        ap (λ t. has_sent g (sends_of (map.get w.accounts t))) own ∙ fewer (ap (λ o. has_sent g (sends_of o)) (sym there) ∙ h)
+    by_tenant false apart_too = ap (λ o. has_sent g (sends_of o)) (sym (changed ∙ get-change_other text_cmp_total text_cmp_exact w.accounts owner g.tenant d.what.account apart_too)) ∙ h
+
+-- ---- the law
+
+or_by : (a b : Bool) → (b ≡ false → a ≡ true) → (a || b) ≡ true
+or_by true b h = refl
+or_by false true h = refl
+or_by false false h = h refl
+
+pub covers_grow : CoversGrow
+covers_grow logic w after s candidates step covers = record {
+  entries = λ g h.
+      list_any-append (λ x. grain_eq x g) candidates.entries (grain_changed_by w s)
+      ∙ or_by (is_among candidates.entries g) (is_among (grain_changed_by w s) g) (λ apart. covers.entries g (ap is_some (work_stays logic w after s g step apart h) ∙ h));
+  senders = λ g h.
+      list_any-append (λ x. grain_eq x g) candidates.senders (sender_by s)
+      ∙ or_by (is_among candidates.senders g) (is_among (sender_by s) g)
+      (λ apart. covers.senders g (delivers g (map.get w.accounts g.tenant) ∙ sends_stay logic w after s g (owner_of s) refl step apart (sym (delivers g (map.get after.accounts g.tenant)) ∙ h)));
+}
+
+-- ---- where a silo opens
+
+none_there : (g : Grain) (o : Option Account) (limits : Option Limits) → o ≡ option_map fresh_account limits → is_some (delivery_of g o) ≡ true → false ≡ true
+none_there g o None is h = ap (λ x. is_some (delivery_of g x)) (sym is) ∙ h
+none_there g o (Some l) is h = ap (λ x. is_some (delivery_of g x)) (sym is) ∙ h
+
+pub covers_begin : CoversBegin
+unfolding opening
+covers_begin logic setup = record {
+  entries = λ g h. ap (λ o. is_some (work_on logic g o)) (sym (map.get-empty grain_cmp g)) ∙ h;
+  senders = λ g h. none_there g (map.get (opening setup).accounts g.tenant) (limits_of setup.tenants g.tenant) (get-fresh_accounts setup.tenants g.tenant) h;
+}
+
+-- ---- a candidate at which nothing is to do is left out
+
+other_than : (P : Grain → Bool) (g h : Grain) (among : Bool) → P g ≡ false → P h ≡ true → (grain_eq g h || among) ≡ true → among ≡ true
+other_than P g h among none some listed = by_same (grain_eq g h) refl listed
+  where
+    by_same : (b : Bool) → grain_eq g h ≡ b → (b || among) ≡ true → among ≡ true
+    by_same true is e = absurd (true≢false (sym some ∙ ap P (sym ((grain_eq_decides g h).0 is)) ∙ none))
+    by_same false is e = e
+
+pub entry_left_out : (logic : Logic) (w : Whole) (g : Grain) (entries senders : List Grain) → work_on logic g (map.get w.entries g) ≡ None → Covers logic w (record { entries = g ∷ entries; senders = senders })
+    → Covers logic w (record { entries = entries; senders = senders })
+entry_left_out logic w g entries senders none covers = record {
+  entries = λ h some. other_than (λ x. is_some (work_on logic x (map.get w.entries x))) g h (is_among entries h) (ap is_some none) some (covers.entries h some);
+  senders = covers.senders;
+}
+
+pub sender_left_out : (logic : Logic) (w : Whole) (g : Grain) (entries senders : List Grain) → delivery_of g (map.get w.accounts g.tenant) ≡ None → Covers logic w (record { entries = entries; senders = g ∷ senders })
+    → Covers logic w (record { entries = entries; senders = senders })
+sender_left_out logic w g entries senders none covers = record {
+  entries = covers.entries;
+  senders = λ h some. other_than (λ x. is_some (delivery_of x (map.get w.accounts x.tenant))) g h (is_among senders h) (ap is_some none) some (covers.senders h some);
+}

@@ -1,0 +1,12 @@
+pub mod Askers
+pub mod PacedGrowth
+pub mod AnswerOrder
+pub mod ToldApart
+pub mod Pass
+pub mod PassOfLanes
+pub mod LaneAnswers
+pub mod WorkAtGrains
+pub mod CountsOfAll
+pub mod Sends
+pub mod Candidates
+pub mod FirstCall
