@@ -1,0 +1,26 @@
+//! Laws over the definitions alone. No code runs: a law is the contract of a function that does
+//! nothing, so that it is proved with the crate.
+
+ghost use Rattle.silo_report.specs.Report.{NoDifference, NoneIsMachines, OneReport, TenantsInOrder};
+
+/// A journal has at most one report.
+pub fn one_report()
+    ensures { OneReport }
+{}
+
+/// The journal of a silo that opened with no rows has no difference.
+pub fn no_difference()
+    ensures { NoDifference }
+{}
+
+/// If a tenant has no difference, the replies and the rows that were recorded of it are its
+/// machine's.
+pub fn none_is_machines()
+    ensures { NoneIsMachines }
+{}
+
+/// A report has each tenant once: the table's in its order, and then the others that have a step, a
+/// reply or a row, ascending.
+pub fn tenants_in_order()
+    ensures { TenantsInOrder }
+{}
