@@ -23,6 +23,7 @@ pub mod EntrySteps
 pub mod TurnSteps
 pub mod Counters
 pub mod FirstCall
+pub mod SameCodes
 pub mod Stored
 pub mod SavedStates
 pub mod AskSteps

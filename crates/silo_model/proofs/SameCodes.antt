@@ -1,0 +1,44 @@
+-- Values that have codes are told apart by their codes.
+use Rattle.std.proofs.Common.{◌≡◌, Bool, true, false, refl, ap, sym, ◌∙◌, subst, true≢false}
+use Rattle.std.specs.Prelude.{◌&&◌, ◌==◌}
+use Rattle.std.specs.Bool.{Decides}
+use Rattle.std.proofs.lemmas.Bool.{eqb-true, eq-eqb}
+use base.Stored.{Gv, gnil, gnum, gcons, Coded}
+
+abbrev same_code : Gv → Gv → Bool
+same_code gnil gnil = true
+same_code gnil (gnum n) = false
+same_code gnil (gcons a b) = false
+same_code (gnum m) gnil = false
+same_code (gnum m) (gnum n) = m == n
+same_code (gnum m) (gcons a b) = false
+same_code (gcons a b) gnil = false
+same_code (gcons a b) (gnum n) = false
+same_code (gcons a b) (gcons c d) = same_code a c && same_code b d
+
+both : (a b : Bool) → (a && b) ≡ true → (a ≡ true) × (b ≡ true)
+both true b e = (refl, e)
+both false b e = absurd (true≢false (sym e))
+
+is_same : (x y : Gv) → same_code x y ≡ true → x ≡ y
+is_same gnil gnil e = refl
+is_same gnil (gnum n) e = absurd (true≢false (sym e))
+is_same gnil (gcons a b) e = absurd (true≢false (sym e))
+is_same (gnum m) gnil e = absurd (true≢false (sym e))
+is_same (gnum m) (gnum n) e = ap gnum (eqb-true m n e)
+is_same (gnum m) (gcons a b) e = absurd (true≢false (sym e))
+is_same (gcons a b) gnil e = absurd (true≢false (sym e))
+is_same (gcons a b) (gnum n) e = absurd (true≢false (sym e))
+is_same (gcons a b) (gcons c d) e = let parts = both (same_code a c) (same_code b d) e in λ i. gcons (is_same a c parts.0 i) (is_same b d parts.1 i)
+
+itself : (x : Gv) → same_code x x ≡ true
+itself gnil = refl
+itself (gnum n) = eq-eqb n n refl
+itself (gcons a b) = ap (λ x. x && same_code b b) (itself a) ∙ itself b
+
+pub same_by_code : {A : Type 0} → Coded A → A → A → Bool
+same_by_code c x y = same_code (c.code x) (c.code y)
+
+pub same_by_code_decides : {A : Type 0} (c : Coded A) (x y : A) → Decides (same_by_code c x y) (x ≡ y)
+unfolding same_by_code
+same_by_code_decides c x y = (λ e. c.inj x y (is_same (c.code x) (c.code y) e), λ e. subst (λ z. same_code (c.code x) (c.code z) ≡ true) e (itself (c.code x)))
