@@ -1,3 +1,4 @@
 pub mod Differences
 pub mod Reports
 pub mod Tenants
+pub mod EachReport

@@ -43,7 +43,11 @@ pub record IsReport (logic : Logic) (journal : History) (reports : List TenantRe
 
 -- ---- the laws
 
--- A journal has at most one report.
+-- A journal has a report.
+abbrev pub EachReport : Type 0
+EachReport = (logic : Logic) (journal : History) → (reports : List TenantReport) × IsReport logic journal reports
+
+-- It has no other.
 abbrev pub OneReport : Type 0
 OneReport = (logic : Logic) (journal : History) (reports others : List TenantReport) → IsReport logic journal reports → IsReport logic journal others → reports ≡ others
 

@@ -1,9 +1,14 @@
 //! Laws over the definitions alone. No code runs: a law is the contract of a function that does
 //! nothing, so that it is proved with the crate.
 
-ghost use Rattle.silo_report.specs.Report.{NoDifference, NoneIsMachines, OneReport, TenantsInOrder};
+ghost use Rattle.silo_report.specs.Report.{EachReport, NoDifference, NoneIsMachines, OneReport, TenantsInOrder};
 
-/// A journal has at most one report.
+/// A journal has a report.
+pub fn each_report()
+    ensures { EachReport }
+{}
+
+/// A journal has no two reports.
 pub fn one_report()
     ensures { OneReport }
 {}
