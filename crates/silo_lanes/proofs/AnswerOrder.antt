@@ -1,11 +1,12 @@
 -- In a paced journal each client is answered in the order in which it asked.
 use Rattle.std.proofs.Common.{◌≡◌, ℕ, ◌+◌, ◌≤◌, Bool, true, false, cond, List, [], ◌∷◌, ◌++◌, Option, Some, None, unwrap_or, refl, ap, sym, ◌∙◌, subst, arith, true≢false}
-use Rattle.std.specs.Prelude.{◌&&◌, not, nat_le, filter, sum_by, option_map, if◌then◌else◌}
+use Rattle.std.specs.Prelude.{nat_le, filter, sum_by, option_map, if◌then◌else◌}
 use Rattle.std.proofs.lemmas.List.Sums.{sum_by-cons, sum_by-append}
 use Rattle.std.proofs.lemmas.List.Elements.{filter-append}
 use Rattle.std.proofs.lemmas.List.{append-nil, append_assoc}
 use Rattle.std.proofs.lemmas.Grind.{flat_map-append}
 use Rattle.std.proofs.lemmas.Option.{same_Some, none-some}
+use Rattle.std.proofs.lemmas.Bool.{and_parts, not-true}
 use Rattle.grain_id.specs.Names.{Grain, Client, client_eq, same_text}
 use Rattle.grain_id.proofs.Order.{client_eq_decides, same_text_decides}
 use Rattle.silo_event.specs.Owner.{owner_of, tenant_of}
@@ -158,14 +159,6 @@ run_more : (logic : Logic) (m : Machine) (steps : List Step) (s : Step) → mach
 run_more logic m [] s = refl
 run_more logic m (r ∷ steps) s = run_more logic (machine_after logic m r) steps s
 
-both : (a b : Bool) → (a && b) ≡ true → (a ≡ true) × (b ≡ true)
-both true b e = (refl, e)
-both false b e = absurd (true≢false (sym e))
-
-not_so : (b : Bool) → not b ≡ true → b ≡ false
-not_so true e = absurd (true≢false (sym e))
-not_so false e = refl
-
 module _ (logic : Logic) (law : ReadersAskNothing logic) (setup : Setup) (client : Client) where
   abbrev at_client : List Step → Machine
   at_client steps = machine_of logic setup steps client
@@ -183,7 +176,7 @@ module _ (logic : Logic) (law : ReadersAskNothing logic) (setup : Setup) (client
   at_fair steps = run_fair logic law (start_of setup client.tenant) (restricted_to client.tenant steps) (start_fair logic setup client.tenant)
 
   none_before : (steps : List Step) (s : Step) → may_ask (machine_of logic setup steps) (asker_of s) ≡ true → asker_of s ≡ Some client → has_pending client (at_client steps) ≡ false
-  none_before steps s may is = not_so _ (ap (may_ask (machine_of logic setup steps)) (sym is) ∙ may)
+  none_before steps s may is = not-true _ (ap (may_ask (machine_of logic setup steps)) (sym is) ∙ may)
 
   owed_more : (steps : List Step) (s : Step) → may_ask (machine_of logic setup steps) (asker_of s) ≡ true → Owed client steps (at_client steps) → Owed client (steps ++ s ∷ []) (at_client (steps ++ s ∷ []))
   owed_more steps s may old = by_concern (concerns client.tenant s) refl
@@ -198,7 +191,7 @@ module _ (logic : Logic) (law : ReadersAskNothing logic) (setup : Setup) (client
   owed_from : (before steps : List Step) → paced_from logic setup before steps ≡ true → Owed client before (at_client before) → Owed client (before ++ steps) (at_client (before ++ steps))
   owed_from before [] paced old = subst (λ xs. Owed client xs (at_client xs)) (sym (append-nil before)) old
   owed_from before (s ∷ steps) paced old =
-      let parts = both (may_ask (machine_of logic setup before) (asker_of s)) _ paced in
+      let parts = and_parts (may_ask (machine_of logic setup before) (asker_of s)) _ paced in
       subst (λ xs. Owed client xs (at_client xs)) (one_on before s steps) (owed_from (before ++ s ∷ []) steps parts.1 (owed_more before s parts.0 old))
 
   start_owed : Owed client [] (at_client [])

@@ -1,9 +1,9 @@
 -- What a client asked, what it was told, and what of it still waits or is open.
 use Rattle.std.proofs.Common.{◌≡◌, ℕ, ◌+◌, ◌≤◌, Bool, true, false, cond, List, [], ◌∷◌, ◌++◌, Option, Some, None, refl, ap, sym, ◌∙◌, arith, true≢false}
-use Rattle.std.specs.Prelude.{◌||◌, not, nat_eq, sum_by}
+use Rattle.std.specs.Prelude.{not, nat_eq, sum_by}
 use Rattle.std.specs.List.{list_any}
 use Rattle.std.proofs.lemmas.List.Sums.{sum_by-cons}
-use Rattle.std.proofs.lemmas.Bool.{eqb-true, eq-eqb}
+use Rattle.std.proofs.lemmas.Bool.{eqb-true, eq-eqb, or_parts}
 use Rattle.std.proofs.lemmas.Option.{same_Some, none-some}
 use Rattle.grain_id.specs.Names.{Client, client_eq}
 use Rattle.grain_id.proofs.Order.{client_eq_decides, same_text_decides}
@@ -44,10 +44,6 @@ told_weight client f replies = sym (sum_flat f (λ (r : Reply). id_of client r.r
 
 -- ---- nothing of a client waits or is open
 
-neither : (a b : Bool) → (a || b) ≡ false → (a ≡ false) × (b ≡ false)
-neither true b e = absurd (true≢false e)
-neither false b e = (refl, e)
-
 light_by : (client : Client) (f : ℕ → ℕ) (p : Party) → is_of_client client p ≡ false → weigh client f p ≡ 0
 light_by client f (party.Client caller id) apart = ap (λ b. sum_by f (cond b (id ∷ []) [])) apart
 light_by client f (party.Grain grain) apart = refl
@@ -55,7 +51,7 @@ light_by client f (party.Grain grain) apart = refl
 light : (client : Client) (f : ℕ → ℕ) (queue : List Request) → list_any (λ q. is_of_client client q.sender) queue ≡ false → sum_by (sent (weigh client f)) queue ≡ 0
 light client f [] none = refl
 light client f (q ∷ queue) none =
-    let parts = neither (is_of_client client q.sender) _ none in
+    let parts = or_parts (is_of_client client q.sender) _ none in
     omega (arith, sum_by-cons (sent (weigh client f)) q queue, light_by client f q.sender parts.0, light client f queue parts.1)
 
 pub none_pending : (client : Client) (f : ℕ → ℕ) (m : Machine) → has_pending client m ≡ false → pend (sent (weigh client f)) m.entries ≡ 0

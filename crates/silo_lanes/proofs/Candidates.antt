@@ -6,6 +6,7 @@ use Rattle.std.specs.Cmp.{Equal-is}
 use Rattle.std.specs.FinMap as map
 use Rattle.std.proofs.lemmas.List.Folds.{list_any-append}
 use Rattle.std.proofs.lemmas.Option.{same_Some, none-some}
+use Rattle.std.proofs.lemmas.Bool.{false_from_ne_true, or_parts}
 use Rattle.grain_id.specs.Names.{Grain, grain_eq, grain_cmp, text_cmp}
 use Rattle.grain_id.proofs.Order.{grain_cmp_total, grain_cmp_exact, grain_eq_decides, text_cmp_total, text_cmp_exact}
 use Rattle.silo_event.specs.Owner.{owner_of}
@@ -27,21 +28,13 @@ use Rattle.silo_lanes.specs.Todo.{work_on, delivery_of, is_among, grain_by_owner
 use Rattle.silo_lanes.specs.Asking.{sends_of}
 use Rattle.silo_lanes.proofs.Sends.{has_sent, mapped, effect_less}
 
-neither : (a b : Bool) → (a || b) ≡ false → a ≡ false
-neither true b e = e
-neither false b e = refl
-
-not_so : (b : Bool) → (b ≡ true → ⊥) → b ≡ false
-not_so true h = absurd (h refl)
-not_so false h = refl
-
 grain_apart : (p g : Grain) → grain_eq p g ≡ false → eq_by_cmp grain_cmp g p ≡ false
-grain_apart p g apart = not_so _ (λ tied. true≢false (sym ((grain_eq_decides p g).1 (sym (grain_cmp_exact g p ((Equal-is (grain_cmp g p)).0 tied)))) ∙ apart))
+grain_apart p g apart = false_from_ne_true _ (λ tied. true≢false (sym ((grain_eq_decides p g).1 (sym (grain_cmp_exact g p ((Equal-is (grain_cmp g p)).0 tied)))) ∙ apart))
 
 -- a change at a grain leaves the entry of another
 get-elsewhere : (entries : Entries) (place : Option Grain) (c : Change Entry) (g : Grain) → is_among (option_to_list place) g ≡ false → map.get (changed_at entries place c) g ≡ map.get entries g
 get-elsewhere entries None c g apart = refl
-get-elsewhere entries (Some p) c g apart = get-change_other grain_cmp_total grain_cmp_exact entries p g c (grain_apart p g (neither (grain_eq p g) false apart))
+get-elsewhere entries (Some p) c g apart = get-change_other grain_cmp_total grain_cmp_exact entries p g c (grain_apart p g ((or_parts (grain_eq p g) false apart).0))
 
 spread_elsewhere : (w : Whole) (owner : List ℕ) (place : Option Grain) (e : Effect) (g : Grain) → is_among (option_to_list place) g ≡ false → map.get (spread w owner place e).entries g ≡ map.get w.entries g
 unfolding spread

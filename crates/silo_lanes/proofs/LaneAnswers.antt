@@ -1,8 +1,9 @@
 -- What clients are told where their lanes have been served, and what a paced journal says of each of its steps.
-use Rattle.std.proofs.Common.{◌≡◌, ◌+◌, Bool, true, false, cond, List, [], ◌∷◌, ◌++◌, length, Option, Some, None, refl, ap, sym, ◌∙◌, subst, arith, true≢false}
-use Rattle.std.specs.Prelude.{◌&&◌, not, map as map_list}
+use Rattle.std.proofs.Common.{◌≡◌, Bool, true, false, cond, List, [], ◌∷◌, ◌++◌, length, Option, Some, None, refl, ap, sym, ◌∙◌, subst, arith, true≢false}
+use Rattle.std.specs.Prelude.{not, map as map_list}
 use Rattle.std.specs.List.{list_any}
-use Rattle.std.proofs.lemmas.List.{append-nil}
+use Rattle.std.proofs.lemmas.List.{append-nil, length-append, length-map}
+use Rattle.std.proofs.lemmas.Bool.{and_parts, and_from, not-true}
 use Rattle.grain_id.specs.Names.{Client}
 use Rattle.silo_event.specs.Failed.{as_failed}
 use Rattle.silo_event.specs.declared.reply.Party.{Party}
@@ -83,10 +84,6 @@ quiet_pending client m quiet = ap (λ qs. list_any (λ (q : Request). is_of_clie
 
 -- ---- as many replies as steps
 
-length-append : {A : Type 0} (xs ys : List A) → length (xs ++ ys) ≡ length xs + length ys
-length-append [] ys = omega arith
-length-append (x ∷ xs) ys = omega (arith, length-append xs ys)
-
 one_asked : (client : Client) (s : Step) → is_given_by (Some client) (lane_of s) ≡ true → length (id_asked client (asking_of s)) ≡ 1
 one_asked client (Refuse caller id code) own = ap (λ b. length (cond b (id ∷ []) [])) own
 one_asked client (Call caller id grain message) own = ap (λ b. length (cond b (id ∷ []) [])) own
@@ -116,19 +113,15 @@ one_each_told client (r ∷ replies) = by_party (is_of_client client r.recipient
     by_party true own rest = omega (arith, length-append (id_of client r.recipient) (ids_told client (replies_to (Some client) replies)), one_told client r.recipient own, rest)
     by_party false own rest = rest
 
-length-map : {A B : Type 0} (f : A → B) (xs : List A) → length (map_list f xs) ≡ length xs
-length-map f [] = refl
-length-map f (x ∷ xs) = omega (arith, length-map f xs)
-
 -- the client asks in the journal as often as its lane has steps
 asks_all : (client : Client) (lane : Lane) (journal : List Step) → lane.from ≡ Some client → LaneStands lane journal → length (ids_asked client journal) ≡ length lane.steps
 asks_all client lane journal from stands =
     ap length (sym (ids_given client journal))
     ∙ one_each_asked client journal
     ∙ ap (λ f. length (given_by f journal)) (sym from)
-    ∙ sym (length-map as_failed (given_by lane.from journal))
+    ∙ sym (length-map (given_by lane.from journal) as_failed)
     ∙ ap length stands
-    ∙ length-map as_failed (done_steps_of lane)
+    ∙ length-map (done_steps_of lane) as_failed
     ∙ ap (λ f. length (done_steps_by f lane.steps)) from
 
 pub lanes_answered : LanesAnswered
@@ -141,26 +134,15 @@ lanes_answered logic law setup lanes journal w failures answers served lane clie
 
 -- ---- each step of a paced journal
 
-both : (a b : Bool) → (a && b) ≡ true → (a ≡ true) × (b ≡ true)
-both true b e = (refl, e)
-both false b e = absurd (true≢false (sym e))
-
-both_true : (a b : Bool) → a ≡ true → b ≡ true → (a && b) ≡ true
-both_true a b p q = ap (λ x. x && b) p ∙ q
-
-not_so : (b : Bool) → not b ≡ true → b ≡ false
-not_so true e = absurd (true≢false (sym e))
-not_so false e = refl
-
 module _ (logic : Logic) (setup : Setup) where
   abbrev HasNone : List Step → Client → Type 0
   HasNone before client = has_pending client (machine_of logic setup before client) ≡ false
 
   none_at : (pre before after : List Step) (s : Step) (client : Client) → paced_from logic setup pre (before ++ s ∷ after) ≡ true → asker_of s ≡ Some client → HasNone (pre ++ before) client
   none_at pre [] after s client paced asks =
-      let now : HasNone pre client = not_so _ (ap (may_ask (machine_of logic setup pre)) (sym asks) ∙ (both _ _ paced).0) in
+      let now : HasNone pre client = not-true _ (ap (may_ask (machine_of logic setup pre)) (sym asks) ∙ (and_parts _ _ paced).0) in
       subst (λ steps. HasNone steps client) (sym (append-nil pre)) now
-  none_at pre (r ∷ before) after s client paced asks = subst (λ steps. HasNone steps client) (one_on pre r before) (none_at (pre ++ r ∷ []) before after s client (both _ _ paced).1 asks)
+  none_at pre (r ∷ before) after s client paced asks = subst (λ steps. HasNone steps client) (one_on pre r before) (none_at (pre ++ r ∷ []) before after s client (and_parts _ _ paced).1 asks)
 
   may_by : (machine : Client → Machine) (o : Option Client) → ((client : Client) → o ≡ Some client → has_pending client (machine client) ≡ false) → may_ask machine o ≡ true
   may_by machine None none = refl
@@ -169,7 +151,7 @@ module _ (logic : Logic) (setup : Setup) where
   paced_where : (pre steps : List Step) → ((before after : List Step) (s : Step) (client : Client) → steps ≡ before ++ s ∷ after → asker_of s ≡ Some client → HasNone (pre ++ before) client) → paced_from logic setup pre steps ≡ true
   paced_where pre [] each = refl
   paced_where pre (s ∷ steps) each =
-      both_true _ _
+      and_from _ _
       (may_by (machine_of logic setup pre) (asker_of s) (λ client asks. subst (λ xs. HasNone xs client) (append-nil pre) (each [] steps s client refl asks)))
       (paced_where (pre ++ s ∷ []) steps (λ before after r client parts asks. subst (λ xs. HasNone xs client) (sym (one_on pre s before)) (each (s ∷ before) after r client (ap (λ xs. s ∷ xs) parts) asks)))
 

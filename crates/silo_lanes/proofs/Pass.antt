@@ -10,7 +10,7 @@ use Rattle.std.specs.Cmp.Lexicographic.{options_total}
 use Rattle.std.specs.FinMap as map
 use Rattle.std.specs.FinMap.{IsAntisymmetric}
 use Rattle.std.proofs.lemmas.Option.{same_Some, none-some}
-use Rattle.std.proofs.lemmas.Bool.{eqb-true}
+use Rattle.std.proofs.lemmas.Bool.{eqb-true, false_from_ne_true}
 use Rattle.grain_id.specs.Names.{Client, client_cmp}
 use Rattle.grain_id.proofs.Order.{client_cmp_total, client_cmp_exact, client_eq_decides}
 use Rattle.silo_event.specs.Failed.{as_failed}
@@ -38,10 +38,6 @@ same_lane_decides (Some c) (Some d) = (λ e. ap Some ((client_eq_decides c d).0 
 pub itself : (a : Option Client) → same_lane a a ≡ true
 itself a = (same_lane_decides a a).1 refl
 
-pub not_so : (b : Bool) → (b ≡ true → ⊥) → b ≡ false
-not_so true h = absurd (h refl)
-not_so false h = refl
-
 pub tied_lane : (a b : Option Client) → eq_by_cmp (option_cmp client_cmp) a b ≡ true → a ≡ b
 tied_lane a b tied = lanes_exact a b ((Equal-is (option_cmp client_cmp a b)).0 tied)
 
@@ -49,7 +45,7 @@ pub lane_itself : (a : Option Client) → eq_by_cmp (option_cmp client_cmp) a a 
 lane_itself a = ap is_eq (tied_itself lanes_total a)
 
 pub lane_apart : (a b : Option Client) → same_lane a b ≡ false → eq_by_cmp (option_cmp client_cmp) b a ≡ false
-lane_apart a b apart = not_so _ (λ tied. true≢false (sym ((same_lane_decides a b).1 (sym (tied_lane b a tied))) ∙ apart))
+lane_apart a b apart = false_from_ne_true _ (λ tied. true≢false (sym ((same_lane_decides a b).1 (sym (tied_lane b a tied))) ∙ apart))
 
 -- ---- what is left of a lane fits what the journal has of it
 

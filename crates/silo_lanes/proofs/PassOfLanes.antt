@@ -8,10 +8,11 @@ use Rattle.std.specs.FinMap as map
 use Rattle.std.specs.FinMap.Entries.{find}
 use Rattle.std.proofs.lemmas.Map.Keys.{IsDistinct-head, IsDistinct-tail}
 use Rattle.std.proofs.lemmas.List.Elements.{recursion_from_All, All-from_recursion}
+use Rattle.std.proofs.lemmas.Bool.{false_from_ne_true}
 use Rattle.grain_id.specs.Names.{Client, client_cmp}
 use Rattle.silo_event.specs.declared.step.Step.{Step}
 use Rattle.silo_lanes.specs.Lanes.{Lane, lane_of, same_lane, is_given_by, given_by, AreDistinct, done_steps_of, LaneStands, has_giver, Remaining, remaining_of, remaining_after, remaining_at_end, PassDecides}
-use Rattle.silo_lanes.proofs.Pass.{lanes_total, same_lane_decides, itself, not_so, tied_lane, lane_itself, lane_apart, FitsOne, Fits, pass_fits}
+use Rattle.silo_lanes.proofs.Pass.{lanes_total, same_lane_decides, itself, tied_lane, lane_itself, lane_apart, FitsOne, Fits, pass_fits}
 
 -- what the lanes of a list have at their own places
 abbrev found_in : List Lane → Option Client → Option (List Step)
@@ -42,7 +43,7 @@ none_found (lane ∷ lanes) from none = by_first (same_lane from lane.from) refl
         → found_in (lane ∷ lanes) from ≡ None
     by_first true is h rest = absurd (true≢false h)
     by_first false is h rest =
-        ap (λ b. cond b (Some (done_steps_of lane)) (found_in lanes from)) (not_so _ (λ tied. true≢false (sym ((same_lane_decides from lane.from).1 (tied_lane from lane.from tied)) ∙ is)))
+        ap (λ b. cond b (Some (done_steps_of lane)) (found_in lanes from)) (false_from_ne_true _ (λ tied. true≢false (sym ((same_lane_decides from lane.from).1 (tied_lane from lane.from tied)) ∙ is)))
         ∙ rest h
 
 -- ---- what fits stands
@@ -103,7 +104,7 @@ fits_found (lane ∷ lanes) journal from each none = by_tie (eq_by_cmp (option_c
         → FitsOne (cond b (Some (done_steps_of lane)) (found_in lanes from)) (given_by from journal)
     by_tie true is rest = subst (λ f. FitsOne (Some (done_steps_of lane)) (given_by f journal)) (sym (tied_lane from lane.from is)) each.0
     by_tie false is rest =
-        rest (λ others. none (ap (λ b. b || list_any (λ (l : Lane). same_lane from l.from) lanes) (not_so _ (λ same. apart ((same_lane_decides from lane.from).0 same))) ∙ others))
+        rest (λ others. none (ap (λ b. b || list_any (λ (l : Lane). same_lane from l.from) lanes) (false_from_ne_true _ (λ same. apart ((same_lane_decides from lane.from).0 same))) ∙ others))
       where
         apart : from ≡ lane.from → ⊥
         apart same = true≢false (sym (subst (λ f. eq_by_cmp (option_cmp client_cmp) from f ≡ true) same (lane_itself from)) ∙ is)

@@ -2,6 +2,7 @@
 use Rattle.std.proofs.Common.{◌≡◌, ℕ, Bool, true, false, cond, List, [], ◌∷◌, ◌++◌, Option, Some, None, refl, ap, sym, ◌∙◌, subst}
 use Rattle.std.specs.Prelude.{◌||◌, Result, Ok, Err, option_map, option_and_then, is_some, map as map_list, if◌then◌else◌}
 use Rattle.std.proofs.lemmas.Option.{same_Some, none-some}
+use Rattle.std.proofs.lemmas.Bool.{or_parts, or_right}
 use Rattle.std.specs.FinMap as map
 use Rattle.grain_id.specs.Names.{Grain, grain_eq}
 use Rattle.request_codec.specs.Tree.{Tree}
@@ -43,13 +44,9 @@ has-cons g sent sends = by_first (grain_eq sent.source g)
     by_first true = refl
     by_first false = mapped (λ (f : Send × List Send). (f.0, sent ∷ f.1)) (first_from g sends)
 
-or_right : (a b c : Bool) → (b ≡ true → c ≡ true) → (a || b) ≡ true → (a || c) ≡ true
-or_right true b c h e = refl
-or_right false b c h e = h e
-
-or_second : (a b : Bool) → b ≡ true → (a || b) ≡ true
-or_second true b e = refl
-or_second false b e = e
+or_instead : (a b c : Bool) → (b ≡ true → c ≡ true) → (a || b) ≡ true → (a || c) ≡ true
+or_instead true b c h e = refl
+or_instead false b c h e = h e
 
 -- what is left without one has none of whom the whole list has none
 has_rest : (grain g : Grain) (sends : List Send) (found : Send × List Send) → first_from grain sends ≡ Some found → has_sent g found.1 ≡ true → has_sent g sends ≡ true
@@ -60,11 +57,11 @@ has_rest grain g (sent ∷ sends) found is h = has-cons g sent sends ∙ by_firs
         → (grain_eq sent.source g || has_sent g sends) ≡ true
     later None e there smaller = absurd (none-some found e)
     later (Some f) e there smaller =
-        or_right (grain_eq sent.source g) (has_sent g f.1) (has_sent g sends) (smaller f there) (sym (has-cons g sent f.1) ∙ ap (λ (x : Send × List Send). has_sent g x.1) (same_Some (f.0, sent ∷ f.1) found e) ∙ h)
+        or_instead (grain_eq sent.source g) (has_sent g f.1) (has_sent g sends) (smaller f there) (sym (has-cons g sent f.1) ∙ ap (λ (x : Send × List Send). has_sent g x.1) (same_Some (f.0, sent ∷ f.1) found e) ∙ h)
 
     by_first : (b : Bool) → cond b (Some (sent, sends)) (option_map (λ (f : Send × List Send). (f.0, sent ∷ f.1)) (first_from grain sends)) ≡ Some found → ((rest : Send × List Send) → first_from grain sends ≡ Some rest → has_sent g rest.1 ≡ true → has_sent g sends ≡ true)
         → (grain_eq sent.source g || has_sent g sends) ≡ true
-    by_first true e smaller = or_second (grain_eq sent.source g) (has_sent g sends) (ap (λ (x : Send × List Send). has_sent g x.1) (same_Some (sent, sends) found e) ∙ h)
+    by_first true e smaller = or_right (grain_eq sent.source g) (has_sent g sends) (ap (λ (x : Send × List Send). has_sent g x.1) (same_Some (sent, sends) found e) ∙ h)
     by_first false e smaller = later (first_from grain sends) e refl smaller
 
 abbrev sends_by : Grain → List Outgoing → List Send
@@ -75,7 +72,7 @@ has_more : (grain g : Grain) (sends : List Send) (os : List Outgoing) → grain_
 has_more grain g [] [] apart h = h
 has_more grain g [] (o ∷ os) apart h = has_more grain g [] os apart (ap (λ b. b || has_sent g (sends_by grain os)) (sym apart) ∙ sym (has-cons g (record { source = grain; message = o }) (sends_by grain os)) ∙ h)
 has_more grain g (sent ∷ sends) os apart h =
-    has-cons g sent sends ∙ or_right (grain_eq sent.source g) _ (has_sent g sends) (has_more grain g sends os apart) (sym (has-cons g sent (sends ++ sends_by grain os)) ∙ h)
+    has-cons g sent sends ∙ or_instead (grain_eq sent.source g) _ (has_sent g sends) (has_more grain g sends os apart) (sym (has-cons g sent (sends ++ sends_by grain os)) ∙ h)
 
 -- ---- what a step does to them
 
@@ -139,10 +136,6 @@ more_less : (g grain : Grain) (account : Option Account) (os : List Outgoing) �
 more_less g grain account [] apart = λ h. h
 more_less g grain None (o ∷ os) apart = λ h. h
 more_less g grain (Some a) (o ∷ os) apart = has_more grain g a.sends (o ∷ os) apart
-
-first_of_two : (a b : Bool) → (a || b) ≡ false → a ≡ false
-first_of_two true b h = h
-first_of_two false b h = refl
 
 module _ (logic : Logic) (s : Sight) (g : Grain) (e : Effect) where
   abbrev Falls : Type 0
@@ -224,7 +217,7 @@ module _ (logic : Logic) (s : Sight) (g : Grain) (e : Effect) where
   effect_less (Load grain failed) apart h = let found = bound _ s.entry e h in loaded_less grain failed found.0 found.0.phase found.2
   effect_less (Begin grain) apart h = let found = bound _ s.entry e h in begun_less grain found.0 found.0.phase found.2
   effect_less (Store grain turn failed) apart h = turn_less (λ x q. stored logic s grain failed x q x.phase) turn (λ x q. stored_less grain failed x q x.phase) h
-  effect_less (End grain turn) apart h = turn_less (λ x q. ended logic s grain x q x.phase) turn (λ x q. ended_less grain x q x.phase (first_of_two (grain_eq grain g) false apart)) h
+  effect_less (End grain turn) apart h = turn_less (λ x q. ended logic s grain x q x.phase) turn (λ x q. ended_less grain x q x.phase ((or_parts (grain_eq grain g) false apart).0)) h
   effect_less (Abandon grain turn) apart h = turn_less (λ x q. Some (abandoned s x q)) turn (λ x q does. leaves logic s g e _ refl does) h
   effect_less (Tick now) apart h = absurd (none-some e h)
   effect_less Sweep apart h = absurd (none-some e h)

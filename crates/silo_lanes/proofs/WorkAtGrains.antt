@@ -1,8 +1,9 @@
 -- What there is to do at a grain, and where there is nothing.
 use Rattle.std.proofs.Common.{◌≡◌, ℕ, Bool, true, false, cond, List, [], ◌∷◌, Option, Some, None, refl, sym, ◌∙◌, subst, true≢false}
-use Rattle.std.specs.Prelude.{is_some, not, option_map}
+use Rattle.std.specs.Prelude.{is_some, option_map}
 use Rattle.std.proofs.lemmas.Option.{same_Some, none-some}
 use Rattle.std.specs.FinMap as map
+use Rattle.std.proofs.lemmas.Bool.{not-true}
 use Rattle.grain_id.specs.Names.{Grain}
 use Rattle.request_codec.specs.Tree.{Tree}
 use Rattle.silo_event.specs.declared.step.Step.{Step}
@@ -98,13 +99,9 @@ not_some : (o : Option Step) → (is_some o ≡ true → false ≡ true) → o �
 not_some None h = refl
 not_some (Some s) h = absurd (true≢false (sym (h refl)))
 
-not_failed : (b : Bool) → not b ≡ true → b ≡ false
-not_failed true e = absurd (true≢false (sym e))
-not_failed false e = refl
-
 pub nothing_to_do : NothingToDo
 nothing_to_do logic w covers (Activate g) work = (nothing_at_entry logic w g (not_some _ (covers.entries g))).0
-nothing_to_do logic w covers (Load g failed) work = (nothing_at_entry logic w g (not_some _ (covers.entries g))).1 failed (not_failed failed work)
+nothing_to_do logic w covers (Load g failed) work = (nothing_at_entry logic w g (not_some _ (covers.entries g))).1 failed (not-true failed work)
 nothing_to_do logic w covers (Begin g) work = (nothing_at_entry logic w g (not_some _ (covers.entries g))).2
 nothing_to_do logic w covers (Deliver g) work = nothing_to_deliver logic w g (not_some _ (covers.senders g))
 nothing_to_do logic w covers _ work = absurd (true≢false (sym work))

@@ -2,7 +2,7 @@
 use Rattle.std.proofs.Common.{◌≡◌, Bool, true, false, refl, ap, sym, ◌∙◌, subst, true≢false}
 use Rattle.std.specs.Prelude.{◌&&◌, ◌==◌}
 use Rattle.std.specs.Bool.{Decides}
-use Rattle.std.proofs.lemmas.Bool.{eqb-true, eq-eqb}
+use Rattle.std.proofs.lemmas.Bool.{eqb-true, eq-eqb, and_parts}
 use base.Stored.{Gv, gnil, gnum, gcons, Coded}
 
 abbrev same_code : Gv → Gv → Bool
@@ -16,10 +16,6 @@ same_code (gcons a b) gnil = false
 same_code (gcons a b) (gnum n) = false
 same_code (gcons a b) (gcons c d) = same_code a c && same_code b d
 
-both : (a b : Bool) → (a && b) ≡ true → (a ≡ true) × (b ≡ true)
-both true b e = (refl, e)
-both false b e = absurd (true≢false (sym e))
-
 is_same : (x y : Gv) → same_code x y ≡ true → x ≡ y
 is_same gnil gnil e = refl
 is_same gnil (gnum n) e = absurd (true≢false (sym e))
@@ -29,7 +25,7 @@ is_same (gnum m) (gnum n) e = ap gnum (eqb-true m n e)
 is_same (gnum m) (gcons a b) e = absurd (true≢false (sym e))
 is_same (gcons a b) gnil e = absurd (true≢false (sym e))
 is_same (gcons a b) (gnum n) e = absurd (true≢false (sym e))
-is_same (gcons a b) (gcons c d) e = let parts = both (same_code a c) (same_code b d) e in λ i. gcons (is_same a c parts.0 i) (is_same b d parts.1 i)
+is_same (gcons a b) (gcons c d) e = let parts = and_parts (same_code a c) (same_code b d) e in λ i. gcons (is_same a c parts.0 i) (is_same b d parts.1 i)
 
 itself : (x : Gv) → same_code x x ≡ true
 itself gnil = refl

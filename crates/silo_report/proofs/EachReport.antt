@@ -12,6 +12,7 @@ use Rattle.std.specs.FinMap as map
 use Rattle.std.proofs.lemmas.List.Elements.{All-from_recursion}
 use Rattle.std.proofs.lemmas.List.Folds.{list_any-append}
 use Rattle.std.proofs.lemmas.Option.{same_Some, none-some}
+use Rattle.std.proofs.lemmas.Bool.{or_left, or_right}
 use base.Stored.{Coded}
 use Rattle.grain_id.specs.Names.{Grain, grain_cmp}
 use Rattle.grain_id.proofs.Order.{grain_cmp_total, grain_cmp_exact}
@@ -141,13 +142,6 @@ module _ (rows others : Rows) where
       by_tie true tied l rest = subst P (sym (grain_cmp_exact g h ((Equal-is (grain_cmp g h)).0 tied))) all.0
       by_tie false tied l rest = rest l
 
-  either : (a b : Bool) → a ≡ true → (a || b) ≡ true
-  either a b e = ap (λ x. x || b) e
-
-  or_else : (a b : Bool) → b ≡ true → (a || b) ≡ true
-  or_else true b e = refl
-  or_else false b e = e
-
   in_all : (g : Grain) → list_any (eq_by_cmp grain_cmp g) all_grains ≡ (is_some (map.get rows g) || is_some (map.get others g))
   in_all g = list_any-append (eq_by_cmp grain_cmp g) (map.keys rows) (map.keys others) ∙ (λ i. sym (map.contains_key-keys rows g) i || sym (map.contains_key-keys others g) i)
 
@@ -157,8 +151,8 @@ module _ (rows others : Rows) where
     where
       by_found : (a : Option Row) → map.get rows g ≡ a → (b : Option Row) → map.get others g ≡ b → P g
       by_found None is None is_too = same g (is ∙ sym is_too)
-      by_found (Some row) is b is_too = listed_of P g all_grains (in_all g ∙ either _ _ (ap is_some is)) all
-      by_found None is (Some row) is_too = listed_of P g all_grains (in_all g ∙ or_else _ _ (ap is_some is_too)) all
+      by_found (Some row) is b is_too = listed_of P g all_grains (in_all g ∙ or_left _ _ (ap is_some is)) all
+      by_found None is (Some row) is_too = listed_of P g all_grains (in_all g ∙ or_right _ _ (ap is_some is_too)) all
 
   abbrev IsFirstRow : Option Grain → Type 0
   IsFirstRow None = rows ≡ others

@@ -1,6 +1,6 @@
 -- A journal has one report; that of a silo has no difference; and what a report without difference says.
 use Rattle.std.proofs.Common.{◌≡◌, ℕ, Bool, true, false, cond, List, [], ◌∷◌, length, Some, None, unwrap_or, refl, ap, sym, ◌∙◌, subst, true≢false}
-use Rattle.std.specs.Prelude.{◌&&◌, filter, map as map_list}
+use Rattle.std.specs.Prelude.{filter, map as map_list}
 use Rattle.std.specs.List.{AllByRecursion}
 use Rattle.std.specs.List.Sorted.{IsStrictlySortedBy}
 use Rattle.std.specs.Map.{keys_of}
@@ -12,6 +12,7 @@ use Rattle.std.specs.FinMap.Entries.{find-where_key}
 use Rattle.std.proofs.lemmas.List.Elements.{recursion_from_All}
 use Rattle.std.proofs.lemmas.List.Kept.{IsStrictlySortedBy-filter}
 use Rattle.std.proofs.lemmas.Option.{same_Some}
+use Rattle.std.proofs.lemmas.Bool.{and_parts}
 use Rattle.grain_id.specs.Names.{Grain, grain_cmp}
 use Rattle.grain_id.proofs.Order.{grain_cmp_total, grain_cmp_exact}
 use Rattle.grain_id.proofs.ByGrain.{alike, get-part}
@@ -105,10 +106,6 @@ no_difference logic journal w tenant leads records = (
 
 -- ---- rows that ascend
 
-both : (a b : Bool) → (a && b) ≡ true → (a ≡ true) × (b ≡ true)
-both true b e = (refl, e)
-both false b e = absurd (true≢false (sym e))
-
 is_less : (r : Ordering) → is_lt r ≡ true → r ≡ Less
 is_less Less e = refl
 is_less Equal e = absurd (true≢false (sym e))
@@ -122,7 +119,7 @@ ascend_after : (last : Grain) (rows : List (Grain × Row)) → are_ascending (So
 unfolding IsStrictlySortedBy
 ascend_after last [] e = (tt, tt)
 ascend_after last (row ∷ rows) e =
-    let parts = both (comes_after (Some last) row.0) (are_ascending (Some row.0) rows) e in
+    let parts = and_parts (comes_after (Some last) row.0) (are_ascending (Some row.0) rows) e in
     let rest = ascend_after row.0 rows parts.1 in
     let below = is_less (grain_cmp last row.0) parts.0 in
     ((below, all_above last row.0 (keys_of rows) below rest.0), rest)

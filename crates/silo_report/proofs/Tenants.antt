@@ -14,6 +14,7 @@ use Rattle.std.proofs.lemmas.List.Folds.{list_any-append}
 use Rattle.std.proofs.lemmas.List.Kept.{IsStrictlySortedBy-filter}
 use Rattle.std.proofs.lemmas.Map.Keys.{IsDistinct-from_sorted}
 use Rattle.std.proofs.lemmas.Option.{none-some}
+use Rattle.std.proofs.lemmas.Bool.{false_from_ne_true, or_right, or_parts}
 use Rattle.grain_id.specs.Names.{text_cmp, same_text}
 use Rattle.grain_id.proofs.Order.{ties_from_Decides, text_cmp_total, text_cmp_exact, same_text_decides}
 use Rattle.tenant_gate.specs.declared.fault.TableFault.{TableFault}
@@ -97,10 +98,6 @@ others_ascend journal =
     let m : FinMap text_cmp (Unit {0}) = map.from_entries (map_list (λ t. (t, tt {0})) (owners_in journal)) in
     IsStrictlySortedBy-filter text_cmp (λ t. not (is_listed (names_of journal.tenants) t)) (map.keys m) (keys_ascend text_cmp (map.entries m) (map.entries_sorted m))
 
-not_so : (b : Bool) → (b ≡ true → ⊥) → b ≡ false
-not_so true h = absurd (h refl)
-not_so false h = refl
-
 -- a list after another, of which it has nothing
 none_alike : {K : Type 0} (e : K → K → Bool) (x : K) (ys : List K) → list_any (e x) ys ≡ false → AllByRecursion (λ y. e x y ≡ false) ys
 none_alike e x [] none = tt
@@ -114,25 +111,17 @@ all_more : {K : Type 0} (P : K → Type 0) (xs ys : List K) → AllByRecursion P
 all_more P [] ys all all_too = all_too
 all_more P (x ∷ xs) ys all all_too = (all.0, all_more P xs ys all.1 all_too)
 
-or_true : (a b : Bool) → b ≡ true → (a || b) ≡ true
-or_true true b e = refl
-or_true false b e = e
-
 distinct_more : {K : Type 0} (e : K → K → Bool) → ((x : K) → e x x ≡ true) → (xs ys : List K) → IsDistinct e xs → IsDistinct e ys → ((x : K) → list_any (e x) xs ≡ true → list_any (e x) ys ≡ false) → IsDistinct e (xs ++ ys)
 unfolding IsDistinct
 distinct_more e itself [] ys each each_too apart = each_too
 distinct_more e itself (x ∷ xs) ys each each_too apart =
-    (all_more (λ y. e x y ≡ false) xs ys each.0 (none_alike e x ys (apart x (ap (λ b. b || list_any (e x) xs) (itself x)))), distinct_more e itself xs ys each.1 each_too (λ y is. apart y (or_true (e y x) (list_any (e y) xs) is)))
+    (all_more (λ y. e x y ≡ false) xs ys each.0 (none_alike e x ys (apart x (ap (λ b. b || list_any (e x) xs) (itself x)))), distinct_more e itself xs ys each.1 each_too (λ y is. apart y (or_right (e y x) (list_any (e y) xs) is)))
 
 and_not : (a b : Bool) → a ≡ true → (b && not a) ≡ false
 and_not a true is = ap not is
 and_not a false is = refl
 
 -- ---- a table has no tenant twice
-
-none_of_two : (a b : Bool) → (a || b) ≡ false → (a ≡ false) × (b ≡ false)
-none_of_two true b e = absurd (true≢false e)
-none_of_two false b e = (refl, e)
 
 -- of names that repeat nothing before them: none is one of those before, and no two are the same
 no_repeat : (before names : List (List ℕ)) → first_repeat before names ≡ None → AllByRecursion (λ name. list_any (same_text name) before ≡ false) names × IsDistinct same_text names
@@ -144,9 +133,9 @@ no_repeat before (name ∷ names) none = by_test (list_any (same_text name) befo
         → AllByRecursion (λ other. list_any (same_text other) before ≡ false) others × AllByRecursion (λ other. same_text name other ≡ false) others
     apart_all [] all = (tt, tt)
     apart_all (other ∷ others) all =
-        let parts = none_of_two (list_any (same_text other) before) (same_text other name || false) (sym (list_any-append (same_text other) before (name ∷ [])) ∙ all.0) in
+        let parts = or_parts (list_any (same_text other) before) (same_text other name || false) (sym (list_any-append (same_text other) before (name ∷ [])) ∙ all.0) in
         let rest = apart_all others all.1 in
-        ((parts.0, rest.0), (not_so (same_text name other) (λ e. true≢false (sym ((same_text_decides other name).1 (sym ((same_text_decides name other).0 e))) ∙ (none_of_two _ _ parts.1).0)), rest.1))
+        ((parts.0, rest.0), (false_from_ne_true (same_text name other) (λ e. true≢false (sym ((same_text_decides other name).1 (sym ((same_text_decides name other).0 e))) ∙ (or_parts _ _ parts.1).0)), rest.1))
 
     by_test : (b : Bool) → list_any (same_text name) before ≡ b → (first_repeat (before ++ name ∷ []) names ≡ None → AllByRecursion (λ n. list_any (same_text n) (before ++ name ∷ []) ≡ false) names × IsDistinct same_text names) → (if b then Some name else first_repeat (before ++ name ∷ []) names) ≡ None
         → AllByRecursion (λ n. list_any (same_text n) before ≡ false) (name ∷ names) × IsDistinct same_text (name ∷ names)
