@@ -4,8 +4,8 @@
 //! definitions' own types, so two steps are equal exactly if their parts are, and a clone equals
 //! its source; a fault's code and text, and the fault of a refused line, are those of
 //! `specs/Fault.antt`; a step's owner and the tenant of a party are those of `specs/Owner.antt`; a
-//! step whose storage call failed is that of `specs/Failed.antt`; a fault's text is visible ASCII and
-//! spaces (`specs/Visible.antt`).
+//! step whose storage call failed is that of `specs/Failed.antt`, and [`same_but_failed`] leaves that
+//! mark aside; a fault's text is visible ASCII and spaces (`specs/Visible.antt`).
 #![tactic(auto)]
 
 mod copies;
