@@ -9,6 +9,8 @@ pub mod BuiltForms
 pub mod Run
 pub mod Turns
 pub mod SoFar
+pub mod Ordered
+pub mod FieldsSoFar
 pub mod Numbers
 pub mod Counts
 pub mod Values

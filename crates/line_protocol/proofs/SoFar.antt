@@ -1,25 +1,18 @@
--- What the loops over an argument's items and fields have read and put so far. Each part is said of all that may still follow, so that a turn only adds to it.
-use Rattle.std.proofs.Common.{◌≡◌, ℕ, ◌+◌, ◌-◌, ◌<◌, ◌≤◌, true, List, [], ◌∷◌, ◌++◌, length, Option, Some, None, Less, Greater, refl, sym, ap, ap₂, subst, ◌∙◌, append_assoc, append-nil, arith}
-use Rattle.std.specs.Prelude.{IsUtf8}
+-- What the loops over a list's items and over a line's members have read so far. Of the items each part is said of all that may still follow, so that a turn only adds to it.
+use Rattle.std.proofs.Common.{◌≡◌, ℕ, ◌+◌, ◌-◌, ◌<◌, ◌≤◌, true, List, [], ◌∷◌, ◌++◌, length, Option, Some, None, refl, sym, ap, ap₂, subst, ◌∙◌, append_assoc, append-nil, arith}
 use Rattle.std.specs.Int.{w32, to_be_bytes}
-use Rattle.std.specs.Cmp.Lexicographic.{slice_cmp}
-use Rattle.std.specs.Ordering.{nat_cmp, is_lt, ordering_reverse, match_ordering}
-use Rattle.std.proofs.lemmas.Cmp.{nat_list_cmp_total}
 use Rattle.std.proofs.lemmas.List.{length-append}
 use Rattle.json.specs.Token.{Token, begin_object}
 use Rattle.json.specs.Json.{value, items, members, parse_map, after_end_array, read_key}
 use Rattle.json.proofs.Grammar.{read_key-shorter, after_end_array-shorter, value-begin_object}
-use Rattle.serde_json.specs.Data.{Data, Items, no_items, item, Members, no_members, member, put, object}
+use Rattle.serde_json.specs.Data.{Data, Items, no_items, item, Members, no_members, put, object}
 use Rattle.serde_json.specs.Read.{of_json, of_items, of_members, converted}
-use Rattle.request_codec.specs.Tree.{members_count, fields_count}
-use Rattle.request_codec.specs.Reading.{is_above}
-use Rattle.request_codec.specs.Spelling.{IsBelowFirst}
-use Rattle.request_codec.specs.Json.{items_depth, json_members_depth}
-use Rattle.request_codec.specs.Lenient.{lenient_value, lenient_members, lenient_fields, TestsWhole, TestsItems, TestsMembers}
-use Rattle.request_codec.specs.Written.{text_spelling, spelling, members_spelling, fields_spelling}
+use Rattle.request_codec.specs.Tree.{members_count}
+use Rattle.request_codec.specs.Json.{items_depth}
+use Rattle.request_codec.specs.Lenient.{lenient_value, lenient_members, TestsWhole, TestsItems}
+use Rattle.request_codec.specs.Written.{spelling, members_spelling}
 use Rattle.request_codec.proofs.Spelled.{length-spelling, some_length}
-use Rattle.request_codec.proofs.Entries.{is_less}
-use Rattle.line_protocol.specs.Argument.{too_deep, PutsValue, PutsItems, PutsFields}
+use Rattle.line_protocol.specs.Argument.{too_deep, PutsValue, PutsItems}
 use Rattle.line_protocol.specs.Slots.{name_text, HoldsSlots, TakesMember, HasSlots}
 use Rattle.line_protocol.specs.declared.slots.Name.{Name}
 use Rattle.line_protocol.specs.declared.slots.Slots.{Slots}
@@ -69,7 +62,7 @@ one_spelled : (d : Data) (ds : Items) → members_spelling (lenient_members (ite
 unfolding spelling
 one_spelled d ds = refl
 
-longer : (mid after : List ℕ) (d : Data) → after ≡ mid ++ spelling (lenient_value d) → length mid < length after
+pub longer : (mid after : List ℕ) (d : Data) → after ≡ mid ++ spelling (lenient_value d) → length mid < length after
 longer mid after d e = omega (arith, ap length e, length-append mid (spelling (lenient_value d)), length-spelling (lenient_value d), some_length (lenient_value d))
 
 pub items_next : (depth : ℕ) (initial ts r : List Token) (before mid after : List ℕ) (count : ℕ) → ItemsSoFar depth initial ts before mid count → after_end_array ts ≡ None → PutsValue depth ts r mid after
@@ -103,7 +96,7 @@ one_front before tag rest = sym (append_assoc before (tag ∷ []) rest)
 abbrev pub SetsCount : ℕ → ℕ → List ℕ → List ℕ → Type 0
 SetsCount at count old new = (front rest : List ℕ) → length front ≡ at → old ≡ front ++ (0 ∷ 0 ∷ 0 ∷ 0 ∷ rest) → new ≡ front ++ (to_be_bytes w32 count ++ rest)
 
-counted_bytes : (tag at count : ℕ) (before old new done : List ℕ) → at ≡ length before + 1 → old ≡ before ++ (tag ∷ 0 ∷ 0 ∷ 0 ∷ 0 ∷ done) → SetsCount at count old new → new ≡ before ++ (tag ∷ (to_be_bytes w32 count ++ done))
+pub counted_bytes : (tag at count : ℕ) (before old new done : List ℕ) → at ≡ length before + 1 → old ≡ before ++ (tag ∷ 0 ∷ 0 ∷ 0 ∷ 0 ∷ done) → SetsCount at count old new → new ≡ before ++ (tag ∷ (to_be_bytes w32 count ++ done))
 counted_bytes tag at count before old new done is e set =
     set (before ++ tag ∷ []) done (omega (arith, is, length-append before (tag ∷ []))) (e ∙ one_front before tag _) ∙ sym (one_front before tag _)
 
@@ -119,115 +112,6 @@ items_stop depth initial ts r before after new at count s deep over is set =
       deep = s.deep no_items (omega (arith, deep));
       bytes = counted_bytes 5 at count before after new s.done is s.bytes set ∙ ap₂ (λ k l. before ++ (5 ∷ (to_be_bytes w32 k ++ l))) n all;
       shorter = omega (arith, s.shorter, after_end_array-shorter ts r over);
-    }
-
--- ---- the fields of a map
-
--- what is left begins above the last name
-abbrev pub BeginsAbove : Option (List ℕ) → Members → Type 0
-BeginsAbove None ms = Unit {0}
-BeginsAbove (Some last) ms = IsBelowFirst last (lenient_fields ms)
-
-pub record FieldsSoFar (depth : ℕ) (initial now : List Token) (before after : List ℕ) (last : Option (List ℕ)) (count : ℕ) : Type 0 where
-  pub turns : ℕ
-  pub enough : length now ≤ turns
-  pub shorter : length now ≤ length initial
-  pub json : Members → Members
-  pub read : converted (λ ms. of_members ms no_members) (members (value depth) (length initial) initial) ≡ converted (λ ms. of_members ms (json no_members)) (members (value depth) turns now)
-  pub behind : (k : List ℕ) (d : Data) (ms : Members) → is_above last k ≡ true → put k d (json ms) ≡ json (put k d ms)
-  pub whole : (ms : Members) → TestsMembers true ms → BeginsAbove last ms → TestsMembers true (json ms)
-  pub deep : (ms : Members) → json_members_depth ms + too_deep ≤ depth → json_members_depth (json ms) + too_deep ≤ depth
-  pub counted : (ms : Members) → fields_count (lenient_fields (json ms)) ≡ count + fields_count (lenient_fields ms)
-  pub done : List ℕ
-  pub spelled : (ms : Members) → fields_spelling (lenient_fields (json ms)) ≡ done ++ fields_spelling (lenient_fields ms)
-  pub bytes : after ≡ before ++ (6 ∷ 0 ∷ 0 ∷ 0 ∷ 0 ∷ done)
-  pub some : count ≤ length after
-
-pub fields_start : (depth : ℕ) (ts : List Token) (before after : List ℕ) → after ≡ before ++ (6 ∷ 0 ∷ 0 ∷ 0 ∷ 0 ∷ []) → FieldsSoFar depth ts ts before after None 0
-fields_start depth ts before after e = record {
-  turns = length ts;
-  enough = omega arith;
-  shorter = omega arith;
-  json = λ ms. ms;
-  read = refl;
-  behind = λ k d ms h. refl;
-  whole = λ ms h b. h;
-  deep = λ ms h. h;
-  counted = λ ms. omega arith;
-  done = [];
-  spelled = λ ms. refl;
-  bytes = e;
-  some = omega arith;
-}
-
--- ---- the order of names
-
-greater : (j k : List ℕ) → slice_cmp nat_cmp j k ≡ Less → slice_cmp nat_cmp k j ≡ Greater
-greater j k h = nat_list_cmp_total.antisymm k j ∙ ap ordering_reverse h
-
-above_too : (last : Option (List ℕ)) (k j : List ℕ) → is_above last k ≡ true → slice_cmp nat_cmp k j ≡ Less → is_above last j ≡ true
-above_too None k j h l = refl
-above_too (Some last) k j h l = ap is_lt (nat_list_cmp_total.trans last k j (is_less _ h) l)
-
-begins_above : (last : Option (List ℕ)) (k : List ℕ) (d : Data) (ms : Members) → is_above last k ≡ true → BeginsAbove last (member k d ms)
-begins_above None k d ms h = tt
-begins_above (Some last) k d ms h = h
-
-field_whole : (k : List ℕ) (d : Data) (ms : Members) → IsUtf8 k → TestsWhole true d → BeginsAbove (Some k) ms → TestsMembers true ms → TestsMembers true (member k d ms)
-field_whole k d ms valid h b t = (rw (h.0, t.0) refl, (valid, h.1, b, t.1))
-
-one_field_spelled : (k : List ℕ) (d : Data) (ms : Members) → fields_spelling (lenient_fields (member k d ms)) ≡ (text_spelling k ++ spelling (lenient_value d)) ++ fields_spelling (lenient_fields ms)
-unfolding spelling
-one_field_spelled k d ms = sym (append_assoc (text_spelling k) (spelling (lenient_value d)) _)
-
-put_behind : (k j : List ℕ) (d e : Data) (ms : Members) → slice_cmp nat_cmp k j ≡ Less → put j e (member k d ms) ≡ member k d (put j e ms)
-put_behind k j d e ms h = ap (λ o. match_ordering o (member j e (member k d ms)) (member k e ms) (member k d (put j e ms))) (greater k j h)
-
-pub fields_next : (depth : ℕ) (initial ts s r : List Token) (before mid named after : List ℕ) (last : Option (List ℕ)) (count : ℕ) (k : List ℕ) → FieldsSoFar depth initial ts before mid last count
-    → read_key ts ≡ Some (Some k, s) → is_above last k ≡ true → IsUtf8 k → named ≡ mid ++ text_spelling k → PutsValue depth s r named after → FieldsSoFar depth initial r before after (Some k) (count + 1)
-fields_next depth initial ts s r before mid named after last count k f key above valid name v =
-    let less = read_key-shorter ts (Some k) s key in
-    let some_turn : 0 < f.turns = omega (arith, f.enough, less) in
-    let turn = member_read (value depth) (f.json no_members) f.turns k ts s r v.json some_turn key v.read in
-    let more = longer named after v.json v.bytes in
-    let put_here : put k v.json (f.json no_members) ≡ f.json (member k v.json no_members) = f.behind k v.json no_members above in
-    record {
-      turns = f.turns - 1;
-      enough = omega (arith, f.enough, less, v.shorter);
-      shorter = omega (arith, f.shorter, less, v.shorter);
-      json = λ ms. f.json (member k v.json ms);
-      read = f.read ∙ turn ∙ ap (λ old. converted (λ ms. of_members ms old) (members (value depth) (f.turns - 1) r)) put_here;
-      behind = λ j e ms h. f.behind j e (member k v.json ms) (above_too last k j above (is_less _ h)) ∙ ap f.json (put_behind k j v.json e ms (is_less _ h));
-      whole = λ ms h b. f.whole (member k v.json ms) (field_whole k v.json ms valid v.whole b h) (begins_above last k v.json ms above);
-      deep = λ ms h. f.deep (member k v.json ms) (omega (arith, v.deep, h));
-      counted = λ ms. omega (arith, f.counted (member k v.json ms));
-      done = f.done ++ (text_spelling k ++ spelling (lenient_value v.json));
-      spelled = λ ms. f.spelled (member k v.json ms) ∙ ap (λ l. f.done ++ l) (one_field_spelled k v.json ms) ∙ sym (append_assoc f.done _ _);
-      bytes = v.bytes ∙ ap (λ l. l ++ spelling (lenient_value v.json)) (name ∙ ap (λ l. l ++ text_spelling k) f.bytes ∙ append_assoc before (6 ∷ 0 ∷ 0 ∷ 0 ∷ 0 ∷ f.done) _) ∙ append_assoc before (6 ∷ 0 ∷ 0 ∷ 0 ∷ 0 ∷ (f.done ++ text_spelling k)) _
-          ∙ ap (λ l. before ++ (6 ∷ 0 ∷ 0 ∷ 0 ∷ 0 ∷ l)) (append_assoc f.done (text_spelling k) (spelling (lenient_value v.json)));
-      some = omega (arith, f.some, more, ap length name, length-append mid (text_spelling k));
-    }
-
-no_fields_spelled : fields_spelling (lenient_fields no_members) ≡ []
-unfolding spelling
-no_fields_spelled = refl
-
-nothing_above : (last : Option (List ℕ)) → BeginsAbove last no_members
-nothing_above None = tt
-nothing_above (Some last) = tt
-
-pub fields_stop : (depth : ℕ) (initial ts r : List Token) (before after new : List ℕ) (last : Option (List ℕ)) (at count : ℕ) → FieldsSoFar depth initial ts before after last count → too_deep ≤ depth → read_key ts ≡ Some (None, r)
-    → at ≡ length before + 1 → SetsCount at count after new → PutsFields depth initial r before new
-fields_stop depth initial ts r before after new last at count f deep over is set =
-    let n : count ≡ fields_count (lenient_fields (f.json no_members)) = omega (arith, f.counted no_members) in
-    let all : f.done ≡ fields_spelling (lenient_fields (f.json no_members)) = sym (f.spelled no_members ∙ ap (λ l. f.done ++ l) no_fields_spelled ∙ append-nil f.done) in
-    record {
-      json = f.json no_members;
-      read = f.read ∙ members_over (value depth) (f.json no_members) f.turns ts r f.enough over;
-      whole = f.whole no_members (refl, tt) (nothing_above last);
-      deep = f.deep no_members (omega (arith, deep));
-      bytes = counted_bytes 6 at count before after new f.done is f.bytes set ∙ ap₂ (λ k l. before ++ (6 ∷ (to_be_bytes w32 k ++ l))) n all;
-      shorter = omega (arith, f.shorter, read_key-shorter ts None r over);
     }
 
 -- ---- the members of a line

@@ -4,10 +4,11 @@ ghost use Rattle.std.specs.Prelude.{◌≡◌, ◌<◌, ◌≤◌, ◌^◌, ◌+
 ghost use Rattle.std.specs.Int.{w32, to_be_bytes};
 ghost use Rattle.line_protocol.specs.Argument.{PutsValue, PutsItems, PutsFields};
 
+use crate::fields::Fields;
 use crate::number::whole_number;
 use crate::unread::Unread;
 use json::{Reader, Token};
-use request_codec::bytes::{Start, may_follow, put_start, put_text};
+use request_codec::bytes::{Start, put_start, put_text};
 
 /// An argument's levels are counted down from `MEMBER_DEPTH`; here it would have more than 32.
 const TOO_DEEP: usize = 94;
@@ -34,7 +35,7 @@ fn set_count(out: &mut Vec<u8>, at: usize, count: u32)
     out[at + 3] = bytes[3];
 }
 
-/// Puts the value that the tokens begin with, if its names ascend and its numbers are whole.
+/// Puts the value that the tokens begin with, if its numbers are whole.
 #[cycle(argument)]
 pub(crate) fn put_value(
     out: &mut Vec<u8>,
@@ -112,18 +113,15 @@ fn put_fields(
     ensures within { OnOk result (length out.new.items ≤ limit) }
 {
     put_start(out, limit, Start::Map(0))?;
-    let at = out.len() - 4;
-    let mut count = 0usize;
-    let mut last = None;
+    let start = out.len();
+    let mut fields = Fields::new();
     'fields: while let Some(name) = reader.next_key()? {
-        if !may_follow(last, name) {
-            return Err(Unread::Unusual);
-        }
-        last = Some(name);
+        let from = out.len();
         put_text(out, limit, known(name))?;
         put_value(out, limit, reader, depth)?;
-        count += 1;
+        let count = out.len() - from;
+        fields.add(out, start, name, count)?;
     }
-    set_count(out, at, count as u32);
+    set_count(out, start - 4, fields.count as u32);
     Ok(())
 }

@@ -10,6 +10,7 @@ mod answers;
 mod argument;
 mod calls;
 mod fault;
+mod fields;
 mod forms;
 mod line;
 mod line_reader;

@@ -1,13 +1,13 @@
-use Rattle.std.proofs.Common.{◌≡◌, ◌-◌, ◌++◌, ◌∷◌, [], ℕ, List, length, Some, None, true, to_z-of_z, ap, subst, ◌∙◌, arith, rules}
-use Rattle.std.specs.Prelude.{option_map}
+use Rattle.std.proofs.Common.{◌≡◌, ◌-◌, ◌++◌, ◌∷◌, [], ℕ, List, length, Some, None, to_z-of_z, ap, sym, subst, refl, ◌∙◌, arith}
 use Rattle.std.proofs.lemmas.List.{length-append}
 use Rattle.json.specs.Json.{after_end_array, read_key}
 use Rattle.json.specs.Reads.{token_of}
-use Rattle.request_codec.specs.Reading.{is_above}
 use Rattle.request_codec.specs.Written.{text_spelling, spelling}
 use Rattle.request_codec.specs.Tree as tree
 use Rattle.line_protocol.specs.Argument.{PutsValue}
-use Rattle.line_protocol.proofs.SoFar.{items_start, items_next, items_stop, fields_start, fields_next, fields_stop}
+use Rattle.line_protocol.specs.Fields.{IsBehind}
+use Rattle.line_protocol.proofs.SoFar.{items_start, items_next, items_stop}
+use Rattle.line_protocol.proofs.FieldsSoFar.{begun, fields_start, behind_them, fields_next, fields_stop}
 use Rattle.line_protocol.proofs.Values.{put_null, put_bool, put_string, put_number, put_list, put_map}
 use Rattle.line_protocol.proofs.argument.+argument.Goals as goal
 
@@ -42,22 +42,39 @@ pub put_fields-fields-init : goal.put_fields-fields-init
 put_fields-fields-init t c =
     let put = c.in_ok-put_start.ensures in
     record {
-      so_far = fields_start c.args.depth c.args.reader.now c.args.out.now.items c.put_start.new.out.items put.0;
+      so_far = fields_start c.args.depth c.args.reader.now c.args.out.now.items c.put_start.new.out.items c.new-fields.result put.0 c.new-fields.ensures c.requires.deep;
       within = put.1;
-      place = omega (arith, ap length put.0, length-append c.args.out.now.items (6 ∷ 0 ∷ 0 ∷ 0 ∷ 0 ∷ []), c.len-at.ensures);
+      place = omega (arith, ap length put.0, length-append c.args.out.now.items (6 ∷ 0 ∷ 0 ∷ 0 ∷ 0 ∷ []), c.len-start.ensures);
       depth = λ i. c.args.depth;
+    }
+
+pub put_fields-add-requires : goal.put_fields-add-requires
+put_fields-add-requires t c =
+    let l = c.fields in
+    let f = l.invariant.so_far in
+    let k = c.in-Some.name.now in
+    let v = c.in_ok-put_value.ensures.value in
+    let text : c.put_text.new.out.items ≡ l.out.items ++ text_spelling k = c.in_ok-put_text.ensures.0 ∙ ap (λ (s : List ℕ). l.out.items ++ text_spelling s) c.known.ensures.same in
+    let behind = behind_them c.args.depth c.args.reader.now l.reader c.next_key.new.self c.put_value.new.reader c.args.out.now.items l.out.items c.put_text.new.out.items c.put_value.new.out.items l.fields k c.len-from.result (c.len.result - c.len-from.result) f text v (omega (arith, c.len-from.ensures)) (omega (arith, c.len.ensures)) in
+    record {
+      few = omega (arith, f.some, l.invariant.within, c.requires.small);
+      small = omega (arith, c.in_ok-put_value.ensures.within, c.requires.small);
+      behind = (f.json, v.json, begun c.args.out.now.items, f.holds, subst (λ n. IsBehind f.json k v.json n (c.len.result - c.len-from.result) (begun c.args.out.now.items) c.put_value.new.out.items) (sym l.invariant.place) behind);
     }
 
 pub put_fields-fields-preserved : goal.put_fields-fields-preserved
 put_fields-fields-preserved t c =
     let l = c.fields in
+    let f = l.invariant.so_far in
     let k = c.in-Some.name.now in
+    let v = c.in_ok-put_value.ensures.value in
     let named : read_key l.reader ≡ Some (Some k, c.next_key.new.self) = grind arith in
-    let above : is_above (option_map (λ s. s.now) l.last) k ≡ true = search rules in
     let text : c.put_text.new.out.items ≡ l.out.items ++ text_spelling k = c.in_ok-put_text.ensures.0 ∙ ap (λ (s : List ℕ). l.out.items ++ text_spelling s) c.known.ensures.same in
+    let behind = behind_them c.args.depth c.args.reader.now l.reader c.next_key.new.self c.put_value.new.reader c.args.out.now.items l.out.items c.put_text.new.out.items c.put_value.new.out.items l.fields k c.len-from.result (c.len.result - c.len-from.result) f text v (omega (arith, c.len-from.ensures)) (omega (arith, c.len.ensures)) in
+    let put = c.in_ok-add.ensures.put f.json v.json (begun c.args.out.now.items) f.holds (subst (λ n. IsBehind f.json k v.json n (c.len.result - c.len-from.result) (begun c.args.out.now.items) c.put_value.new.out.items) (sym l.invariant.place) behind) in
     record {
-      so_far = fields_next c.args.depth c.args.reader.now l.reader c.next_key.new.self c.put_value.new.reader c.args.out.now.items l.out.items c.put_text.new.out.items c.put_value.new.out.items (option_map (λ s. s.now) l.last) l.count k l.invariant.so_far named above c.known.ensures.utf8 text c.in_ok-put_value.ensures.value;
-      within = c.in_ok-put_value.ensures.within;
+      so_far = fields_next c.args.depth c.args.reader.now l.reader c.next_key.new.self c.put_value.new.reader c.args.out.now.items l.out.items c.put_text.new.out.items c.put_value.new.out.items c.add.new.out.items l.fields c.add.new.self k f named c.known.ensures.utf8 text v c.in_ok-add.ensures.len put.0 put.1 (omega (arith, c.in_ok-add.ensures.count));
+      within = omega (arith, c.in_ok-put_value.ensures.within, c.in_ok-add.ensures.len);
       place = l.invariant.place;
       depth = l.invariant.depth;
     }
@@ -65,7 +82,7 @@ put_fields-fields-preserved t c =
 pub put_fields-returns-clause-value : goal.put_fields-returns-clause-value
 put_fields-returns-clause-value t c =
     let l = c.fields in
-    fields_stop c.args.depth c.args.reader.now l.reader c.next_key.new.self c.args.out.now.items l.out.items c.set_count.new.out.items (option_map (λ s. s.now) l.last) (c.len-at.result - 4) l.count l.invariant.so_far c.requires.deep (grind arith) l.invariant.place c.set_count.ensures.bytes
+    fields_stop c.args.depth c.args.reader.now l.reader c.next_key.new.self c.args.out.now.items l.out.items c.set_count.new.out.items l.fields (c.len-start.result - 4) l.fields.count l.invariant.so_far (grind arith) (omega (arith, l.invariant.place)) refl c.set_count.ensures.bytes
 
 pub put_value-returns-in_ok-put_start-in-Null-clause-value : goal.put_value-returns-in_ok-put_start-in-Null-clause-value
 put_value-returns-in_ok-put_start-in-Null-clause-value t c =

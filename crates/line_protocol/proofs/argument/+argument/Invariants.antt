@@ -1,6 +1,6 @@
 use Rattle.std.proofs.Common.{◌≡◌, ◌+◌, ◌*◌, ◌≤◌, length}
-use Rattle.std.specs.Prelude.{option_map}
-use Rattle.line_protocol.proofs.SoFar.{ItemsSoFar, FieldsSoFar}
+use Rattle.line_protocol.proofs.SoFar.{ItemsSoFar}
+use Rattle.line_protocol.proofs.FieldsSoFar.{FieldsSoFar}
 use Rattle.line_protocol.proofs.argument.+argument.Given as goal
 
 abbrev pub decreases-put_value : goal.decreases-put_value
@@ -25,9 +25,9 @@ decreases-put_items-items l = length l.reader
 
 abbrev pub invariant-put_fields-fields : goal.invariant-put_fields-fields
 invariant-put_fields-fields l = record {
-  so_far : FieldsSoFar l.depth l.fn.reader l.reader l.fn.out.items l.out.items (option_map (λ s. s.now) l.last) l.count;
+  so_far : FieldsSoFar l.depth l.fn.reader l.reader l.fn.out.items l.out.items l.fields;
   within : length l.out.items ≤ l.limit;
-  place : l.at ≡ length l.fn.out.items + 1;
+  place : l.start ≡ length l.fn.out.items + 5;
   depth : l.depth ≡ l.fn.depth;
 }
 
