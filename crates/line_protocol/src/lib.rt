@@ -32,6 +32,6 @@ pub use calls::ReaderCalls;
 pub use fault::LineFault;
 pub use line::{Line, LineRefusal};
 pub use line_reader::LineReader;
-pub use reading::{LineRoom, read_line};
+pub use reading::{LineRoom, read_any_line, read_line};
 pub use replies::reply_text;
 pub use runner::run_lines;

@@ -46,22 +46,6 @@ fn read_request(
     read_step(alloc, names, &value)
 }
 
-/// What a line says, by its JSON as `serde_json` reads it: any line.
-fn read_any_line(alloc: Global, names: &mut LatelyRead, line: &[u8]) -> Result<Line, AllocError>
-    ensures { IfOk result (λ said. said ≡ said_of line.now) }
-{
-    if line.is_empty() {
-        return Ok(Line::Nothing);
-    }
-    if line.len() > LINE_LIMIT {
-        return Ok(Line::Refusal(LineRefusal::TooLong));
-    }
-    match read_request(alloc, names, line)? {
-        Some(step) => Ok(Line::Step(step)),
-        None => Ok(Line::Refusal(LineRefusal::NotARequest)),
-    }
-}
-
 /// What is used again from line to line: names that were read lately, and memory for the parts of a
 /// line. What a line says doesn't depend on it.
 #[derive(Drop)]
@@ -81,6 +65,23 @@ impl LineRoom {
             args: Vec::new(alloc),
             message: Vec::new(alloc),
         })
+    }
+}
+
+/// What a line says, by its JSON as `serde_json` reads it: any line. `read_line` says the same, and is
+/// mostly faster.
+pub fn read_any_line(alloc: Global, room: &mut LineRoom, line: &[u8]) -> Result<Line, AllocError>
+    ensures { IfOk result (λ said. said ≡ said_of line.now) }
+{
+    if line.is_empty() {
+        return Ok(Line::Nothing);
+    }
+    if line.len() > LINE_LIMIT {
+        return Ok(Line::Refusal(LineRefusal::TooLong));
+    }
+    match read_request(alloc, &mut room.names, line)? {
+        Some(step) => Ok(Line::Step(step)),
+        None => Ok(Line::Refusal(LineRefusal::NotARequest)),
     }
 }
 
@@ -105,14 +106,14 @@ pub fn read_line(alloc: Global, room: &mut LineRoom, line: &[u8]) -> Result<Line
     ensures { IfOk result (λ said. said ≡ said_of line.now) }
 {
     if line.is_empty() || line.len() > LINE_LIMIT {
-        return read_any_line(alloc, &mut room.names, line);
+        return read_any_line(alloc, room, line);
     }
     let Ok(text) = std::str::from_utf8(line) else {
-        return read_any_line(alloc, &mut room.names, line);
+        return read_any_line(alloc, room, line);
     };
     match read_text_step(alloc, room, text) {
         Ok(step) => Ok(Line::Step(step)),
         Err(Unread::Memory) => Err(AllocError),
-        Err(Unread::Unusual) => read_any_line(alloc, &mut room.names, line),
+        Err(Unread::Unusual) => read_any_line(alloc, room, line),
     }
 }

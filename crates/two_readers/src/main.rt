@@ -1,0 +1,112 @@
+//! Reads lines by one of the two readers of `line_protocol`, and prints what each line says.
+//!
+//! Both readers have one contract, so that this shows nothing of it. It shows whether both succeed, and
+//! what a proof leaves out: memory that is refused. `tools/compare-readers` runs it.
+#![tactic(auto)]
+
+ghost use Rattle.std.specs.Prelude.{◌≡◌, IfOk};
+ghost use Rattle.line_protocol.specs.Said.{said_of};
+
+use line_protocol::{Line, LineRoom, read_any_line, read_line};
+use std::alloc::{AllocError, Global};
+use std::io::{BufRead, BufReader, BufWriter, ErrorKind, Write};
+use std::process::ExitCode;
+use std::rt::Env;
+use std::{env, io};
+
+const BUFFER_BYTES: usize = 65_536;
+
+const USAGE: &str = "usage: two_readers quick|json < lines\n";
+
+/// How a line is read: by its tokens if it is usual, or always by its JSON.
+#[derive(Clone, Copy)]
+enum Way {
+    Quick,
+    Json,
+}
+
+/// The way that a word names.
+fn way_of(word: &str) -> Option<Way> {
+    match word {
+        "quick" => Some(Way::Quick),
+        "json" => Some(Way::Json),
+        _ => None,
+    }
+}
+
+/// What a line says, read that way.
+fn read_by(way: Way, alloc: Global, room: &mut LineRoom, line: &[u8]) -> Result<Line, AllocError>
+    ensures { IfOk result (λ said. said ≡ said_of line.now) }
+{
+    match way {
+        Way::Quick => read_line(alloc, room, line),
+        Way::Json => read_any_line(alloc, room, line),
+    }
+}
+
+/// Prints what each line of the reader says, a line each.
+fn print_lines<R: BufRead, W: Write>(
+    alloc: Global,
+    way: Way,
+    reader: &mut R,
+    writer: &mut W,
+) -> io::Result<()> {
+    let mut room = LineRoom::new(alloc)?;
+    let mut line = Vec::new(alloc);
+    for _ in 0..u64::MAX {
+        line.clear();
+        if reader.read_until(b'\n', &mut line)? == 0 {
+            break;
+        }
+        let whole = match line.as_slice() {
+            [before @ .., b'\n'] => before,
+            all => all,
+        };
+        let said = read_by(way, alloc, &mut room, whole)?;
+        let text = format!(in alloc; "{said:?}\n")?;
+        writer.write_all(text.as_str().as_bytes())?;
+    }
+    writer.flush()
+}
+
+/// The way that the only word behind the program's name names.
+fn asked_way<H: Env + AllocGlobal>(rt: &H) -> io::Result<Option<Way>> {
+    let mut found = None;
+    let mut count = 0u64;
+    for word in env::args(rt)?.skip(1).take(2) {
+        count += 1;
+        found = way_of(word.as_str());
+    }
+    Ok(if count == 1 { found } else { None })
+}
+
+/// Does what the words ask for: whether they ask for anything.
+fn run(rt: &HostRuntime) -> io::Result<bool> {
+    let alloc = rt.alloc();
+    let Some(way) = asked_way(rt)? else {
+        return Ok(false);
+    };
+    let mut reader = BufReader::with_capacity(alloc, BUFFER_BYTES, rt.stdin())?;
+    let mut writer = BufWriter::with_capacity(alloc, BUFFER_BYTES, rt.stdout())?;
+    print_lines(alloc, way, &mut reader, &mut writer)?;
+    Ok(true)
+}
+
+fn main(rt: HostRuntime) -> ExitCode {
+    let mut errors = rt.stderr();
+    match run(&rt) {
+        Ok(true) => ExitCode::from(0),
+        Ok(false) => {
+            let _ = errors.write_all(USAGE.as_bytes());
+            ExitCode::from(2)
+        }
+        Err(fault) if fault.kind() == ErrorKind::OutOfMemory => {
+            let _ = errors.write_all(b"two_readers: out of memory\n");
+            ExitCode::from(1)
+        }
+        Err(_) => {
+            let _ = errors.write_all(b"two_readers: reading or writing failed\n");
+            ExitCode::from(1)
+        }
+    }
+}
