@@ -69,15 +69,12 @@ fn print_lines<R: BufRead, W: Write>(
     writer.flush()
 }
 
-/// The way that the only word behind the program's name names.
+/// The way that the first word behind the program's name names.
 fn asked_way<H: Env + AllocGlobal>(rt: &H) -> io::Result<Option<Way>> {
-    let mut found = None;
-    let mut count = 0u64;
-    for word in env::args(rt)?.skip(1).take(2) {
-        count += 1;
-        found = way_of(word.as_str());
+    match env::args(rt)?.nth(1) {
+        Some(word) => Ok(way_of(word.as_str())),
+        None => Ok(None),
     }
-    Ok(if count == 1 { found } else { None })
 }
 
 /// Does what the words ask for: whether they ask for anything.
