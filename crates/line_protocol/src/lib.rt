@@ -35,3 +35,4 @@ pub use line_reader::LineReader;
 pub use reading::{LineRoom, read_any_line, read_line};
 pub use replies::reply_text;
 pub use runner::run_lines;
+pub use written::write_whole;

@@ -28,7 +28,7 @@ fn write_some<W: Write>(writer: &mut W, bytes: &[u8]) -> Result<usize, LineFault
 }
 
 /// Writes all of the bytes. A write that is interrupted is made again.
-pub(crate) fn write_whole<W: Write>(writer: &mut W, bytes: &[u8]) -> Result<(), LineFault>
+pub fn write_whole<W: Write>(writer: &mut W, bytes: &[u8]) -> Result<(), LineFault>
     ensures whole { OnOk result (Appends (W.contents writer.old) (W.contents writer.new) bytes.now) }
     ensures part { OnErr result (WrittenInPart (W.contents writer.old) (W.contents writer.new) bytes.now) }
     ensures fault { OnErr result (result ≡ Err fault.Write) }

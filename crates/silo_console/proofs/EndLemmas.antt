@@ -1,17 +1,22 @@
--- How the program ends well once the steps of its one tenant were answered.
-use Rattle.std.proofs.Common.{ℕ, List, [], ◌∷◌, Option, IfSome, IsTrue, inr}
-use Rattle.grain_id.specs.Words.{is_word}
-use Rattle.tenant_gate.specs.declared.limits.Limits.{Limits}
-use Rattle.silo_core.specs.Shown.{setup_of}
-use Rattle.silo_console.specs.Steps.{AnswersSteps, EndsWell}
-use Rattle.silo_console.specs.Tenants.{AreLimits, IsOnlyTenant}
+-- What was written, if all was answered and then writing failed.
+use Rattle.std.proofs.Common.{◌≡◌, ◌∙◌, ◌≤◌, ℕ, List, [], ◌∷◌, ◌++◌, append-nil, Option, None, Some, IfSome, refl, sym, length, arith}
+use Rattle.std.specs.Io.KnownBytes.{Appends, Keeps}
+use Rattle.std.proofs.KnownBytes.{Appends-kept, Appends-nil}
+use Rattle.silo_model.specs.Opening.{Setup}
+use Rattle.line_protocol.specs.Lines.{lines_of}
+use Rattle.line_protocol.specs.declared.fault.LineFault.TheVariants as line
+use Rattle.silo_console.specs.Steps.{AnswersSteps, StopsSteps}
 
-only_within : (texts : List (List ℕ)) (tenant : List ℕ) (limits : Limits) → IsOnlyTenant texts tenant limits → IsTrue (is_word tenant) × AreLimits limits
-only_within [] tenant limits only = absurd only
-only_within (first ∷ others) tenant limits only = (only.0.0, only.0.1)
-
-pub EndsWell-served : (texts : List (List ℕ)) (tenant : List ℕ) (limits : Limits) (age : ℕ) (from left before after : Option (List ℕ)) → IsOnlyTenant texts tenant limits
-    → IfSome from (λ input. AnswersSteps (setup_of tenant limits age) input left before after) → EndsWell from left before after
-EndsWell-served texts tenant limits age from left before after only answered =
-    let named = only_within texts tenant limits only in
-    inr (record { tenant = tenant; limits = limits; age = age; well_formed = named.0; within = named.1; answered = answered })
+pub StopsSteps-answered : (setup : Setup) (from left before during after : Option (List ℕ)) → Keeps during after
+    → IfSome from (λ input. AnswersSteps setup input left before during) → IfSome from (λ input. StopsSteps setup line.Write input before after)
+StopsSteps-answered setup None left before during after kept h = tt
+StopsSteps-answered setup (Some input) left before during after kept h = record {
+  done = lines_of input;
+  last = [];
+  rest = [];
+  at_most_one = omega arith;
+  parts = sym (append-nil (lines_of input ++ []) ∙ append-nil (lines_of input));
+  during = after;
+  written = Appends-kept before during after _ h.written kept;
+  part = record { front = []; back = []; parts = refl; written = Appends-nil after };
+}

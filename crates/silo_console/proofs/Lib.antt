@@ -1,2 +1,3 @@
 pub mod TenantLemmas
+pub mod WordLemmas
 pub mod EndLemmas

@@ -1,3 +1,4 @@
 pub mod Tenants
+pub mod Words
 pub mod Status
 pub mod Steps

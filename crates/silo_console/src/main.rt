@@ -3,19 +3,23 @@
 //! `main` hands the real ones to `run_program`, which is generic over them all and says by its answer
 //! what the exit status is. `command_line` reads the words by `clap` and is alone in knowing it,
 //! `tenants` reads the tenant arguments, and `files` is what the program knows of files. What a
-//! tenant argument is stands in `specs/Tenants.antt`.
+//! tenant argument is stands in `specs/Tenants.antt`, what the words ask for in `specs/Words.antt`, and
+//! how the program then ends in `specs/Steps.antt`.
 #![tactic(auto)]
 
 ghost use Rattle.std.specs.Prelude.{◌≡◌, ◌≢◌};
 ghost use Rattle.std.specs.IoError.{error_kind};
+ghost use Rattle.line_protocol.specs.Running.{WrittenInPart};
+ghost use Rattle.silo_console.specs.Status.{failure_text};
 
 mod command_line;
 mod failure;
 mod files;
+mod laws;
 mod program;
 mod tenants;
 
-use crate::failure::{ARGUMENTS_STATUS, fail, say};
+use crate::failure::{ARGUMENTS_STATUS, ProgramFault, say, tell};
 use crate::files::HostFiles;
 use crate::program::run_program;
 use line_protocol::LineFault;
@@ -35,15 +39,20 @@ fn words_of<H: Env + AllocGlobal>(rt: &H) -> io::Result<Vec<String>> {
     Ok(words)
 }
 
-/// The status where the words were not had.
+/// What is told if an argument is no text.
+const NOT_UTF8: &str = "error: an argument is not UTF-8\n";
+
+/// Tells why the words were not had, and answers the status.
 fn refuse_words<E: Write>(fault: &io::Error, errors: &mut E) -> u8
-    ensures memory { error_kind fault.now ≡ ErrorKind.OutOfMemory → result ≡ 1 }
-    ensures other { error_kind fault.now ≢ ErrorKind.OutOfMemory → result ≡ 2 }
+    ensures memory { error_kind fault.now ≡ ErrorKind.OutOfMemory
+        → (result ≡ 1) × WrittenInPart (E.contents errors.old) (E.contents errors.new) (failure_text LineFault.Memory) }
+    ensures other { error_kind fault.now ≢ ErrorKind.OutOfMemory
+        → (result ≡ 2) × WrittenInPart (E.contents errors.old) (E.contents errors.new) NOT_UTF8.now }
 {
     if fault.kind() == ErrorKind::OutOfMemory {
-        return fail(errors, LineFault::Memory);
+        return tell(errors, &ProgramFault::Failed(LineFault::Memory));
     }
-    say(errors, "error: an argument is not UTF-8\n");
+    say(errors, NOT_UTF8);
     ARGUMENTS_STATUS
 }
 
@@ -57,7 +66,8 @@ fn main(rt: HostRuntime) -> ExitCode {
     };
     let Ok(mut writer) = BufWriter::with_capacity(rt.alloc(), OUTPUT_BUFFER_BYTES, rt.stdout())
     else {
-        return ExitCode::from(fail(&mut errors, LineFault::Memory));
+        let fault = ProgramFault::Failed(LineFault::Memory);
+        return ExitCode::from(tell(&mut errors, &fault));
     };
     ExitCode::from(run_program(
         &rt,

@@ -1,12 +1,16 @@
 //! What the program does, over any files and streams.
 
-ghost use Rattle.std.specs.Prelude.{◌≡◌, ◌≤◌, IfSome};
-ghost use Rattle.silo_console.specs.Status.{IsWordsStatus, IsTenantsStatus, WritesHelp};
-ghost use Rattle.silo_core.specs.Shown.{setup_of};
-ghost use Rattle.silo_console.specs.Steps.{AnswersSteps, EndsWell};
+ghost use Rattle.std.specs.Prelude.{◌≡◌, ◌≤◌, List, ℕ, Option, OnOk, IfOk, IfErr, IfSome};
+ghost use Rattle.std.specs.Io.KnownBytes.{Appends, Keeps};
+ghost use Rattle.clap.specs.Words.{Text};
+ghost use Rattle.line_protocol.specs.Running.{WrittenInPart};
+ghost use Rattle.line_protocol.specs.declared.fault.LineFault.{LineFault as Cause};
+ghost use Rattle.silo_console.specs.Status.{IsTenantsFault, failure_text};
+ghost use Rattle.silo_console.specs.Steps.{AnswersSteps, AreRefusedBy, EndsWell, FailsBy, IsFaultOf, StopsSteps, setup_of};
+ghost use Rattle.silo_console.specs.Words.{IsWhy, texts_of};
 
 use crate::command_line::{Task, WordsFault, read_words};
-use crate::failure::{ARGUMENTS_STATUS, fail, say};
+use crate::failure::{ProgramFault, say, tell};
 use crate::files::WholeFiles;
 use crate::tenants::{TenantLimits, TenantsFault, only_tenant};
 use line_protocol::{LineFault, LineReader, run_lines};
@@ -16,63 +20,124 @@ use std::io::{Read, Write};
 use std::mem;
 use tenant_gate::Age;
 
-/// Help goes to the writer with status 0, and what is wrong with the words to the errors with status 2.
-fn explain_words<W: Write, E: Write>(fault: &WordsFault, writer: &mut W, errors: &mut E) -> u8
-    ensures status { IsWordsStatus fault.now result }
-    ensures help { WritesHelp fault.now result (W.contents writer.old) (W.contents writer.new) }
+/// What `--version` shows.
+const VERSION_LINE: &str = "silo 0.1.0\n";
+
+/// Writes a text that was asked for.
+fn show<W: Write>(writer: &mut W, text: &str) -> Result<(), ProgramFault>
+    ensures whole { OnOk result (Appends (W.contents writer.old) (W.contents writer.new) text.now) }
+    ensures part { IfErr result (λ why. (why ≡ ProgramFault.Failed LineFault.Write) × WrittenInPart (W.contents writer.old) (W.contents writer.new) text.now) }
+{
+    if say(writer, text) {
+        return Ok(());
+    }
+    Err(ProgramFault::Failed(LineFault::Write))
+}
+
+/// Shows the text that the words ask for, if they ask for one.
+fn explain_words<W: Write>(fault: WordsFault, writer: &mut W) -> Result<(), ProgramFault>
+    ensures shown { (words : List Text) (from : Option (List ℕ)) → IsWhy words fault
+        → OnOk result (EndsWell words from from (W.contents writer.old) (W.contents writer.new)) }
+    ensures fault { (words : List Text) (from : Option (List ℕ)) → IsWhy words fault
+        → IfErr result (λ why. IsFaultOf words why from from (W.contents writer.old) (W.contents writer.new)) }
 {
     match fault {
-        WordsFault::Memory => fail(errors, LineFault::Memory),
-        WordsFault::Help(text) if say(writer, text.as_str()) => 0,
-        WordsFault::Help(_) => fail(errors, LineFault::Write),
-        WordsFault::Wrong(text) => {
-            say(errors, text.as_str());
-            ARGUMENTS_STATUS
-        }
+        WordsFault::Memory => Err(ProgramFault::Failed(LineFault::Memory)),
+        WordsFault::Help(text) => show(writer, text.as_str()),
+        WordsFault::Version => show(writer, VERSION_LINE),
+        WordsFault::Wrong(text) => Err(ProgramFault::Refused(text)),
     }
 }
 
-fn explain_tenants<E: Write>(fault: TenantsFault, errors: &mut E) -> u8
-    ensures { IsTenantsStatus fault result }
+fn explain_tenants(alloc: Global, fault: TenantsFault) -> ProgramFault
+    ensures { IsTenantsFault fault result }
 {
     match fault {
-        TenantsFault::Memory => fail(errors, LineFault::Memory),
+        TenantsFault::Memory => ProgramFault::Failed(LineFault::Memory),
         TenantsFault::Refused(number) => {
-            let _ = writeln!(errors, "silo: tenant argument {number} is refused");
-            ARGUMENTS_STATUS
+            match format!(in alloc; "silo: tenant argument {number} is refused\n") {
+                Ok(text) => ProgramFault::Refused(text),
+                Err(_) => ProgramFault::Failed(LineFault::Memory),
+            }
         }
     }
 }
 
-/// Takes every step of the input. What was written before a fault goes out too.
-fn run_steps<R: Read, W: Write, E: Write>(
+/// Takes every step of the input, and writes what it answers.
+fn answer_lines<R: Read, W: Write>(
     alloc: Global,
     served: TenantLimits,
     age: Age,
     reader: &mut R,
     writer: &mut W,
-    errors: &mut E,
-) -> u8
-    ensures status { result ≤ 1 }
-    ensures answered { result ≡ 0 → IfSome (R.remaining reader.old) (λ input.
-        AnswersSteps (setup_of served.tenant served.limits age) input (R.remaining reader.new) (W.contents writer.old) (W.contents writer.new)) }
+) -> Result<(), LineFault>
+    ensures answered { OnOk result (IfSome (R.remaining reader.old) (λ input.
+        AnswersSteps (setup_of served.tenant served.limits age) input (R.remaining reader.new) (W.contents writer.old) (W.contents writer.new))) }
+    ensures stopped { IfErr result (λ why. IfSome (R.remaining reader.old) (λ input.
+        StopsSteps (setup_of served.tenant served.limits age) why input (W.contents writer.old) (W.contents writer.new))) }
 {
     let TenantLimits { tenant, limits } = served;
     let Ok(mut silo) = Silo::new(alloc, tenant, limits, age) else {
-        return fail(errors, LineFault::Memory);
+        return Err(LineFault::Memory);
     };
     let Ok(mut lines) = LineReader::new(alloc) else {
-        return fail(errors, LineFault::Memory);
+        return Err(LineFault::Memory);
     };
     let done = run_lines(alloc, &mut lines, reader, writer, &mut silo);
-    let flushed = writer.flush().is_ok();
 
-    // The process ends here, and gives all of its memory back at once.
+    // The process ends soon, and gives all of its memory back at once.
     mem::forget(silo);
     match done {
-        Ok(_) if flushed => 0,
-        Ok(_) => fail(errors, LineFault::Write),
-        Err(fault) => fail(errors, fault),
+        Ok(_) => Ok(()),
+        Err(why) => Err(why),
+    }
+}
+
+/// Takes every step of the input. What was written goes out, also what was written before a fault.
+fn answer_steps<R: Read, W: Write>(
+    alloc: Global,
+    served: TenantLimits,
+    age: u64,
+    reader: &mut R,
+    writer: &mut W,
+) -> Result<(), LineFault>
+    ensures answered { OnOk result (IfSome (R.remaining reader.old) (λ input.
+        AnswersSteps (setup_of served.tenant served.limits age) input (R.remaining reader.new) (W.contents writer.old) (W.contents writer.new))) }
+    ensures stopped { IfErr result (λ why. IfSome (R.remaining reader.old) (λ input.
+        StopsSteps (setup_of served.tenant served.limits age) why input (W.contents writer.old) (W.contents writer.new))) }
+{
+    let done = answer_lines(alloc, served, age, reader, writer);
+    let flushed = writer.flush();
+    match done {
+        Err(why) => Err(why),
+        Ok(()) => match flushed {
+            Ok(()) => Ok(()),
+            Err(_) => Err(LineFault::Write),
+        },
+    }
+}
+
+/// Does what the words ask for.
+fn answer<R: Read, W: Write>(
+    alloc: Global,
+    words: &[String],
+    reader: &mut R,
+    writer: &mut W,
+) -> Result<(), ProgramFault>
+    ensures well { OnOk result (EndsWell (texts_of words.now) (R.remaining reader.old) (R.remaining reader.new) (W.contents writer.old) (W.contents writer.new)) }
+    ensures fault { IfErr result (λ why. IsFaultOf (texts_of words.now) why (R.remaining reader.old) (R.remaining reader.new) (W.contents writer.old) (W.contents writer.new)) }
+{
+    let (age, tenants) = match read_words(alloc, words) {
+        Ok(Task::Steps { age, tenants }) => (age, tenants),
+        Err(fault) => return explain_words(fault, writer),
+    };
+    let served = match only_tenant(alloc, tenants.as_slice()) {
+        Ok(served) => served,
+        Err(fault) => return Err(explain_tenants(alloc, fault)),
+    };
+    match answer_steps(alloc, served, age, reader, writer) {
+        Ok(()) => Ok(()),
+        Err(why) => Err(ProgramFault::Failed(why)),
     }
 }
 
@@ -87,17 +152,22 @@ pub fn run_program<H: AllocGlobal, F: WholeFiles, R: Read, W: Write, E: Write>(
     errors: &mut E,
 ) -> u8
     ensures status { result ≤ 2 }
-    ensures well { result ≡ 0 → EndsWell (R.remaining reader.old) (R.remaining reader.new) (W.contents writer.old) (W.contents writer.new) }
+
+    // What the words ask for was done, and nothing was told.
+    ensures well { result ≡ 0 → EndsWell (texts_of words.now) (R.remaining reader.old) (R.remaining reader.new) (W.contents writer.old) (W.contents writer.new) }
+    ensures quiet { result ≡ 0 → Keeps (E.contents errors.old) (E.contents errors.new) }
+
+    // The program failed, and told by what.
+    ensures failed { result ≡ 1 → (why : Cause)
+        × FailsBy (texts_of words.now) why (R.remaining reader.old) (R.remaining reader.new) (W.contents writer.old) (W.contents writer.new)
+        × WrittenInPart (E.contents errors.old) (E.contents errors.new) (failure_text why) }
+
+    // The arguments are refused, and what was told says why.
+    ensures refused { result ≡ 2 → (text : Text) × AreRefusedBy (texts_of words.now) text × WrittenInPart (E.contents errors.old) (E.contents errors.new) text }
+    ensures idle { result ≡ 2 → Keeps (R.remaining reader.old) (R.remaining reader.new) × Keeps (W.contents writer.old) (W.contents writer.new) }
 {
-    let alloc = rt.alloc();
-    let task = match read_words(alloc, words) {
-        Ok(task) => task,
-        Err(fault) => return explain_words(&fault, writer, errors),
-    };
-    match task {
-        Task::Steps { age, tenants } => match only_tenant(alloc, tenants.as_slice()) {
-            Err(fault) => explain_tenants(fault, errors),
-            Ok(served) => run_steps(alloc, served, age, reader, writer, errors),
-        },
+    match answer(rt.alloc(), words, reader, writer) {
+        Ok(()) => 0,
+        Err(fault) => tell(errors, &fault),
     }
 }

@@ -268,6 +268,17 @@ fn explains_words(rt: HostRuntime) -> Result<(), Fail> {
 }
 
 #[test]
+fn shows_its_version(rt: HostRuntime) -> Result<(), Fail> {
+    for word in ["--version", "-V"] {
+        let outcome = run(&rt, &[word], &mut FIRST_RUN.as_bytes(), room(rt.alloc())?)?;
+        assert!(rt; outcome.output.as_slice() == b"silo 0.1.0\n".as_slice(), "at {word}");
+        assert!(rt; outcome.errors.is_empty(), "at {word}");
+        assert_eq!(rt; outcome.status, 0, "at {word}");
+    }
+    Ok(())
+}
+
+#[test]
 fn fails_with_its_streams(rt: HostRuntime) -> Result<(), Fail> {
     let mut reader = BrokenReader {
         bytes: NO_ENTRY.as_bytes(),
