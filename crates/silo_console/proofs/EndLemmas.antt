@@ -1,6 +1,6 @@
 -- What was written, if all was answered and then writing failed.
-use Rattle.std.proofs.Common.{◌≡◌, ◌∙◌, ◌≤◌, ℕ, List, [], ◌∷◌, ◌++◌, append-nil, Option, None, Some, IfSome, refl, sym, length, arith}
-use Rattle.std.specs.Io.KnownBytes.{Appends, Keeps}
+use Rattle.std.proofs.Common.{◌∙◌, ℕ, List, [], ◌++◌, append-nil, Option, None, Some, IfSome, refl, sym, arith}
+use Rattle.std.specs.Io.KnownBytes.{Keeps}
 use Rattle.std.proofs.KnownBytes.{Appends-kept, Appends-nil}
 use Rattle.silo_model.specs.Opening.{Setup}
 use Rattle.line_protocol.specs.Lines.{lines_of}

@@ -14,7 +14,6 @@ use Rattle.silo_console.specs.Words.{IsAge, IsFaultBy, IsWhy, silo_app}
 
 module _ {E : Type 0} (gives : Text → Result ℕ E → Type 0) (parses : (t : Text) (x : Result ℕ E) → gives t x → ParsesUnsigned 64 10 t x)
     (one : Option Text) (read : Result (Option ℕ) E) (none : one ≡ None → read ≡ Ok None) (some : (t : Text) → one ≡ Some t → TriesOne gives t read) where
-
   tried : (t : Text) (x : Result (Option ℕ) E) → one ≡ Some t → read ≡ x → TriesOne gives t x
   tried t x given is = subst (TriesOne gives t) is (some t given)
 

@@ -271,7 +271,10 @@ fn explains_words(rt: HostRuntime) -> Result<(), Fail> {
 fn shows_its_version(rt: HostRuntime) -> Result<(), Fail> {
     for word in ["--version", "-V"] {
         let outcome = run(&rt, &[word], &mut FIRST_RUN.as_bytes(), room(rt.alloc())?)?;
-        assert!(rt; outcome.output.as_slice() == b"silo 0.1.0\n".as_slice(), "at {word}");
+        assert!(rt;
+            outcome.output.as_slice() == b"silo 0.1.0\n".as_slice(),
+            "at {word}"
+        );
         assert!(rt; outcome.errors.is_empty(), "at {word}");
         assert_eq!(rt; outcome.status, 0, "at {word}");
     }

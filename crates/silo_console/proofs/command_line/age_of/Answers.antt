@@ -1,6 +1,6 @@
-use Rattle.std.proofs.Common.{◌≡◌, Option, Some, None, Ok, Err, sym, subst, codes, arith}
+use Rattle.std.proofs.Common.{◌≡◌, Option, Some, None, Ok, sym, subst, codes, arith}
 use Rattle.std.specs.Str.Parse.{ParsesUnsigned, ExplainsUnsignedError, HasUnsignedDigitsIfOk}
-use Rattle.clap.specs.Words.{Text, found_of, one_of, one_text, rows_of}
+use Rattle.clap.specs.Words.{Text, found_of}
 use Rattle.clap.proofs.WalkLemmas.{one_text-rows}
 use Rattle.silo_console.specs.Words.{IsAge}
 use Rattle.silo_console.proofs.WordLemmas.{IsAge-read, IsAge-left_out, not_age-outside, not_age-text}

@@ -1,4 +1,4 @@
-use Rattle.std.proofs.Common.{◌≡◌, ◌≢◌, ◌≤◌, ◌∷◌, [], List, Option, Some, None, refl, sym, ap, subst, inl, rules, arith, codes}
+use Rattle.std.proofs.Common.{◌≡◌, ◌∷◌, [], List, Option, Some, None, refl, sym, ap, subst, inl, rules, arith, codes}
 use Rattle.clap.specs.Words.{IsAmong, Text, all_of, fault_of, one_of}
 use Rattle.clap.specs.declared.error.kind.ErrorKind.{ErrorKind}
 use Rattle.clap.specs.declared.error.kind.ErrorKind.TheVariants.{DisplayHelp, DisplayVersion, MissingSubcommand, MissingRequiredArgument, ValueValidation}
