@@ -13,6 +13,3 @@ mod directory;
 
 pub use activation::{Activation, Phase};
 pub use directory::Directory;
-
-#[cfg(test)]
-mod tests;

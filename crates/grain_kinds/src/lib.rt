@@ -26,6 +26,3 @@ pub use kinds::Kinds;
 pub use logic::GrainLogic;
 pub use plan::{Plan, Send, StoreCall};
 pub use turn::{FinishedTurn, OpenedTurn, run_turn};
-
-#[cfg(test)]
-mod tests;

@@ -37,6 +37,3 @@ pub use message::Message;
 pub use reading::{decode, decode_message, decode_state};
 pub use state::StateBytes;
 pub use writing::{encode, encode_state};
-
-#[cfg(test)]
-mod tests;

@@ -24,6 +24,3 @@ pub use journal::Journal;
 pub use journal_reader::read_journal;
 pub use journal_writer::journal_of_parts;
 pub use recorded::{RecordedFault, RecordedReply};
-
-#[cfg(test)]
-mod tests;

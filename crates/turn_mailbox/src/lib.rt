@@ -12,6 +12,3 @@ mod request;
 
 pub use mailbox::{Mailbox, NoTurn};
 pub use request::Request;
-
-#[cfg(test)]
-mod tests;

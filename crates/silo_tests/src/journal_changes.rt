@@ -1,6 +1,6 @@
 //! Journals with changes at random places: each is read as a journal, or a line is named.
 
-use crate::tests::{verdict, whole_lines};
+use crate::journals::{verdict, whole_lines};
 use std::alloc::Global;
 use std::test::Fail;
 
@@ -83,8 +83,26 @@ fn first_lines(bytes: &[u8], count: usize) -> &[u8] {
 }
 
 #[test]
-fn a_journal_of_each_kind_is_read(rt: HostRuntime) {
-    assert_eq!(rt; verdict(rt.alloc(), EACH_KIND.as_bytes()), 0);
+fn a_journal_of_each_kind_is_read(rt: HostRuntime) -> Result<(), Fail> {
+    assert_eq!(rt; verdict(rt.alloc(), EACH_KIND.as_bytes())?, 0);
+    Ok(())
+}
+
+/// The journal of each kind with that many changes.
+fn changed_often(alloc: Global, changes: u32, numbers: &mut Numbers) -> Result<Vec<u8>, Fail> {
+    let mut bytes = Vec::from_slice(alloc, EACH_KIND.as_bytes())?;
+    for _ in 0..changes {
+        bytes = changed(alloc, &bytes, numbers)?;
+    }
+    Ok(bytes)
+}
+
+/// Whether this can be the line at fault: the lines before it are whole, and they end too early, or
+/// with their close.
+fn may_be_at_fault(alloc: Global, bytes: &[u8], line: usize) -> Result<bool, Fail> {
+    let before = first_lines(bytes, line.saturating_sub(1));
+    let early = verdict(alloc, before)?;
+    Ok(whole_lines(before).saturating_add(1) == line && (early == line || early == 0))
 }
 
 #[test]
@@ -92,27 +110,15 @@ fn a_changed_journal_is_read_or_a_line_is_named(rt: HostRuntime) -> Result<(), F
     let mut numbers = Numbers {
         state: 0x9e37_79b9_7f4a_7c15,
     };
-    let mut journals = 0u32;
     let mut faults = 0u32;
-    for round in 0..400 {
-        let mut bytes = Vec::from_slice(rt.alloc(), EACH_KIND.as_bytes())?;
-        for _ in 0..round % 3 + 1 {
-            bytes = changed(rt.alloc(), &bytes, &mut numbers)?;
-        }
-        match verdict(rt.alloc(), &bytes) {
-            0 => journals = journals.saturating_add(1),
-            line => {
-                assert!(rt; line <= whole_lines(&bytes).saturating_add(1));
-                let before = first_lines(&bytes, line - 1);
-                assert_eq!(rt; whole_lines(before), line - 1);
-                // Without the line at fault they end too early, or with their close.
-                let early = verdict(rt.alloc(), before);
-                assert!(rt; early == line || early == 0);
-                faults = faults.saturating_add(1);
-            }
+    for round in 0..120u32 {
+        let bytes = changed_often(rt.alloc(), round % 3 + 1, &mut numbers)?;
+        let line = verdict(rt.alloc(), &bytes)?;
+        if line != 0 {
+            assert!(rt; may_be_at_fault(rt.alloc(), &bytes, line)?);
+            faults = faults.saturating_add(1);
         }
     }
-    assert!(rt; journals > 0);
-    assert!(rt; faults > 200);
+    assert!(rt; 60 < faults && faults < 120);
     Ok(())
 }

@@ -1,0 +1,159 @@
+//! Activations that come and go, and the numbers of their tenants.
+
+use activation_directory::{Activation, Directory, Phase};
+use grain_id::{GrainId, Tenant};
+use std::alloc::{AllocError, Global};
+use std::test::Fail;
+use turn_mailbox::Mailbox;
+
+/// A call of a directory.
+#[derive(Clone, Copy)]
+enum Call {
+    /// An activation that waits since that moment.
+    Insert(&'static str, u64),
+    Get(&'static str),
+    /// Another moment, written where the activation stands.
+    Change(&'static str, u64),
+    Remove(&'static str),
+    Count(&'static str),
+    Len,
+    At(usize),
+}
+
+/// The moment of an activation, or 0 for none.
+fn moment_of(activation: Option<&Activation>) -> u64 {
+    match activation {
+        Some(activation) => activation.last,
+        None => 0,
+    }
+}
+
+fn get(alloc: Global, directory: &Directory, text: &str) -> Result<u64, Fail> {
+    Ok(moment_of(directory.get(&GrainId::read(alloc, text)?)))
+}
+
+/// 1 if it was added, 0 if the grain has one.
+fn insert(alloc: Global, directory: &mut Directory, text: &str, last: u64) -> Result<u64, Fail> {
+    let id = GrainId::read(alloc, text)?;
+    let mailbox = Mailbox::new(alloc, 2)?;
+    if directory.get(&id).is_some() {
+        return Ok(0);
+    }
+    let activation = Activation {
+        phase: Phase::Waiting,
+        mailbox,
+        last,
+    };
+    match directory.insert(alloc, id, activation) {
+        Ok(()) => Ok(1),
+        Err(_) => Err(Fail::from(AllocError)),
+    }
+}
+
+/// 1 if it was written.
+fn change(alloc: Global, directory: &mut Directory, text: &str, last: u64) -> Result<u64, Fail> {
+    let id = GrainId::read(alloc, text)?;
+    match directory.get_mut(&id) {
+        Some(activation) => {
+            activation.last = last;
+            Ok(1)
+        }
+        None => Ok(0),
+    }
+}
+
+fn remove(alloc: Global, directory: &mut Directory, text: &str) -> Result<u64, Fail> {
+    let id = GrainId::read(alloc, text)?;
+    match directory.remove(&id) {
+        Some(activation) => Ok(activation.last),
+        None => Ok(0),
+    }
+}
+
+fn count(alloc: Global, directory: &Directory, tenant: &str) -> Result<u64, Fail> {
+    Ok(directory.count(&Tenant::read(alloc, tenant)?) as u64)
+}
+
+fn at(directory: &Directory, place: usize) -> u64 {
+    match directory.at(place) {
+        Some((_, activation)) => activation.last,
+        None => 0,
+    }
+}
+
+/// What the directory answers, as a number: a moment, a count, or 1 for yes.
+fn answer(alloc: Global, directory: &mut Directory, call: Call) -> Result<u64, Fail> {
+    match call {
+        Call::Insert(text, last) => insert(alloc, directory, text, last),
+        Call::Get(text) => get(alloc, directory, text),
+        Call::Change(text, last) => change(alloc, directory, text, last),
+        Call::Remove(text) => remove(alloc, directory, text),
+        Call::Count(tenant) => count(alloc, directory, tenant),
+        Call::Len => Ok(directory.len() as u64),
+        Call::At(place) => Ok(at(directory, place)),
+    }
+}
+
+/// The place of the first call that answers otherwise.
+fn first_wrong(alloc: Global, calls: &[(Call, u64)]) -> Result<Option<usize>, Fail> {
+    let mut directory = Directory::new(alloc);
+    for (place, (call, wanted)) in calls.iter().enumerate() {
+        if answer(alloc, &mut directory, *call)? != *wanted {
+            return Ok(Some(place));
+        }
+    }
+    Ok(None)
+}
+
+const EACH_TENANT: [(Call, u64); 10] = [
+    (Call::Insert("counter/red:a", 1), 1),
+    (Call::Insert("counter/blue:a", 2), 1),
+    (Call::Insert("counter/red:b", 3), 1),
+    (Call::Insert("counter/red:b", 4), 0),
+    (Call::Len, 3),
+    (Call::Count("red"), 2),
+    (Call::Count("blue"), 1),
+    (Call::Count("green"), 0),
+    (Call::Remove("counter/red:a"), 1),
+    (Call::Count("red"), 1),
+];
+
+const WHERE_IT_STANDS: [(Call, u64); 6] = [
+    (Call::Insert("counter/red:a", 1), 1),
+    (Call::Insert("counter/blue:a", 2), 1),
+    (Call::Change("counter/blue:a", 9), 1),
+    (Call::Change("counter/blue:b", 9), 0),
+    (Call::Get("counter/blue:a"), 9),
+    (Call::Get("counter/red:a"), 1),
+];
+
+const PLACES: [(Call, u64); 10] = [
+    (Call::Insert("counter/red:a", 1), 1),
+    (Call::Insert("counter/blue:a", 2), 1),
+    (Call::Insert("counter/red:b", 3), 1),
+    (Call::Remove("counter/red:a"), 1),
+    (Call::Remove("counter/red:a"), 0),
+    (Call::Insert("counter/red:c", 4), 1),
+    (Call::Len, 3),
+    (Call::At(0), 3),
+    (Call::At(2), 4),
+    (Call::At(3), 0),
+];
+
+#[test]
+fn each_tenant_has_its_own_number(rt: HostRuntime) -> Result<(), Fail> {
+    assert_eq!(rt; first_wrong(rt.alloc(), &EACH_TENANT)?, None);
+    Ok(())
+}
+
+#[test]
+fn an_activation_is_changed_where_it_stands(rt: HostRuntime) -> Result<(), Fail> {
+    assert_eq!(rt; first_wrong(rt.alloc(), &WHERE_IT_STANDS)?, None);
+    Ok(())
+}
+
+#[test]
+fn places_are_used_again(rt: HostRuntime) -> Result<(), Fail> {
+    assert_eq!(rt; first_wrong(rt.alloc(), &PLACES)?, None);
+    Ok(())
+}

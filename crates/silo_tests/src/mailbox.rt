@@ -1,0 +1,181 @@
+//! Requests that wait, turns that are open together or alone, and turns that end.
+
+use crate::values::{message, state};
+use grain_id::{Caller, GrainId};
+use silo_event::Party;
+use std::alloc::Global;
+use std::test::Fail;
+use turn_mailbox::{Mailbox, Request};
+
+/// A call of a mailbox.
+#[derive(Clone, Copy)]
+enum Call {
+    /// A request of that number, whose method only reads.
+    PushReader(u64),
+    PushWriter(u64),
+    Begin,
+    Finish(u64),
+    Opened(u64),
+    At(usize),
+    Len,
+    IsIdle,
+    MayBegin,
+    HasFrom(&'static str),
+}
+
+/// A request of the client `red/c1`.
+fn request(alloc: Global, number: u64, reading: bool) -> Result<Request, Fail> {
+    Ok(Request {
+        number,
+        reading,
+        sender: Party::Client(Caller::read(alloc, "red/c1")?, number),
+        message: message(alloc, "get", "null")?,
+    })
+}
+
+/// The number of a request, or 0 for none.
+fn number_of(request: Option<&Request>) -> u64 {
+    match request {
+        Some(request) => request.number,
+        None => 0,
+    }
+}
+
+/// 0 if the request was taken, or else the number of the one that came back.
+fn push(alloc: Global, mailbox: &mut Mailbox, number: u64, reading: bool) -> Result<u64, Fail> {
+    match mailbox.push(request(alloc, number, reading)?) {
+        Ok(()) => Ok(0),
+        Err(back) => Ok(back.number),
+    }
+}
+
+/// The number of the turn that begins, or 0.
+fn begin(alloc: Global, mailbox: &mut Mailbox) -> Result<u64, Fail> {
+    let grain = GrainId::read(alloc, "counter/red:a")?;
+    match mailbox.begin(&grain, &state(alloc, "3")?)? {
+        Some(turn) => Ok(turn.number),
+        None => Ok(0),
+    }
+}
+
+/// The number of the turn that ends, or 0.
+fn finish(mailbox: &mut Mailbox, number: u64) -> u64 {
+    match mailbox.finish(number) {
+        Ok(request) => request.number,
+        Err(_) => 0,
+    }
+}
+
+fn has_from(alloc: Global, mailbox: &Mailbox, client: &str) -> Result<u64, Fail> {
+    Ok(mailbox.has_from(&Caller::read(alloc, client)?) as u64)
+}
+
+/// What the mailbox answers, as a number: that of a request, a count, or 1 for yes.
+fn answer(alloc: Global, mailbox: &mut Mailbox, call: Call) -> Result<u64, Fail> {
+    match call {
+        Call::PushReader(number) => push(alloc, mailbox, number, true),
+        Call::PushWriter(number) => push(alloc, mailbox, number, false),
+        Call::Begin => begin(alloc, mailbox),
+        Call::Finish(number) => Ok(finish(mailbox, number)),
+        Call::Opened(number) => Ok(number_of(mailbox.opened(number))),
+        Call::At(place) => Ok(number_of(mailbox.at(place))),
+        Call::Len => Ok(mailbox.len() as u64),
+        Call::IsIdle => Ok(mailbox.is_idle() as u64),
+        Call::MayBegin => Ok(mailbox.may_begin() as u64),
+        Call::HasFrom(client) => has_from(alloc, mailbox, client),
+    }
+}
+
+/// The place of the first call that answers otherwise, of a mailbox for four.
+fn first_wrong(alloc: Global, calls: &[(Call, u64)]) -> Result<Option<usize>, Fail> {
+    let mut mailbox = Mailbox::new(alloc, 4)?;
+    for (place, (call, wanted)) in calls.iter().enumerate() {
+        if answer(alloc, &mut mailbox, *call)? != *wanted {
+            return Ok(Some(place));
+        }
+    }
+    Ok(None)
+}
+
+const READERS_AND_A_WRITER: [(Call, u64); 10] = [
+    (Call::PushReader(1), 0),
+    (Call::PushReader(2), 0),
+    (Call::PushWriter(3), 0),
+    (Call::Begin, 1),
+    (Call::Begin, 2),
+    (Call::Begin, 0),
+    (Call::Finish(1), 1),
+    (Call::MayBegin, 0),
+    (Call::Finish(2), 2),
+    (Call::Begin, 3),
+];
+
+const A_WRITER_ALONE: [(Call, u64); 10] = [
+    (Call::IsIdle, 1),
+    (Call::PushWriter(3), 0),
+    (Call::PushReader(4), 0),
+    (Call::Begin, 3),
+    (Call::Begin, 0),
+    (Call::Opened(3), 3),
+    (Call::Finish(3), 3),
+    (Call::Finish(3), 0),
+    (Call::Opened(3), 0),
+    (Call::MayBegin, 1),
+];
+
+const A_FULL_MAILBOX: [(Call, u64); 11] = [
+    (Call::PushWriter(1), 0),
+    (Call::PushReader(2), 0),
+    (Call::PushWriter(3), 0),
+    (Call::PushReader(4), 0),
+    (Call::Len, 4),
+    (Call::PushReader(5), 5),
+    (Call::At(3), 4),
+    (Call::At(4), 0),
+    (Call::Begin, 1),
+    (Call::PushReader(5), 0),
+    (Call::IsIdle, 0),
+];
+
+const CLIENTS: [(Call, u64); 7] = [
+    (Call::PushWriter(1), 0),
+    (Call::HasFrom("red/c1"), 1),
+    (Call::HasFrom("red/c2"), 0),
+    (Call::Begin, 1),
+    (Call::HasFrom("red/c1"), 1),
+    (Call::Finish(1), 1),
+    (Call::HasFrom("red/c1"), 0),
+];
+
+#[test]
+fn readers_are_open_together_and_no_writer_beside_them(rt: HostRuntime) -> Result<(), Fail> {
+    assert_eq!(rt; first_wrong(rt.alloc(), &READERS_AND_A_WRITER)?, None);
+    Ok(())
+}
+
+#[test]
+fn a_writer_is_open_alone_and_ends_once(rt: HostRuntime) -> Result<(), Fail> {
+    assert_eq!(rt; first_wrong(rt.alloc(), &A_WRITER_ALONE)?, None);
+    Ok(())
+}
+
+#[test]
+fn a_full_mailbox_gives_the_request_back(rt: HostRuntime) -> Result<(), Fail> {
+    assert_eq!(rt; first_wrong(rt.alloc(), &A_FULL_MAILBOX)?, None);
+    Ok(())
+}
+
+#[test]
+fn requests_are_known_by_their_client(rt: HostRuntime) -> Result<(), Fail> {
+    assert_eq!(rt; first_wrong(rt.alloc(), &CLIENTS)?, None);
+    Ok(())
+}
+
+#[test]
+fn a_request_is_from_its_client(rt: HostRuntime) -> Result<(), Fail> {
+    let alloc = rt.alloc();
+    let request = request(alloc, 1, true)?;
+    assert!(rt; request.is_from(&Caller::read(alloc, "red/c1")?));
+    assert!(rt; !request.is_from(&Caller::read(alloc, "red/c2")?));
+    Ok(())
+}
