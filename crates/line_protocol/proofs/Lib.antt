@@ -17,3 +17,4 @@ pub mod Values
 pub mod Placed
 pub mod Steps
 pub mod ValueTexts
+pub mod AskedDeep

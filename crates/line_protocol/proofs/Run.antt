@@ -1,6 +1,5 @@
 -- One line more of a run.
 use Rattle.std.proofs.Common.{◌≡◌, ◌≢◌, ℕ, suc, ◌+◌, ◌<◌, ◌==◌, Bool, true, false, List, [], ◌∷◌, ◌++◌, length, take, cond, Option, Some, None, IfSome, Result, Err, IfErr, refl, sym, ap, ap₂, ◌∙◌, subst, inl, inr, arith, append_assoc, append-nil, length-append, length-take, take_all, ⊎_elim}
-use Rattle.std.specs.Prelude.{◌⊎◌}
 use Rattle.std.proofs.lemmas.Bool.{cases_lt}
 use Rattle.std.specs.Io.KnownBytes.{Appends, Keeps, IsAtEnd, prepend_known}
 use Rattle.std.proofs.KnownBytes.{Appends-trans, Appends-kept, Appends-nil}
@@ -15,9 +14,9 @@ use Rattle.silo_core.specs.Runs.{AllConcern}
 use Rattle.silo_core.proofs.Histories.{all_restricted}
 use Rattle.line_protocol.specs.Calls.{HasCause}
 use Rattle.line_protocol.specs.Lines.{lines_of, onto, line_limit, lines_limit}
-use Rattle.line_protocol.specs.Said.{said_of}
+use Rattle.line_protocol.specs.Said.{said_of, taken, taken_of}
 use Rattle.line_protocol.specs.Out.{Stepper, whole_stepper, machine_stepper, step_said, steps_of, line_text, lines_text}
-use Rattle.line_protocol.specs.Running.{TakesSteps, TakesLine, TakesLines, LineConcerns, LinesConcern, LineAlone, LinesAlone, LinesTaken, AnswersAll, AnswersAlone, StopsBefore, StopsAt, WrittenInPart, StopsAfter, IsFull, StopsBy, MayTake, LineStopsBy}
+use Rattle.line_protocol.specs.Running.{TakesSteps, TakesLine, TakesLines, LineConcerns, LinesConcern, LineAlone, LinesAlone, LinesTaken, AnswersAll, AnswersAlone, StopsBefore, StopsAt, WrittenInPart, StopsAfter, StopsBy, MayTake, LineStopsBy}
 use Rattle.line_protocol.specs.declared.calls.ReaderCalls.{ReaderCalls}
 use Rattle.line_protocol.specs.declared.fault.LineFault.{LineFault}
 use Rattle.line_protocol.specs.declared.fault.LineFault.TheVariants as fault
@@ -41,25 +40,25 @@ said_cut l = said_of-under (take 65537 l) ∙ said_cut_at line_limit 65537 l ref
 
 -- ---- the definitions, by their last line
 
-steps_of-more : (done : List (List ℕ)) (l : List ℕ) → steps_of (done ++ l ∷ []) ≡ steps_of done ++ step_said (said_of l)
-steps_of-more [] l = append-nil (step_said (said_of l))
-steps_of-more (d ∷ done) l = ap (λ k. step_said (said_of d) ++ k) (steps_of-more done l) ∙ sym (append_assoc (step_said (said_of d)) (steps_of done) (step_said (said_of l)))
+steps_of-more : (done : List (List ℕ)) (l : List ℕ) → steps_of (done ++ l ∷ []) ≡ steps_of done ++ step_said (taken_of l)
+steps_of-more [] l = append-nil (step_said (taken_of l))
+steps_of-more (d ∷ done) l = ap (λ k. step_said (taken_of d) ++ k) (steps_of-more done l) ∙ sym (append_assoc (step_said (taken_of d)) (steps_of done) (step_said (taken_of l)))
 
-lines_text-more : {M : Type 0} (by : Stepper M) (m : M) (done : List (List ℕ)) (l : List ℕ) → lines_text by m (done ++ l ∷ []) ≡ lines_text by m done ++ line_text by (run_by by.step m (steps_of done)) (said_of l)
-lines_text-more by m [] l = append-nil (line_text by m (said_of l))
+lines_text-more : {M : Type 0} (by : Stepper M) (m : M) (done : List (List ℕ)) (l : List ℕ) → lines_text by m (done ++ l ∷ []) ≡ lines_text by m done ++ line_text by (run_by by.step m (steps_of done)) (taken_of l)
+lines_text-more by m [] l = append-nil (line_text by m (taken_of l))
 lines_text-more by m (d ∷ done) l =
-    let first = line_text by m (said_of d) in
-    let after = run_by by.step m (step_said (said_of d)) in
+    let first = line_text by m (taken_of d) in
+    let after = run_by by.step m (step_said (taken_of d)) in
     ap (λ k. first ++ k) (lines_text-more by after done l)
-    ∙ sym (append_assoc first (lines_text by after done) (line_text by (run_by by.step after (steps_of done)) (said_of l)))
-    ∙ ap (λ x. (first ++ lines_text by after done) ++ line_text by x (said_of l)) (sym (run_by-append by.step m (step_said (said_of d)) (steps_of done)))
+    ∙ sym (append_assoc first (lines_text by after done) (line_text by (run_by by.step after (steps_of done)) (taken_of l)))
+    ∙ ap (λ x. (first ++ lines_text by after done) ++ line_text by x (taken_of l)) (sym (run_by-append by.step m (step_said (taken_of d)) (steps_of done)))
 
 AllConcern-append : (tenant : List ℕ) (steps others : List Step) → AllConcern tenant (steps ++ others) → AllConcern tenant steps × AllConcern tenant others
 AllConcern-append tenant [] others h = (tt, h)
 AllConcern-append tenant (s ∷ steps) others h = let more = AllConcern-append tenant steps others h.1 in ((h.0, more.0), more.1)
 
-LinesConcern-more : (tenant : List ℕ) (done : List (List ℕ)) (l : List ℕ) → LinesConcern tenant (done ++ l ∷ []) → LinesConcern tenant done × LineConcerns tenant (said_of l)
-LinesConcern-more tenant done l h = AllConcern-append tenant (steps_of done) (step_said (said_of l)) (subst (AllConcern tenant) (steps_of-more done l) h)
+LinesConcern-more : (tenant : List ℕ) (done : List (List ℕ)) (l : List ℕ) → LinesConcern tenant (done ++ l ∷ []) → LinesConcern tenant done × LineConcerns tenant (taken_of l)
+LinesConcern-more tenant done l h = AllConcern-append tenant (steps_of done) (step_said (taken_of l)) (subst (AllConcern tenant) (steps_of-more done l) h)
 
 -- ---- the silo
 
@@ -80,9 +79,9 @@ TakesSteps-append logic old mid new steps others p q = record {
       ∙ ap (machine_run logic (shown_to tenant old.whole)) (sym (restricted-append tenant steps others));
 }
 
-TakesLines-more : (logic : Logic) (old mid new : History) (done : List (List ℕ)) (l : List ℕ) → TakesLines logic old done mid → TakesLine logic mid (said_of l) new → TakesLines logic old (done ++ l ∷ []) new
+TakesLines-more : (logic : Logic) (old mid new : History) (done : List (List ℕ)) (l : List ℕ) → TakesLines logic old done mid → TakesLine logic mid (taken_of l) new → TakesLines logic old (done ++ l ∷ []) new
 TakesLines-more logic old mid new done l p q =
-    subst (λ steps. TakesSteps logic old steps new) (sym (steps_of-more done l)) (TakesSteps-append logic old mid new (steps_of done) (step_said (said_of l)) p q)
+    subst (λ steps. TakesSteps logic old steps new) (sym (steps_of-more done l)) (TakesSteps-append logic old mid new (steps_of done) (step_said (taken_of l)) p q)
 
 -- the part of a tenant whom all lines concern
 part_alone : (logic : Logic) (tenant : List ℕ) (old new : History) (done : List (List ℕ)) → TakesLines logic old done new → LinesConcern tenant done
@@ -90,11 +89,11 @@ part_alone : (logic : Logic) (tenant : List ℕ) (old new : History) (done : Lis
 part_alone logic tenant old new done p c = p.parts tenant ∙ ap (machine_run logic (shown_to tenant old.whole)) (all_restricted tenant (steps_of done) c)
 
 LinesAlone-more : (logic : Logic) (tenant : List ℕ) (old mid : History) (done : List (List ℕ)) (l : List ℕ) → TakesLines logic old done mid → LinesConcern tenant done
-    → LinesAlone logic tenant old.whole done → LineAlone logic tenant mid.whole (said_of l) → LinesAlone logic tenant old.whole (done ++ l ∷ [])
+    → LinesAlone logic tenant old.whole done → LineAlone logic tenant mid.whole (taken_of l) → LinesAlone logic tenant old.whole (done ++ l ∷ [])
 LinesAlone-more logic tenant old mid done l p c text last =
     let alone = shown_to tenant old.whole in
-    lines_text-more (whole_stepper logic) old.whole done l ∙ ap₂ (λ t w. t ++ line_text (whole_stepper logic) w (said_of l)) text (sym p.whole)
-    ∙ ap (λ t. lines_text (machine_stepper logic) alone done ++ t) (last ∙ ap (λ m. line_text (machine_stepper logic) m (said_of l)) (part_alone logic tenant old mid done p c))
+    lines_text-more (whole_stepper logic) old.whole done l ∙ ap₂ (λ t w. t ++ line_text (whole_stepper logic) w (taken_of l)) text (sym p.whole)
+    ∙ ap (λ t. lines_text (machine_stepper logic) alone done ++ t) (last ∙ ap (λ m. line_text (machine_stepper logic) m (taken_of l)) (part_alone logic tenant old mid done p c))
     ∙ sym (lines_text-more (machine_stepper logic) alone done l)
 
 -- ---- a run, so far: these lines were taken, answered and written
@@ -118,12 +117,12 @@ SoFar-none logic from left old before h = record {
 }
 
 pub SoFar-more : (logic : Logic) (count : ℕ) (from left next : Option (List ℕ)) (old mid new : History) (before during after : Option (List ℕ)) (l : List ℕ) (said : Line)
-    → SoFar logic count from left old mid before during → LinesTaken left next (l ∷ []) → said ≡ said_of l
+    → SoFar logic count from left old mid before during → LinesTaken left next (l ∷ []) → said ≡ taken_of l
     → TakesLine logic mid said new → Appends during after (line_text (whole_stepper logic) mid.whole said) → ((tenant : List ℕ) → LineConcerns tenant said → LineAlone logic tenant mid.whole said)
     → SoFar logic (count + 1) from next old new before after
 SoFar-more logic count from left next old mid new before during after l said p took e silo wrote alone =
     let by = whole_stepper logic in
-    let text : line_text by mid.whole said ≡ line_text by (whole_run logic old.whole (steps_of p.done)) (said_of l) = ap₂ (line_text by) p.silo.whole e in
+    let text : line_text by mid.whole said ≡ line_text by (whole_run logic old.whole (steps_of p.done)) (taken_of l) = ap₂ (line_text by) p.silo.whole e in
     record {
       done = p.done ++ l ∷ [];
       counted = omega (arith, p.counted, length-append p.done (l ∷ []));
@@ -255,7 +254,7 @@ stops_full logic calls count (Some input) ahead (Some bytes) old new before afte
 -- while a line is answered
 stops_in_writing : (logic : Logic) (from left next : Option (List ℕ)) (old mid new : History) (before during after : Option (List ℕ)) (done : List (List ℕ)) (l : List ℕ) → LinesTaken from left done → LinesTaken left next (l ∷ [])
     → TakesLines logic old done mid → TakesLines logic old (done ++ l ∷ []) new → Appends before during (lines_text (whole_stepper logic) old.whole done)
-    → WrittenInPart during after (line_text (whole_stepper logic) mid.whole (said_of l)) → IfSome from (λ input. StopsAfter logic (lines_of input) old new before after)
+    → WrittenInPart during after (line_text (whole_stepper logic) mid.whole (taken_of l)) → IfSome from (λ input. StopsAfter logic (lines_of input) old new before after)
 stops_in_writing logic None left next old mid new before during after done l h g taken silo written part = tt
 stops_in_writing logic (Some input) None next old mid new before during after done l h g taken silo written part = absurd h
 stops_in_writing logic (Some input) (Some bytes) None old mid new before during after done l h g taken silo written part = absurd g
@@ -268,11 +267,11 @@ stops_in_writing logic (Some input) (Some bytes) (Some others) old mid new befor
   silo = silo;
   during = during;
   written = written;
-  part = subst (WrittenInPart during after) (ap (λ w. line_text (whole_stepper logic) w (said_of l)) taken.whole ∙ sym (append-nil (line_text (whole_stepper logic) (whole_run logic old.whole (steps_of done)) (said_of l)))) part;
+  part = subst (WrittenInPart during after) (ap (λ w. line_text (whole_stepper logic) w (taken_of l)) taken.whole ∙ sym (append-nil (line_text (whole_stepper logic) (whole_run logic old.whole (steps_of done)) (taken_of l)))) part;
 }
 
 stops_for_memory : (logic : Logic) (from left next : Option (List ℕ)) (old mid new : History) (before after : Option (List ℕ)) (done : List (List ℕ)) (l : List ℕ) → LinesTaken from left done → LinesTaken left next (l ∷ [])
-    → TakesLines logic old done mid → Appends before after (lines_text (whole_stepper logic) old.whole done) → MayTake logic mid (said_of l) new → IfSome from (λ input. StopsAt logic (lines_of input) old new before after)
+    → TakesLines logic old done mid → Appends before after (lines_text (whole_stepper logic) old.whole done) → MayTake logic mid (taken_of l) new → IfSome from (λ input. StopsAt logic (lines_of input) old new before after)
 stops_for_memory logic None left next old mid new before after done l h g silo written may = tt
 stops_for_memory logic (Some input) None next old mid new before after done l h g silo written may = absurd h
 stops_for_memory logic (Some input) (Some bytes) None old mid new before after done l h g silo written may = absurd g
@@ -285,7 +284,7 @@ stops_for_memory logic (Some input) (Some bytes) (Some others) old mid new befor
 }
 
 pub stops_answering : (logic : Logic) (e : LineFault) (calls : ReaderCalls) (count : ℕ) (from left next : Option (List ℕ)) (old mid new : History) (before during after : Option (List ℕ)) (l : List ℕ) (said : Line)
-    → SoFar logic count from left old mid before during → LinesTaken left next (l ∷ []) → said ≡ said_of l → LineStopsBy logic e said mid new during after
+    → SoFar logic count from left old mid before during → LinesTaken left next (l ∷ []) → said ≡ taken_of l → LineStopsBy logic e said mid new during after
     → IfSome from (λ input. StopsBy logic e (lines_of input) calls old new before after)
 stops_answering logic fault.Read calls count from left next old mid new before during after l said p took e h = absurd h
 stops_answering logic fault.TooMuch calls count from left next old mid new before during after l said p took e h = absurd h
@@ -300,5 +299,5 @@ pub handed_on : {T E : Type 0} (r : Result T E) (P : E → Type 0) (e : E) → r
 handed_on r P e is h = subst (λ x. IfErr x P) (sym is) h
 
 -- a line that is cut in the same place says the same
-pub same_said : (found shown l : List ℕ) → found ≡ shown → take 65537 shown ≡ take 65537 l → said_of found ≡ said_of l
-same_said found shown l e h = ap said_of e ∙ sym (said_cut shown) ∙ ap said_of h ∙ said_cut l
+pub same_said : (found shown l : List ℕ) → found ≡ shown → take 65537 shown ≡ take 65537 l → taken_of found ≡ taken_of l
+same_said found shown l e h = ap taken (ap said_of e ∙ sym (said_cut shown) ∙ ap said_of h ∙ said_cut l)

@@ -7,7 +7,7 @@ use Rattle.silo_model.specs.Machine.{Machine}
 use Rattle.silo_model.specs.Step.{machine_step}
 use Rattle.silo_model.specs.Whole.{Whole, whole_step}
 use Rattle.silo_model.specs.Run.{run_by}
-use Rattle.line_protocol.specs.Said.{said_of}
+use Rattle.line_protocol.specs.Said.{taken_of}
 use Rattle.line_protocol.specs.Text.{line_of, refusal_line, not_now_line}
 use Rattle.line_protocol.specs.declared.line.Line.{Line}
 use Rattle.line_protocol.specs.declared.line.Line.TheVariants as line
@@ -34,7 +34,7 @@ step_said (line.Step s) = s ∷ []
 -- the steps that lines say, in order
 abbrev pub steps_of : List (List ℕ) → List Step
 steps_of [] = []
-steps_of (l ∷ lines) = step_said (said_of l) ++ steps_of lines
+steps_of (l ∷ lines) = step_said (taken_of l) ++ steps_of lines
 
 -- ---- texts
 
@@ -61,4 +61,4 @@ line_text by m (line.Step s) = step_text by.replies m (by.step m s)
 -- what is written for lines, one after another
 abbrev pub lines_text : {M : Type 0} → Stepper M → M → List (List ℕ) → List ℕ
 lines_text by m [] = []
-lines_text by m (l ∷ lines) = line_text by m (said_of l) ++ lines_text by (run_by by.step m (step_said (said_of l))) lines
+lines_text by m (l ∷ lines) = line_text by m (taken_of l) ++ lines_text by (run_by by.step m (step_said (taken_of l))) lines

@@ -1,13 +1,14 @@
 //! What one line leaves in the silo and adds to the text.
 
 ghost use Rattle.std.specs.Prelude.{◌≡◌, ℕ, List, ◌++◌, ◌⊎◌, OnOk, OnErr, string_bytes, take, true};
-ghost use Rattle.line_protocol.specs.Said.{said_of};
+ghost use Rattle.line_protocol.specs.Said.{taken_of};
 ghost use Rattle.grain_kinds.specs.Counters.{counters};
 ghost use Rattle.silo_core.specs.Built.{is_built};
 ghost use Rattle.line_protocol.specs.Out.{texts_of, whole_stepper, line_text};
 ghost use Rattle.line_protocol.specs.Running.{TakesLine, LineConcerns, LineAlone, MayTake};
 ghost use Rattle.line_protocol.specs.declared.line.Line.TheVariants as line;
 
+use crate::built::taken;
 use crate::line::Line;
 use crate::reading::{LineRoom, read_line};
 use crate::replies::{push_not_now, push_refusal, push_reply};
@@ -54,7 +55,7 @@ fn answer_step(
     }
 }
 
-/// Takes what a line says, and adds its text.
+/// Takes what it is handed of a line, and adds its text.
 pub(crate) fn answer_line(
     alloc: Global,
     room: &mut LineRoom,
@@ -62,13 +63,13 @@ pub(crate) fn answer_line(
     line: &[u8],
     text: &mut String,
 ) -> Result<(), AllocError>
-    ensures silo { OnOk result (TakesLine counters silo.old (said_of line.now) silo.new) }
-    ensures text { OnOk result (string_bytes text.new ≡ string_bytes text.old ++ line_text (whole_stepper counters) silo.old.whole (said_of line.now)) }
-    ensures alone { OnOk result ((tenant : List ℕ) → LineConcerns tenant (said_of line.now)
-        → LineAlone counters tenant silo.old.whole (said_of line.now)) }
-    ensures err { OnErr result (MayTake counters silo.old (said_of line.now) silo.new) }
+    ensures silo { OnOk result (TakesLine counters silo.old (taken_of line.now) silo.new) }
+    ensures text { OnOk result (string_bytes text.new ≡ string_bytes text.old ++ line_text (whole_stepper counters) silo.old.whole (taken_of line.now)) }
+    ensures alone { OnOk result ((tenant : List ℕ) → LineConcerns tenant (taken_of line.now)
+        → LineAlone counters tenant silo.old.whole (taken_of line.now)) }
+    ensures err { OnErr result (MayTake counters silo.old (taken_of line.now) silo.new) }
 {
-    match read_line(alloc, room, line)? {
+    match taken(read_line(alloc, room, line)?) {
         Line::Nothing => Ok(()),
         Line::Refusal(refusal) => {
             push_refusal(text, refusal)?;

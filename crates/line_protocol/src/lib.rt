@@ -8,6 +8,8 @@
 
 mod answers;
 mod argument;
+mod asked;
+mod built;
 mod calls;
 mod fault;
 mod fields;
@@ -15,9 +17,11 @@ mod forms;
 mod line;
 mod line_reader;
 mod members;
+mod named;
 mod number;
 mod reading;
 mod replies;
+mod request;
 mod runner;
 mod slots;
 mod step;

@@ -1,8 +1,8 @@
 //! The members of a JSON object, each by its type.
 
-ghost use Rattle.std.specs.Prelude.{◌≡◌, IfOk, option_map};
+ghost use Rattle.std.specs.Prelude.{◌≡◌, ◌<◌, ◌^◌, IfOk, IfSome, option_map};
 ghost use Rattle.serde_json.specs.View.{view};
-ghost use Rattle.line_protocol.specs.Form.{text_at, natural_at, grain_at, caller_at, has_members};
+ghost use Rattle.line_protocol.specs.Form.{text_at, natural_at, truth_at, grain_at, caller_at, has_members};
 
 use grain_id::{Caller, GrainId, IdFault, LatelyRead};
 use serde_json::Value;
@@ -17,7 +17,8 @@ pub(crate) fn text_at<'v>(value: &'v Value, name: &str) -> Option<&'v str>
 
 /// The whole number of that name, 0 to 9,223,372,036,854,775,807.
 pub(crate) fn natural_at(value: &Value, name: &str) -> Option<u64>
-    ensures { result ≡ natural_at name.now (view value.now) }
+    ensures value { result ≡ natural_at name.now (view value.now) }
+    ensures within { IfSome result (λ n. n < 2 ^ 63) }
 {
     let number = value.get(name).and_then(Value::as_i64)?;
     if number < 0 {
@@ -25,6 +26,13 @@ pub(crate) fn natural_at(value: &Value, name: &str) -> Option<u64>
     } else {
         Some(number as u64)
     }
+}
+
+/// The truth value of that name.
+pub(crate) fn truth_at(value: &Value, name: &str) -> Option<bool>
+    ensures { result ≡ truth_at name.now (view value.now) }
+{
+    value.get(name).and_then(Value::as_bool)
 }
 
 /// Whether it is an object of that many members.

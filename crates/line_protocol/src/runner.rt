@@ -3,7 +3,7 @@
 ghost use Rattle.std.specs.Prelude.{◌≡◌, ◌≤◌, List, ℕ, IfOk, IfErr, IfSome, OnOk};
 ghost use Rattle.std.specs.Io.KnownBytes.{Appends};
 ghost use Rattle.line_protocol.specs.Lines.{lines_of, lines_limit};
-ghost use Rattle.line_protocol.specs.Said.{said_of};
+ghost use Rattle.line_protocol.specs.Said.{taken_of};
 ghost use Rattle.grain_kinds.specs.Counters.{counters};
 ghost use Rattle.line_protocol.specs.Out.{whole_stepper, line_text};
 ghost use Rattle.line_protocol.specs.Running.{TakesLine, LineConcerns, LinesConcern, LineAlone, LineStopsBy, AnswersAll, AnswersAlone, StopsBy, left_of};
@@ -29,11 +29,11 @@ fn write_answer<W: Write>(
     line: &[u8],
     text: &mut String,
 ) -> Result<(), LineFault>
-    ensures silo { OnOk result (TakesLine counters silo.old (said_of line.now) silo.new) }
-    ensures text { OnOk result (Appends (W.contents writer.old) (W.contents writer.new) (line_text (whole_stepper counters) silo.old.whole (said_of line.now))) }
-    ensures alone { OnOk result ((tenant : List ℕ) → LineConcerns tenant (said_of line.now)
-        → LineAlone counters tenant silo.old.whole (said_of line.now)) }
-    ensures err { IfErr result (λ e. LineStopsBy counters e (said_of line.now) silo.old silo.new (W.contents writer.old) (W.contents writer.new)) }
+    ensures silo { OnOk result (TakesLine counters silo.old (taken_of line.now) silo.new) }
+    ensures text { OnOk result (Appends (W.contents writer.old) (W.contents writer.new) (line_text (whole_stepper counters) silo.old.whole (taken_of line.now))) }
+    ensures alone { OnOk result ((tenant : List ℕ) → LineConcerns tenant (taken_of line.now)
+        → LineAlone counters tenant silo.old.whole (taken_of line.now)) }
+    ensures err { IfErr result (λ e. LineStopsBy counters e (taken_of line.now) silo.old silo.new (W.contents writer.old) (W.contents writer.new)) }
 {
     text.clear();
     answer_line(alloc, room, silo, line, text)?;

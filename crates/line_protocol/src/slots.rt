@@ -1,29 +1,33 @@
 //! The members of a line, each by its name.
 
-ghost use Rattle.std.specs.Prelude.{◌≡◌, ◌∷◌, IfSome, IfOk, OnOk, option_map};
-ghost use Rattle.json.specs.Token.{string};
-ghost use Rattle.line_protocol.specs.Slots.{name_text, TakesMember, FillsText, FillsNatural, HasSlots, IsNatural};
+ghost use Rattle.std.specs.Prelude.{◌≡◌, ◌<◌, ◌^◌, ◌||◌, [], ◌∷◌, false, None, IfSome, IfOk, OnOk, option_map};
+ghost use Rattle.json.specs.Token.{string, boolean};
+ghost use Rattle.line_protocol.specs.Argument.{PutsValue};
+ghost use Rattle.line_protocol.specs.Slots.{name_text, TakesMember, HasSlots, IsNatural};
 
 use crate::argument::put_value;
 use crate::number::whole_number;
 use crate::unread::Unread;
 use json::{Reader, Token};
-use request_codec::limits::MAX_MESSAGE_BYTES;
+use request_codec::limits::{MAX_MESSAGE_BYTES, MAX_STATE_BYTES};
 
 /// The members that a step may have.
 #[derive(Clone, Copy)]
 pub(crate) enum Name {
     Op,
     From,
-    Id,
     Grain,
     Method,
-    Args,
+    Id,
     Turn,
+    Now,
+    Failed,
+    Args,
+    State,
 }
 
-/// What the members of a line were, each at most once. `args` says whether it was there; its bytes
-/// are kept elsewhere.
+/// What the members of a line were, each at most once. `args` and `state` say whether they were
+/// there, which is at most one of them; its bytes are kept elsewhere.
 #[derive(Drop)]
 pub(crate) struct Slots<'a> {
     pub(crate) op: Option<&'a str>,
@@ -32,7 +36,10 @@ pub(crate) struct Slots<'a> {
     pub(crate) method: Option<&'a str>,
     pub(crate) id: Option<u64>,
     pub(crate) turn: Option<u64>,
+    pub(crate) moment: Option<u64>,
+    pub(crate) failed: Option<bool>,
     pub(crate) args: bool,
+    pub(crate) state: bool,
     pub(crate) count: usize,
 }
 
@@ -46,29 +53,40 @@ fn name_of(key: &str) -> Option<Name>
     match key {
         "op" => Some(Name::Op),
         "from" => Some(Name::From),
-        "id" => Some(Name::Id),
         "grain" => Some(Name::Grain),
         "method" => Some(Name::Method),
-        "args" => Some(Name::Args),
+        "id" => Some(Name::Id),
         "turn" => Some(Name::Turn),
+        "now" => Some(Name::Now),
+        "failed" => Some(Name::Failed),
+        "args" => Some(Name::Args),
+        "state" => Some(Name::State),
         _ => None,
     }
 }
 
-/// The next token, which has to be a text.
-fn take_text<'a>(reader: &mut Reader<'a>) -> Result<&'a str, Unread>
-    ensures { IfOk result (λ s. reader.old ≡ string s.now ∷ reader.new) }
+/// The next token, which has to be a text, for a slot that has none.
+fn take_text<'a>(slot: Option<&str>, reader: &mut Reader<'a>) -> Result<&'a str, Unread>
+    ensures empty { OnOk result (slot.entry ≡ None) }
+    ensures token { IfOk result (λ s. reader.old ≡ string s.now ∷ reader.new) }
 {
+    if slot.is_some() {
+        return Err(Unread::Unusual);
+    }
     match reader.next() {
         Some(Token::String(text)) => Ok(text),
         _ => Err(Unread::Unusual),
     }
 }
 
-/// The next token, which has to be a whole number, 0 or above.
-fn take_natural(reader: &mut Reader<'_>) -> Result<u64, Unread>
-    ensures { IfOk result (λ n. IsNatural reader.old n reader.new) }
+/// The next token, which has to be a whole number, 0 or above, for a slot that has none.
+fn take_natural(slot: Option<u64>, reader: &mut Reader<'_>) -> Result<u64, Unread>
+    ensures empty { OnOk result (slot ≡ None) }
+    ensures token { IfOk result (λ n. IsNatural reader.old n reader.new) }
 {
+    if slot.is_some() {
+        return Err(Unread::Unusual);
+    }
     let Some(Token::Number(text)) = reader.next() else {
         return Err(Unread::Unusual);
     };
@@ -81,54 +99,73 @@ fn take_natural(reader: &mut Reader<'_>) -> Result<u64, Unread>
     Ok(n as u64)
 }
 
-/// Takes a text for a member that wasn't there yet.
-fn fill_text<'a>(slot: &mut Option<&'a str>, reader: &mut Reader<'a>) -> Result<(), Unread>
-    ensures { OnOk result (FillsText (option_map (λ s. s.now) slot.old) (option_map (λ s. s.now) slot.new) reader.old reader.new) }
+/// The next token, which has to be a truth value, for a slot that has none.
+fn take_truth(slot: Option<bool>, reader: &mut Reader<'_>) -> Result<bool, Unread>
+    ensures empty { OnOk result (slot ≡ None) }
+    ensures token { IfOk result (λ b. reader.old ≡ boolean b ∷ reader.new) }
 {
     if slot.is_some() {
         return Err(Unread::Unusual);
     }
-    *slot = Some(take_text(reader)?);
-    Ok(())
+    match reader.next() {
+        Some(Token::Bool(b)) => Ok(b),
+        _ => Err(Unread::Unusual),
+    }
 }
 
-/// Takes a number for a member that wasn't there yet.
-fn fill_natural(slot: &mut Option<u64>, reader: &mut Reader<'_>) -> Result<(), Unread>
-    ensures { OnOk result (FillsNatural slot.old slot.new reader.old reader.new) }
+/// Whether there was a member whose bytes are kept.
+fn has_value(slots: &Slots<'_>) -> bool
+    ensures { result ≡ (slots.now.args || slots.now.state) }
 {
-    if slot.is_some() {
+    slots.args || slots.state
+}
+
+/// Puts the next value's bytes in place of others, unless a value was put there before.
+fn take_value(
+    taken: bool,
+    bytes: &mut Vec<u8>,
+    limit: usize,
+    reader: &mut Reader<'_>,
+) -> Result<(), Unread>
+    requires { limit < 2 ^ 32 }
+    ensures empty { OnOk result (taken ≡ false) }
+    ensures value { OnOk result (PutsValue 126 reader.old reader.new [] bytes.new.items) }
+{
+    if taken {
         return Err(Unread::Unusual);
     }
-    *slot = Some(take_natural(reader)?);
-    Ok(())
+    bytes.clear();
+    put_value(bytes, limit, reader, MEMBER_DEPTH)
 }
 
 /// Takes a member that wasn't there yet.
 #[inline(always)]
 fn take_member<'a>(
     slots: &mut Slots<'a>,
-    args: &mut Vec<u8>,
+    bytes: &mut Vec<u8>,
     reader: &mut Reader<'a>,
     name: Name,
 ) -> Result<(), Unread>
-    ensures { OnOk result (TakesMember name reader.old reader.new slots.old args.old.items slots.new args.new.items) }
+    ensures { OnOk result (TakesMember name reader.old reader.new slots.old bytes.old.items slots.new bytes.new.items) }
 {
     let count = slots.count.checked_add(1).ok_or(Unread::Unusual)?;
     slots.count = count;
     match name {
-        Name::Op => fill_text(&mut slots.op, reader)?,
-        Name::From => fill_text(&mut slots.from, reader)?,
-        Name::Grain => fill_text(&mut slots.grain, reader)?,
-        Name::Method => fill_text(&mut slots.method, reader)?,
-        Name::Id => fill_natural(&mut slots.id, reader)?,
-        Name::Turn => fill_natural(&mut slots.turn, reader)?,
+        Name::Op => slots.op = Some(take_text(slots.op, reader)?),
+        Name::From => slots.from = Some(take_text(slots.from, reader)?),
+        Name::Grain => slots.grain = Some(take_text(slots.grain, reader)?),
+        Name::Method => slots.method = Some(take_text(slots.method, reader)?),
+        Name::Id => slots.id = Some(take_natural(slots.id, reader)?),
+        Name::Turn => slots.turn = Some(take_natural(slots.turn, reader)?),
+        Name::Now => slots.moment = Some(take_natural(slots.moment, reader)?),
+        Name::Failed => slots.failed = Some(take_truth(slots.failed, reader)?),
         Name::Args => {
-            if slots.args {
-                return Err(Unread::Unusual);
-            }
-            args.clear();
-            put_value(args, MAX_MESSAGE_BYTES, reader, MEMBER_DEPTH)?;
+            take_value(has_value(slots), bytes, MAX_MESSAGE_BYTES, reader)?;
             slots.args = true;
+        }
+        Name::State => {
+            take_value(has_value(slots), bytes, MAX_STATE_BYTES, reader)?;
+            slots.state = true;
         }
     }
     Ok(())
@@ -137,9 +174,9 @@ fn take_member<'a>(
 /// The members of the object that the tokens are, if each is known and stands once.
 pub(crate) fn read_slots<'a>(
     reader: &mut Reader<'a>,
-    args: &mut Vec<u8>,
+    bytes: &mut Vec<u8>,
 ) -> Result<Slots<'a>, Unread>
-    ensures { IfOk result (λ slots. HasSlots reader.old slots args.new.items) }
+    ensures { IfOk result (λ slots. HasSlots reader.old slots bytes.new.items) }
 {
     let Some(Token::BeginObject) = reader.next() else {
         return Err(Unread::Unusual);
@@ -151,14 +188,17 @@ pub(crate) fn read_slots<'a>(
         method: None,
         id: None,
         turn: None,
+        moment: None,
+        failed: None,
         args: false,
+        state: false,
         count: 0,
     };
     'members: while let Some(key) = reader.next_key()? {
         let Some(name) = name_of(key) else {
             return Err(Unread::Unusual);
         };
-        take_member(&mut slots, args, reader, name)?;
+        take_member(&mut slots, bytes, reader, name)?;
     }
     match reader.next() {
         None => Ok(slots),

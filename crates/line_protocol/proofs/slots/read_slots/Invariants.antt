@@ -5,7 +5,7 @@ use Rattle.line_protocol.proofs.slots.read_slots.Given as goal
 
 abbrev pub invariant-members : goal.invariant-members
 invariant-members l = record {
-  so_far : MembersSoFar l.initial.reader l.reader l.slots l.args.items;
+  so_far : MembersSoFar l.initial.reader l.reader l.slots l.bytes.items;
   first : l.fn.reader ≡ begin_object ∷ l.initial.reader;
 }
 

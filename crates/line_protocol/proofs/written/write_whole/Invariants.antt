@@ -1,4 +1,3 @@
-use Rattle.line_protocol.specs.Running.{WrittenInPart}
 use Rattle.std.proofs.Common.{◌≡◌, ◌++◌, ℕ, List}
 use Rattle.std.specs.Io.KnownBytes.{Appends}
 use Rattle.line_protocol.proofs.written.write_whole.Given as goal

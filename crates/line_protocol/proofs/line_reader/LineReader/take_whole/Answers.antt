@@ -1,4 +1,4 @@
-use Rattle.std.proofs.Common.{◌≡◌, ◌+◌, ◌-◌, ◌≤◌, ◌∷◌, ◌++◌, ℕ, List, ap, sym, subst, ◌∙◌, arith, take, drop, length, length-take, slice_range, vec_len}
+use Rattle.std.proofs.Common.{◌≡◌, ◌+◌, ◌-◌, ◌≤◌, ◌∷◌, ◌++◌, ap, subst, ◌∙◌, arith, take, drop, length-take, slice_range}
 use Rattle.line_protocol.specs.Running.{HasNoBreak}
 use Rattle.line_protocol.proofs.Pieces.{at_break_in, slice_range_front}
 use Rattle.line_protocol.proofs.line_reader.LineReader.take_whole.Goals as goal
