@@ -143,7 +143,7 @@ class World:
 
     def failed(self, chance: float) -> dict:
         """The member `failed`, now and then."""
-        if not self.built.failed_member or self.random.random() > 2 * chance:
+        if not self.built.failures or self.random.random() > 2 * chance:
             return {}
         return {"failed": self.random.choice(["true", "false"])}
 

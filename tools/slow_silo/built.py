@@ -18,8 +18,8 @@ class Built(NamedTuple):
     methods: dict
     # turns that only read may be open together; otherwise each turn is one that writes
     reads_together: bool
-    # `load` and `store` may have the member `failed`
-    failed_member: bool
+    # a step may be marked as one whose storage call failed
+    failures: bool
     # a line of a form whose value or grain is refused is a step of its caller; otherwise it is no request
     refusals_are_steps: bool
     # how many tenants the program takes
@@ -38,7 +38,7 @@ EVERYTHING = Built(
         "relay": frozenset(["join", "leave", "send", *STORED]),
     },
     reads_together=True,
-    failed_member=True,
+    failures=True,
     refusals_are_steps=True,
     tenants=1_000,
 )
@@ -48,7 +48,7 @@ TODAY = Built(
     ops=frozenset(["call", "activate", "load", "begin", "end"]),
     methods={"counter": frozenset(["add", "get"])},
     reads_together=False,
-    failed_member=False,
+    failures=False,
     refusals_are_steps=False,
     tenants=1,
 )

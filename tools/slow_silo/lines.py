@@ -62,6 +62,14 @@ def of_type(kind: type, value: object) -> object:
     return value
 
 
+def whether_failed(value: object, built: Built) -> bool:
+    """The member `failed`."""
+    failed = of_type(bool, value)
+    if failed and not built.failures:
+        raise NotARequest
+    return failed
+
+
 def members_of(line: bytes, built: Built) -> dict:
     """The members that a line's form has."""
     try:
@@ -71,8 +79,6 @@ def members_of(line: bytes, built: Built) -> dict:
     if not isinstance(said, dict) or not isinstance(said.get("op"), str) or said["op"] not in built.ops:
         raise NotARequest
     needed, left_out = FORMS[said["op"]]
-    if "failed" in left_out and not built.failed_member:
-        left_out = {}
     names = set(said) - {"op"}
     if not set(needed) <= names <= set(needed) | set(left_out):
         raise NotARequest
@@ -93,11 +99,11 @@ def step_said(said: dict, built: Built) -> Step:
     if op in ON_A_GRAIN:
         return ON_A_GRAIN[op](grain)
     if op == "load":
-        return Load(grain, of_type(bool, said.get("failed", False)))
+        return Load(grain, whether_failed(said["failed"], built))
     turn = natural(said["turn"])
     if op in ON_A_TURN:
         return ON_A_TURN[op](grain, turn)
-    return Store(grain, turn, of_type(bool, said["failed"]))
+    return Store(grain, turn, whether_failed(said["failed"], built))
 
 
 def asked_step(said: dict, built: Built) -> Step:

@@ -2,7 +2,7 @@ use crate::{Line, LineFault, LineReader, LineRefusal, LineRoom, read_line, reply
 use grain_id::{Caller, GrainId, Tenant};
 use request_codec::StateBytes;
 use silo_core::Silo;
-use silo_event::{Fault, Party, Reply, Step};
+use silo_event::{Fault, Party, Refusal, Reply, Step};
 use std::alloc::Global;
 use std::io;
 use std::io::{Error, ErrorKind, Read, Write};
@@ -299,6 +299,98 @@ fn says_refusal(alloc: Global, line: &[u8], refusal: LineRefusal) -> Result<bool
         Line::Refusal(said) => Ok(said == refusal),
         _ => Ok(false),
     }
+}
+
+/// Whether the line is the refusal of a client's request, with that code.
+fn says_refuse(alloc: Global, line: &[u8], code: Refusal) -> Result<bool, Fail> {
+    match read_line(alloc, &mut LineRoom::new(alloc)?, line)? {
+        Line::Step(Step::Refuse { code: said, .. }) => Ok(said == code),
+        _ => Ok(false),
+    }
+}
+
+/// A number for each form of line but the call, by the step that the line says.
+fn form_said(alloc: Global, line: &str) -> Result<u64, Fail> {
+    match read_line(alloc, &mut LineRoom::new(alloc)?, line.as_bytes())? {
+        Line::Step(Step::Poke { failed: false, .. }) => Ok(1),
+        Line::Step(Step::Status { id, .. }) => Ok(id),
+        Line::Step(Step::Deliver { .. }) => Ok(3),
+        Line::Step(Step::Load { failed: true, .. }) => Ok(4),
+        Line::Step(Step::Load { failed: false, .. }) => Ok(5),
+        Line::Step(Step::Store { turn, failed: true, .. }) => Ok(turn),
+        Line::Step(Step::Store { turn, failed: false, .. }) => Ok(turn),
+        Line::Step(Step::Abandon { turn, .. }) => Ok(turn),
+        Line::Step(Step::Tick { now }) => Ok(now.get()),
+        Line::Step(Step::Sweep) => Ok(10),
+        _ => Ok(0),
+    }
+}
+
+#[test]
+fn reads_all_forms(rt: HostRuntime) -> Result<(), Fail> {
+    let forms = [
+        r#"{"op":"poke","from":"red/c1","id":1,"grain":"counter/red:a","state":{"b":[1],"a":null}}"#,
+        r#"{"op":"status","from":"red/c1","id":2}"#,
+        r#"{"op":"deliver","grain":"relay/red:r"}"#,
+        r#"{"op":"load","grain":"counter/red:a","failed":true}"#,
+        r#"{"failed":false,"grain":"counter/red:a","op":"load"}"#,
+        r#"{"op":"store","grain":"counter/red:a","turn":6,"failed":true}"#,
+        r#"{"op":"store","grain":"counter/red:a","turn":7}"#,
+        r#"{"op":"abandon","grain":"counter/red:a","turn":8}"#,
+        r#"{"op":"tick","now":9}"#,
+        r#"{"op":"sweep"}"#,
+    ];
+    let mut number = 0;
+    for form in forms {
+        number += 1;
+        assert_eq!(rt; form_said(rt.alloc(), form)?, number);
+    }
+    Ok(())
+}
+
+#[test]
+fn refuses_what_is_beyond_the_limits(rt: HostRuntime) -> Result<(), Fail> {
+    let deep = nested(rt.alloc(), 33)?;
+    let same = says_refuse(rt.alloc(), deep.as_slice(), Refusal::TooDeep)?;
+    assert!(rt; same);
+    let not_whole =
+        br#"{"op":"poke","from":"red/c1","id":1,"grain":"counter","state":[1.5]}"#;
+    let same = says_refuse(rt.alloc(), not_whole, Refusal::NotWhole)?;
+    assert!(rt; same);
+    let no_grain = br#"{"op":"poke","from":"red/c1","id":1,"grain":"counter","state":[1]}"#;
+    let same = says_refuse(rt.alloc(), no_grain, Refusal::NotWellFormed)?;
+    assert!(rt; same);
+    Ok(())
+}
+
+/// A line that begins so, with a list of so many zeros as its last member.
+fn zeros(alloc: Global, begin: &str, count: usize) -> Result<Vec<u8>, Fail> {
+    let mut line = Vec::from_slice(alloc, begin.as_bytes())?;
+    line.push(b'[')?;
+    for place in 0..count {
+        if place > 0 {
+            line.push(b',')?;
+        }
+        line.push(b'0')?;
+    }
+    line.extend_from_slice(b"]}")?;
+    Ok(line)
+}
+
+#[test]
+fn refuses_what_is_too_long(rt: HostRuntime) -> Result<(), Fail> {
+    let poke = r#"{"op":"poke","from":"red/c1","id":1,"grain":"counter","state":"#;
+    let line = zeros(rt.alloc(), poke, 29127)?;
+    let same = says_refuse(rt.alloc(), line.as_slice(), Refusal::TooLarge)?;
+    assert!(rt; same);
+    let line = zeros(rt.alloc(), poke, 29126)?;
+    let same = says_refuse(rt.alloc(), line.as_slice(), Refusal::NotWellFormed)?;
+    assert!(rt; same);
+    let call = r#"{"op":"call","from":"red/c1","id":1,"grain":"counter","method":"get","args":"#;
+    let line = zeros(rt.alloc(), call, 10000)?;
+    let same = says_refuse(rt.alloc(), line.as_slice(), Refusal::TooLong)?;
+    assert!(rt; same);
+    Ok(())
 }
 
 #[test]
