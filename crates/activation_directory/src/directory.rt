@@ -8,7 +8,7 @@ ghost use Rattle.activation_directory.specs.Counts.{count_in};
 
 use crate::activation::Activation;
 use crate::counts;
-use grain_id::{GrainId, Tenant};
+use grain_id::GrainId;
 use indexmap::IndexMap;
 use slab::Slab;
 use std::alloc::Global;
@@ -118,10 +118,10 @@ impl Directory {
     }
 
     /// How many grains of a tenant have an activation, by one look-up.
-    pub fn count(&self, tenant: &Tenant) -> usize
+    pub fn count(&self, tenant: &str) -> usize
         ensures { result ≡ count_in self.now.activations tenant.now }
     {
-        counts::of(&self.numbers, tenant.text())
+        counts::of(&self.numbers, tenant)
     }
 
     /// How many grains have an activation.

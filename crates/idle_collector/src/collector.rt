@@ -43,6 +43,13 @@ impl Collector {
         }
     }
 
+    /// After how many milliseconds an unused grain is due.
+    pub fn age(&self) -> u64
+        ensures { result ≡ self.now.age }
+    {
+        self.age
+    }
+
     /// Notes when a grain was last used, in place of its earlier note.
     ///
     /// # Errors

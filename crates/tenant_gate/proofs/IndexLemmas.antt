@@ -32,7 +32,7 @@ some_or true x o = refl
 some_or false x o = refl
 
 -- one more tenant is found where no earlier one is
-limits_of-push : (table : Table) (name : List ℕ) (limits : Limits) (q : List ℕ) → limits_of (table ++ (name, limits) ∷ []) q ≡ option_or (limits_of table q) (cond (same_text q name) (Some limits) None)
+pub limits_of-push : (table : Table) (name : List ℕ) (limits : Limits) (q : List ℕ) → limits_of (table ++ (name, limits) ∷ []) q ≡ option_or (limits_of table q) (cond (same_text q name) (Some limits) None)
 limits_of-push [] name limits q = refl
 limits_of-push (e ∷ table) name limits q =
     ap (cond (same_text q e.0) (Some e.1)) (limits_of-push table name limits q) ∙ or_after (same_text q e.0) e.1 (limits_of table q) (cond (same_text q name) (Some limits) None)
