@@ -1,0 +1,7 @@
+pub mod AccountMaps
+pub mod Requests
+pub mod Tables
+pub mod Turns
+pub mod Idle
+pub mod Shows
+pub mod Steps

@@ -1,0 +1,89 @@
+-- What the calls of the activations leave, seen as entries.
+use Rattle.std.proofs.Common.{◌≡◌, Bool, true, false, Option, Some, None, refl, ap, sym, ◌∙◌, subst}
+use Rattle.std.specs.Prelude.{Result, Ok, Err, IfOk, OnOk, OnErr, if◌then◌else◌, option_and_then, option_map}
+use Rattle.std.specs.FinMap as map
+use Rattle.std.specs.FinMap.{FinMap}
+use Rattle.grain_id.specs.Names.{Grain, grain_cmp}
+use Rattle.grain_id.proofs.Order.{grain_cmp_total, grain_cmp_exact}
+use Rattle.grain_id.proofs.ByGrain.{insert-again}
+use Rattle.grain_kinds.specs.Logic.{Logic}
+use Rattle.grain_kinds.specs.declared.turn.OpenedTurn.{OpenedTurn}
+use Rattle.silo_event.specs.declared.step.Answer.{Answer}
+use Rattle.silo_event.specs.declared.step.Answer.TheVariants.{Done, Failed, NotNow}
+use Rattle.turn_mailbox.specs.Contents.{Contents, begun, may_begin}
+use Rattle.turn_mailbox.proofs.Mapped.{get-mapped, mapped-insert}
+use Rattle.activation_directory.specs.declared.activation.Activation.{Activation}
+use Rattle.activation_directory.specs.declared.activation.Phase.{Phase}
+use Rattle.activation_directory.specs.declared.activation.Phase.TheVariants.{Waiting, Loading, Ready}
+use Rattle.silo_model.specs.Machine.{Entries}
+use Rattle.silo_model.specs.Turns as model
+use Rattle.silo_body.specs.Shown.{entry_of, entries_of}
+use Rattle.silo_body.specs.Marks.{AreMarked, AllMarked}
+use Rattle.silo_body.specs.Changes.{Starts, turn_at, mail_begun}
+use Rattle.silo_body.specs.Entries.{Activates, Begins, opened_turn}
+use Rattle.silo_body.proofs.Requests.{marked-put, marked-begun}
+use Rattle.silo_body.proofs.Turns.{turn-opened, begins}
+
+-- the entry of a grain, by its activation
+pub get-entries : (m : FinMap grain_cmp Activation) (g : Grain) (found : Option Activation) → map.get m g ≡ found → map.get (entries_of m) g ≡ option_map entry_of found
+get-entries m g found is = get-mapped grain_cmp_total grain_cmp_exact entry_of m g ∙ ap (option_map entry_of) is
+
+-- the entries with another activation of a grain
+pub entries-put : (m : FinMap grain_cmp Activation) (g : Grain) (after : Activation) → entries_of (map.insert m g after) ≡ map.insert (entries_of m) g (entry_of after)
+entries-put m g after = mapped-insert grain_cmp_total grain_cmp_exact entry_of m g after
+
+module _ (logic : Logic) (m : FinMap grain_cmp Activation) (g : Grain) (a after : Activation) (found : map.get m g ≡ Some a) where
+  entry_found : map.get (entries_of m) g ≡ Some (entry_of a)
+  entry_found = get-entries m g (Some a) found
+
+  pub unmoved : after ≡ a → entries_of (map.insert m g after) ≡ entries_of m
+  unmoved same = ap entries_of (ap (map.insert m g) same ∙ insert-again m g a found)
+
+  module _ (all : AllMarked logic m) where
+    pub same_mail : after.mailbox ≡ a.mailbox → AllMarked logic (map.insert m g after)
+    same_mail same = marked-put logic m g after all (subst (λ (mail : Contents). AreMarked logic g mail) (sym same) (all g a found))
+
+    -- ---- activating
+
+    pub start_marked : (answer : Answer) → Starts a answer after → AllMarked logic (map.insert m g after)
+    start_marked Done d = same_mail (ap (λ (x : Activation). x.mailbox) d.1)
+    start_marked Failed d = absurd d
+    start_marked NotNow d = same_mail (ap (λ (x : Activation). x.mailbox) d.1)
+
+    -- ---- opening a turn
+
+    mail_marked : (phase : Phase) → AreMarked logic g (mail_begun a.mailbox phase)
+    mail_marked Waiting = all g a found
+    mail_marked Loading = all g a found
+    mail_marked (Ready state version) = by (may_begin a.mailbox)
+      where
+        by : (b : Bool) → AreMarked logic g (if b then begun a.mailbox a.mailbox.waiting else a.mailbox)
+        by true = marked-begun logic g a.mailbox a.mailbox.waiting (all g a found).waiting (all g a found)
+        by false = all g a found
+
+    module _ {E : Type 0} where
+      pub begin_marked : (result : Result (Option OpenedTurn) E) → OnOk result (after ≡ record a { mailbox = mail_begun a.mailbox a.phase }) → OnErr result (after ≡ a) → AllMarked logic (map.insert m g after)
+      begin_marked (Ok turn) done kept = marked-put logic m g after all (subst (λ (x : Activation). AreMarked logic g x.mailbox) (sym done) (mail_marked a.phase))
+      begin_marked (Err e) done kept = same_mail (ap (λ (x : Activation). x.mailbox) kept)
+
+      pub begin_shows : (result : Result (Option OpenedTurn) E) → IfOk result (λ turn. turn ≡ turn_at g a.mailbox a.phase) → OnOk result (after ≡ record a { mailbox = mail_begun a.mailbox a.phase })
+          → IfOk result (λ turn. Begins logic (entries_of m) g turn (entries_of (map.insert m g after)))
+      begin_shows (Ok turn) is done =
+          subst (λ (new : Entries). Begins logic (entries_of m) g turn new) (sym (entries-put m g after ∙ ap (λ x. map.insert (entries_of m) g (entry_of x)) done))
+          (begins logic g a (all g a found) (entries_of m) entry_found turn is)
+      begin_shows (Err e) is done = tt
+
+      pub begin_turn : (result : Result (Option OpenedTurn) E) → IfOk result (λ turn. turn ≡ turn_at g a.mailbox a.phase) → IfOk result (λ turn. turn ≡ opened_turn logic g (map.get (entries_of m) g))
+      begin_turn (Ok turn) is = is ∙ turn-opened logic g a (all g a found) (entries_of m) entry_found
+      begin_turn (Err e) is = tt
+
+  -- what an activation that starts leaves
+  pub start_shows : (answer : Answer) → Starts a answer after → Activates (entries_of m) g answer (entries_of (map.insert m g after))
+  start_shows Done d = record {
+    before = entry_of a;
+    found = entry_found;
+    waits = d.0;
+    put = entries-put m g after ∙ ap (λ x. map.insert (entries_of m) g (entry_of x)) d.1;
+  }
+  start_shows Failed d = absurd d
+  start_shows NotNow d = (ap (option_and_then (λ e. model.activated e e.phase)) entry_found ∙ d.0, unmoved d.1)

@@ -1,0 +1,72 @@
+-- What the body's calls come to, as steps of the whole.
+use Rattle.std.proofs.Common.{◌≡◌, ℕ, Option, Some, None, refl, ap, sym, ◌∙◌, subst}
+use Rattle.std.specs.Prelude.{Result, Ok, Err, IfOk, OnErr, option_and_then}
+use Rattle.std.specs.FinMap as map
+use Rattle.std.specs.FinMap.{FinMap}
+use Rattle.grain_id.specs.Names.{Grain, grain_cmp}
+use Rattle.grain_kinds.specs.Logic.{Logic}
+use Rattle.grain_kinds.specs.declared.turn.OpenedTurn.{OpenedTurn}
+use Rattle.silo_event.specs.declared.step.Answer.{Answer}
+use Rattle.silo_event.specs.declared.step.Answer.TheVariants.{Done, Failed, NotNow}
+use Rattle.silo_event.specs.declared.step.Step.TheVariants.{Activate, Begin}
+use Rattle.silo_model.specs.Machine.{Entry, Entries, waiting}
+use Rattle.silo_model.specs.Step.{effect_of}
+use Rattle.silo_model.specs.Turns.{activated, begun}
+use Rattle.silo_model.specs.Whole.{Whole, whole_step}
+use Rattle.silo_model.proofs.Sights.{step_at_own}
+use Rattle.silo_model.proofs.EntrySteps.{activate_waiting, begin_does}
+use Rattle.silo_body.specs.Held.{Held}
+use Rattle.silo_body.specs.Moves.{Moves, done_if}
+use Rattle.silo_body.specs.Notes.{idle_since, AreNoted}
+use Rattle.silo_body.specs.Entries.{Activates, Begins}
+use Rattle.silo_body.proofs.Idle.{noted-same}
+
+-- the body with other entries
+abbrev pub with_entries : Held → Entries → Held
+with_entries h entries = record h { whole = record h.whole { entries = entries } }
+
+-- an entry that waits isn't idle, and isn't once it loads
+since_waiting : (e : Entry) → e.phase ≡ waiting → idle_since (Some e) ≡ None
+since_waiting e is = ap (λ p. idle_since (Some (record e { phase = p }))) is
+
+module _ (logic : Logic) (h : Held) (g : Grain) where
+  -- no entry is possible to change so
+  activate_none : option_and_then (λ e. activated e e.phase) (map.get h.whole.entries g) ≡ None → whole_step logic h.whole (Activate g) ≡ None
+  unfolding effect_of
+  activate_none none = step_at_own logic h.whole (Activate g) g.tenant g None refl refl refl none
+
+  begin_none : option_and_then (λ e. begun logic g e e.phase) (map.get h.whole.entries g) ≡ None → whole_step logic h.whole (Begin g) ≡ None
+  unfolding effect_of
+  begin_none none = step_at_own logic h.whole (Begin g) g.tenant g None refl refl refl none
+
+  pub activate_moves : (answer : Answer) (new : Entries) → Activates h.whole.entries g answer new → Moves logic h (Activate g) (Ok answer) (with_entries h new)
+  activate_moves Done new d = (activate_waiting logic h.whole g d.before d.found d.waits ∙ ap (λ es. Some (record h.whole { entries = es })) (sym d.put), refl)
+  activate_moves Failed new d = absurd d
+  activate_moves NotNow new d = (activate_none d.0, ap (with_entries h) d.1)
+
+  pub begin_moves : (turn : Option OpenedTurn) (new : Entries) → Begins logic h.whole.entries g turn new → Moves logic h (Begin g) (Ok (done_if turn)) (with_entries h new)
+  begin_moves None new d = (begin_none d.0, ap (with_entries h) d.1)
+  begin_moves (Some turn) new d = (begin_does logic h.whole g d.before d.found d.after d.does ∙ ap (λ es. Some (record h.whole { entries = es })) (sym d.put), refl)
+
+  pub begins_move : {E : Type 0} (result : Result (Option OpenedTurn) E) (new : Entries) → IfOk result (λ turn. Begins logic h.whole.entries g turn new) → IfOk result (λ turn. Moves logic h (Begin g) (Ok (done_if turn)) (with_entries h new))
+  begins_move (Ok turn) new d = begin_moves turn new d
+  begins_move (Err e) new d = tt
+
+-- ---- the notes
+
+module _ (entries : Entries) (lasts : FinMap grain_cmp ℕ) (noted : AreNoted entries lasts) (g : Grain) where
+  moved : (after new : Entries) → AreNoted after lasts → new ≡ after → AreNoted new lasts
+  moved after new still same = subst (λ (es : Entries). AreNoted es lasts) (sym same) still
+
+  pub activate_noted : (answer : Answer) (new : Entries) → Activates entries g answer new → AreNoted new lasts
+  activate_noted Done new d = moved _ new (noted-same entries lasts noted g _ (sym (ap idle_since d.found ∙ since_waiting d.before d.waits))) d.put
+  activate_noted Failed new d = absurd d
+  activate_noted NotNow new d = moved entries new noted d.1
+
+  pub begin_noted : (logic : Logic) (turn : Option OpenedTurn) (new : Entries) → Begins logic entries g turn new → AreNoted new lasts
+  begin_noted logic None new d = moved entries new noted d.1
+  begin_noted logic (Some turn) new d = moved _ new (noted-same entries lasts noted g d.after (d.in_use ∙ sym (ap idle_since d.found ∙ d.used))) d.put
+
+  pub begins_noted : {E : Type 0} (logic : Logic) (result : Result (Option OpenedTurn) E) (new : Entries) → IfOk result (λ turn. Begins logic entries g turn new) → OnErr result (new ≡ entries) → AreNoted new lasts
+  begins_noted logic (Ok turn) new d same = begin_noted logic turn new d
+  begins_noted logic (Err e) new d same = moved entries new noted same

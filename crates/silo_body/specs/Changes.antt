@@ -1,0 +1,31 @@
+-- What becomes of one activation.
+use Rattle.std.specs.Prelude.{◌≡◌, ℕ, Option, Some, None, if◌then◌else◌}
+use Rattle.grain_id.specs.Names.{Grain}
+use Rattle.grain_kinds.specs.declared.turn.OpenedTurn.{OpenedTurn}
+use Rattle.turn_mailbox.specs.Contents.{Contents, may_begin, begun, turn_of}
+use Rattle.activation_directory.specs.declared.activation.Activation.{Activation}
+use Rattle.activation_directory.specs.declared.activation.Phase.{Phase}
+use Rattle.activation_directory.specs.declared.activation.Phase.TheVariants.{Waiting, Loading, Ready}
+use Rattle.silo_event.specs.declared.step.Answer.{Answer}
+use Rattle.silo_event.specs.declared.step.Answer.TheVariants.{Done, Failed, NotNow}
+use Rattle.silo_model.specs.Machine.{waiting}
+use Rattle.silo_model.specs.Turns.{activated}
+use Rattle.silo_body.specs.Shown.{phase_of, entry_of}
+
+-- It waited, and loads now; or it doesn't wait, and nothing changed.
+abbrev pub Starts : Activation → Answer → Activation → Type 0
+Starts old Done new = (phase_of old.phase ≡ waiting) × (new ≡ record old { phase = Loading })
+Starts old Failed new = ⊥
+Starts old NotNow new = (activated (entry_of old) (phase_of old.phase) ≡ None) × (new ≡ old)
+
+-- the turn of its first waiting request, if it is ready and the turn rule allows it
+abbrev pub turn_at : Grain → Contents → Phase → Option OpenedTurn
+turn_at grain mail Waiting = None
+turn_at grain mail Loading = None
+turn_at grain mail (Ready state version) = if may_begin mail then turn_of grain state mail.waiting else None
+
+-- its mailbox once that turn is open
+abbrev pub mail_begun : Contents → Phase → Contents
+mail_begun mail Waiting = mail
+mail_begun mail Loading = mail
+mail_begun mail (Ready state version) = if may_begin mail then begun mail mail.waiting else mail

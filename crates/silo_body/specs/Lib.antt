@@ -1,0 +1,10 @@
+pub mod Sends
+pub mod Shown
+pub mod Marks
+pub mod Notes
+pub mod Accounts
+pub mod Lending
+pub mod Changes
+pub mod Entries
+pub mod Held
+pub mod Moves

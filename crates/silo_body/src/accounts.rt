@@ -1,0 +1,86 @@
+//! The accounts of the known tenants.
+
+ghost use Rattle.std.specs.Prelude.{◌≡◌, IfOk, OnOk, ℕ, List, Some, if◌then◌else◌};
+ghost use Rattle.std.specs.Option.{option_copied, option_copied_mut};
+ghost use Rattle.std.specs.Borrow.{sem};
+ghost use Rattle.std.specs.FinMap as map;
+ghost use Rattle.std.specs.BTreeMap.{get_by_text};
+ghost use Rattle.grain_id.specs.Names.{same_text};
+ghost use Rattle.silo_model.specs.Opening.{fresh_account, fresh_accounts};
+
+use crate::account::Account;
+use grain_id::Tenant;
+use std::alloc::{AllocError, Global};
+use std::collections::BTreeMap;
+use std::marker::Model;
+use tenant_gate::{Limits, TenantTable};
+
+/// The accounts of the known tenants, by the tenants' names.
+#[derive(Drop)]
+pub struct Accounts {
+    by_name: BTreeMap<String, Account>,
+}
+
+impl Model for Accounts {
+    ghost use Rattle.std.specs.Coded.{codes};
+    ghost use Rattle.std.specs.FinMap.{FinMap};
+    ghost use Rattle.grain_id.specs.Names.{text_cmp};
+    ghost use Rattle.request_codec.specs.Code.{coded_tree};
+    ghost use Rattle.silo_model.specs.Codes.{by_text_code};
+    ghost use Rattle.silo_model.specs.Machine as model;
+    ghost use Rattle.silo_body.specs.Accounts.{by_bytes};
+
+    ghost Value = { FinMap text_cmp model.Account };
+
+    ghost coded = { Prim.hlevel (codes, by_text_code, coded_tree) };
+
+    ghost view = { λ a. by_bytes a.by_name };
+}
+
+impl Accounts {
+    ghost use Rattle.silo_body.specs.Lending.{LendsAccount};
+
+    /// A fresh account for each tenant of the table.
+    pub fn new(alloc: Global, table: &TenantTable) -> Result<Accounts, AllocError>
+        ensures { IfOk result (λ a. a ≡ fresh_accounts table.now) }
+    {
+        let mut by_name = BTreeMap::new(alloc);
+        for (tenant, limits) in table.list() {
+            if !by_name.contains_key(tenant.text()) {
+                add(alloc, &mut by_name, tenant, *limits)?;
+            }
+        }
+        Ok(Accounts { by_name })
+    }
+
+    /// The tenant's account, or nothing if the tenant isn't known.
+    pub fn get(&self, tenant: &str) -> Option<&Account>
+        ensures { option_copied result ≡ map.get self.now tenant.now }
+    {
+        self.by_name.get(tenant)
+    }
+
+    /// The tenant's account, which may be changed where it stands.
+    pub fn get_mut(&mut self, tenant: &str) -> Option<&mut Account>
+        ensures* writes_back { sem 𝓛 (LendsAccount self.entry tenant.now result) }
+        ensures value { option_copied_mut result ≡ map.get self.old tenant.now }
+    {
+        self.by_name.get_mut(tenant)
+    }
+}
+
+/// Adds the account of a tenant that has none.
+fn add(
+    alloc: Global,
+    by_name: &mut BTreeMap<String, Account>,
+    tenant: &Tenant,
+    limits: Limits,
+) -> Result<(), AllocError>
+    ensures { OnOk result ((name : List ℕ) → get_by_text by_name.new name ≡ (if same_text tenant.now name then Some (fresh_account limits) else get_by_text by_name.old name)) }
+{
+    by_name.insert(
+        String::from_str(alloc, tenant.text())?,
+        Account::new(alloc, limits),
+    )?;
+    Ok(())
+}

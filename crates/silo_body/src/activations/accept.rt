@@ -1,0 +1,1 @@
+//! How requests come to an activation.

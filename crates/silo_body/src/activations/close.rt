@@ -1,0 +1,1 @@
+//! How turns of an activation are closed, and how it goes.

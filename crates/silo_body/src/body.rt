@@ -1,0 +1,125 @@
+//! What a silo holds of all its tenants.
+
+ghost use Rattle.std.specs.Prelude.{◌≡◌, IfOk};
+ghost use Rattle.silo_model.specs.Opening.{opening};
+
+use crate::accounts::Accounts;
+use crate::activations::Activations;
+use grain_kinds::GrainLogic;
+use grain_storage::GrainStorage;
+use idle_collector::Collector;
+use silo_event::Reply;
+use std::alloc::{AllocError, Global};
+use std::marker::Model;
+use tenant_gate::TenantTable;
+
+mod ask;
+mod call;
+mod clock;
+mod entry;
+mod send;
+mod store;
+mod turn;
+
+/// All tenants' accounts, activations and rows, and the replies in the order in which they were made.
+/// The collector has notes of exactly the activations that are idle.
+#[derive(Drop)]
+pub struct Body<S: GrainStorage, L: GrainLogic> {
+    accounts: Accounts,
+    clock: u64,
+    activations: Activations<L>,
+    collector: Collector,
+    storage: S,
+    logic: L,
+    replies: Vec<Reply>,
+}
+
+impl<S: GrainStorage, L: GrainLogic> Model for Body<S, L> {
+    ghost use Rattle.std.specs.Coded.{codes};
+    ghost use Rattle.request_codec.specs.Code.{coded_tree};
+    ghost use Rattle.request_codec.specs.contracts.state.StateBytes as state;
+    ghost use Rattle.silo_model.specs.Codes.{by_grain_code, by_text_code, by_number_code};
+    ghost use Rattle.silo_body.specs.Held.{Held};
+    ghost use Rattle.silo_body.specs.Notes.{AreNoted};
+
+    ghost Value = { Held };
+
+    ghost coded = { Prim.hlevel (codes, by_grain_code, by_text_code, by_number_code, coded_tree, state.the_row.coded) };
+
+    ghost view = { λ b. record {
+      whole = record {
+        accounts = b.accounts;
+        age = b.collector.age;
+        clock = b.clock;
+        entries = b.activations;
+        rows = S.rows b.storage;
+        replies = b.replies.items;
+      };
+      failures = S.failed b.storage;
+    } };
+
+    ghost invariant = { λ b. AreNoted b.activations b.collector.lasts };
+}
+
+impl<S: GrainStorage + Drop, L: GrainLogic + Drop> Body<S, L> {
+    /// Nothing is asked yet, and nothing answered. The rows are those of the storage.
+    ///
+    /// # Errors
+    ///
+    /// Out of memory.
+    pub fn new(
+        alloc: Global,
+        table: &TenantTable,
+        age: u64,
+        storage: S,
+        logic: L,
+    ) -> Result<Body<S, L>, AllocError>
+        ensures { IfOk result (λ b. b ≡ record { whole = opening (record { tenants = table.now; age = age; rows = S.rows storage }); failures = S.failed storage }) }
+    {
+        Ok(Body {
+            accounts: Accounts::new(alloc, table)?,
+            clock: 0,
+            activations: Activations::new(alloc),
+            collector: Collector::new(alloc, age),
+            storage,
+            logic,
+            replies: Vec::new(alloc),
+        })
+    }
+}
+
+impl<S: GrainStorage, L: GrainLogic> Body<S, L> {
+    /// All replies, in the order in which they were made.
+    pub fn replies(&self) -> &[Reply]
+        ensures { result.now ≡ self.now.whole.replies }
+    {
+        self.replies.as_slice()
+    }
+
+    /// The moment of the clock, in milliseconds.
+    pub fn clock(&self) -> u64
+        ensures { result ≡ self.now.whole.clock }
+    {
+        self.clock
+    }
+
+    /// After how many milliseconds an idle activation may go.
+    pub fn age(&self) -> u64
+        ensures { result ≡ self.now.whole.age }
+    {
+        self.collector.age()
+    }
+
+    /// Where the rows are kept.
+    pub fn storage(&self) -> &S
+        ensures rows { S.rows result.now ≡ self.now.whole.rows }
+        ensures failures { S.failed result.now ≡ self.now.failures }
+    {
+        &self.storage
+    }
+
+    /// What the grains do with their messages.
+    pub fn logic(&self) -> &L {
+        &self.logic
+    }
+}

@@ -1,0 +1,1 @@
+//! How a request is accepted or refused.

@@ -1,0 +1,1 @@
+//! Steps of nobody: the clock goes on, and idle activations go.

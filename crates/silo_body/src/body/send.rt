@@ -1,0 +1,1 @@
+//! How what a grain sent is delivered.

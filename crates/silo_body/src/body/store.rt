@@ -1,0 +1,1 @@
+//! How a turn that asks for the storage is closed.
