@@ -39,8 +39,19 @@ module _ (logic : Logic) where
   pub marked-begun : (g : Grain) (mail : Contents) (waiting : List Request) → AllByRecursion (IsMarked logic g) waiting → AreMarked logic g mail → AreMarked logic g (begun mail waiting)
   marked-begun g mail [] all marked = marked
   marked-begun g mail (first ∷ others) all marked = record {
+    known = marked.known;
     waiting = all.1;
     opened = changed_all nat_cmp_total nat_cmp-IsAntisymmetric (λ n r. IsMarked logic g r) mail.opened (Some first.number) (put first) marked.opened all.0;
+    numbered = changed_all nat_cmp_total nat_cmp-IsAntisymmetric (λ n r. r.number ≡ n) mail.opened (Some first.number) (put first) marked.numbered refl;
+  }
+
+  -- by a turn that closes
+  pub marked-closed : (g : Grain) (mail : Contents) (number : ℕ) → AreMarked logic g mail → AreMarked logic g (record mail { opened = map.remove mail.opened number })
+  marked-closed g mail number marked = record {
+    known = marked.known;
+    waiting = marked.waiting;
+    opened = changed_all nat_cmp_total nat_cmp-IsAntisymmetric (λ n r. IsMarked logic g r) mail.opened (Some number) drop marked.opened tt;
+    numbered = changed_all nat_cmp_total nat_cmp-IsAntisymmetric (λ n r. r.number ≡ n) mail.opened (Some number) drop marked.numbered tt;
   }
 
 -- ---- the turn rule

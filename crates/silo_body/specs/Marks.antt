@@ -1,5 +1,5 @@
 -- Which requests are marked as ones that only read.
-use Rattle.std.specs.Prelude.{◌≡◌, ℕ, Some}
+use Rattle.std.specs.Prelude.{◌≡◌, ℕ, true, Some}
 use Rattle.std.specs.List.{AllByRecursion}
 use Rattle.std.specs.FinMap as map
 use Rattle.std.specs.FinMap.{FinMap}
@@ -13,10 +13,12 @@ use Rattle.activation_directory.specs.declared.activation.Activation.{Activation
 abbrev pub IsMarked : Logic → Grain → Request → Type 0
 IsMarked logic grain request = request.reading ≡ logic.is_read grain.kind request.message.method
 
--- Each request of a mailbox is marked so.
+-- The grain's kind is known, each request of its mailbox is marked so, and each open turn stands under its own number.
 pub record AreMarked (logic : Logic) (grain : Grain) (mail : Contents) : Type 0 where
+  pub known : logic.knows grain.kind ≡ true
   pub waiting : AllByRecursion (IsMarked logic grain) mail.waiting
   pub opened : (number : ℕ) (turn : Request) → map.get mail.opened number ≡ Some turn → IsMarked logic grain turn
+  pub numbered : (number : ℕ) (turn : Request) → map.get mail.opened number ≡ Some turn → turn.number ≡ number
 
 -- Each request of each grain is.
 abbrev pub AllMarked : Logic → FinMap grain_cmp Activation → Type 0
