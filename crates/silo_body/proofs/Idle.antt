@@ -1,5 +1,5 @@
 -- The notes stay those of the idle entries.
-use Rattle.std.proofs.Common.{◌≡◌, ℕ, ◌==◌, Bool, true, false, ◌&&◌, ◌<◌, arith, cond, List, Option, Some, None, refl, ap, sym, ◌∙◌}
+use Rattle.std.proofs.Common.{◌≡◌, ℕ, ◌==◌, Bool, true, false, ◌&&◌, ◌<◌, arith, cond, List, Option, Some, None, refl, ap, sym, ◌∙◌, subst}
 use Rattle.std.specs.Ordering.{eq_by_cmp, nat_cmp}
 use Rattle.std.specs.Cmp.{nat_cmp_total}
 use Rattle.std.specs.FinMap as map
@@ -10,7 +10,14 @@ use Rattle.grain_id.proofs.Order.{grain_cmp_total, grain_cmp_exact, eq_by_cmp-De
 use Rattle.grain_id.proofs.Maps as maps
 use Rattle.silo_model.specs.Machine.{Entry, Entries, Request}
 use Rattle.silo_model.proofs.Sights.{not_true}
-use Rattle.silo_body.specs.Notes.{idle_since, AreNoted}
+use Rattle.std.specs.Prelude.{unwrap_or, length}
+use Rattle.silo_event.specs.declared.reply.Party.{Party}
+use Rattle.silo_model.specs.Machine.{Phase}
+use Rattle.silo_model.specs.Idle.{is_ready}
+use Rattle.silo_body.specs.Entries.{closed_entry, ClosesEntry}
+use Rattle.silo_body.specs.Notes.{is_idle, idle_since, may_rest, AreNoted}
+use Rattle.idle_collector.specs.Notes.{Notes, noted, forgotten}
+use Rattle.idle_collector.proofs.Lasts.{taken_back}
 
 either_since : (b : Bool) (o p : Option Entry) → cond b (idle_since o) (idle_since p) ≡ idle_since (cond b o p)
 either_since true o p = refl
@@ -67,3 +74,74 @@ some_open turns n turn = not_true _ (λ none.
 -- some request waits
 pub some_waits : (n : ℕ) → 0 < n → (n == 0) ≡ false
 some_waits n some = not_true _ (λ none. let zero = (Decides-eqb n 0).0 none in absurd (omega (arith, some, zero)))
+
+-- an entry with an open turn is in use
+pub used-turn : (e : Entry) (n : ℕ) (turn : Request) → map.get e.turns n ≡ Some turn → idle_since (Some e) ≡ None
+used-turn e n turn at =
+    let some : (map.len e.turns == 0) ≡ false = not_true _ (λ none.
+    let gone : map.get e.turns n ≡ None = ap (λ (m : FinMap nat_cmp Request). map.get m n) (map.empty_of_len e.turns ((Decides-eqb _ 0).0 none)) ∙ map.get-empty nat_cmp n in
+    cc (gone, at)) in
+    ap (λ b. cond (may_rest e && b) (Some e.last) None) some ∙ ap (λ b. cond b (Some e.last) None) (and_false (may_rest e))
+
+-- ---- a grain that is noted before it is idle, and not if it isn't after all
+
+pub settled_age : (notes mid final : Notes) (g : Grain) (last : ℕ) (rests idle : Bool) → mid ≡ cond rests (noted notes g last) notes → final ≡ cond rests (cond idle mid (forgotten mid g)) mid → final.age ≡ notes.age
+settled_age notes mid final g last rests idle m f = ap (λ (n : Notes). n.age) f ∙ by rests idle ∙ ap (λ (n : Notes). n.age) m ∙ first rests
+  where
+    by : (r i : Bool) → (cond r (cond i mid (forgotten mid g)) mid).age ≡ mid.age
+    by true true = refl
+    by true false = refl
+    by false i = refl
+    first : (r : Bool) → (cond r (noted notes g last) notes).age ≡ notes.age
+    first true = refl
+    first false = refl
+
+-- taken back, the notes are as before
+pub settled_back : (entries : Entries) (notes mid final : Notes) (g : Grain) (last : ℕ) → AreNoted entries notes.lasts → idle_since (map.get entries g) ≡ None → (rests : Bool) → mid ≡ cond rests (noted notes g last) notes → final ≡ cond rests (forgotten mid g) mid → final ≡ notes
+settled_back entries notes mid final g last are none true m f = f ∙ ap (λ n. forgotten n g) m ∙ taken_back notes g last (are g ∙ none)
+settled_back entries notes mid final g last are none false m f = f ∙ m
+
+module _ (entries : Entries) (notes : Notes) (are : AreNoted entries notes.lasts) (g : Grain) (none : idle_since (map.get entries g) ≡ None) (after : Entry) where
+  settled_by : (rests idle : Bool) → is_idle after ≡ idle → (idle ≡ true → rests ≡ true)
+      → AreNoted (map.insert entries g after) (cond rests (cond idle (cond rests (noted notes g after.last) notes) (forgotten (cond rests (noted notes g after.last) notes) g)) (cond rests (noted notes g after.last) notes)).lasts
+  settled_by true true is quiet = noted-idle entries notes.lasts are g after after.last (ap (λ b. cond b (Some after.last) None) is)
+  settled_by true false is quiet =
+      subst (λ lasts. AreNoted (map.insert entries g after) lasts) (sym (maps.remove-insert grain_cmp_total grain_cmp_exact notes.lasts g after.last))
+      (noted-used entries notes.lasts are g after (ap (λ b. cond b (Some after.last) None) is))
+  settled_by false true is quiet = absurd (let e = quiet refl in cc)
+  settled_by false false is quiet = noted-same entries notes.lasts are g after (ap (λ b. cond b (Some after.last) None) is ∙ sym none)
+
+  pub settled : (rests idle : Bool) (mid final : Notes) → idle ≡ is_idle after → (idle ≡ true → rests ≡ true) → mid ≡ cond rests (noted notes g after.last) notes → final ≡ cond rests (cond idle mid (forgotten mid g)) mid
+      → AreNoted (map.insert entries g after) final.lasts
+  settled rests idle mid final is quiet m f =
+      subst (λ (n : Notes). AreNoted (map.insert entries g after) n.lasts) (sym (f ∙ (λ i. cond rests (cond idle (m i) (forgotten (m i) g)) (m i)))) (settled_by rests idle (sym is) quiet)
+
+left_true : (a b : Bool) → a && b ≡ true → a ≡ true
+left_true true b e = refl
+left_true false b e = absurd cc
+
+the_same : {X : Type 0} (x y : X) → Some x ≡ Some y → x ≡ y
+the_same x y e = cc (e)
+
+-- the notes after a turn was closed: the grain was noted before, if it might be idle then
+module _ (entries : Entries) (notes : Notes) (are : AreNoted entries notes.lasts) (g : Grain) (turn : ℕ) (phase : Option Phase) (last : ℕ) (sender : Party) (idle : Bool) (new : Entries)
+    (d : ClosesEntry entries g turn phase last sender idle new) (e : Entry) (found : map.get entries g ≡ Some e) (ready : is_ready (unwrap_or phase e.phase) ≡ true → is_ready e.phase ≡ true) where
+  was : d.before ≡ e
+  was = the_same d.before e (sym d.found ∙ found)
+
+  after : Entry
+  after = closed_entry d.before d.request phase last
+
+  quiet_by : (b : Bool) → is_ready (unwrap_or phase d.before.phase) && (length d.before.queue == 0) ≡ b → b ≡ true → may_rest d.before ≡ true
+  quiet_by b is holds = rests (is_ready (unwrap_or phase d.before.phase)) refl (length d.before.queue == 0) (is ∙ holds)
+    where
+      rests : (r : Bool) → is_ready (unwrap_or phase d.before.phase) ≡ r → (w : Bool) → r && w ≡ true → is_ready d.before.phase && w ≡ true
+      rests true is w both = ap (λ b. b && w) (ap (λ (x : Entry). is_ready x.phase) was ∙ ready (ap (λ (x : Entry). is_ready (unwrap_or phase x.phase)) (sym was) ∙ is)) ∙ both
+      rests false is w both = absurd cc
+
+  pub closing_noted : (rests : Bool) (mid final : Notes) → rests ≡ may_rest e → mid ≡ cond rests (noted notes g last) notes → final ≡ cond rests (cond idle mid (forgotten mid g)) mid → AreNoted new final.lasts
+  closing_noted rests mid final is m f =
+      subst (λ (es : Entries). AreNoted es final.lasts) (sym d.put)
+      (settled entries notes are g (ap idle_since d.found ∙ used-turn d.before turn d.request d.open_turn) (closed_entry d.before d.request phase last) rests idle mid final d.idle_is
+      (λ quiet. is ∙ ap may_rest (sym was) ∙ quiet_by _ refl (left_true _ _ (sym d.idle_is ∙ quiet))) m f)
+

@@ -5,3 +5,4 @@ pub mod Turns
 pub mod Idle
 pub mod Shows
 pub mod Steps
+pub mod Sweeps

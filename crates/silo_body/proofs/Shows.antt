@@ -1,8 +1,10 @@
 -- What the calls of the activations leave, seen as entries.
-use Rattle.std.proofs.Common.{◌≡◌, Bool, true, false, Option, Some, None, refl, ap, sym, ◌∙◌, subst}
-use Rattle.std.specs.Prelude.{Result, Ok, Err, IfOk, OnOk, OnErr, if◌then◌else◌, option_and_then, option_map}
+use Rattle.std.proofs.Common.{◌≡◌, ℕ, Bool, true, false, ◌==◌, ◌&&◌, Option, Some, None, refl, ap, sym, ◌∙◌, subst}
+use Rattle.std.specs.Prelude.{Result, Ok, Err, IfOk, OnOk, OnErr, if◌then◌else◌, option_and_then, option_map, unwrap_or}
 use Rattle.std.specs.FinMap as map
-use Rattle.std.specs.FinMap.{FinMap}
+use Rattle.std.specs.FinMap.{FinMap, nat_cmp-IsAntisymmetric}
+use Rattle.std.specs.Cmp.{nat_cmp_total}
+use Rattle.std.proofs.lemmas.List.{length-map}
 use Rattle.grain_id.specs.Names.{Grain, grain_cmp}
 use Rattle.grain_id.proofs.Order.{grain_cmp_total, grain_cmp_exact}
 use Rattle.grain_id.proofs.ByGrain.{insert-again}
@@ -10,18 +12,23 @@ use Rattle.grain_kinds.specs.Logic.{Logic}
 use Rattle.grain_kinds.specs.declared.turn.OpenedTurn.{OpenedTurn}
 use Rattle.silo_event.specs.declared.step.Answer.{Answer}
 use Rattle.silo_event.specs.declared.step.Answer.TheVariants.{Done, Failed, NotNow}
-use Rattle.turn_mailbox.specs.Contents.{Contents, begun, may_begin}
-use Rattle.turn_mailbox.proofs.Mapped.{get-mapped, mapped-insert}
+use Rattle.request_codec.specs.Tree.{Tree}
+use Rattle.silo_event.specs.declared.reply.Party.{Party}
+use Rattle.turn_mailbox.specs.declared.request.Request.{Request}
+use Rattle.turn_mailbox.specs.Contents.{Contents, begun, may_begin, is_idle as mail_is_idle}
+use Rattle.turn_mailbox.proofs.Mapped.{get-mapped, mapped-insert, mapped-remove, len-mapped}
 use Rattle.activation_directory.specs.declared.activation.Activation.{Activation}
 use Rattle.activation_directory.specs.declared.activation.Phase.{Phase}
 use Rattle.activation_directory.specs.declared.activation.Phase.TheVariants.{Waiting, Loading, Ready}
 use Rattle.silo_model.specs.Machine.{Entries}
 use Rattle.silo_model.specs.Turns as model
-use Rattle.silo_body.specs.Shown.{entry_of, entries_of}
+use Rattle.silo_body.specs.Shown.{request_of, phase_of, entry_of, entries_of}
+use Rattle.silo_body.specs.Notes.{is_idle}
+use Rattle.silo_model.specs.Idle.{is_ready}
 use Rattle.silo_body.specs.Marks.{AreMarked, AllMarked}
-use Rattle.silo_body.specs.Changes.{Starts, turn_at, mail_begun}
-use Rattle.silo_body.specs.Entries.{Activates, Begins, opened_turn}
-use Rattle.silo_body.proofs.Requests.{marked-put, marked-begun}
+use Rattle.silo_body.specs.Changes.{Starts, turn_at, mail_begun, ClosesTurn}
+use Rattle.silo_body.specs.Entries.{Activates, Begins, opened_turn, closed_entry, ClosesEntry, Closes}
+use Rattle.silo_body.proofs.Requests.{marked-put, marked-removed, marked-begun, marked-closed}
 use Rattle.silo_body.proofs.Turns.{turn-opened, begins}
 
 -- the entry of a grain, by its activation
@@ -87,3 +94,49 @@ module _ (logic : Logic) (m : FinMap grain_cmp Activation) (g : Grain) (a after 
   }
   start_shows Failed d = absurd d
   start_shows NotNow d = (ap (option_and_then (λ e. model.activated e e.phase)) entry_found ∙ d.0, unmoved d.1)
+
+-- ---- closing a turn
+
+phase_put : (phase : Option Phase) (old : Phase) → phase_of (unwrap_or phase old) ≡ unwrap_or (option_map phase_of phase) (phase_of old)
+phase_put None old = refl
+phase_put (Some phase) old = refl
+
+-- an idle mailbox of a ready activation is an idle entry
+pub idle_mail : (a : Activation) (state : Tree) (version : Option ℕ) → a.phase ≡ Ready state version → mail_is_idle a.mailbox ≡ is_idle (entry_of a)
+idle_mail a state version is =
+    λ i. is_ready (phase_of (sym is i)) && (sym (length-map a.mailbox.waiting request_of) i == 0) && (sym (len-mapped nat_cmp_total nat_cmp-IsAntisymmetric request_of a.mailbox.opened) i == 0)
+
+module _ (logic : Logic) (m : FinMap grain_cmp Activation) (g : Grain) (a after : Activation) (found : map.get m g ≡ Some a) (all : AllMarked logic m) (turn : ℕ) (phase : Option Phase) (last : ℕ) where
+  module _ (sender : Party) (d : ClosesTurn a turn phase last sender after) where
+    closed_is : entry_of after ≡ closed_entry (entry_of a) (request_of d.request) (option_map phase_of phase) last
+    closed_is = ap entry_of d.left ∙ (λ i. record {
+      phase = phase_put phase a.phase i;
+      queue = (entry_of a).queue;
+      turns = (mapped-remove nat_cmp_total nat_cmp-IsAntisymmetric request_of a.mailbox.opened turn ∙ ap (map.remove (entry_of a).turns) (sym ((all g a found).numbered turn d.request d.open_turn))) i;
+      last = last;
+    })
+
+    pub close_shows : (idle : Bool) → idle ≡ is_idle (entry_of after) → ClosesEntry (entries_of m) g turn (option_map phase_of phase) last sender idle (entries_of (map.insert m g after))
+    close_shows idle is = record {
+      before = entry_of a;
+      request = request_of d.request;
+      found = get-entries m g (Some a) found;
+      open_turn = get-mapped nat_cmp_total nat_cmp-IsAntisymmetric request_of a.mailbox.opened turn ∙ ap (option_map request_of) d.open_turn;
+      sender_is = d.sender_is;
+      idle_is = is ∙ ap is_idle closed_is;
+      put = entries-put m g after ∙ ap (map.insert (entries_of m) g) closed_is;
+    }
+
+    pub close_marked : AllMarked logic (map.insert m g after)
+    close_marked = marked-put logic m g after all (subst (λ (x : Activation). AreMarked logic g x.mailbox) (sym d.left) (marked-closed logic g a.mailbox turn (all g a found)))
+
+  pub close_not : (map.get a.mailbox.opened turn ≡ None) × (after ≡ a) → Closes (entries_of m) g turn (option_map phase_of phase) last None (entries_of (map.insert m g after))
+  close_not d = (
+    ap (option_and_then (λ e. map.get e.turns turn)) (get-entries m g (Some a) found) ∙ get-mapped nat_cmp_total nat_cmp-IsAntisymmetric request_of a.mailbox.opened turn ∙ ap (option_map request_of) d.0,
+    unmoved logic m g a after found d.1,
+  )
+
+-- a turn of an activation is one of its entry
+pub turn_shown : (entries : Entries) (g : Grain) (a : Activation) (turn : ℕ) (found : Option Request) → map.get entries g ≡ Some (entry_of a) → map.get a.mailbox.opened turn ≡ found
+    → option_and_then (λ e. map.get e.turns turn) (map.get entries g) ≡ option_map request_of found
+turn_shown entries g a turn found is at = ap (option_and_then (λ e. map.get e.turns turn)) is ∙ get-mapped nat_cmp_total nat_cmp-IsAntisymmetric request_of a.mailbox.opened turn ∙ ap (option_map request_of) at

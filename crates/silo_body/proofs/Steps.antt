@@ -1,5 +1,5 @@
 -- What the body's calls come to, as steps of the whole.
-use Rattle.std.proofs.Common.{◌≡◌, ℕ, Option, Some, None, refl, ap, sym, ◌∙◌, subst}
+use Rattle.std.proofs.Common.{◌≡◌, ℕ, Option, Some, None, Bool, List, ◌++◌, refl, ap, sym, ◌∙◌, subst}
 use Rattle.std.specs.Prelude.{Result, Ok, Err, IfOk, OnErr, option_and_then}
 use Rattle.std.specs.FinMap as map
 use Rattle.std.specs.FinMap.{FinMap}
@@ -8,17 +8,22 @@ use Rattle.grain_kinds.specs.Logic.{Logic}
 use Rattle.grain_kinds.specs.declared.turn.OpenedTurn.{OpenedTurn}
 use Rattle.silo_event.specs.declared.step.Answer.{Answer}
 use Rattle.silo_event.specs.declared.step.Answer.TheVariants.{Done, Failed, NotNow}
-use Rattle.silo_event.specs.declared.step.Step.TheVariants.{Activate, Begin}
+use Rattle.silo_event.specs.declared.step.Step.TheVariants.{Activate, Begin, Abandon}
 use Rattle.silo_model.specs.Machine.{Entry, Entries, waiting}
 use Rattle.silo_model.specs.Step.{effect_of}
 use Rattle.silo_model.specs.Turns.{activated, begun}
 use Rattle.silo_model.specs.Whole.{Whole, whole_step}
 use Rattle.silo_model.proofs.Sights.{step_at_own}
+use Rattle.silo_event.specs.declared.fault.Fault.TheVariants.{NoMemory}
+use Rattle.silo_event.specs.declared.reply.Party.{Party}
+use Rattle.silo_event.specs.declared.reply.Reply.{Reply}
+use Rattle.silo_model.specs.Calls.{answered}
+use Rattle.silo_model.proofs.TurnSteps.{abandon_absent, abandon_closed, abandon_turn}
 use Rattle.silo_model.proofs.EntrySteps.{activate_waiting, begin_does}
 use Rattle.silo_body.specs.Held.{Held}
 use Rattle.silo_body.specs.Moves.{Moves, done_if}
 use Rattle.silo_body.specs.Notes.{idle_since, AreNoted}
-use Rattle.silo_body.specs.Entries.{Activates, Begins}
+use Rattle.silo_body.specs.Entries.{Activates, Begins, ClosesEntry}
 use Rattle.silo_body.proofs.Idle.{noted-same}
 
 -- the body with other entries
@@ -70,3 +75,30 @@ module _ (entries : Entries) (lasts : FinMap grain_cmp ℕ) (noted : AreNoted en
   pub begins_noted : {E : Type 0} (logic : Logic) (result : Result (Option OpenedTurn) E) (new : Entries) → IfOk result (λ turn. Begins logic entries g turn new) → OnErr result (new ≡ entries) → AreNoted new lasts
   begins_noted logic (Ok turn) new d same = begin_noted logic turn new d
   begins_noted logic (Err e) new d same = moved entries new noted same
+
+-- ---- closing a turn
+
+module _ (logic : Logic) (h : Held) (g : Grain) (turn : ℕ) where
+  -- no such turn is open
+  pub abandon_none : option_and_then (λ e. map.get e.turns turn) (map.get h.whole.entries g) ≡ None → whole_step logic h.whole (Abandon g turn) ≡ None
+  abandon_none none = by (map.get h.whole.entries g) refl none
+    where
+      by : (found : Option Entry) → map.get h.whole.entries g ≡ found → option_and_then (λ e. map.get e.turns turn) found ≡ None → whole_step logic h.whole (Abandon g turn) ≡ None
+      by None is none = abandon_absent logic h.whole g turn is
+      by (Some e) is none = abandon_closed logic h.whole g turn e is none
+
+  -- the body with other entries and replies, and notes of the same age
+  abbrev pub closed_held : ℕ → Entries → List Reply → Held
+  closed_held age entries replies = record h { whole = record h.whole { age = age; entries = entries; replies = replies } }
+
+  pub abandon_moves : (age : ℕ) (sender : Party) (idle : Bool) (new : Entries) (replies : List Reply) → age ≡ h.whole.age → ClosesEntry h.whole.entries g turn None h.whole.clock sender idle new
+      → replies ≡ h.whole.replies ++ answered sender (Err NoMemory) → Moves logic h (Abandon g turn) (Ok Done) (closed_held age new replies)
+  abandon_moves age sender idle new replies aged d told = (
+    abandon_turn logic h.whole g turn d.before d.found d.request d.open_turn
+        ∙ (λ i. Some (record h.whole {
+          age = sym aged i;
+          entries = sym d.put i;
+          replies = sym (told ∙ ap (λ s. h.whole.replies ++ answered s (Err NoMemory)) d.sender_is) i;
+        })),
+    refl,
+  )

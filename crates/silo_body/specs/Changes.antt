@@ -1,11 +1,14 @@
 -- What becomes of one activation.
-use Rattle.std.specs.Prelude.{◌≡◌, ℕ, Option, Some, None, if◌then◌else◌}
+use Rattle.std.specs.Prelude.{◌≡◌, ℕ, Option, Some, None, if◌then◌else◌, unwrap_or}
+use Rattle.std.specs.FinMap as map
 use Rattle.grain_id.specs.Names.{Grain}
 use Rattle.grain_kinds.specs.declared.turn.OpenedTurn.{OpenedTurn}
+use Rattle.turn_mailbox.specs.declared.request.Request.{Request}
 use Rattle.turn_mailbox.specs.Contents.{Contents, may_begin, begun, turn_of}
 use Rattle.activation_directory.specs.declared.activation.Activation.{Activation}
 use Rattle.activation_directory.specs.declared.activation.Phase.{Phase}
 use Rattle.activation_directory.specs.declared.activation.Phase.TheVariants.{Waiting, Loading, Ready}
+use Rattle.silo_event.specs.declared.reply.Party.{Party}
 use Rattle.silo_event.specs.declared.step.Answer.{Answer}
 use Rattle.silo_event.specs.declared.step.Answer.TheVariants.{Done, Failed, NotNow}
 use Rattle.silo_model.specs.Machine.{waiting}
@@ -29,3 +32,17 @@ abbrev pub mail_begun : Contents → Phase → Contents
 mail_begun mail Waiting = mail
 mail_begun mail Loading = mail
 mail_begun mail (Ready state version) = if may_begin mail then begun mail mail.waiting else mail
+
+-- ---- closing a turn
+
+-- A turn was open and is closed: the activation is in this phase, if one is given, and was last used then.
+pub record ClosesTurn (old : Activation) (turn : ℕ) (phase : Option Phase) (last : ℕ) (sender : Party) (new : Activation) : Type 0 where
+  pub request : Request
+  pub open_turn : map.get old.mailbox.opened turn ≡ Some request
+  pub sender_is : sender ≡ request.sender
+  pub left : new ≡ record old { phase = unwrap_or phase old.phase; mailbox = record old.mailbox { opened = map.remove old.mailbox.opened turn }; last = last }
+
+-- Who asked for the turn that is closed; or that turn isn't open, and nothing changed.
+abbrev pub EndsTurn : Activation → ℕ → Option Phase → ℕ → Option Party → Activation → Type 0
+EndsTurn old turn phase last None new = (map.get old.mailbox.opened turn ≡ None) × (new ≡ old)
+EndsTurn old turn phase last (Some sender) new = ClosesTurn old turn phase last sender new

@@ -1,16 +1,17 @@
 -- What the calls of the activations answer and leave, in the words of entries.
-use Rattle.std.specs.Prelude.{◌≡◌, ℕ, List, [], ◌∷◌, Option, Some, None, option_and_then, if◌then◌else◌}
+use Rattle.std.specs.Prelude.{◌≡◌, ℕ, Bool, unwrap_or, List, [], ◌∷◌, Option, Some, None, option_and_then, if◌then◌else◌}
 use Rattle.std.specs.FinMap as map
 use Rattle.grain_id.specs.Names.{Grain}
 use Rattle.request_codec.specs.Tree.{Tree}
 use Rattle.grain_kinds.specs.Logic.{Logic}
 use Rattle.grain_kinds.specs.declared.turn.OpenedTurn.{OpenedTurn}
+use Rattle.silo_event.specs.declared.reply.Party.{Party}
 use Rattle.silo_event.specs.declared.step.Answer.{Answer}
 use Rattle.silo_event.specs.declared.step.Answer.TheVariants.{Done, Failed, NotNow}
 use Rattle.silo_model.specs.Machine.{Entry, Entries, Request, Phase, waiting, loading, ready}
 use Rattle.silo_model.specs.Effect.{on_entry}
 use Rattle.silo_model.specs.Turns.{activated, reads, may_open, begun}
-use Rattle.silo_body.specs.Notes.{idle_since}
+use Rattle.silo_body.specs.Notes.{is_idle, idle_since}
 
 -- ---- activating
 
@@ -59,3 +60,24 @@ pub record Opens (logic : Logic) (old : Entries) (grain : Grain) (new : Entries)
 abbrev pub Begins : Logic → Entries → Grain → Option OpenedTurn → Entries → Type 0
 Begins logic old grain None new = (option_and_then (λ e. begun logic grain e e.phase) (map.get old grain) ≡ None) × (new ≡ old)
 Begins logic old grain (Some turn) new = Opens logic old grain new
+
+-- ---- closing a turn
+
+-- the entry without the turn of the request: in this phase, if one is given, and last used then
+abbrev pub closed_entry : Entry → Request → Option Phase → ℕ → Entry
+closed_entry e request phase last = record e { phase = unwrap_or phase e.phase; turns = map.remove e.turns request.number; last = last }
+
+-- A turn of a request was open, under its number, and is closed; the sender asked for it, and the entry is idle or not.
+pub record ClosesEntry (old : Entries) (grain : Grain) (turn : ℕ) (phase : Option Phase) (last : ℕ) (sender : Party) (idle : Bool) (new : Entries) : Type 0 where
+  pub before : Entry
+  pub request : Request
+  pub found : map.get old grain ≡ Some before
+  pub open_turn : map.get before.turns turn ≡ Some request
+  pub sender_is : sender ≡ request.sender
+  pub idle_is : idle ≡ is_idle (closed_entry before request phase last)
+  pub put : new ≡ map.insert old grain (closed_entry before request phase last)
+
+-- A turn is closed; or that turn isn't open, and nothing changed.
+abbrev pub Closes : Entries → Grain → ℕ → Option Phase → ℕ → Option (Party × Bool) → Entries → Type 0
+Closes old grain turn phase last None new = (option_and_then (λ e. map.get e.turns turn) (map.get old grain) ≡ None) × (new ≡ old)
+Closes old grain turn phase last (Some closed) new = ClosesEntry old grain turn phase last closed.0 closed.1 new

@@ -8,3 +8,4 @@ pub mod Changes
 pub mod Entries
 pub mod Held
 pub mod Moves
+pub mod Sweeps

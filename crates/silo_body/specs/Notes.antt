@@ -18,3 +18,7 @@ idle_since (Some e) = if is_idle e then Some e.last else None
 -- the notes are those of the idle entries
 abbrev pub AreNoted : Entries → FinMap grain_cmp ℕ → Type 0
 AreNoted entries lasts = (grain : Grain) → map.get lasts grain ≡ idle_since (map.get entries grain)
+
+-- ready, with no request that waits: idle, once no turn is open
+abbrev pub may_rest : Entry → Bool
+may_rest e = is_ready e.phase && (length e.queue == 0)

@@ -1,12 +1,14 @@
 //! What becomes of one activation.
 
 ghost use Rattle.std.specs.Prelude.{◌≡◌, IfOk, OnOk, OnErr};
-ghost use Rattle.silo_body.specs.Changes.{Starts, turn_at, mail_begun};
+ghost use Rattle.silo_body.specs.Changes.{Starts, turn_at, mail_begun, EndsTurn};
+ghost use Rattle.silo_body.specs.Shown.{entry_of};
+ghost use Rattle.silo_body.specs.Notes.{may_rest, is_idle};
 
 use activation_directory::{Activation, Phase};
 use grain_id::GrainId;
 use grain_kinds::OpenedTurn;
-use silo_event::Answer;
+use silo_event::{Answer, Party};
 use std::alloc::AllocError;
 
 /// It begins to load, if it waits.
@@ -32,5 +34,45 @@ pub fn begin(grain: &GrainId, activation: &mut Activation) -> Result<Option<Open
         Phase::Waiting => Ok(None),
         Phase::Loading => Ok(None),
         Phase::Ready { state, .. } => activation.mailbox.begin(grain, state),
+    }
+}
+
+/// Closes its turn of that number: who asked for it, if it is open. The activation is then in this
+/// phase, if one is given, and was last used at this moment.
+pub fn close(
+    activation: &mut Activation,
+    turn: u64,
+    phase: Option<Phase>,
+    last: u64,
+) -> Option<Party>
+    ensures { EndsTurn activation.old turn phase last result activation.new }
+{
+    let Ok(request) = activation.mailbox.finish(turn) else {
+        return None;
+    };
+    if let Some(phase) = phase {
+        activation.phase = phase;
+    }
+    activation.last = last;
+    Some(request.sender)
+}
+
+/// Whether it is ready, and no request waits.
+pub fn may_rest(activation: &Activation) -> bool
+    ensures { result ≡ may_rest (entry_of activation.now) }
+{
+    match activation.phase {
+        Phase::Ready { .. } => activation.mailbox.len() == 0,
+        _ => false,
+    }
+}
+
+/// Whether it is ready, no request waits and no turn is open.
+pub fn is_idle(activation: &Activation) -> bool
+    ensures { result ≡ is_idle (entry_of activation.now) }
+{
+    match activation.phase {
+        Phase::Ready { .. } => activation.mailbox.is_idle(),
+        _ => false,
     }
 }

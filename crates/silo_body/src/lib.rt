@@ -12,5 +12,7 @@ mod accounts;
 mod activations;
 mod body;
 mod change;
+mod notes;
+mod telling;
 
 pub use body::Body;

@@ -211,6 +211,19 @@ impl Mailbox {
         false
     }
 
+    /// The requests that wait, out of a mailbox that goes. Takes no memory.
+    pub fn into_waiting(self) -> VecDeque<Request>
+        ensures { result.items ≡ self.waiting }
+    {
+        let Mailbox {
+            waiting,
+            places: _,
+            turns: _,
+            capacity: _,
+        } = self;
+        waiting
+    }
+
     /// Closes the turn of that number: its request. Takes no memory.
     pub fn finish(&mut self, number: u64) -> Result<Request, NoTurn>
         ensures { Finishes self.old number result self.new }

@@ -7,9 +7,12 @@ ghost use Rattle.silo_body.specs.Entries.{opened_turn};
 ghost use Rattle.silo_body.specs.Moves.{Moves, done_if};
 
 use crate::body::Body;
+use crate::telling::tell;
+use crate::{change, notes};
 use grain_id::GrainId;
 use grain_kinds::{GrainLogic, OpenedTurn};
 use grain_storage::GrainStorage;
+use silo_event::{Answer, Fault, StepFault};
 use std::alloc::AllocError;
 
 impl<S: GrainStorage, L: GrainLogic> Body<S, L> {
@@ -25,5 +28,30 @@ impl<S: GrainStorage, L: GrainLogic> Body<S, L> {
         ensures unchanged { OnErr result (self.new ≡ self.old) }
     {
         self.activations.begin(grain)
+    }
+
+    /// A turn that ran out of memory is closed, and its sender is told so.
+    ///
+    /// # Errors
+    ///
+    /// Out of memory: nothing changed.
+    pub fn abandon(&mut self, grain: &GrainId, turn: u64) -> Result<Answer, StepFault>
+        ensures { Moves L.logic self.old (step.Abandon grain.now turn) result self.new }
+    {
+        let Some(activation) = self.activations.get(grain) else {
+            return Ok(Answer::NotNow);
+        };
+        let Some(_open) = activation.mailbox.opened(turn) else {
+            return Ok(Answer::NotNow);
+        };
+        let rests = change::may_rest(activation);
+        self.replies.reserve(1)?;
+        notes::expect(&mut self.collector, grain, rests, self.clock)?;
+        let Some((sender, idle)) = self.activations.close(grain, turn, None, self.clock) else {
+            unreachable!()
+        };
+        notes::settle(&mut self.collector, grain, rests, idle);
+        tell(&mut self.replies, sender, Err(Fault::NoMemory));
+        Ok(Answer::Done)
     }
 }
