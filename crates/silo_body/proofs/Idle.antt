@@ -92,6 +92,7 @@ settled_age notes mid final g last rests idle m f = ap (λ (n : Notes). n.age) f
     by true true = refl
     by true false = refl
     by false i = refl
+
     first : (r : Bool) → (cond r (noted notes g last) notes).age ≡ notes.age
     first true = refl
     first false = refl
@@ -120,7 +121,7 @@ left_true : (a b : Bool) → a && b ≡ true → a ≡ true
 left_true true b e = refl
 left_true false b e = absurd cc
 
-the_same : {X : Type 0} (x y : X) → Some x ≡ Some y → x ≡ y
+pub the_same : {X : Type 0} (x y : X) → Some x ≡ Some y → x ≡ y
 the_same x y e = cc (e)
 
 -- the notes after a turn was closed: the grain was noted before, if it might be idle then
@@ -144,4 +145,3 @@ module _ (entries : Entries) (notes : Notes) (are : AreNoted entries notes.lasts
       subst (λ (es : Entries). AreNoted es final.lasts) (sym d.put)
       (settled entries notes are g (ap idle_since d.found ∙ used-turn d.before turn d.request d.open_turn) (closed_entry d.before d.request phase last) rests idle mid final d.idle_is
       (λ quiet. is ∙ ap may_rest (sym was) ∙ quiet_by _ refl (left_true _ _ (sym d.idle_is ∙ quiet))) m f)
-

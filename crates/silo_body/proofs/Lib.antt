@@ -6,3 +6,4 @@ pub mod Idle
 pub mod Shows
 pub mod Steps
 pub mod Sweeps
+pub mod Ends

@@ -140,3 +140,6 @@ module _ (logic : Logic) (m : FinMap grain_cmp Activation) (g : Grain) (a after 
 pub turn_shown : (entries : Entries) (g : Grain) (a : Activation) (turn : ℕ) (found : Option Request) → map.get entries g ≡ Some (entry_of a) → map.get a.mailbox.opened turn ≡ found
     → option_and_then (λ e. map.get e.turns turn) (map.get entries g) ≡ option_map request_of found
 turn_shown entries g a turn found is at = ap (option_and_then (λ e. map.get e.turns turn)) is ∙ get-mapped nat_cmp_total nat_cmp-IsAntisymmetric request_of a.mailbox.opened turn ∙ ap (option_map request_of) at
+
+pub get-turns : (a : Activation) (turn : ℕ) (found : Option Request) → map.get a.mailbox.opened turn ≡ found → map.get (entry_of a).turns turn ≡ option_map request_of found
+get-turns a turn found at = get-mapped nat_cmp_total nat_cmp-IsAntisymmetric request_of a.mailbox.opened turn ∙ ap (option_map request_of) at

@@ -9,3 +9,4 @@ pub mod Entries
 pub mod Held
 pub mod Moves
 pub mod Sweeps
+pub mod Finds

@@ -18,6 +18,12 @@ Moves logic old s (Ok NotNow) new = (whole_step logic old.whole s ≡ None) × (
 Moves logic old s (Err Memory) new = new ≡ old
 Moves logic old s (Err Stranger) new = ⊥
 
+-- The same of a step that closes a turn: it may be refused because the finished turn isn't the turn's own, and then nothing changed.
+abbrev pub Ends : Logic → Held → Step → Result Answer StepFault → Held → Type 0
+Ends logic old s (Ok answer) new = Moves logic old s (Ok answer) new
+Ends logic old s (Err Memory) new = new ≡ old
+Ends logic old s (Err Stranger) new = new ≡ old
+
 -- done where there is something, and not possible otherwise
 abbrev pub done_if : {A : Type 0} → Option A → Answer
 done_if None = NotNow

@@ -1,12 +1,16 @@
 //! What is kept of a known tenant.
 
-ghost use Rattle.std.specs.Prelude.{◌≡◌, ◌+◌, ◌<◌, ◌≤◌};
+ghost use Rattle.std.specs.Prelude.{◌≡◌, ◌+◌, ◌<◌, ◌≤◌, ◌++◌, OnOk, OnErr, IfOk, length, map};
+ghost use Rattle.std.specs.VecDeque.{deque_len, deque_capacity};
+ghost use Rattle.grain_kinds.specs.Finished.{sent};
+ghost use Rattle.silo_model.specs.Turns.{sent_by};
+ghost use Rattle.silo_body.specs.Sends.{send_of};
 ghost use Rattle.silo_model.specs.Opening.{fresh_account};
 ghost use Rattle.silo_model.specs.Calls.{last_number};
 
 use grain_id::GrainId;
 use request_codec::Message;
-use std::alloc::Global;
+use std::alloc::{AllocError, Global};
 use std::collections::VecDeque;
 use std::marker::Model;
 use tenant_gate::Limits;
@@ -79,4 +83,47 @@ impl Account {
     {
         self.count += 1;
     }
+
+    /// Its grains sent these, after what they sent before.
+    ///
+    /// # Errors
+    ///
+    /// Out of memory: the account is as before.
+    pub fn send(&mut self, sent: VecDeque<Sent>) -> Result<(), AllocError>
+        ensures done { OnOk result (self.new ≡ record self.old { sends = self.old.sends ++ map send_of sent.items }) }
+        ensures unchanged { OnErr result (self.new ≡ self.old) }
+    {
+        self.sends.reserve(sent.len())?;
+        add_all(&mut self.sends, sent);
+        Ok(())
+    }
+}
+
+/// Puts calls behind others, where there is room.
+fn add_all(sends: &mut VecDeque<Sent>, mut sent: VecDeque<Sent>)
+    requires { length sent.items + deque_len sends.old ≤ deque_capacity sends.old }
+    ensures { sends.new.items ≡ sends.old.items ++ sent.items }
+{
+    while let Some(one) = sent.pop_front() {
+        sends.push_back_reserved(one);
+    }
+}
+
+/// The calls that a grain sends, of which a turn has the targets and the messages.
+pub fn sent_by(
+    alloc: Global,
+    source: &GrainId,
+    sends: &[(GrainId, Message)],
+) -> Result<VecDeque<Sent>, AllocError>
+    ensures { IfOk result (λ calls. map send_of calls.items ≡ sent_by source.now (map sent sends.now)) }
+{
+    let mut calls = VecDeque::new(alloc);
+    for (target, message) in sends {
+        calls.push_back(Sent {
+            source: source.clone()?,
+            target: target.clone()?,
+            message: message.clone()?,
+        })?;
+    }
+    Ok(calls)
 }

@@ -1,17 +1,19 @@
 //! The accounts of the known tenants.
 
-ghost use Rattle.std.specs.Prelude.{◌≡◌, IfOk, OnOk, ℕ, List, Some, if◌then◌else◌};
+ghost use Rattle.std.specs.Prelude.{◌≡◌, IfOk, OnOk, OnErr, map as map_list, ℕ, List, Some, if◌then◌else◌};
 ghost use Rattle.std.specs.Option.{option_copied, option_copied_mut};
 ghost use Rattle.std.specs.Borrow.{sem};
 ghost use Rattle.std.specs.FinMap as map;
 ghost use Rattle.std.specs.BTreeMap.{get_by_text};
 ghost use Rattle.grain_id.specs.Names.{same_text};
+ghost use Rattle.silo_model.specs.Effect.{change_at};
 ghost use Rattle.silo_model.specs.Opening.{fresh_account, fresh_accounts};
+ghost use Rattle.silo_body.specs.Sends.{send_of, with_more};
 
-use crate::account::Account;
+use crate::account::{Account, Sent};
 use grain_id::Tenant;
 use std::alloc::{AllocError, Global};
-use std::collections::BTreeMap;
+use std::collections::{BTreeMap, VecDeque};
 use std::marker::Model;
 use tenant_gate::{Limits, TenantTable};
 
@@ -66,6 +68,24 @@ impl Accounts {
         ensures value { option_copied_mut result ≡ map.get self.old tenant.now }
     {
         self.by_name.get_mut(tenant)
+    }
+
+    /// Grains of the tenant sent these, after what they sent before.
+    ///
+    /// # Errors
+    ///
+    /// Out of memory: nothing changed.
+    pub fn send(&mut self, tenant: &str, sent: VecDeque<Sent>) -> Result<(), AllocError>
+        ensures done { OnOk result (self.new ≡ change_at self.old tenant.now (with_more (map.get self.old tenant.now) (map_list send_of sent.items))) }
+        ensures unchanged { OnErr result (self.new ≡ self.old) }
+    {
+        if sent.is_empty() {
+            return Ok(());
+        }
+        let Some(account) = self.get_mut(tenant) else {
+            return Ok(());
+        };
+        account.send(sent)
     }
 }
 

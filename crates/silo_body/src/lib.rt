@@ -12,6 +12,7 @@ mod accounts;
 mod activations;
 mod body;
 mod change;
+mod finding;
 mod notes;
 mod telling;
 

@@ -37,3 +37,12 @@ pub fn settle(collector: &mut Collector, grain: &GrainId, rests: bool, idle: boo
         }
     }
 }
+
+/// Drops the note of a grain that was noted, and whose turn stays open. Takes no memory.
+pub fn take_back(collector: &mut Collector, grain: &GrainId, rests: bool)
+    ensures { collector.new ≡ (if rests then forgotten collector.old grain.now else collector.old) }
+{
+    if rests {
+        collector.forget(grain);
+    }
+}

@@ -1,10 +1,14 @@
 //! How the answer to a request becomes a reply.
 
-ghost use Rattle.std.specs.Prelude.{◌≡◌, ◌<◌, ◌++◌, vec_len, vec_capacity};
+ghost use Rattle.std.specs.Prelude.{◌≡◌, ◌<◌, ◌++◌, IfOk, vec_len, vec_capacity};
 ghost use Rattle.silo_model.specs.Calls.{answered};
+ghost use Rattle.silo_model.specs.Turns.{outcome_of};
 
+use grain_kinds::MethodFault;
 use request_codec::StateBytes;
 use silo_event::{Fault, Party, Reply};
+use silo_model::fault_of_method;
+use std::alloc::AllocError;
 
 /// A client is told the answer, and a grain gets no answer to what it asked.
 pub fn tell(replies: &mut Vec<Reply>, recipient: Party, outcome: Result<StateBytes, Fault>)
@@ -17,5 +21,27 @@ pub fn tell(replies: &mut Vec<Reply>, recipient: Party, outcome: Result<StateByt
             outcome,
         }),
         Party::Grain(_) => {}
+    }
+}
+
+/// The outcome of a plan, again.
+pub fn copied(
+    outcome: &Result<StateBytes, MethodFault>,
+) -> Result<Result<StateBytes, MethodFault>, AllocError>
+    ensures { IfOk result (λ copy. copy ≡ outcome.now) }
+{
+    match outcome {
+        Ok(answer) => Ok(Ok(answer.clone()?)),
+        Err(why) => Ok(Err(*why)),
+    }
+}
+
+/// What a turn's sender is told of the plan's outcome.
+pub fn told(outcome: Result<StateBytes, MethodFault>) -> Result<StateBytes, Fault>
+    ensures { result ≡ outcome_of outcome }
+{
+    match outcome {
+        Ok(answer) => Ok(answer),
+        Err(why) => Err(fault_of_method(why)),
     }
 }

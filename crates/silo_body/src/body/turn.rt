@@ -1,19 +1,23 @@
 //! How turns are opened and closed.
 
-ghost use Rattle.std.specs.Prelude.{◌≡◌, Ok, IfOk, OnErr};
+ghost use Rattle.std.specs.Prelude.{◌≡◌, ◌↔◌, Ok, Err, IfOk, OnErr};
 ghost use Rattle.std.specs.FinMap as map;
 ghost use Rattle.silo_event.specs.declared.step.Step.TheVariants as step;
 ghost use Rattle.silo_body.specs.Entries.{opened_turn};
-ghost use Rattle.silo_body.specs.Moves.{Moves, done_if};
+ghost use Rattle.silo_event.specs.declared.step.StepFault.TheVariants.{Stranger};
+ghost use Rattle.silo_body.specs.Finds.{IsStranger, IsOwn, Finds};
+ghost use Rattle.silo_body.specs.Moves.{Moves, Ends, done_if};
 
 use crate::body::Body;
-use crate::telling::tell;
-use crate::{change, notes};
+use crate::finding::{Found, asks_storage};
+use crate::telling::{copied, tell, told};
+use crate::{account, change, finding, notes};
+use activation_directory::Phase;
 use grain_id::GrainId;
-use grain_kinds::{GrainLogic, OpenedTurn};
+use grain_kinds::{FinishedTurn, GrainLogic, OpenedTurn};
 use grain_storage::GrainStorage;
 use silo_event::{Answer, Fault, StepFault};
-use std::alloc::AllocError;
+use std::alloc::{AllocError, Global};
 
 impl<S: GrainStorage, L: GrainLogic> Body<S, L> {
     /// The first waiting request of a ready grain becomes an open turn, if the turn rule allows it:
@@ -28,6 +32,80 @@ impl<S: GrainStorage, L: GrainLogic> Body<S, L> {
         ensures unchanged { OnErr result (self.new ≡ self.old) }
     {
         self.activations.begin(grain)
+    }
+
+    /// What is found of a turn that is to be closed by what a turn of this input came to.
+    pub(super) fn own_turn(&self, grain: &GrainId, turn: u64, input: &OpenedTurn) -> Found
+        ensures { Finds grain.now (map.get self.now.whole.entries grain.now) turn input.now result }
+    {
+        let Some(activation) = self.activations.get(grain) else {
+            return Found::NotOpen;
+        };
+        finding::find(grain, activation, turn, input)
+    }
+
+    /// An open turn that doesn't ask for the storage is closed by its plan: the plan's state stands,
+    /// its sends go out, and its outcome is the reply.
+    ///
+    /// # Errors
+    ///
+    /// `Stranger` if the turn is open and the finished turn was made of another kind of grain, state
+    /// or message; `Memory`. Nothing changed.
+    pub fn end(
+        &mut self,
+        alloc: Global,
+        grain: &GrainId,
+        turn: u64,
+        finished: &FinishedTurn<L>,
+    ) -> Result<Answer, StepFault>
+        ensures moves { Ends L.logic self.old (step.End grain.now turn) result self.new }
+        ensures stranger { (result ≡ Err Stranger) ↔ IsStranger grain.now (map.get self.old.whole.entries grain.now) turn finished.now }
+    {
+        match self.own_turn(grain, turn, finished.input()) {
+            Found::NotOpen => Ok(Answer::NotNow),
+            Found::Stranger => Err(StepFault::Stranger),
+            Found::Own { version, rests } => {
+                self.end_own(alloc, grain, turn, version, rests, finished)
+            }
+        }
+    }
+
+    /// Closes an open turn by its own plan.
+    fn end_own(
+        &mut self,
+        alloc: Global,
+        grain: &GrainId,
+        turn: u64,
+        version: Option<u64>,
+        rests: bool,
+        finished: &FinishedTurn<L>,
+    ) -> Result<Answer, StepFault>
+        requires { IsOwn grain.now (map.get self.old.whole.entries grain.now) turn version rests finished.now }
+        ensures { Moves L.logic self.old (step.End grain.now turn) result self.new }
+    {
+        if asks_storage(finished.store_call()) {
+            return Ok(Answer::NotNow);
+        }
+        let outcome = copied(finished.outcome())?;
+        let sent = account::sent_by(alloc, grain, finished.sends())?;
+        let state = finished.state().clone()?;
+        self.replies.reserve(1)?;
+        notes::expect(&mut self.collector, grain, rests, self.clock)?;
+        match self.accounts.send(grain.tenant(), sent) {
+            Ok(()) => {}
+            Err(AllocError) => {
+                notes::take_back(&mut self.collector, grain, rests);
+                return Err(StepFault::Memory);
+            }
+        }
+        let phase = Phase::Ready { state, version };
+        let Some((sender, idle)) = self.activations.close(grain, turn, Some(phase), self.clock)
+        else {
+            unreachable!()
+        };
+        notes::settle(&mut self.collector, grain, rests, idle);
+        tell(&mut self.replies, sender, told(outcome));
+        Ok(Answer::Done)
     }
 
     /// A turn that ran out of memory is closed, and its sender is told so.

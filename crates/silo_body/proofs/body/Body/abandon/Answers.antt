@@ -20,9 +20,11 @@ returns-in_default g c =
       whole = record { accounts = b.accounts; age = b.collector.age; clock = b.clock; entries = b.activations; rows = g.S.GrainStorage.rows b.storage; replies = b.replies.items };
       failures = g.S.GrainStorage.failed b.storage;
     } in
-    let turn = c.args.turn in
-    (subst (λ (h : Held). whole_step g.L.GrainLogic.logic h.whole (step.Abandon c.args.grain.now turn) ≡ None) c.self.view_is
-    (abandon_none g.L.GrainLogic.logic old c.args.grain.now turn (ap (option_and_then (λ e. map.get e.turns turn)) (sym c.in_default.ensures.entry))), refl)
+    let turn = c.args.turn in (
+      subst (λ (h : Held). whole_step g.L.GrainLogic.logic h.whole (step.Abandon c.args.grain.now turn) ≡ None) c.self.view_is
+          (abandon_none g.L.GrainLogic.logic old c.args.grain.now turn (ap (option_and_then (λ e. map.get e.turns turn)) (sym c.in_default.ensures.entry))),
+      refl,
+    )
 
 pub returns-in_default-opened : goal.returns-in_default-opened
 returns-in_default-opened g c =
@@ -31,9 +33,11 @@ returns-in_default-opened g c =
       whole = record { accounts = b.accounts; age = b.collector.age; clock = b.clock; entries = b.activations; rows = g.S.GrainStorage.rows b.storage; replies = b.replies.items };
       failures = g.S.GrainStorage.failed b.storage;
     } in
-    let turn = c.args.turn in
-    (subst (λ (h : Held). whole_step g.L.GrainLogic.logic h.whole (step.Abandon c.args.grain.now turn) ≡ None) c.self.view_is
-    (abandon_none g.L.GrainLogic.logic old c.args.grain.now turn (turn_shown b.activations c.args.grain.now c.in-Some.activation.now turn None (sym c.in-Some.ensures.entry) (sym c.in_default-opened.ensures))), refl)
+    let turn = c.args.turn in (
+      subst (λ (h : Held). whole_step g.L.GrainLogic.logic h.whole (step.Abandon c.args.grain.now turn) ≡ None) c.self.view_is
+          (abandon_none g.L.GrainLogic.logic old c.args.grain.now turn (turn_shown b.activations c.args.grain.now c.in-Some.activation.now turn None (sym c.in-Some.ensures.entry) (sym c.in_default-opened.ensures))),
+      refl,
+    )
 
 pub unreachable-requires : goal.unreachable-requires
 unreachable-requires g c =
