@@ -12,7 +12,9 @@ use Rattle.silo_model.specs.Machine.{Entry, Entries, Request}
 use Rattle.silo_model.proofs.Sights.{not_true}
 use Rattle.std.specs.Prelude.{unwrap_or, length}
 use Rattle.silo_event.specs.declared.reply.Party.{Party}
-use Rattle.silo_model.specs.Machine.{Phase}
+use Rattle.silo_model.specs.Machine.{Phase, loading, ready}
+use Rattle.request_codec.specs.Tree.{Tree}
+use Rattle.silo_body.specs.Reads.{is_quiet}
 use Rattle.silo_model.specs.Idle.{is_ready}
 use Rattle.silo_body.specs.Entries.{closed_entry, ClosesEntry}
 use Rattle.silo_body.specs.Notes.{is_idle, idle_since, may_rest, AreNoted}
@@ -97,6 +99,10 @@ settled_age notes mid final g last rests idle m f = ap (λ (n : Notes). n.age) f
     first true = refl
     first false = refl
 
+pub expected_age : (notes mid : Notes) (g : Grain) (last : ℕ) (rests : Bool) → mid ≡ cond rests (noted notes g last) notes → mid.age ≡ notes.age
+expected_age notes mid g last true m = ap (λ (n : Notes). n.age) m
+expected_age notes mid g last false m = ap (λ (n : Notes). n.age) m
+
 -- taken back, the notes are as before
 pub settled_back : (entries : Entries) (notes mid final : Notes) (g : Grain) (last : ℕ) → AreNoted entries notes.lasts → idle_since (map.get entries g) ≡ None → (rests : Bool) → mid ≡ cond rests (noted notes g last) notes → final ≡ cond rests (forgotten mid g) mid → final ≡ notes
 settled_back entries notes mid final g last are none true m f = f ∙ ap (λ n. forgotten n g) m ∙ taken_back notes g last (are g ∙ none)
@@ -145,3 +151,24 @@ module _ (entries : Entries) (notes : Notes) (are : AreNoted entries notes.lasts
       subst (λ (es : Entries). AreNoted es final.lasts) (sym d.put)
       (settled entries notes are g (ap idle_since d.found ∙ used-turn d.before turn d.request d.open_turn) (closed_entry d.before d.request phase last) rests idle mid final d.idle_is
       (λ quiet. is ∙ ap may_rest (sym was) ∙ quiet_by _ refl (left_true _ _ (sym d.idle_is ∙ quiet))) m f)
+
+-- ---- an entry that loads
+
+pub since_loading : (e : Entry) → e.phase ≡ loading → idle_since (Some e) ≡ None
+since_loading e is = ap (λ p. idle_since (Some (record e { phase = p }))) is
+
+module _ (entries : Entries) (notes : Notes) (are : AreNoted entries notes.lasts) (g : Grain) (e : Entry) (found : map.get entries g ≡ Some e) (is : e.phase ≡ loading) where
+  pub used-loading : idle_since (map.get entries g) ≡ None
+  used-loading = ap idle_since found ∙ since_loading e is
+
+  -- once it is ready
+  pub loaded_noted : (state : Tree) (version : Option ℕ) (quiet : Bool) (mid : Notes) → quiet ≡ is_quiet e → mid ≡ cond quiet (noted notes g e.last) notes → AreNoted (map.insert entries g (record e { phase = ready state version })) mid.lasts
+  loaded_noted state version quiet mid rests m = subst (λ (n : Notes). AreNoted (map.insert entries g (record e { phase = ready state version })) n.lasts) (sym m) (by quiet rests)
+    where
+      by : (b : Bool) → b ≡ is_quiet e → AreNoted (map.insert entries g (record e { phase = ready state version })) (cond b (noted notes g e.last) notes).lasts
+      by true q = noted-idle entries notes.lasts are g (record e { phase = ready state version }) e.last (ap (λ b. cond b (Some e.last) None) (sym q))
+      by false q = noted-same entries notes.lasts are g (record e { phase = ready state version }) (ap (λ b. cond b (Some e.last) None) (sym q) ∙ sym used-loading)
+
+  -- where it goes
+  pub unloaded_noted : AreNoted (map.remove entries g) notes.lasts
+  unloaded_noted = noted-without entries notes.lasts are g used-loading

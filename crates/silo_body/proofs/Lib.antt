@@ -7,3 +7,4 @@ pub mod Shows
 pub mod Steps
 pub mod Sweeps
 pub mod Ends
+pub mod Loads

@@ -20,7 +20,9 @@ use Rattle.turn_mailbox.proofs.Mapped.{get-mapped, mapped-insert, mapped-remove,
 use Rattle.activation_directory.specs.declared.activation.Activation.{Activation}
 use Rattle.activation_directory.specs.declared.activation.Phase.{Phase}
 use Rattle.activation_directory.specs.declared.activation.Phase.TheVariants.{Waiting, Loading, Ready}
-use Rattle.silo_model.specs.Machine.{Entries}
+use Rattle.silo_model.specs.Machine.{Entry, Entries}
+use Rattle.silo_body.specs.Reads.{is_quiet}
+use Rattle.silo_body.proofs.Idle.{the_same}
 use Rattle.silo_model.specs.Turns as model
 use Rattle.silo_body.specs.Shown.{request_of, phase_of, entry_of, entries_of}
 use Rattle.silo_body.specs.Notes.{is_idle}
@@ -143,3 +145,15 @@ turn_shown entries g a turn found is at = ap (option_and_then (λ e. map.get e.t
 
 pub get-turns : (a : Activation) (turn : ℕ) (found : Option Request) → map.get a.mailbox.opened turn ≡ found → map.get (entry_of a).turns turn ≡ option_map request_of found
 get-turns a turn found at = get-mapped nat_cmp_total nat_cmp-IsAntisymmetric request_of a.mailbox.opened turn ∙ ap (option_map request_of) at
+
+-- a mailbox where nothing is asked, as its entry
+pub quiet_mail : (a : Activation) → mail_is_idle a.mailbox ≡ is_quiet (entry_of a)
+quiet_mail a = λ i. (sym (length-map a.mailbox.waiting request_of) i == 0) && (sym (len-mapped nat_cmp_total nat_cmp-IsAntisymmetric request_of a.mailbox.opened) i == 0)
+
+-- ---- another phase
+
+module _ (logic : Logic) (m : FinMap grain_cmp Activation) (g : Grain) (a : Activation) (found : map.get m g ≡ Some a) (phase : Phase) where
+  pub phase_shows : (e : Entry) → map.get (entries_of m) g ≡ Some e → entries_of (map.insert m g (record a { phase = phase })) ≡ map.insert (entries_of m) g (record e { phase = phase_of phase })
+  phase_shows e is =
+      let same : entry_of a ≡ e = the_same (entry_of a) e (sym (get-entries m g (Some a) found) ∙ is) in
+      entries-put m g (record a { phase = phase }) ∙ ap (λ (x : Entry). map.insert (entries_of m) g (record x { phase = phase_of phase })) same

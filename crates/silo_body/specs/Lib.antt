@@ -10,3 +10,4 @@ pub mod Held
 pub mod Moves
 pub mod Sweeps
 pub mod Finds
+pub mod Reads

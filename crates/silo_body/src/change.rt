@@ -2,8 +2,9 @@
 
 ghost use Rattle.std.specs.Prelude.{◌≡◌, IfOk, OnOk, OnErr};
 ghost use Rattle.silo_body.specs.Changes.{Starts, turn_at, mail_begun, EndsTurn};
-ghost use Rattle.silo_body.specs.Shown.{entry_of};
+ghost use Rattle.silo_body.specs.Shown.{phase_of, entry_of};
 ghost use Rattle.silo_body.specs.Notes.{may_rest, is_idle};
+ghost use Rattle.silo_body.specs.Reads.{is_loading, is_quiet};
 
 use activation_directory::{Activation, Phase};
 use grain_id::GrainId;
@@ -75,4 +76,21 @@ pub fn is_idle(activation: &Activation) -> bool
         Phase::Ready { .. } => activation.mailbox.is_idle(),
         _ => false,
     }
+}
+
+/// Whether it loads.
+pub fn is_loading(activation: &Activation) -> bool
+    ensures { result ≡ is_loading (phase_of activation.now.phase) }
+{
+    match activation.phase {
+        Phase::Loading => true,
+        _ => false,
+    }
+}
+
+/// Whether no request waits and no turn is open.
+pub fn is_quiet(activation: &Activation) -> bool
+    ensures { result ≡ is_quiet (entry_of activation.now) }
+{
+    activation.mailbox.is_idle()
 }

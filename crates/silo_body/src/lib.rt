@@ -14,6 +14,7 @@ mod body;
 mod change;
 mod finding;
 mod notes;
+mod reading;
 mod telling;
 
 pub use body::Body;

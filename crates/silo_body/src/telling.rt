@@ -1,19 +1,24 @@
 //! How the answer to a request becomes a reply.
 
-ghost use Rattle.std.specs.Prelude.{◌≡◌, ◌<◌, ◌++◌, IfOk, vec_len, vec_capacity};
+ghost use Rattle.std.specs.Prelude.{◌≡◌, ◌<◌, ◌≤◌, ◌+◌, ◌++◌, Err, flat_map, length, IfOk, vec_len, vec_capacity};
 ghost use Rattle.silo_model.specs.Calls.{answered};
 ghost use Rattle.silo_model.specs.Turns.{outcome_of};
+ghost use Rattle.silo_body.specs.Reads.{refused};
 
 use grain_kinds::MethodFault;
 use request_codec::StateBytes;
 use silo_event::{Fault, Party, Reply};
 use silo_model::fault_of_method;
 use std::alloc::AllocError;
+use std::collections::VecDeque;
+use turn_mailbox::Request;
 
 /// A client is told the answer, and a grain gets no answer to what it asked.
 pub fn tell(replies: &mut Vec<Reply>, recipient: Party, outcome: Result<StateBytes, Fault>)
     requires { vec_len replies.old < vec_capacity replies.old }
-    ensures { replies.new.items ≡ replies.old.items ++ answered recipient outcome }
+    ensures told { replies.new.items ≡ replies.old.items ++ answered recipient outcome }
+    ensures room { vec_capacity replies.new ≡ vec_capacity replies.old }
+    ensures len { vec_len replies.new ≤ vec_len replies.old + 1 }
 {
     match recipient {
         Party::Client(caller, id) => replies.push_reserved(Reply {
@@ -21,6 +26,16 @@ pub fn tell(replies: &mut Vec<Reply>, recipient: Party, outcome: Result<StateByt
             outcome,
         }),
         Party::Grain(_) => {}
+    }
+}
+
+/// Each sender of these requests is told that the storage failed, in order.
+pub fn refuse_all(replies: &mut Vec<Reply>, mut waiting: VecDeque<Request>)
+    requires { length waiting.items + vec_len replies.old ≤ vec_capacity replies.old }
+    ensures { replies.new.items ≡ replies.old.items ++ flat_map refused waiting.items }
+{
+    while let Some(request) = waiting.pop_front() {
+        tell(replies, request.sender, Err(Fault::StorageFailed));
     }
 }
 

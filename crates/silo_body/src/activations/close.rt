@@ -1,8 +1,9 @@
 //! How turns of an activation are closed, and how it goes.
 
-ghost use Rattle.std.specs.Prelude.{◌≡◌, IfNone};
+ghost use Rattle.std.specs.Prelude.{◌≡◌, Some};
 ghost use Rattle.std.specs.Option.{option_map};
 ghost use Rattle.std.specs.FinMap as map;
+ghost use Rattle.silo_model.specs.Machine.{Entry};
 ghost use Rattle.silo_body.specs.Shown.{phase_of, entry_of};
 ghost use Rattle.silo_body.specs.Entries.{Closes};
 
@@ -33,6 +34,16 @@ impl<L: GrainLogic> Activations<L> {
             return None;
         };
         Some((sender, change::is_idle(activation)))
+    }
+
+    /// The grain's activation is in another phase. Takes no memory.
+    pub fn set_phase(&mut self, grain: &GrainId, phase: Phase)
+        ensures { (e : Entry) → map.get self.old grain.now ≡ Some e → self.new ≡ map.insert self.old grain.now (record e { phase = phase_of phase }) }
+    {
+        let Some(activation) = self.directory.get_mut(grain) else {
+            return;
+        };
+        activation.phase = phase;
     }
 
     /// Takes the grain's activation out. Takes no memory.
