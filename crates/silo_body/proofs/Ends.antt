@@ -4,14 +4,14 @@ use Rattle.std.specs.Prelude.{Ok, option_and_then}
 use Rattle.std.specs.FinMap as map
 use Rattle.std.specs.FinMap.{FinMap}
 use Rattle.grain_id.specs.Names.{Grain, text_cmp}
-use Rattle.grain_kinds.specs.Logic.{Logic, Plan, Outgoing, StorageCall, asks_nothing, reads_row, writes_row, clears_row}
+use Rattle.grain_kinds.specs.Logic.{Logic, Outgoing, StorageCall, asks_nothing, reads_row, writes_row, clears_row}
 use Rattle.grain_kinds.specs.Finished.{turn_plan}
 use Rattle.grain_kinds.specs.declared.turn.OpenedTurn.{OpenedTurn}
 use Rattle.silo_event.specs.declared.reply.Party.{Party}
 use Rattle.silo_event.specs.declared.reply.Reply.{Reply}
 use Rattle.silo_event.specs.declared.step.Answer.TheVariants.{Done}
 use Rattle.silo_event.specs.declared.step.Step.TheVariants.{End}
-use Rattle.silo_model.specs.Machine.{Account, Entry, Entries, Request, Phase, waiting, loading, ready}
+use Rattle.silo_model.specs.Machine.{Account, Entry, Entries, Phase, waiting, loading, ready}
 use Rattle.silo_model.specs.Effect.{change_at}
 use Rattle.silo_model.specs.Calls.{answered}
 use Rattle.silo_model.specs.Turns.{plan_of, sent_by, with_sends, outcome_of}
@@ -20,7 +20,7 @@ use Rattle.silo_model.proofs.TurnSteps.{end_absent, end_closed, end_waiting, end
 use Rattle.silo_body.specs.Held.{Held}
 use Rattle.silo_body.specs.Moves.{Moves}
 use Rattle.silo_body.specs.Sends.{with_more}
-use Rattle.silo_body.specs.Entries.{closed_entry, ClosesEntry}
+use Rattle.silo_body.specs.Entries.{ClosesEntry}
 use Rattle.silo_body.specs.Finds.{open_in, IsOwn, asks}
 use Rattle.silo_body.proofs.Idle.{the_same}
 

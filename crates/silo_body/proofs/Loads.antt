@@ -1,10 +1,9 @@
 -- What a load comes to, as a step of the whole.
-use Rattle.std.proofs.Common.{◌≡◌, ℕ, ◌+◌, Bool, true, false, List, [], ◌∷◌, ◌++◌, Option, Some, None, refl, ap, sym, ◌∙◌, subst}
+use Rattle.std.proofs.Common.{◌≡◌, ℕ, ◌+◌, Bool, true, false, List, [], ◌∷◌, ◌++◌, Option, Some, None, refl, ap, sym, ◌∙◌}
 use Rattle.std.specs.Prelude.{Ok, Err, flat_map, map as map_list}
 use Rattle.std.specs.FinMap as map
 use Rattle.grain_id.specs.Names.{Grain}
 use Rattle.grain_storage.specs.Rows.{Rows, version_of, content_or}
-use Rattle.grain_storage.specs.Answers.{Counted}
 use Rattle.grain_kinds.specs.Logic.{Logic}
 use Rattle.request_codec.specs.Tree.{Tree}
 use Rattle.turn_mailbox.specs.declared.request.Request.{Request}
@@ -15,7 +14,7 @@ use Rattle.silo_event.specs.declared.step.Step.TheVariants.{Load}
 use Rattle.silo_model.specs.Machine.{Entry, Entries, Phase, waiting, loading, ready}
 use Rattle.silo_model.specs.Calls.{answered}
 use Rattle.silo_model.specs.Whole.{whole_step}
-use Rattle.silo_model.proofs.EntrySteps.{load_absent, load_waiting, load_ready, load_loading, load_fails}
+use Rattle.silo_model.proofs.EntrySteps.{load_waiting, load_ready, load_loading, load_fails}
 use Rattle.silo_body.specs.Held.{Held}
 use Rattle.silo_body.specs.Moves.{Moves}
 use Rattle.silo_body.specs.Shown.{request_of}

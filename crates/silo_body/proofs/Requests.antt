@@ -1,8 +1,7 @@
 -- Marked requests: the marks are kept, and the turn rule of the mailbox is that of the entry.
-use Rattle.std.proofs.Common.{◌≡◌, ℕ, Bool, true, false, ◌==◌, cond, List, [], ◌∷◌, Option, Some, None, refl, ap, sym, ◌∙◌}
+use Rattle.std.proofs.Common.{◌≡◌, ℕ, Bool, true, false, ◌==◌, List, [], ◌∷◌, Some, None, refl, sym, ◌∙◌}
 use Rattle.std.specs.Prelude.{if◌then◌else◌}
 use Rattle.std.specs.declared.cmp.Ordering.{Ordering}
-use Rattle.std.specs.Ordering.{nat_cmp}
 use Rattle.std.specs.Cmp.{IsTotalOrder, nat_cmp_total}
 use Rattle.std.specs.List.{list_all, AllByRecursion}
 use Rattle.std.specs.FinMap as map
@@ -14,10 +13,8 @@ use Rattle.turn_mailbox.specs.declared.request.Request.{Request}
 use Rattle.turn_mailbox.specs.Contents.{Contents, begun, may_open}
 use Rattle.turn_mailbox.proofs.Values.{all-values, of-all-values}
 use Rattle.turn_mailbox.proofs.Mapped.{all-mapped, len-mapped}
-use Rattle.turn_mailbox.specs.Mapped.{map_values}
 use Rattle.activation_directory.specs.declared.activation.Activation.{Activation}
 use Rattle.silo_model.specs.Effect.{put, drop}
-use Rattle.silo_model.specs.Machine.{Entry}
 use Rattle.silo_model.specs.Turns as model
 use Rattle.silo_model.specs.Turns.{reads}
 use Rattle.silo_model.proofs.Changes.{changed_all}

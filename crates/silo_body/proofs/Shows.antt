@@ -30,7 +30,7 @@ use Rattle.silo_model.specs.Idle.{is_ready}
 use Rattle.silo_body.specs.Marks.{AreMarked, AllMarked}
 use Rattle.silo_body.specs.Changes.{Starts, turn_at, mail_begun, ClosesTurn}
 use Rattle.silo_body.specs.Entries.{Activates, Begins, opened_turn, closed_entry, ClosesEntry, Closes}
-use Rattle.silo_body.proofs.Requests.{marked-put, marked-removed, marked-begun, marked-closed}
+use Rattle.silo_body.proofs.Requests.{marked-put, marked-begun, marked-closed}
 use Rattle.silo_body.proofs.Turns.{turn-opened, begins}
 
 -- the entry of a grain, by its activation

@@ -12,7 +12,7 @@ use Rattle.silo_event.specs.declared.step.Step.TheVariants.{Activate, Begin, Aba
 use Rattle.silo_model.specs.Machine.{Entry, Entries, waiting}
 use Rattle.silo_model.specs.Step.{effect_of}
 use Rattle.silo_model.specs.Turns.{activated, begun}
-use Rattle.silo_model.specs.Whole.{Whole, whole_step}
+use Rattle.silo_model.specs.Whole.{whole_step}
 use Rattle.silo_model.proofs.Sights.{step_at_own}
 use Rattle.silo_event.specs.declared.fault.Fault.TheVariants.{NoMemory}
 use Rattle.silo_event.specs.declared.reply.Party.{Party}

@@ -7,7 +7,6 @@ use Rattle.grain_id.proofs.Order.{same_text_decides}
 use Rattle.tenant_gate.specs.declared.limits.Limits.{Limits}
 use Rattle.tenant_gate.specs.Table.{Table, limits_of}
 use Rattle.tenant_gate.proofs.IndexLemmas.{limits_of-push}
-use Rattle.silo_model.specs.Machine.{Account}
 use Rattle.silo_model.specs.Opening.{fresh_account}
 use Rattle.silo_body.proofs.Requests.{both_ways}
 

@@ -18,14 +18,14 @@ use Rattle.activation_directory.specs.declared.activation.Activation.{Activation
 use Rattle.activation_directory.specs.declared.activation.Phase.{Phase}
 use Rattle.activation_directory.specs.declared.activation.Phase.TheVariants.{Waiting, Loading, Ready}
 use Rattle.silo_model.specs.Machine.{Entry, Entries}
-use Rattle.silo_model.specs.Effect.{Effect, on_entry}
+use Rattle.silo_model.specs.Effect.{on_entry}
 use Rattle.silo_model.specs.Idle.{is_ready}
 use Rattle.silo_model.specs.Turns as model
 use Rattle.silo_body.specs.Shown.{request_of, phase_of, entry_of}
 use Rattle.silo_body.specs.Marks.{IsMarked, AreMarked}
 use Rattle.silo_body.specs.Notes.{idle_since}
 use Rattle.silo_body.specs.Changes.{turn_at, mail_begun}
-use Rattle.silo_body.specs.Entries.{front_turn, turn_in, opened_turn, Opens, Begins}
+use Rattle.silo_body.specs.Entries.{front_turn, turn_in, opened_turn, Begins}
 use Rattle.silo_body.proofs.Requests.{may_open-marked}
 use Rattle.silo_body.proofs.Idle.{and_false, some_open, some_waits}
 

@@ -1,5 +1,5 @@
 -- How the accounts of the known tenants are seen.
-use Rattle.std.specs.Prelude.{List, ℕ, string_bytes, map as map_list}
+use Rattle.std.specs.Prelude.{string_bytes, map as map_list}
 use Rattle.std.specs.FinMap as map
 use Rattle.std.specs.FinMap.{FinMap}
 use Rattle.std.specs.BTreeMap.{BTreeMap}

@@ -1,5 +1,5 @@
 -- What a step does to what a body holds, by its answer.
-use Rattle.std.specs.Prelude.{◌≡◌, ◌+◌, ℕ, true, Option, Some, None, Result, Ok, Err}
+use Rattle.std.specs.Prelude.{◌≡◌, ◌+◌, true, Option, Some, None, Result, Ok, Err}
 use Rattle.silo_event.specs.Failed.{may_fail, as_failed}
 use Rattle.silo_event.specs.declared.step.Step.{Step}
 use Rattle.silo_event.specs.declared.step.Answer.{Answer}

@@ -1,5 +1,5 @@
 -- What a row gives to a grain, and what its requests are told where the storage failed.
-use Rattle.std.specs.Prelude.{◌≡◌, ℕ, Bool, true, false, ◌&&◌, ◌==◌, length, List, Option, Some, None, Result, Ok, Err}
+use Rattle.std.specs.Prelude.{◌≡◌, ℕ, Bool, true, false, ◌&&◌, ◌==◌, length, List, Option, Result, Ok, Err}
 use Rattle.std.specs.FinMap as map
 use Rattle.grain_id.specs.Names.{Grain}
 use Rattle.request_codec.specs.Tree.{Tree}

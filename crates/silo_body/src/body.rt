@@ -18,7 +18,6 @@ mod call;
 mod clock;
 mod entry;
 mod send;
-mod store;
 mod turn;
 
 /// All tenants' accounts, activations and rows, and the replies in the order in which they were made.

@@ -1,9 +1,8 @@
-use Rattle.std.proofs.Common.{◌≡◌, ℕ, List, Some, ap, ◌∙◌, if◌then◌else◌}
+use Rattle.std.proofs.Common.{Some, ◌∙◌, if◌then◌else◌}
 use Rattle.std.specs.String.{string_bytes}
 use Rattle.std.specs.BTreeMap.{get_by_text}
 use Rattle.std.proofs.lemmas.Map.Text.{btree_map_updates_text}
 use Rattle.grain_id.specs.Names.{same_text}
-use Rattle.silo_model.specs.Opening.{fresh_account}
 use Rattle.silo_body.proofs.accounts.add.Goals as goal
 
 pub returns : goal.returns

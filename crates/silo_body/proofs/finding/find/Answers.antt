@@ -1,4 +1,4 @@
-use Rattle.std.proofs.Common.{◌≡◌, None, Some, refl, ap, sym, ◌∙◌, subst}
+use Rattle.std.proofs.Common.{None, Some, refl, ap, sym, ◌∙◌, subst}
 use Rattle.silo_body.specs.Shown.{request_of, phase_of, entry_of}
 use Rattle.silo_body.specs.Finds.{open_in, IsOf}
 use Rattle.silo_body.proofs.Shows.{get-turns}

@@ -1,4 +1,4 @@
-use Rattle.std.proofs.Common.{None, refl, ap, sym, ◌∙◌, subst}
+use Rattle.std.proofs.Common.{None, refl, ap, sym, subst}
 use Rattle.std.specs.Prelude.{option_and_then}
 use Rattle.silo_event.specs.declared.step.Answer.TheVariants.{NotNow}
 use Rattle.silo_model.specs.Machine.{Entries}

@@ -1,4 +1,4 @@
-use Rattle.std.proofs.Common.{None, Some, refl, ap, sym, ◌∙◌, subst}
+use Rattle.std.proofs.Common.{None, refl, ap, sym, subst}
 use Rattle.std.specs.Prelude.{option_and_then, option_map}
 use Rattle.std.specs.FinMap as map
 use Rattle.silo_model.specs.Machine.{Entries}

@@ -1,5 +1,4 @@
 use Rattle.std.proofs.Common.{ap, sym, ◌∙◌, subst}
-use Rattle.std.specs.FinMap as map
 use Rattle.grain_id.proofs.Order.{grain_cmp_total, grain_cmp_exact}
 use Rattle.turn_mailbox.proofs.Mapped.{mapped-empty}
 use Rattle.activation_directory.specs.Register.{Register}

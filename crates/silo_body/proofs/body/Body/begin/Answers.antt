@@ -1,4 +1,3 @@
-use Rattle.std.proofs.Common.{◌∙◌}
 use Rattle.silo_body.proofs.Steps.{begins_move, begins_noted}
 use Rattle.silo_body.proofs.body.Body.begin.Goals as goal
 

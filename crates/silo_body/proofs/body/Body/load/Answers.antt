@@ -1,6 +1,5 @@
-use Rattle.std.proofs.Common.{◌≡◌, ◌++◌, None, Some, refl, ap, sym, ◌∙◌, subst, Ok}
+use Rattle.std.proofs.Common.{◌≡◌, ◌++◌, None, refl, ap, sym, ◌∙◌, subst, Ok}
 use Rattle.std.specs.Prelude.{Err, flat_map}
-use Rattle.std.specs.FinMap as map
 use Rattle.silo_event.specs.declared.step.Step.TheVariants as step
 use Rattle.silo_event.specs.declared.step.Answer.TheVariants.{Done, Failed}
 use Rattle.silo_event.specs.declared.fault.Fault.TheVariants.{StorageFailed}
@@ -24,9 +23,11 @@ returns-in_default g c =
       whole = record { accounts = b.accounts; age = b.collector.age; clock = b.clock; entries = b.activations; rows = g.S.GrainStorage.rows b.storage; replies = b.replies.items };
       failures = g.S.GrainStorage.failed b.storage;
     } in
-    let grain = c.args.grain.now in
-    (subst (λ (h : Held). whole_step g.L.GrainLogic.logic h.whole (step.Load grain c.args.failed) ≡ None) c.self.view_is
-    (load_absent g.L.GrainLogic.logic old.whole grain c.args.failed (sym c.in_default.ensures.entry)), refl)
+    let grain = c.args.grain.now in (
+      subst (λ (h : Held). whole_step g.L.GrainLogic.logic h.whole (step.Load grain c.args.failed) ≡ None) c.self.view_is
+          (load_absent g.L.GrainLogic.logic old.whole grain c.args.failed (sym c.in_default.ensures.entry)),
+      refl,
+    )
 
 pub returns-then-not-is_loading : goal.returns-then-not-is_loading
 returns-then-not-is_loading g c =
@@ -35,9 +36,11 @@ returns-then-not-is_loading g c =
       whole = record { accounts = b.accounts; age = b.collector.age; clock = b.clock; entries = b.activations; rows = g.S.GrainStorage.rows b.storage; replies = b.replies.items };
       failures = g.S.GrainStorage.failed b.storage;
     } in
-    let grain = c.args.grain.now in
-    (subst (λ (h : Held). whole_step g.L.GrainLogic.logic h.whole (step.Load grain c.args.failed) ≡ None) c.self.view_is
-    (load_not g.L.GrainLogic.logic old grain c.args.failed (entry_of c.in-Some.activation.now) (sym c.in-Some.ensures.entry) (sym c.if-not-is_loading.ensures)), refl)
+    let grain = c.args.grain.now in (
+      subst (λ (h : Held). whole_step g.L.GrainLogic.logic h.whole (step.Load grain c.args.failed) ≡ None) c.self.view_is
+          (load_not g.L.GrainLogic.logic old grain c.args.failed (entry_of c.in-Some.activation.now) (sym c.in-Some.ensures.entry) (sym c.if-not-is_loading.ensures)),
+      refl,
+    )
 
 pub invariant_of-self-then-failed : goal.invariant_of-self-then-failed
 invariant_of-self-then-failed g c =

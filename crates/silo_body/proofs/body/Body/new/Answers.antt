@@ -1,10 +1,8 @@
-use Rattle.std.proofs.Common.{ℕ, ap, sym, ◌∙◌, subst}
+use Rattle.std.proofs.Common.{sym, subst}
 use Rattle.std.specs.FinMap as map
-use Rattle.grain_id.specs.Names.{Grain}
 use Rattle.idle_collector.specs.Notes.{Notes}
 use Rattle.silo_model.specs.Machine.{Entries}
 use Rattle.silo_model.specs.Opening.{opening}
-use Rattle.silo_body.specs.Held.{Held}
 use Rattle.silo_body.specs.Notes.{AreNoted}
 use Rattle.silo_body.proofs.Idle.{none_noted}
 use Rattle.silo_body.proofs.body.Body.new.Goals as goal

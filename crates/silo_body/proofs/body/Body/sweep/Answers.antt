@@ -1,4 +1,4 @@
-use Rattle.std.proofs.Common.{◌≡◌, Some, refl, ap, sym, ◌∙◌, subst, Ok}
+use Rattle.std.proofs.Common.{Some, refl, ap, sym, ◌∙◌, subst, Ok}
 use Rattle.silo_event.specs.declared.step.Step.TheVariants as step
 use Rattle.silo_event.specs.declared.step.Answer.TheVariants.{Done}
 use Rattle.idle_collector.specs.Notes.{Notes}

@@ -1,5 +1,4 @@
 use Rattle.std.proofs.Common.{◌≡◌, drop}
-use Rattle.idle_collector.specs.Notes.{Notes}
 use Rattle.silo_body.specs.Sweeps.{without}
 use Rattle.silo_body.proofs.body.clock.drop_all.Given as goal
 

@@ -22,4 +22,4 @@ returns-clause-told g c e is =
     let same : entry_of c.in-Some.activation ≡ e = the_same (entry_of c.in-Some.activation) e (c.in-Some.ensures.found ∙ is) in
     c.refuse_all.ensures
     ∙ ap (λ told. c.args.replies.now.items ++ told)
-        (ap (flat_map refused) c.into_waiting.ensures ∙ refused_shown waiting ∙ ap (λ (x : Entry). flat_map (λ q. answered q.sender (Err StorageFailed)) x.queue) same)
+    (ap (flat_map refused) c.into_waiting.ensures ∙ refused_shown waiting ∙ ap (λ (x : Entry). flat_map (λ q. answered q.sender (Err StorageFailed)) x.queue) same)

@@ -1,1 +1,0 @@
-//! How a turn that asks for the storage is closed.
