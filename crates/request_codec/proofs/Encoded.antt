@@ -3,7 +3,7 @@ use Rattle.std.proofs.Common.{◌≡◌, ℕ, ◌≤◌, List, ◌∷◌, ◌++�
 use Rattle.std.specs.Prelude.{IsUtf8}
 use Rattle.std.proofs.lemmas.Option.{same_Some}
 use Rattle.request_codec.specs.Limits.{depth_limit, message_limit, state_limit}
-use Rattle.request_codec.specs.Tree.{Tree, depth}
+use Rattle.request_codec.specs.Tree.{Tree, text, depth}
 use Rattle.request_codec.specs.Written.{text_spelling, spelling}
 use Rattle.request_codec.specs.Formed.{IsFormed}
 use Rattle.request_codec.specs.Answers.{spelled_length, message_length}
@@ -24,3 +24,10 @@ encoded_state items v tested is =
 
 pub same_found : {A : Type 0} (o : Option A) (x y : A) → o ≡ Some x → o ≡ Some y → x ≡ y
 same_found o x y p q = same_Some x y (sym p ∙ q)
+
+-- a short text is a state
+pub encoded_text : (items s : List ℕ) → IsUtf8 s → length s ≤ 20 → items ≡ 4 ∷ text_spelling s → state_value items ≡ Some (text s)
+unfolding spelling
+encoded_text items s valid few is =
+    let size = length-spelling (text s) in
+    encoded_state items (text s) (omega arith, valid) (is, omega (arith, few, size))

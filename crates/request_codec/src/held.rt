@@ -1,13 +1,14 @@
 //! The bytes of a state: in place if they are few, and otherwise shared by all clones.
 
-ghost use Rattle.std.specs.Prelude.{◌≡◌, ◌≤◌, length, IfOk};
+ghost use Rattle.std.specs.Prelude.{◌≡◌, ◌≤◌, ◌∷◌, length, IfOk};
 ghost use Rattle.request_codec.specs.Held.{held_bytes};
+ghost use Rattle.request_codec.specs.Written.{text_spelling};
 
 use std::alloc::{AllocError, Global};
 use std::sync::ArcSlice;
 
-/// The most bytes in place: a number's state has 9.
-const SHORT: usize = 15;
+/// The most bytes in place: a number's state has 9, and that of a version's text at most 25.
+const SHORT: usize = 25;
 
 /// Bytes: as many in place as the count says, or shared.
 #[derive(Debug, Drop)]
@@ -18,13 +19,26 @@ pub(crate) enum Held {
 
 /// The bytes, in place.
 fn hold_short(bytes: &[u8]) -> Held
-    requires { length bytes.now ≤ 15 }
+    requires { length bytes.now ≤ 25 }
     ensures { held_bytes result ≡ bytes.now }
 {
     let mut short = [0; SHORT];
     let count = bytes.len();
     short[..count].copy_from_slice(bytes);
     Held::Short(count as u8, short)
+}
+
+/// The spelling of a short text, in place.
+pub(crate) fn hold_text(text: &[u8]) -> Held
+    requires { length text.now ≤ 20 }
+    ensures { held_bytes result ≡ 4 ∷ text_spelling text.now }
+{
+    let mut short = [0; SHORT];
+    let count = text.len();
+    short[0] = 4;
+    short[1..5].copy_from_slice(&(count as u32).to_be_bytes());
+    short[5..5 + count].copy_from_slice(text);
+    Held::Short(5 + count as u8, short)
 }
 
 /// The bytes, held. Shared ones keep no spare room.

@@ -1,7 +1,7 @@
 //! States.
 
-ghost use Rattle.std.specs.Prelude.{◌≡◌, Some, Err, IfOk, IsSome};
-ghost use Rattle.request_codec.specs.Tree.{Tree};
+ghost use Rattle.std.specs.Prelude.{◌≡◌, Some, Err, IfOk, IsSome, decimal};
+ghost use Rattle.request_codec.specs.Tree.{Tree, text};
 ghost use Rattle.request_codec.specs.Call.{state_value, value_of_state};
 ghost use Rattle.request_codec.specs.Spelling.{SpellsState};
 ghost use Rattle.std.specs.Prelude.{◌↔◌, IsTrue, bytes_eq};
@@ -12,8 +12,9 @@ ghost use Rattle.request_codec.specs.Answers.{Reads};
 ghost use Rattle.request_codec.specs.declared.fault.CodecFault.TheVariants as faults;
 
 use crate::fault::CodecFault;
-use crate::held::{Held, copy_held, hold, hold_copy, show};
+use crate::held::{Held, copy_held, hold, hold_copy, hold_text, show};
 use crate::value_end::is_state;
+use itoa::Buffer;
 use std::alloc::{AllocError, Global};
 use std::marker::Model;
 
@@ -73,6 +74,16 @@ impl StateBytes {
         Ok(StateBytes {
             held: hold_copy(alloc, bytes)?,
         })
+    }
+
+    /// The state that is the decimal text of a number. Takes no memory.
+    pub fn decimal(number: u64) -> StateBytes
+        ensures { result ≡ text (decimal number) }
+    {
+        let mut buffer = Buffer::new();
+        StateBytes {
+            held: hold_text(buffer.format(number).as_bytes()),
+        }
     }
 
     /// The bytes, which spell the value.

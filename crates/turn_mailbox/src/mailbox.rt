@@ -1,6 +1,6 @@
 //! The requests of one grain: those that wait, in their order, and the open turns, by number.
 
-ghost use Rattle.std.specs.Prelude.{◌≡◌, ◌↔◌, ◌≤◌, ◌++◌, ◌∷◌, [], true, None, if◌then◌else◌, OnOk, OnErr, IsErr, IfOk, IfErr, length, slice_get};
+ghost use Rattle.std.specs.Prelude.{◌≡◌, ◌↔◌, ◌<◌, ◌≤◌, ◌++◌, ◌∷◌, [], true, None, if◌then◌else◌, OnOk, OnErr, IsErr, IfOk, IfErr, length, slice_get};
 ghost use Rattle.std.specs.Option.{option_copied};
 ghost use Rattle.std.specs.List.{list_any};
 ghost use Rattle.std.specs.FinMap as map;
@@ -83,6 +83,24 @@ impl Mailbox {
     {
         let place = *self.places.get(&number)?;
         self.turns.get(place)
+    }
+
+    /// Makes room for one more request to wait. Takes memory only if the mailbox is full.
+    ///
+    /// # Errors
+    ///
+    /// Out of memory: the mailbox is as before.
+    pub fn make_room(&mut self) -> Result<(), AllocError>
+        ensures room { OnOk result (length self.new.waiting < self.new.capacity) }
+        ensures kept { self.new ≡ record self.old { capacity = self.new.capacity } }
+        ensures unchanged { OnErr result (self.new ≡ self.old) }
+    {
+        if self.waiting.len() < self.capacity {
+            return Ok(());
+        }
+        self.waiting.reserve(1)?;
+        self.capacity = self.waiting.capacity();
+        Ok(())
     }
 
     /// Adds a request behind those that wait. It comes back if the mailbox is full. Takes no memory.
