@@ -1,6 +1,6 @@
 //! Which activation a grain has.
 
-ghost use Rattle.std.specs.Prelude.{◌≡◌, [], Some, None, OnOk, OnErr, IfErr, IfNone, IfSome, slice_get, length};
+ghost use Rattle.std.specs.Prelude.{◌≡◌, ◌<◌, ◌^◌, [], Some, None, OnOk, OnErr, IfErr, IfNone, IfSome, slice_get, length};
 ghost use Rattle.std.specs.Option.{option_copied, option_copied_mut, option_map};
 ghost use Rattle.std.specs.FinMap as map;
 ghost use Rattle.std.specs.Borrow.{sem};
@@ -119,8 +119,10 @@ impl Directory {
 
     /// How many grains of a tenant have an activation, by one look-up.
     pub fn count(&self, tenant: &str) -> usize
-        ensures { result ≡ count_in self.now.activations tenant.now }
+        ensures count { result ≡ count_in self.now.activations tenant.now }
+        ensures bound { result < 2 ^ 63 }
     {
+        let _all = self.places.len();
         counts::of(&self.numbers, tenant)
     }
 

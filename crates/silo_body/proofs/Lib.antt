@@ -5,6 +5,8 @@ pub mod Turns
 pub mod Idle
 pub mod Shows
 pub mod Steps
-pub mod Sweeps
-pub mod Ends
-pub mod Loads
+pub mod Verdicts
+pub mod Arrivals
+pub mod Takes
+pub mod Asks
+pub mod Calls

@@ -8,6 +8,8 @@ pub mod Changes
 pub mod Entries
 pub mod Held
 pub mod Moves
-pub mod Sweeps
-pub mod Finds
-pub mod Reads
+pub mod Deliveries
+pub mod Arrivals
+pub mod Verdicts
+pub mod Requests
+pub mod Overwrites

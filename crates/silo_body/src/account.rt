@@ -15,6 +15,8 @@ use std::collections::VecDeque;
 use std::marker::Model;
 use tenant_gate::Limits;
 
+mod sends;
+
 /// A call that a grain sent, and that is not yet delivered.
 #[derive(Drop)]
 pub struct Sent {

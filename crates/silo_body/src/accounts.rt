@@ -17,6 +17,8 @@ use std::collections::{BTreeMap, VecDeque};
 use std::marker::Model;
 use tenant_gate::{Limits, TenantTable};
 
+mod changes;
+
 /// The accounts of the known tenants, by the tenants' names.
 #[derive(Drop)]
 pub struct Accounts {

@@ -1,6 +1,6 @@
 //! The activations of all grains, as entries.
 
-ghost use Rattle.std.specs.Prelude.{◌≡◌, IfOk, OnOk, OnErr, IfSome, None};
+ghost use Rattle.std.specs.Prelude.{◌≡◌, ◌<◌, ◌^◌, IfOk, OnOk, OnErr, IfSome, None};
 ghost use Rattle.std.specs.Option.{option_copied, option_map};
 ghost use Rattle.std.specs.FinMap as map;
 ghost use Rattle.silo_model.proofs.Actives.{active_in};
@@ -65,7 +65,8 @@ impl<L: GrainLogic> Activations<L> {
 
     /// How many grains of a tenant have an activation.
     pub fn count(&self, tenant: &str) -> usize
-        ensures { result ≡ active_in self.now tenant.now }
+        ensures count { result ≡ active_in self.now tenant.now }
+        ensures bound { result < 2 ^ 63 }
     {
         self.directory.count(tenant)
     }

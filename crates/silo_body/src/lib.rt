@@ -10,6 +10,7 @@
 mod account;
 mod accounts;
 mod activations;
+mod arrival;
 mod body;
 mod change;
 mod finding;

@@ -1,1 +1,40 @@
 //! How what a grain sent is delivered.
+
+ghost use Rattle.std.specs.Prelude.{◌≡◌};
+ghost use Rattle.silo_event.specs.declared.step.Step.TheVariants as step;
+ghost use Rattle.silo_body.specs.Moves.{Moves};
+
+use crate::body::Body;
+use grain_id::GrainId;
+use grain_kinds::GrainLogic;
+use grain_storage::GrainStorage;
+use silo_event::{Answer, Party, StepFault};
+use std::alloc::Global;
+
+impl<S: GrainStorage, L: GrainLogic> Body<S, L> {
+    /// The first call that the grain sent is asked of its target, in the grain's name. If it is
+    /// refused, the grain is told.
+    ///
+    /// # Errors
+    ///
+    /// Out of memory: nothing changed.
+    pub fn deliver(&mut self, alloc: Global, grain: &GrainId) -> Result<Answer, StepFault>
+        ensures { Moves L.logic self.old (step.Deliver grain.now) result self.new }
+    {
+        let Some(account) = self.accounts.get(grain.tenant()) else {
+            return Ok(Answer::NotNow);
+        };
+        let Some((place, sent)) = account.first_from(grain) else {
+            return Ok(Answer::NotNow);
+        };
+        let target = sent.target.clone()?;
+        let message = sent.message.clone()?;
+        let sender = Party::Grain(grain.clone()?);
+        match self.refusal(alloc, &sender, &target)? {
+            Some(why) => self.tell(sender, Err(why))?,
+            None => self.accept(alloc, sender, &target, message)?,
+        }
+        self.accounts.take(grain.tenant(), place);
+        Ok(Answer::Done)
+    }
+}

@@ -7,11 +7,11 @@ use Rattle.std.specs.FinMap as map
 use Rattle.silo_body.specs.Shown.{entry_of}
 use Rattle.silo_body.proofs.activations.Activations.count.Goals as goal
 
-pub returns : goal.returns
-returns g c =
+pub returns-clause-count : goal.returns-clause-count
+returns-clause-count g c =
     let activations = c.self.inside.directory.activations in
     let tenant = c.args.tenant.now in
-    c.count.ensures
+    c.count.ensures.count
     ∙ sym (len-mapped grain_cmp_total grain_cmp_exact entry_of (map.retain_keys activations (is_of tenant)))
     ∙ ap map.len (mapped-part grain_cmp_total grain_cmp_exact entry_of activations (is_of tenant))
     ∙ ap (λ entries. active_in entries tenant) c.self.view_is

@@ -1,0 +1,148 @@
+-- What replies, refused lines and pokes come to, as steps of the whole.
+use Rattle.std.proofs.Common.{◌≡◌, ◌≢◌, ℕ, ◌+◌, Bool, true, false, not, List, ◌∷◌, [], ◌++◌, Option, Some, None, refl, ap, sym, ◌∙◌, subst, arith}
+use Rattle.std.specs.Prelude.{Result, Ok, Err, if◌then◌else◌, nat_eq}
+use Rattle.std.specs.FinMap as map
+use Rattle.std.proofs.lemmas.Bool.Decides.{nat_tests}
+use Rattle.grain_id.specs.Names.{Grain, Client}
+use Rattle.request_codec.specs.Tree.{Tree}
+use Rattle.grain_storage.specs.declared.row.Row.{Row}
+use Rattle.grain_storage.specs.Rows.{Rows, RowFault, stale, spent, is_spent, version_of, changed, written, poked}
+use Rattle.silo_event.specs.declared.fault.Fault.{Fault}
+use Rattle.silo_event.specs.declared.fault.Fault.TheVariants.{StorageFailed, VersionsSpent}
+use Rattle.silo_event.specs.declared.reply.Party.{Party}
+use Rattle.silo_event.specs.declared.reply.Party.TheVariants as party
+use Rattle.silo_event.specs.declared.reply.Reply.{Reply}
+use Rattle.silo_event.specs.declared.step.Step.{Step}
+use Rattle.silo_event.specs.declared.step.Step.TheVariants.{Poke}
+use Rattle.silo_event.specs.declared.step.Answer.{Answer}
+use Rattle.silo_event.specs.declared.step.Answer.TheVariants.{Done, Failed, NotNow}
+use Rattle.grain_kinds.specs.Logic.{Logic}
+use Rattle.silo_model.specs.Machine.{Account}
+use Rattle.silo_model.specs.Effect.{Change, change_at}
+use Rattle.silo_model.specs.Calls.{told}
+use Rattle.silo_model.specs.Stores.{row_poked, at_row, version_value}
+use Rattle.silo_model.specs.Whole.{Whole, whole_step}
+use Rattle.silo_model.proofs.Stored.{stores_at_one_row}
+use Rattle.silo_model.proofs.AskSteps.{poke_unknown_tenant, poke_across, poke_unknown_kind, poke_failed, poke_spent, poke_done}
+use Rattle.silo_body.specs.Held.{Held}
+use Rattle.silo_body.specs.Moves.{Moves}
+use Rattle.silo_body.specs.Requests.{with_told}
+use Rattle.silo_body.specs.Overwrites.{Overwrites}
+use Rattle.silo_body.specs.Verdicts.{gated}
+use Rattle.silo_body.proofs.Verdicts.{gated-cases}
+
+-- a step that only tells
+pub told_moves : (logic : Logic) (h new : Held) (s : Step) (recipient : Party) (outcome : Result Tree Fault)
+    → whole_step logic h.whole s ≡ Some (record h.whole { replies = h.whole.replies ++ told recipient outcome }) → new ≡ with_told h recipient outcome
+    → (whole_step logic h.whole s ≡ Some new.whole) × (new.failures ≡ h.failures)
+told_moves logic h new s recipient outcome step is = (step ∙ ap (λ (x : Held). Some x.whole) (sym is), ap (λ (x : Held). x.failures) is)
+
+-- ---- pokes
+
+abbrev value_or : {A E : Type 0} → A → Result A E → A
+value_or d (Ok x) = x
+value_or d (Err e) = d
+
+abbrev fault_or : {A E : Type 0} → E → Result A E → E
+fault_or d (Ok x) = d
+fault_or d (Err e) = e
+
+same_Ok : {A E : Type 0} (r : Result A E) (x y : A) → r ≡ Ok x → r ≡ Ok y → x ≡ y
+same_Ok r x y p q = ap (value_or x) (sym p ∙ q)
+
+same_Err : {A E : Type 0} (r : Result A E) (x y : E) → r ≡ Err x → r ≡ Err y → x ≡ y
+same_Err r x y p q = ap (fault_or x) (sym p ∙ q)
+
+-- a poke expects what is there
+either_not_stale : {A : Type 0} (b : Bool) (x : A) (found : Option ℕ) → (if b then Err spent else Ok x) ≡ Err (stale found) → ⊥
+either_not_stale true x found e = cc (e)
+either_not_stale false x found e = cc (e)
+
+same_number : (n : ℕ) → nat_eq n n ≡ true
+same_number n = grind (arith, nat_tests)
+
+changed_not_stale : {A : Type 0} (row : Option Row) (x : A) (found : Option ℕ) → changed (version_of row) row x ≡ Err (stale found) → ⊥
+changed_not_stale None x found e = cc (e)
+changed_not_stale (Some row) x found e =
+    either_not_stale (is_spent (Some row)) x found (subst (λ b. (if not b then Err (stale (Some row.version)) else if is_spent (Some row) then Err spent else Ok x) ≡ Err (stale found)) (same_number row.version) e)
+
+pub never_stale : (rows : Rows) (g : Grain) (content : Tree) (found : Option ℕ) → poked rows g content ≡ Err (stale found) → ⊥
+unfolding poked written
+never_stale rows g content found e = changed_not_stale (map.get rows g) _ found e
+
+module _ (logic : Logic) (w : Whole) (caller : Client) (id : ℕ) (g : Grain) (state : Tree) (failed : Bool) where
+  abbrev told_whole : Result Tree Fault → Whole
+  told_whole outcome = record w { replies = w.replies ++ told (party.Client caller id) outcome }
+
+  -- what the gate refuses, or that the poke passed
+  abbrev GateSays : Result Account Fault → Type 0
+  GateSays (Ok a) = (map.get w.accounts caller.tenant ≡ Some a) × (g.tenant ≡ caller.tenant) × (logic.knows g.kind ≡ true)
+  GateSays (Err why) = whole_step logic w (Poke caller id g state failed) ≡ Some (told_whole (Err why))
+
+  gate_says : GateSays (gated logic w caller.tenant g)
+  gate_says = gated-cases logic w caller.tenant g GateSays
+      (poke_unknown_tenant logic w caller id g state failed)
+      (poke_across logic w caller id g state failed)
+      (poke_unknown_kind logic w caller id g state failed)
+      (λ a known own knows. (known, own, knows))
+
+  pub poke_stopped : (why : Fault) → gated logic w caller.tenant g ≡ Err why → whole_step logic w (Poke caller id g state failed) ≡ Some (told_whole (Err why))
+  poke_stopped why is = subst GateSays is gate_says
+
+  module _ (a : Account) (passes : gated logic w caller.tenant g ≡ Ok a) where
+    passed : GateSays (Ok a)
+    passed = subst GateSays passes gate_says
+
+    pub poke_marked : failed ≡ true → whole_step logic w (Poke caller id g state failed) ≡ Some (told_whole (Err StorageFailed))
+    poke_marked is = poke_failed logic w caller id g state failed a passed.0 passed.1 passed.2 is
+
+    -- what the storage answered, at its one row
+    by_row : (r : Result (Option ℕ × Change Row) RowFault) → row_poked (map.get w.rows g) state ≡ r → (version : Option ℕ) (after : Rows) → at_row w.rows g r ≡ Ok (version, after)
+        → failed ≡ false → whole_step logic w (Poke caller id g state failed) ≡ Some (record w { rows = after; replies = w.replies ++ told (party.Client caller id) (Ok (version_value version)) })
+    by_row (Ok done) is version after same no_mark =
+        let parts = same_Ok (at_row w.rows g (Ok done)) (done.0, change_at w.rows g done.1) (version, after) refl same in
+        poke_done logic w caller id g state failed a passed.0 passed.1 passed.2 done.0 done.1 no_mark is
+        ∙ (λ i. Some (record w { rows = (parts i).1; replies = w.replies ++ told (party.Client caller id) (Ok (version_value (parts i).0)) }))
+    by_row (Err why) is version after same no_mark = absurd cc
+
+    pub poke_stored : (version : Option ℕ) (after : Rows) → poked w.rows g state ≡ Ok (version, after) → failed ≡ false
+        → whole_step logic w (Poke caller id g state failed) ≡ Some (record w { rows = after; replies = w.replies ++ told (party.Client caller id) (Ok (version_value version)) })
+    poke_stored version after is no_mark = by_row (row_poked (map.get w.rows g) state) refl version after (sym (stores_at_one_row.pokes w.rows g state) ∙ is) no_mark
+
+    by_fault : (r : Result (Option ℕ × Change Row) RowFault) → row_poked (map.get w.rows g) state ≡ r → at_row w.rows g r ≡ Err spent → row_poked (map.get w.rows g) state ≡ Err spent
+    by_fault (Ok done) is same = absurd cc
+    by_fault (Err why) is same = is ∙ ap Err (same_Err (at_row w.rows g (Err why)) why spent refl same)
+
+    pub poke_refused : poked w.rows g state ≡ Err spent → failed ≡ false → whole_step logic w (Poke caller id g state failed) ≡ Some (told_whole (Err (VersionsSpent g)))
+    poke_refused is no_mark =
+        poke_spent logic w caller id g state failed a passed.0 passed.1 passed.2 no_mark
+        (by_fault (row_poked (map.get w.rows g) state) refl (sym (stores_at_one_row.pokes w.rows g state) ∙ is))
+
+module _ (logic : Logic) (h : Held) (caller : Client) (id : ℕ) (g : Grain) (state : Tree) (failed : Bool) (a : Account) (passes : gated logic h.whole caller.tenant g ≡ Ok a) (no_mark : failed ≡ false) where
+  abbrev left : Rows → List Reply → ℕ → Held
+  left rows replies count = record { whole = record h.whole { rows = rows; replies = replies }; failures = count }
+
+  -- what a poke that passed comes to
+  pub poke_moves : (answer : Answer) (outcome : Result Tree Fault) (rows : Rows) (count : ℕ) (replies : List Reply) → Overwrites h.whole.rows h.failures g state answer outcome rows count
+      → replies ≡ h.whole.replies ++ told (party.Client caller id) outcome → Moves logic h (Poke caller id g state failed) (Ok answer) (left rows replies count)
+  poke_moves Done (Ok v) rows count replies o is = (
+    poke_stored logic h.whole caller id g state failed a passes o.0 rows o.1 no_mark
+        ∙ (λ i. Some (record h.whole { rows = rows; replies = h.whole.replies ++ told (party.Client caller id) (Ok (sym o.2 i)) }))
+        ∙ (λ i. Some (record h.whole { rows = rows; replies = sym is i })),
+    o.3,
+  )
+  poke_moves Done (Err why) rows count replies o is = (
+    poke_refused logic h.whole caller id g state failed a passes o.0 no_mark
+        ∙ (λ i. Some (record h.whole { rows = sym o.2 i; replies = h.whole.replies ++ told (party.Client caller id) (Err (sym o.1 i)) }))
+        ∙ (λ i. Some (record h.whole { rows = rows; replies = sym is i })),
+    o.3,
+  )
+  poke_moves Failed (Ok v) rows count replies o is = absurd o
+  poke_moves Failed (Err why) rows count replies o is = (
+    refl,
+    poke_marked logic h.whole caller id g state true a passes refl
+        ∙ (λ i. Some (record h.whole { rows = sym o.1 i; replies = h.whole.replies ++ told (party.Client caller id) (Err (sym o.0 i)) }))
+        ∙ (λ i. Some (record h.whole { rows = rows; replies = sym is i })),
+    o.2,
+  )
+  poke_moves NotNow outcome rows count replies o is = absurd o
