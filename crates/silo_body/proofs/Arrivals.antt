@@ -1,5 +1,5 @@
 -- What an activation, or a new one, is once a request came to it.
-use Rattle.std.proofs.Common.{◌≡◌, ℕ, List, [], ◌∷◌, ◌++◌, Option, Some, None, refl, ap, sym, ◌∙◌, subst}
+use Rattle.std.proofs.Common.{◌≡◌, ℕ, true, List, [], ◌∷◌, ◌++◌, Option, Some, None, refl, ap, sym, ◌∙◌, subst}
 use Rattle.std.specs.Prelude.{Result, Ok, Err, OnOk, OnErr, map as map_list}
 use Rattle.std.specs.List.{AllByRecursion}
 use Rattle.std.specs.FinMap as map
@@ -41,7 +41,12 @@ module _ (logic : Logic) (m : FinMap grain_cmp Activation) (g : Grain) (request 
         ∙ ap (λ o. map.insert (entries_of m) g (with_request clock (request_of request) o)) (sym (get-entries m g (Some a) found))
 
     mail_arrived : (capacity : ℕ) → AreMarked logic g a.mailbox → IsMarked logic g request → AreMarked logic g (arrived a capacity request clock).mailbox
-    mail_arrived capacity marked mark = record { waiting = all-more (IsMarked logic g) a.mailbox.waiting request marked.waiting mark; opened = marked.opened }
+    mail_arrived capacity marked mark = record {
+      known = marked.known;
+      waiting = all-more (IsMarked logic g) a.mailbox.waiting request marked.waiting mark;
+      opened = marked.opened;
+      numbered = marked.numbered;
+    }
 
     module _ {A E : Type 0} (capacity : ℕ) (result : Result A E) (done : OnOk result (after ≡ arrived a capacity request clock)) (kept : OnErr result (after ≡ a)) where
       pub arrive_shows : OnOk result (entries_of (map.insert m g after) ≡ waits)
@@ -75,8 +80,10 @@ module _ (logic : Logic) (m : FinMap grain_cmp Activation) (g : Grain) (request 
         ∙ ap (λ turns. map.insert (entries_of m) g (record (with_request clock (request_of request) None) { turns = turns })) (mapped-empty nat_cmp_total nat_cmp-IsAntisymmetric request_of)
         ∙ ap (λ o. map.insert (entries_of m) g (with_request clock (request_of request) o)) (sym (get-entries m g None absent))
 
-    pub first_marked : AllMarked logic m → IsMarked logic g request → AllMarked logic (map.insert m g a)
-    first_marked all mark = marked-put logic m g a all (subst (λ (x : Activation). AreMarked logic g x.mailbox) (sym is) (record {
+    pub first_marked : AllMarked logic m → logic.knows g.kind ≡ true → IsMarked logic g request → AllMarked logic (map.insert m g a)
+    first_marked all known mark = marked-put logic m g a all (subst (λ (x : Activation). AreMarked logic g x.mailbox) (sym is) (record {
+      known = known;
       waiting = (mark, tt);
       opened = λ number turn there. absurd (none-some turn (sym (map.get-empty nat_cmp number) ∙ there));
+      numbered = λ number turn there. absurd (none-some turn (sym (map.get-empty nat_cmp number) ∙ there));
     }))

@@ -10,3 +10,6 @@ pub mod Arrivals
 pub mod Takes
 pub mod Asks
 pub mod Calls
+pub mod Sweeps
+pub mod Ends
+pub mod Loads

@@ -89,6 +89,7 @@ module _ (logic : Logic) (w : Whole) (t : List ℕ) (g : Grain) where
 pub record Accepts (logic : Logic) (w : Whole) (t : List ℕ) (g : Grain) (a : Account) : Type 0 where
   pub known : map.get w.accounts t ≡ Some a
   pub own : g.tenant ≡ t
+  pub knows : logic.knows g.kind ≡ true
   pub left : (a.count == last_number) ≡ false
 
 abbrev IfAccepts : Logic → Whole → List ℕ → Grain → Result Account Fault → Type 0
@@ -99,8 +100,8 @@ pub accepts : (logic : Logic) (w : Whole) (t : List ℕ) (g : Grain) (a : Accoun
 accepts logic w t g a is =
     subst (IfAccepts logic w t g) is
     (verdict-cases logic w t g (IfAccepts logic w t g) (λ _. tt) (λ _ _ _. tt) (λ _ _ _ _. tt) (λ _ _ _ _ _. tt) (λ _ _ _ _ _ _ _. tt)
-    (λ x known own knows left absent free. record { known = known; own = own; left = left }) (λ _ _ _ _ _ _ _ _. tt)
-    (λ x known own knows left e found free. record { known = known; own = own; left = left }))
+    (λ x known own knows left absent free. record { known = known; own = own; knows = knows; left = left }) (λ _ _ _ _ _ _ _ _. tt)
+    (λ x known own knows left e found free. record { known = known; own = own; knows = knows; left = left }))
 
 -- ---- a call
 

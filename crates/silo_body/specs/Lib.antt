@@ -13,3 +13,6 @@ pub mod Arrivals
 pub mod Verdicts
 pub mod Requests
 pub mod Overwrites
+pub mod Sweeps
+pub mod Finds
+pub mod Reads

@@ -1,14 +1,11 @@
 //! What a tenant's grains sent, and is not yet delivered.
 
-ghost use Rattle.std.specs.Prelude.{◌≡◌, ◌++◌, OnOk, OnErr, map};
+ghost use Rattle.std.specs.Prelude.{◌≡◌};
 ghost use Rattle.std.specs.List.{remove};
-ghost use Rattle.grain_id.specs.Names.{grain_eq};
-ghost use Rattle.silo_body.specs.Sends.{send_of};
 ghost use Rattle.silo_body.specs.Deliveries.{FindsFirst, place_from};
 
 use crate::account::{Account, Sent};
 use grain_id::GrainId;
-use std::alloc::AllocError;
 use std::collections::VecDeque;
 
 impl Account {
@@ -30,18 +27,6 @@ impl Account {
         ensures { self.new ≡ record self.old { sends = remove self.old.sends place } }
     {
         drop(self.sends.remove(place));
-    }
-
-    /// These calls go last among what was sent.
-    ///
-    /// # Errors
-    ///
-    /// Out of memory: nothing changed.
-    pub fn send_all(&mut self, mut sends: VecDeque<Sent>) -> Result<(), AllocError>
-        ensures sent { OnOk result (self.new ≡ record self.old { sends = self.old.sends ++ map send_of sends.items }) }
-        ensures unchanged { OnErr result (self.new ≡ self.old) }
-    {
-        self.sends.append(&mut sends)
     }
 }
 

@@ -1,6 +1,6 @@
 //! How requests come to an activation.
 
-ghost use Rattle.std.specs.Prelude.{◌≡◌, OnOk, OnErr, length};
+ghost use Rattle.std.specs.Prelude.{◌≡◌, true, OnOk, OnErr, length};
 ghost use Rattle.std.specs.Option.{option_map};
 ghost use Rattle.std.specs.FinMap as map;
 ghost use Rattle.silo_model.specs.Calls.{with_request};
@@ -39,7 +39,8 @@ impl<L: GrainLogic> Activations<L> {
         request: Request,
         clock: u64,
     ) -> Result<(), AllocError>
-        requires { IsMarked L.logic grain.now request }
+        requires known { L.logic.knows grain.now.kind ≡ true }
+        requires marked { IsMarked L.logic grain.now request }
         ensures waits { OnOk result (self.new ≡ map.insert self.old grain.now (with_request clock (request_of request) (map.get self.old grain.now))) }
         ensures unchanged { OnErr result (self.new ≡ self.old) }
     {

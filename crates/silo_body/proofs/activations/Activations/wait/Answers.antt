@@ -15,7 +15,7 @@ use Rattle.silo_body.proofs.activations.Activations.wait.Goals as goal
 pub invariant_of-self : goal.invariant_of-self
 invariant_of-self g c =
     arrive_marked g.L.GrainLogic.logic c.self.inside.directory.activations c.args.grain.now c.args.request c.args.clock c.in-Some.activation.now c.arrive.new.activation (sym c.in-Some.ensures.value)
-    c.arrive.new.activation.mailbox.capacity c.arrive.result c.arrive.ensures.arrived c.arrive.ensures.unchanged c.self.invariant c.requires
+    c.arrive.new.activation.mailbox.capacity c.arrive.result c.arrive.ensures.arrived c.arrive.ensures.unchanged c.self.invariant c.requires.marked
 
 pub returns-in-Some-clause-waits : goal.returns-in-Some-clause-waits
 returns-in-Some-clause-waits g c =
@@ -41,7 +41,7 @@ invariant_of-self-2 g c =
     let m = c.self.inside.directory.activations in
     let a = c.in_ok-activation.activation in
     subst (λ (after : FinMap grain_cmp Activation). AllMarked g.L.GrainLogic.logic after) (sym (c.in-Ok.ensures.entered ∙ ap (λ k. map.insert m k a) c.in_ok-clone.ensures.cases))
-    (first_marked g.L.GrainLogic.logic m c.args.grain.now c.args.request c.args.clock a c.in_ok-activation.ensures (sym c.in_default.ensures.value) c.self.invariant c.requires)
+    (first_marked g.L.GrainLogic.logic m c.args.grain.now c.args.request c.args.clock a c.in_ok-activation.ensures (sym c.in_default.ensures.value) c.self.invariant c.requires.known c.requires.marked)
 
 pub returns-clause-waits : goal.returns-clause-waits
 returns-clause-waits g c =
