@@ -1,7 +1,7 @@
 //! Activations that come and go, and the numbers of their tenants.
 
 use activation_directory::{Activation, Directory, Phase};
-use grain_id::{GrainId, Tenant};
+use grain_id::GrainId;
 use std::alloc::{AllocError, Global};
 use std::test::Fail;
 use turn_mailbox::Mailbox;
@@ -70,8 +70,8 @@ fn remove(alloc: Global, directory: &mut Directory, text: &str) -> Result<u64, F
     }
 }
 
-fn count(alloc: Global, directory: &Directory, tenant: &str) -> Result<u64, Fail> {
-    Ok(directory.count(&Tenant::read(alloc, tenant)?) as u64)
+fn count(directory: &Directory, tenant: &str) -> u64 {
+    directory.count(tenant) as u64
 }
 
 fn at(directory: &Directory, place: usize) -> u64 {
@@ -88,7 +88,7 @@ fn answer(alloc: Global, directory: &mut Directory, call: Call) -> Result<u64, F
         Call::Get(text) => get(alloc, directory, text),
         Call::Change(text, last) => change(alloc, directory, text, last),
         Call::Remove(text) => remove(alloc, directory, text),
-        Call::Count(tenant) => count(alloc, directory, tenant),
+        Call::Count(tenant) => Ok(count(directory, tenant)),
         Call::Len => Ok(directory.len() as u64),
         Call::At(place) => Ok(at(directory, place)),
     }
