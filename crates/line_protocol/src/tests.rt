@@ -317,8 +317,20 @@ fn form_said(alloc: Global, line: &str) -> Result<u64, Fail> {
         Line::Step(Step::Deliver { .. }) => Ok(3),
         Line::Step(Step::Load { failed: true, .. }) => Ok(4),
         Line::Step(Step::Load { failed: false, .. }) => Ok(5),
-        Line::Step(Step::Store { turn, failed: true, .. }) => Ok(turn),
-        Line::Step(Step::Store { turn, failed: false, .. }) => Ok(turn),
+        Line::Step(
+            Step::Store {
+                turn,
+                failed: true,
+                ..
+            },
+        ) => Ok(turn),
+        Line::Step(
+            Step::Store {
+                turn,
+                failed: false,
+                ..
+            },
+        ) => Ok(turn),
         Line::Step(Step::Abandon { turn, .. }) => Ok(turn),
         Line::Step(Step::Tick { now }) => Ok(now.get()),
         Line::Step(Step::Sweep) => Ok(10),
@@ -353,8 +365,7 @@ fn refuses_what_is_beyond_the_limits(rt: HostRuntime) -> Result<(), Fail> {
     let deep = nested(rt.alloc(), 33)?;
     let same = says_refuse(rt.alloc(), deep.as_slice(), Refusal::TooDeep)?;
     assert!(rt; same);
-    let not_whole =
-        br#"{"op":"poke","from":"red/c1","id":1,"grain":"counter","state":[1.5]}"#;
+    let not_whole = br#"{"op":"poke","from":"red/c1","id":1,"grain":"counter","state":[1.5]}"#;
     let same = says_refuse(rt.alloc(), not_whole, Refusal::NotWhole)?;
     assert!(rt; same);
     let no_grain = br#"{"op":"poke","from":"red/c1","id":1,"grain":"counter","state":[1]}"#;

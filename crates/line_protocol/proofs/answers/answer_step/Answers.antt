@@ -1,6 +1,6 @@
 use Rattle.grain_kinds.specs.Counters.{counters}
 use Rattle.silo_core.specs.History.{Advances, StepsInParts}
-use Rattle.line_protocol.proofs.Answered.{alone_done, whatever}
+use Rattle.line_protocol.proofs.StepTexts.{alone_done, whatever}
 use Rattle.line_protocol.proofs.answers.answer_step.Goals as goal
 
 pub returns-in-Ok-Done-clause-alone : goal.returns-in-Ok-Done-clause-alone

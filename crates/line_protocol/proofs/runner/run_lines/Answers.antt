@@ -2,7 +2,7 @@ use Rattle.std.proofs.Common.{Ok, Err, ap, ◌∙◌, arith}
 use Rattle.std.proofs.lemmas.Result.{err_from_is_err_and}
 use Rattle.line_protocol.specs.Place.{bytes_at}
 use Rattle.line_protocol.proofs.Pieces.{slice_range_empty, slice_range_some}
-use Rattle.line_protocol.proofs.Taken.{LinesTaken-self}
+use Rattle.line_protocol.proofs.LinesOfBytes.{LinesTaken-self}
 use Rattle.line_protocol.proofs.Run.{SoFar-none, same_said, SoFar-more, SoFar-kept, SoFar-same, SoFar-flushed, SoFar-alone, stops_reading, stops_full, stops_answering, handed_on}
 use Rattle.line_protocol.proofs.runner.run_lines.Goals as goal
 
