@@ -1,12 +1,12 @@
 -- How the program ends, by its status: what the words ask for, what was read and written, and what was told.
-use Rattle.std.specs.Prelude.{◌≡◌, ◌≤◌, ◌⊎◌, ◌++◌, ◌∷◌, ℕ, List, [], length, Option, Some, IfSome, string_bytes}
-use Rattle.std.specs.FinMap as map
+use Rattle.std.specs.Prelude.{◌≡◌, ◌≤◌, ◌⊎◌, ◌++◌, ℕ, List, [], length, Option, Some, IfSome, string_bytes}
 use Rattle.std.specs.Io.KnownBytes.{Appends, Keeps}
 use Rattle.clap.specs.Words.{Text}
 use Rattle.tenant_gate.specs.declared.limits.Limits.{Limits}
 use Rattle.grain_kinds.specs.Counters.{counters}
 use Rattle.silo_model.specs.Opening.{Setup, opening, start_of}
 use Rattle.silo_model.specs.Run.{whole_run}
+use Rattle.silo_core.specs.Shown.{setup_of}
 use Rattle.line_protocol.specs.Lines.{lines_of}
 use Rattle.line_protocol.specs.Out.{whole_stepper, machine_stepper, lines_text, steps_of}
 use Rattle.line_protocol.specs.Running.{LinesConcern, WrittenInPart}

@@ -8,7 +8,7 @@ ghost use Rattle.silo_console.specs.Words.{AskFor, EndsWithExample, IsAge, IsFau
 use clap::error::ErrorKind;
 use clap::{Arg, ArgAction, ArgMatches, Command, Error, value_parser};
 use std::alloc::{AllocError, Global};
-use tenant_gate::Age;
+use tenant_gate::MAX_AGE_MILLISECONDS;
 
 /// What the program calls itself, whatever its file is called.
 const PROGRAM: &str = "silo";
@@ -28,15 +28,12 @@ pub const EXAMPLE: &str = concat!(
 /// The age when `--age` is left out.
 const DEFAULT_AGE_MILLISECONDS: u64 = 900_000;
 
-/// The longest age: a day.
-const MAX_AGE_MILLISECONDS: u64 = 86_400_000;
-
 /// What the words ask for.
 #[derive(Drop)]
 pub enum Task<'a> {
-    /// Read every step from standard input, with the age and the tenant arguments as they are
-    /// written.
-    Steps { age: Age, tenants: Vec<&'a str> },
+    /// Read every step from standard input, with the age in milliseconds (1 to 86,400,000) and the
+    /// tenant arguments as they are written.
+    Steps { age: u64, tenants: Vec<&'a str> },
 }
 
 /// Why the words ask for nothing.

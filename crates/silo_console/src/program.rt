@@ -5,8 +5,10 @@ ghost use Rattle.std.specs.Io.KnownBytes.{Appends, Keeps};
 ghost use Rattle.clap.specs.Words.{Text};
 ghost use Rattle.line_protocol.specs.Running.{WrittenInPart};
 ghost use Rattle.line_protocol.specs.declared.fault.LineFault.{LineFault as Cause};
+ghost use Rattle.tenant_gate.specs.Age.{IsAge};
+ghost use Rattle.silo_core.specs.Shown.{setup_of};
 ghost use Rattle.silo_console.specs.Status.{IsTenantsFault, failure_text};
-ghost use Rattle.silo_console.specs.Steps.{AnswersSteps, AreRefusedBy, EndsWell, FailsBy, IsFaultOf, StopsSteps, setup_of};
+ghost use Rattle.silo_console.specs.Steps.{AnswersSteps, AreRefusedBy, EndsWell, FailsBy, IsFaultOf, StopsSteps};
 ghost use Rattle.silo_console.specs.Words.{IsWhy, texts_of};
 
 use crate::command_line::{Task, WordsFault, read_words};
@@ -67,16 +69,20 @@ fn explain_tenants(alloc: Global, fault: TenantsFault) -> ProgramFault
 fn answer_lines<R: Read, W: Write>(
     alloc: Global,
     served: TenantLimits,
-    age: Age,
+    age: u64,
     reader: &mut R,
     writer: &mut W,
 ) -> Result<(), LineFault>
+    requires { IsAge age }
     ensures answered { OnOk result (IfSome (R.remaining reader.old) (λ input.
         AnswersSteps (setup_of served.tenant served.limits age) input (R.remaining reader.new) (W.contents writer.old) (W.contents writer.new))) }
     ensures stopped { IfErr result (λ why. IfSome (R.remaining reader.old) (λ input.
         StopsSteps (setup_of served.tenant served.limits age) why input (W.contents writer.old) (W.contents writer.new))) }
 {
     let TenantLimits { tenant, limits } = served;
+    let Some(age) = Age::new(age) else {
+        unreachable!();
+    };
     let Ok(mut silo) = Silo::new(alloc, tenant, limits, age) else {
         return Err(LineFault::Memory);
     };
@@ -101,6 +107,7 @@ fn answer_steps<R: Read, W: Write>(
     reader: &mut R,
     writer: &mut W,
 ) -> Result<(), LineFault>
+    requires { IsAge age }
     ensures answered { OnOk result (IfSome (R.remaining reader.old) (λ input.
         AnswersSteps (setup_of served.tenant served.limits age) input (R.remaining reader.new) (W.contents writer.old) (W.contents writer.new))) }
     ensures stopped { IfErr result (λ why. IfSome (R.remaining reader.old) (λ input.
