@@ -17,6 +17,7 @@ from .steps import OF_A_CALLER, OF_NOBODY
 
 MAX_WORKERS = 64
 DEFAULT_WORKERS = 4
+VERSION = b"silo 0.1.0\n"
 FINE, BROKEN, BAD_WORDS, DIFFERS, BAD_JOURNAL = range(5)
 
 
@@ -184,6 +185,8 @@ def run_program(words: list[str], data: bytes = b"", files: Optional[dict] = Non
     files = dict(files or {})
     if asks_for_help(words, built):
         return Run(None, b"", FINE, files)
+    if words in [["--version"], ["-V"]]:
+        return Run(VERSION, b"", FINE, files)
     written: list[bytes] = []
     status, errors = FINE, b""
     try:
