@@ -309,57 +309,6 @@ fn says_refuse(alloc: Global, line: &[u8], code: Refusal) -> Result<bool, Fail> 
     }
 }
 
-/// A number for each form of line but the call, by the step that the line says.
-fn form_said(alloc: Global, line: &str) -> Result<u64, Fail> {
-    match read_line(alloc, &mut LineRoom::new(alloc)?, line.as_bytes())? {
-        Line::Step(Step::Poke { failed: false, .. }) => Ok(1),
-        Line::Step(Step::Status { id, .. }) => Ok(id),
-        Line::Step(Step::Deliver { .. }) => Ok(3),
-        Line::Step(Step::Load { failed: true, .. }) => Ok(4),
-        Line::Step(Step::Load { failed: false, .. }) => Ok(5),
-        Line::Step(
-            Step::Store {
-                turn,
-                failed: true,
-                ..
-            },
-        ) => Ok(turn),
-        Line::Step(
-            Step::Store {
-                turn,
-                failed: false,
-                ..
-            },
-        ) => Ok(turn),
-        Line::Step(Step::Abandon { turn, .. }) => Ok(turn),
-        Line::Step(Step::Tick { now }) => Ok(now.get()),
-        Line::Step(Step::Sweep) => Ok(10),
-        _ => Ok(0),
-    }
-}
-
-#[test]
-fn reads_all_forms(rt: HostRuntime) -> Result<(), Fail> {
-    let forms = [
-        r#"{"op":"poke","from":"red/c1","id":1,"grain":"counter/red:a","state":{"b":[1],"a":null}}"#,
-        r#"{"op":"status","from":"red/c1","id":2}"#,
-        r#"{"op":"deliver","grain":"relay/red:r"}"#,
-        r#"{"op":"load","grain":"counter/red:a","failed":true}"#,
-        r#"{"failed":false,"grain":"counter/red:a","op":"load"}"#,
-        r#"{"op":"store","grain":"counter/red:a","turn":6,"failed":true}"#,
-        r#"{"op":"store","grain":"counter/red:a","turn":7}"#,
-        r#"{"op":"abandon","grain":"counter/red:a","turn":8}"#,
-        r#"{"op":"tick","now":9}"#,
-        r#"{"op":"sweep"}"#,
-    ];
-    let mut number = 0;
-    for form in forms {
-        number += 1;
-        assert_eq!(rt; form_said(rt.alloc(), form)?, number);
-    }
-    Ok(())
-}
-
 #[test]
 fn refuses_what_is_beyond_the_limits(rt: HostRuntime) -> Result<(), Fail> {
     let deep = nested(rt.alloc(), 33)?;
