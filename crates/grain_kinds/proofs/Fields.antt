@@ -3,7 +3,7 @@ use Rattle.std.proofs.Common.{◌≡◌, List, [], ◌∷◌, Option, Some, None
 use Rattle.std.specs.Prelude.{is_some}
 use Rattle.request_codec.specs.Tree as tree
 use Rattle.request_codec.specs.Tree.{Tree, member, members_of}
-use Rattle.turn_arena.specs.Shape.{shape, field_shapes}
+use Rattle.turn_arena.specs.NodeValue.{node_value, field_values}
 use Rattle.turn_arena.specs.declared.node.Field.{Field}
 use Rattle.turn_arena.specs.declared.node.Node.{Node}
 use Rattle.grain_kinds.specs.Sheet.{names_in}
@@ -11,10 +11,10 @@ use Rattle.grain_kinds.specs.Sheet.{names_in}
 abbrev pub name_text : Field → Tree
 name_text f = tree.text f.name.now
 
-pub texts_are_names : (fs : List Field) → members_of (map name_text fs) ≡ names_in (field_shapes fs)
+pub texts_are_names : (fs : List Field) → members_of (map name_text fs) ≡ names_in (field_values fs)
 texts_are_names [] = refl
 texts_are_names (f ∷ fs) = ap (member (name_text f)) (texts_are_names fs)
 
-pub is_some-shape : (o : Option Node) → is_some o ≡ is_some (option_map shape o)
-is_some-shape None = refl
-is_some-shape (Some n) = refl
+pub is_some-node_value : (o : Option Node) → is_some o ≡ is_some (option_map node_value o)
+is_some-node_value None = refl
+is_some-node_value (Some n) = refl

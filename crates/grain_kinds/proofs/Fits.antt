@@ -32,7 +32,7 @@ mutual
   pub formed_ascends : (v : Tree) → IsFormed v → MapsAscend v
   formed_ascends tree.null h = tt
   formed_ascends (tree.truth b) h = tt
-  formed_ascends (tree.whole i) h = tt
+  formed_ascends (tree.integer i) h = tt
   formed_ascends (tree.text s) h = tt
   formed_ascends (tree.list vs) h = members_ascend vs h
   formed_ascends (tree.map fs) h = fields_ascend fs h

@@ -4,7 +4,7 @@ use Rattle.std.specs.List.{AllByRecursion}
 use Rattle.std.specs.Option.{unwrap_or}
 use Rattle.request_codec.specs.Call.{asks}
 use Rattle.request_codec.specs.Tree.{Tree}
-use Rattle.turn_arena.specs.Shape.{shape}
+use Rattle.turn_arena.specs.NodeValue.{node_value}
 use Rattle.turn_arena.specs.declared.node.Node.{Node}
 use Rattle.grain_kinds.specs.Laws.{FitsState, FitsMessage, FitsSend, KeepsLimits}
 use Rattle.grain_kinds.specs.Logic as logic
@@ -13,15 +13,15 @@ use Rattle.grain_kinds.specs.declared.fault.MethodFault.{MethodFault}
 use Rattle.grain_kinds.specs.declared.plan.Plan.{Plan}
 use Rattle.grain_kinds.specs.declared.plan.Send.{Send}
 
-next_fits : (next : Option Node) (state : Tree) → FitsState (unwrap_or (option_map shape next) state) → IfSome next (λ n. FitsState (shape n))
+next_fits : (next : Option Node) (state : Tree) → FitsState (unwrap_or (option_map node_value next) state) → IfSome next (λ n. FitsState (node_value n))
 next_fits None state h = tt
 next_fits (Some n) state h = h
 
-outcome_fits : (outcome : Result Node MethodFault) → IfOk (outcome_shown outcome) FitsState → IfOk outcome (λ n. FitsState (shape n))
+outcome_fits : (outcome : Result Node MethodFault) → IfOk (outcome_shown outcome) FitsState → IfOk outcome (λ n. FitsState (node_value n))
 outcome_fits (Ok n) h = h
 outcome_fits (Err fault) h = tt
 
-sends_fit : (sends : List Send) → AllByRecursion FitsSend (map send_shown sends) → AllByRecursion (λ s. FitsMessage (asks s.method.now (shape s.args))) sends
+sends_fit : (sends : List Send) → AllByRecursion FitsSend (map send_shown sends) → AllByRecursion (λ s. FitsMessage (asks s.method.now (node_value s.args))) sends
 sends_fit [] h = tt
 sends_fit (s ∷ ss) h = (h.0.call_fits, sends_fit ss h.1)
 

@@ -35,7 +35,7 @@ two_fields first second (tree.map (field n v no_fields)) x y e = none_two x y _ 
 two_fields first second (tree.map no_fields) x y e = none_two x y _ e
 two_fields first second tree.null x y e = none_two x y _ e
 two_fields first second (tree.truth b) x y e = none_two x y _ e
-two_fields first second (tree.whole i) x y e = none_two x y _ e
+two_fields first second (tree.integer i) x y e = none_two x y _ e
 two_fields first second (tree.text s) x y e = none_two x y _ e
 two_fields first second (tree.list vs) x y e = none_two x y _ e
 
@@ -44,7 +44,7 @@ pub text_is : (v : Tree) (s : List ℕ) → text_value v ≡ Some s → v ≡ tr
 text_is (tree.text t) s e = ap tree.text (same_Some t s e)
 text_is tree.null s e = absurd cc
 text_is (tree.truth b) s e = absurd cc
-text_is (tree.whole i) s e = absurd cc
+text_is (tree.integer i) s e = absurd cc
 text_is (tree.list vs) s e = absurd cc
 text_is (tree.map fs) s e = absurd cc
 
@@ -81,7 +81,7 @@ field_formed name (tree.map (field n v (field m w fs))) x e h = absurd cc
 field_formed name (tree.map no_fields) x e h = absurd cc
 field_formed name tree.null x e h = absurd cc
 field_formed name (tree.truth b) x e h = absurd cc
-field_formed name (tree.whole i) x e h = absurd cc
+field_formed name (tree.integer i) x e h = absurd cc
 field_formed name (tree.text s) x e h = absurd cc
 field_formed name (tree.list vs) x e h = absurd cc
 
@@ -99,7 +99,7 @@ pub text_first : (v w : Tree) (s : List ℕ) (x : Tree) → ◌≡◌ {A = Optio
 text_first (tree.text t) w s x e = let parts = some_pair_parts t s w x e in (ap tree.text parts.0, parts.1)
 text_first tree.null w s x e = absurd cc
 text_first (tree.truth b) w s x e = absurd cc
-text_first (tree.whole i) w s x e = absurd cc
+text_first (tree.integer i) w s x e = absurd cc
 text_first (tree.list vs) w s x e = absurd cc
 text_first (tree.map fs) w s x e = absurd cc
 
@@ -107,6 +107,6 @@ pub text_second : (v w : Tree) (s : List ℕ) (x : Tree) → ◌≡◌ {A = Opti
 text_second v (tree.text t) s x e = let parts = some_pair_parts v x t s e in (parts.0, ap tree.text parts.1)
 text_second v tree.null s x e = absurd cc
 text_second v (tree.truth b) s x e = absurd cc
-text_second v (tree.whole i) s x e = absurd cc
+text_second v (tree.integer i) s x e = absurd cc
 text_second v (tree.list vs) s x e = absurd cc
 text_second v (tree.map fs) s x e = absurd cc

@@ -2,7 +2,7 @@
 use Rattle.std.specs.Prelude.{ℕ, Bool, false, ◌||◌, List, Err, pos, if◌then◌else◌, codes}
 use Rattle.grain_id.specs.Names.{same_text}
 use Rattle.request_codec.specs.Tree as tree
-use Rattle.request_codec.specs.Tree.{Tree, null, whole, list, no_members, no_fields}
+use Rattle.request_codec.specs.Tree.{Tree, null, integer, list, no_members, no_fields}
 use Rattle.grain_kinds.specs.declared.fault.MethodFault.TheVariants.{UnknownMethod}
 use Rattle.grain_kinds.specs.Logic.{Logic, Plan}
 use Rattle.grain_kinds.specs.Shared.{keeps}
@@ -32,7 +32,7 @@ only_reads kind method =
 -- 0, the empty map, the empty list; null for a kind that isn't known
 abbrev pub empty_state : List ℕ → Tree
 empty_state kind =
-    if is_counter kind then whole (pos 0)
+    if is_counter kind then integer (pos 0)
     else if is_sheet kind then tree.map no_fields
     else if is_relay kind then list no_members
     else null

@@ -7,13 +7,13 @@ use Rattle.grain_id.specs.Order.{same_text_decides}
 use Rattle.request_codec.specs.Call.{Call}
 use Rattle.request_codec.specs.Formed.{IsFormed}
 use Rattle.request_codec.specs.Tree as tree
-use Rattle.request_codec.specs.Tree.{Tree, whole}
+use Rattle.request_codec.specs.Tree.{Tree, integer}
 use Rattle.grain_kinds.specs.declared.fault.MethodFault.TheVariants.{OutOfRange}
 use Rattle.grain_kinds.specs.Counter.{number_of, fits_64, add_to, add_plan, get_plan, number_plan, counter_plan}
 use Rattle.grain_kinds.specs.Laws.{ChangesNothing}
 use Rattle.grain_kinds.specs.LawsOfForms.{ObeysLaws, whole_fits, if_holds, keeps_obeys, keeps_changes_nothing, fault_obeys, becomes_obeys, for_null_obeys, for_null_changes_nothing, for_shape_obeys, shared_obeys}
 use Rattle.grain_kinds.specs.Logic.{Plan}
-use Rattle.grain_kinds.specs.Shared.{whole_field, shared_plan}
+use Rattle.grain_kinds.specs.Shared.{integer_field, shared_plan}
 
 -- what passes the test is a number of 64 bits
 fits : (i : ℤ) → fits_64 i ≡ true → FitsSigned w64 i
@@ -24,7 +24,7 @@ pub zero_fits : FitsSigned w64 (pos 0)
 zero_fits = fits (pos 0) refl
 
 number_fits : (state : Tree) → IsFormed state → FitsSigned w64 (number_of state)
-number_fits (whole i) formed = formed
+number_fits (integer i) formed = formed
 number_fits tree.null formed = zero_fits
 number_fits (tree.truth b) formed = zero_fits
 number_fits (tree.text s) formed = zero_fits
@@ -34,7 +34,7 @@ number_fits (tree.map fs) formed = zero_fits
 add_obeys : (state : Tree) (call : Call) (sum : ℤ) → ObeysLaws state call (add_to state sum)
 add_obeys state call sum =
     if_holds (ObeysLaws state call) (fits_64 sum) _ _
-    (λ e. becomes_obeys state call (whole sum) (whole sum) (λ s m. (whole_fits sum (fits sum e), whole_fits sum (fits sum e))))
+    (λ e. becomes_obeys state call (integer sum) (integer sum) (λ s m. (whole_fits sum (fits sum e), whole_fits sum (fits sum e))))
     (λ e. fault_obeys state call OutOfRange)
 
 get_obeys : (state : Tree) (call : Call) → ObeysLaws state call (get_plan state)
@@ -44,7 +44,7 @@ pub number_obeys : (other : Plan) (method : List ℕ) (state argument : Tree) (c
 unfolding number_plan
 number_obeys other method state argument call obeys =
     if_holds (ObeysLaws state call) (same_text method (codes "add")) _ _
-    (λ e. for_shape_obeys state call (whole_field (codes "by") argument) (add_plan state) (λ by is. add_obeys state call (number_of state +ℤ by)))
+    (λ e. for_shape_obeys state call (integer_field (codes "by") argument) (add_plan state) (λ by is. add_obeys state call (number_of state +ℤ by)))
     (λ e. if_holds (ObeysLaws state call) (same_text method (codes "get")) _ _ (λ e. for_null_obeys state argument call _ (get_obeys state call)) (λ e. obeys))
 
 pub counter_obeys : (method : List ℕ) (state argument : Tree) (call : Call) → ObeysLaws state call (counter_plan method state argument)

@@ -4,7 +4,7 @@ use Rattle.std.specs.Prelude.{ℤ, IfOk, FitsSigned, if◌then◌else◌, codes}
 use Rattle.std.specs.Int.{w64}
 use Rattle.grain_id.specs.Names.{same_text}
 use Rattle.request_codec.specs.Call.{Call}
-use Rattle.request_codec.specs.Tree.{Tree, null, truth, whole}
+use Rattle.request_codec.specs.Tree.{Tree, null, truth, integer}
 use Rattle.grain_kinds.specs.declared.fault.MethodFault.{MethodFault}
 use Rattle.grain_kinds.specs.declared.fault.MethodFault.TheVariants.{UnknownMethod, Misfit}
 use Rattle.grain_kinds.specs.Laws.{FitsState, FitsMessage, ChangesNothing, LeavesAllToStorage, KeepsLimits}
@@ -25,7 +25,7 @@ null_fits = record { formed = tt; depth_within = omega arith; length_within = om
 pub truth_fits : (b : Bool) → FitsState (truth b)
 truth_fits b = record { formed = tt; depth_within = omega arith; length_within = omega arith }
 
-pub whole_fits : (i : ℤ) → FitsSigned w64 i → FitsState (whole i)
+pub whole_fits : (i : ℤ) → FitsSigned w64 i → FitsState (integer i)
 whole_fits i fits = record { formed = fits; depth_within = omega arith; length_within = omega arith }
 
 -- ---- choices

@@ -18,7 +18,7 @@ use Rattle.request_codec.specs.Answers.{members_length}
 use Rattle.request_codec.specs.Call.{Call, asks}
 use Rattle.request_codec.specs.Formed.{IsFormed, AreFormed}
 use Rattle.request_codec.specs.Tree as tree
-use Rattle.request_codec.specs.Tree.{Tree, truth, whole, members_depth, Members, no_members, member, members_count, members_of}
+use Rattle.request_codec.specs.Tree.{Tree, truth, integer, members_depth, Members, no_members, member, members_count, members_of}
 use Rattle.grain_kinds.specs.declared.fault.MethodFault.{MethodFault}
 use Rattle.grain_kinds.specs.declared.fault.MethodFault.TheVariants.{OutOfRange}
 use Rattle.grain_kinds.specs.Held.{HoldsTwo, two_fields, two_fit, text_second, text_formed}
@@ -115,7 +115,7 @@ member_value : (v : Tree) (g : Grain) → grain_value v ≡ Some g → IsFormed 
 member_value (tree.text s) g e formed = member_named s g e formed
 member_value tree.null g e formed = absurd cc
 member_value (tree.truth b) g e formed = absurd cc
-member_value (tree.whole i) g e formed = absurd cc
+member_value (tree.integer i) g e formed = absurd cc
 member_value (tree.list vs) g e formed = absurd cc
 member_value (tree.map fs) g e formed = absurd cc
 
@@ -169,7 +169,7 @@ members_fit : (state : Tree) → IsFormed state → MembersFit (members_in state
 members_fit (tree.list vs) formed = list_fit vs formed
 members_fit tree.null formed = none_fit
 members_fit (tree.truth b) formed = none_fit
-members_fit (tree.whole i) formed = none_fit
+members_fit (tree.integer i) formed = none_fit
 members_fit (tree.text s) formed = none_fit
 members_fit (tree.map fs) formed = none_fit
 
@@ -259,7 +259,7 @@ send_obeys : (state argument : Tree) (method : List ℕ) (v : Tree) (s : List �
 send_obeys state argument method v s held =
     let members = members_in state in
     record {
-      faults_change_nothing = λ fault e. absurd (no_fault (whole (pos (length members))) fault e);
+      faults_change_nothing = λ fault e. absurd (no_fault (integer (pos (length members))) fault e);
       askers_leave_all = λ asked. absurd (asked refl);
       keeps_limits = λ st m.
           let fit = members_fit state st.formed in

@@ -102,7 +102,7 @@ fields_fit : (state : Tree) → FitsState state → FieldsFit (fields_in state)
 fields_fit (tree.map fs) h = record { formed = h.formed; depth_within = omega (arith, h.depth_within); length_within = h.length_within }
 fields_fit tree.null h = no_fields_fit
 fields_fit (tree.truth b) h = no_fields_fit
-fields_fit (tree.whole i) h = no_fields_fit
+fields_fit (tree.integer i) h = no_fields_fit
 fields_fit (tree.text s) h = no_fields_fit
 fields_fit (tree.list vs) h = no_fields_fit
 

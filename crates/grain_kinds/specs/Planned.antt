@@ -4,7 +4,7 @@ use Rattle.std.specs.List.{AllByRecursion}
 use Rattle.std.specs.Option.{unwrap_or}
 use Rattle.request_codec.specs.Call.{asks}
 use Rattle.request_codec.specs.Tree.{Tree}
-use Rattle.turn_arena.specs.Shape.{shape}
+use Rattle.turn_arena.specs.NodeValue.{node_value}
 use Rattle.turn_arena.specs.declared.node.Node.{Node}
 use Rattle.grain_kinds.specs.Laws.{FitsState, FitsMessage}
 use Rattle.grain_kinds.specs.Logic as logic
@@ -22,16 +22,16 @@ storage_call calls.Write = writes_row
 storage_call calls.Clear = clears_row
 
 abbrev pub send_shown : Send → Outgoing
-send_shown s = record { target = s.target; call = asks s.method.now (shape s.args) }
+send_shown s = record { target = s.target; call = asks s.method.now (node_value s.args) }
 
 abbrev pub outcome_shown : Result Node MethodFault → Result Tree MethodFault
-outcome_shown (Ok n) = Ok (shape n)
+outcome_shown (Ok n) = Ok (node_value n)
 outcome_shown (Err fault) = Err fault
 
 -- The state stays where there is no other.
 abbrev pub plan_shown : Tree → Plan → logic.Plan
 plan_shown state p = record {
-  state = unwrap_or (option_map shape p.state) state;
+  state = unwrap_or (option_map node_value p.state) state;
   outcome = outcome_shown p.outcome;
   storage = storage_call p.store;
   sends = map send_shown p.sends.items;
@@ -39,6 +39,6 @@ plan_shown state p = record {
 
 -- The values of the plan keep their limits.
 pub record NodesFit (p : Plan) : Type 0 where
-  pub state_fits : IfSome p.state (λ n. FitsState (shape n))
-  pub outcome_fits : IfOk p.outcome (λ n. FitsState (shape n))
-  pub sends_fit : AllByRecursion (λ s. FitsMessage (asks s.method.now (shape s.args))) p.sends.items
+  pub state_fits : IfSome p.state (λ n. FitsState (node_value n))
+  pub outcome_fits : IfOk p.outcome (λ n. FitsState (node_value n))
+  pub sends_fit : AllByRecursion (λ s. FitsMessage (asks s.method.now (node_value s.args))) p.sends.items

@@ -10,7 +10,7 @@ use Rattle.grain_id.specs.Names.{Grain, grain_text, same_text}
 use Rattle.grain_id.specs.Reading.{grain_read}
 use Rattle.grain_id.specs.declared.fault.IdFault.{IdFault}
 use Rattle.request_codec.specs.Call.{asks}
-use Rattle.request_codec.specs.Tree.{Tree, truth, whole, text, list, Members, no_members, member, members_count, members_of}
+use Rattle.request_codec.specs.Tree.{Tree, truth, integer, text, list, Members, no_members, member, members_count, members_of}
 use Rattle.grain_kinds.specs.declared.fault.MethodFault.TheVariants.{OutOfRange}
 use Rattle.grain_kinds.specs.Laws.{send_limit}
 use Rattle.grain_kinds.specs.Logic.{Plan, Outgoing, asks_nothing}
@@ -90,7 +90,7 @@ sends_to members method args = map (λ g. record { target = g; call = asks metho
 abbrev pub send_plan : Tree → Tree × List ℕ → Plan
 send_plan state send = record {
   state = state;
-  outcome = Ok (whole (pos (length (members_in state))));
+  outcome = Ok (integer (pos (length (members_in state))));
   storage = asks_nothing;
   sends = sends_to (members_in state) send.1 send.0;
 }

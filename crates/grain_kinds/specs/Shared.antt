@@ -7,7 +7,7 @@
 use Rattle.std.specs.Prelude.{ℕ, Bool, true, false, List, [], Option, Some, None, Result, Ok, Err, ℤ, ◌&&◌, if◌then◌else◌, codes, option_and_then}
 use Rattle.grain_id.specs.Names.{same_text}
 use Rattle.request_codec.specs.Tree as tree
-use Rattle.request_codec.specs.Tree.{Tree, null, whole, text, field, no_fields}
+use Rattle.request_codec.specs.Tree.{Tree, null, integer, text, field, no_fields}
 use Rattle.grain_kinds.specs.declared.fault.MethodFault.{MethodFault}
 use Rattle.grain_kinds.specs.declared.fault.MethodFault.TheVariants.{UnknownMethod, Misfit}
 use Rattle.grain_kinds.specs.Logic.{Plan, StorageCall, asks_nothing, reads_row, writes_row, clears_row}
@@ -42,9 +42,9 @@ for_null state argument plan = if is_null argument then plan else keeps state (E
 -- ---- shapes of arguments
 
 -- the whole number that a value is
-abbrev pub whole_value : Tree → Option ℤ
-whole_value (whole i) = Some i
-whole_value _ = None
+abbrev pub integer_value : Tree → Option ℤ
+integer_value (integer i) = Some i
+integer_value _ = None
 
 -- the text that a value is
 abbrev pub text_value : Tree → Option (List ℕ)
@@ -62,8 +62,8 @@ only_fields first second (tree.map (field n v (field m w no_fields))) = if same_
 only_fields first second _ = None
 
 -- `{"name": int}`
-abbrev pub whole_field : List ℕ → Tree → Option ℤ
-whole_field name argument = option_and_then whole_value (only_field name argument)
+abbrev pub integer_field : List ℕ → Tree → Option ℤ
+integer_field name argument = option_and_then integer_value (only_field name argument)
 
 -- `{"name": text}`
 abbrev pub text_field : List ℕ → Tree → Option (List ℕ)

@@ -2,13 +2,13 @@
 
 ghost use Rattle.std.specs.Prelude.{◌≡◌, Some, None, option_map, if◌then◌else◌};
 ghost use Rattle.grain_id.specs.Names.{same_text};
-ghost use Rattle.turn_arena.specs.Shape.{shape};
+ghost use Rattle.turn_arena.specs.NodeValue.{node_value};
 ghost use Rattle.grain_kinds.specs.Shared as shared;
 
 use turn_arena::{Field, Node};
 
 pub(crate) fn is_null(argument: Node<'_>) -> bool
-    ensures { result ≡ shared.is_null (shape argument.entry) }
+    ensures { result ≡ shared.is_null (node_value argument.entry) }
 {
     match argument {
         Node::Null => true,
@@ -21,8 +21,8 @@ pub(crate) fn is_null(argument: Node<'_>) -> bool
 }
 
 /// The whole number that a value is.
-fn whole_value(value: Node<'_>) -> Option<i64>
-    ensures { result ≡ shared.whole_value (shape value.entry) }
+fn integer_value(value: Node<'_>) -> Option<i64>
+    ensures { result ≡ shared.integer_value (node_value value.entry) }
 {
     match value {
         Node::Int(number) => Some(number),
@@ -36,7 +36,7 @@ fn whole_value(value: Node<'_>) -> Option<i64>
 
 /// The text that a value is.
 pub(crate) fn text_value<'a>(value: Node<'a>) -> Option<&'a str>
-    ensures { option_map (λ s. s.now) result ≡ shared.text_value (shape value.entry) }
+    ensures { option_map (λ s. s.now) result ≡ shared.text_value (node_value value.entry) }
 {
     match value {
         Node::Text(text) => Some(text),
@@ -50,7 +50,7 @@ pub(crate) fn text_value<'a>(value: Node<'a>) -> Option<&'a str>
 
 /// The value of a field, if it has this name.
 fn named<'a>(field: &Field<'a>, name: &str) -> Option<Node<'a>>
-    ensures { option_map shape result ≡ (if same_text field.now.name.now name.now then Some (shape field.now.node) else None) }
+    ensures { option_map node_value result ≡ (if same_text field.now.name.now name.now then Some (node_value field.now.node) else None) }
 {
     if field.name == name {
         return Some(field.node);
@@ -60,7 +60,7 @@ fn named<'a>(field: &Field<'a>, name: &str) -> Option<Node<'a>>
 
 /// The value of the only field, if it has this name.
 fn only_field<'a>(argument: Node<'a>, name: &str) -> Option<Node<'a>>
-    ensures { option_map shape result ≡ shared.only_field name.now (shape argument.entry) }
+    ensures { option_map node_value result ≡ shared.only_field name.now (node_value argument.entry) }
 {
     let Node::Map(fields) = argument else {
         return None;
@@ -78,7 +78,7 @@ pub(crate) fn only_fields<'a>(
     first: &str,
     second: &str,
 ) -> Option<(Node<'a>, Node<'a>)>
-    ensures { option_map (λ values. (shape values.0, shape values.1)) result ≡ shared.only_fields first.now second.now (shape argument.entry) }
+    ensures { option_map (λ values. (node_value values.0, node_value values.1)) result ≡ shared.only_fields first.now second.now (node_value argument.entry) }
 {
     let Node::Map(fields) = argument else {
         return None;
@@ -92,15 +92,15 @@ pub(crate) fn only_fields<'a>(
 }
 
 /// The number in `{"name": int}`.
-pub(crate) fn whole_field(argument: Node<'_>, name: &str) -> Option<i64>
-    ensures { result ≡ shared.whole_field name.now (shape argument.entry) }
+pub(crate) fn integer_field(argument: Node<'_>, name: &str) -> Option<i64>
+    ensures { result ≡ shared.integer_field name.now (node_value argument.entry) }
 {
-    whole_value(only_field(argument, name)?)
+    integer_value(only_field(argument, name)?)
 }
 
 /// The text in `{"name": text}`.
 pub(crate) fn text_field<'a>(argument: Node<'a>, name: &str) -> Option<&'a str>
-    ensures { option_map (λ s. s.now) result ≡ shared.text_field name.now (shape argument.entry) }
+    ensures { option_map (λ s. s.now) result ≡ shared.text_field name.now (node_value argument.entry) }
 {
     text_value(only_field(argument, name)?)
 }

@@ -2,13 +2,13 @@
 
 ghost use Rattle.std.specs.Prelude.{◌≡◌};
 ghost use Rattle.request_codec.specs.Tree.{Tree};
-ghost use Rattle.turn_arena.specs.Shape.{shape};
+ghost use Rattle.turn_arena.specs.NodeValue.{node_value};
 ghost use Rattle.grain_kinds.specs.Counter as counter;
 ghost use Rattle.grain_kinds.specs.Counter.{add_plan, counter_plan};
 ghost use Rattle.grain_kinds.specs.Planned.{plan_shown};
-ghost use Rattle.grain_kinds.specs.Shared.{for_null, for_shape, whole_field};
+ghost use Rattle.grain_kinds.specs.Shared.{for_null, for_shape, integer_field};
 
-use crate::arguments::{is_null, whole_field};
+use crate::arguments::{is_null, integer_field};
 use crate::fault::MethodFault;
 use crate::plan::Plan;
 use crate::shared::shared_plan;
@@ -18,10 +18,10 @@ use turn_arena::Node;
 /// What a turn of a counter comes to.
 #[tactic(auto, unfolding(crate::specs::Counter::counter_plan, crate::specs::Counter::number_plan))]
 pub(crate) fn plan_of<'a>(alloc: Global, method: &str, state: Node<'a>, args: Node<'a>) -> Plan<'a>
-    ensures { plan_shown (shape state.entry) result ≡ counter_plan method.now (shape state.entry) (shape args.entry) }
+    ensures { plan_shown (node_value state.entry) result ≡ counter_plan method.now (node_value state.entry) (node_value args.entry) }
 {
     if method == "add" {
-        return add(alloc, number_of(state), whole_field(args, "by"));
+        return add(alloc, number_of(state), integer_field(args, "by"));
     }
     if method == "get" {
         return get(alloc, number_of(state), args);
@@ -44,7 +44,7 @@ fn add<'a>(alloc: Global, number: i64, by: Option<i64>) -> Plan<'a>
 
 /// The number is the answer.
 fn get<'a>(alloc: Global, number: i64, args: Node<'a>) -> Plan<'a>
-    ensures { (state : Tree) → counter.number_of state ≡ number → plan_shown state result ≡ for_null state (shape args.entry) (counter.get_plan state) }
+    ensures { (state : Tree) → counter.number_of state ≡ number → plan_shown state result ≡ for_null state (node_value args.entry) (counter.get_plan state) }
 {
     if is_null(args) {
         return Plan::keeps(alloc, Ok(Node::Int(number)));
@@ -54,7 +54,7 @@ fn get<'a>(alloc: Global, number: i64, args: Node<'a>) -> Plan<'a>
 
 /// A counter's number. A state that is no whole number counts as 0.
 fn number_of(state: Node<'_>) -> i64
-    ensures { result ≡ counter.number_of (shape state.entry) }
+    ensures { result ≡ counter.number_of (node_value state.entry) }
 {
     match state {
         Node::Int(number) => number,

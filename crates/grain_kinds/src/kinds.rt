@@ -4,7 +4,7 @@ ghost use Rattle.std.specs.Prelude.{◌≡◌, IfOk};
 ghost use Rattle.request_codec.specs.Tree as tree;
 ghost use Rattle.request_codec.specs.Tree.{no_members, no_fields};
 ghost use Rattle.turn_arena.specs.Ascending.{MapsAscend};
-ghost use Rattle.turn_arena.specs.Shape.{shape};
+ghost use Rattle.turn_arena.specs.NodeValue.{node_value};
 ghost use Rattle.grain_kinds.specs.Kinds.{is_counter, is_sheet, is_relay, is_known, only_reads, empty_state, plan_of};
 ghost use Rattle.grain_kinds.specs.Planned.{plan_shown};
 
@@ -42,20 +42,20 @@ fn only_reads(kind: &str, method: &str) -> bool
 }
 
 fn empty_map<'a>() -> Node<'a>
-    ensures { shape result ≡ tree.map no_fields }
+    ensures { node_value result ≡ tree.map no_fields }
 {
     Node::Map(&[])
 }
 
 fn empty_list<'a>() -> Node<'a>
-    ensures { shape result ≡ tree.list no_members }
+    ensures { node_value result ≡ tree.list no_members }
 {
     Node::List(&[])
 }
 
 /// The empty state of a kind.
 fn empty_of<'a>(kind: &str) -> Node<'a>
-    ensures { shape result ≡ empty_state kind.now }
+    ensures { node_value result ≡ empty_state kind.now }
 {
     if kind == "counter" {
         return Node::Int(0);
@@ -78,8 +78,8 @@ fn plan_by<'a>(
     state: Node<'a>,
     args: Node<'a>,
 ) -> Result<Plan<'a>, AllocError>
-    requires { MapsAscend (shape state) }
-    ensures { IfOk result (λ plan. plan_shown (shape state.entry) plan ≡ plan_of kind.now method.now (shape state.entry) (shape args.entry)) }
+    requires { MapsAscend (node_value state) }
+    ensures { IfOk result (λ plan. plan_shown (node_value state.entry) plan ≡ plan_of kind.now method.now (node_value state.entry) (node_value args.entry)) }
 {
     if kind == "counter" {
         return Ok(counter::plan_of(alloc, method, state, args));

@@ -3,7 +3,7 @@
 ghost use Rattle.std.specs.Prelude.{◌≡◌, nat_lt};
 ghost use Rattle.request_codec.specs.Answers.{spelled_length, members_length, fields_length};
 ghost use Rattle.request_codec.specs.Limits.{state_limit};
-ghost use Rattle.turn_arena.specs.Shape.{shape, shapes, field_shapes};
+ghost use Rattle.turn_arena.specs.NodeValue.{node_value, node_values, field_values};
 ghost use Rattle.grain_kinds.specs.Room.{Leaves};
 
 use request_codec::limits::MAX_STATE_BYTES;
@@ -11,7 +11,7 @@ use turn_arena::{Field, Node};
 
 /// Whether the value's spelling is longer than that of a state may be.
 pub(crate) fn is_too_large(value: Node<'_>) -> bool
-    ensures { result ≡ nat_lt state_limit (spelled_length (shape value.entry)) }
+    ensures { result ≡ nat_lt state_limit (spelled_length (node_value value.entry)) }
 {
     after_node(value, MAX_STATE_BYTES).is_none()
 }
@@ -19,7 +19,7 @@ pub(crate) fn is_too_large(value: Node<'_>) -> bool
 /// What the value's spelling leaves of the room, in bytes. It looks no further than the room goes.
 #[cycle(counting)]
 fn after_node(node: Node<'_>, room: usize) -> Option<usize>
-    ensures { Leaves result room (spelled_length (shape node.entry)) }
+    ensures { Leaves result room (spelled_length (node_value node.entry)) }
 {
     match node {
         Node::Null => room.checked_sub(1),
@@ -33,7 +33,7 @@ fn after_node(node: Node<'_>, room: usize) -> Option<usize>
 
 #[cycle(counting)]
 fn after_nodes(nodes: &[Node<'_>], room: usize) -> Option<usize>
-    ensures { Leaves result room (members_length (shapes nodes.now)) }
+    ensures { Leaves result room (members_length (node_values nodes.now)) }
 {
     let mut left = room;
     'nodes: for node in nodes {
@@ -44,7 +44,7 @@ fn after_nodes(nodes: &[Node<'_>], room: usize) -> Option<usize>
 
 #[cycle(counting)]
 fn after_fields(fields: &[Field<'_>], room: usize) -> Option<usize>
-    ensures { Leaves result room (fields_length (field_shapes fields.now)) }
+    ensures { Leaves result room (fields_length (field_values fields.now)) }
 {
     let mut left = room;
     'fields: for field in fields {

@@ -10,7 +10,7 @@ use turn_arena::Node;
 pub trait GrainLogic {
     ghost use Rattle.std.specs.Prelude.{◌≡◌, true, IfOk};
     ghost use Rattle.request_codec.specs.Call.{asks};
-    ghost use Rattle.turn_arena.specs.Shape.{shape};
+    ghost use Rattle.turn_arena.specs.NodeValue.{node_value};
     ghost use Rattle.grain_kinds.specs.Logic.{Logic};
     ghost use Rattle.grain_kinds.specs.Laws.{IsLawful, FitsState, FitsMessage};
     ghost use Rattle.grain_kinds.specs.Planned.{plan_shown};
@@ -40,9 +40,9 @@ pub trait GrainLogic {
         state: Node<'a>,
         args: Node<'a>,
     ) -> Result<Plan<'a>, AllocError>
-        requires state_fits { FitsState (shape state) }
-        requires call_fits { FitsMessage (asks method.now (shape args)) }
-        ensures { IfOk result (λ plan. plan_shown (shape state.entry) plan ≡ logic.plan kind.now method.now (shape state.entry) (shape args.entry)) };
+        requires state_fits { FitsState (node_value state) }
+        requires call_fits { FitsMessage (asks method.now (node_value args)) }
+        ensures { IfOk result (λ plan. plan_shown (node_value state.entry) plan ≡ logic.plan kind.now method.now (node_value state.entry) (node_value args.entry)) };
 
     // The laws of a logic.
     ghost lawful: { IsLawful logic };

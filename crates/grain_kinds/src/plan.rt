@@ -2,7 +2,7 @@
 
 ghost use Rattle.std.specs.Prelude.{◌≡◌};
 ghost use Rattle.request_codec.specs.Tree.{Tree};
-ghost use Rattle.turn_arena.specs.Shape.{shape};
+ghost use Rattle.turn_arena.specs.NodeValue.{node_value};
 ghost use Rattle.grain_kinds.specs.Planned.{outcome_shown, plan_shown, storage_call};
 ghost use Rattle.grain_kinds.specs.Shared.{keeps, becomes, asks_storage};
 
@@ -56,7 +56,7 @@ impl<'a> Plan<'a> {
 
     /// The plan that makes a new state, asks nothing of the storage and sends nothing.
     pub fn becomes(alloc: Global, state: Node<'a>, answer: Node<'a>) -> Plan<'a>
-        ensures { (kept : Tree) → plan_shown kept result ≡ becomes (shape state.entry) (shape answer.entry) }
+        ensures { (kept : Tree) → plan_shown kept result ≡ becomes (node_value state.entry) (node_value answer.entry) }
     {
         Plan {
             state: Some(state),

@@ -2,7 +2,7 @@
 
 ghost use Rattle.std.specs.Prelude.{◌≡◌, IfOk};
 ghost use Rattle.request_codec.specs.Call.{asks};
-ghost use Rattle.turn_arena.specs.Shape.{shape};
+ghost use Rattle.turn_arena.specs.NodeValue.{node_value};
 ghost use Rattle.grain_kinds.specs.Laws.{FitsState, FitsMessage};
 
 use bumpalo::Bump;
@@ -15,8 +15,8 @@ pub(crate) fn asked_in<'a>(
     bump: &'a Bump,
     message: &Message,
 ) -> Result<(&'a str, Node<'a>), AllocError>
-    ensures same { IfOk result (λ found. asks found.0.now (shape found.1) ≡ message.now) }
-    ensures fits { IfOk result (λ found. FitsMessage (asks found.0.now (shape found.1))) }
+    ensures same { IfOk result (λ found. asks found.0.now (node_value found.1) ≡ message.now) }
+    ensures fits { IfOk result (λ found. FitsMessage (asks found.0.now (node_value found.1))) }
 {
     match decode_in(bump, message.bytes()) {
         Ok(found) => Ok(found),
@@ -27,8 +27,8 @@ pub(crate) fn asked_in<'a>(
 
 /// The value of a state.
 pub(crate) fn state_in<'a>(bump: &'a Bump, state: &StateBytes) -> Result<Node<'a>, AllocError>
-    ensures same { IfOk result (λ node. shape node ≡ state.now) }
-    ensures fits { IfOk result (λ node. FitsState (shape node)) }
+    ensures same { IfOk result (λ node. node_value node ≡ state.now) }
+    ensures fits { IfOk result (λ node. FitsState (node_value node)) }
 {
     match node_in(bump, state.bytes()) {
         Ok(node) => Ok(node),

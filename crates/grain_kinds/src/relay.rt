@@ -3,7 +3,7 @@
 ghost use Rattle.std.specs.Prelude.{◌≡◌, ◌≤◌, length, map, option_map, IfOk};
 ghost use Rattle.grain_id.specs.Names.{Grain};
 ghost use Rattle.request_codec.specs.Tree.{Tree};
-ghost use Rattle.turn_arena.specs.Shape.{shape, shapes};
+ghost use Rattle.turn_arena.specs.NodeValue.{node_value, node_values};
 ghost use Rattle.grain_kinds.specs.Planned.{plan_shown, send_shown};
 ghost use Rattle.grain_kinds.specs.Relay as relay;
 ghost use Rattle.grain_kinds.specs.Relay.{member_limit, grains_in, grain_value, members_in, relay_of, sends_to, join_plan, joined_plan, leave_plan, send_plan, relay_plan};
@@ -31,7 +31,7 @@ pub(crate) fn plan_of<'a>(
     state: Node<'a>,
     args: Node<'a>,
 ) -> Result<Plan<'a>, AllocError>
-    ensures { IfOk result (λ plan. plan_shown (shape state.entry) plan ≡ relay_plan method.now (shape state.entry) (shape args.entry)) }
+    ensures { IfOk result (λ plan. plan_shown (node_value state.entry) plan ≡ relay_plan method.now (node_value state.entry) (node_value args.entry)) }
 {
     if method == "join" {
         return join(alloc, bump, state, text_field(args, "grain"));
@@ -52,7 +52,7 @@ fn join<'a>(
     state: Node<'a>,
     text: Option<&str>,
 ) -> Result<Plan<'a>, AllocError>
-    ensures { IfOk result (λ plan. plan_shown (shape state.entry) plan ≡ for_shape (shape state.entry) (option_map (λ s. s.now) text.entry) (join_plan (shape state.entry))) }
+    ensures { IfOk result (λ plan. plan_shown (node_value state.entry) plan ≡ for_shape (node_value state.entry) (option_map (λ s. s.now) text.entry) (join_plan (node_value state.entry))) }
 {
     let Some(text) = text else {
         return Ok(Plan::keeps(alloc, Err(MethodFault::Misfit)));
@@ -91,7 +91,7 @@ fn leave<'a>(
     state: Node<'a>,
     text: Option<&str>,
 ) -> Result<Plan<'a>, AllocError>
-    ensures { IfOk result (λ plan. plan_shown (shape state.entry) plan ≡ for_shape (shape state.entry) (option_map (λ s. s.now) text.entry) (leave_plan (shape state.entry))) }
+    ensures { IfOk result (λ plan. plan_shown (node_value state.entry) plan ≡ for_shape (node_value state.entry) (option_map (λ s. s.now) text.entry) (leave_plan (node_value state.entry))) }
 {
     let Some(text) = text else {
         return Ok(Plan::keeps(alloc, Err(MethodFault::Misfit)));
@@ -108,7 +108,7 @@ fn send<'a>(
     state: Node<'a>,
     call: Option<(Node<'a>, &'a str)>,
 ) -> Result<Plan<'a>, AllocError>
-    ensures { IfOk result (λ plan. plan_shown (shape state.entry) plan ≡ for_shape (shape state.entry) (option_map (λ call. (shape call.0, call.1.now)) call.entry) (send_plan (shape state.entry))) }
+    ensures { IfOk result (λ plan. plan_shown (node_value state.entry) plan ≡ for_shape (node_value state.entry) (option_map (λ call. (node_value call.0, call.1.now)) call.entry) (send_plan (node_value state.entry))) }
 {
     let Some((args, method)) = call else {
         return Ok(Plan::keeps(alloc, Err(MethodFault::Misfit)));
@@ -125,7 +125,7 @@ fn send<'a>(
 
 /// The value and the method in `{"args": any, "method": text}`.
 fn send_argument<'a>(args: Node<'a>) -> Option<(Node<'a>, &'a str)>
-    ensures { option_map (λ call. (shape call.0, call.1.now)) result ≡ relay.send_argument (shape args.entry) }
+    ensures { option_map (λ call. (node_value call.0, call.1.now)) result ≡ relay.send_argument (node_value args.entry) }
 {
     let (sent, method) = only_fields(args, "args", "method")?;
     Some((sent, text_value(method)?))
@@ -138,7 +138,7 @@ fn sends_to<'a>(
     method: &'a str,
     args: Node<'a>,
 ) -> Result<Vec<Send<'a>>, AllocError>
-    ensures { IfOk result (λ sends. map send_shown sends.items ≡ sends_to members.items method.now (shape args.entry)) }
+    ensures { IfOk result (λ sends. map send_shown sends.items ≡ sends_to members.items method.now (node_value args.entry)) }
 {
     let mut sends = Vec::with_capacity(alloc, members.len())?;
     'members: for target in members {
@@ -153,7 +153,7 @@ fn sends_to<'a>(
 
 /// The members of a relay. A state of another shape counts as the empty list.
 fn members_of(alloc: Global, state: Node<'_>) -> Result<Vec<GrainId>, AllocError>
-    ensures same { IfOk result (λ members. members.items ≡ members_in (shape state.entry)) }
+    ensures same { IfOk result (λ members. members.items ≡ members_in (node_value state.entry)) }
     ensures few { IfOk result (λ members. length members.items ≤ member_limit) }
 {
     let Node::List(values) = state else {
@@ -173,7 +173,7 @@ fn members_of(alloc: Global, state: Node<'_>) -> Result<Vec<GrainId>, AllocError
 
 /// The grains of which the values are the texts, if each is the text of one.
 fn grains_of(alloc: Global, values: &[Node<'_>]) -> Result<Option<Vec<GrainId>>, AllocError>
-    ensures { IfOk result (λ found. option_map (λ grains. grains.items) found ≡ grains_in (shapes values.now)) }
+    ensures { IfOk result (λ found. option_map (λ grains. grains.items) found ≡ grains_in (node_values values.now)) }
 {
     let mut grains = Vec::with_capacity(alloc, values.len())?;
     'values: for value in values {
@@ -187,7 +187,7 @@ fn grains_of(alloc: Global, values: &[Node<'_>]) -> Result<Option<Vec<GrainId>>,
 
 /// The grain of which the value is the text.
 fn grain_of(alloc: Global, value: Node<'_>) -> Result<Option<GrainId>, AllocError>
-    ensures { IfOk result (λ found. found ≡ grain_value (shape value.entry)) }
+    ensures { IfOk result (λ found. found ≡ grain_value (node_value value.entry)) }
 {
     match text_value(value) {
         Some(text) => grain_named(alloc, text),
@@ -235,7 +235,7 @@ fn are_distinct(grains: &[GrainId]) -> bool
 
 /// The state of a relay with these members.
 fn relay_in<'a>(bump: &'a Bump, members: &[GrainId]) -> Result<Node<'a>, AllocError>
-    ensures { IfOk result (λ state. shape state ≡ relay_of members.now) }
+    ensures { IfOk result (λ state. node_value state ≡ relay_of members.now) }
 {
     let mut texts = Vec::with_capacity(bump, members.len())?;
     'members: for member in members {
@@ -246,7 +246,7 @@ fn relay_in<'a>(bump: &'a Bump, members: &[GrainId]) -> Result<Node<'a>, AllocEr
 
 /// The state of a relay with these members, but for the one of which this is the text.
 fn without_in<'a>(bump: &'a Bump, members: &[GrainId], text: &str) -> Result<Node<'a>, AllocError>
-    ensures { IfOk result (λ state. shape state ≡ relay_of (relay.without text.now members.now)) }
+    ensures { IfOk result (λ state. node_value state ≡ relay_of (relay.without text.now members.now)) }
 {
     let mut texts = Vec::with_capacity(bump, members.len())?;
     'members: for member in members {

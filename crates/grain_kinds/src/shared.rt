@@ -2,7 +2,7 @@
 
 ghost use Rattle.std.specs.Prelude.{◌≡◌};
 ghost use Rattle.request_codec.specs.Tree.{Tree};
-ghost use Rattle.turn_arena.specs.Shape.{shape};
+ghost use Rattle.turn_arena.specs.NodeValue.{node_value};
 ghost use Rattle.grain_kinds.specs.Planned.{plan_shown, storage_call};
 ghost use Rattle.grain_kinds.specs.Shared.{for_null, asks_storage, shared_plan};
 
@@ -14,7 +14,7 @@ use turn_arena::Node;
 
 /// The plan of a method that asks the storage and takes null.
 fn asking<'a>(alloc: Global, args: Node<'a>, store: StoreCall) -> Plan<'a>
-    ensures { (state : Tree) → plan_shown state result ≡ for_null state (shape args.entry) (asks_storage (storage_call store) state) }
+    ensures { (state : Tree) → plan_shown state result ≡ for_null state (node_value args.entry) (asks_storage (storage_call store) state) }
 {
     if is_null(args) {
         return Plan::asks(alloc, store);
@@ -25,7 +25,7 @@ fn asking<'a>(alloc: Global, args: Node<'a>, store: StoreCall) -> Plan<'a>
 /// The plan of a method of every kind.
 #[tactic(auto, unfolding(crate::specs::Shared::shared_plan))]
 pub(crate) fn shared_plan<'a>(alloc: Global, method: &str, args: Node<'a>) -> Plan<'a>
-    ensures { (state : Tree) → plan_shown state result ≡ shared_plan method.now state (shape args.entry) }
+    ensures { (state : Tree) → plan_shown state result ≡ shared_plan method.now state (node_value args.entry) }
 {
     if method == "save" {
         return asking(alloc, args, StoreCall::Write);

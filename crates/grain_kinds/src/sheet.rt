@@ -4,7 +4,7 @@ ghost use Rattle.std.specs.Prelude.{◌≡◌, option_map, IfOk};
 ghost use Rattle.request_codec.specs.Tree as tree;
 ghost use Rattle.request_codec.specs.Tree.{Tree};
 ghost use Rattle.turn_arena.specs.Ascending.{NamesAscend, MapsAscend};
-ghost use Rattle.turn_arena.specs.Shape.{shape, field_shapes};
+ghost use Rattle.turn_arena.specs.NodeValue.{node_value, field_values};
 ghost use Rattle.grain_kinds.specs.Planned.{plan_shown};
 ghost use Rattle.grain_kinds.specs.Shared.{for_null, for_shape, text_field};
 ghost use Rattle.grain_kinds.specs.Sheet as sheet;
@@ -29,8 +29,8 @@ pub(crate) fn plan_of<'a>(
     state: Node<'a>,
     args: Node<'a>,
 ) -> Result<Plan<'a>, AllocError>
-    requires { MapsAscend (shape state) }
-    ensures { IfOk result (λ plan. plan_shown (shape state.entry) plan ≡ sheet_plan method.now (shape state.entry) (shape args.entry)) }
+    requires { MapsAscend (node_value state) }
+    ensures { IfOk result (λ plan. plan_shown (node_value state.entry) plan ≡ sheet_plan method.now (node_value state.entry) (node_value args.entry)) }
 {
     let fields = fields_of(state);
     if method == "put" {
@@ -49,10 +49,10 @@ pub(crate) fn plan_of<'a>(
 }
 
 /// The fields of a sheet. A state that is no map counts as the empty one.
-#[tactic(auto, using(turn_arena::proofs::Placed::none_ascend, turn_arena::proofs::Placed::names_ascend))]
+#[tactic(auto, using(turn_arena::proofs::FieldPlaces::none_ascend, turn_arena::proofs::FieldPlaces::names_ascend))]
 fn fields_of<'a>(state: Node<'a>) -> &'a [Field<'a>]
-    requires { MapsAscend (shape state) }
-    ensures same { field_shapes result.now ≡ fields_in (shape state.entry) }
+    requires { MapsAscend (node_value state) }
+    ensures same { field_values result.now ≡ fields_in (node_value state.entry) }
     ensures ascends { NamesAscend result.now }
 {
     match state {
@@ -67,7 +67,7 @@ fn fields_of<'a>(state: Node<'a>) -> &'a [Field<'a>]
 
 /// The name and the value in `{"name": text, "value": any}`.
 fn put_argument<'a>(args: Node<'a>) -> Option<(&'a str, Node<'a>)>
-    ensures { option_map (λ put. (put.0.now, shape put.1)) result ≡ sheet.put_argument (shape args.entry) }
+    ensures { option_map (λ put. (put.0.now, node_value put.1)) result ≡ sheet.put_argument (node_value args.entry) }
 {
     let (name, value) = only_fields(args, "name", "value")?;
     Some((text_value(name)?, value))
@@ -75,7 +75,7 @@ fn put_argument<'a>(args: Node<'a>) -> Option<(&'a str, Node<'a>)>
 
 /// The sheet is the new state, if it is not too large.
 fn set_to<'a>(alloc: Global, made: Node<'a>) -> Plan<'a>
-    ensures { (state : Tree) → plan_shown state result ≡ sheet.set_to state (shape made.entry) }
+    ensures { (state : Tree) → plan_shown state result ≡ sheet.set_to state (node_value made.entry) }
 {
     if is_too_large(made) {
         return Plan::keeps(alloc, Err(MethodFault::TooLarge));
@@ -91,8 +91,8 @@ fn put_value<'a>(
     put: Option<(&'a str, Node<'a>)>,
 ) -> Result<Plan<'a>, AllocError>
     requires { NamesAscend fields.now }
-    ensures { IfOk result (λ plan. (state : Tree) → field_shapes fields.now ≡ fields_in state
-        → plan_shown state plan ≡ for_shape state (option_map (λ put. (put.0.now, shape put.1)) put.entry) (sheet.put_plan state)) }
+    ensures { IfOk result (λ plan. (state : Tree) → field_values fields.now ≡ fields_in state
+        → plan_shown state plan ≡ for_shape state (option_map (λ put. (put.0.now, node_value put.1)) put.entry) (sheet.put_plan state)) }
 {
     let Some((name, value)) = put else {
         return Ok(Plan::keeps(alloc, Err(MethodFault::Misfit)));
@@ -103,7 +103,7 @@ fn put_value<'a>(
 
 /// The value of a name, or null.
 fn get_value<'a>(alloc: Global, fields: &'a [Field<'a>], name: Option<&str>) -> Plan<'a>
-    ensures { (state : Tree) → field_shapes fields.now ≡ fields_in state
+    ensures { (state : Tree) → field_values fields.now ≡ fields_in state
         → plan_shown state result ≡ for_shape state (option_map (λ s. s.now) name.entry) (sheet.get_plan state) }
 {
     let Some(name) = name else {
@@ -123,7 +123,7 @@ fn drop_name<'a>(
     name: Option<&str>,
 ) -> Result<Plan<'a>, AllocError>
     requires { NamesAscend fields.now }
-    ensures { IfOk result (λ plan. (state : Tree) → field_shapes fields.now ≡ fields_in state
+    ensures { IfOk result (λ plan. (state : Tree) → field_values fields.now ≡ fields_in state
         → plan_shown state plan ≡ for_shape state (option_map (λ s. s.now) name.entry) (sheet.drop_plan state)) }
 {
     let Some(name) = name else {
@@ -141,8 +141,8 @@ fn list_names<'a>(
     fields: &'a [Field<'a>],
     args: Node<'a>,
 ) -> Result<Plan<'a>, AllocError>
-    ensures { IfOk result (λ plan. (state : Tree) → field_shapes fields.now ≡ fields_in state
-        → plan_shown state plan ≡ for_null state (shape args.entry) (sheet.list_plan state)) }
+    ensures { IfOk result (λ plan. (state : Tree) → field_values fields.now ≡ fields_in state
+        → plan_shown state plan ≡ for_null state (node_value args.entry) (sheet.list_plan state)) }
 {
     if is_null(args) {
         return Ok(Plan::keeps(alloc, Ok(names_of(bump, fields)?)));
@@ -152,7 +152,7 @@ fn list_names<'a>(
 
 /// The value of a name, if there is one.
 fn value_of<'a>(fields: &'a [Field<'a>], name: &str) -> Option<Node<'a>>
-    ensures { option_map shape result ≡ value_in name.now (field_shapes fields.now) }
+    ensures { option_map node_value result ≡ value_in name.now (field_values fields.now) }
 {
     'fields: for field in fields {
         if field.name == name {
@@ -165,7 +165,7 @@ fn value_of<'a>(fields: &'a [Field<'a>], name: &str) -> Option<Node<'a>>
 /// The names, in their order.
 #[tactic(auto, using(crate::proofs::Fields::texts_are_names))]
 fn names_of<'a>(bump: &'a Bump, fields: &'a [Field<'a>]) -> Result<Node<'a>, AllocError>
-    ensures { IfOk result (λ names. shape names ≡ tree.list (names_in (field_shapes fields.now))) }
+    ensures { IfOk result (λ names. node_value names ≡ tree.list (names_in (field_values fields.now))) }
 {
     let mut names = Vec::with_capacity(bump, fields.len())?;
     'fields: for field in fields {

@@ -4,7 +4,7 @@ ghost use Rattle.std.specs.Prelude.{◌≡◌, map, option_map, IfOk, IfSome};
 ghost use Rattle.std.specs.List.{AllByRecursion};
 ghost use Rattle.request_codec.specs.Call.{asks};
 ghost use Rattle.request_codec.specs.Tree.{Tree};
-ghost use Rattle.turn_arena.specs.Shape.{shape};
+ghost use Rattle.turn_arena.specs.NodeValue.{node_value};
 ghost use Rattle.grain_kinds.specs.Finished.{planned_shown, sent};
 ghost use Rattle.grain_kinds.specs.Laws.{FitsState, FitsMessage};
 ghost use Rattle.grain_kinds.specs.Planned.{send_shown, outcome_shown, plan_shown, NodesFit};
@@ -20,8 +20,8 @@ use turn_arena::{Node, encode_call, encode_node};
 /// The state of a value that keeps the limits of one.
 #[tactic(auto, using(crate::proofs::Fits::formed_ascends))]
 pub(crate) fn state_of(alloc: Global, node: Node<'_>) -> Result<StateBytes, AllocError>
-    requires { FitsState (shape node) }
-    ensures { IfOk result (λ state. state ≡ shape node.entry) }
+    requires { FitsState (node_value node) }
+    ensures { IfOk result (λ state. state ≡ node_value node.entry) }
 {
     match encode_node(alloc, node) {
         Ok(state) => Ok(state),
@@ -36,8 +36,8 @@ pub(crate) fn state_of(alloc: Global, node: Node<'_>) -> Result<StateBytes, Allo
 /// The message of a call that keeps the limits of one.
 #[tactic(auto, using(crate::proofs::Fits::formed_ascends))]
 fn message_of(alloc: Global, method: &str, argument: Node<'_>) -> Result<Message, AllocError>
-    requires { FitsMessage (asks method.now (shape argument)) }
-    ensures { IfOk result (λ message. message ≡ asks method.now (shape argument.entry)) }
+    requires { FitsMessage (asks method.now (node_value argument)) }
+    ensures { IfOk result (λ message. message ≡ asks method.now (node_value argument.entry)) }
 {
     match encode_call(alloc, method, argument) {
         Ok(message) => Ok(message),
@@ -51,8 +51,8 @@ fn message_of(alloc: Global, method: &str, argument: Node<'_>) -> Result<Message
 
 /// The new state, if there is one.
 fn next_of(alloc: Global, state: Option<Node<'_>>) -> Result<Option<StateBytes>, AllocError>
-    requires { IfSome state (λ node. FitsState (shape node)) }
-    ensures { IfOk result (λ next. next ≡ option_map shape state.entry) }
+    requires { IfSome state (λ node. FitsState (node_value node)) }
+    ensures { IfOk result (λ next. next ≡ option_map node_value state.entry) }
 {
     match state {
         Some(node) => Ok(Some(state_of(alloc, node)?)),
@@ -65,7 +65,7 @@ fn outcome_of(
     alloc: Global,
     outcome: Result<Node<'_>, MethodFault>,
 ) -> Result<Result<StateBytes, MethodFault>, AllocError>
-    requires { IfOk outcome (λ node. FitsState (shape node)) }
+    requires { IfOk outcome (λ node. FitsState (node_value node)) }
     ensures { IfOk result (λ written. written ≡ outcome_shown outcome.entry) }
 {
     match outcome {
@@ -76,7 +76,7 @@ fn outcome_of(
 
 /// Each call that is sent, with the grain that it is sent to.
 fn sends_of(alloc: Global, sends: Vec<Send<'_>>) -> Result<Vec<(GrainId, Message)>, AllocError>
-    requires { AllByRecursion (λ send. FitsMessage (asks send.method.now (shape send.args))) sends.items }
+    requires { AllByRecursion (λ send. FitsMessage (asks send.method.now (node_value send.args))) sends.items }
     ensures { IfOk result (λ written. map sent written.items ≡ map send_shown sends.entry.items) }
 {
     let mut written = Vec::new(alloc);

@@ -4,7 +4,7 @@ use Rattle.std.specs.Prelude.{option_map, option_and_then}
 use Rattle.serde_json.specs.Data as json
 use Rattle.serde_json.specs.Find.{as_i64}
 use Rattle.request_codec.specs.Limits.{depth_limit}
-use Rattle.request_codec.specs.Tree.{Tree, depth, members_depth, fields_depth, whole, list, map, member, field}
+use Rattle.request_codec.specs.Tree.{Tree, depth, members_depth, fields_depth, integer, list, map, member, field}
 use Rattle.request_codec.specs.Json.{value_of_json, members_of_json, fields_of_json, json_depth, items_depth, json_members_depth}
 
 mapped : {A B : Type 0} (o : Option A) (f : A → B) (P : A → Type 0) (Q : B → Type 0) → IfSome o P → ((x : A) → P x → Q (f x)) → IfSome (option_map f o) Q
@@ -23,7 +23,7 @@ mutual
   value_deep : (d : json.Data) → IfSome (value_of_json d) (λ v. depth v ≡ json_depth d)
   value_deep json.null = refl
   value_deep (json.boolean b) = refl
-  value_deep (json.number n) = mapped (as_i64 n) whole (λ i. Unit {0}) (λ v. depth v ≡ 1) (any (as_i64 n)) (λ i h. refl)
+  value_deep (json.number n) = mapped (as_i64 n) integer (λ i. Unit {0}) (λ v. depth v ≡ 1) (any (as_i64 n)) (λ i h. refl)
   value_deep (json.string s) = refl
   value_deep (json.array ds) = mapped (members_of_json ds) list (λ vs. members_depth vs ≡ items_depth ds) (λ v. depth v ≡ suc (items_depth ds)) (members_deep ds) (λ vs h. ap suc h)
   value_deep (json.object ms) = mapped (fields_of_json ms) map (λ fs. fields_depth fs ≡ json_members_depth ms) (λ v. depth v ≡ suc (json_members_depth ms)) (fields_deep ms) (λ fs h. ap suc h)

@@ -3,7 +3,7 @@ use Rattle.std.proofs.Common.{◌≡◌, ℕ, List, Bool, true, false, sym, subs
 use Rattle.std.specs.Prelude.{if◌then◌else◌}
 use Rattle.silo_event.specs.declared.step.Step.{Step}
 use Rattle.silo_core.specs.Built.{is_built}
-use Rattle.line_protocol.specs.Said.{said_of, taken, taken_of}
+use Rattle.line_protocol.specs.Meaning.{meaning_of, taken, taken_of}
 use Rattle.line_protocol.specs.declared.line.Line.{Line}
 use Rattle.line_protocol.specs.declared.line.Line.TheVariants as line
 use Rattle.line_protocol.specs.declared.line.LineRefusal.TheVariants as refusal
@@ -23,4 +23,4 @@ taken_built (line.Refusal r) = tt
 taken_built (line.Step s) = by_kind s (is_built s) refl
 
 pub step_built : (bytes : List ℕ) (s : Step) → line.Step s ≡ taken_of bytes → is_built s ≡ true
-step_built bytes s e = subst SaysBuilt (sym e) (taken_built (said_of bytes))
+step_built bytes s e = subst SaysBuilt (sym e) (taken_built (meaning_of bytes))

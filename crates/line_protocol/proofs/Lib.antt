@@ -1,4 +1,4 @@
-pub mod Said
+pub mod Meaning
 pub mod Texts
 pub mod Plain
 pub mod Pushes
@@ -7,14 +7,14 @@ pub mod LinesOfBytes
 pub mod StepTexts
 pub mod BuiltForms
 pub mod Run
-pub mod Turns
-pub mod SoFar
+pub mod GrammarLoops
+pub mod ItemsRead
 pub mod Ordered
-pub mod FieldsSoFar
+pub mod FieldsRead
 pub mod Numbers
 pub mod Counts
-pub mod Values
-pub mod Placed
+pub mod PutValues
+pub mod MembersTaken
 pub mod Steps
 pub mod ValueTexts
 pub mod AskedDeep

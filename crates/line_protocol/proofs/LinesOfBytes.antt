@@ -3,7 +3,7 @@ use Rattle.std.proofs.Common.{◌≡◌, ◌≢◌, ℕ, zero, suc, ◌<◌, Lis
 use Rattle.std.specs.Io.KnownBytes.{Consumes, Keeps, IsAtEnd, prepend_known}
 use Rattle.std.proofs.KnownBytes.{Consumes-trans, Consumes-kept}
 use Rattle.line_protocol.specs.Lines.{onto, lines_of}
-use Rattle.line_protocol.specs.Running.{LinesTaken, HasNoBreak}
+use Rattle.line_protocol.specs.LineRuns.{LinesTaken, HasNoBreak}
 
 pub HasNoBreak-nil : HasNoBreak []
 HasNoBreak-nil k h = absurd (omega arith)

@@ -14,14 +14,14 @@ use Rattle.silo_core.specs.Runs.{AllConcern}
 use Rattle.silo_core.proofs.Histories.{all_restricted}
 use Rattle.line_protocol.specs.Calls.{HasCause}
 use Rattle.line_protocol.specs.Lines.{lines_of, onto, line_limit, lines_limit}
-use Rattle.line_protocol.specs.Said.{said_of, taken, taken_of}
-use Rattle.line_protocol.specs.Out.{Stepper, whole_stepper, machine_stepper, step_said, steps_of, line_text, lines_text}
-use Rattle.line_protocol.specs.Running.{TakesSteps, TakesLine, TakesLines, LineConcerns, LinesConcern, LineAlone, LinesAlone, LinesTaken, AnswersAll, AnswersAlone, StopsBefore, StopsAt, WrittenInPart, StopsAfter, StopsBy, MayTake, LineStopsBy}
+use Rattle.line_protocol.specs.Meaning.{meaning_of, taken, taken_of}
+use Rattle.line_protocol.specs.LineTexts.{Stepper, whole_stepper, machine_stepper, step_said, steps_of, line_text, lines_text}
+use Rattle.line_protocol.specs.LineRuns.{TakesSteps, TakesLine, TakesLines, LineConcerns, LinesConcern, LineAlone, LinesAlone, LinesTaken, AnswersAll, AnswersAlone, StopsBefore, StopsAt, WrittenInPart, StopsAfter, StopsBy, MayTake, LineStopsBy}
 use Rattle.line_protocol.specs.declared.calls.ReaderCalls.{ReaderCalls}
 use Rattle.line_protocol.specs.declared.fault.LineFault.{LineFault}
 use Rattle.line_protocol.specs.declared.fault.LineFault.TheVariants as fault
 use Rattle.line_protocol.specs.declared.line.Line.{Line}
-use Rattle.line_protocol.proofs.Said.{said_under, said_of-under, long_under}
+use Rattle.line_protocol.proofs.Meaning.{said_under, meaning_of-under, long_under}
 use Rattle.line_protocol.proofs.LinesOfBytes.{LinesTaken-trans, LinesTaken-kept}
 
 -- ---- a line that was cut says what the whole line says
@@ -35,8 +35,8 @@ said_cut_under limit (b ∷ bytes) =
 said_cut_at : (limit cut : ℕ) (l : List ℕ) → cut ≡ suc limit → said_under limit (take cut l) ≡ said_under limit l
 said_cut_at limit cut l e = ap (λ n. said_under limit (take n l)) e ∙ said_cut_under limit l
 
-pub said_cut : (l : List ℕ) → said_of (take 65537 l) ≡ said_of l
-said_cut l = said_of-under (take 65537 l) ∙ said_cut_at line_limit 65537 l refl ∙ sym (said_of-under l)
+pub said_cut : (l : List ℕ) → meaning_of (take 65537 l) ≡ meaning_of l
+said_cut l = meaning_of-under (take 65537 l) ∙ said_cut_at line_limit 65537 l refl ∙ sym (meaning_of-under l)
 
 -- ---- the definitions, by their last line
 
@@ -98,7 +98,7 @@ LinesAlone-more logic tenant old mid done l p c text last =
 
 -- ---- a run, so far: these lines were taken, answered and written
 
-pub record SoFar (logic : Logic) (count : ℕ) (from left : Option (List ℕ)) (old new : History) (before after : Option (List ℕ)) : Type 0 where
+pub record LinesDone (logic : Logic) (count : ℕ) (from left : Option (List ℕ)) (old new : History) (before after : Option (List ℕ)) : Type 0 where
   pub done : List (List ℕ)
   pub counted : length done ≡ count
   pub taken : LinesTaken from left done
@@ -106,8 +106,8 @@ pub record SoFar (logic : Logic) (count : ℕ) (from left : Option (List ℕ)) (
   pub written : Appends before after (lines_text (whole_stepper logic) old.whole done)
   pub alone : (tenant : List ℕ) → LinesConcern tenant done → LinesAlone logic tenant old.whole done
 
-pub SoFar-none : (logic : Logic) (from left : Option (List ℕ)) (old : History) (before : Option (List ℕ)) → LinesTaken from left [] → SoFar logic 0 from left old old before before
-SoFar-none logic from left old before h = record {
+pub LinesDone-none : (logic : Logic) (from left : Option (List ℕ)) (old : History) (before : Option (List ℕ)) → LinesTaken from left [] → LinesDone logic 0 from left old old before before
+LinesDone-none logic from left old before h = record {
   done = [];
   counted = refl;
   taken = h;
@@ -116,11 +116,11 @@ SoFar-none logic from left old before h = record {
   alone = λ tenant c. refl;
 }
 
-pub SoFar-more : (logic : Logic) (count : ℕ) (from left next : Option (List ℕ)) (old mid new : History) (before during after : Option (List ℕ)) (l : List ℕ) (said : Line)
-    → SoFar logic count from left old mid before during → LinesTaken left next (l ∷ []) → said ≡ taken_of l
+pub LinesDone-more : (logic : Logic) (count : ℕ) (from left next : Option (List ℕ)) (old mid new : History) (before during after : Option (List ℕ)) (l : List ℕ) (said : Line)
+    → LinesDone logic count from left old mid before during → LinesTaken left next (l ∷ []) → said ≡ taken_of l
     → TakesLine logic mid said new → Appends during after (line_text (whole_stepper logic) mid.whole said) → ((tenant : List ℕ) → LineConcerns tenant said → LineAlone logic tenant mid.whole said)
-    → SoFar logic (count + 1) from next old new before after
-SoFar-more logic count from left next old mid new before during after l said p took e silo wrote alone =
+    → LinesDone logic (count + 1) from next old new before after
+LinesDone-more logic count from left next old mid new before during after l said p took e silo wrote alone =
     let by = whole_stepper logic in
     let text : line_text by mid.whole said ≡ line_text by (whole_run logic old.whole (steps_of p.done)) (taken_of l) = ap₂ (line_text by) p.silo.whole e in
     record {
@@ -135,20 +135,20 @@ SoFar-more logic count from left next old mid new before during after l said p t
     }
 
 -- the same is left to read
-pub SoFar-kept : (logic : Logic) (count : ℕ) (from left next : Option (List ℕ)) (old new : History) (before after : Option (List ℕ)) → SoFar logic count from left old new before after → Keeps left next → SoFar logic count from next old new before after
-SoFar-kept logic count from left next old new before after p h =
+pub LinesDone-kept : (logic : Logic) (count : ℕ) (from left next : Option (List ℕ)) (old new : History) (before after : Option (List ℕ)) → LinesDone logic count from left old new before after → Keeps left next → LinesDone logic count from next old new before after
+LinesDone-kept logic count from left next old new before after p h =
     record { done = p.done; counted = p.counted; taken = LinesTaken-kept from left next p.done p.taken h; silo = p.silo; written = p.written; alone = p.alone }
 
 -- what was written went out
-pub SoFar-flushed : (logic : Logic) (count : ℕ) (from left : Option (List ℕ)) (old new : History) (before during after : Option (List ℕ)) → SoFar logic count from left old new before during → Keeps during after
-    → SoFar logic count from left old new before after
-SoFar-flushed logic count from left old new before during after p h =
+pub LinesDone-flushed : (logic : Logic) (count : ℕ) (from left : Option (List ℕ)) (old new : History) (before during after : Option (List ℕ)) → LinesDone logic count from left old new before during → Keeps during after
+    → LinesDone logic count from left old new before after
+LinesDone-flushed logic count from left old new before during after p h =
     record { done = p.done; counted = p.counted; taken = p.taken; silo = p.silo; written = Appends-kept before during after _ p.written h; alone = p.alone }
 
 -- no line more was taken
-pub SoFar-same : (logic : Logic) (count : ℕ) (from left next : Option (List ℕ)) (old new : History) (before after : Option (List ℕ)) → SoFar logic count from left old new before after → LinesTaken left next []
-    → SoFar logic count from next old new before after
-SoFar-same logic count from left next old new before after p h =
+pub LinesDone-same : (logic : Logic) (count : ℕ) (from left next : Option (List ℕ)) (old new : History) (before after : Option (List ℕ)) → LinesDone logic count from left old new before after → LinesTaken left next []
+    → LinesDone logic count from next old new before after
+LinesDone-same logic count from left next old new before after p h =
     let taken = subst (LinesTaken from next) (append-nil p.done) (LinesTaken-trans from left next p.done [] p.taken h) in
     record { done = p.done; counted = p.counted; taken = taken; silo = p.silo; written = p.written; alone = p.alone }
 
@@ -158,10 +158,10 @@ all_taken_here : (input ahead : List ℕ) (rest : Option (List ℕ)) (done : Lis
 all_taken_here input ahead None done none end h = absurd h
 all_taken_here input ahead (Some bytes) done none end h = (ap Some end, h ∙ ap (λ l. done ++ lines_of l) (ap₂ (λ a b. a ++ b) none end) ∙ append-nil done)
 
-pub SoFar-all : (logic : Logic) (count : ℕ) (from : Option (List ℕ)) (ahead : List ℕ) (rest : Option (List ℕ)) (old new : History) (before after : Option (List ℕ)) → ahead ≡ [] → IsAtEnd rest
-    → SoFar logic count from (prepend_known ahead rest) old new before after → IfSome from (λ input. AnswersAll logic input count old new rest before after)
-SoFar-all logic count None ahead rest old new before after none end p = tt
-SoFar-all logic count (Some input) ahead rest old new before after none end p =
+pub LinesDone-all : (logic : Logic) (count : ℕ) (from : Option (List ℕ)) (ahead : List ℕ) (rest : Option (List ℕ)) (old new : History) (before after : Option (List ℕ)) → ahead ≡ [] → IsAtEnd rest
+    → LinesDone logic count from (prepend_known ahead rest) old new before after → IfSome from (λ input. AnswersAll logic input count old new rest before after)
+LinesDone-all logic count None ahead rest old new before after none end p = tt
+LinesDone-all logic count (Some input) ahead rest old new before after none end p =
     let whole = all_taken_here input ahead rest p.done none end p.taken in record {
       read = whole.0;
       count = sym p.counted ∙ ap length (sym whole.1);
@@ -169,11 +169,11 @@ SoFar-all logic count (Some input) ahead rest old new before after none end p =
       written = subst (λ ls. Appends before after (lines_text (whole_stepper logic) old.whole ls)) (sym whole.1) p.written;
     }
 
-pub SoFar-alone : (logic : Logic) (count : ℕ) (from : Option (List ℕ)) (ahead : List ℕ) (rest : Option (List ℕ)) (old new : History) (before after : Option (List ℕ)) → ahead ≡ [] → IsAtEnd rest
-    → SoFar logic count from (prepend_known ahead rest) old new before after
+pub LinesDone-alone : (logic : Logic) (count : ℕ) (from : Option (List ℕ)) (ahead : List ℕ) (rest : Option (List ℕ)) (old new : History) (before after : Option (List ℕ)) → ahead ≡ [] → IsAtEnd rest
+    → LinesDone logic count from (prepend_known ahead rest) old new before after
     → IfSome from (λ input. (tenant : List ℕ) → LinesConcern tenant (lines_of input) → AnswersAlone logic tenant input old.whole new.whole before after)
-SoFar-alone logic count None ahead rest old new before after none end p = tt
-SoFar-alone logic count (Some input) ahead rest old new before after none end p =
+LinesDone-alone logic count None ahead rest old new before after none end p = tt
+LinesDone-alone logic count (Some input) ahead rest old new before after none end p =
     let whole = all_taken_here input ahead rest p.done none end p.taken in
     λ tenant c.
     let here = subst (LinesConcern tenant) whole.1 c in
@@ -202,7 +202,7 @@ for_reason None P Q f h = tt
 for_reason (Some input) P Q f h = f input h
 
 -- the writer failed before a read
-stops_flushing : (logic : Logic) (count : ℕ) (from left : Option (List ℕ)) (old new : History) (before after : Option (List ℕ)) → SoFar logic count from left old new before after
+stops_flushing : (logic : Logic) (count : ℕ) (from left : Option (List ℕ)) (old new : History) (before after : Option (List ℕ)) → LinesDone logic count from left old new before after
     → IfSome from (λ input. StopsAfter logic (lines_of input) old new before after)
 stops_flushing logic count None left old new before after p = tt
 stops_flushing logic count (Some input) None old new before after p = absurd p.taken
@@ -220,7 +220,7 @@ stops_flushing logic count (Some input) (Some bytes) old new before after p = re
 
 -- while the next line is read, or memory is refused before
 pub stops_reading : (logic : Logic) (e : LineFault) (calls : ReaderCalls) (count : ℕ) (from left : Option (List ℕ)) (old new : History) (before after : Option (List ℕ)) → HasCause e calls
-    → SoFar logic count from left old new before after → IfSome from (λ input. StopsBy logic e (lines_of input) calls old new before after)
+    → LinesDone logic count from left old new before after → IfSome from (λ input. StopsBy logic e (lines_of input) calls old new before after)
 stops_reading logic fault.Read calls count from left old new before after cause p =
     for_reason from _ _ (λ input stops. (stops, cause)) (stops_before logic from left old new before after p.done p.taken p.silo p.written)
 stops_reading logic fault.TooMuch calls count from left old new before after cause p =
@@ -243,7 +243,7 @@ lines_some (b ∷ bytes) some h = first_some (b == 10) b (lines_of bytes) h
 
 -- there are more lines than an input may have
 pub stops_full : (logic : Logic) (calls : ReaderCalls) (count : ℕ) (from : Option (List ℕ)) (ahead : List ℕ) (rest : Option (List ℕ)) (old new : History) (before after : Option (List ℕ)) → count ≡ lines_limit → 0 < length ahead
-    → SoFar logic count from (prepend_known ahead rest) old new before after → IfSome from (λ input. StopsBy logic fault.TooMuch (lines_of input) calls old new before after)
+    → LinesDone logic count from (prepend_known ahead rest) old new before after → IfSome from (λ input. StopsBy logic fault.TooMuch (lines_of input) calls old new before after)
 stops_full logic calls count None ahead rest old new before after full some p = tt
 stops_full logic calls count (Some input) ahead None old new before after full some p = absurd p.taken
 stops_full logic calls count (Some input) ahead (Some bytes) old new before after full some p = (
@@ -284,7 +284,7 @@ stops_for_memory logic (Some input) (Some bytes) (Some others) old mid new befor
 }
 
 pub stops_answering : (logic : Logic) (e : LineFault) (calls : ReaderCalls) (count : ℕ) (from left next : Option (List ℕ)) (old mid new : History) (before during after : Option (List ℕ)) (l : List ℕ) (said : Line)
-    → SoFar logic count from left old mid before during → LinesTaken left next (l ∷ []) → said ≡ taken_of l → LineStopsBy logic e said mid new during after
+    → LinesDone logic count from left old mid before during → LinesTaken left next (l ∷ []) → said ≡ taken_of l → LineStopsBy logic e said mid new during after
     → IfSome from (λ input. StopsBy logic e (lines_of input) calls old new before after)
 stops_answering logic fault.Read calls count from left next old mid new before during after l said p took e h = absurd h
 stops_answering logic fault.TooMuch calls count from left next old mid new before during after l said p took e h = absurd h
@@ -300,4 +300,4 @@ handed_on r P e is h = subst (λ x. IfErr x P) (sym is) h
 
 -- a line that is cut in the same place says the same
 pub same_said : (found shown l : List ℕ) → found ≡ shown → take 65537 shown ≡ take 65537 l → taken_of found ≡ taken_of l
-same_said found shown l e h = ap taken (ap said_of e ∙ sym (said_cut shown) ∙ ap said_of h ∙ said_cut l)
+same_said found shown l e h = ap taken (ap meaning_of e ∙ sym (said_cut shown) ∙ ap meaning_of h ∙ said_cut l)

@@ -12,9 +12,9 @@ use Rattle.silo_model.specs.Step.{machine_step}
 use Rattle.silo_model.specs.Whole.{Whole, whole_step, shown_to}
 use Rattle.silo_core.specs.Built.{is_built, built_step, built_machine_step}
 use Rattle.silo_core.specs.History.{History, Advances, StepsInParts}
-use Rattle.line_protocol.specs.Out.{whole_stepper, ended, texts_of, step_text, line_text}
+use Rattle.line_protocol.specs.LineTexts.{whole_stepper, ended, texts_of, step_text, line_text}
 use Rattle.line_protocol.specs.Text.{line_of, not_now_line}
-use Rattle.line_protocol.specs.Running.{TakesSteps, TakesLine, LineConcerns, LineAlone}
+use Rattle.line_protocol.specs.LineRuns.{TakesSteps, TakesLine, LineConcerns, LineAlone}
 use Rattle.line_protocol.specs.declared.line.Line.TheVariants as line
 
 pub texts_of-more : (rs : List Reply) (r : Reply) → texts_of (rs ++ r ∷ []) ≡ texts_of rs ++ ended (line_of r)

@@ -10,7 +10,7 @@ use Rattle.request_codec.proofs.Levels.{value_at-leaf}
 use Rattle.request_codec.specs.Call.{state_value}
 use Rattle.request_codec.specs.declared.fault.CodecFault.{CodecFault}
 use Rattle.request_codec.specs.declared.fault.CodecFault.TheVariants as faults
-use Rattle.request_codec.proofs.Loops.{Named, with_members, members-start, members-go_on, members-done, with_fields, fields-start, fields-go_on, fields-done}
+use Rattle.request_codec.proofs.MemberLoops.{Named, with_members, members-start, members-go_on, members-done, with_fields, fields-start, fields-go_on, fields-done}
 use Rattle.line_protocol.specs.Text.{text_of, more_members, more_fields}
 use Rattle.line_protocol.specs.ValueText.{AddsValue, AddsMembers, AddsFields, AddsNone}
 
@@ -64,13 +64,13 @@ list_text : (vs : List Tree) → text_of (list (members_of vs)) ≡ codes "[" ++
 list_text [] = refl
 list_text (v ∷ vs) = ap (λ l. codes "[" ++ (text_of v ++ l)) (more_members-end vs) ∙ ap (λ l. codes "[" ++ l) (sym (append_assoc (text_of v) (more_texts text_of vs) _))
 
-pub record MembersSoFar (read : Parse Tree) (count i : ℕ) (bytes rest before after comma : List ℕ) : Type 0 where
+pub record MembersRead (read : Parse Tree) (count i : ℕ) (bytes rest before after comma : List ℕ) : Type 0 where
   pub front : List Tree
   pub so_far : with_members front (members_at read (count - i) rest) ≡ members_at read count bytes
   pub added : after ≡ before ++ (codes "[" ++ texts text_of front)
   pub apart : comma ≡ comma_after front
 
-pub members_start : (read : Parse Tree) (count : ℕ) (bytes before after : List ℕ) → after ≡ before ++ codes "[" → MembersSoFar read count 0 bytes bytes before after (codes "")
+pub members_start : (read : Parse Tree) (count : ℕ) (bytes before after : List ℕ) → after ≡ before ++ codes "[" → MembersRead read count 0 bytes bytes before after (codes "")
 members_start read count bytes before after e =
     let all : count - 0 ≡ count = omega arith in
     record {
@@ -80,8 +80,8 @@ members_start read count bytes before after e =
       apart = refl;
     }
 
-pub members_next : (read : Parse Tree) (count i : ℕ) (bytes rest behind before t0 t1 t2 comma : List ℕ) → MembersSoFar read count i bytes rest before t0 comma → i < count → t1 ≡ t0 ++ comma → AddsValue (read rest) behind t1 t2
-    → MembersSoFar read count (i + 1) bytes behind before t2 (codes ",")
+pub members_next : (read : Parse Tree) (count i : ℕ) (bytes rest behind before t0 t1 t2 comma : List ℕ) → MembersRead read count i bytes rest before t0 comma → i < count → t1 ≡ t0 ++ comma → AddsValue (read rest) behind t1 t2
+    → MembersRead read count (i + 1) bytes behind before t2 (codes ",")
 members_next read count i bytes rest behind before t0 t1 t2 comma m lt h v = record {
   front = m.front ++ v.v ∷ [];
   so_far = members-go_on read m.front count i rest v.v behind (members_at read count bytes) lt v.read m.so_far;
@@ -89,7 +89,7 @@ members_next read count i bytes rest behind before t0 t1 t2 comma m lt h v = rec
   apart = comma_after-next m.front v.v;
 }
 
-pub members_stop : (read : Parse Tree) (count i : ℕ) (bytes rest before t0 t1 comma : List ℕ) → MembersSoFar read count i bytes rest before t0 comma → count ≤ i → t1 ≡ t0 ++ codes "]" → AddsMembers (members_at read count bytes) rest before t1
+pub members_stop : (read : Parse Tree) (count i : ℕ) (bytes rest before t0 t1 comma : List ℕ) → MembersRead read count i bytes rest before t0 comma → count ≤ i → t1 ≡ t0 ++ codes "]" → AddsMembers (members_at read count bytes) rest before t1
 members_stop read count i bytes rest before t0 t1 comma m le h = record {
   vs = members_of m.front;
   read = members-done read m.front count i rest (members_at read count bytes) le m.so_far;
@@ -116,13 +116,13 @@ map_text (f ∷ fs) =
     ap (λ l. codes "{" ++ (quoted f.0 ++ (codes ":" ++ (text_of f.1 ++ l)))) (more_fields-end fs)
     ∙ ap (λ l. codes "{" ++ l) (field_text-then f _ ∙ sym (append_assoc (field_text f) (more_texts field_text fs) _))
 
-pub record FieldsSoFar (read : Parse Tree) (count i : ℕ) (last : Option (List ℕ)) (bytes rest before after comma : List ℕ) : Type 0 where
+pub record FieldsRead (read : Parse Tree) (count i : ℕ) (last : Option (List ℕ)) (bytes rest before after comma : List ℕ) : Type 0 where
   pub front : List Named
   pub so_far : with_fields front (fields_at read (count - i) last rest) ≡ fields_at read count None bytes
   pub added : after ≡ before ++ (codes "{" ++ texts field_text front)
   pub apart : comma ≡ comma_after front
 
-pub fields_start : (read : Parse Tree) (count : ℕ) (bytes before after : List ℕ) → after ≡ before ++ codes "{" → FieldsSoFar read count 0 None bytes bytes before after (codes "")
+pub fields_start : (read : Parse Tree) (count : ℕ) (bytes before after : List ℕ) → after ≡ before ++ codes "{" → FieldsRead read count 0 None bytes bytes before after (codes "")
 fields_start read count bytes before after e =
     let all : count - 0 ≡ count = omega arith in
     record {
@@ -137,9 +137,9 @@ named_value : (name : List ℕ) (v : Tree) (t1 t2 t3 t4 : List ℕ) → t2 ≡ t
 named_value name v t1 t2 t3 t4 h2 h3 h4 =
     h4 ∙ ap (λ l. l ++ text_of v) (h3 ∙ ap (λ l. l ++ codes ":") h2) ∙ append_assoc (t1 ++ quoted name) (codes ":") (text_of v) ∙ append_assoc t1 (quoted name) (codes ":" ++ text_of v)
 
-pub fields_next : (read : Parse Tree) (count i : ℕ) (last : Option (List ℕ)) (bytes rest name after_name behind before t0 t1 t2 t3 t4 comma : List ℕ) → FieldsSoFar read count i last bytes rest before t0 comma → i < count
+pub fields_next : (read : Parse Tree) (count i : ℕ) (last : Option (List ℕ)) (bytes rest name after_name behind before t0 t1 t2 t3 t4 comma : List ℕ) → FieldsRead read count i last bytes rest before t0 comma → i < count
     → text_at rest ≡ Some (name, after_name) → is_above last name ≡ true → t1 ≡ t0 ++ comma → t2 ≡ t1 ++ quoted name → t3 ≡ t2 ++ codes ":" → AddsValue (read after_name) behind t3 t4
-    → FieldsSoFar read count (i + 1) (Some name) bytes behind before t4 (codes ",")
+    → FieldsRead read count (i + 1) (Some name) bytes behind before t4 (codes ",")
 fields_next read count i last bytes rest name after_name behind before t0 t1 t2 t3 t4 comma m lt named above h1 h2 h3 v = record {
   front = m.front ++ (name, v.v) ∷ [];
   so_far = fields-go_on read m.front count i last rest name after_name v.v behind (fields_at read count None bytes) lt named above v.read m.so_far;
@@ -147,7 +147,7 @@ fields_next read count i last bytes rest name after_name behind before t0 t1 t2 
   apart = comma_after-next m.front (name, v.v);
 }
 
-pub fields_stop : (read : Parse Tree) (count i : ℕ) (last : Option (List ℕ)) (bytes rest before t0 t1 comma : List ℕ) → FieldsSoFar read count i last bytes rest before t0 comma → count ≤ i → t1 ≡ t0 ++ codes "}"
+pub fields_stop : (read : Parse Tree) (count i : ℕ) (last : Option (List ℕ)) (bytes rest before t0 t1 comma : List ℕ) → FieldsRead read count i last bytes rest before t0 comma → count ≤ i → t1 ≡ t0 ++ codes "}"
     → AddsFields (fields_at read count None bytes) rest before t1
 fields_stop read count i last bytes rest before t0 t1 comma m le h = record {
   fs = fields_of m.front;

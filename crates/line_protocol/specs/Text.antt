@@ -3,7 +3,7 @@ use Rattle.std.specs.Prelude.{ℕ, List, ◌++◌, true, false, codes, decimal, 
 use Rattle.std.specs.Fmt.{signed_decimal}
 use Rattle.json.specs.Print.{quoted}
 use Rattle.grain_id.specs.Names.{grain_text, client_text}
-use Rattle.request_codec.specs.Tree.{Tree, null, truth, whole, text, list, map, Members, no_members, member, Fields, no_fields, field}
+use Rattle.request_codec.specs.Tree.{Tree, null, truth, integer, text, list, map, Members, no_members, member, Fields, no_fields, field}
 use Rattle.silo_event.specs.Fault.{fault_code, fault_text}
 use Rattle.silo_event.specs.declared.fault.Fault.{Fault}
 use Rattle.silo_event.specs.declared.fault.Fault.TheVariants.{NotARequest, TooLong}
@@ -19,7 +19,7 @@ abbrev mutual
   text_of null = codes "null"
   text_of (truth true) = codes "true"
   text_of (truth false) = codes "false"
-  text_of (whole i) = signed_decimal i
+  text_of (integer i) = signed_decimal i
   text_of (text s) = quoted s
   text_of (list no_members) = codes "[]"
   text_of (list (member v vs)) = codes "[" ++ (text_of v ++ more_members vs)

@@ -1,11 +1,11 @@
 //! What one line leaves in the silo and adds to the text.
 
 ghost use Rattle.std.specs.Prelude.{◌≡◌, ℕ, List, ◌++◌, ◌⊎◌, OnOk, OnErr, string_bytes, take, true};
-ghost use Rattle.line_protocol.specs.Said.{taken_of};
+ghost use Rattle.line_protocol.specs.Meaning.{taken_of};
 ghost use Rattle.grain_kinds.specs.Counters.{counters};
 ghost use Rattle.silo_core.specs.Built.{is_built};
-ghost use Rattle.line_protocol.specs.Out.{texts_of, whole_stepper, line_text};
-ghost use Rattle.line_protocol.specs.Running.{TakesLine, LineConcerns, LineAlone, MayTake};
+ghost use Rattle.line_protocol.specs.LineTexts.{texts_of, whole_stepper, line_text};
+ghost use Rattle.line_protocol.specs.LineRuns.{TakesLine, LineConcerns, LineAlone, MayTake};
 ghost use Rattle.line_protocol.specs.declared.line.Line.TheVariants as line;
 
 use crate::built::taken;

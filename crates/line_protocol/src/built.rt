@@ -2,7 +2,7 @@
 
 ghost use Rattle.std.specs.Prelude.{◌≡◌};
 ghost use Rattle.silo_core.specs.Built.{is_built};
-ghost use Rattle.line_protocol.specs.Said.{taken};
+ghost use Rattle.line_protocol.specs.Meaning.{taken};
 
 use crate::line::{Line, LineRefusal};
 use silo_event::Step;

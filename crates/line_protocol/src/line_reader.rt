@@ -2,7 +2,7 @@
 
 ghost use Rattle.std.specs.Prelude.{◌≡◌, ◌≢◌, ℕ, List, ◌+◌, ◌-◌, ◌<◌, ◌≤◌, ◌⊎◌, [], ◌∷◌, ◌++◌, Ok, Err, None, Option, IfSome, IfOk, IfErr, OnOk, OnErr, length, take, slice_index, slice_range, vec_len, true, false};
 ghost use Rattle.std.specs.Io.KnownBytes.{Keeps, Consumes, IsAtEnd};
-ghost use Rattle.line_protocol.specs.Running.{left_of, LinesTaken, HasNoBreak};
+ghost use Rattle.line_protocol.specs.LineRuns.{left_of, LinesTaken, HasNoBreak};
 ghost use Rattle.line_protocol.specs.Calls.{HasCause};
 ghost use Rattle.line_protocol.specs.Place.{IsInside, bytes_at};
 

@@ -4,7 +4,7 @@ ghost use Rattle.std.specs.Prelude.{◌≡◌, IfOk, Some, option_map, option_an
 ghost use Rattle.serde_json.specs.Read.{read};
 ghost use Rattle.serde_json.specs.View.{view};
 ghost use Rattle.line_protocol.specs.Form.{step_of_json};
-ghost use Rattle.line_protocol.specs.Said.{json_of_line, said_of};
+ghost use Rattle.line_protocol.specs.Meaning.{json_of_line, meaning_of};
 
 use crate::forms::read_step;
 use crate::line::{Line, LineRefusal};
@@ -20,7 +20,7 @@ use std::alloc::{AllocError, Global};
 /// The bytes that a line may have, without its LF.
 pub(crate) const LINE_LIMIT: usize = 65536;
 
-#[tactic(auto, using(crate::proofs::Said::json_of_line_none))]
+#[tactic(auto, using(crate::proofs::Meaning::json_of_line_none))]
 /// The JSON of a line, if it is JSON.
 fn read_json(alloc: Global, line: &[u8]) -> Result<Option<Value>, AllocError>
     ensures { IfOk result (λ value. option_map view value ≡ json_of_line line.now) }
@@ -71,7 +71,7 @@ impl LineRoom {
 /// What a line says, by its JSON as `serde_json` reads it: any line. `read_line` says the same, and is
 /// mostly faster.
 pub fn read_any_line(alloc: Global, room: &mut LineRoom, line: &[u8]) -> Result<Line, AllocError>
-    ensures { IfOk result (λ said. said ≡ said_of line.now) }
+    ensures { IfOk result (λ said. said ≡ meaning_of line.now) }
 {
     if line.is_empty() {
         return Ok(Line::Nothing);
@@ -103,7 +103,7 @@ fn read_text_step(alloc: Global, room: &mut LineRoom, text: &str) -> Result<Step
 /// What a line says, without its LF. A line in the usual form is read without a tree; every other
 /// one goes to `serde_json`.
 pub fn read_line(alloc: Global, room: &mut LineRoom, line: &[u8]) -> Result<Line, AllocError>
-    ensures { IfOk result (λ said. said ≡ said_of line.now) }
+    ensures { IfOk result (λ said. said ≡ meaning_of line.now) }
 {
     if line.is_empty() || line.len() > LINE_LIMIT {
         return read_any_line(alloc, room, line);

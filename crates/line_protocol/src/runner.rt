@@ -3,10 +3,10 @@
 ghost use Rattle.std.specs.Prelude.{◌≡◌, ◌≤◌, List, ℕ, IfOk, IfErr, IfSome, OnOk};
 ghost use Rattle.std.specs.Io.KnownBytes.{Appends};
 ghost use Rattle.line_protocol.specs.Lines.{lines_of, lines_limit};
-ghost use Rattle.line_protocol.specs.Said.{taken_of};
+ghost use Rattle.line_protocol.specs.Meaning.{taken_of};
 ghost use Rattle.grain_kinds.specs.Counters.{counters};
-ghost use Rattle.line_protocol.specs.Out.{whole_stepper, line_text};
-ghost use Rattle.line_protocol.specs.Running.{TakesLine, LineConcerns, LinesConcern, LineAlone, LineStopsBy, AnswersAll, AnswersAlone, StopsBy, left_of};
+ghost use Rattle.line_protocol.specs.LineTexts.{whole_stepper, line_text};
+ghost use Rattle.line_protocol.specs.LineRuns.{TakesLine, LineConcerns, LinesConcern, LineAlone, LineStopsBy, AnswersAll, AnswersAlone, StopsBy, left_of};
 
 use crate::answers::answer_line;
 use crate::fault::LineFault;

@@ -2,7 +2,7 @@
 
 ghost use Rattle.std.specs.Prelude.{◌≡◌, ◌≤◌, ◌++◌, ℕ, List, Err, IfOk, OnOk, OnErr, take, length};
 ghost use Rattle.std.specs.Io.KnownBytes.{Appends, Keeps};
-ghost use Rattle.line_protocol.specs.Running.{WrittenInPart};
+ghost use Rattle.line_protocol.specs.LineRuns.{WrittenInPart};
 ghost use Rattle.line_protocol.specs.declared.fault.LineFault.TheVariants as fault;
 
 use crate::fault::LineFault;

@@ -16,7 +16,7 @@ use Rattle.request_codec.specs.Limits.{depth_limit}
 use Rattle.request_codec.specs.Formed.{IsFormed}
 use Rattle.request_codec.specs.Spelling.{IsBelowFirst}
 use Rattle.request_codec.specs.Json.{members_of_json, fields_of_json, json_depth, items_depth, json_members_depth}
-use Rattle.request_codec.specs.Lenient.{whole_or_null, lenient_value, lenient_members, lenient_fields, lenient, lenient_entry, TestsWhole, TestsItems, TestsMembers}
+use Rattle.request_codec.specs.Lenient.{integer_or_null, lenient_value, lenient_members, lenient_fields, lenient, lenient_entry, TestsWhole, TestsItems, TestsMembers}
 use Rattle.request_codec.proofs.JsonParts.{JsonEntry}
 
 -- ---- level by level
@@ -37,15 +37,15 @@ lenient-Object m = ap lenient_value (view-Object m) ∙ ap map (fields-lenient m
 
 -- ---- as deep as the JSON
 
-depth-whole_or_null : (o : Option ℤ) → depth (whole_or_null o) ≡ 1
-depth-whole_or_null (Some i) = refl
-depth-whole_or_null None = refl
+depth-integer_or_null : (o : Option ℤ) → depth (integer_or_null o) ≡ 1
+depth-integer_or_null (Some i) = refl
+depth-integer_or_null None = refl
 
 mutual
   pub depth-lenient_value : (d : json.Data) → depth (lenient_value d) ≡ json_depth d
   depth-lenient_value json.null = refl
   depth-lenient_value (json.boolean b) = refl
-  depth-lenient_value (json.number n) = depth-whole_or_null (as_i64 n)
+  depth-lenient_value (json.number n) = depth-integer_or_null (as_i64 n)
   depth-lenient_value (json.string s) = refl
   depth-lenient_value (json.array ds) = ap suc (depth-lenient_members ds)
   depth-lenient_value (json.object ms) = ap suc (depth-lenient_fields ms)

@@ -1,13 +1,13 @@
 pub mod Steps
 pub mod Numbers
-pub mod Again
-pub mod Found
+pub mod SpellingsRead
+pub mod ValuesRead
 pub mod OneSpelling
 pub mod Whole
 pub mod Starts
 pub mod Levels
-pub mod Loops
-pub mod Answered
+pub mod MemberLoops
+pub mod PartAnswers
 pub mod Shown
 pub mod Entries
 pub mod Characters
@@ -21,4 +21,4 @@ pub mod JsonParts
 pub mod JsonObjects
 pub mod JsonMembers
 pub mod Lenient
-pub mod Ends
+pub mod ValueEnds

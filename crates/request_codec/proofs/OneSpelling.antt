@@ -5,10 +5,10 @@ use Rattle.std.specs.Int.{w32, to_be_bytes}
 use Rattle.std.proofs.Math.Nat.{le-max_left, le-max_right}
 use Rattle.std.proofs.lemmas.Option.{some_pair_parts}
 use Rattle.std.proofs.lemmas.List.{append-nil}
-use Rattle.request_codec.specs.Tree.{Tree, null, truth, whole, text, list, map, Members, no_members, member, Fields, no_fields, field, members_count, fields_count, depth}
+use Rattle.request_codec.specs.Tree.{Tree, null, truth, integer, text, list, map, Members, no_members, member, Fields, no_fields, field, members_count, fields_count, depth}
 use Rattle.request_codec.specs.Spelling.{SpellsText, Spells, SpellEach, SpellFields}
 use Rattle.request_codec.specs.Reading.{value_at}
-use Rattle.request_codec.proofs.Again.{depth_positive, value_again}
+use Rattle.request_codec.proofs.SpellingsRead.{depth_positive, value_again}
 
 -- what is read is determined, at any depth that is enough for both
 pub value_again_within : (v : Tree) (d : ℕ) (a x : List ℕ) → Spells v a → depth v ≤ d → value_at d (a ++ x) ≡ Some (v, x)
@@ -37,7 +37,7 @@ mutual
   spelled_once null a b h k = h ∙ sym k
   spelled_once (truth false) a b h k = h ∙ sym k
   spelled_once (truth true) a b h k = h ∙ sym k
-  spelled_once (whole i) a b h k = h.1 ∙ sym k.1
+  spelled_once (integer i) a b h k = h.1 ∙ sym k.1
   spelled_once (text s) a b h k = h.2 ∙ ap (λ (x : List ℕ). 4 ∷ x) (text_once s h.0 k.0 h.1 k.1) ∙ sym k.2
   spelled_once (list vs) a b h k = h.3 ∙ ap (λ (x : List ℕ). 5 ∷ (to_be_bytes w32 (members_count vs) ++ x)) (each_once vs h.0 k.0 h.2 k.2) ∙ sym k.3
   spelled_once (map fs) a b h k = h.3 ∙ ap (λ (x : List ℕ). 6 ∷ (to_be_bytes w32 (fields_count fs) ++ x)) (fields_once fs h.0 k.0 h.2 k.2) ∙ sym k.3

@@ -2,18 +2,18 @@
 use Rattle.std.proofs.Common.{◌≡◌, ℕ, suc, ◌+◌, ◌<◌, ◌≤◌, List, [], ◌∷◌, ◌++◌, length, get_or, drop, map as each, Err, refl, sym, ap, subst, ◌∙◌, append_assoc, arith}
 use Rattle.std.specs.Int.{w32, to_be_bytes}
 use Rattle.std.proofs.lemmas.List.{append-nil, length-append, length-map, drop_more, drop_all}
-use Rattle.request_codec.specs.Tree.{Tree, null, truth, whole, text, list, map, members_count, fields_count, members_of, fields_of}
+use Rattle.request_codec.specs.Tree.{Tree, null, truth, integer, text, list, map, members_count, fields_count, members_of, fields_of}
 use Rattle.request_codec.specs.Written.{Puts, text_spelling, spelling, members_spelling, fields_spelling}
 use Rattle.request_codec.specs.declared.fault.CodecFault.{CodecFault}
 use Rattle.request_codec.specs.declared.fault.CodecFault.TheVariants as faults
 use Rattle.request_codec.proofs.Puts.{Puts-part}
-use Rattle.request_codec.proofs.Loops.{Named}
+use Rattle.request_codec.proofs.MemberLoops.{Named}
 
 some_byte : (t : Tree) → 1 ≤ length (spelling t)
 unfolding spelling
 some_byte null = omega arith
 some_byte (truth b) = omega arith
-some_byte (whole i) = omega arith
+some_byte (integer i) = omega arith
 some_byte (text s) = omega arith
 some_byte (list vs) = omega arith
 some_byte (map fs) = omega arith

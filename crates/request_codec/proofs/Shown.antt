@@ -1,6 +1,6 @@
 -- The value of a `Datum`, level by level.
 use Rattle.std.proofs.Common.{◌≡◌, ℕ, ℤ, Bool as Truth, String, Global, Vec, BTreeMap, List as Listed, [], ◌∷◌, map as each, string_bytes, refl, ap, ◌∙◌, rules}
-use Rattle.request_codec.specs.Tree.{Tree, null, truth, whole, text, list, map, members_of, fields_of}
+use Rattle.request_codec.specs.Tree.{Tree, null, truth, integer, text, list, map, members_of, fields_of}
 use Rattle.request_codec.specs.Seen.{value_of, named, entry_of}
 use Rattle.request_codec.specs.declared.datum.Datum.{Datum, Null, Bool, Int, Text, List, Map, the_lemmas}
 
@@ -10,7 +10,7 @@ value_of-Null = search (rules, the_lemmas)
 pub value_of-Bool : (b : Truth) → value_of (Bool b) ≡ truth b
 value_of-Bool b = search (rules, the_lemmas)
 
-pub value_of-Int : (i : ℤ) → value_of (Int i) ≡ whole i
+pub value_of-Int : (i : ℤ) → value_of (Int i) ≡ integer i
 value_of-Int i = search (rules, the_lemmas)
 
 pub value_of-Text : (s : String Global) → value_of (Text s) ≡ text (string_bytes s)

@@ -8,7 +8,7 @@ use Rattle.request_codec.specs.Call.{Call}
 use Rattle.std.specs.Int.{w32, to_be_bytes}
 use Rattle.std.proofs.lemmas.List.{length-append}
 use Rattle.request_codec.specs.Limits.{depth_limit, message_limit, state_limit}
-use Rattle.request_codec.specs.Tree.{Tree, null, truth, whole, text, list, map, Members, no_members, member, Fields, no_fields, field, members_count, fields_count, depth}
+use Rattle.request_codec.specs.Tree.{Tree, null, truth, integer, text, list, map, Members, no_members, member, Fields, no_fields, field, members_count, fields_count, depth}
 use Rattle.request_codec.specs.Spelling.{SpellsText, Spells, SpellEach, SpellFields, SpellsMessage, SpellsState}
 use Rattle.request_codec.specs.Written.{text_spelling, spelling, members_spelling, fields_spelling, message_spelling}
 use Rattle.request_codec.specs.Formed.{IsFormed, AreFormed, FieldsFormed, IsSized, AreSized, FieldsSized}
@@ -25,7 +25,7 @@ mutual
   spelled null formed sized = refl
   spelled (truth false) formed sized = refl
   spelled (truth true) formed sized = refl
-  spelled (whole i) formed sized = (formed, refl)
+  spelled (integer i) formed sized = (formed, refl)
   spelled (text s) formed sized = (text_spelling s, text_spelled s sized formed, refl)
   spelled (list vs) formed sized = (members_spelling vs, sized.0, each_spelled vs formed sized.1, refl)
   spelled (map fs) formed sized = (fields_spelling fs, sized.0, fields_spelled fs formed sized.1, refl)
@@ -50,7 +50,7 @@ mutual
   pub length-spelling : (v : Tree) → length (spelling v) ≡ spelled_length v
   length-spelling null = refl
   length-spelling (truth b) = refl
-  length-spelling (whole i) = refl
+  length-spelling (integer i) = refl
   length-spelling (text s) = omega (arith, length-text_spelling s)
   length-spelling (list vs) = omega (arith, length-append (to_be_bytes w32 (members_count vs)) (members_spelling vs), length-members_spelling vs)
   length-spelling (map fs) = omega (arith, length-append (to_be_bytes w32 (fields_count fs)) (fields_spelling fs), length-fields_spelling fs)
@@ -68,7 +68,7 @@ mutual
 pub some_length : (v : Tree) → 1 ≤ spelled_length v
 some_length null = omega arith
 some_length (truth b) = omega arith
-some_length (whole i) = omega arith
+some_length (integer i) = omega arith
 some_length (text s) = omega arith
 some_length (list vs) = omega arith
 some_length (map fs) = omega arith
@@ -85,7 +85,7 @@ mutual
   pub sized : (v : Tree) → spelled_length v < 2 ^ 32 → IsSized v
   sized null short = tt
   sized (truth b) short = tt
-  sized (whole i) short = tt
+  sized (integer i) short = tt
   sized (text s) short = omega (arith, short)
   sized (list vs) short = (omega (arith, short, members_count-le vs), each_sized vs (omega (arith, short)))
   sized (map fs) short = (omega (arith, short, fields_count-le fs), fields_sized fs (omega (arith, short)))
@@ -127,7 +127,7 @@ mutual
   pub formed_of : (v : Tree) (bytes : List ℕ) → Spells v bytes → IsFormed v
   formed_of null bytes h = tt
   formed_of (truth b) bytes h = tt
-  formed_of (whole i) bytes h = h.0
+  formed_of (integer i) bytes h = h.0
   formed_of (text s) bytes h = h.1.1
   formed_of (list vs) bytes h = each_formed_of vs h.0 h.2
   formed_of (map fs) bytes h = fields_formed_of fs h.0 h.2
@@ -144,7 +144,7 @@ mutual
   pub sized_of : (v : Tree) (bytes : List ℕ) → Spells v bytes → IsSized v
   sized_of null bytes h = tt
   sized_of (truth b) bytes h = tt
-  sized_of (whole i) bytes h = tt
+  sized_of (integer i) bytes h = tt
   sized_of (text s) bytes h = h.1.0
   sized_of (list vs) bytes h = (h.1, each_sized_of vs h.0 h.2)
   sized_of (map fs) bytes h = (h.1, fields_sized_of fs h.0 h.2)

@@ -13,7 +13,7 @@ use Rattle.request_codec.specs.Reading.{text_at, value_at, if_ended}
 use Rattle.request_codec.specs.Call.{Call, asks, call_behind, behind_version, message_call, state_value, call_of, value_of_state, no_call}
 use Rattle.request_codec.proofs.Steps.{bound, unless, provided, pair_is}
 use Rattle.request_codec.proofs.Numbers.{IsBytes, IsBytes-rest, text_found, text_again}
-use Rattle.request_codec.proofs.Found.{value_found}
+use Rattle.request_codec.proofs.ValuesRead.{value_found}
 use Rattle.request_codec.proofs.OneSpelling.{value_again_within}
 
 pub ended : {A : Type 0} (o : Option (A × List ℕ)) (x : A) → if_ended o ≡ Some x → o ≡ Some (x, [])

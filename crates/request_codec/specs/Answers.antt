@@ -2,7 +2,7 @@
 use Rattle.std.specs.Prelude.{◌≡◌, ℕ, ◌<◌, ◌≤◌, ◌+◌, List, length, Option, Some, None, Result, Ok, Err}
 use Rattle.serde_json.specs.Data as json
 use Rattle.request_codec.specs.Limits.{depth_limit, message_limit}
-use Rattle.request_codec.specs.Tree.{Tree, depth, null, truth, whole, text, list, map, Members, no_members, member, Fields, no_fields, field}
+use Rattle.request_codec.specs.Tree.{Tree, depth, null, truth, integer, text, list, map, Members, no_members, member, Fields, no_fields, field}
 use Rattle.request_codec.specs.Json.{value_of_json, json_depth}
 use Rattle.request_codec.specs.Call.{Call, asks}
 use Rattle.request_codec.specs.declared.fault.CodecFault.{CodecFault}
@@ -13,7 +13,7 @@ abbrev mutual
   pub spelled_length : Tree → ℕ
   spelled_length null = 1
   spelled_length (truth b) = 1
-  spelled_length (whole i) = 9
+  spelled_length (integer i) = 9
   spelled_length (text s) = 5 + length s
   spelled_length (list vs) = 5 + members_length vs
   spelled_length (map fs) = 5 + fields_length fs

@@ -2,7 +2,7 @@
 use Rattle.std.specs.Prelude.{◌≡◌, ℕ, zero, suc, true, false, List, [], ◌∷◌, pos, negsuc, refl}
 use Rattle.std.proofs.Common.{sym, ap, ◌∙◌}
 use base.Stored.{Gv, gnil, gnum, gcons, Coded}
-use Rattle.request_codec.specs.Tree.{Tree, null, truth, whole, text, list, map, Members, no_members, member, Fields, no_fields, field}
+use Rattle.request_codec.specs.Tree.{Tree, null, truth, integer, text, list, map, Members, no_members, member, Fields, no_fields, field}
 
 abbrev pub bytes_code : List ℕ → Gv
 bytes_code [] = gnil
@@ -13,8 +13,8 @@ abbrev mutual
   tree_code null = gnum 0
   tree_code (truth false) = gnum 1
   tree_code (truth true) = gnum 2
-  tree_code (whole (pos n)) = gcons (gnum 0) (gnum n)
-  tree_code (whole (negsuc n)) = gcons (gnum 1) (gnum n)
+  tree_code (integer (pos n)) = gcons (gnum 0) (gnum n)
+  tree_code (integer (negsuc n)) = gcons (gnum 1) (gnum n)
   tree_code (text s) = gcons (gnum 2) (bytes_code s)
   tree_code (list vs) = gcons (gnum 3) (members_code vs)
   tree_code (map fs) = gcons (gnum 4) (fields_code fs)
@@ -49,8 +49,8 @@ leaf_back (suc (suc n)) = truth true
 -- a part with its number in front
 abbrev node_back : Gv → Gv → Members → Fields → Tree
 node_back gnil g vs fs = null
-node_back (gnum zero) g vs fs = whole (pos (number_back g))
-node_back (gnum (suc zero)) g vs fs = whole (negsuc (number_back g))
+node_back (gnum zero) g vs fs = integer (pos (number_back g))
+node_back (gnum (suc zero)) g vs fs = integer (negsuc (number_back g))
 node_back (gnum (suc (suc zero))) g vs fs = text (bytes_back g)
 node_back (gnum (suc (suc (suc zero)))) g vs fs = list vs
 node_back (gnum (suc (suc (suc (suc n))))) g vs fs = map fs
@@ -70,8 +70,8 @@ mutual
   tree_again null = refl
   tree_again (truth false) = refl
   tree_again (truth true) = refl
-  tree_again (whole (pos n)) = refl
-  tree_again (whole (negsuc n)) = refl
+  tree_again (integer (pos n)) = refl
+  tree_again (integer (negsuc n)) = refl
   tree_again (text s) = ap text (bytes_again s)
   tree_again (list vs) = ap list (members_again vs)
   tree_again (map fs) = ap map (fields_again fs)

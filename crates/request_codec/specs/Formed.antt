@@ -1,7 +1,7 @@
 -- Which values a spelling is there for.
 use Rattle.std.specs.Prelude.{ℕ, ◌<◌, ◌≤◌, ◌^◌, Bool, true, false, length, FitsSigned, IsUtf8}
 use Rattle.std.specs.Int.{w64}
-use Rattle.request_codec.specs.Tree.{Tree, null, truth, whole, text, list, map, Members, no_members, member, Fields, no_fields, field, members_count, fields_count, depth, members_depth, fields_depth}
+use Rattle.request_codec.specs.Tree.{Tree, null, truth, integer, text, list, map, Members, no_members, member, Fields, no_fields, field, members_count, fields_count, depth, members_depth, fields_depth}
 use Rattle.request_codec.specs.Spelling.{IsBelowFirst}
 
 -- each number is one of i64, each text and name is UTF-8, and names ascend
@@ -9,7 +9,7 @@ abbrev mutual
   pub IsFormed : Tree → Type 0
   IsFormed null = Unit {0}
   IsFormed (truth b) = Unit {0}
-  IsFormed (whole i) = FitsSigned w64 i
+  IsFormed (integer i) = FitsSigned w64 i
   IsFormed (text s) = IsUtf8 s
   IsFormed (list vs) = AreFormed vs
   IsFormed (map fs) = FieldsFormed fs
@@ -27,7 +27,7 @@ abbrev mutual
   pub IsSized : Tree → Type 0
   IsSized null = Unit {0}
   IsSized (truth b) = Unit {0}
-  IsSized (whole i) = Unit {0}
+  IsSized (integer i) = Unit {0}
   IsSized (text s) = length s < 2 ^ 32
   IsSized (list vs) = (members_count vs < 2 ^ 32) × AreSized vs
   IsSized (map fs) = (fields_count fs < 2 ^ 32) × FieldsSized fs

@@ -2,14 +2,14 @@
 use Rattle.std.specs.Prelude.{ℕ, suc, max, Option, Some, option_map, option_and_then}
 use Rattle.serde_json.specs.Data as json
 use Rattle.serde_json.specs.Find.{of_integer, as_i64}
-use Rattle.request_codec.specs.Tree.{Tree, null, truth, whole, text, list, map, Members, no_members, member, Fields, no_fields, field}
+use Rattle.request_codec.specs.Tree.{Tree, null, truth, integer, text, list, map, Members, no_members, member, Fields, no_fields, field}
 
 -- the JSON of a value
 abbrev mutual
   pub json_of : Tree → json.Data
   json_of null = json.null
   json_of (truth b) = json.boolean b
-  json_of (whole i) = json.number (of_integer i)
+  json_of (integer i) = json.number (of_integer i)
   json_of (text s) = json.string s
   json_of (list vs) = json.array (items_of vs)
   json_of (map fs) = json.object (json_members_of fs)
@@ -27,7 +27,7 @@ abbrev mutual
   pub value_of_json : json.Data → Option Tree
   value_of_json json.null = Some null
   value_of_json (json.boolean b) = Some (truth b)
-  value_of_json (json.number n) = option_map whole (as_i64 n)
+  value_of_json (json.number n) = option_map integer (as_i64 n)
   value_of_json (json.string s) = Some (text s)
   value_of_json (json.array ds) = option_map list (members_of_json ds)
   value_of_json (json.object ms) = option_map map (fields_of_json ms)

@@ -5,19 +5,19 @@ use Rattle.serde_json.specs.Data as json
 use Rattle.serde_json.specs.Find.{as_i64}
 use Rattle.serde_json.specs.View.{view}
 use Rattle.serde_json.specs.declared.value.Value.{Value}
-use Rattle.request_codec.specs.Tree.{Tree, null, truth, whole, text, list, map, Members, no_members, member, Fields, no_fields, field}
+use Rattle.request_codec.specs.Tree.{Tree, null, truth, integer, text, list, map, Members, no_members, member, Fields, no_fields, field}
 use Rattle.request_codec.specs.Json.{value_of_json, members_of_json, fields_of_json}
 use Rattle.request_codec.specs.Formed.{IsFormed, AreFormed, FieldsFormed}
 
-abbrev pub whole_or_null : Option ℤ → Tree
-whole_or_null (Some i) = whole i
-whole_or_null None = null
+abbrev pub integer_or_null : Option ℤ → Tree
+integer_or_null (Some i) = integer i
+integer_or_null None = null
 
 abbrev mutual
   pub lenient_value : json.Data → Tree
   lenient_value json.null = null
   lenient_value (json.boolean b) = truth b
-  lenient_value (json.number n) = whole_or_null (as_i64 n)
+  lenient_value (json.number n) = integer_or_null (as_i64 n)
   lenient_value (json.string s) = text s
   lenient_value (json.array ds) = list (lenient_members ds)
   lenient_value (json.object ms) = map (lenient_fields ms)

@@ -4,7 +4,7 @@ use Rattle.std.specs.Int.{Width, w32, w64, byte_len, from_be_bytes, cast_signed}
 use Rattle.std.specs.Str.{is_utf8}
 use Rattle.std.specs.Cmp.Lexicographic.{slice_cmp}
 use Rattle.std.specs.Ordering.{nat_cmp, is_lt}
-use Rattle.request_codec.specs.Tree.{Tree, null, truth, whole, text, list, map, Members, no_members, member, Fields, no_fields, field}
+use Rattle.request_codec.specs.Tree.{Tree, null, truth, integer, text, list, map, Members, no_members, member, Fields, no_fields, field}
 
 abbrev pub Parse : Type 0 → Type 0
 Parse A = List ℕ → Option (A × List ℕ)
@@ -55,7 +55,7 @@ node_at read (suc zero) rest = Some (truth false, rest)
 node_at read (suc (suc zero)) rest = Some (truth true, rest)
 node_at read (suc (suc (suc zero))) rest = do
   n ← number_at w64 rest
-  Some (whole (cast_signed w64 n.0), n.1)
+  Some (integer (cast_signed w64 n.0), n.1)
 node_at read (suc (suc (suc (suc zero)))) rest = do
   s ← text_at rest
   Some (text s.0, s.1)

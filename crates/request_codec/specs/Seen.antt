@@ -13,7 +13,7 @@ named e = (string_bytes e.0, e.1)
 abbrev pub seen_step : Datum-F Tree → Tree
 seen_step Datum-F.Null = tree.null
 seen_step (Datum-F.Bool b) = tree.truth b
-seen_step (Datum-F.Int i) = tree.whole i
+seen_step (Datum-F.Int i) = tree.integer i
 seen_step (Datum-F.Text s) = tree.text (string_bytes s)
 seen_step (Datum-F.List v) = tree.list (members_of v.items)
 seen_step (Datum-F.Map m) = tree.map (fields_of (map named m.entries))

@@ -1,7 +1,7 @@
 -- The start of a value: a whole one, or how many members follow.
 use Rattle.std.specs.Prelude.{ℕ, zero, suc, true, false, List, [], ◌∷◌, length, Option, Some, None, nat_lt, if◌then◌else◌}
 use Rattle.std.specs.Int.{w32, w64, cast_signed}
-use Rattle.request_codec.specs.Tree.{Tree, null, truth, whole, text, list, map}
+use Rattle.request_codec.specs.Tree.{Tree, null, truth, integer, text, list, map}
 use Rattle.request_codec.specs.Reading.{Parse, ◌>>=◌, number_at, text_at, members_at, fields_at}
 use Rattle.request_codec.specs.declared.bytes.start.Start.{Start}
 use Rattle.request_codec.specs.declared.bytes.start.Start.TheVariants as starts
@@ -15,7 +15,7 @@ pub data Begun : Type 0 where
 abbrev pub begun : Start → Begun
 begun starts.Null = leaf null
 begun (starts.Bool b) = leaf (truth b)
-begun (starts.Int i) = leaf (whole i)
+begun (starts.Int i) = leaf (integer i)
 begun (starts.Text s) = leaf (text s.now)
 begun (starts.List n) = list_of n
 begun (starts.Map n) = map_of n
@@ -36,7 +36,7 @@ start_at (suc zero ∷ rest) = Some (leaf (truth false), rest)
 start_at (suc (suc zero) ∷ rest) = Some (leaf (truth true), rest)
 start_at (suc (suc (suc zero)) ∷ rest) = do
   n ← number_at w64 rest
-  Some (leaf (whole (cast_signed w64 n.0)), n.1)
+  Some (leaf (integer (cast_signed w64 n.0)), n.1)
 start_at (suc (suc (suc (suc zero))) ∷ rest) = do
   s ← text_at rest
   Some (leaf (text s.0), s.1)

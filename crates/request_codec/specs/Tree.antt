@@ -6,7 +6,7 @@ mutual
   pub data Tree : Type 0 where
     null : Tree
     truth : Bool → Tree
-    whole : ℤ → Tree
+    integer : ℤ → Tree
     text : List ℕ → Tree
     list : Members → Tree
     map : Fields → Tree
@@ -34,7 +34,7 @@ abbrev mutual
   pub depth : Tree → ℕ
   depth null = 1
   depth (truth b) = 1
-  depth (whole i) = 1
+  depth (integer i) = 1
   depth (text s) = 1
   depth (list vs) = suc (members_depth vs)
   depth (map fs) = suc (fields_depth fs)

@@ -2,7 +2,7 @@
 use Rattle.std.specs.Prelude.{◌≡◌, ℕ, ◌+◌, ◌<◌, ◌≤◌, List, [], ◌∷◌, ◌++◌, length, Result, Ok, Err, ⊤, Vec, if◌then◌else◌}
 use Rattle.std.specs.Int.{w32, w64, to_be_bytes, cast_unsigned}
 use Rattle.std.specs.declared.alloc.Global.{Global}
-use Rattle.request_codec.specs.Tree.{Tree, null, truth, whole, text, list, map, Members, no_members, member, Fields, no_fields, field, members_count, fields_count}
+use Rattle.request_codec.specs.Tree.{Tree, null, truth, integer, text, list, map, Members, no_members, member, Fields, no_fields, field, members_count, fields_count}
 use Rattle.request_codec.specs.Call.{Call}
 use Rattle.request_codec.specs.Start.{Begun, leaf, list_of, map_of}
 use Rattle.request_codec.specs.declared.fault.CodecFault.{CodecFault}
@@ -16,7 +16,7 @@ unfoldable mutual
   pub spelling : Tree → List ℕ
   spelling null = 0 ∷ []
   spelling (truth b) = (if b then 2 else 1) ∷ []
-  spelling (whole i) = 3 ∷ to_be_bytes w64 (cast_unsigned w64 i)
+  spelling (integer i) = 3 ∷ to_be_bytes w64 (cast_unsigned w64 i)
   spelling (text s) = 4 ∷ text_spelling s
   spelling (list vs) = 5 ∷ (to_be_bytes w32 (members_count vs) ++ members_spelling vs)
   spelling (map fs) = 6 ∷ (to_be_bytes w32 (fields_count fs) ++ fields_spelling fs)

@@ -20,7 +20,7 @@ use Rattle.silo_model.specs.Idle.{is_ready}
 use Rattle.silo_model.specs.Calls.{told, last_number, admitted, with_request}
 use Rattle.silo_model.specs.Sends.{first_from}
 use Rattle.silo_model.specs.Whole.{Whole, whole_step}
-use Rattle.silo_model.proofs.Sights.{active_of, sight_of}
+use Rattle.silo_model.proofs.Contexts.{active_of, context_of}
 use Rattle.silo_model.proofs.CallSteps.{next_request}
 use Rattle.silo_body.specs.Held.{Held}
 use Rattle.silo_body.specs.Notes.{idle_since, AreNoted}
@@ -47,8 +47,8 @@ some_wait n None is = absurd cc
 some_wait n (Some e) is = (e, refl, same_Some (length e.queue) n (sym is))
 
 module _ (logic : Logic) (w : Whole) (t : List ℕ) (g : Grain) (a : Account) (passes : gated logic w t g ≡ Ok a) (left : a.count ≢ last_number) where
-  numbered : verdict logic w t g ≡ admitted (sight_of w t g) g (Ok a)
-  numbered = ap (admitted (sight_of w t g) g) passes
+  numbered : verdict logic w t g ≡ admitted (context_of w t g) g (Ok a)
+  numbered = ap (admitted (context_of w t g) g) passes
 
   pub settles_new : map.get w.entries g ≡ None → active_of w t < a.limits.activations → Settles (verdict logic w t g) None
   settles_new absent free = (a, numbered ∙ rw (not_equal a.count last_number left, absent, below (active_of w t) a.limits.activations free) refl)

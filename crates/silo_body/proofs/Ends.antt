@@ -13,7 +13,7 @@ use Rattle.silo_event.specs.declared.step.Answer.TheVariants.{Done}
 use Rattle.silo_event.specs.declared.step.Step.TheVariants.{End}
 use Rattle.silo_model.specs.Machine.{Account, Entry, Entries, Phase, waiting, loading, ready}
 use Rattle.silo_model.specs.Effect.{change_at}
-use Rattle.silo_model.specs.Calls.{answered}
+use Rattle.silo_model.specs.Calls.{reply_to}
 use Rattle.silo_model.specs.Turns.{plan_of, sent_by, with_sends, outcome_of}
 use Rattle.silo_model.specs.Whole.{whole_step}
 use Rattle.silo_model.proofs.TurnSteps.{end_absent, end_closed, end_waiting, end_loading, end_reads, end_writes, end_clears, end_turn}
@@ -81,7 +81,7 @@ module _ (logic : Logic) (h : Held) (g : Grain) (turn : ℕ) (version : Option �
   pub end_moves : (age : ℕ) (sender : Party) (idle : Bool) (accounts : FinMap text_cmp Account) (new : Entries) (replies : List Reply) → asks (turn_plan logic input).storage ≡ false → age ≡ h.whole.age
       → ClosesEntry h.whole.entries g turn (Some (ready (turn_plan logic input).state version)) h.whole.clock sender idle new
       → accounts ≡ change_at h.whole.accounts g.tenant (with_more (map.get h.whole.accounts g.tenant) (sent_by g (turn_plan logic input).sends))
-      → replies ≡ h.whole.replies ++ answered sender (outcome_of (turn_plan logic input).outcome)
+      → replies ≡ h.whole.replies ++ reply_to sender (outcome_of (turn_plan logic input).outcome)
       → Moves logic h (End g turn) (Ok Done) (record h { whole = record h.whole { accounts = accounts; age = age; entries = new; replies = replies } })
   end_moves age sender idle accounts new replies silent aged d sent told =
       let plan = turn_plan logic input in
@@ -91,7 +91,7 @@ module _ (logic : Logic) (h : Held) (g : Grain) (turn : ℕ) (version : Option �
               accounts = sym (sent ∙ ap (change_at h.whole.accounts g.tenant) (sym (more_sent g (map.get h.whole.accounts g.tenant) plan.sends))) i;
               age = sym aged i;
               entries = sym d.put i;
-              replies = sym (told ∙ ap (λ s. h.whole.replies ++ answered s (outcome_of plan.outcome)) d.sender_is) i;
+              replies = sym (told ∙ ap (λ s. h.whole.replies ++ reply_to s (outcome_of plan.outcome)) d.sender_is) i;
             })),
         refl,
       )

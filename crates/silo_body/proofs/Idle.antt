@@ -9,7 +9,7 @@ use Rattle.grain_id.specs.Names.{Grain, grain_cmp}
 use Rattle.grain_id.proofs.Order.{grain_cmp_total, grain_cmp_exact, eq_by_cmp-Decides}
 use Rattle.grain_id.proofs.Maps as maps
 use Rattle.silo_model.specs.Machine.{Entry, Entries, Request}
-use Rattle.silo_model.proofs.Sights.{not_true}
+use Rattle.silo_model.proofs.Contexts.{not_true}
 use Rattle.std.specs.Prelude.{unwrap_or, length}
 use Rattle.silo_event.specs.declared.reply.Party.{Party}
 use Rattle.silo_model.specs.Machine.{Phase, loading, ready}

@@ -12,7 +12,7 @@ use Rattle.silo_event.specs.declared.reply.Reply.{Reply}
 use Rattle.silo_event.specs.declared.step.Answer.TheVariants.{Done, Failed}
 use Rattle.silo_event.specs.declared.step.Step.TheVariants.{Load}
 use Rattle.silo_model.specs.Machine.{Entry, Entries, Phase, waiting, loading, ready}
-use Rattle.silo_model.specs.Calls.{answered}
+use Rattle.silo_model.specs.Calls.{reply_to}
 use Rattle.silo_model.specs.Whole.{whole_step}
 use Rattle.silo_model.proofs.EntrySteps.{load_waiting, load_ready, load_loading, load_fails}
 use Rattle.silo_body.specs.Held.{Held}
@@ -21,7 +21,7 @@ use Rattle.silo_body.specs.Shown.{request_of}
 use Rattle.silo_body.specs.Reads.{refused, is_loading}
 
 -- what the waiting requests are told, by the mailbox and by the entry
-pub refused_shown : (waiting : List Request) → flat_map refused waiting ≡ flat_map (λ q. answered q.sender (Err StorageFailed)) (map_list request_of waiting)
+pub refused_shown : (waiting : List Request) → flat_map refused waiting ≡ flat_map (λ q. reply_to q.sender (Err StorageFailed)) (map_list request_of waiting)
 refused_shown [] = refl
 refused_shown (r ∷ rs) = ap (λ (told : List Reply). refused r ++ told) (refused_shown rs)
 
@@ -51,7 +51,7 @@ module _ (logic : Logic) (h : Held) (g : Grain) where
       f,
     )
 
-    module _ (replies : List Reply) (gone : new ≡ map.remove h.whole.entries g) (told : replies ≡ h.whole.replies ++ flat_map (λ q. answered q.sender (Err StorageFailed)) e.queue) where
+    module _ (replies : List Reply) (gone : new ≡ map.remove h.whole.entries g) (told : replies ≡ h.whole.replies ++ flat_map (λ q. reply_to q.sender (Err StorageFailed)) e.queue) where
       unloaded : (rows : Rows) → rows ≡ h.whole.rows → whole_step logic h.whole (Load g true) ≡ Some (record h.whole { age = age; entries = new; rows = rows; replies = replies })
       unloaded rows r = load_fails logic h.whole g e found is ∙ (λ i. Some (record h.whole { age = sym aged i; entries = sym gone i; rows = sym r i; replies = sym told i }))
 

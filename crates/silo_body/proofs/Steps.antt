@@ -11,13 +11,13 @@ use Rattle.silo_event.specs.declared.step.Answer.TheVariants.{Done, Failed, NotN
 use Rattle.silo_event.specs.declared.step.Step.TheVariants.{Activate, Begin, Abandon}
 use Rattle.silo_model.specs.Machine.{Entry, Entries, waiting}
 use Rattle.silo_model.specs.Step.{effect_of}
-use Rattle.silo_model.specs.Turns.{activated, begun}
+use Rattle.silo_model.specs.Turns.{activated, opened_if_ready}
 use Rattle.silo_model.specs.Whole.{whole_step}
-use Rattle.silo_model.proofs.Sights.{step_at_own}
+use Rattle.silo_model.proofs.Contexts.{step_at_own}
 use Rattle.silo_event.specs.declared.fault.Fault.TheVariants.{NoMemory}
 use Rattle.silo_event.specs.declared.reply.Party.{Party}
 use Rattle.silo_event.specs.declared.reply.Reply.{Reply}
-use Rattle.silo_model.specs.Calls.{answered}
+use Rattle.silo_model.specs.Calls.{reply_to}
 use Rattle.silo_model.proofs.TurnSteps.{abandon_absent, abandon_closed, abandon_turn}
 use Rattle.silo_model.proofs.EntrySteps.{activate_waiting, begin_does}
 use Rattle.silo_body.specs.Held.{Held}
@@ -40,7 +40,7 @@ module _ (logic : Logic) (h : Held) (g : Grain) where
   unfolding effect_of
   activate_none none = step_at_own logic h.whole (Activate g) g.tenant g None refl refl refl none
 
-  begin_none : option_and_then (λ e. begun logic g e e.phase) (map.get h.whole.entries g) ≡ None → whole_step logic h.whole (Begin g) ≡ None
+  begin_none : option_and_then (λ e. opened_if_ready logic g e e.phase) (map.get h.whole.entries g) ≡ None → whole_step logic h.whole (Begin g) ≡ None
   unfolding effect_of
   begin_none none = step_at_own logic h.whole (Begin g) g.tenant g None refl refl refl none
 
@@ -92,13 +92,13 @@ module _ (logic : Logic) (h : Held) (g : Grain) (turn : ℕ) where
   closed_held age entries replies = record h { whole = record h.whole { age = age; entries = entries; replies = replies } }
 
   pub abandon_moves : (age : ℕ) (sender : Party) (idle : Bool) (new : Entries) (replies : List Reply) → age ≡ h.whole.age → ClosesEntry h.whole.entries g turn None h.whole.clock sender idle new
-      → replies ≡ h.whole.replies ++ answered sender (Err NoMemory) → Moves logic h (Abandon g turn) (Ok Done) (closed_held age new replies)
+      → replies ≡ h.whole.replies ++ reply_to sender (Err NoMemory) → Moves logic h (Abandon g turn) (Ok Done) (closed_held age new replies)
   abandon_moves age sender idle new replies aged d told = (
     abandon_turn logic h.whole g turn d.before d.found d.request d.open_turn
         ∙ (λ i. Some (record h.whole {
           age = sym aged i;
           entries = sym d.put i;
-          replies = sym (told ∙ ap (λ s. h.whole.replies ++ answered s (Err NoMemory)) d.sender_is) i;
+          replies = sym (told ∙ ap (λ s. h.whole.replies ++ reply_to s (Err NoMemory)) d.sender_is) i;
         })),
     refl,
   )

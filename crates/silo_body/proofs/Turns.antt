@@ -72,9 +72,9 @@ module _ (logic : Logic) (g : Grain) (a : Activation) (marked : AreMarked logic 
       else None
 
   module _ (entries : Entries) (found : map.get entries g ≡ Some (entry_of a)) where
-    stays : (after : Entry) → after ≡ entry_of a → model.begun logic g (entry_of a) (phase_of a.phase) ≡ None → Begins logic entries g None (map.insert entries g after)
+    stays : (after : Entry) → after ≡ entry_of a → model.opened_if_ready logic g (entry_of a) (phase_of a.phase) ≡ None → Begins logic entries g None (map.insert entries g after)
     stays after same none =
-        (ap (option_and_then (λ e. model.begun logic g e e.phase)) found ∙ none, ap (map.insert entries g) same ∙ insert-again entries g (entry_of a) found)
+        (ap (option_and_then (λ e. model.opened_if_ready logic g e e.phase)) found ∙ none, ap (map.insert entries g) same ∙ insert-again entries g (entry_of a) found)
 
     -- with a waiting request, or with an open turn, an entry is in use
     used-waiting : (first : Request) (others : List Request) → a.mailbox.waiting ≡ first ∷ others → idle_since (Some (entry_of a)) ≡ None
@@ -95,7 +95,7 @@ module _ (logic : Logic) (g : Grain) (a : Activation) (marked : AreMarked logic 
         → (may : Bool) → front_may_open a.mailbox.opened waiting ≡ may → (turn : Option OpenedTurn) → turn ≡ (if may then turn_of g state waiting else None)
         → Begins logic entries g turn (map.insert entries g (with_mail (if may then begun a.mailbox waiting else a.mailbox)))
     by_front state version is waiting queue all false may None e =
-        stays (entry_of a) refl (ap (λ p. model.begun logic g (entry_of a) (phase_of p)) is ∙ ap (λ ws. model.opened logic g (entry_of a) (map_list request_of ws)) queue ∙ opens-not waiting all may)
+        stays (entry_of a) refl (ap (λ p. model.opened_if_ready logic g (entry_of a) (phase_of p)) is ∙ ap (λ ws. model.opened logic g (entry_of a) (map_list request_of ws)) queue ∙ opens-not waiting all may)
     by_front state version is waiting queue all false may (Some turn) e = absurd (no_turn turn e)
     by_front state version is [] queue all true may turn e = absurd (true≢false (sym may))
     by_front state version is (first ∷ others) queue all true may None e = absurd (no_none _ e)
@@ -103,16 +103,16 @@ module _ (logic : Logic) (g : Grain) (a : Activation) (marked : AreMarked logic 
       before = entry_of a;
       after = with_mail (begun a.mailbox (first ∷ others));
       found = found;
-      does = ap (λ p. model.begun logic g (entry_of a) (phase_of p)) is ∙ ap (λ ws. model.opened logic g (entry_of a) (map_list request_of ws)) queue ∙ opens-first first others all.0 may;
+      does = ap (λ p. model.opened_if_ready logic g (entry_of a) (phase_of p)) is ∙ ap (λ ws. model.opened logic g (entry_of a) (map_list request_of ws)) queue ∙ opens-first first others all.0 may;
       used = used-waiting first others queue;
       in_use = used-open first others;
       put = refl;
     }
 
     by_phase : (phase : Phase) → a.phase ≡ phase → (turn : Option OpenedTurn) → turn ≡ turn_at g a.mailbox phase → Begins logic entries g turn (map.insert entries g (with_mail (mail_begun a.mailbox phase)))
-    by_phase Waiting is None e = stays (entry_of a) refl (ap (λ p. model.begun logic g (entry_of a) (phase_of p)) is)
+    by_phase Waiting is None e = stays (entry_of a) refl (ap (λ p. model.opened_if_ready logic g (entry_of a) (phase_of p)) is)
     by_phase Waiting is (Some turn) e = absurd (no_turn turn e)
-    by_phase Loading is None e = stays (entry_of a) refl (ap (λ p. model.begun logic g (entry_of a) (phase_of p)) is)
+    by_phase Loading is None e = stays (entry_of a) refl (ap (λ p. model.opened_if_ready logic g (entry_of a) (phase_of p)) is)
     by_phase Loading is (Some turn) e = absurd (no_turn turn e)
     by_phase (Ready state version) is turn e = by_front state version is a.mailbox.waiting refl marked.waiting (front_may_open a.mailbox.opened a.mailbox.waiting) refl turn e
 

@@ -13,11 +13,11 @@ use Rattle.silo_event.specs.declared.reply.Party.TheVariants as party
 use Rattle.silo_event.specs.declared.step.Step.TheVariants.{Call, Deliver}
 use Rattle.grain_kinds.specs.Logic.{Logic}
 use Rattle.silo_model.specs.Machine.{Account, Entry, Send}
-use Rattle.silo_model.specs.Effect.{Sight}
+use Rattle.silo_model.specs.Effect.{Context}
 use Rattle.silo_model.specs.Calls.{told, last_number, kind_gate, gate, room, admitted, with_request}
 use Rattle.silo_model.specs.Sends.{first_from}
 use Rattle.silo_model.specs.Whole.{Whole, whole_step}
-use Rattle.silo_model.proofs.Sights.{active_of, sight_of}
+use Rattle.silo_model.proofs.Contexts.{active_of, context_of}
 use Rattle.silo_model.proofs.CallSteps.{next_request, call_unknown_tenant, call_across, call_unknown_kind, call_no_number, call_no_activation, call_mailbox_full, call_new, call_again}
 use Rattle.silo_model.proofs.SendSteps.{deliver_across, deliver_unknown_kind, deliver_no_number, deliver_no_activation, deliver_mailbox_full, deliver_new, deliver_again}
 use Rattle.silo_body.specs.Verdicts.{gated, verdict}
@@ -25,8 +25,8 @@ use Rattle.silo_body.specs.Verdicts.{gated, verdict}
 -- ---- the cases
 
 module _ (logic : Logic) (w : Whole) (t : List ℕ) (g : Grain) where
-  abbrev seen : Sight
-  seen = sight_of w t g
+  abbrev seen : Context
+  seen = context_of w t g
 
   module _ (P : Result Account Fault → Type 0)
       (unknown : map.get w.accounts t ≡ None → P (Err (UnknownTenant t)))

@@ -10,7 +10,7 @@ use Rattle.silo_event.specs.declared.step.Answer.{Answer}
 use Rattle.silo_event.specs.declared.step.Answer.TheVariants.{Done, Failed, NotNow}
 use Rattle.silo_model.specs.Machine.{Entry, Entries, Request, Phase, waiting, loading, ready}
 use Rattle.silo_model.specs.Effect.{on_entry}
-use Rattle.silo_model.specs.Turns.{activated, reads, may_open, begun}
+use Rattle.silo_model.specs.Turns.{activated, reads, may_open, opened_if_ready}
 use Rattle.silo_body.specs.Notes.{is_idle, idle_since}
 
 -- ---- activating
@@ -52,13 +52,13 @@ pub record Opens (logic : Logic) (old : Entries) (grain : Grain) (new : Entries)
   pub before : Entry
   pub after : Entry
   pub found : map.get old grain ≡ Some before
-  pub does : begun logic grain before before.phase ≡ Some (on_entry after)
+  pub does : opened_if_ready logic grain before before.phase ≡ Some (on_entry after)
   pub used : idle_since (Some before) ≡ None
   pub in_use : idle_since (Some after) ≡ None
   pub put : new ≡ map.insert old grain after
 
 abbrev pub Begins : Logic → Entries → Grain → Option OpenedTurn → Entries → Type 0
-Begins logic old grain None new = (option_and_then (λ e. begun logic grain e e.phase) (map.get old grain) ≡ None) × (new ≡ old)
+Begins logic old grain None new = (option_and_then (λ e. opened_if_ready logic grain e e.phase) (map.get old grain) ≡ None) × (new ≡ old)
 Begins logic old grain (Some turn) new = Opens logic old grain new
 
 -- ---- closing a turn

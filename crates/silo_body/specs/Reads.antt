@@ -11,11 +11,11 @@ use Rattle.turn_mailbox.specs.declared.request.Request.{Request}
 use Rattle.silo_event.specs.declared.fault.Fault.TheVariants.{StorageFailed}
 use Rattle.silo_event.specs.declared.reply.Reply.{Reply}
 use Rattle.silo_model.specs.Machine.{Entry, Phase, waiting, loading, ready}
-use Rattle.silo_model.specs.Calls.{answered}
+use Rattle.silo_model.specs.Calls.{reply_to}
 
 -- the request's sender is told that the storage failed
 abbrev pub refused : Request → List Reply
-refused request = answered request.sender (Err StorageFailed)
+refused request = reply_to request.sender (Err StorageFailed)
 
 abbrev pub is_loading : Phase → Bool
 is_loading waiting = false

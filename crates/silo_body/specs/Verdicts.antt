@@ -9,15 +9,15 @@ use Rattle.silo_event.specs.declared.reply.Reply.{Reply}
 use Rattle.silo_model.specs.Machine.{Account}
 use Rattle.silo_model.specs.Calls.{gate, admitted}
 use Rattle.silo_model.specs.Whole.{Whole}
-use Rattle.silo_model.proofs.Sights.{sight_of}
+use Rattle.silo_model.proofs.Contexts.{context_of}
 
 -- the account of the tenant, if it may ask the grain
 abbrev pub gated : Logic → Whole → List ℕ → Grain → Result Account Fault
-gated logic w tenant grain = gate logic (sight_of w tenant grain) (map.get w.accounts tenant) grain
+gated logic w tenant grain = gate logic (context_of w tenant grain) (map.get w.accounts tenant) grain
 
 -- the same, if the tenant's request is accepted
 abbrev pub verdict : Logic → Whole → List ℕ → Grain → Result Account Fault
-verdict logic w tenant grain = admitted (sight_of w tenant grain) grain (gated logic w tenant grain)
+verdict logic w tenant grain = admitted (context_of w tenant grain) grain (gated logic w tenant grain)
 
 -- the account was lent, or this is why not
 abbrev pub Passes : Result Account Fault → Result (Bor Account) Fault → Type 0

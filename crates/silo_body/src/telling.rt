@@ -1,7 +1,7 @@
 //! How the answer to a request becomes a reply.
 
 ghost use Rattle.std.specs.Prelude.{◌≡◌, ◌<◌, ◌≤◌, ◌+◌, ◌++◌, Err, flat_map, length, IfOk, vec_len, vec_capacity};
-ghost use Rattle.silo_model.specs.Calls.{answered};
+ghost use Rattle.silo_model.specs.Calls.{reply_to};
 ghost use Rattle.silo_model.specs.Turns.{outcome_of};
 ghost use Rattle.silo_body.specs.Reads.{refused};
 
@@ -16,7 +16,7 @@ use turn_mailbox::Request;
 /// A client is told the answer, and a grain gets no answer to what it asked.
 pub fn tell(replies: &mut Vec<Reply>, recipient: Party, outcome: Result<StateBytes, Fault>)
     requires { vec_len replies.old < vec_capacity replies.old }
-    ensures told { replies.new.items ≡ replies.old.items ++ answered recipient outcome }
+    ensures told { replies.new.items ≡ replies.old.items ++ reply_to recipient outcome }
     ensures room { vec_capacity replies.new ≡ vec_capacity replies.old }
     ensures len { vec_len replies.new ≤ vec_len replies.old + 1 }
 {

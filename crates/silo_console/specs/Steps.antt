@@ -8,8 +8,8 @@ use Rattle.silo_model.specs.Opening.{Setup, opening, start_of}
 use Rattle.silo_model.specs.Run.{whole_run}
 use Rattle.silo_core.specs.Shown.{setup_of}
 use Rattle.line_protocol.specs.Lines.{lines_of}
-use Rattle.line_protocol.specs.Out.{whole_stepper, machine_stepper, lines_text, steps_of}
-use Rattle.line_protocol.specs.Running.{LinesConcern, WrittenInPart}
+use Rattle.line_protocol.specs.LineTexts.{whole_stepper, machine_stepper, lines_text, steps_of}
+use Rattle.line_protocol.specs.LineRuns.{LinesConcern, WrittenInPart}
 use Rattle.line_protocol.specs.declared.fault.LineFault.{LineFault}
 use Rattle.line_protocol.specs.declared.fault.LineFault.TheVariants as line
 use Rattle.silo_console.specs.Status.{refused_text, version_text}

@@ -2,7 +2,7 @@
 
 ghost use Rattle.std.specs.Prelude.{◌≡◌, IsTrue};
 ghost use Rattle.std.specs.Io.KnownBytes.{Appends};
-ghost use Rattle.line_protocol.specs.Running.{WrittenInPart};
+ghost use Rattle.line_protocol.specs.LineRuns.{WrittenInPart};
 ghost use Rattle.silo_console.specs.Status.{failure_text, status_of, told_text};
 
 use line_protocol::{LineFault, write_whole};

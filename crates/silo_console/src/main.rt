@@ -9,7 +9,7 @@
 
 ghost use Rattle.std.specs.Prelude.{◌≡◌, ◌≢◌};
 ghost use Rattle.std.specs.IoError.{error_kind};
-ghost use Rattle.line_protocol.specs.Running.{WrittenInPart};
+ghost use Rattle.line_protocol.specs.LineRuns.{WrittenInPart};
 ghost use Rattle.silo_console.specs.Status.{failure_text};
 
 mod command_line;

@@ -3,7 +3,7 @@
 ghost use Rattle.std.specs.Prelude.{◌≡◌, ◌≤◌, List, ℕ, Option, OnOk, IfOk, IfErr, IfSome};
 ghost use Rattle.std.specs.Io.KnownBytes.{Appends, Keeps};
 ghost use Rattle.clap.specs.Words.{Text};
-ghost use Rattle.line_protocol.specs.Running.{WrittenInPart};
+ghost use Rattle.line_protocol.specs.LineRuns.{WrittenInPart};
 ghost use Rattle.line_protocol.specs.declared.fault.LineFault.{LineFault as Cause};
 ghost use Rattle.tenant_gate.specs.Age.{IsAge};
 ghost use Rattle.silo_core.specs.Shown.{setup_of};

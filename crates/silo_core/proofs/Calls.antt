@@ -20,7 +20,7 @@ use Rattle.silo_model.specs.Machine.{Entry, Entries, Request}
 use Rattle.silo_model.specs.Calls.{told, last_number, room, with_request}
 use Rattle.silo_model.specs.Whole.{Whole, is_of, whole_step}
 use Rattle.silo_model.proofs.Actives.{active-new, active-again}
-use Rattle.silo_model.proofs.Sights.{active_of, sight_of, not_true, same_text-itself}
+use Rattle.silo_model.proofs.Contexts.{active_of, context_of, not_true, same_text-itself}
 use Rattle.silo_model.proofs.CallSteps.{next_request, call_unknown_tenant, call_across, call_unknown_kind, call_no_number, call_no_activation, call_mailbox_full, call_accepted}
 use Rattle.silo_core.specs.Built.{built_step}
 use Rattle.silo_core.specs.Refusals.{PassesGate, IsTenantFull, IsMailboxFull, HasRoom, RefusesBy, Accepts, active_after}
@@ -113,7 +113,7 @@ module _ (logic : Logic) (w : Whole) (a : Account) (accounts : w.accounts ≡ ma
   one_account : caller.tenant ≡ a.tenant → map.insert w.accounts caller.tenant one_more ≡ map.insert map.empty a.tenant one_more
   one_account same = (λ i. map.insert (accounts i) (same i) one_more) ∙ insert-insert text_cmp_total text_cmp_exact map.empty a.tenant (kept_of a) one_more
 
-  has_room : (found : Option Entry) → caller.tenant ≡ a.tenant → HasRoom a (waiting_at found) → room (sight_of w caller.tenant g) (kept_of a) g found ≡ Ok (kept_of a)
+  has_room : (found : Option Entry) → caller.tenant ≡ a.tenant → HasRoom a (waiting_at found) → room (context_of w caller.tenant g) (kept_of a) g found ≡ Ok (kept_of a)
   has_room None same free =
       ap (λ b. if b then Ok (kept_of a) else Err (NoActivation caller.tenant))
       (below (active_of w caller.tenant) a.limits.activations (subst (λ n. n < a.limits.activations) (active same) free))

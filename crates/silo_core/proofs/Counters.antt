@@ -5,25 +5,25 @@ use Rattle.grain_id.specs.Names.{same_text}
 use Rattle.request_codec.specs.Tree as tree
 use Rattle.request_codec.specs.Tree.{Tree}
 use Rattle.request_codec.specs.Call.{Call, asks}
-use Rattle.turn_arena.specs.Shape.{shape, field_shapes}
+use Rattle.turn_arena.specs.NodeValue.{node_value, field_values}
 use Rattle.turn_arena.specs.declared.node.Field.{Field}
 use Rattle.grain_kinds.specs.Counter.{add_plan, get_plan, number_plan}
-use Rattle.grain_kinds.specs.Shared.{keeps, for_shape, for_null, only_field, whole_field}
+use Rattle.grain_kinds.specs.Shared.{keeps, for_shape, for_null, only_field, integer_field}
 use Rattle.silo_core.specs.Plans.{counter_plan}
 use Rattle.grain_kinds.specs.declared.fault.MethodFault.TheVariants.{UnknownMethod}
 use Rattle.std.specs.Prelude.{Err}
 
 -- ---- the plan by the method
 
-pub plan-add : (method : List ℕ) (state argument : Tree) → same_text method (codes "add") ≡ true → counter_plan method state argument ≡ for_shape state (whole_field (codes "by") argument) (add_plan state)
+pub plan-add : (method : List ℕ) (state argument : Tree) → same_text method (codes "add") ≡ true → counter_plan method state argument ≡ for_shape state (integer_field (codes "by") argument) (add_plan state)
 unfolding number_plan
 plan-add method state argument is =
-    ap (λ b. if b then for_shape state (whole_field (codes "by") argument) (add_plan state) else if same_text method (codes "get") then for_null state argument (get_plan state) else keeps state (Err UnknownMethod)) is
+    ap (λ b. if b then for_shape state (integer_field (codes "by") argument) (add_plan state) else if same_text method (codes "get") then for_null state argument (get_plan state) else keeps state (Err UnknownMethod)) is
 
 module _ (method : List ℕ) (state argument : Tree) (other : same_text method (codes "add") ≡ false) where
   plan-by_get : (b : Bool) → same_text method (codes "get") ≡ b → counter_plan method state argument ≡ (if b then for_null state argument (get_plan state) else keeps state (Err UnknownMethod))
   unfolding number_plan
-  plan-by_get b is = λ i. if other i then for_shape state (whole_field (codes "by") argument) (add_plan state) else if is i then for_null state argument (get_plan state) else keeps state (Err UnknownMethod)
+  plan-by_get b is = λ i. if other i then for_shape state (integer_field (codes "by") argument) (add_plan state) else if is i then for_null state argument (get_plan state) else keeps state (Err UnknownMethod)
 
   pub plan-get : same_text method (codes "get") ≡ true → counter_plan method state argument ≡ for_null state argument (get_plan state)
   plan-get is = plan-by_get true is
@@ -43,12 +43,12 @@ swapped x y false b h = ap (λ o. if o then y else x) (sym h)
 
 -- the first of one field, by whether it has another name
 pub only_field-one : (name : List ℕ) (fs : List Field) (other : Field) (b : Bool) → 1 ≤ length fs → length fs < 2 → b ≡ not (same_text (get_or fs 0 other).name.now name)
-    → only_field name (tree.map (field_shapes fs)) ≡ (if b then None else Some (shape (get_or fs 0 other).node))
+    → only_field name (tree.map (field_values fs)) ≡ (if b then None else Some (node_value (get_or fs 0 other).node))
 only_field-one name [] other b least most h = absurd (omega arith)
-only_field-one name (f ∷ []) other b least most h = swapped (Some (shape f.node)) None (same_text f.name.now name) b h
+only_field-one name (f ∷ []) other b least most h = swapped (Some (node_value f.node)) None (same_text f.name.now name) b h
 only_field-one name (f ∷ g ∷ fs) other b least most h = absurd (omega arith)
 
-pub only_field-many : (name : List ℕ) (fs : List Field) → 2 ≤ length fs → only_field name (tree.map (field_shapes fs)) ≡ None
+pub only_field-many : (name : List ℕ) (fs : List Field) → 2 ≤ length fs → only_field name (tree.map (field_values fs)) ≡ None
 only_field-many name [] least = refl
 only_field-many name (f ∷ []) least = absurd (omega arith)
 only_field-many name (f ∷ g ∷ fs) least = refl

@@ -26,7 +26,7 @@ use Rattle.silo_model.proofs.Journals.{own_part, other_parts, not_now, journals_
 use Rattle.silo_model.proofs.Opening.{fresh_accounts-empty, fresh_accounts-first}
 use Rattle.silo_core.specs.Built.{is_built, built_step, built_machine_step}
 use Rattle.silo_core.specs.Shown.{setup_of}
-use Rattle.silo_core.specs.History.{History, Answered, StepsInParts, AnsweredInParts}
+use Rattle.silo_core.specs.History.{History, Answered, StepsInParts, StepAnswersInParts}
 use Rattle.silo_core.specs.Runs.{AllConcern, Takes}
 use Rattle.silo_core.proofs.Built.{inside, never_failed, none_beside, mapped_beside, run_push, done_push, answers_push, run_built}
 
@@ -84,7 +84,7 @@ done_parts logic old new s leads step =
       own_replies = adds.own_replies;
     }
 
-pub step_parts : (logic : Logic) (old new : History) (s : Step) (r : Result Answer StepFault) → LeadsTo logic old.setup old.journal old.whole → Answered logic old s r new → AnsweredInParts logic old.whole s r new.whole
+pub step_parts : (logic : Logic) (old new : History) (s : Step) (r : Result Answer StepFault) → LeadsTo logic old.setup old.journal old.whole → Answered logic old s r new → StepAnswersInParts logic old.whole s r new.whole
 step_parts logic old new s (Ok Done) leads h = done_parts logic old new s leads h.whole
 step_parts logic old new s (Ok Failed) leads h = done_parts logic old new (as_failed s) leads h.1.whole
 step_parts logic old new s (Ok NotNow) leads h = λ tenant concerned.

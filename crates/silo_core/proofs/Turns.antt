@@ -12,11 +12,11 @@ use Rattle.request_codec.specs.Tree.{Tree}
 use Rattle.silo_event.specs.declared.reply.Reply.{Reply}
 use Rattle.grain_kinds.specs.Logic.{Plan}
 use Rattle.silo_model.specs.Machine.{Entry, Request, ready}
-use Rattle.silo_model.specs.Effect.{Sight, Effect, keep, on_entry}
+use Rattle.silo_model.specs.Effect.{Context, Effect, keep, on_entry}
 use Rattle.silo_model.specs.Step.{at_turn}
-use Rattle.silo_model.specs.Turns.{may_open, begun, opened, ended, ended_by, closed, with_sends, outcome_of, plan_of}
+use Rattle.silo_model.specs.Turns.{may_open, opened_if_ready, opened, ended, ended_by, closed, with_sends, outcome_of, plan_of}
 use Rattle.grain_kinds.specs.Counters.{counters}
-use Rattle.silo_core.specs.Answers.{closing}
+use Rattle.silo_core.specs.EntryAnswers.{closing}
 use Rattle.silo_core.specs.Plans.{counter_plan, plan_by, PlansFound, PlansRequest, PlansTurn}
 use Rattle.silo_core.specs.Shown.{phase_of, turns_of, with_state}
 use Rattle.silo_core.specs.declared.counter.Planned.{Planned}
@@ -69,19 +69,19 @@ opened_by : (g : Grain) (e : Entry) (r : Request) (rest : List Request) (b : Boo
     → opened counters g e (r ∷ rest) ≡ (if b then Some (on_entry (record e { queue = rest; turns = map.insert e.turns r.number r })) else None)
 opened_by g e r rest b is = ap (λ t. if t then Some (on_entry (record e { queue = rest; turns = map.insert e.turns r.number r })) else None) (may_begin g e r b is)
 
-pub begun_busy : (g : Grain) (p : Progress) (q : List Request) (t : Option Request) (l : ℕ) → is_some t ≡ true → begun counters g (seen p q t l) (phase_of p) ≡ None
+pub begun_busy : (g : Grain) (p : Progress) (q : List Request) (t : Option Request) (l : ℕ) → is_some t ≡ true → opened_if_ready counters g (seen p q t l) (phase_of p) ≡ None
 begun_busy g Waiting q t l h = refl
 begun_busy g Loading q t l h = refl
 begun_busy g (Ready state version) [] t l h = refl
 begun_busy g (Ready state version) (r ∷ q) None l h = absurd (cc (h))
 begun_busy g (Ready state version) (r ∷ q) (Some s) l h = opened_by g (seen (Ready state version) (r ∷ q) (Some s) l) r q false (len-turn s)
 
-pub begun_unready : (g : Grain) (e : Entry) (p : Progress) → (p ≡ Waiting) ⊎ (p ≡ Loading) → begun counters g e (phase_of p) ≡ None
-begun_unready g e p (inl is) = ap (λ x. begun counters g e (phase_of x)) is
-begun_unready g e p (inr is) = ap (λ x. begun counters g e (phase_of x)) is
+pub begun_unready : (g : Grain) (e : Entry) (p : Progress) → (p ≡ Waiting) ⊎ (p ≡ Loading) → opened_if_ready counters g e (phase_of p) ≡ None
+begun_unready g e p (inl is) = ap (λ x. opened_if_ready counters g e (phase_of x)) is
+begun_unready g e p (inr is) = ap (λ x. opened_if_ready counters g e (phase_of x)) is
 
 begun_first : (g : Grain) (state : Tree) (version : Option ℕ) (r : Request) (rest : List Request) (l : ℕ)
-    → begun counters g (seen (Ready state version) (r ∷ rest) None l) (ready state version) ≡ Some (on_entry (seen (Ready state version) rest (Some r) l))
+    → opened_if_ready counters g (seen (Ready state version) (r ∷ rest) None l) (ready state version) ≡ Some (on_entry (seen (Ready state version) rest (Some r) l))
 begun_first g state version r rest l = opened_by g (seen (Ready state version) (r ∷ rest) None l) r rest true len-no_turn
 
 none_is : {X : Type 0} (o : Option X) → is_some o ≡ false → o ≡ None
@@ -89,7 +89,7 @@ none_is None h = refl
 none_is (Some x) h = absurd (cc (h))
 
 pub begun_next : (g : Grain) (p : Progress) (q rest : List Request) (t : Option Request) (l : ℕ) (r : Request) (state : Tree) (version : Option ℕ)
-    → p ≡ Ready state version → q ≡ r ∷ rest → is_some t ≡ false → begun counters g (seen p q t l) (phase_of p) ≡ Some (on_entry (seen p rest (Some r) l))
+    → p ≡ Ready state version → q ≡ r ∷ rest → is_some t ≡ false → opened_if_ready counters g (seen p q t l) (phase_of p) ≡ Some (on_entry (seen p rest (Some r) l))
 begun_next g p q rest t l r state version is queue idle = rw (is, queue, none_is t idle) (begun_first g state version r rest l)
 
 -- ---- a turn ends
@@ -128,7 +128,7 @@ module _ (g : Grain) where
   pub planned_open : (p : Progress) (q : List Request) (t : Option Request) (l turn : ℕ) (planned : Planned) → t ≡ None → PlansTurn counters g (seen p q t l) turn (Some planned) → ⊥
   planned_open p q t l turn planned none h = absurd (cc (found_plan (seen p q t l) turn None (Some planned) (ap (λ o. map.get (turns_of o) turn) none ∙ get-no_turn turn) h))
 
-  module _ (s : Sight) where
+  module _ (s : Context) where
     abbrev ending : Entry → Request → Option Effect
     ending e request = ended counters s g e request e.phase
 

@@ -56,9 +56,9 @@ pub record StepsInParts (logic : Logic) (old : Whole) (s : Step) (new : Whole) :
   pub own_replies : (tenant : List ℕ) → concerns tenant s ≡ true → (shown_to tenant new).replies ≡ (shown_to tenant old).replies ++ added
 
 -- The answer is that of the machine of each tenant that the step concerns.
-abbrev pub AnsweredInParts : Logic → Whole → Step → Result Answer StepFault → Whole → Type 0
-AnsweredInParts logic old s (Ok Done) new = StepsInParts logic old s new
-AnsweredInParts logic old s (Ok Failed) new = StepsInParts logic old (as_failed s) new
-AnsweredInParts logic old s (Ok NotNow) new = (tenant : List ℕ) → concerns tenant s ≡ true → built_machine_step logic (shown_to tenant old) s ≡ None
-AnsweredInParts logic old s (Err Memory) new = new ≡ old
-AnsweredInParts logic old s (Err Stranger) new = ⊥
+abbrev pub StepAnswersInParts : Logic → Whole → Step → Result Answer StepFault → Whole → Type 0
+StepAnswersInParts logic old s (Ok Done) new = StepsInParts logic old s new
+StepAnswersInParts logic old s (Ok Failed) new = StepsInParts logic old (as_failed s) new
+StepAnswersInParts logic old s (Ok NotNow) new = (tenant : List ℕ) → concerns tenant s ≡ true → built_machine_step logic (shown_to tenant old) s ≡ None
+StepAnswersInParts logic old s (Err Memory) new = new ≡ old
+StepAnswersInParts logic old s (Err Stranger) new = ⊥

@@ -18,8 +18,8 @@ abbrev pub RunsInParts : Logic → Whole → List Step → Whole → Type 0
 RunsInParts logic old steps new = (tenant : List ℕ) → shown_to tenant new ≡ machine_run logic (shown_to tenant old) (restricted_to tenant (built steps))
 
 -- And so are the answers to the tenant's steps.
-abbrev pub AnswersInParts : Logic → Whole → List Step → List Answer → Type 0
-AnswersInParts logic old steps given = (tenant : List ℕ) → answers_to tenant steps given ≡ answers_by (built_machine_step logic) (shown_to tenant old) (restricted_to tenant steps)
+abbrev pub RunAnswersInParts : Logic → Whole → List Step → List Answer → Type 0
+RunAnswersInParts logic old steps given = (tenant : List ℕ) → answers_to tenant steps given ≡ answers_by (built_machine_step logic) (shown_to tenant old) (restricted_to tenant steps)
 
 -- From the old history the steps were taken, each with its answer, and led to the new one.
 pub record Takes (logic : Logic) (old : History) (steps : List Step) (given : List Answer) (new : History) : Type 0 where

@@ -2,12 +2,12 @@
 
 ghost use Rattle.std.specs.Prelude.{◌≡◌, Some, None, false, IfOk, OnOk, OnErr, length};
 ghost use Rattle.grain_id.specs.Names.{Grain};
-ghost use Rattle.silo_model.specs.Effect.{Sight};
+ghost use Rattle.silo_model.specs.Effect.{Context};
 ghost use Rattle.silo_model.specs.Step.{at_turn};
-ghost use Rattle.silo_model.specs.Turns.{activated, loaded, begun, ended, outcome_of};
+ghost use Rattle.silo_model.specs.Turns.{activated, loaded, opened_if_ready, ended, outcome_of};
 ghost use Rattle.silo_model.specs.Calls.{with_request};
 ghost use Rattle.grain_kinds.specs.Counters.{counters};
-ghost use Rattle.silo_core.specs.Answers.{Turns, Closes};
+ghost use Rattle.silo_core.specs.EntryAnswers.{EntryAnswered, Closes};
 ghost use Rattle.silo_core.specs.Plans.{PlansTurn};
 ghost use Rattle.silo_core.specs.Shown.{with_state};
 
@@ -91,7 +91,7 @@ impl Activation {
 
     /// Begins to load, where it waits to be activated.
     pub fn activate(&mut self) -> Answer
-        ensures { Turns (activated self.old self.old.phase) self.old result self.new }
+        ensures { EntryAnswered (activated self.old self.old.phase) self.old result self.new }
     {
         match self.progress {
             Progress::Waiting => {
@@ -104,7 +104,7 @@ impl Activation {
 
     /// Gets the kind's empty state, where it loads: nothing is stored.
     pub fn load(&mut self, alloc: Global) -> Result<Answer, AllocError>
-        ensures loads { IfOk result (λ answer. (s : Sight) (grain : Grain) → s.row ≡ None → Turns (loaded counters s grain false self.old self.old.phase) self.old answer self.new) }
+        ensures loads { IfOk result (λ answer. (s : Context) (grain : Grain) → s.row ≡ None → EntryAnswered (loaded counters s grain false self.old self.old.phase) self.old answer self.new) }
         ensures unchanged { OnErr result (self.new ≡ self.old) }
     {
         match self.progress {
@@ -122,7 +122,7 @@ impl Activation {
 
     /// Opens a turn of the first waiting request, where it is ready and no turn is open.
     pub fn begin(&mut self) -> Answer
-        ensures { (grain : Grain) → Turns (begun counters grain self.old self.old.phase) self.old result self.new }
+        ensures { (grain : Grain) → EntryAnswered (opened_if_ready counters grain self.old self.old.phase) self.old result self.new }
     {
         if self.turn.is_some() {
             return Answer::NotNow;
@@ -148,7 +148,7 @@ impl Activation {
         turn: u64,
         now: u64,
     ) -> Result<Option<Reply>, AllocError>
-        ensures closes { IfOk result (λ reply. (s : Sight) (grain : Grain) → s.clock ≡ now
+        ensures closes { IfOk result (λ reply. (s : Context) (grain : Grain) → s.clock ≡ now
             → Closes (at_turn (λ e request. ended counters s grain e request e.phase) turn self.old) self.old reply self.new) }
         ensures unchanged { OnErr result (self.new ≡ self.old) }
     {

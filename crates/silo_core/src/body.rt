@@ -4,7 +4,7 @@ ghost use Rattle.std.specs.Prelude.{◌≡◌, []};
 ghost use Rattle.std.specs.FinMap as map;
 ghost use Rattle.silo_model.specs.Opening.{fresh_account};
 ghost use Rattle.grain_kinds.specs.Counters.{counters};
-ghost use Rattle.silo_core.specs.Moves.{Moves};
+ghost use Rattle.silo_core.specs.WholeMoves.{WholeMoves};
 
 use crate::account::Account;
 use crate::directory::Directory;
@@ -75,7 +75,7 @@ impl Body {
 
     /// Takes a step. A step of a kind that isn't built is not possible.
     pub fn step(&mut self, alloc: Global, step: &Step) -> Result<Answer, StepFault>
-        ensures { Moves counters self.old step.now result self.new }
+        ensures { WholeMoves counters self.old step.now result self.new }
     {
         match step {
             Step::Call {

@@ -1,13 +1,13 @@
 //! Counters: what a turn of one comes to.
 
 ghost use Rattle.std.specs.Prelude.{◌≡◌, ℕ, ℤ, pos, List, None, Some, Err, IfOk, codes};
-ghost use Rattle.request_codec.specs.Tree.{Tree, whole};
+ghost use Rattle.request_codec.specs.Tree.{Tree, integer};
 ghost use Rattle.grain_kinds.specs.Counter as counter;
 ghost use Rattle.grain_kinds.specs.Counter.{add_plan, get_plan};
 ghost use Rattle.grain_kinds.specs.Counters.{counters};
-ghost use Rattle.grain_kinds.specs.Shared.{for_shape, for_null, whole_value, whole_field};
+ghost use Rattle.grain_kinds.specs.Shared.{for_shape, for_null, integer_value, integer_field};
 ghost use Rattle.silo_core.specs.Plans.{plan_by, counter_plan};
-ghost use Rattle.turn_arena.specs.Shape.{shape};
+ghost use Rattle.turn_arena.specs.NodeValue.{node_value};
 
 use crate::reading::{asked_in, state_in};
 use bumpalo::Bump;
@@ -76,7 +76,7 @@ fn add(alloc: Global, number: i64, by: Option<i64>) -> Result<Planned, AllocErro
 
 /// The number is the answer.
 fn get(alloc: Global, number: i64, argument: Node<'_>) -> Result<Planned, AllocError>
-    ensures { IfOk result (λ planned. (state : Tree) → counter.number_of state ≡ number → plan_by planned state ≡ for_null state (shape argument.entry) (get_plan state)) }
+    ensures { IfOk result (λ planned. (state : Tree) → counter.number_of state ≡ number → plan_by planned state ≡ for_null state (node_value argument.entry) (get_plan state)) }
 {
     match argument {
         Node::Null => Ok(Planned {
@@ -103,7 +103,7 @@ fn refused(why: MethodFault) -> Planned
 
 /// A counter's number. A state that is no whole number counts as 0.
 fn number_of(state: Node<'_>) -> i64
-    ensures { result ≡ counter.number_of (shape state.entry) }
+    ensures { result ≡ counter.number_of (node_value state.entry) }
 {
     match state {
         Node::Int(number) => number,
@@ -117,7 +117,7 @@ fn number_of(state: Node<'_>) -> i64
 
 /// The number that `{"by": n}` adds.
 fn addend(argument: Node<'_>) -> Option<i64>
-    ensures { result ≡ whole_field (codes "by") (shape argument.entry) }
+    ensures { result ≡ integer_field (codes "by") (node_value argument.entry) }
 {
     let Node::Map(fields) = argument else {
         return None;
@@ -133,7 +133,7 @@ fn addend(argument: Node<'_>) -> Option<i64>
 
 /// The whole number that a value is.
 fn whole_of(value: Node<'_>) -> Option<i64>
-    ensures { result ≡ whole_value (shape value.entry) }
+    ensures { result ≡ integer_value (node_value value.entry) }
 {
     match value {
         Node::Int(number) => Some(number),
@@ -147,7 +147,7 @@ fn whole_of(value: Node<'_>) -> Option<i64>
 
 /// The state that a number is.
 fn state_of(alloc: Global, number: i64) -> Result<StateBytes, AllocError>
-    ensures { IfOk result (λ state. state ≡ whole number) }
+    ensures { IfOk result (λ state. state ≡ integer number) }
 {
     match encode_node(alloc, Node::Int(number)) {
         Ok(state) => Ok(state),

@@ -2,7 +2,7 @@
 
 ghost use Rattle.std.specs.Prelude.{◌≡◌, IfOk};
 ghost use Rattle.request_codec.specs.Call.{asks};
-ghost use Rattle.turn_arena.specs.Shape.{shape};
+ghost use Rattle.turn_arena.specs.NodeValue.{node_value};
 
 use bumpalo::Bump;
 use request_codec::{Message, StateBytes};
@@ -11,7 +11,7 @@ use turn_arena::{ArenaFault, Node, decode_in, node_in};
 
 /// The method and the argument of a message.
 pub fn asked_in<'a>(bump: &'a Bump, message: &Message) -> Result<(&'a str, Node<'a>), AllocError>
-    ensures { IfOk result (λ found. asks found.0.now (shape found.1) ≡ message.now) }
+    ensures { IfOk result (λ found. asks found.0.now (node_value found.1) ≡ message.now) }
 {
     match decode_in(bump, message.bytes()) {
         Ok(found) => Ok(found),
@@ -22,7 +22,7 @@ pub fn asked_in<'a>(bump: &'a Bump, message: &Message) -> Result<(&'a str, Node<
 
 /// The value of a state.
 pub fn state_in<'a>(bump: &'a Bump, state: &StateBytes) -> Result<Node<'a>, AllocError>
-    ensures { IfOk result (λ node. shape node ≡ state.now) }
+    ensures { IfOk result (λ node. node_value node ≡ state.now) }
 {
     match node_in(bump, state.bytes()) {
         Ok(node) => Ok(node),

@@ -10,7 +10,7 @@ ghost use Rattle.silo_model.specs.Exclusive.{Exclusive, done_answers};
 ghost use Rattle.silo_model.specs.Settled.{Settled};
 ghost use Rattle.tenant_gate.specs.Age.{IsAge};
 ghost use Rattle.grain_kinds.specs.Counters.{counters};
-ghost use Rattle.silo_core.specs.History.{Answered, AnsweredInParts, no_failures};
+ghost use Rattle.silo_core.specs.History.{Answered, StepAnswersInParts, no_failures};
 ghost use Rattle.silo_core.specs.Shown.{setup_of};
 
 use crate::body::Body;
@@ -91,7 +91,7 @@ impl Silo {
         message: Message,
     ) -> Result<Answer, StepFault>
         ensures answered { Answered counters self.old (step.Call caller id grain message) result self.new }
-        ensures parts { AnsweredInParts counters self.old.whole (step.Call caller id grain message) result self.new.whole }
+        ensures parts { StepAnswersInParts counters self.old.whole (step.Call caller id grain message) result self.new.whole }
     {
         self.apply(
             alloc,
@@ -107,7 +107,7 @@ impl Silo {
     /// A grain's entry that waits begins to load.
     pub fn activate(&mut self, alloc: Global, grain: GrainId) -> Result<Answer, StepFault>
         ensures answered { Answered counters self.old (step.Activate grain) result self.new }
-        ensures parts { AnsweredInParts counters self.old.whole (step.Activate grain) result self.new.whole }
+        ensures parts { StepAnswersInParts counters self.old.whole (step.Activate grain) result self.new.whole }
     {
         self.apply(alloc, Step::Activate { grain })
     }
@@ -115,7 +115,7 @@ impl Silo {
     /// A loading grain gets its state.
     pub fn load(&mut self, alloc: Global, grain: GrainId) -> Result<Answer, StepFault>
         ensures answered { Answered counters self.old (step.Load grain false) result self.new }
-        ensures parts { AnsweredInParts counters self.old.whole (step.Load grain false) result self.new.whole }
+        ensures parts { StepAnswersInParts counters self.old.whole (step.Load grain false) result self.new.whole }
     {
         self.apply(
             alloc,
@@ -129,7 +129,7 @@ impl Silo {
     /// The first waiting request of a ready grain becomes its open turn.
     pub fn begin(&mut self, alloc: Global, grain: GrainId) -> Result<Answer, StepFault>
         ensures answered { Answered counters self.old (step.Begin grain) result self.new }
-        ensures parts { AnsweredInParts counters self.old.whole (step.Begin grain) result self.new.whole }
+        ensures parts { StepAnswersInParts counters self.old.whole (step.Begin grain) result self.new.whole }
     {
         self.apply(alloc, Step::Begin { grain })
     }
@@ -137,7 +137,7 @@ impl Silo {
     /// The open turn of that number runs and is closed.
     pub fn end(&mut self, alloc: Global, grain: GrainId, turn: u64) -> Result<Answer, StepFault>
         ensures answered { Answered counters self.old (step.End grain turn) result self.new }
-        ensures parts { AnsweredInParts counters self.old.whole (step.End grain turn) result self.new.whole }
+        ensures parts { StepAnswersInParts counters self.old.whole (step.End grain turn) result self.new.whole }
     {
         self.apply(alloc, Step::End { grain, turn })
     }
@@ -145,7 +145,7 @@ impl Silo {
     /// Takes a step. One of a kind that isn't built is never possible.
     pub fn apply(&mut self, alloc: Global, step: Step) -> Result<Answer, StepFault>
         ensures answered { Answered counters self.old step result self.new }
-        ensures parts { AnsweredInParts counters self.old.whole step result self.new.whole }
+        ensures parts { StepAnswersInParts counters self.old.whole step result self.new.whole }
     {
         let _ = &self.journal;
         self.take(alloc, step)

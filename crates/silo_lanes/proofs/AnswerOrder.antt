@@ -18,7 +18,7 @@ use Rattle.silo_event.specs.declared.step.Step.TheVariants.{Tick, Sweep}
 use Rattle.grain_kinds.specs.Logic.{Logic}
 use Rattle.grain_kinds.specs.Laws.{ReadersAskNothing}
 use Rattle.silo_model.specs.Machine.{Machine}
-use Rattle.silo_model.specs.Effect.{Effect, sight_at, applied}
+use Rattle.silo_model.specs.Effect.{Effect, context_at, applied}
 use Rattle.silo_model.specs.Step.{grain_of, effect_of, swept, shared_step, step_by, machine_step}
 use Rattle.silo_model.specs.Whole.{Whole, is_to, shown_to}
 use Rattle.silo_model.specs.Run.{machine_run, concerns, restricted_to}
@@ -62,7 +62,7 @@ module _ (logic : Logic) (m new : Machine) (s : Step) where
 
   adds_by_owner : (o : Option (List ℕ)) → step_by logic m s o ≡ Some new → AddsReplies m new
   adds_by_owner None h = shared_adds m new s h
-  adds_by_owner (Some owner) h = adds_by_effect (grain_of m.account s) (effect_of logic (sight_at m (grain_of m.account s)) s) h
+  adds_by_owner (Some owner) h = adds_by_effect (grain_of m.account s) (effect_of logic (context_at m (grain_of m.account s)) s) h
 
   pub step_adds : machine_step logic m s ≡ Some new → AddsReplies m new
   unfolding machine_step

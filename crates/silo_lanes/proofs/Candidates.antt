@@ -18,7 +18,7 @@ use Rattle.silo_model.specs.Opening.{fresh_account, opening}
 use Rattle.silo_model.proofs.Opening.{get-fresh_accounts}
 use Rattle.grain_kinds.specs.Logic.{Logic}
 use Rattle.silo_model.specs.Machine.{Account, Entry, Entries}
-use Rattle.silo_model.specs.Effect.{Effect, Change, change_option, change_at, changed_at, sight_at}
+use Rattle.silo_model.specs.Effect.{Effect, Change, change_option, change_at, changed_at, context_at}
 use Rattle.silo_model.specs.Sends.{first_from}
 use Rattle.silo_model.specs.Whole.{Whole, shown_to, spread, whole_swept, whole_shared_step, whole_step}
 use Rattle.silo_model.proofs.Changes.{get-change_same, get-change_other}
@@ -71,8 +71,8 @@ shared_accounts w after (Tick now) h = by_clock (nat_le w.clock now) h
 shared_accounts w after Sweep h = ap (λ (x : Whole). x.accounts) (sym (same_Some (whole_swept w) after h))
 shared_accounts w after _ h = absurd (none-some after h)
 
-seen_account : (w : Whole) (tenant : List ℕ) (place : Option Grain) → (sight_at (shown_to tenant w) place).account ≡ map.get w.accounts tenant
-unfolding sight_at shown_to
+seen_account : (w : Whole) (tenant : List ℕ) (place : Option Grain) → (context_at (shown_to tenant w) place).account ≡ map.get w.accounts tenant
+unfolding context_at shown_to
 seen_account w tenant place = refl
 
 spread_accounts : (w : Whole) (owner : List ℕ) (place : Option Grain) (e : Effect) → (spread w owner place e).accounts ≡ change_at w.accounts owner e.account
@@ -93,7 +93,7 @@ sends_stay logic w after s g (Some owner) is step apart h = by_tenant (eq_by_cmp
 
     fewer : has_sent g (sends_of (change_option (map.get w.accounts owner) d.what.account)) ≡ true → has_sent g (sends_of (map.get w.accounts owner)) ≡ true
     fewer = subst (λ account. has_sent g (sends_of (change_option account d.what.account)) ≡ true → has_sent g (sends_of account) ≡ true) (seen_account w owner (place_in w owner s))
-        (effect_less logic (sight_at (shown_to owner w) (place_in w owner s)) g d.what s apart d.does)
+        (effect_less logic (context_at (shown_to owner w) (place_in w owner s)) g d.what s apart d.does)
 
     by_tenant : (b : Bool) → eq_by_cmp text_cmp g.tenant owner ≡ b → has_sent g (sends_of (map.get w.accounts g.tenant)) ≡ true
     by_tenant true tied =

@@ -15,7 +15,7 @@ use Rattle.silo_model.specs.Whole.{Whole, is_of, shown_to}
 use Rattle.silo_model.specs.Run.{concerns, restricted_to}
 use Rattle.silo_model.specs.Opening.{start_of}
 use Rattle.silo_model.specs.Settled.{pending_at, all_pending}
-use Rattle.silo_model.proofs.Sights.{get-own}
+use Rattle.silo_model.proofs.Contexts.{get-own}
 use Rattle.grain_id.proofs.ByGrain.{get-part}
 use Rattle.silo_model.proofs.Counts.{at, total, total-remove, total_alike, sum_zero, sum_one, sum_flat, sum_alike}
 use Rattle.silo_model.proofs.Fair.{held, pend, within_all}

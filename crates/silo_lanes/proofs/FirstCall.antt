@@ -10,7 +10,7 @@ use Rattle.std.proofs.lemmas.Option.{same_Some, none-some}
 use Rattle.std.proofs.lemmas.List.Elements.{All-from_recursion}
 use Rattle.grain_id.specs.Names.{Client, Grain, client_eq, grain_cmp, text_cmp}
 use Rattle.grain_id.proofs.Order.{client_eq_decides, grain_cmp_total, text_cmp_total}
-use Rattle.request_codec.specs.Tree.{whole}
+use Rattle.request_codec.specs.Tree.{integer}
 use Rattle.tenant_gate.specs.declared.limits.Limits.{Limits}
 use Rattle.tenant_gate.specs.Table.{limits_of}
 use Rattle.grain_kinds.specs.Counters.{counters}
@@ -58,8 +58,8 @@ module _ (caller : Client) (id : ℕ) (grain : Grain) (n : ℤ) where
     given = All-from_recursion (λ s. has_giver (lane_of_one_call caller id grain n ∷ []) (lane_of s) ≡ true) (first_call caller id grain n) given;
   }
 
-  pub answered_one : told (party.Client caller id) (Ok (whole n)) ≡ replies_to (Some caller) (told (party.Client caller id) (Ok (whole n)))
-  answered_one = sym (ap (λ b. cond b (told (party.Client caller id) (Ok (whole n))) []) itself)
+  pub answered_one : told (party.Client caller id) (Ok (integer n)) ≡ replies_to (Some caller) (told (party.Client caller id) (Ok (integer n)))
+  answered_one = sym (ap (λ b. cond b (told (party.Client caller id) (Ok (integer n))) []) itself)
 
 -- ---- nothing is left to do
 

@@ -16,12 +16,12 @@ use Rattle.silo_event.specs.declared.step.Step.{Step}
 use Rattle.silo_event.specs.declared.step.Step.TheVariants.{Refuse, Call, Poke, Status, Deliver, Activate, Load, Begin, Store, End, Abandon, Tick, Sweep}
 use Rattle.grain_kinds.specs.Logic.{Logic, Plan, Outgoing, StorageCall, asks_nothing, reads_row, writes_row, clears_row}
 use Rattle.silo_model.specs.Machine.{Account, Entry, Request, Send, Phase, waiting, loading, ready}
-use Rattle.silo_model.specs.Effect.{Sight, Effect, Change, keep, on_entry, change_option}
+use Rattle.silo_model.specs.Effect.{Context, Effect, Change, keep, on_entry, change_option}
 use Rattle.silo_model.specs.Calls.{gate, admitted, call_settled, called}
 use Rattle.silo_model.specs.Asks.{row_told, poke_settled, poked, status_told}
 use Rattle.silo_model.specs.Sends.{first_from, delivered_to, delivered}
 use Rattle.silo_model.specs.Stores.{row_poked, row_written, row_cleared}
-use Rattle.silo_model.specs.Turns.{activated, loaded, may_open, opened, begun, plan_of, with_sends, ended_by, ended, row_changed, stored_by, stored, abandoned}
+use Rattle.silo_model.specs.Turns.{activated, loaded, may_open, opened, opened_if_ready, plan_of, with_sends, ended_by, ended, row_changed, stored_by, stored, abandoned}
 use Rattle.silo_model.specs.Step.{at_turn, effect_of}
 use Rattle.silo_model.proofs.Changes.{bound}
 use Rattle.silo_model.proofs.Moves.{admitted_by, gate_by, same_change}
@@ -80,7 +80,7 @@ has_more grain g (sent ∷ sends) os apart h =
 abbrev Less : Grain → Option Account → Change Account → Type 0
 Less g o c = has_sent g (sends_of (change_option o c)) ≡ true → has_sent g (sends_of o) ≡ true
 
-module _ (logic : Logic) (s : Sight) (g : Grain) (e : Effect) where
+module _ (logic : Logic) (s : Context) (g : Grain) (e : Effect) where
   abbrev Fewer : Type 0
   Fewer = Less g s.account e.account
 
@@ -91,17 +91,17 @@ module _ (logic : Logic) (s : Sight) (g : Grain) (e : Effect) where
   leaves : (x : Effect) → x.account ≡ keep → Some x ≡ Some e → Fewer
   leaves x is does = kept (ap (λ (y : Effect). y.account) (sym (same_Some x e does)) ∙ is)
 
-call_less : (logic : Logic) (s : Sight) (g grain : Grain) (sender : Party) (call : codec.Call) (r : Result Account Fault) → ((a : Account) → r ≡ Ok a → s.account ≡ Some a) → Less g s.account (call_settled s sender call r).account
+call_less : (logic : Logic) (s : Context) (g grain : Grain) (sender : Party) (call : codec.Call) (r : Result Account Fault) → ((a : Account) → r ≡ Ok a → s.account ≡ Some a) → Less g s.account (call_settled s sender call r).account
 call_less logic s g grain sender call (Ok a) known = λ h. ap (λ o. has_sent g (sends_of o)) (known a refl) ∙ h
 call_less logic s g grain sender call (Err why) known = λ h. h
 
-called_less : (logic : Logic) (s : Sight) (g grain : Grain) (sender : Party) (call : codec.Call) → Less g s.account (called logic s sender grain call).account
+called_less : (logic : Logic) (s : Context) (g grain : Grain) (sender : Party) (call : codec.Call) → Less g s.account (called logic s sender grain call).account
 unfolding called
 called_less logic s g grain sender call =
     call_less logic s g grain sender call (admitted s grain (gate logic s s.account grain)) (λ a is. gate_by logic s grain s.account a (admitted_by s grain (gate logic s s.account grain) a is))
 
 -- a delivery takes one out
-sent_less : (logic : Logic) (s : Sight) (g grain : Grain) (a : Account) (found : Send × List Send) → s.account ≡ Some a → first_from grain a.sends ≡ Some found → Less g s.account (delivered_to logic s grain a found).account
+sent_less : (logic : Logic) (s : Context) (g grain : Grain) (a : Account) (found : Send × List Send) → s.account ≡ Some a → first_from grain a.sends ≡ Some found → Less g s.account (delivered_to logic s grain a found).account
 sent_less logic s g grain a found known first h =
     let rest : Account = record a { sends = found.1 } in
     let after : Effect = called logic (record s { account = Some rest }) (party.Grain grain) found.0.message.target found.0.message.call in
@@ -114,20 +114,20 @@ row_told_keeps p grain (Ok done) = refl
 row_told_keeps p grain (Err (stale found)) = refl
 row_told_keeps p grain (Err spent) = refl
 
-poke_keeps : (s : Sight) (p : Party) (grain : Grain) (state : Tree) (failed : Bool) (r : Result Account Fault) → (poke_settled s p grain state failed r).account ≡ keep
+poke_keeps : (s : Context) (p : Party) (grain : Grain) (state : Tree) (failed : Bool) (r : Result Account Fault) → (poke_settled s p grain state failed r).account ≡ keep
 poke_keeps s p grain state true (Ok a) = refl
 poke_keeps s p grain state false (Ok a) = row_told_keeps p grain (row_poked s.row state)
 poke_keeps s p grain state failed (Err why) = refl
 
-poked_keeps : (logic : Logic) (s : Sight) (p : Party) (grain : Grain) (state : Tree) (failed : Bool) → (poked logic s p grain state failed).account ≡ keep
+poked_keeps : (logic : Logic) (s : Context) (p : Party) (grain : Grain) (state : Tree) (failed : Bool) → (poked logic s p grain state failed).account ≡ keep
 unfolding poked
 poked_keeps logic s p grain state failed = poke_keeps s p grain state failed (gate logic s s.account grain)
 
-status_keeps : (s : Sight) (p : Party) (account : Option Account) → (status_told s p account).account ≡ keep
+status_keeps : (s : Context) (p : Party) (account : Option Account) → (status_told s p account).account ≡ keep
 status_keeps s p None = refl
 status_keeps s p (Some a) = refl
 
-row_keeps : (s : Sight) (grain : Grain) (x : Entry) (request : Request) (state : Tree) (version : Option ℕ) (new : Tree) (r : Result (Option ℕ × Change Row) RowFault) → (row_changed s grain x request state version new r).account ≡ keep
+row_keeps : (s : Context) (grain : Grain) (x : Entry) (request : Request) (state : Tree) (version : Option ℕ) (new : Tree) (r : Result (Option ℕ × Change Row) RowFault) → (row_changed s grain x request state version new r).account ≡ keep
 row_keeps s grain x request state version new (Ok done) = refl
 row_keeps s grain x request state version new (Err (stale found)) = refl
 row_keeps s grain x request state version new (Err spent) = refl
@@ -137,7 +137,7 @@ more_less g grain account [] apart = λ h. h
 more_less g grain None (o ∷ os) apart = λ h. h
 more_less g grain (Some a) (o ∷ os) apart = has_more grain g a.sends (o ∷ os) apart
 
-module _ (logic : Logic) (s : Sight) (g : Grain) (e : Effect) where
+module _ (logic : Logic) (s : Context) (g : Grain) (e : Effect) where
   abbrev Falls : Type 0
   Falls = Less g s.account e.account
 
@@ -160,7 +160,7 @@ module _ (logic : Logic) (s : Sight) (g : Grain) (e : Effect) where
       by_test true h = leaves logic s g e _ refl h
       by_test false h = absurd (none-some e h)
 
-  begun_less : (grain : Grain) (x : Entry) (p : Phase) → begun logic grain x p ≡ Some e → Falls
+  begun_less : (grain : Grain) (x : Entry) (p : Phase) → opened_if_ready logic grain x p ≡ Some e → Falls
   begun_less grain x waiting h = absurd (none-some e h)
   begun_less grain x loading h = absurd (none-some e h)
   begun_less grain x (ready state version) h = opened_less grain x x.queue h

@@ -2,7 +2,7 @@
 use Rattle.std.specs.Prelude.{◌≡◌, ◌<◌, ℕ, true, List, [], ◌∷◌, filter, length, count_by, map as map_list, Option, Some, None, Ok, ℤ, codes}
 use Rattle.std.specs.FinMap as map
 use Rattle.grain_id.specs.Names.{Grain, Client}
-use Rattle.request_codec.specs.Tree.{whole}
+use Rattle.request_codec.specs.Tree.{integer}
 use Rattle.tenant_gate.specs.declared.limits.Limits.{Limits}
 use Rattle.tenant_gate.specs.Table.{limits_of}
 use Rattle.silo_event.specs.declared.reply.Party.TheVariants as party
@@ -60,4 +60,4 @@ lane_of_one_call caller id grain n = record { from = Some caller; steps = Call c
 abbrev pub FirstCallServed : Type 0
 FirstCallServed = (setup : Setup) (limits : Limits) (caller : Client) (id : ℕ) (grain : Grain) (n : ℤ)
     → limits_of setup.tenants caller.tenant ≡ Some limits → 0 < limits.activations → grain.tenant ≡ caller.tenant → grain.kind ≡ codes "counter" → map.get setup.rows grain ≡ None → fits_64 n ≡ true
-    → (w : Whole) × AreServed counters setup (lane_of_one_call caller id grain n ∷ []) (first_call caller id grain n) w 0 (told (party.Client caller id) (Ok (whole n)) ∷ [])
+    → (w : Whole) × AreServed counters setup (lane_of_one_call caller id grain n ∷ []) (first_call caller id grain n) w 0 (told (party.Client caller id) (Ok (integer n)) ∷ [])

@@ -13,7 +13,7 @@ use Rattle.silo_model.specs.Step.{machine_step}
 use Rattle.silo_model.specs.Whole.{Whole, shown_to, whole_step}
 use Rattle.silo_model.specs.Run.{answer_of, answers_by, machine_run, concerns_by, concerns, restricted_to, answers_to, marked}
 use Rattle.silo_model.specs.Answers.{IsAnswer, IsAnswerBy, AreAnswers, AreMachineAnswers}
-use Rattle.silo_model.specs.Parts.{AnsweredInParts, RunsAnswer}
+use Rattle.silo_model.specs.Parts.{StepAnswersInParts, RunsAnswer}
 use Rattle.silo_model.proofs.Sound.{IsSound}
 use Rattle.silo_model.proofs.Isolation.{own_part, not_now}
 use Rattle.silo_model.proofs.Runs.{whole_after, machine_after, run_shown, next_shown, next_sound}
@@ -99,7 +99,7 @@ answered_alone logic tenant w (s ∷ steps) (a ∷ answers) sound are =
     )
     by_concern false is rest = subst (λ b. AreMachineAnswers logic (cond b (machine_after logic (shown_to tenant w) (marked_step s a)) (shown_to tenant w)) (restricted_to tenant steps) (answers_to tenant steps answers)) (concerns_marked tenant s a ∙ is) rest
 
-pub answered_in_parts : AnsweredInParts
+pub answered_in_parts : StepAnswersInParts
 answered_in_parts logic setup journal w tenant steps answers leads are =
     let sound = journal_sound logic setup journal w leads in
     record {

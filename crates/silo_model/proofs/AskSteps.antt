@@ -15,13 +15,13 @@ use Rattle.silo_event.specs.declared.reply.Party.TheVariants as party
 use Rattle.silo_event.specs.declared.step.Step.TheVariants.{Refuse, Poke, Status}
 use Rattle.grain_kinds.specs.Logic.{Logic}
 use Rattle.silo_model.specs.Machine.{Account}
-use Rattle.silo_model.specs.Effect.{Sight, Change, sight_at, change_at, only_replies}
+use Rattle.silo_model.specs.Effect.{Context, Change, context_at, change_at, only_replies}
 use Rattle.silo_model.specs.Calls.{told, gate}
 use Rattle.silo_model.specs.Stores.{row_poked, version_value}
 use Rattle.silo_model.specs.Asks.{refused, row_told, poke_settled, poked, status_of, status_told}
 use Rattle.silo_model.specs.Step.{effect_of}
 use Rattle.silo_model.specs.Whole.{Whole, shown_to, spread, whole_step}
-use Rattle.silo_model.proofs.Sights.{active_of, sight_of, step_by_sight, step_at_own}
+use Rattle.silo_model.proofs.Contexts.{active_of, context_of, step_by_sight, step_at_own}
 use Rattle.silo_model.proofs.CallRule.{gate_unknown_tenant, gate_across, gate_unknown_kind, gate_passed}
 use Rattle.silo_model.proofs.CallSteps.{spread-only_replies}
 
@@ -43,18 +43,18 @@ module _ (logic : Logic) (w : Whole) (caller : Client) (id : ℕ) where
   -- ---- status
 
   -- what the whole has of the tenant, at no grain
-  abbrev tenant_sight : Sight
+  abbrev tenant_sight : Context
   tenant_sight = record { tenant = caller.tenant; account = map.get w.accounts caller.tenant; clock = w.clock; active = active_of w caller.tenant; entry = None; row = None }
 
-  sees_tenant : sight_at (shown_to caller.tenant w) None ≡ tenant_sight
-  unfolding sight_at shown_to
+  sees_tenant : context_at (shown_to caller.tenant w) None ≡ tenant_sight
+  unfolding context_at shown_to
   sees_tenant = refl
 
   status_by : (account : Option Account) → map.get w.accounts caller.tenant ≡ account → whole_step logic w (Status caller id) ≡ Some (spread w caller.tenant None (status_told tenant_sight asker account))
   unfolding effect_of
   status_by account known =
       step_by_sight logic w (Status caller id) caller.tenant None (Some (status_told tenant_sight asker account)) refl refl
-      (ap (λ (s : Sight). Some (status_told s asker s.account)) sees_tenant ∙ ap (λ a. Some (status_told tenant_sight asker a)) known)
+      (ap (λ (s : Context). Some (status_told s asker s.account)) sees_tenant ∙ ap (λ a. Some (status_told tenant_sight asker a)) known)
 
   pub status_unknown_tenant : map.get w.accounts caller.tenant ≡ None → whole_step logic w (Status caller id) ≡ Some (told_whole (Err (UnknownTenant caller.tenant)))
   status_unknown_tenant none = status_by None none ∙ ap Some (spread-only_replies w caller.tenant None asker (Err (UnknownTenant caller.tenant)))
@@ -65,15 +65,15 @@ module _ (logic : Logic) (w : Whole) (caller : Client) (id : ℕ) where
   -- ---- pokes
 
   module _ (g : Grain) (state : Tree) (failed : Bool) where
-    abbrev seen : Sight
-    seen = sight_at (shown_to caller.tenant w) (Some g)
+    abbrev seen : Context
+    seen = context_at (shown_to caller.tenant w) (Some g)
 
-    seen_account : (sight_at (shown_to caller.tenant w) (Some g)).account ≡ map.get w.accounts caller.tenant
-    unfolding sight_at shown_to
+    seen_account : (context_at (shown_to caller.tenant w) (Some g)).account ≡ map.get w.accounts caller.tenant
+    unfolding context_at shown_to
     seen_account = refl
 
-    seen_tenant : (sight_at (shown_to caller.tenant w) (Some g)).tenant ≡ caller.tenant
-    unfolding sight_at shown_to
+    seen_tenant : (context_at (shown_to caller.tenant w) (Some g)).tenant ≡ caller.tenant
+    unfolding context_at shown_to
     seen_tenant = refl
 
     poke_refused : (why : Fault) → gate logic seen seen.account g ≡ Err why → whole_step logic w (Poke caller id g state failed) ≡ Some (told_whole (Err why))
@@ -97,8 +97,8 @@ module _ (logic : Logic) (w : Whole) (caller : Client) (id : ℕ) where
         pub poke_unknown_kind : logic.knows g.kind ≡ false → whole_step logic w (Poke caller id g state failed) ≡ Some (told_whole (Err (UnknownKind g.kind)))
         poke_unknown_kind unknown = poke_refused (UnknownKind g.kind) (gate_unknown_kind logic seen g a (seen_account ∙ known) (own ∙ sym seen_tenant) unknown)
 
-        abbrev own_seen : Sight
-        own_seen = sight_of w caller.tenant g
+        abbrev own_seen : Context
+        own_seen = context_of w caller.tenant g
 
         module _ (knows : logic.knows g.kind ≡ true) where
           poke_passed : whole_step logic w (Poke caller id g state failed)

@@ -9,11 +9,11 @@ use Rattle.silo_event.specs.declared.fault.Fault.TheVariants.{UnknownTenant, Unk
 use Rattle.silo_event.specs.declared.reply.Party.{Party}
 use Rattle.grain_kinds.specs.Logic.{Logic}
 use Rattle.silo_model.specs.Machine.{Account, Entry}
-use Rattle.silo_model.specs.Effect.{Sight, only_replies}
+use Rattle.silo_model.specs.Effect.{Context, only_replies}
 use Rattle.silo_model.specs.Calls.{told, last_number, kind_gate, gate, room, admitted, accepted, call_settled, called}
-use Rattle.silo_model.proofs.Sights.{same_text-apart}
+use Rattle.silo_model.proofs.Contexts.{same_text-apart}
 
-module _ (logic : Logic) (s : Sight) (g : Grain) where
+module _ (logic : Logic) (s : Context) (g : Grain) where
   -- ---- the gate
 
   pub gate_unknown_tenant : s.account ≡ None → gate logic s s.account g ≡ Err (UnknownTenant s.tenant)

@@ -13,11 +13,11 @@ use Rattle.silo_event.specs.declared.reply.Party.TheVariants as party
 use Rattle.silo_event.specs.declared.step.Step.TheVariants.{Call}
 use Rattle.grain_kinds.specs.Logic.{Logic}
 use Rattle.silo_model.specs.Machine.{Account, Entry, Request, waiting}
-use Rattle.silo_model.specs.Effect.{Sight, Effect, sight_at, only_replies}
+use Rattle.silo_model.specs.Effect.{Context, Effect, context_at, only_replies}
 use Rattle.silo_model.specs.Calls.{told, last_number, gate, room, with_request, accepted, called}
 use Rattle.silo_model.specs.Step.{effect_of}
 use Rattle.silo_model.specs.Whole.{Whole, shown_to, spread, whole_step}
-use Rattle.silo_model.proofs.Sights.{active_of, sight_of, step_by_sight, step_at_own}
+use Rattle.silo_model.proofs.Contexts.{active_of, context_of, step_by_sight, step_at_own}
 use Rattle.silo_model.proofs.CallRule.{gate_unknown_tenant, gate_across, gate_unknown_kind, gate_passed, called_refused, called_no_number, called_no_activation, called_new, called_full, called_again, called_accepted}
 
 -- the request that a call becomes, next after the account's last
@@ -32,15 +32,15 @@ spread-only_replies w tenant None asker outcome = refl
 spread-only_replies w tenant (Some g) asker outcome = refl
 
 module _ (logic : Logic) (w : Whole) (caller : Client) (id : ℕ) (g : Grain) (message : codec.Call) where
-  abbrev seen : Sight
-  seen = sight_at (shown_to caller.tenant w) (Some g)
+  abbrev seen : Context
+  seen = context_at (shown_to caller.tenant w) (Some g)
 
-  seen_account : (sight_at (shown_to caller.tenant w) (Some g)).account ≡ map.get w.accounts caller.tenant
-  unfolding sight_at shown_to
+  seen_account : (context_at (shown_to caller.tenant w) (Some g)).account ≡ map.get w.accounts caller.tenant
+  unfolding context_at shown_to
   seen_account = refl
 
-  seen_tenant : (sight_at (shown_to caller.tenant w) (Some g)).tenant ≡ caller.tenant
-  unfolding sight_at shown_to
+  seen_tenant : (context_at (shown_to caller.tenant w) (Some g)).tenant ≡ caller.tenant
+  unfolding context_at shown_to
   seen_tenant = refl
 
   abbrev refused_whole : Fault → Whole
@@ -71,8 +71,8 @@ module _ (logic : Logic) (w : Whole) (caller : Client) (id : ℕ) (g : Grain) (m
       call_unknown_kind unknown = refused_by (UnknownKind g.kind) (gate_unknown_kind logic seen g a (seen_account ∙ known) (own ∙ sym seen_tenant) unknown)
 
       -- ---- behind the gate, what is seen is what the whole has
-      abbrev own_seen : Sight
-      own_seen = sight_of w caller.tenant g
+      abbrev own_seen : Context
+      own_seen = context_of w caller.tenant g
 
       by_own : (e : Effect) → called logic own_seen (party.Client caller id) g message ≡ e → whole_step logic w (Call caller id g message) ≡ Some (spread w caller.tenant (Some g) e)
       unfolding effect_of

@@ -3,17 +3,17 @@ use Rattle.std.proofs.Common.{◌≡◌, ℕ, Bool, true, false, List, [], Optio
 use Rattle.std.specs.Prelude.{codes, if◌then◌else◌, Result, Ok, Err, ℤ, ◌+ℤ◌, ◌++◌}
 use Rattle.std.specs.FinMap as map
 use Rattle.grain_id.specs.Names.{Grain, same_text}
-use Rattle.request_codec.specs.Tree.{Tree, whole}
+use Rattle.request_codec.specs.Tree.{Tree, integer}
 use Rattle.grain_kinds.specs.declared.fault.MethodFault.{MethodFault}
 use Rattle.grain_kinds.specs.declared.fault.MethodFault.TheVariants.{UnknownMethod, Misfit, OutOfRange}
 use Rattle.grain_kinds.specs.Logic.{Plan, asks_nothing}
 use Rattle.grain_kinds.specs.Laws.{ReadersAskNothing}
-use Rattle.grain_kinds.specs.Shared.{keeps, becomes, is_null, for_shape, for_null, whole_field}
+use Rattle.grain_kinds.specs.Shared.{keeps, becomes, is_null, for_shape, for_null, integer_field}
 use Rattle.grain_kinds.specs.Counter.{add_plan, get_plan, fits_64, number_of, number_plan}
 use Rattle.grain_kinds.specs.Counters.{counters}
 use Rattle.silo_event.specs.declared.step.Step.TheVariants.{End}
 use Rattle.silo_model.specs.Machine.{Entry, Request, ready}
-use Rattle.silo_model.specs.Calls.{answered}
+use Rattle.silo_model.specs.Calls.{reply_to}
 use Rattle.silo_model.specs.Turns.{plan_of, outcome_of}
 use Rattle.silo_model.specs.Whole.{Whole, whole_step}
 use Rattle.silo_model.proofs.TurnSteps.{closed_turn, end_silent_turn}
@@ -33,15 +33,15 @@ add_silent : (state : Tree) (by : Option ℤ) → IsSilent (for_shape state by (
 add_silent state None = keeps_silent state (Err Misfit)
 add_silent state (Some by) =
     let sum = number_of state +ℤ by in
-    either (fits_64 sum) (becomes (whole sum) (whole sum)) (keeps state (Err OutOfRange)) (record { storage = refl; sends = refl }) (keeps_silent state (Err OutOfRange))
+    either (fits_64 sum) (becomes (integer sum) (integer sum)) (keeps state (Err OutOfRange)) (record { storage = refl; sends = refl }) (keeps_silent state (Err OutOfRange))
 
 get_silent : (state argument : Tree) → IsSilent (for_null state argument (get_plan state))
-get_silent state argument = either (is_null argument) (get_plan state) (keeps state (Err Misfit)) (keeps_silent state (Ok (whole (number_of state)))) (keeps_silent state (Err Misfit))
+get_silent state argument = either (is_null argument) (get_plan state) (keeps state (Err Misfit)) (keeps_silent state (Ok (integer (number_of state)))) (keeps_silent state (Err Misfit))
 
 pub counter_silent : (kind method : List ℕ) (state argument : Tree) → IsSilent (counters.plan kind method state argument)
 unfolding counters number_plan
 counter_silent kind method state argument =
-    let by = whole_field (codes "by") argument in
+    let by = integer_field (codes "by") argument in
     let unknown = keeps state (Err UnknownMethod) in
     let get = for_null state argument (get_plan state) in
     either (same_text method (codes "add")) (for_shape state by (add_plan state)) (if same_text method (codes "get") then get else unknown) (add_silent state by)
@@ -52,7 +52,7 @@ pub end_counter : (w : Whole) (g : Grain) (turn : ℕ) (e : Entry) (request : Re
     → map.get w.entries g ≡ Some e → map.get e.turns turn ≡ Some request → e.phase ≡ ready state version
     → whole_step counters w (End g turn) ≡ Some (record w {
       entries = map.insert w.entries g (closed_turn w e request (plan_of counters g state request).state version);
-      replies = w.replies ++ answered request.sender (outcome_of (plan_of counters g state request).outcome);
+      replies = w.replies ++ reply_to request.sender (outcome_of (plan_of counters g state request).outcome);
     })
 end_counter w g turn e request state version found open_turn is =
     let silent = counter_silent g.kind request.call.method state request.call.argument in

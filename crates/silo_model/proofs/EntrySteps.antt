@@ -12,11 +12,11 @@ use Rattle.silo_event.specs.declared.step.Step.TheVariants.{Activate, Load, Begi
 use Rattle.grain_kinds.specs.Logic.{Logic}
 use Rattle.silo_model.specs.Machine.{Entry, Request, waiting, loading, ready}
 use Rattle.silo_model.specs.Effect.{Effect, keep, put, on_entry}
-use Rattle.silo_model.specs.Calls.{answered}
-use Rattle.silo_model.specs.Turns.{activated, unloaded, loaded, may_open, begun, opened}
+use Rattle.silo_model.specs.Calls.{reply_to}
+use Rattle.silo_model.specs.Turns.{activated, unloaded, loaded, may_open, opened_if_ready, opened}
 use Rattle.silo_model.specs.Step.{effect_of}
 use Rattle.silo_model.specs.Whole.{Whole, spread, whole_step}
-use Rattle.silo_model.proofs.Sights.{sight_of, step_at_own}
+use Rattle.silo_model.proofs.Contexts.{context_of, step_at_own}
 
 -- what is done to an entry that is there
 pub at_entry : (does : Entry → Option Effect) (found : Option Entry) (e : Entry) (r : Option Effect) → found ≡ Some e → does e ≡ r → option_and_then does found ≡ r
@@ -41,11 +41,11 @@ module _ (logic : Logic) (w : Whole) (g : Grain) where
 
   pub load_absent : (failed : Bool) → map.get w.entries g ≡ None → whole_step logic w (Load g failed) ≡ None
   unfolding effect_of
-  load_absent failed none = step_at_own logic w (Load g failed) g.tenant g None refl refl refl (ap (option_and_then (λ e. loaded logic (sight_of w g.tenant g) g failed e e.phase)) none)
+  load_absent failed none = step_at_own logic w (Load g failed) g.tenant g None refl refl refl (ap (option_and_then (λ e. loaded logic (context_of w g.tenant g) g failed e e.phase)) none)
 
   pub begin_absent : map.get w.entries g ≡ None → whole_step logic w (Begin g) ≡ None
   unfolding effect_of
-  begin_absent none = step_at_own logic w (Begin g) g.tenant g None refl refl refl (ap (option_and_then (λ e. begun logic g e e.phase)) none)
+  begin_absent none = step_at_own logic w (Begin g) g.tenant g None refl refl refl (ap (option_and_then (λ e. opened_if_ready logic g e e.phase)) none)
 
 module _ (logic : Logic) (w : Whole) (g : Grain) (e : Entry) (found : map.get w.entries g ≡ Some e) where
   -- ---- Activate
@@ -72,60 +72,60 @@ module _ (logic : Logic) (w : Whole) (g : Grain) (e : Entry) (found : map.get w.
 
   -- ---- Load
 
-  pub load_found : (failed : Bool) (r : Option Effect) → loaded logic (sight_of w g.tenant g) g failed e e.phase ≡ r → whole_step logic w (Load g failed) ≡ option_map (spread w g.tenant (Some g)) r
+  pub load_found : (failed : Bool) (r : Option Effect) → loaded logic (context_of w g.tenant g) g failed e e.phase ≡ r → whole_step logic w (Load g failed) ≡ option_map (spread w g.tenant (Some g)) r
   unfolding effect_of
-  load_found failed r h = step_at_own logic w (Load g failed) g.tenant g r refl refl refl (at_entry (λ x. loaded logic (sight_of w g.tenant g) g failed x x.phase) (map.get w.entries g) e r found h)
+  load_found failed r h = step_at_own logic w (Load g failed) g.tenant g r refl refl refl (at_entry (λ x. loaded logic (context_of w g.tenant g) g failed x x.phase) (map.get w.entries g) e r found h)
 
   pub load_waiting : (failed : Bool) → e.phase ≡ waiting → whole_step logic w (Load g failed) ≡ None
-  load_waiting failed is = load_found failed None (ap (loaded logic (sight_of w g.tenant g) g failed e) is)
+  load_waiting failed is = load_found failed None (ap (loaded logic (context_of w g.tenant g) g failed e) is)
 
   pub load_ready : (failed : Bool) (state : Tree) (version : Option ℕ) → e.phase ≡ ready state version → whole_step logic w (Load g failed) ≡ None
-  load_ready failed state version is = load_found failed None (ap (loaded logic (sight_of w g.tenant g) g failed e) is)
+  load_ready failed state version is = load_found failed None (ap (loaded logic (context_of w g.tenant g) g failed e) is)
 
   -- an entry that loads gets the row's content, or the kind's empty state
   pub load_loading : e.phase ≡ loading
       → whole_step logic w (Load g false) ≡ Some (record w { entries = map.insert w.entries g (record e { phase = ready (content_or (logic.empty g.kind) (map.get w.rows g)) (version_of (map.get w.rows g)) }) })
-  load_loading is = load_found false (Some (on_entry (record e { phase = ready (content_or (logic.empty g.kind) (map.get w.rows g)) (version_of (map.get w.rows g)) }))) (ap (loaded logic (sight_of w g.tenant g) g false e) is) ∙ ap Some (spread-on_entry w g.tenant g _)
+  load_loading is = load_found false (Some (on_entry (record e { phase = ready (content_or (logic.empty g.kind) (map.get w.rows g)) (version_of (map.get w.rows g)) }))) (ap (loaded logic (context_of w g.tenant g) g false e) is) ∙ ap Some (spread-on_entry w g.tenant g _)
 
-  spread-unloaded : spread w g.tenant (Some g) (unloaded e) ≡ record w { entries = map.remove w.entries g; replies = w.replies ++ flat_map (λ q. answered q.sender (Err StorageFailed)) e.queue }
+  spread-unloaded : spread w g.tenant (Some g) (unloaded e) ≡ record w { entries = map.remove w.entries g; replies = w.replies ++ flat_map (λ q. reply_to q.sender (Err StorageFailed)) e.queue }
   unfolding spread
   spread-unloaded = refl
 
   -- where the storage failed, each request that waits is told so, and the entry goes
-  pub load_fails : e.phase ≡ loading → whole_step logic w (Load g true) ≡ Some (record w { entries = map.remove w.entries g; replies = w.replies ++ flat_map (λ q. answered q.sender (Err StorageFailed)) e.queue })
-  load_fails is = load_found true (Some (unloaded e)) (ap (loaded logic (sight_of w g.tenant g) g true e) is) ∙ ap Some spread-unloaded
+  pub load_fails : e.phase ≡ loading → whole_step logic w (Load g true) ≡ Some (record w { entries = map.remove w.entries g; replies = w.replies ++ flat_map (λ q. reply_to q.sender (Err StorageFailed)) e.queue })
+  load_fails is = load_found true (Some (unloaded e)) (ap (loaded logic (context_of w g.tenant g) g true e) is) ∙ ap Some spread-unloaded
 
   -- ---- Begin
 
-  pub begin_found : (r : Option Effect) → begun logic g e e.phase ≡ r → whole_step logic w (Begin g) ≡ option_map (spread w g.tenant (Some g)) r
+  pub begin_found : (r : Option Effect) → opened_if_ready logic g e e.phase ≡ r → whole_step logic w (Begin g) ≡ option_map (spread w g.tenant (Some g)) r
   unfolding effect_of
-  begin_found r h = step_at_own logic w (Begin g) g.tenant g r refl refl refl (at_entry (λ x. begun logic g x x.phase) (map.get w.entries g) e r found h)
+  begin_found r h = step_at_own logic w (Begin g) g.tenant g r refl refl refl (at_entry (λ x. opened_if_ready logic g x x.phase) (map.get w.entries g) e r found h)
 
-  pub begin_does : (new : Entry) → begun logic g e e.phase ≡ Some (on_entry new) → whole_step logic w (Begin g) ≡ Some (record w { entries = map.insert w.entries g new })
+  pub begin_does : (new : Entry) → opened_if_ready logic g e e.phase ≡ Some (on_entry new) → whole_step logic w (Begin g) ≡ Some (record w { entries = map.insert w.entries g new })
   begin_does new h = begin_found (Some (on_entry new)) h ∙ ap Some (spread-on_entry w g.tenant g new)
 
-  pub begin_not : begun logic g e e.phase ≡ None → whole_step logic w (Begin g) ≡ None
+  pub begin_not : opened_if_ready logic g e e.phase ≡ None → whole_step logic w (Begin g) ≡ None
   begin_not h = begin_found None h
 
   pub begin_waiting : e.phase ≡ waiting → whole_step logic w (Begin g) ≡ None
-  begin_waiting is = begin_not (ap (begun logic g e) is)
+  begin_waiting is = begin_not (ap (opened_if_ready logic g e) is)
 
   pub begin_loading : e.phase ≡ loading → whole_step logic w (Begin g) ≡ None
-  begin_loading is = begin_not (ap (begun logic g e) is)
+  begin_loading is = begin_not (ap (opened_if_ready logic g e) is)
 
   -- no request waits
   pub begin_idle : (state : Tree) (version : Option ℕ) → e.phase ≡ ready state version → e.queue ≡ [] → whole_step logic w (Begin g) ≡ None
-  begin_idle state version is none = begin_not (ap (begun logic g e) is ∙ ap (opened logic g e) none)
+  begin_idle state version is none = begin_not (ap (opened_if_ready logic g e) is ∙ ap (opened logic g e) none)
 
   abbrev with_turn : Request → List Request → Entry
   with_turn first others = record e { queue = others; turns = map.insert e.turns first.number first }
 
   -- the first waiting request may not be open beside the turns that are
   pub begin_busy : (state : Tree) (version : Option ℕ) (first : Request) (others : List Request) → e.phase ≡ ready state version → e.queue ≡ first ∷ others → may_open logic g e first ≡ false → whole_step logic w (Begin g) ≡ None
-  begin_busy state version first others is queue test = begin_not (ap (begun logic g e) is ∙ ap (opened logic g e) queue ∙ ap (λ b. if b then Some (on_entry (with_turn first others)) else None) test)
+  begin_busy state version first others is queue test = begin_not (ap (opened_if_ready logic g e) is ∙ ap (opened logic g e) queue ∙ ap (λ b. if b then Some (on_entry (with_turn first others)) else None) test)
 
   -- the first waiting request becomes an open turn
   pub begin_first : (state : Tree) (version : Option ℕ) (first : Request) (others : List Request) → e.phase ≡ ready state version → e.queue ≡ first ∷ others → may_open logic g e first ≡ true
       → whole_step logic w (Begin g) ≡ Some (record w { entries = map.insert w.entries g (record e { queue = others; turns = map.insert e.turns first.number first }) })
   begin_first state version first others is queue test =
-      begin_does (with_turn first others) (ap (begun logic g e) is ∙ ap (opened logic g e) queue ∙ ap (λ b. if b then Some (on_entry (with_turn first others)) else None) test)
+      begin_does (with_turn first others) (ap (opened_if_ready logic g e) is ∙ ap (opened logic g e) queue ∙ ap (λ b. if b then Some (on_entry (with_turn first others)) else None) test)

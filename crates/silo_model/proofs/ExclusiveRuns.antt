@@ -23,7 +23,7 @@ use Rattle.silo_model.specs.Opening.{Setup, opening, start_of}
 use Rattle.silo_model.specs.Answers.{IsAnswer, AreAnswers}
 use Rattle.silo_model.specs.Exclusive.{OpenTurn, first_waiting, turn_begun, is_turn, turns_without, turns_after, WritersAlone, ExclusiveFrom, RunsAreExclusive}
 use Rattle.silo_model.proofs.Moves.{turn_in, KeepsTurns, ClosesTurn, OpensTurn, TurnsMove}
-use Rattle.silo_model.proofs.Sights.{get-own}
+use Rattle.silo_model.proofs.Contexts.{get-own}
 use Rattle.silo_model.proofs.Sound.{IsSound}
 use Rattle.silo_model.proofs.Runs.{whole_after, whole_run-append, run_sound}
 use Rattle.silo_model.proofs.Opening.{opening_sound, replay_is_run}

@@ -8,7 +8,7 @@ use Rattle.silo_event.specs.declared.step.Step.{Step}
 use Rattle.silo_event.specs.declared.step.Step.TheVariants.{Poke, Load, Store}
 use Rattle.grain_kinds.specs.Logic.{Logic}
 use Rattle.silo_model.specs.Machine.{Entry, Request, Phase, waiting, loading, ready}
-use Rattle.silo_model.specs.Effect.{Sight, Effect, sight_at}
+use Rattle.silo_model.specs.Effect.{Context, Effect, context_at}
 use Rattle.silo_model.specs.Turns.{plan_of, loaded, stored_by, stored}
 use Rattle.silo_model.specs.Step.{effect_of}
 use Rattle.silo_model.specs.Whole.{Whole, shown_to, spread, whole_step}
@@ -22,12 +22,12 @@ is_some-and_then : {A B C : Type 0} (f : A → Option B) (g : A → Option C) (o
 is_some-and_then f g None h = refl
 is_some-and_then f g (Some x) h = h x
 
-loaded_alike : (logic : Logic) (s : Sight) (g : Grain) (failed : Bool) (e : Entry) (p : Phase) → is_some (loaded logic s g failed e p) ≡ is_some (loaded logic s g true e p)
+loaded_alike : (logic : Logic) (s : Context) (g : Grain) (failed : Bool) (e : Entry) (p : Phase) → is_some (loaded logic s g failed e p) ≡ is_some (loaded logic s g true e p)
 loaded_alike logic s g failed e waiting = refl
 loaded_alike logic s g failed e loading = refl
 loaded_alike logic s g failed e (ready state version) = refl
 
-stored_alike : (logic : Logic) (s : Sight) (g : Grain) (failed : Bool) (e : Entry) (request : Request) (p : Phase) → is_some (stored logic s g failed e request p) ≡ is_some (stored logic s g true e request p)
+stored_alike : (logic : Logic) (s : Context) (g : Grain) (failed : Bool) (e : Entry) (request : Request) (p : Phase) → is_some (stored logic s g failed e request p) ≡ is_some (stored logic s g true e request p)
 stored_alike logic s g failed e request waiting = refl
 stored_alike logic s g failed e request loading = refl
 stored_alike logic s g failed e request (ready state version) =
@@ -40,9 +40,9 @@ both_done w owner g r q same = is_some-map _ r ∙ same ∙ sym (is_some-map _ q
 alike : (logic : Logic) (w : Whole) (s : Step) → is_some (whole_step logic w s) ≡ is_some (whole_step logic w (as_failed s))
 unfolding whole_step effect_of
 alike logic w (Poke caller id g state failed) = refl
-alike logic w (Load g failed) = both_done w g.tenant g _ _ (is_some-and_then _ _ (sight_at (shown_to g.tenant w) (Some g)).entry (λ e. loaded_alike logic (sight_at (shown_to g.tenant w) (Some g)) g failed e e.phase))
+alike logic w (Load g failed) = both_done w g.tenant g _ _ (is_some-and_then _ _ (context_at (shown_to g.tenant w) (Some g)).entry (λ e. loaded_alike logic (context_at (shown_to g.tenant w) (Some g)) g failed e e.phase))
 alike logic w (Store g turn failed) =
-    both_done w g.tenant g _ _ (is_some-and_then _ _ (sight_at (shown_to g.tenant w) (Some g)).entry (λ e. is_some-and_then _ _ (map.get e.turns turn) (λ request. stored_alike logic (sight_at (shown_to g.tenant w) (Some g)) g failed e request e.phase)))
+    both_done w g.tenant g _ _ (is_some-and_then _ _ (context_at (shown_to g.tenant w) (Some g)).entry (λ e. is_some-and_then _ _ (map.get e.turns turn) (λ request. stored_alike logic (context_at (shown_to g.tenant w) (Some g)) g failed e request e.phase)))
 alike logic w _ = refl
 
 none_of : {A B : Type 0} (o : Option A) (q : Option B) → is_some o ≡ is_some q → o ≡ None → q ≡ None

@@ -18,7 +18,7 @@ use Rattle.silo_model.specs.Journal.{all_done, LeadsTo}
 use Rattle.silo_model.specs.Answers.{AreAnswers}
 use Rattle.silo_model.specs.Exclusive.{done_answers, JournalsAreExclusive}
 use Rattle.silo_model.specs.Settled.{Settled, JournalsSettle}
-use Rattle.silo_model.proofs.Sights.{get-own}
+use Rattle.silo_model.proofs.Contexts.{get-own}
 use Rattle.silo_model.proofs.Opening.{replay_is_run}
 use Rattle.silo_model.proofs.Journals.{journals_replay}
 use Rattle.silo_model.proofs.Fair.{held, pend, one_if, numbered, IsFairEntry, FrontIsNew, one_less, within_all, front_is_new}

@@ -13,7 +13,7 @@ use Rattle.grain_id.proofs.Maps.{get-insert_same}
 use Rattle.tenant_gate.specs.declared.limits.Limits.{Limits}
 use Rattle.tenant_gate.specs.Table.{limits_of}
 use Rattle.grain_storage.specs.Rows.{version_of, content_or}
-use Rattle.request_codec.specs.Tree.{Tree, whole}
+use Rattle.request_codec.specs.Tree.{Tree, integer}
 use Rattle.grain_kinds.specs.Shared.{becomes, keeps}
 use Rattle.grain_kinds.specs.Counter.{add_to, fits_64, number_plan}
 use Rattle.grain_kinds.specs.Counters.{counters}
@@ -22,7 +22,7 @@ use Rattle.silo_event.specs.declared.reply.Party.TheVariants as party
 use Rattle.silo_event.specs.declared.step.Step.{Step}
 use Rattle.silo_event.specs.declared.step.Step.TheVariants.{Call, Activate, Load, Begin, End}
 use Rattle.silo_model.specs.Machine.{Account, Entry, Request, loading, waiting, ready}
-use Rattle.silo_model.specs.Calls.{told, answered, last_number}
+use Rattle.silo_model.specs.Calls.{told, reply_to, last_number}
 use Rattle.silo_model.specs.Turns.{plan_of, outcome_of}
 use Rattle.grain_kinds.specs.Logic.{Logic}
 use Rattle.silo_model.specs.Whole.{Whole, whole_step}
@@ -35,12 +35,12 @@ use Rattle.silo_model.proofs.TurnSteps.{closed_turn}
 use Rattle.silo_model.proofs.Counters.{end_counter}
 use Rattle.silo_model.proofs.Opening.{get-fresh_accounts, no_entry_of}
 use Rattle.silo_model.proofs.Fair.{may_open_alone}
-use Rattle.silo_model.proofs.Sights.{active_of}
+use Rattle.silo_model.proofs.Contexts.{active_of}
 
 then_done : (logic : Logic) (w next after : Whole) (s : Step) (steps : List Step) → whole_step logic w s ≡ Some next → all_done logic next steps ≡ Some after → all_done logic w (s ∷ steps) ≡ Some after
 then_done logic w next after s steps step rest = ap (option_and_then (λ x. all_done logic x steps)) step ∙ rest
 
-empty_counter : (kind : List ℕ) → counters.empty kind ≡ whole (pos 0)
+empty_counter : (kind : List ℕ) → counters.empty kind ≡ integer (pos 0)
 unfolding counters
 empty_counter kind = refl
 
@@ -49,12 +49,12 @@ unfolding counters
 knows_counter = refl
 
 -- what a new counter answers to its first number
-first_outcome : (kind : List ℕ) (state : Tree) (n : ℤ) → state ≡ whole (pos 0) → fits_64 n ≡ true → (counters.plan kind (add_call n).method state (add_call n).argument).outcome ≡ Ok (whole n)
+first_outcome : (kind : List ℕ) (state : Tree) (n : ℤ) → state ≡ integer (pos 0) → fits_64 n ≡ true → (counters.plan kind (add_call n).method state (add_call n).argument).outcome ≡ Ok (integer n)
 unfolding counters number_plan
 first_outcome kind state n is fits =
     ap (λ s. (counters.plan kind (add_call n).method s (add_call n).argument).outcome) is
-    ∙ ap (λ z. (add_to (whole (pos 0)) z).outcome) (+ℤ_idl n)
-    ∙ ap (λ b. (if b then becomes (whole n) (whole n) else keeps (whole (pos 0)) (Err OutOfRange)).outcome) fits
+    ∙ ap (λ z. (add_to (integer (pos 0)) z).outcome) (+ℤ_idl n)
+    ∙ ap (λ b. (if b then becomes (integer n) (integer n) else keeps (integer (pos 0)) (Err OutOfRange)).outcome) fits
 
 -- the whole after each of the steps
 module _ (w : Whole) (a : Account) (caller : Client) (id : ℕ) (g : Grain) (n : ℤ) where
@@ -91,7 +91,7 @@ module _ (w : Whole) (a : Account) (caller : Client) (id : ℕ) (g : Grain) (n :
   abbrev pub after_end : Whole
   after_end = record after_begin {
     entries = map.insert after_begin.entries g (closed_turn after_begin entry_begun request (plan_of counters g state_loaded request).state (version_of (map.get w.rows g)));
-    replies = w.replies ++ answered request.sender (outcome_of (plan_of counters g state_loaded request).outcome);
+    replies = w.replies ++ reply_to request.sender (outcome_of (plan_of counters g state_loaded request).outcome);
   }
 
   put_there : {X : Type 0} (m : FinMap grain_cmp X) (x : X) → map.get (map.insert m g x) g ≡ Some x
@@ -124,7 +124,7 @@ module _ (w : Whole) (a : Account) (caller : Client) (id : ℕ) (g : Grain) (n :
       (then_done counters after_load after_begin after_end (Begin g) ending begun
       (then_done counters after_begin after_end after_end (End g request.number) [] ended refl))))
 
-  pub reply_is : map.get w.rows g ≡ None → fits_64 n ≡ true → after_end.replies ≡ w.replies ++ told (party.Client caller id) (Ok (whole n))
+  pub reply_is : map.get w.rows g ≡ None → fits_64 n ≡ true → after_end.replies ≡ w.replies ++ told (party.Client caller id) (Ok (integer n))
   reply_is none fits = ap (λ o. w.replies ++ told (party.Client caller id) (outcome_of o)) (first_outcome g.kind state_loaded n (ap (content_or (counters.empty g.kind)) none ∙ empty_counter g.kind) fits)
 
 none_active : (setup : Setup) (t : List ℕ) → active_of (opening setup) t ≡ 0
@@ -141,7 +141,7 @@ first_call_leads setup limits caller id g n known may own kind =
     (ap (λ k. nat_lt k limits.activations) (none_active setup caller.tenant) ∙ lt-ltb 0 limits.activations may)
 
 pub first_call_replies : (setup : Setup) (limits : Limits) (caller : Client) (id : ℕ) (g : Grain) (n : ℤ) → map.get setup.rows g ≡ None → fits_64 n ≡ true
-    → (after_end (opening setup) (fresh_account limits) caller id g n).replies ≡ told (party.Client caller id) (Ok (whole n))
+    → (after_end (opening setup) (fresh_account limits) caller id g n).replies ≡ told (party.Client caller id) (Ok (integer n))
 unfolding opening
 first_call_replies setup limits caller id g n none fits = reply_is (opening setup) (fresh_account limits) caller id g n none fits
 

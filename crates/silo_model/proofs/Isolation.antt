@@ -12,14 +12,14 @@ use Rattle.silo_event.specs.declared.reply.Reply.{Reply}
 use Rattle.silo_event.specs.declared.step.Step.{Step}
 use Rattle.grain_kinds.specs.Logic.{Logic}
 use Rattle.silo_model.specs.Machine.{Machine, Account, Entry}
-use Rattle.silo_model.specs.Effect.{Effect, Change, keep, put, drop, sight_at, applied}
+use Rattle.silo_model.specs.Effect.{Effect, Change, keep, put, drop, context_at, applied}
 use Rattle.silo_model.specs.Step.{grain_of, effect_of, owned_step, shared_step, step_by, machine_step}
 use Rattle.silo_model.specs.Run.{concerns_by, concerns}
 use Rattle.silo_model.specs.Whole.{Whole, is_of, is_to, shown_to, spread, whole_shared_step, whole_step_by, whole_step}
 use Rattle.grain_id.proofs.Order.{eq_by_cmp-Decides, same_text_decides, text_cmp_total, text_cmp_exact, grain_cmp_total, grain_cmp_exact}
 use Rattle.grain_id.proofs.ByGrain.{get-part}
 use Rattle.silo_model.proofs.Changes.{WhereChanged, WhereChanged-map, OfPut, OfPutAt, TestsAt, get-change_same, get-change_other, part-changed_in, part-changed_out, changed_all}
-use Rattle.silo_model.proofs.Sights.{same_text-apart, not_true, shown_account, step_by_sight}
+use Rattle.silo_model.proofs.Contexts.{same_text-apart, not_true, shown_account, step_by_sight}
 use Rattle.silo_model.proofs.SharedSteps.{shared_shown, shared_not, shared_sound}
 use Rattle.silo_model.proofs.Sound.{IsEntryOf, IsSound}
 use Rattle.silo_model.proofs.Proper.{AllTo, IsAt, IsProper, Proper, SeesOwn, effect_proper}
@@ -90,10 +90,10 @@ place_in w owner s = grain_of (map.get w.accounts owner) s
 -- what a step that is done did
 pub record Did (logic : Logic) (w : Whole) (s : Step) (owner : List ℕ) (after : Whole) : Type 0 where
   pub what : Effect
-  pub does : effect_of logic (sight_at (shown_to owner w) (place_in w owner s)) s ≡ Some what
+  pub does : effect_of logic (context_at (shown_to owner w) (place_in w owner s)) s ≡ Some what
   pub leaves : spread w owner (place_in w owner s) what ≡ after
 
-did_by : (logic : Logic) (w after : Whole) (s : Step) (owner : List ℕ) (e : Option Effect) → effect_of logic (sight_at (shown_to owner w) (place_in w owner s)) s ≡ e → option_map (spread w owner (place_in w owner s)) e ≡ Some after → Did logic w s owner after
+did_by : (logic : Logic) (w after : Whole) (s : Step) (owner : List ℕ) (e : Option Effect) → effect_of logic (context_at (shown_to owner w) (place_in w owner s)) s ≡ e → option_map (spread w owner (place_in w owner s)) e ≡ Some after → Did logic w s owner after
 did_by logic w after s owner None does h = absurd (none-some after h)
 did_by logic w after s owner (Some what) does h = record { what = what; does = does; leaves = same_Some _ after h }
 
@@ -105,19 +105,19 @@ in_part true found e h = (refl, h)
 in_part false found e h = absurd (none-some e h)
 
 -- a tenant sees an entry of its own
-sees_own : (w : Whole) (tenant : List ℕ) (grain : Option Grain) → IsSound w → SeesOwn tenant (sight_at (shown_to tenant w) grain).entry
-unfolding sight_at shown_to
+sees_own : (w : Whole) (tenant : List ℕ) (grain : Option Grain) → IsSound w → SeesOwn tenant (context_at (shown_to tenant w) grain).entry
+unfolding context_at shown_to
 sees_own w tenant None sound e found = absurd (none-some e found)
 sees_own w tenant (Some g) sound e found =
     let part = in_part (is_of tenant g) (map.get w.entries g) e (sym (get-part w.entries (is_of tenant) g) ∙ found) in
     subst (λ (t : List ℕ). IsEntryOf t e) ((same_text_decides g.tenant tenant).0 part.0) (sound g e part.1)
 
-sees_tenant : (w : Whole) (tenant : List ℕ) (grain : Option Grain) → (sight_at (shown_to tenant w) grain).tenant ≡ tenant
-unfolding sight_at shown_to
+sees_tenant : (w : Whole) (tenant : List ℕ) (grain : Option Grain) → (context_at (shown_to tenant w) grain).tenant ≡ tenant
+unfolding context_at shown_to
 sees_tenant w tenant grain = refl
 
-sees_account : (w : Whole) (tenant : List ℕ) (grain : Option Grain) → (sight_at (shown_to tenant w) grain).account ≡ map.get w.accounts tenant
-unfolding sight_at shown_to
+sees_account : (w : Whole) (tenant : List ℕ) (grain : Option Grain) → (context_at (shown_to tenant w) grain).account ≡ map.get w.accounts tenant
+unfolding context_at shown_to
 sees_account w tenant grain = refl
 
 pub did_proper : (logic : Logic) (w after : Whole) (s : Step) (owner : List ℕ) → owner_of s ≡ Some owner → IsSound w → (d : Did logic w s owner after) → IsProper owner (place_in w owner s) d.what
@@ -125,12 +125,12 @@ did_proper logic w after s owner is sound d =
     let place = place_in w owner s in
     let at_account : Option Account → Option Effect → Type 0 = λ a e. Proper owner (grain_of a s) e in
     subst (at_account (map.get w.accounts owner)) d.does
-    (subst (λ a. at_account a (effect_of logic (sight_at (shown_to owner w) place) s)) (sees_account w owner place)
-    (effect_proper logic (sight_at (shown_to owner w) place) s owner is (sees_tenant w owner place) (sees_own w owner place sound)))
+    (subst (λ a. at_account a (effect_of logic (context_at (shown_to owner w) place) s)) (sees_account w owner place)
+    (effect_proper logic (context_at (shown_to owner w) place) s owner is (sees_tenant w owner place) (sees_own w owner place sound)))
 
 -- the machine's step, by what it does
 pub machine_step_by : (logic : Logic) (m : Machine) (s : Step) (owner : List ℕ) (grain : Option Grain) (e : Option Effect)
-    → owner_of s ≡ Some owner → grain_of m.account s ≡ grain → effect_of logic (sight_at m grain) s ≡ e → machine_step logic m s ≡ option_map (applied m grain) e
+    → owner_of s ≡ Some owner → grain_of m.account s ≡ grain → effect_of logic (context_at m grain) s ≡ e → machine_step logic m s ≡ option_map (applied m grain) e
 unfolding machine_step
 machine_step_by logic m s owner grain e is place does = ap (step_by logic m s) is ∙ ap (owned_step logic m s) place ∙ ap (λ x. option_map (applied m grain) x) does
 
@@ -155,7 +155,7 @@ none_inside f (Some x) e = absurd (none-some (f x) (sym e))
 pub owner_not_now : (logic : Logic) (w : Whole) (s : Step) (owner : List ℕ) → owner_of s ≡ Some owner → whole_step logic w s ≡ None → machine_step logic (shown_to owner w) s ≡ None
 owner_not_now logic w s owner is h =
     let place = place_in w owner s in
-    let none = none_inside (spread w owner place) (effect_of logic (sight_at (shown_to owner w) place) s) (sym (step_by_sight logic w s owner place _ is refl refl) ∙ h) in
+    let none = none_inside (spread w owner place) (effect_of logic (context_at (shown_to owner w) place) s) (sym (step_by_sight logic w s owner place _ is refl refl) ∙ h) in
     machine_step_by logic (shown_to owner w) s owner place None is (place_shown w owner s) none
 
 -- ---- a step of nobody

@@ -19,12 +19,12 @@ use Rattle.silo_event.specs.declared.step.Step.{Step}
 use Rattle.silo_event.specs.declared.step.Step.TheVariants.{Refuse, Call, Poke, Status, Deliver, Activate, Load, Begin, Store, End, Abandon, Tick, Sweep}
 use Rattle.grain_kinds.specs.Logic.{Logic, Plan, StorageCall, asks_nothing, reads_row, writes_row, clears_row}
 use Rattle.silo_model.specs.Machine.{Account, Entry, Request, Send, Phase, waiting, loading, ready}
-use Rattle.silo_model.specs.Effect.{Sight, Effect, Change, keep, put, drop, on_entry, sight_at}
+use Rattle.silo_model.specs.Effect.{Context, Effect, Change, keep, put, drop, on_entry, context_at}
 use Rattle.silo_model.specs.Calls.{with_request, gate, admitted, call_settled, called}
 use Rattle.silo_model.specs.Sends.{first_from, delivered_to, delivered}
 use Rattle.silo_model.specs.Stores.{row_poked, row_written, row_cleared}
 use Rattle.silo_model.specs.Asks.{row_told, poke_settled, poked, status_told}
-use Rattle.silo_model.specs.Turns.{activated, loaded, may_open, opened, begun, plan_of, closed, ended_by, ended, ends_activation, row_changed, stored_by, stored}
+use Rattle.silo_model.specs.Turns.{activated, loaded, may_open, opened, opened_if_ready, plan_of, closed, ended_by, ended, ends_activation, row_changed, stored_by, stored}
 use Rattle.silo_model.specs.Step.{at_turn, effect_of}
 use Rattle.silo_model.specs.Whole.{Whole, shown_to, is_of, spread, whole_swept, whole_shared_step, whole_step}
 use Rattle.silo_model.specs.Opening.{Setup, opening}
@@ -50,15 +50,15 @@ with_request_past : (clock : ℕ) (q : Request) (found : Option Entry) → (with
 with_request_past clock q None = itself clock
 with_request_past clock q (Some e) = itself clock
 
-settled_past : (s : Sight) (sender : Party) (call : codec.Call) (r : Result Account Fault) → LeavesPast s.clock (Some (call_settled s sender call r))
+settled_past : (s : Context) (sender : Party) (call : codec.Call) (r : Result Account Fault) → LeavesPast s.clock (Some (call_settled s sender call r))
 settled_past s sender call (Ok a) = with_request_past s.clock _ s.entry
 settled_past s sender call (Err why) = tt
 
-called_past : (logic : Logic) (s : Sight) (sender : Party) (g : Grain) (call : codec.Call) → LeavesPast s.clock (Some (called logic s sender g call))
+called_past : (logic : Logic) (s : Context) (sender : Party) (g : Grain) (call : codec.Call) → LeavesPast s.clock (Some (called logic s sender g call))
 unfolding called
 called_past logic s sender g call = settled_past s sender call (admitted s g (gate logic s s.account g))
 
-sent_past : (logic : Logic) (s : Sight) (g : Grain) (a : Account) (found : Option (Send × List Send)) → LeavesPast s.clock (option_map (delivered_to logic s g a) found)
+sent_past : (logic : Logic) (s : Context) (g : Grain) (a : Account) (found : Option (Send × List Send)) → LeavesPast s.clock (option_map (delivered_to logic s g a) found)
 sent_past logic s g a None = tt
 sent_past logic s g a (Some found) = called_past logic (record s { account = Some (record a { sends = found.1 }) }) _ found.0.message.target found.0.message.call
 
@@ -67,20 +67,20 @@ row_told_past clock p g (Ok done) = tt
 row_told_past clock p g (Err (stale found)) = tt
 row_told_past clock p g (Err spent) = tt
 
-poke_past : (s : Sight) (p : Party) (g : Grain) (state : Tree) (failed : Bool) (r : Result Account Fault) → LeavesPast s.clock (Some (poke_settled s p g state failed r))
+poke_past : (s : Context) (p : Party) (g : Grain) (state : Tree) (failed : Bool) (r : Result Account Fault) → LeavesPast s.clock (Some (poke_settled s p g state failed r))
 poke_past s p g state true (Ok a) = tt
 poke_past s p g state false (Ok a) = row_told_past s.clock p g (row_poked s.row state)
 poke_past s p g state failed (Err why) = tt
 
-poked_past : (logic : Logic) (s : Sight) (p : Party) (g : Grain) (state : Tree) (failed : Bool) → LeavesPast s.clock (Some (poked logic s p g state failed))
+poked_past : (logic : Logic) (s : Context) (p : Party) (g : Grain) (state : Tree) (failed : Bool) → LeavesPast s.clock (Some (poked logic s p g state failed))
 unfolding poked
 poked_past logic s p g state failed = poke_past s p g state failed (gate logic s s.account g)
 
-status_past : (s : Sight) (p : Party) (account : Option Account) → LeavesPast s.clock (Some (status_told s p account))
+status_past : (s : Context) (p : Party) (account : Option Account) → LeavesPast s.clock (Some (status_told s p account))
 status_past s p None = tt
 status_past s p (Some a) = tt
 
-module _ (logic : Logic) (s : Sight) (g : Grain) (e : Entry) (past : IsPast s.clock e) where
+module _ (logic : Logic) (s : Context) (g : Grain) (e : Entry) (past : IsPast s.clock e) where
   activated_past : (p : Phase) → LeavesPast s.clock (activated e p)
   activated_past waiting = past
   activated_past loading = tt
@@ -100,7 +100,7 @@ module _ (logic : Logic) (s : Sight) (g : Grain) (e : Entry) (past : IsPast s.cl
   opened_past [] = tt
   opened_past (first ∷ others) = where_test (may_open logic g e first) (record e { queue = others; turns = map.insert e.turns first.number first }) past
 
-  begun_past : (p : Phase) → LeavesPast s.clock (begun logic g e p)
+  begun_past : (p : Phase) → LeavesPast s.clock (opened_if_ready logic g e p)
   begun_past waiting = tt
   begun_past loading = tt
   begun_past (ready state version) = opened_past e.queue
@@ -149,7 +149,7 @@ found_past clock does (Some x) h = h x refl
 turn_past : (clock turn : ℕ) (does : Entry → Request → Option Effect) (found : Option Entry) → ((e : Entry) (q : Request) → found ≡ Some e → LeavesPast clock (does e q)) → LeavesPast clock (option_and_then (at_turn does turn) found)
 turn_past clock turn does found h = found_past clock (at_turn does turn) found (λ e is. found_past clock (does e) (map.get e.turns turn) (λ q open_turn. h e q is))
 
-effect_past : (logic : Logic) (s : Sight) (step : Step) → ((e : Entry) → s.entry ≡ Some e → IsPast s.clock e) → LeavesPast s.clock (effect_of logic s step)
+effect_past : (logic : Logic) (s : Context) (step : Step) → ((e : Entry) → s.entry ≡ Some e → IsPast s.clock e) → LeavesPast s.clock (effect_of logic s step)
 unfolding effect_of
 effect_past logic s (Refuse caller id code) past = tt
 effect_past logic s (Call caller id g call) past = called_past logic s _ g call
@@ -174,13 +174,13 @@ within : {A : Type 0} (b : Bool) (found : Option A) (x : A) → cond b found Non
 within true found x e = e
 within false found x e = absurd (none-some x e)
 
-sees_past : (w : Whole) (owner : List ℕ) (place : Option Grain) → ArePast w → (e : Entry) → (sight_at (shown_to owner w) place).entry ≡ Some e → e.last ≤ w.clock
-unfolding sight_at shown_to
+sees_past : (w : Whole) (owner : List ℕ) (place : Option Grain) → ArePast w → (e : Entry) → (context_at (shown_to owner w) place).entry ≡ Some e → e.last ≤ w.clock
+unfolding context_at shown_to
 sees_past w owner None past e found = absurd (none-some e found)
 sees_past w owner (Some g) past e found = past g e (within (is_of owner g) (map.get w.entries g) e (sym (get-part w.entries (is_of owner) g) ∙ found))
 
-sees_clock : (w : Whole) (owner : List ℕ) (place : Option Grain) → (sight_at (shown_to owner w) place).clock ≡ w.clock
-unfolding sight_at shown_to
+sees_clock : (w : Whole) (owner : List ℕ) (place : Option Grain) → (context_at (shown_to owner w) place).clock ≡ w.clock
+unfolding context_at shown_to
 sees_clock w owner place = refl
 
 past_at : (clock : ℕ) (grain : Option Grain) (c : Change Entry) → OfPut (IsPast clock) c → OfPutAt (λ (g : Grain) (e : Entry). IsPast clock e) grain c
@@ -207,7 +207,7 @@ step_past_by logic w after s None is past step = shared_past w after s past (sym
 step_past_by logic w after s (Some owner) is past step =
     let d = did logic w after s owner is step in
     let place = place_in w owner s in
-    let sight = sight_at (shown_to owner w) place in
+    let sight = context_at (shown_to owner w) place in
     let clock = sees_clock w owner place in
     let left = subst (LeavesPast sight.clock) d.does (effect_past logic sight s (λ e found. subst (λ n. e.last ≤ n) (sym clock) (sees_past w owner place past e found))) in
     subst ArePast d.leaves (spread_past w owner place d.what past (subst (λ n. OfPut (IsPast n) d.what.entry) clock left))

@@ -1,5 +1,5 @@
 pub mod Changes
-pub mod Sights
+pub mod Contexts
 pub mod TurnMaps
 pub mod Sound
 pub mod Proper

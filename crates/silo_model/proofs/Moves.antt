@@ -23,11 +23,11 @@ use Rattle.silo_event.specs.declared.step.Step.TheVariants.{Refuse, Call, Poke, 
 use Rattle.grain_kinds.specs.Logic.{Logic, Plan, Outgoing, StorageCall, asks_nothing, reads_row, writes_row, clears_row}
 use Rattle.grain_kinds.specs.Laws.{ReadersAskNothing}
 use Rattle.silo_model.specs.Machine.{Account, Entry, Request, Send, Phase, waiting, loading, ready}
-use Rattle.silo_model.specs.Effect.{Sight, Effect, Change, keep, put, drop, on_entry, change_option}
-use Rattle.silo_model.specs.Calls.{answered, told, kind_gate, gate, room, admitted, with_request, accepted, last_number, call_settled, called}
+use Rattle.silo_model.specs.Effect.{Context, Effect, Change, keep, put, drop, on_entry, change_option}
+use Rattle.silo_model.specs.Calls.{reply_to, told, kind_gate, gate, room, admitted, with_request, accepted, last_number, call_settled, called}
 use Rattle.silo_model.specs.Sends.{put_or, delivered_to}
 use Rattle.silo_model.specs.Stores.{row_written, row_cleared}
-use Rattle.silo_model.specs.Turns.{activated, unloaded, loaded, reads, may_open, opened, begun, plan_of, closed, with_sends, ended_by, ended, ends_activation, row_changed, stored_by, stored, abandoned}
+use Rattle.silo_model.specs.Turns.{activated, unloaded, loaded, reads, may_open, opened, opened_if_ready, plan_of, closed, with_sends, ended_by, ended, ends_activation, row_changed, stored_by, stored, abandoned}
 use Rattle.silo_model.specs.Idle.{is_ready}
 use Rattle.silo_model.specs.Step.{grain_of}
 use Rattle.silo_model.specs.Exclusive.{turn_of_first, first_waiting}
@@ -116,21 +116,21 @@ pub record NumbersMove (old new : Option Entry) (count after : ℕ) : Type 0 whe
   pub holds : (f : Request → ℕ) → at (held f) new ≤ at (held f) old + at f request
   pub counted : Counted request count after
 
-abbrev pub entry_after : Sight → Effect → Option Entry
+abbrev pub entry_after : Context → Effect → Option Entry
 entry_after s e = change_option s.entry e.entry
 
-pub record Moves (logic : Logic) (grain : Option Grain) (s : Sight) (asks : (Party → ℕ) → ℕ) (e : Effect) (turns_move : Type 0) : Type 0 where
+pub record Moves (logic : Logic) (grain : Option Grain) (s : Context) (asks : (Party → ℕ) → ℕ) (e : Effect) (turns_move : Type 0) : Type 0 where
   pub placed : IsPlaced e.entry grain
   pub left : OfPut (IsFairAt logic grain) e.entry
   pub numbers : NumbersMove s.entry (entry_after s e) (count_of s.account) (count_of (change_option s.account e.account))
   pub balance : (w : Party → ℕ) → Quiet w → replied w e.replies + at (held (sent w)) (entry_after s e) ≡ at (held (sent w)) s.entry + asks w
   pub turns : turns_move
 
-abbrev pub KeepingMoves : Logic → Option Grain → Sight → ((Party → ℕ) → ℕ) → Effect → Type 0
+abbrev pub KeepingMoves : Logic → Option Grain → Context → ((Party → ℕ) → ℕ) → Effect → Type 0
 KeepingMoves logic grain s asks e = Moves logic grain s asks e (KeepsTurns s.entry (entry_after s e))
 
 -- the effect of a step, where there is one
-abbrev pub StepMoves : Logic → Sight → Step → Effect → Type 0
+abbrev pub StepMoves : Logic → Context → Step → Effect → Type 0
 StepMoves logic s step e = Moves logic (grain_of s.account step) s (λ w. asked_by w step) e (TurnsMove logic step s.entry (entry_after s e))
 
 -- ---- replies alone
@@ -138,12 +138,12 @@ StepMoves logic s step e = Moves logic (grain_of s.account step) s (λ w. asked_
 replied_told : (w : Party → ℕ) (p : Party) (outcome : Result Tree Fault) → replied w (told p outcome) ≡ w p
 replied_told w p outcome = omega (arith, sum_by-cons (λ (r : Reply). w r.recipient) (record { recipient = p; outcome = outcome }) [])
 
-replied_answered : (w : Party → ℕ) → Quiet w → (p : Party) (outcome : Result Tree Fault) → replied w (answered p outcome) ≡ w p
+replied_answered : (w : Party → ℕ) → Quiet w → (p : Party) (outcome : Result Tree Fault) → replied w (reply_to p outcome) ≡ w p
 replied_answered w quiet (party.Client client id) outcome = replied_told w (party.Client client id) outcome
 replied_answered w quiet (party.Grain g) outcome = sym (quiet g)
 
 -- the asker is told, and no entry is touched
-pub told_moves : (logic : Logic) (grain : Option Grain) (s : Sight) (p : Party) (row : Change Row) (outcome : Result Tree Fault)
+pub told_moves : (logic : Logic) (grain : Option Grain) (s : Context) (p : Party) (row : Change Row) (outcome : Result Tree Fault)
     → KeepingMoves logic grain s (λ w. w p) (record { account = keep; entry = keep; row = row; replies = told p outcome })
 told_moves logic grain s p row outcome = record {
   placed = tt;
@@ -162,7 +162,7 @@ Passes a r = r ≡ Ok a
 same_Ok : (x y : Account) → Passes y (Ok x) → x ≡ y
 same_Ok x y e = cc
 
-pub admitted_by : (s : Sight) (g : Grain) (r : Result Account Fault) (a : Account) → admitted s g r ≡ Ok a → Passes a r
+pub admitted_by : (s : Context) (g : Grain) (r : Result Account Fault) (a : Account) → admitted s g r ≡ Ok a → Passes a r
 admitted_by s g (Err why) a e = absurd (cc (e))
 admitted_by s g (Ok b) a e = by_number (b.count == last_number) e
   where
@@ -178,7 +178,7 @@ admitted_by s g (Ok b) a e = by_number (b.count == last_number) e
     by_number true h = absurd (cc (h))
     by_number false h = by_room s.entry h
 
-pub gate_by : (logic : Logic) (s : Sight) (g : Grain) (found : Option Account) (a : Account) → gate logic s found g ≡ Ok a → found ≡ Some a
+pub gate_by : (logic : Logic) (s : Context) (g : Grain) (found : Option Account) (a : Account) → gate logic s found g ≡ Ok a → found ≡ Some a
 gate_by logic s g None a e = absurd (cc (e))
 gate_by logic s g (Some b) a e = by_own (same_text g.tenant s.tenant) e
   where
@@ -205,7 +205,7 @@ with_request_turns : (clock : ℕ) (q : Request) (found : Option Entry) → Keep
 with_request_turns clock q None n r open_turn = absurd (none-some r open_turn)
 with_request_turns clock q (Some e) n r open_turn = open_turn
 
-accepted_moves : (logic : Logic) (s : Sight) (sender : Party) (g : Grain) (call : codec.Call) (a : Account) → s.account ≡ Some a → SeesFair logic (Some g) s.entry → KeepingMoves logic (Some g) s (λ w. w sender) (accepted s sender call a)
+accepted_moves : (logic : Logic) (s : Context) (sender : Party) (g : Grain) (call : codec.Call) (a : Account) → s.account ≡ Some a → SeesFair logic (Some g) s.entry → KeepingMoves logic (Some g) s (λ w. w sender) (accepted s sender call a)
 accepted_moves logic s sender g call a is sees =
     let q : Request = record { number = a.count + 1; sender = sender; call = call } in
     record {
@@ -220,12 +220,12 @@ accepted_moves logic s sender g call a is sees =
       turns = with_request_turns s.clock q s.entry;
     }
 
-settled_moves : (logic : Logic) (s : Sight) (sender : Party) (g : Grain) (call : codec.Call) (r : Result Account Fault) → ((a : Account) → r ≡ Ok a → s.account ≡ Some a) → SeesFair logic (Some g) s.entry
+settled_moves : (logic : Logic) (s : Context) (sender : Party) (g : Grain) (call : codec.Call) (r : Result Account Fault) → ((a : Account) → r ≡ Ok a → s.account ≡ Some a) → SeesFair logic (Some g) s.entry
     → KeepingMoves logic (Some g) s (λ w. w sender) (call_settled s sender call r)
 settled_moves logic s sender g call (Ok a) known sees = accepted_moves logic s sender g call a (known a refl) sees
 settled_moves logic s sender g call (Err why) known sees = told_moves logic (Some g) s sender keep (Err why)
 
-pub called_moves : (logic : Logic) (s : Sight) (sender : Party) (g : Grain) (call : codec.Call) → SeesFair logic (Some g) s.entry → KeepingMoves logic (Some g) s (λ w. w sender) (called logic s sender g call)
+pub called_moves : (logic : Logic) (s : Context) (sender : Party) (g : Grain) (call : codec.Call) → SeesFair logic (Some g) s.entry → KeepingMoves logic (Some g) s (λ w. w sender) (called logic s sender g call)
 unfolding called
 called_moves logic s sender g call sees =
     settled_moves logic s sender g call (admitted s g (gate logic s s.account g)) (λ a e. gate_by logic s g s.account a (admitted_by s g (gate logic s s.account g) a e)) sees
@@ -240,11 +240,11 @@ same_change o a drop = refl
 counted_on : (o : Option Request) (c d c' d' : ℕ) → c ≡ c' → d ≡ d' → Counted o c d → Counted o c' d'
 counted_on o c d c' d' same after h = subst (λ n. Counted o n d') same (subst (λ n. Counted o c n) after h)
 
-pub sent_moves : (logic : Logic) (s : Sight) (g : Grain) (a : Account) (found : Send × List Send) → s.account ≡ Some a → SeesFair logic (Some found.0.message.target) s.entry
+pub sent_moves : (logic : Logic) (s : Context) (g : Grain) (a : Account) (found : Send × List Send) → s.account ≡ Some a → SeesFair logic (Some found.0.message.target) s.entry
     → KeepingMoves logic (Some found.0.message.target) s nothing_asked (delivered_to logic s g a found)
 sent_moves logic s g a found is sees =
     let rest : Account = record a { sends = found.1 } in
-    let seen : Sight = record s { account = Some rest } in
+    let seen : Context = record s { account = Some rest } in
     let effect = called logic seen (party.Grain g) found.0.message.target found.0.message.call in
     let moves = called_moves logic seen (party.Grain g) found.0.message.target found.0.message.call sees in
     record {
@@ -262,7 +262,7 @@ sent_moves logic s g a found is sees =
 
 -- ---- what is done to an entry that is there
 
-module _ (logic : Logic) (s : Sight) (g : Grain) (e : Entry) (is : s.entry ≡ Some e) where
+module _ (logic : Logic) (s : Context) (g : Grain) (e : Entry) (is : s.entry ≡ Some e) where
   held_is : (f : Request → ℕ) → at (held f) s.entry ≡ held f e
   held_is f = ap (at (held f)) is
 
@@ -288,10 +288,10 @@ module _ (logic : Logic) (s : Sight) (g : Grain) (e : Entry) (is : s.entry ≡ S
 
   -- ---- loading
 
-  all_told : (w : Party → ℕ) → Quiet w → (queue : List Request) → replied w (flat_map (λ q. answered q.sender (Err StorageFailed)) queue) ≡ sum_by (sent w) queue
+  all_told : (w : Party → ℕ) → Quiet w → (queue : List Request) → replied w (flat_map (λ q. reply_to q.sender (Err StorageFailed)) queue) ≡ sum_by (sent w) queue
   all_told w quiet [] = refl
   all_told w quiet (q ∷ queue) =
-      sum_by-append (λ (r : Reply). w r.recipient) (answered q.sender (Err StorageFailed)) (flat_map (λ x. answered x.sender (Err StorageFailed)) queue)
+      sum_by-append (λ (r : Reply). w r.recipient) (reply_to q.sender (Err StorageFailed)) (flat_map (λ x. reply_to x.sender (Err StorageFailed)) queue)
       ∙ (λ i. replied_answered w quiet q.sender (Err StorageFailed) i + all_told w quiet queue i)
       ∙ sym (sum_by-cons (sent w) q queue)
 
@@ -348,7 +348,7 @@ module _ (logic : Logic) (s : Sight) (g : Grain) (e : Entry) (is : s.entry ≡ S
       by_test true may h = subst (λ (x : Effect). Moves logic (Some g) s nothing_asked x (OpensTurn logic g s.entry (entry_after s x))) (same_Some (on_entry (with_turn first others)) new h) (opened_moves first others queue fair is_open (front first others queue) may)
       by_test false may h = absurd (none-some new h)
 
-  pub begun_moves : (p : Phase) (new : Effect) → e.phase ≡ p → IsFairEntry logic g e → FrontIsNew e → begun logic g e p ≡ Some new → Moves logic (Some g) s nothing_asked new (OpensTurn logic g s.entry (entry_after s new))
+  pub begun_moves : (p : Phase) (new : Effect) → e.phase ≡ p → IsFairEntry logic g e → FrontIsNew e → opened_if_ready logic g e p ≡ Some new → Moves logic (Some g) s nothing_asked new (OpensTurn logic g s.entry (entry_after s new))
   begun_moves waiting new phase fair front does = absurd (none-some new does)
   begun_moves loading new phase fair front does = absurd (none-some new does)
   begun_moves (ready state version) new phase fair front does = begin_moves e.queue new refl fair front (ap is_ready phase) does
@@ -375,7 +375,7 @@ module _ (logic : Logic) (s : Sight) (g : Grain) (e : Entry) (is : s.entry ≡ S
     -- the turn is closed and its request answered, and the entry stays
     put_moves : (phase : Phase) (last : ℕ) (account : Change Account) (row : Change Row) (outcome : Result Tree Fault)
         → (is_ready phase ≡ false → map.len (map.remove e.turns request.number) ≡ 0) → count_of (change_option s.account account) ≡ count_of s.account
-        → Closing (record { account = account; entry = put (record e { phase = phase; turns = map.remove e.turns request.number; last = last }); row = row; replies = answered request.sender outcome })
+        → Closing (record { account = account; entry = put (record e { phase = phase; turns = map.remove e.turns request.number; last = last }); row = row; replies = reply_to request.sender outcome })
     put_moves phase last account row outcome rest same = record {
       placed = tt;
       left = closed_entry logic g e request.number last request phase fair there rest;
@@ -407,7 +407,7 @@ module _ (logic : Logic) (s : Sight) (g : Grain) (e : Entry) (is : s.entry ≡ S
 
     -- the activation of a turn that may write ends: no other turn of it is open
     ends_moves : (queue : List Request) (outcome : Result Tree Fault) → e.queue ≡ queue → reads logic g request ≡ false
-        → Closing (record { account = keep; entry = ends_activation e request queue; row = keep; replies = answered request.sender outcome })
+        → Closing (record { account = keep; entry = ends_activation e request queue; row = keep; replies = reply_to request.sender outcome })
     ends_moves [] outcome is_empty writes =
         let none = none_left e.turns request.number request there (fair.alone request.number request there writes) in
         record {

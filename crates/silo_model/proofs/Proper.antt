@@ -18,12 +18,12 @@ use Rattle.silo_event.specs.declared.step.Step.{Step}
 use Rattle.silo_event.specs.declared.step.Step.TheVariants.{Refuse, Call, Poke, Status, Deliver, Activate, Load, Begin, Store, End, Abandon, Tick, Sweep}
 use Rattle.grain_kinds.specs.Logic.{Logic, Plan, StorageCall, asks_nothing, reads_row, writes_row, clears_row}
 use Rattle.silo_model.specs.Machine.{Account, Entry, Request, Send, Phase, waiting, loading, ready}
-use Rattle.silo_model.specs.Effect.{Sight, Effect, Change, keep, on_entry, only_replies}
-use Rattle.silo_model.specs.Calls.{answered, told, kind_gate, gate, admitted, call_settled, called}
+use Rattle.silo_model.specs.Effect.{Context, Effect, Change, keep, on_entry, only_replies}
+use Rattle.silo_model.specs.Calls.{reply_to, told, kind_gate, gate, admitted, call_settled, called}
 use Rattle.silo_model.specs.Sends.{first_from, first_target, on_account, delivered_to, delivered}
 use Rattle.silo_model.specs.Stores.{row_poked, row_written, row_cleared}
 use Rattle.silo_model.specs.Asks.{row_told, poke_settled, poked, status_told}
-use Rattle.silo_model.specs.Turns.{activated, loaded, may_open, opened, begun, plan_of, closed, ended_by, ended, ends_activation, row_changed, stored_by, stored, abandoned}
+use Rattle.silo_model.specs.Turns.{activated, loaded, may_open, opened, opened_if_ready, plan_of, closed, ended_by, ended, ends_activation, row_changed, stored_by, stored, abandoned}
 use Rattle.silo_model.specs.Step.{grain_of, at_turn, effect_of}
 use Rattle.grain_id.proofs.Order.{same_text_decides}
 use Rattle.silo_model.proofs.Changes.{WhereChanged, WhereChanged-holds, OfPut}
@@ -61,7 +61,7 @@ on_entry_proper tenant g e own entry = record { entry = own; row = tt; left = en
 only_replies_proper : (tenant : List ℕ) (grain : Option Grain) (asker : Party) (outcome : Result Tree Fault) → tenant_of asker ≡ tenant → IsProper tenant grain (only_replies (told asker outcome))
 only_replies_proper tenant grain asker outcome from = record { entry = tt; row = tt; left = tt; replies = (from, tt) }
 
-answered_to : (tenant : List ℕ) (sender : Party) (outcome : Result Tree Fault) → tenant_of sender ≡ tenant → AllTo tenant (answered sender outcome)
+answered_to : (tenant : List ℕ) (sender : Party) (outcome : Result Tree Fault) → tenant_of sender ≡ tenant → AllTo tenant (reply_to sender outcome)
 answered_to tenant (party.Client client id) outcome from = (from, tt)
 answered_to tenant (party.Grain grain) outcome from = tt
 
@@ -71,7 +71,7 @@ AllTo-append tenant (r ∷ first) others h k = (h.0, AllTo-append tenant first o
 
 -- ---- calls
 
-module _ (logic : Logic) (s : Sight) (g : Grain) where
+module _ (logic : Logic) (s : Context) (g : Grain) where
   own_by_test : (a b : Account) (test : Bool) → same_text g.tenant s.tenant ≡ test → (if test then kind_gate logic a g else Err (AcrossTenants s.tenant g.tenant)) ≡ Ok b → g.tenant ≡ s.tenant
   own_by_test a b true is e = (same_text_decides g.tenant s.tenant).0 is
   own_by_test a b false is e = absurd (cc (e))
@@ -85,12 +85,12 @@ module _ (logic : Logic) (s : Sight) (g : Grain) where
   admitted_own (Ok b) a own e = own b refl
   admitted_own (Err why) a own e = absurd (cc (e))
 
-settled_proper : (s : Sight) (tenant : List ℕ) (sender : Party) (g : Grain) (call : codec.Call) (r : Result Account Fault)
+settled_proper : (s : Context) (tenant : List ℕ) (sender : Party) (g : Grain) (call : codec.Call) (r : Result Account Fault)
     → tenant_of sender ≡ tenant → SeesOwn tenant s.entry → ((a : Account) → r ≡ Ok a → g.tenant ≡ tenant) → IsProper tenant (Some g) (call_settled s sender call r)
 settled_proper s tenant sender g call (Ok a) from sees own = record { entry = own a refl; row = tt; left = with_request-IsEntryOf tenant s.clock _ s.entry from sees; replies = tt }
 settled_proper s tenant sender g call (Err why) from sees own = only_replies_proper tenant (Some g) sender (Err why) from
 
-called_proper : (logic : Logic) (s : Sight) (tenant : List ℕ) (sender : Party) (g : Grain) (call : codec.Call) → s.tenant ≡ tenant → tenant_of sender ≡ tenant → SeesOwn tenant s.entry → IsProper tenant (Some g) (called logic s sender g call)
+called_proper : (logic : Logic) (s : Context) (tenant : List ℕ) (sender : Party) (g : Grain) (call : codec.Call) → s.tenant ≡ tenant → tenant_of sender ≡ tenant → SeesOwn tenant s.entry → IsProper tenant (Some g) (called logic s sender g call)
 unfolding called
 called_proper logic s tenant sender g call is from sees =
     settled_proper s tenant sender g call (admitted s g (gate logic s s.account g)) from sees
@@ -101,7 +101,7 @@ called_proper logic s tenant sender g call is from sees =
 on_account_proper : (tenant : List ℕ) (grain : Option Grain) (a : Account) (e : Effect) → IsProper tenant grain e → IsProper tenant grain (on_account a e)
 on_account_proper tenant grain a e proper = record { entry = proper.entry; row = proper.row; left = proper.left; replies = proper.replies }
 
-sent_proper : (logic : Logic) (s : Sight) (tenant : List ℕ) (g : Grain) (a : Account) (found : Option (Send × List Send)) → s.tenant ≡ tenant → g.tenant ≡ tenant → SeesOwn tenant s.entry
+sent_proper : (logic : Logic) (s : Context) (tenant : List ℕ) (g : Grain) (a : Account) (found : Option (Send × List Send)) → s.tenant ≡ tenant → g.tenant ≡ tenant → SeesOwn tenant s.entry
     → Proper tenant (option_map (λ f. f.0.message.target) found) (option_map (delivered_to logic s g a) found)
 sent_proper logic s tenant g a None is own sees = tt
 sent_proper logic s tenant g a (Some found) is own sees =
@@ -109,7 +109,7 @@ sent_proper logic s tenant g a (Some found) is own sees =
     on_account_proper tenant (Some found.0.message.target) rest _
     (called_proper logic (record s { account = Some rest }) tenant (party.Grain g) found.0.message.target found.0.message.call is own sees)
 
-delivered_proper : (logic : Logic) (s : Sight) (tenant : List ℕ) (g : Grain) (account : Option Account) → s.tenant ≡ tenant → g.tenant ≡ tenant → SeesOwn tenant s.entry
+delivered_proper : (logic : Logic) (s : Context) (tenant : List ℕ) (g : Grain) (account : Option Account) → s.tenant ≡ tenant → g.tenant ≡ tenant → SeesOwn tenant s.entry
     → Proper tenant (first_target account g) (option_and_then (delivered logic s g) account)
 delivered_proper logic s tenant g None is own sees = tt
 delivered_proper logic s tenant g (Some a) is own sees = sent_proper logic s tenant g a (first_from g a.sends) is own sees
@@ -121,18 +121,18 @@ row_told_proper tenant asker g (Ok done) own from = record { entry = tt; row = W
 row_told_proper tenant asker g (Err (stale found)) own from = only_replies_proper tenant (Some g) asker _ from
 row_told_proper tenant asker g (Err spent) own from = only_replies_proper tenant (Some g) asker _ from
 
-poke_proper : (s : Sight) (tenant : List ℕ) (asker : Party) (g : Grain) (state : Tree) (failed : Bool) (r : Result Account Fault) → tenant_of asker ≡ tenant → ((a : Account) → r ≡ Ok a → g.tenant ≡ tenant)
+poke_proper : (s : Context) (tenant : List ℕ) (asker : Party) (g : Grain) (state : Tree) (failed : Bool) (r : Result Account Fault) → tenant_of asker ≡ tenant → ((a : Account) → r ≡ Ok a → g.tenant ≡ tenant)
     → IsProper tenant (Some g) (poke_settled s asker g state failed r)
 poke_proper s tenant asker g state true (Ok a) from own = only_replies_proper tenant (Some g) asker _ from
 poke_proper s tenant asker g state false (Ok a) from own = row_told_proper tenant asker g (row_poked s.row state) (own a refl) from
 poke_proper s tenant asker g state failed (Err why) from own = only_replies_proper tenant (Some g) asker _ from
 
-poked_proper : (logic : Logic) (s : Sight) (tenant : List ℕ) (asker : Party) (g : Grain) (state : Tree) (failed : Bool) → s.tenant ≡ tenant → tenant_of asker ≡ tenant → IsProper tenant (Some g) (poked logic s asker g state failed)
+poked_proper : (logic : Logic) (s : Context) (tenant : List ℕ) (asker : Party) (g : Grain) (state : Tree) (failed : Bool) → s.tenant ≡ tenant → tenant_of asker ≡ tenant → IsProper tenant (Some g) (poked logic s asker g state failed)
 unfolding poked
 poked_proper logic s tenant asker g state failed is from =
     poke_proper s tenant asker g state failed (gate logic s s.account g) from (λ a e. gate_own logic s g s.account a e ∙ is)
 
-status_proper : (s : Sight) (tenant : List ℕ) (asker : Party) (account : Option Account) → tenant_of asker ≡ tenant → IsProper tenant None (status_told s asker account)
+status_proper : (s : Context) (tenant : List ℕ) (asker : Party) (account : Option Account) → tenant_of asker ≡ tenant → IsProper tenant None (status_told s asker account)
 status_proper s tenant asker None from = only_replies_proper tenant None asker _ from
 status_proper s tenant asker (Some a) from = only_replies_proper tenant None asker _ from
 
@@ -143,11 +143,11 @@ activated_proper tenant g e waiting own entry = on_entry_proper tenant g _ own (
 activated_proper tenant g e loading own entry = tt
 activated_proper tenant g e (ready state version) own entry = tt
 
-all_failed_to : (tenant : List ℕ) (queue : List Request) → AllFrom tenant queue → AllTo tenant (flat_map (λ q. answered q.sender (Err StorageFailed)) queue)
+all_failed_to : (tenant : List ℕ) (queue : List Request) → AllFrom tenant queue → AllTo tenant (flat_map (λ q. reply_to q.sender (Err StorageFailed)) queue)
 all_failed_to tenant [] from = tt
-all_failed_to tenant (q ∷ queue) from = AllTo-append tenant (answered q.sender (Err StorageFailed)) _ (answered_to tenant q.sender (Err StorageFailed) from.0) (all_failed_to tenant queue from.1)
+all_failed_to tenant (q ∷ queue) from = AllTo-append tenant (reply_to q.sender (Err StorageFailed)) _ (answered_to tenant q.sender (Err StorageFailed) from.0) (all_failed_to tenant queue from.1)
 
-loaded_proper : (logic : Logic) (s : Sight) (tenant : List ℕ) (g : Grain) (failed : Bool) (e : Entry) (p : Phase) → g.tenant ≡ tenant → IsEntryOf tenant e → Proper tenant (Some g) (loaded logic s g failed e p)
+loaded_proper : (logic : Logic) (s : Context) (tenant : List ℕ) (g : Grain) (failed : Bool) (e : Entry) (p : Phase) → g.tenant ≡ tenant → IsEntryOf tenant e → Proper tenant (Some g) (loaded logic s g failed e p)
 loaded_proper logic s tenant g failed e waiting own entry = tt
 loaded_proper logic s tenant g true e loading own entry = record { entry = own; row = tt; left = tt; replies = all_failed_to tenant e.queue entry.queue }
 loaded_proper logic s tenant g false e loading own entry = on_entry_proper tenant g _ own (record { queue = entry.queue; turns = entry.turns })
@@ -165,12 +165,12 @@ opened_proper logic tenant g e (first ∷ others) own entry from =
     where_test tenant g (may_open logic g e first) (Some (on_entry (record e { queue = others; turns = map.insert e.turns first.number first })))
     (λ may. on_entry_proper tenant g _ own (record { queue = from.1; turns = insert-AreOpenFrom tenant e.turns first entry.turns from.0 }))
 
-begun_proper : (logic : Logic) (tenant : List ℕ) (g : Grain) (e : Entry) (p : Phase) → g.tenant ≡ tenant → IsEntryOf tenant e → Proper tenant (Some g) (begun logic g e p)
+begun_proper : (logic : Logic) (tenant : List ℕ) (g : Grain) (e : Entry) (p : Phase) → g.tenant ≡ tenant → IsEntryOf tenant e → Proper tenant (Some g) (opened_if_ready logic g e p)
 begun_proper logic tenant g e waiting own entry = tt
 begun_proper logic tenant g e loading own entry = tt
 begun_proper logic tenant g e (ready state version) own entry = opened_proper logic tenant g e e.queue own entry entry.queue
 
-module _ (s : Sight) (tenant : List ℕ) (g : Grain) (e : Entry) (request : Request) (own : g.tenant ≡ tenant) (entry : IsEntryOf tenant e) (from : tenant_of request.sender ≡ tenant) where
+module _ (s : Context) (tenant : List ℕ) (g : Grain) (e : Entry) (request : Request) (own : g.tenant ≡ tenant) (entry : IsEntryOf tenant e) (from : tenant_of request.sender ≡ tenant) where
   -- an entry of the tenant without the turn
   less_one : (phase : Phase) (last : ℕ) → IsEntryOf tenant (record e { phase = phase; turns = map.remove e.turns request.number; last = last })
   less_one phase last = record { queue = entry.queue; turns = remove-AreOpenFrom tenant e.turns request.number entry.turns }
@@ -196,7 +196,7 @@ module _ (s : Sight) (tenant : List ℕ) (g : Grain) (e : Entry) (request : Requ
       let plan = plan_of logic g state request in
       ended_by_proper version plan plan.storage
 
-  ends_proper : (queue : List Request) (outcome : Result Tree Fault) → IsProper tenant (Some g) (record { account = keep; entry = ends_activation e request queue; row = keep; replies = answered request.sender outcome })
+  ends_proper : (queue : List Request) (outcome : Result Tree Fault) → IsProper tenant (Some g) (record { account = keep; entry = ends_activation e request queue; row = keep; replies = reply_to request.sender outcome })
   ends_proper [] outcome = record { entry = own; row = tt; left = tt; replies = answered_to tenant request.sender outcome from }
   ends_proper (first ∷ others) outcome = record { entry = own; row = tt; left = less_one waiting e.last; replies = answered_to tenant request.sender outcome from }
 
@@ -239,7 +239,7 @@ turn_proper : (tenant : List ℕ) (g : Grain) (turn : ℕ) (does : Entry → Req
 turn_proper tenant g turn does found sees h =
     found_proper tenant (Some g) _ found (λ e is. found_proper tenant (Some g) (does e) (map.get e.turns turn) (λ request open_turn. h e request (sees e is) ((sees e is).turns turn request open_turn).0))
 
-pub effect_proper : (logic : Logic) (s : Sight) (step : Step) (tenant : List ℕ) → owner_of step ≡ Some tenant → s.tenant ≡ tenant → SeesOwn tenant s.entry → Proper tenant (grain_of s.account step) (effect_of logic s step)
+pub effect_proper : (logic : Logic) (s : Context) (step : Step) (tenant : List ℕ) → owner_of step ≡ Some tenant → s.tenant ≡ tenant → SeesOwn tenant s.entry → Proper tenant (grain_of s.account step) (effect_of logic s step)
 unfolding effect_of
 effect_proper logic s (Refuse caller id code) tenant owner is sees = only_replies_proper tenant None (party.Client caller id) _ (same_Some caller.tenant tenant owner)
 effect_proper logic s (Call caller id g call) tenant owner is sees = called_proper logic s tenant (party.Client caller id) g call is (same_Some caller.tenant tenant owner) sees

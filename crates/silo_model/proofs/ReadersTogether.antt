@@ -17,7 +17,7 @@ use Rattle.silo_model.specs.Whole.{Whole}
 use Rattle.silo_model.specs.Readers.{ReadersTogether}
 use Rattle.silo_model.proofs.Counts.{entries-none}
 use Rattle.silo_model.proofs.Fair.{same_number, may_open_alone}
-use Rattle.silo_model.proofs.Sights.{not_true}
+use Rattle.silo_model.proofs.Contexts.{not_true}
 use Rattle.silo_model.proofs.TurnMaps.{Turns}
 use Rattle.silo_model.proofs.EntrySteps.{begin_first}
 

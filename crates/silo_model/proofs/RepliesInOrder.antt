@@ -13,7 +13,7 @@ use Rattle.silo_model.specs.Run.{machine_run, whole_run, concerns_by, restricted
 use Rattle.silo_model.specs.Opening.{Setup, opening, start_of}
 use Rattle.silo_model.specs.Replies.{replies_added, owner_adds, owners_add, RepliesInOrder}
 use Rattle.silo_model.proofs.Sound.{IsSound}
-use Rattle.silo_model.proofs.Sights.{same_text-itself}
+use Rattle.silo_model.proofs.Contexts.{same_text-itself}
 use Rattle.silo_model.proofs.SharedSteps.{shared_leaves}
 use Rattle.silo_model.proofs.Isolation.{shared_by, owners_part, not_now}
 use Rattle.silo_model.proofs.Runs.{whole_after, whole_run-append, run_sound}

@@ -19,12 +19,12 @@ use Rattle.silo_event.specs.declared.step.Step.{Step}
 use Rattle.silo_event.specs.declared.step.Step.TheVariants.{Refuse, Call, Poke, Status, Deliver, Activate, Load, Begin, Store, End, Abandon, Tick, Sweep}
 use Rattle.grain_kinds.specs.Logic.{Logic, Plan, StorageCall, asks_nothing, reads_row, writes_row, clears_row}
 use Rattle.silo_model.specs.Machine.{Account, Entry, Request, Send, Phase, waiting, loading, ready}
-use Rattle.silo_model.specs.Effect.{Sight, Effect, Change, keep, put, on_entry, changed_at, sight_at}
+use Rattle.silo_model.specs.Effect.{Context, Effect, Change, keep, put, on_entry, changed_at, context_at}
 use Rattle.silo_model.specs.Calls.{gate, admitted, call_settled, called}
 use Rattle.silo_model.specs.Sends.{first_from, delivered_to, delivered}
 use Rattle.silo_model.specs.Stores.{next_row, version_value}
 use Rattle.silo_model.specs.Asks.{status_told}
-use Rattle.silo_model.specs.Turns.{activated, loaded, may_open, opened, begun, plan_of, closed, ended_by, ended, row_changed, stored_by}
+use Rattle.silo_model.specs.Turns.{activated, loaded, may_open, opened, opened_if_ready, plan_of, closed, ended_by, ended, row_changed, stored_by}
 use Rattle.silo_model.specs.Step.{grain_of, effect_of}
 use Rattle.silo_model.specs.Whole.{Whole, shown_to, spread, whole_shared_step, whole_step}
 use Rattle.silo_model.specs.Journal.{all_done}
@@ -40,19 +40,19 @@ abbrev KeepsRow : Option Effect → Type 0
 KeepsRow None = Unit {0}
 KeepsRow (Some e) = e.row ≡ keep
 
-settled_row : (s : Sight) (sender : Party) (call : codec.Call) (r : Result Account Fault) → (call_settled s sender call r).row ≡ keep
+settled_row : (s : Context) (sender : Party) (call : codec.Call) (r : Result Account Fault) → (call_settled s sender call r).row ≡ keep
 settled_row s sender call (Ok a) = refl
 settled_row s sender call (Err why) = refl
 
-called_row : (logic : Logic) (s : Sight) (sender : Party) (g : Grain) (call : codec.Call) → (called logic s sender g call).row ≡ keep
+called_row : (logic : Logic) (s : Context) (sender : Party) (g : Grain) (call : codec.Call) → (called logic s sender g call).row ≡ keep
 unfolding called
 called_row logic s sender g call = settled_row s sender call (admitted s g (gate logic s s.account g))
 
-sent_row : (logic : Logic) (s : Sight) (g : Grain) (a : Account) (found : Option (Send × List Send)) → KeepsRow (option_map (delivered_to logic s g a) found)
+sent_row : (logic : Logic) (s : Context) (g : Grain) (a : Account) (found : Option (Send × List Send)) → KeepsRow (option_map (delivered_to logic s g a) found)
 sent_row logic s g a None = tt
 sent_row logic s g a (Some found) = called_row logic _ _ found.0.message.target found.0.message.call
 
-status_row : (s : Sight) (asker : Party) (account : Option Account) → (status_told s asker account).row ≡ keep
+status_row : (s : Context) (asker : Party) (account : Option Account) → (status_told s asker account).row ≡ keep
 status_row s asker None = refl
 status_row s asker (Some a) = refl
 
@@ -61,7 +61,7 @@ activated_row e waiting = refl
 activated_row e loading = tt
 activated_row e (ready state version) = tt
 
-loaded_row : (logic : Logic) (s : Sight) (g : Grain) (failed : Bool) (e : Entry) (p : Phase) → KeepsRow (loaded logic s g failed e p)
+loaded_row : (logic : Logic) (s : Context) (g : Grain) (failed : Bool) (e : Entry) (p : Phase) → KeepsRow (loaded logic s g failed e p)
 loaded_row logic s g failed e waiting = tt
 loaded_row logic s g true e loading = refl
 loaded_row logic s g false e loading = refl
@@ -75,18 +75,18 @@ opened_row : (logic : Logic) (g : Grain) (e : Entry) (queue : List Request) → 
 opened_row logic g e [] = tt
 opened_row logic g e (first ∷ others) = where_test_row (may_open logic g e first) (on_entry (record e { queue = others; turns = map.insert e.turns first.number first })) refl
 
-begun_row : (logic : Logic) (g : Grain) (e : Entry) (p : Phase) → KeepsRow (begun logic g e p)
+begun_row : (logic : Logic) (g : Grain) (e : Entry) (p : Phase) → KeepsRow (opened_if_ready logic g e p)
 begun_row logic g e waiting = tt
 begun_row logic g e loading = tt
 begun_row logic g e (ready state version) = opened_row logic g e e.queue
 
-ended_by_row : (s : Sight) (g : Grain) (e : Entry) (request : Request) (version : Option ℕ) (plan : Plan) (storage : StorageCall) → KeepsRow (ended_by s g e request version plan storage)
+ended_by_row : (s : Context) (g : Grain) (e : Entry) (request : Request) (version : Option ℕ) (plan : Plan) (storage : StorageCall) → KeepsRow (ended_by s g e request version plan storage)
 ended_by_row s g e request version plan asks_nothing = refl
 ended_by_row s g e request version plan reads_row = tt
 ended_by_row s g e request version plan writes_row = tt
 ended_by_row s g e request version plan clears_row = tt
 
-ended_row : (logic : Logic) (s : Sight) (g : Grain) (e : Entry) (request : Request) (p : Phase) → KeepsRow (ended logic s g e request p)
+ended_row : (logic : Logic) (s : Context) (g : Grain) (e : Entry) (request : Request) (p : Phase) → KeepsRow (ended logic s g e request p)
 ended_row logic s g e request waiting = tt
 ended_row logic s g e request loading = tt
 ended_row logic s g e request (ready state version) =
@@ -98,7 +98,7 @@ found_row does None h = tt
 found_row does (Some x) h = h x
 
 -- a step that may not change the grain's row leaves it
-effect_row : (logic : Logic) (s : Sight) (step : Step) (g : Grain) → touches_row g step ≡ false → KeepsRow (effect_of logic s step) ⊎ ((q : Grain) × (grain_of s.account step ≡ Some q) × (grain_eq q g ≡ false))
+effect_row : (logic : Logic) (s : Context) (step : Step) (g : Grain) → touches_row g step ≡ false → KeepsRow (effect_of logic s step) ⊎ ((q : Grain) × (grain_of s.account step ≡ Some q) × (grain_eq q g ≡ false))
 unfolding effect_of
 effect_row logic s (Refuse caller id code) g apart = inl refl
 effect_row logic s (Call caller id q call) g apart = inl (called_row logic s _ q call)
@@ -140,8 +140,8 @@ shared_rows w after (Tick now) h = tick_rows w after now (nat_le w.clock now) h
 shared_rows w after Sweep h = ap (λ (x : Whole). x.rows) (sym (same_Some _ after h))
 shared_rows w after _ h = absurd (none-some after h)
 
-seen_account : (w : Whole) (owner : List ℕ) (place : Option Grain) → (sight_at (shown_to owner w) place).account ≡ map.get w.accounts owner
-unfolding sight_at shown_to
+seen_account : (w : Whole) (owner : List ℕ) (place : Option Grain) → (context_at (shown_to owner w) place).account ≡ map.get w.accounts owner
+unfolding context_at shown_to
 seen_account w owner place = refl
 
 row_stays_by : (logic : Logic) (w after : Whole) (s : Step) (g : Grain) (o : Option (List ℕ)) → owner_of s ≡ o → whole_step logic w s ≡ Some after → touches_row g s ≡ false → map.get after.rows g ≡ map.get w.rows g
@@ -149,10 +149,10 @@ row_stays_by logic w after s g None is step apart = ap (λ (r : Rows). map.get r
 row_stays_by logic w after s g (Some owner) is step apart =
     let d = did logic w after s owner is step in
     let place = place_in w owner s in
-    let sight = sight_at (shown_to owner w) place in
+    let sight = context_at (shown_to owner w) place in
     sym (ap (λ (x : Whole). map.get x.rows g) d.leaves) ∙ ap (λ (r : Rows). map.get r g) (spread_rows w owner place d.what) ∙ by_effect d place refl (effect_row logic sight s g apart)
   where
-    by_effect : (d : Did logic w s owner after) (place : Option Grain) → place_in w owner s ≡ place → KeepsRow (effect_of logic (sight_at (shown_to owner w) (place_in w owner s)) s) ⊎ ((q : Grain) × (grain_of (sight_at (shown_to owner w) (place_in w owner s)).account s ≡ Some q) × (grain_eq q g ≡ false))
+    by_effect : (d : Did logic w s owner after) (place : Option Grain) → place_in w owner s ≡ place → KeepsRow (effect_of logic (context_at (shown_to owner w) (place_in w owner s)) s) ⊎ ((q : Grain) × (grain_of (context_at (shown_to owner w) (place_in w owner s)).account s ≡ Some q) × (grain_eq q g ≡ false))
         → map.get (changed_at w.rows place d.what.row) g ≡ map.get w.rows g
     by_effect d place at (inl keeps) = kept_at w.rows place g d.what.row (subst KeepsRow d.does keeps)
     by_effect d place at (inr other) =

@@ -10,25 +10,25 @@ use Rattle.silo_event.specs.declared.reply.Party.TheVariants as party
 use Rattle.silo_event.specs.declared.step.Step.TheVariants.{Deliver}
 use Rattle.grain_kinds.specs.Logic.{Logic}
 use Rattle.silo_model.specs.Machine.{Account, Entry, Send}
-use Rattle.silo_model.specs.Effect.{Sight, Effect, sight_at, only_replies}
+use Rattle.silo_model.specs.Effect.{Context, Effect, context_at, only_replies}
 use Rattle.silo_model.specs.Calls.{told, last_number, gate, with_request, accepted, called}
 use Rattle.silo_model.specs.Sends.{first_from, first_target, on_account, delivered_to, delivered}
 use Rattle.silo_model.specs.Step.{grain_of, effect_of}
 use Rattle.silo_model.specs.Whole.{Whole, shown_to, spread, whole_step}
-use Rattle.silo_model.proofs.Sights.{active_of, sight_of, own_sight, step_by_sight}
+use Rattle.silo_model.proofs.Contexts.{active_of, context_of, own_sight, step_by_sight}
 use Rattle.silo_model.proofs.CallRule.{gate_across, gate_unknown_kind, gate_passed, called_refused, called_no_number, called_no_activation, called_new, called_full, called_again}
 use Rattle.silo_model.proofs.CallSteps.{next_request}
 
 module _ (logic : Logic) (w : Whole) (g : Grain) where
-  seen_account : (place : Option Grain) → (sight_at (shown_to g.tenant w) place).account ≡ map.get w.accounts g.tenant
-  unfolding sight_at shown_to
+  seen_account : (place : Option Grain) → (context_at (shown_to g.tenant w) place).account ≡ map.get w.accounts g.tenant
+  unfolding context_at shown_to
   seen_account place = refl
 
-  nothing_sent : (account : Option Account) → map.get w.accounts g.tenant ≡ account → option_and_then (delivered logic (sight_at (shown_to g.tenant w) None) g) account ≡ None → grain_of account (Deliver g) ≡ None → whole_step logic w (Deliver g) ≡ None
+  nothing_sent : (account : Option Account) → map.get w.accounts g.tenant ≡ account → option_and_then (delivered logic (context_at (shown_to g.tenant w) None) g) account ≡ None → grain_of account (Deliver g) ≡ None → whole_step logic w (Deliver g) ≡ None
   unfolding effect_of
   nothing_sent account known does place =
       step_by_sight logic w (Deliver g) g.tenant None None refl (ap (λ a. first_target a g) known ∙ place)
-      (ap (option_and_then (delivered logic (sight_at (shown_to g.tenant w) None) g)) (seen_account None ∙ known) ∙ does)
+      (ap (option_and_then (delivered logic (context_at (shown_to g.tenant w) None) g)) (seen_account None ∙ known) ∙ does)
 
   -- the grain's tenant isn't known
   pub deliver_unknown : map.get w.accounts g.tenant ≡ None → whole_step logic w (Deliver g) ≡ None
@@ -38,7 +38,7 @@ module _ (logic : Logic) (w : Whole) (g : Grain) where
     -- the grain sent nothing
     pub deliver_nothing : first_from g a.sends ≡ None → whole_step logic w (Deliver g) ≡ None
     deliver_nothing none =
-        nothing_sent (Some a) known (ap (option_map (delivered_to logic (sight_at (shown_to g.tenant w) None) g a)) none) (ap (option_map (λ found. found.0.message.target)) none)
+        nothing_sent (Some a) known (ap (option_map (delivered_to logic (context_at (shown_to g.tenant w) None) g a)) none) (ap (option_map (λ found. found.0.message.target)) none)
 
     module _ (sent : Send) (others : List Send) (first : first_from g a.sends ≡ Some (sent, others)) where
       abbrev rest : Account
@@ -47,8 +47,8 @@ module _ (logic : Logic) (w : Whole) (g : Grain) where
       abbrev target : Grain
       target = sent.message.target
 
-      abbrev seen : Sight
-      seen = record (sight_at (shown_to g.tenant w) (Some target)) { account = Some rest }
+      abbrev seen : Context
+      seen = record (context_at (shown_to g.tenant w) (Some target)) { account = Some rest }
 
       place_is : grain_of (map.get w.accounts g.tenant) (Deliver g) ≡ Some target
       place_is = ap (λ x. first_target x g) known ∙ ap (option_map (λ found. found.0.message.target)) first
@@ -57,8 +57,8 @@ module _ (logic : Logic) (w : Whole) (g : Grain) where
       unfolding effect_of
       by_called e is =
           step_by_sight logic w (Deliver g) g.tenant (Some target) (Some (on_account rest e)) refl place_is
-          (ap (option_and_then (delivered logic (sight_at (shown_to g.tenant w) (Some target)) g)) (seen_account (Some target) ∙ known)
-          ∙ ap (option_map (delivered_to logic (sight_at (shown_to g.tenant w) (Some target)) g a)) first
+          (ap (option_and_then (delivered logic (context_at (shown_to g.tenant w) (Some target)) g)) (seen_account (Some target) ∙ known)
+          ∙ ap (option_map (delivered_to logic (context_at (shown_to g.tenant w) (Some target)) g a)) first
           ∙ ap (λ (x : Effect). Some (on_account rest x)) is)
 
       -- the send is gone, and the grain is told why
@@ -72,8 +72,8 @@ module _ (logic : Logic) (w : Whole) (g : Grain) where
       refused_by : (why : Fault) → called logic seen (party.Grain g) target sent.message.call ≡ only_replies (told (party.Grain g) (Err why)) → whole_step logic w (Deliver g) ≡ Some (refused_whole why)
       refused_by why is = by_called _ is ∙ ap Some (spread-refused why)
 
-      seen_tenant : (sight_at (shown_to g.tenant w) (Some target)).tenant ≡ g.tenant
-      unfolding sight_at shown_to
+      seen_tenant : (context_at (shown_to g.tenant w) (Some target)).tenant ≡ g.tenant
+      unfolding context_at shown_to
       seen_tenant = refl
 
       -- the target is another tenant's
@@ -89,11 +89,11 @@ module _ (logic : Logic) (w : Whole) (g : Grain) where
 
         -- ---- behind the gate, what is seen is what the whole has
 
-        abbrev own_seen : Sight
-        own_seen = record (sight_of w g.tenant target) { account = Some rest }
+        abbrev own_seen : Context
+        own_seen = record (context_of w g.tenant target) { account = Some rest }
 
         seen_own : called logic seen (party.Grain g) target sent.message.call ≡ called logic own_seen (party.Grain g) target sent.message.call
-        seen_own = ap (λ (s : Sight). called logic (record s { account = Some rest }) (party.Grain g) target sent.message.call) (own_sight w g.tenant target own)
+        seen_own = ap (λ (s : Context). called logic (record s { account = Some rest }) (party.Grain g) target sent.message.call) (own_sight w g.tenant target own)
 
         module _ (knows : logic.knows target.kind ≡ true) where
           passed : gate logic own_seen own_seen.account target ≡ Ok rest

@@ -12,7 +12,7 @@ use Rattle.silo_event.specs.declared.step.Step.TheVariants.{Deliver, End}
 use Rattle.grain_kinds.specs.Logic.{Logic, Plan, Outgoing}
 use Rattle.silo_model.specs.Machine.{Account, Entry, Send}
 use Rattle.silo_model.specs.Effect.{change_at}
-use Rattle.silo_model.specs.Calls.{answered, with_request}
+use Rattle.silo_model.specs.Calls.{reply_to, with_request}
 use Rattle.silo_model.specs.Sends.{first_from}
 use Rattle.silo_model.specs.Turns.{plan_of, sent_by, with_sends, outcome_of}
 use Rattle.silo_model.specs.Whole.{Whole, whole_step}
@@ -52,7 +52,7 @@ module _ (logic : Logic) (w : Whole) (g : Grain) (turn : ℕ) (a : Account) (o :
   sent = record w {
     accounts = map.insert w.accounts g.tenant account_sent;
     entries = map.insert w.entries g entry_closed;
-    replies = w.replies ++ answered sending.request.sender (outcome_of plan.outcome);
+    replies = w.replies ++ reply_to sending.request.sender (outcome_of plan.outcome);
   }
 
   end_is : whole_step logic w (End g turn) ≡ Some sent
@@ -61,7 +61,7 @@ module _ (logic : Logic) (w : Whole) (g : Grain) (turn : ℕ) (a : Account) (o :
       ∙ (λ i. Some (record w {
         accounts = change_at w.accounts g.tenant (with_sends g (sending.known i) (sending.sends i));
         entries = map.insert w.entries g entry_closed;
-        replies = w.replies ++ answered sending.request.sender (outcome_of plan.outcome);
+        replies = w.replies ++ reply_to sending.request.sender (outcome_of plan.outcome);
       }))
 
   apart : eq_by_cmp grain_cmp o.target g ≡ false

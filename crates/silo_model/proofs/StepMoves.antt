@@ -16,7 +16,7 @@ use Rattle.silo_event.specs.declared.step.Step.TheVariants.{Refuse, Call, Poke, 
 use Rattle.grain_kinds.specs.Logic.{Logic}
 use Rattle.grain_kinds.specs.Laws.{ReadersAskNothing}
 use Rattle.silo_model.specs.Machine.{Machine, Account, Entry, Entries, Request, Send}
-use Rattle.silo_model.specs.Effect.{Sight, Effect, Change, keep, put, drop, change_option, found_at, changed_at, sight_at, applied}
+use Rattle.silo_model.specs.Effect.{Context, Effect, Change, keep, put, drop, change_option, found_at, changed_at, context_at, applied}
 use Rattle.silo_model.specs.Calls.{gate}
 use Rattle.silo_model.specs.Asks.{row_told, poke_settled, poked, status_told}
 use Rattle.silo_model.specs.Sends.{first_from, first_target, delivered_to, delivered}
@@ -37,46 +37,46 @@ use Rattle.std.specs.Prelude.{Result, Ok, Err}
 
 -- ---- the effect of each kind of step
 
-row_told_moves : (logic : Logic) (s : Sight) (g : Grain) (p : Party) (r : Result (Option ℕ × Change Row) RowFault) → KeepingMoves logic (Some g) s (λ w. w p) (row_told p g r)
+row_told_moves : (logic : Logic) (s : Context) (g : Grain) (p : Party) (r : Result (Option ℕ × Change Row) RowFault) → KeepingMoves logic (Some g) s (λ w. w p) (row_told p g r)
 row_told_moves logic s g p (Ok done) = told_moves logic (Some g) s p done.1 _
 row_told_moves logic s g p (Err (stale found)) = told_moves logic (Some g) s p keep _
 row_told_moves logic s g p (Err spent) = told_moves logic (Some g) s p keep _
 
-poke_moves : (logic : Logic) (s : Sight) (g : Grain) (p : Party) (state : Tree) (failed : Bool) (r : Result Account Fault) → KeepingMoves logic (Some g) s (λ w. w p) (poke_settled s p g state failed r)
+poke_moves : (logic : Logic) (s : Context) (g : Grain) (p : Party) (state : Tree) (failed : Bool) (r : Result Account Fault) → KeepingMoves logic (Some g) s (λ w. w p) (poke_settled s p g state failed r)
 poke_moves logic s g p state true (Ok a) = told_moves logic (Some g) s p keep _
 poke_moves logic s g p state false (Ok a) = row_told_moves logic s g p (row_poked s.row state)
 poke_moves logic s g p state failed (Err why) = told_moves logic (Some g) s p keep _
 
-poked_moves : (logic : Logic) (s : Sight) (g : Grain) (p : Party) (state : Tree) (failed : Bool) → KeepingMoves logic (Some g) s (λ w. w p) (poked logic s p g state failed)
+poked_moves : (logic : Logic) (s : Context) (g : Grain) (p : Party) (state : Tree) (failed : Bool) → KeepingMoves logic (Some g) s (λ w. w p) (poked logic s p g state failed)
 unfolding poked
 poked_moves logic s g p state failed = poke_moves logic s g p state failed (gate logic s s.account g)
 
-status_moves : (logic : Logic) (s : Sight) (p : Party) (account : Option Account) → KeepingMoves logic None s (λ w. w p) (status_told s p account)
+status_moves : (logic : Logic) (s : Context) (p : Party) (account : Option Account) → KeepingMoves logic None s (λ w. w p) (status_told s p account)
 status_moves logic s p None = told_moves logic None s p keep _
 status_moves logic s p (Some a) = told_moves logic None s p keep _
 
-first_moves : (logic : Logic) (s : Sight) (g : Grain) (a : Account) (e : Effect) (found : Option (Send × List Send)) → s.account ≡ Some a → SeesFair logic (option_map (λ f. f.0.message.target) found) s.entry
+first_moves : (logic : Logic) (s : Context) (g : Grain) (a : Account) (e : Effect) (found : Option (Send × List Send)) → s.account ≡ Some a → SeesFair logic (option_map (λ f. f.0.message.target) found) s.entry
     → option_map (delivered_to logic s g a) found ≡ Some e → KeepingMoves logic (option_map (λ f. f.0.message.target) found) s nothing_asked e
 first_moves logic s g a e None is sees does = absurd (none-some e does)
 first_moves logic s g a e (Some found) is sees does = subst (KeepingMoves logic (Some found.0.message.target) s nothing_asked) (same_Some _ e does) (sent_moves logic s g a found is sees)
 
-delivered_moves : (logic : Logic) (s : Sight) (g : Grain) (e : Effect) (account : Option Account) → s.account ≡ account → SeesFair logic (first_target account g) s.entry
+delivered_moves : (logic : Logic) (s : Context) (g : Grain) (e : Effect) (account : Option Account) → s.account ≡ account → SeesFair logic (first_target account g) s.entry
     → option_and_then (delivered logic s g) account ≡ Some e → KeepingMoves logic (first_target account g) s nothing_asked e
 delivered_moves logic s g e None is sees does = absurd (none-some e does)
 delivered_moves logic s g e (Some a) is sees does = first_moves logic s g a e (first_from g a.sends) is sees does
 
 -- what is done to an open turn
-abbrev ClosingMoves : Logic → Sight → Grain → ℕ → Effect → Type 0
+abbrev ClosingMoves : Logic → Context → Grain → ℕ → Effect → Type 0
 ClosingMoves logic s g turn e = Moves logic (Some g) s nothing_asked e (ClosesTurn turn s.entry (entry_after s e))
 
-turn_moves : (logic : Logic) (s : Sight) (g : Grain) (turn : ℕ) (does : Entry → Request → Option Effect) (e : Effect) → SeesFair logic (Some g) s.entry → option_and_then (at_turn does turn) s.entry ≡ Some e
+turn_moves : (logic : Logic) (s : Context) (g : Grain) (turn : ℕ) (does : Entry → Request → Option Effect) (e : Effect) → SeesFair logic (Some g) s.entry → option_and_then (at_turn does turn) s.entry ≡ Some e
     → ((x : Entry) (q : Request) → s.entry ≡ Some x → IsFairEntry logic g x → map.get x.turns turn ≡ Some q → does x q ≡ Some e → ClosingMoves logic s g turn e) → ClosingMoves logic s g turn e
 turn_moves logic s g turn does e sees is moves =
     let found = bound (at_turn does turn) s.entry e is in
     let open_turn = bound (does found.0) (map.get found.0.turns turn) e found.2 in
     moves found.0 open_turn.0 found.1 (sees found.0 found.1).0 open_turn.1 open_turn.2
 
-pub effect_moves : (logic : Logic) → ReadersAskNothing logic → (s : Sight) (step : Step) (e : Effect) → SeesFair logic (grain_of s.account step) s.entry → effect_of logic s step ≡ Some e → StepMoves logic s step e
+pub effect_moves : (logic : Logic) → ReadersAskNothing logic → (s : Context) (step : Step) (e : Effect) → SeesFair logic (grain_of s.account step) s.entry → effect_of logic s step ≡ Some e → StepMoves logic s step e
 unfolding effect_of
 effect_moves logic law s (Refuse caller id code) e sees does = subst (StepMoves logic s (Refuse caller id code)) (same_Some _ e does) (told_moves logic None s (party.Client caller id) keep _)
 effect_moves logic law s (Call caller id g call) e sees does = subst (StepMoves logic s (Call caller id g call)) (same_Some _ e does) (called_moves logic s (party.Client caller id) g call sees)
@@ -163,17 +163,17 @@ pub record MachineMoves (logic : Logic) (m : Machine) (s : Step) (new : Machine)
   pub fair : IsFairMachine logic new
   pub balance : (w : Party → ℕ) → Quiet w → replied w new.replies + pend (sent w) new.entries ≡ replied w m.replies + pend (sent w) m.entries + asked_by w s
 
-pub sees_fair : (logic : Logic) (m : Machine) (grain : Option Grain) → IsFairMachine logic m → SeesFair logic grain (sight_at m grain).entry
-unfolding sight_at
+pub sees_fair : (logic : Logic) (m : Machine) (grain : Option Grain) → IsFairMachine logic m → SeesFair logic grain (context_at m grain).entry
+unfolding context_at
 sees_fair logic m None fair e found = absurd (none-some e found)
 sees_fair logic m (Some g) fair e found = (fair.each g e found, front_is_new logic (count_of m.account) m.entries g e fair found)
 
-sees_account : (m : Machine) (grain : Option Grain) → (sight_at m grain).account ≡ m.account
-unfolding sight_at
+sees_account : (m : Machine) (grain : Option Grain) → (context_at m grain).account ≡ m.account
+unfolding context_at
 sees_account m grain = refl
 
-applied_moves : (logic : Logic) (m : Machine) (s : Step) (grain : Option Grain) (e : Effect) (turns_move : Type 0) → IsFairMachine logic m → Moves logic grain (sight_at m grain) (λ w. asked_by w s) e turns_move → MachineMoves logic m s (applied m grain e)
-unfolding sight_at applied
+applied_moves : (logic : Logic) (m : Machine) (s : Step) (grain : Option Grain) (e : Effect) (turns_move : Type 0) → IsFairMachine logic m → Moves logic grain (context_at m grain) (λ w. asked_by w s) e turns_move → MachineMoves logic m s (applied m grain e)
+unfolding context_at applied
 applied_moves logic m s grain e turns_move fair moves = record {
   fair = changed_fair logic m.entries grain e.entry (count_of m.account) (count_of (change_option m.account e.account)) moves.placed moves.numbers fair moves.left;
   balance = λ w quiet. omega (arith, sum_by-append (λ (r : Reply). w r.recipient) m.replies e.replies, total-changed (held (sent w)) m.entries grain e.entry moves.placed, moves.balance w quiet);
@@ -227,18 +227,18 @@ shared_moves logic m new _ fair h = absurd (none-some new h)
 -- ---- every step
 
 module _ (logic : Logic) (law : ReadersAskNothing logic) (m new : Machine) (s : Step) (fair : IsFairMachine logic m) where
-  by_effect : (grain : Option Grain) → grain_of m.account s ≡ grain → (r : Option Effect) → effect_of logic (sight_at m grain) s ≡ r → option_map (applied m grain) r ≡ Some new → MachineMoves logic m s new
+  by_effect : (grain : Option Grain) → grain_of m.account s ≡ grain → (r : Option Effect) → effect_of logic (context_at m grain) s ≡ r → option_map (applied m grain) r ≡ Some new → MachineMoves logic m s new
   by_effect grain place None does h = absurd (none-some new h)
   by_effect grain place (Some e) does h =
-      let at_place : Option Grain → Type 0 = λ p. Moves logic p (sight_at m grain) (λ w. asked_by w s) e (TurnsMove logic s (sight_at m grain).entry (entry_after (sight_at m grain) e)) in
-      let seen : grain_of (sight_at m grain).account s ≡ grain = ap (λ a. grain_of a s) (sees_account m grain) ∙ place in
+      let at_place : Option Grain → Type 0 = λ p. Moves logic p (context_at m grain) (λ w. asked_by w s) e (TurnsMove logic s (context_at m grain).entry (entry_after (context_at m grain) e)) in
+      let seen : grain_of (context_at m grain).account s ≡ grain = ap (λ a. grain_of a s) (sees_account m grain) ∙ place in
       subst (MachineMoves logic m s) (same_Some (applied m grain e) new h)
       (applied_moves logic m s grain e _ fair
-      (subst at_place seen (effect_moves logic law (sight_at m grain) s e (subst (λ p. SeesFair logic p (sight_at m grain).entry) (sym seen) (sees_fair logic m grain fair)) does)))
+      (subst at_place seen (effect_moves logic law (context_at m grain) s e (subst (λ p. SeesFair logic p (context_at m grain).entry) (sym seen) (sees_fair logic m grain fair)) does)))
 
   by_owner : (o : Option (List ℕ)) → step_by logic m s o ≡ Some new → MachineMoves logic m s new
   by_owner None h = shared_moves logic m new s fair h
-  by_owner (Some owner) h = by_effect (grain_of m.account s) refl (effect_of logic (sight_at m (grain_of m.account s)) s) refl h
+  by_owner (Some owner) h = by_effect (grain_of m.account s) refl (effect_of logic (context_at m (grain_of m.account s)) s) refl h
 
   pub machine_moves : machine_step logic m s ≡ Some new → MachineMoves logic m s new
   unfolding machine_step

@@ -7,11 +7,11 @@ use Rattle.tenant_gate.specs.declared.fault.GateFault.TheVariants as refusal
 use Rattle.tenant_gate.specs.Table.{Table, limits_of, call_fault}
 use Rattle.grain_kinds.specs.Logic.{Logic}
 use Rattle.silo_model.specs.Machine.{Account}
-use Rattle.silo_model.specs.Effect.{Sight}
+use Rattle.silo_model.specs.Effect.{Context}
 use Rattle.silo_model.specs.Gates.{AnswersAsTable, GateIsTables}
 use Rattle.silo_model.proofs.CallRule.{gate_unknown_tenant, gate_across, gate_by}
 
-module _ (logic : Logic) (table : Table) (s : Sight) (grain : Grain) where
+module _ (logic : Logic) (table : Table) (s : Context) (grain : Grain) where
   by_table : (known : Bool) → is_some (limits_of table s.tenant) ≡ known → (own : Bool) → same_text s.tenant grain.tenant ≡ own
       → AnswersAsTable logic s grain (if not known then Some (refusal.Unknown s.tenant) else if own then None else Some (refusal.Across s.tenant grain.tenant))
       → AnswersAsTable logic s grain (call_fault table s.tenant grain)

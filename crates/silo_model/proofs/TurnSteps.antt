@@ -12,12 +12,12 @@ use Rattle.silo_event.specs.declared.fault.Fault.TheVariants.{StorageFailed, Sta
 use Rattle.silo_event.specs.declared.step.Step.TheVariants.{Store, End, Abandon}
 use Rattle.grain_kinds.specs.Logic.{Logic, Plan, Outgoing, StorageCall, asks_nothing, reads_row, writes_row, clears_row}
 use Rattle.silo_model.specs.Machine.{Entry, Request, waiting, loading, ready}
-use Rattle.silo_model.specs.Effect.{Sight, Effect, Change, keep, change_at}
-use Rattle.silo_model.specs.Calls.{answered}
+use Rattle.silo_model.specs.Effect.{Context, Effect, Change, keep, change_at}
+use Rattle.silo_model.specs.Calls.{reply_to}
 use Rattle.silo_model.specs.Turns.{plan_of, closed, with_sends, outcome_of, ended_by, ended, ends_activation, row_changed, stored_by, stored, abandoned}
 use Rattle.silo_model.specs.Step.{at_turn, effect_of}
 use Rattle.silo_model.specs.Whole.{Whole, spread, whole_step}
-use Rattle.silo_model.proofs.Sights.{sight_of, step_at_own}
+use Rattle.silo_model.proofs.Contexts.{context_of, step_at_own}
 use Rattle.silo_model.proofs.EntrySteps.{at_entry}
 
 never : {A B : Type 0} (f : A → Option B) (o : Option A) → ((x : A) → f x ≡ None) → option_and_then f o ≡ None
@@ -29,8 +29,8 @@ abbrev pub closed_turn : Whole → Entry → Request → Tree → Option ℕ →
 closed_turn w e request state version = record e { phase = ready state version; turns = map.remove e.turns request.number; last = w.clock }
 
 -- what the whole has at the grain, as a step there sees it
-abbrev pub seen_at : Whole → Grain → Sight
-seen_at w g = sight_of w g.tenant g
+abbrev pub seen_at : Whole → Grain → Context
+seen_at w g = context_of w g.tenant g
 
 module _ (logic : Logic) (w : Whole) (g : Grain) (turn : ℕ) where
   abbrev ending : Entry → Request → Option Effect
@@ -93,12 +93,12 @@ module _ (logic : Logic) (w : Whole) (g : Grain) (turn : ℕ) where
 
     module _ (request : Request) (open_turn : map.get e.turns turn ≡ Some request) where
       spread-abandoned : spread w g.tenant (Some g) (abandoned (seen_at w g) e request)
-          ≡ record w { entries = map.insert w.entries g (record e { turns = map.remove e.turns request.number; last = w.clock }); replies = w.replies ++ answered request.sender (Err NoMemory) }
+          ≡ record w { entries = map.insert w.entries g (record e { turns = map.remove e.turns request.number; last = w.clock }); replies = w.replies ++ reply_to request.sender (Err NoMemory) }
       unfolding spread
       spread-abandoned = refl
 
       pub abandon_turn : whole_step logic w (Abandon g turn)
-          ≡ Some (record w { entries = map.insert w.entries g (record e { turns = map.remove e.turns request.number; last = w.clock }); replies = w.replies ++ answered request.sender (Err NoMemory) })
+          ≡ Some (record w { entries = map.insert w.entries g (record e { turns = map.remove e.turns request.number; last = w.clock }); replies = w.replies ++ reply_to request.sender (Err NoMemory) })
       abandon_turn = abandon_found (Some (abandoned (seen_at w g) e request)) (ap (option_and_then (abandoning e)) open_turn) ∙ ap Some spread-abandoned
 
       module _ (state : Tree) (version : Option ℕ) (is : e.phase ≡ ready state version) (plan : Plan) (planned : plan_of logic g state request ≡ plan) where
@@ -127,7 +127,7 @@ module _ (logic : Logic) (w : Whole) (g : Grain) (turn : ℕ) where
         ended_whole sends = record w {
           accounts = change_at w.accounts g.tenant (with_sends g (map.get w.accounts g.tenant) sends);
           entries = map.insert w.entries g (closed_turn w e request plan.state version);
-          replies = w.replies ++ answered request.sender (outcome_of plan.outcome);
+          replies = w.replies ++ reply_to request.sender (outcome_of plan.outcome);
         }
 
         spread-ended : spread w g.tenant (Some g) (record (closed (seen_at w g) e request plan.state version keep (outcome_of plan.outcome)) { account = with_sends g (map.get w.accounts g.tenant) plan.sends }) ≡ ended_whole plan.sends
@@ -139,13 +139,13 @@ module _ (logic : Logic) (w : Whole) (g : Grain) (turn : ℕ) where
             → whole_step logic w (End g turn) ≡ Some (record w {
               accounts = change_at w.accounts g.tenant (with_sends g (map.get w.accounts g.tenant) plan.sends);
               entries = map.insert w.entries g (closed_turn w e request plan.state version);
-              replies = w.replies ++ answered request.sender (outcome_of plan.outcome);
+              replies = w.replies ++ reply_to request.sender (outcome_of plan.outcome);
             })
         end_turn asks = end_planned asks_nothing (Some (record (closed (seen_at w g) e request plan.state version keep (outcome_of plan.outcome)) { account = with_sends g (map.get w.accounts g.tenant) plan.sends })) asks refl ∙ ap Some spread-ended
 
         -- a plan that sends nothing leaves the account
         pub end_silent_turn : plan.storage ≡ asks_nothing → plan.sends ≡ []
-            → whole_step logic w (End g turn) ≡ Some (record w { entries = map.insert w.entries g (closed_turn w e request plan.state version); replies = w.replies ++ answered request.sender (outcome_of plan.outcome) })
+            → whole_step logic w (End g turn) ≡ Some (record w { entries = map.insert w.entries g (closed_turn w e request plan.state version); replies = w.replies ++ reply_to request.sender (outcome_of plan.outcome) })
         end_silent_turn asks silent = end_turn asks ∙ ap (λ sends. Some (ended_whole sends)) silent
 
         -- ---- Store
@@ -172,19 +172,19 @@ module _ (logic : Logic) (w : Whole) (g : Grain) (turn : ℕ) where
             → whole_step logic w (Store g turn false) ≡ Some (spread w g.tenant (Some g) answer)
         store_done storage answer asks h = store_planned false storage (Some answer) asks h
 
-        spread-failed : spread w g.tenant (Some g) (closed (seen_at w g) e request state version keep (Err StorageFailed)) ≡ record w { entries = map.insert w.entries g (closed_turn w e request state version); replies = w.replies ++ answered request.sender (Err StorageFailed) }
+        spread-failed : spread w g.tenant (Some g) (closed (seen_at w g) e request state version keep (Err StorageFailed)) ≡ record w { entries = map.insert w.entries g (closed_turn w e request state version); replies = w.replies ++ reply_to request.sender (Err StorageFailed) }
         unfolding spread
         spread-failed = refl
 
         -- the storage failed
         pub store_failed : (storage : StorageCall) (answer : Effect) → plan.storage ≡ storage → stored_by logic (seen_at w g) g e request state version storage ≡ Some answer
-            → whole_step logic w (Store g turn true) ≡ Some (record w { entries = map.insert w.entries g (closed_turn w e request state version); replies = w.replies ++ answered request.sender (Err StorageFailed) })
+            → whole_step logic w (Store g turn true) ≡ Some (record w { entries = map.insert w.entries g (closed_turn w e request state version); replies = w.replies ++ reply_to request.sender (Err StorageFailed) })
         store_failed storage answer asks h = store_planned true storage (Some answer) asks h ∙ ap Some spread-failed
 
         -- ---- what the storage may answer
 
         spread-closed : (new : Tree) (at : Option ℕ) (row : Change Row) (outcome : Result Tree Fault) → spread w g.tenant (Some g) (closed (seen_at w g) e request new at row outcome)
-            ≡ record w { entries = map.insert w.entries g (closed_turn w e request new at); rows = change_at w.rows g row; replies = w.replies ++ answered request.sender outcome }
+            ≡ record w { entries = map.insert w.entries g (closed_turn w e request new at); rows = change_at w.rows g row; replies = w.replies ++ reply_to request.sender outcome }
         unfolding spread
         spread-closed new at row outcome = refl
 
@@ -192,7 +192,7 @@ module _ (logic : Logic) (w : Whole) (g : Grain) (turn : ℕ) where
         pub store_read : plan.storage ≡ reads_row
             → whole_step logic w (Store g turn false) ≡ Some (record w {
               entries = map.insert w.entries g (closed_turn w e request (content_or (logic.empty g.kind) (map.get w.rows g)) (version_of (map.get w.rows g)));
-              replies = w.replies ++ answered request.sender (Ok (version_value (version_of (map.get w.rows g))));
+              replies = w.replies ++ reply_to request.sender (Ok (version_value (version_of (map.get w.rows g))));
             })
         store_read asks = store_done reads_row _ asks refl ∙ ap Some (spread-closed (content_or (logic.empty g.kind) (map.get w.rows g)) (version_of (map.get w.rows g)) keep _)
 
@@ -207,21 +207,21 @@ module _ (logic : Logic) (w : Whole) (g : Grain) (turn : ℕ) where
               → whole_step logic w (Store g turn false) ≡ Some (record w {
                 entries = map.insert w.entries g (closed_turn w e request new at);
                 rows = change_at w.rows g row;
-                replies = w.replies ++ answered request.sender (Ok (version_value at));
+                replies = w.replies ++ reply_to request.sender (Ok (version_value at));
               })
           store_changed at row is = by_answer (Ok (at, row)) is ∙ ap Some (spread-closed new at row (Ok (version_value at)))
 
           -- it has no version left
           pub store_spent : r ≡ Err spent
-              → whole_step logic w (Store g turn false) ≡ Some (record w { entries = map.insert w.entries g (closed_turn w e request state version); replies = w.replies ++ answered request.sender (Err (VersionsSpent g)) })
+              → whole_step logic w (Store g turn false) ≡ Some (record w { entries = map.insert w.entries g (closed_turn w e request state version); replies = w.replies ++ reply_to request.sender (Err (VersionsSpent g)) })
           store_spent is = by_answer (Err spent) is ∙ ap Some (spread-closed state version keep (Err (VersionsSpent g)))
 
           spread-ended_activation : (there : Option ℕ) → spread w g.tenant (Some g) (row_changed (seen_at w g) g e request state version new (Err (stale there)))
-              ≡ record w { entries = change_at w.entries g (ends_activation e request e.queue); replies = w.replies ++ answered request.sender (Err (StateChanged g)) }
+              ≡ record w { entries = change_at w.entries g (ends_activation e request e.queue); replies = w.replies ++ reply_to request.sender (Err (StateChanged g)) }
           unfolding spread
           spread-ended_activation there = refl
 
           -- it isn't the one that the entry stands on: the activation ends
           pub store_stale : (there : Option ℕ) → r ≡ Err (stale there)
-              → whole_step logic w (Store g turn false) ≡ Some (record w { entries = change_at w.entries g (ends_activation e request e.queue); replies = w.replies ++ answered request.sender (Err (StateChanged g)) })
+              → whole_step logic w (Store g turn false) ≡ Some (record w { entries = change_at w.entries g (ends_activation e request e.queue); replies = w.replies ++ reply_to request.sender (Err (StateChanged g)) })
           store_stale there is = by_answer (Err (stale there)) is ∙ ap Some (spread-ended_activation there)

@@ -12,7 +12,7 @@ use Rattle.silo_event.specs.declared.step.Step.TheVariants.{Begin, Tick, Sweep}
 use Rattle.grain_kinds.specs.Logic.{Logic}
 use Rattle.grain_kinds.specs.Laws.{ReadersAskNothing}
 use Rattle.silo_model.specs.Machine.{Entry, Request}
-use Rattle.silo_model.specs.Effect.{Effect, Change, keep, put, drop, change_option, changed_at, sight_at}
+use Rattle.silo_model.specs.Effect.{Effect, Change, keep, put, drop, change_option, changed_at, context_at}
 use Rattle.silo_model.specs.Idle.{is_kept, kept_entries}
 use Rattle.silo_model.specs.Step.{grain_of}
 use Rattle.silo_model.specs.Whole.{Whole, shown_to, spread, whole_swept, whole_shared_step, whole_step}
@@ -20,7 +20,7 @@ use Rattle.silo_model.proofs.Changes.{WhereChanged, get-change_same, get-change_
 use Rattle.silo_model.proofs.Counts.{get-none}
 use Rattle.silo_model.proofs.Moves.{turn_in, KeepsTurns, ClosesTurn, OpensTurn, TurnsMove, SeesFair}
 use Rattle.silo_model.proofs.StepMoves.{IsFairMachine, sees_fair, effect_moves, due_is_bare}
-use Rattle.silo_model.proofs.Sights.{get-own}
+use Rattle.silo_model.proofs.Contexts.{get-own}
 use Rattle.silo_model.proofs.SharedSteps.{get-kept}
 use Rattle.silo_model.proofs.Sound.{IsSound}
 use Rattle.silo_model.proofs.Proper.{IsAt}
@@ -31,14 +31,14 @@ AllFair logic w = (tenant : List ℕ) → IsFairMachine logic (shown_to tenant w
 
 -- what the owner sees at the place
 abbrev seen_in : Whole → List ℕ → Option Grain → Option Entry
-seen_in w owner place = (sight_at (shown_to owner w) place).entry
+seen_in w owner place = (context_at (shown_to owner w) place).entry
 
 seen_own : (w : Whole) (owner : List ℕ) (g : Grain) → g.tenant ≡ owner → seen_in w owner (Some g) ≡ map.get w.entries g
-unfolding sight_at shown_to
+unfolding context_at shown_to
 seen_own w owner g own = get-own w.entries owner g own
 
-seen_account : (w : Whole) (owner : List ℕ) (place : Option Grain) → (sight_at (shown_to owner w) place).account ≡ map.get w.accounts owner
-unfolding sight_at shown_to
+seen_account : (w : Whole) (owner : List ℕ) (place : Option Grain) → (context_at (shown_to owner w) place).account ≡ map.get w.accounts owner
+unfolding context_at shown_to
 seen_account w owner place = refl
 
 -- an entry stays, or is the one that the step's owner saw, and changes as that does
@@ -97,7 +97,7 @@ module _ (logic : Logic) (law : ReadersAskNothing logic) (w after : Whole) (s : 
 
     moves : TurnsMove logic s (seen_in w owner place) (change_option (seen_in w owner place) done.what.entry)
     moves =
-        let sight = sight_at (shown_to owner w) place in
+        let sight = context_at (shown_to owner w) place in
         let seen = sees_fair logic (shown_to owner w) place (fair owner) in
         (effect_moves logic law sight s done.what (subst (λ a. SeesFair logic (grain_of a s) sight.entry) (sym (seen_account w owner place)) seen) done.does).turns
 

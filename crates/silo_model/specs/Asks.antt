@@ -1,7 +1,7 @@
 -- What a client asks beside calls: a line that is refused, a poke of a row, and the status of its tenant.
 use Rattle.std.specs.Prelude.{ℕ, Bool, Option, Some, None, Result, Ok, Err, pos, codes, if◌then◌else◌}
 use Rattle.grain_id.specs.Names.{Grain}
-use Rattle.request_codec.specs.Tree.{Tree, whole, field, no_fields}
+use Rattle.request_codec.specs.Tree.{Tree, integer, field, no_fields}
 use Rattle.request_codec.specs.Tree as tree
 use Rattle.grain_storage.specs.declared.row.Row.{Row}
 use Rattle.grain_storage.specs.Rows.{RowFault, stale, spent}
@@ -12,7 +12,7 @@ use Rattle.silo_event.specs.declared.refusal.Refusal.{Refusal}
 use Rattle.silo_event.specs.declared.reply.Party.{Party}
 use Rattle.grain_kinds.specs.Logic.{Logic}
 use Rattle.silo_model.specs.Machine.{Account}
-use Rattle.silo_model.specs.Effect.{Sight, Effect, Change, keep, only_replies}
+use Rattle.silo_model.specs.Effect.{Context, Effect, Change, keep, only_replies}
 use Rattle.silo_model.specs.Calls.{told, gate}
 use Rattle.silo_model.specs.Stores.{row_poked, version_value}
 
@@ -29,20 +29,20 @@ row_told asker grain (Err (stale found)) = only_replies (told asker (Err (StateC
 row_told asker grain (Err spent) = only_replies (told asker (Err (VersionsSpent grain)))
 
 -- a poke that passed the gate
-abbrev pub poke_settled : Sight → Party → Grain → Tree → Bool → Result Account Fault → Effect
+abbrev pub poke_settled : Context → Party → Grain → Tree → Bool → Result Account Fault → Effect
 poke_settled s asker grain state failed (Ok account) = if failed then only_replies (told asker (Err StorageFailed)) else row_told asker grain (row_poked s.row state)
 poke_settled s asker grain state failed (Err why) = only_replies (told asker (Err why))
 
-unfoldable pub poked : Logic → Sight → Party → Grain → Tree → Bool → Effect
+unfoldable pub poked : Logic → Context → Party → Grain → Tree → Bool → Effect
 poked logic s asker grain state failed = poke_settled s asker grain state failed (gate logic s s.account grain)
 
 -- ---- status
 
 -- how many entries there are, the clock, and how many requests were accepted
-abbrev pub status_of : Sight → Account → Tree
-status_of s account = tree.map (field (codes "activations") (whole (pos s.active))
-    (field (codes "clock") (whole (pos s.clock)) (field (codes "requests") (whole (pos account.count)) no_fields)))
+abbrev pub status_of : Context → Account → Tree
+status_of s account = tree.map (field (codes "activations") (integer (pos s.active))
+    (field (codes "clock") (integer (pos s.clock)) (field (codes "requests") (integer (pos account.count)) no_fields)))
 
-abbrev pub status_told : Sight → Party → Option Account → Effect
+abbrev pub status_told : Context → Party → Option Account → Effect
 status_told s asker None = only_replies (told asker (Err (UnknownTenant s.tenant)))
 status_told s asker (Some account) = only_replies (told asker (Ok (status_of s account)))

@@ -11,16 +11,16 @@ use Rattle.silo_event.specs.declared.reply.Party.{Party}
 use Rattle.silo_event.specs.declared.reply.Party.TheVariants as party
 use Rattle.grain_kinds.specs.Logic.{Logic}
 use Rattle.silo_model.specs.Machine.{Account, Entry, Request, waiting}
-use Rattle.silo_model.specs.Effect.{Sight, Effect, keep, put, only_replies}
+use Rattle.silo_model.specs.Effect.{Context, Effect, keep, put, only_replies}
 
 -- one reply
 abbrev pub told : Party → Result Tree Fault → List Reply
 told recipient outcome = record { recipient = recipient; outcome = outcome } ∷ []
 
 -- the reply to a request: a client is told, and a grain gets no answer to what it asked
-abbrev pub answered : Party → Result Tree Fault → List Reply
-answered (party.Client client id) outcome = told (party.Client client id) outcome
-answered (party.Grain grain) outcome = []
+abbrev pub reply_to : Party → Result Tree Fault → List Reply
+reply_to (party.Client client id) outcome = told (party.Client client id) outcome
+reply_to (party.Grain grain) outcome = []
 
 -- ---- the gate: for calls and for pokes
 
@@ -29,7 +29,7 @@ abbrev pub kind_gate : Logic → Account → Grain → Result Account Fault
 kind_gate logic account grain = if logic.knows grain.kind then Ok account else Err (UnknownKind grain.kind)
 
 -- the tenant is known, and the grain is the tenant's own
-abbrev pub gate : Logic → Sight → Option Account → Grain → Result Account Fault
+abbrev pub gate : Logic → Context → Option Account → Grain → Result Account Fault
 gate logic s None grain = Err (UnknownTenant s.tenant)
 gate logic s (Some account) grain = if same_text grain.tenant s.tenant then kind_gate logic account grain else Err (AcrossTenants s.tenant grain.tenant)
 
@@ -40,12 +40,12 @@ abbrev pub last_number : ℕ
 last_number = 9223372036854775807
 
 -- there is room in the grain's mailbox, or for one more entry of the tenant
-abbrev pub room : Sight → Account → Grain → Option Entry → Result Account Fault
+abbrev pub room : Context → Account → Grain → Option Entry → Result Account Fault
 room s account grain None = if nat_lt s.active account.limits.activations then Ok account else Err (NoActivation s.tenant)
 room s account grain (Some e) = if nat_lt (length e.queue) account.limits.mailbox then Ok account else Err (MailboxFull grain)
 
 -- there is a number left, and room
-abbrev pub admitted : Sight → Grain → Result Account Fault → Result Account Fault
+abbrev pub admitted : Context → Grain → Result Account Fault → Result Account Fault
 admitted s grain (Ok account) = if account.count == last_number then Err (NoNumber s.tenant) else room s account grain s.entry
 admitted s grain (Err why) = Err why
 
@@ -55,7 +55,7 @@ with_request clock request None = record { phase = waiting; queue = request ∷ 
 with_request clock request (Some e) = record e { queue = e.queue ++ request ∷ []; last = clock }
 
 -- the request is numbered and waits last
-abbrev pub accepted : Sight → Party → Call → Account → Effect
+abbrev pub accepted : Context → Party → Call → Account → Effect
 accepted s sender call account = record {
   account = put (record account { count = account.count + 1 });
   entry = put (with_request s.clock (record { number = account.count + 1; sender = sender; call = call }) s.entry);
@@ -64,9 +64,9 @@ accepted s sender call account = record {
 }
 
 -- a refused request is a reply to its sender
-abbrev pub call_settled : Sight → Party → Call → Result Account Fault → Effect
+abbrev pub call_settled : Context → Party → Call → Result Account Fault → Effect
 call_settled s sender call (Ok account) = accepted s sender call account
 call_settled s sender call (Err why) = only_replies (told sender (Err why))
 
-unfoldable pub called : Logic → Sight → Party → Grain → Call → Effect
+unfoldable pub called : Logic → Context → Party → Grain → Call → Effect
 called logic s sender grain call = call_settled s sender call (admitted s grain (gate logic s s.account grain))

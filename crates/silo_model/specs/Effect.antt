@@ -9,7 +9,7 @@ use Rattle.silo_event.specs.declared.reply.Reply.{Reply}
 use Rattle.silo_model.specs.Machine.{Machine, Account, Entry}
 
 -- what a step sees: the owner's account, the clock, how many entries the owner has, and the entry and the row of the step's grain
-pub record Sight : Type 0 where
+pub record Context : Type 0 where
   pub tenant : List ℕ
   pub account : Option Account
   pub clock : ℕ
@@ -58,8 +58,8 @@ changed_at m None c = m
 changed_at m (Some k) c = change_at m k c
 
 -- what the machine lets a step at the grain see
-unfoldable pub sight_at : Machine → Option Grain → Sight
-sight_at m grain = record { tenant = m.tenant; account = m.account; clock = m.clock; active = map.len m.entries; entry = found_at m.entries grain; row = found_at m.rows grain }
+unfoldable pub context_at : Machine → Option Grain → Context
+context_at m grain = record { tenant = m.tenant; account = m.account; clock = m.clock; active = map.len m.entries; entry = found_at m.entries grain; row = found_at m.rows grain }
 
 -- the machine after the effect at the grain
 unfoldable pub applied : Machine → Option Grain → Effect → Machine

@@ -2,7 +2,7 @@
 use Rattle.std.specs.Prelude.{◌≡◌, ℕ, List, [], ◌∷◌, Some, None, Ok, true, false, ℤ, codes, ◌<◌}
 use Rattle.std.specs.FinMap as finite
 use Rattle.grain_id.specs.Names.{Grain, Client}
-use Rattle.request_codec.specs.Tree.{whole, field, no_fields, map}
+use Rattle.request_codec.specs.Tree.{integer, field, no_fields, map}
 use Rattle.request_codec.specs.Call as codec
 use Rattle.request_codec.specs.Call.{asks}
 use Rattle.grain_kinds.specs.Counter.{fits_64}
@@ -19,7 +19,7 @@ use Rattle.silo_model.specs.Journal.{LeadsTo}
 
 -- `add` of `{"by": n}`
 abbrev pub add_call : ℤ → codec.Call
-add_call n = asks (codes "add") (map (field (codes "by") (whole n) no_fields))
+add_call n = asks (codes "add") (map (field (codes "by") (integer n) no_fields))
 
 -- the call, and then the steps that answer it
 abbrev pub first_call : Client → ℕ → Grain → ℤ → List Step
@@ -29,4 +29,4 @@ first_call caller id grain n = Call caller id grain (add_call n) ∷ Activate gr
 abbrev pub FirstCallAnswered : Type 0
 FirstCallAnswered = (setup : Setup) (limits : Limits) (caller : Client) (id : ℕ) (grain : Grain) (n : ℤ)
     → limits_of setup.tenants caller.tenant ≡ Some limits → 0 < limits.activations → grain.tenant ≡ caller.tenant → grain.kind ≡ codes "counter" → finite.get setup.rows grain ≡ None → fits_64 n ≡ true
-    → (w : Whole) × LeadsTo counters setup (first_call caller id grain n) w × (w.replies ≡ told (party.Client caller id) (Ok (whole n)))
+    → (w : Whole) × LeadsTo counters setup (first_call caller id grain n) w × (w.replies ≡ told (party.Client caller id) (Ok (integer n)))

@@ -16,8 +16,8 @@ pub record AnsweredAlone (logic : Logic) (tenant : List ℕ) (w : Whole) (steps 
   pub part : shown_to tenant (whole_run logic w (marked steps answers)) ≡ machine_run logic (shown_to tenant w) (marked (restricted_to tenant steps) (answers_to tenant steps answers))
 
 -- From where a journal leads, whatever the answers that the whole gives to a list, each tenant's are its own machine's.
-abbrev pub AnsweredInParts : Type 0
-AnsweredInParts = (logic : Logic) (setup : Setup) (journal : List Step) (w : Whole) (tenant : List ℕ) (steps : List Step) (answers : List Answer)
+abbrev pub StepAnswersInParts : Type 0
+StepAnswersInParts = (logic : Logic) (setup : Setup) (journal : List Step) (w : Whole) (tenant : List ℕ) (steps : List Step) (answers : List Answer)
     → LeadsTo logic setup journal w → AreAnswers logic w steps answers → AnsweredAlone logic tenant w steps answers
 
 -- So it is if no storage call fails: then each answer is told by the steps.

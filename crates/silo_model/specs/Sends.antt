@@ -4,7 +4,7 @@ use Rattle.grain_id.specs.Names.{Grain, grain_eq}
 use Rattle.silo_event.specs.declared.reply.Party.TheVariants as party
 use Rattle.grain_kinds.specs.Logic.{Logic}
 use Rattle.silo_model.specs.Machine.{Account, Send}
-use Rattle.silo_model.specs.Effect.{Sight, Effect, Change, keep, put, drop}
+use Rattle.silo_model.specs.Effect.{Context, Effect, Change, keep, put, drop}
 use Rattle.silo_model.specs.Calls.{called}
 
 -- the first that the grain sent, and the others in order
@@ -27,10 +27,10 @@ abbrev pub on_account : Account → Effect → Effect
 on_account account e = record e { account = put_or account e.account }
 
 -- it is taken out of what was sent, and asked of its target as any call is: in the name of the grain, which is told if it is refused
-abbrev pub delivered_to : Logic → Sight → Grain → Account → Send × List Send → Effect
+abbrev pub delivered_to : Logic → Context → Grain → Account → Send × List Send → Effect
 delivered_to logic s grain account found =
     let rest = record account { sends = found.1 } in
     on_account rest (called logic (record s { account = Some rest }) (party.Grain grain) found.0.message.target found.0.message.call)
 
-abbrev pub delivered : Logic → Sight → Grain → Account → Option Effect
+abbrev pub delivered : Logic → Context → Grain → Account → Option Effect
 delivered logic s grain account = option_map (delivered_to logic s grain account) (first_from grain account.sends)

@@ -8,11 +8,11 @@ use Rattle.silo_event.specs.declared.step.Step.TheVariants.{Refuse, Call, Poke, 
 use Rattle.silo_event.specs.declared.reply.Party.TheVariants as party
 use Rattle.grain_kinds.specs.Logic.{Logic}
 use Rattle.silo_model.specs.Machine.{Machine, Account, Entry, Request}
-use Rattle.silo_model.specs.Effect.{Sight, Effect, sight_at, applied}
+use Rattle.silo_model.specs.Effect.{Context, Effect, context_at, applied}
 use Rattle.silo_model.specs.Calls.{called}
 use Rattle.silo_model.specs.Asks.{refused, poked, status_told}
 use Rattle.silo_model.specs.Sends.{first_target, delivered}
-use Rattle.silo_model.specs.Turns.{activated, loaded, begun, stored, ended, abandoned}
+use Rattle.silo_model.specs.Turns.{activated, loaded, opened_if_ready, stored, ended, abandoned}
 use Rattle.silo_model.specs.Idle.{kept_entries}
 
 -- ---- a step of a tenant
@@ -38,7 +38,7 @@ abbrev pub at_turn : (Entry → Request → Option Effect) → ℕ → Entry →
 at_turn does turn e = option_and_then (does e) (finite.get e.turns turn)
 
 -- what a step of a tenant does, if it is possible
-unfoldable pub effect_of : Logic → Sight → Step → Option Effect
+unfoldable pub effect_of : Logic → Context → Step → Option Effect
 effect_of logic s (Refuse caller id code) = Some (refused (party.Client caller id) code)
 effect_of logic s (Call caller id grain message) = Some (called logic s (party.Client caller id) grain message)
 effect_of logic s (Poke caller id grain state failed) = Some (poked logic s (party.Client caller id) grain state failed)
@@ -46,7 +46,7 @@ effect_of logic s (Status caller id) = Some (status_told s (party.Client caller 
 effect_of logic s (Deliver grain) = option_and_then (delivered logic s grain) s.account
 effect_of logic s (Activate grain) = option_and_then (λ e. activated e e.phase) s.entry
 effect_of logic s (Load grain failed) = option_and_then (λ e. loaded logic s grain failed e e.phase) s.entry
-effect_of logic s (Begin grain) = option_and_then (λ e. begun logic grain e e.phase) s.entry
+effect_of logic s (Begin grain) = option_and_then (λ e. opened_if_ready logic grain e e.phase) s.entry
 effect_of logic s (Store grain turn failed) = option_and_then (at_turn (λ e request. stored logic s grain failed e request e.phase) turn) s.entry
 effect_of logic s (End grain turn) = option_and_then (at_turn (λ e request. ended logic s grain e request e.phase) turn) s.entry
 effect_of logic s (Abandon grain turn) = option_and_then (at_turn (λ e request. Some (abandoned s e request)) turn) s.entry
@@ -55,7 +55,7 @@ effect_of logic s Sweep = None
 
 -- the step looks where it is taken, and does there what it does
 abbrev pub owned_step : Logic → Machine → Step → Option Grain → Option Machine
-owned_step logic m s grain = option_map (applied m grain) (effect_of logic (sight_at m grain) s)
+owned_step logic m s grain = option_map (applied m grain) (effect_of logic (context_at m grain) s)
 
 -- ---- a step of nobody
 

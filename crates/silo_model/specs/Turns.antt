@@ -12,8 +12,8 @@ use Rattle.grain_kinds.specs.declared.fault.MethodFault.{MethodFault}
 use Rattle.grain_kinds.specs.Logic.{Logic, Plan, Outgoing, StorageCall, asks_nothing, reads_row, writes_row, clears_row}
 use Rattle.silo_model.specs.Methods.{method_fault}
 use Rattle.silo_model.specs.Machine.{Account, Entry, Request, Send, Phase, waiting, loading, ready}
-use Rattle.silo_model.specs.Effect.{Sight, Effect, Change, keep, put, drop, on_entry}
-use Rattle.silo_model.specs.Calls.{answered}
+use Rattle.silo_model.specs.Effect.{Context, Effect, Change, keep, put, drop, on_entry}
+use Rattle.silo_model.specs.Calls.{reply_to}
 use Rattle.silo_model.specs.Stores.{row_written, row_cleared, version_value}
 
 -- ---- activating and loading
@@ -26,10 +26,10 @@ activated e (ready state version) = None
 
 -- each request that waits, in order, is told that the storage failed, and the entry goes
 abbrev pub unloaded : Entry → Effect
-unloaded e = record { account = keep; entry = drop; row = keep; replies = flat_map (λ q. answered q.sender (Err StorageFailed)) e.queue }
+unloaded e = record { account = keep; entry = drop; row = keep; replies = flat_map (λ q. reply_to q.sender (Err StorageFailed)) e.queue }
 
 -- an entry that loads gets the row's content, or the kind's empty state, and stands on the row's version
-abbrev pub loaded : Logic → Sight → Grain → Bool → Entry → Phase → Option Effect
+abbrev pub loaded : Logic → Context → Grain → Bool → Entry → Phase → Option Effect
 loaded logic s grain failed e waiting = None
 loaded logic s grain failed e loading = Some (if failed then unloaded e else on_entry (record e { phase = ready (content_or (logic.empty grain.kind) s.row) (version_of s.row) }))
 loaded logic s grain failed e (ready state version) = None
@@ -50,10 +50,10 @@ opened logic grain e [] = None
 opened logic grain e (first ∷ others) =
     if may_open logic grain e first then Some (on_entry (record e { queue = others; turns = finite.insert e.turns first.number first })) else None
 
-abbrev pub begun : Logic → Grain → Entry → Phase → Option Effect
-begun logic grain e waiting = None
-begun logic grain e loading = None
-begun logic grain e (ready state version) = opened logic grain e e.queue
+abbrev pub opened_if_ready : Logic → Grain → Entry → Phase → Option Effect
+opened_if_ready logic grain e waiting = None
+opened_if_ready logic grain e loading = None
+opened_if_ready logic grain e (ready state version) = opened logic grain e e.queue
 
 -- ---- closing a turn
 
@@ -66,12 +66,12 @@ abbrev pub without_turn : Entry → Request → Entry
 without_turn e request = record e { turns = finite.remove e.turns request.number }
 
 -- The turn is closed, and its request answered. The entry stays ready with this state, and stands on this version.
-abbrev pub closed : Sight → Entry → Request → Tree → Option ℕ → Change Row → Result Tree Fault → Effect
+abbrev pub closed : Context → Entry → Request → Tree → Option ℕ → Change Row → Result Tree Fault → Effect
 closed s e request state version row outcome = record {
   account = keep;
   entry = put (record (without_turn e request) { phase = ready state version; last = s.clock });
   row = row;
-  replies = answered request.sender outcome;
+  replies = reply_to request.sender outcome;
 }
 
 -- ---- a turn that asks nothing of the storage ends by its plan
@@ -91,14 +91,14 @@ outcome_of (Ok v) = Ok v
 outcome_of (Err why) = Err (method_fault why)
 
 -- the plan's state stands, its sends go out, and its outcome is the reply
-abbrev pub ended_by : Sight → Grain → Entry → Request → Option ℕ → Plan → StorageCall → Option Effect
+abbrev pub ended_by : Context → Grain → Entry → Request → Option ℕ → Plan → StorageCall → Option Effect
 ended_by s grain e request version plan asks_nothing =
     Some (record (closed s e request plan.state version keep (outcome_of plan.outcome)) { account = with_sends grain s.account plan.sends })
 ended_by s grain e request version plan reads_row = None
 ended_by s grain e request version plan writes_row = None
 ended_by s grain e request version plan clears_row = None
 
-abbrev pub ended : Logic → Sight → Grain → Entry → Request → Phase → Option Effect
+abbrev pub ended : Logic → Context → Grain → Entry → Request → Phase → Option Effect
 ended logic s grain e request waiting = None
 ended logic s grain e request loading = None
 ended logic s grain e request (ready state version) =
@@ -113,18 +113,18 @@ ends_activation e request [] = drop
 ends_activation e request (first ∷ others) = put (record (without_turn e request) { phase = waiting })
 
 -- what a change of the row answered: if it was done, the entry has the new state and stands on the row's version
-abbrev pub row_changed : Sight → Grain → Entry → Request → Tree → Option ℕ → Tree → Result (Option ℕ × Change Row) RowFault → Effect
+abbrev pub row_changed : Context → Grain → Entry → Request → Tree → Option ℕ → Tree → Result (Option ℕ × Change Row) RowFault → Effect
 row_changed s grain e request state version new (Ok done) = closed s e request new done.0 done.1 (Ok (version_value done.0))
 row_changed s grain e request state version new (Err (stale found)) = record {
   account = keep;
   entry = ends_activation e request e.queue;
   row = keep;
-  replies = answered request.sender (Err (StateChanged grain));
+  replies = reply_to request.sender (Err (StateChanged grain));
 }
 row_changed s grain e request state version new (Err spent) = closed s e request state version keep (Err (VersionsSpent grain))
 
 -- what the storage is asked for, at the row that the step sees
-abbrev pub stored_by : Logic → Sight → Grain → Entry → Request → Tree → Option ℕ → StorageCall → Option Effect
+abbrev pub stored_by : Logic → Context → Grain → Entry → Request → Tree → Option ℕ → StorageCall → Option Effect
 stored_by logic s grain e request state version asks_nothing = None
 stored_by logic s grain e request state version reads_row =
     Some (closed s e request (content_or (logic.empty grain.kind) s.row) (version_of s.row) keep (Ok (version_value (version_of s.row))))
@@ -132,7 +132,7 @@ stored_by logic s grain e request state version writes_row = Some (row_changed s
 stored_by logic s grain e request state version clears_row = Some (row_changed s grain e request state version (logic.empty grain.kind) (row_cleared version s.row))
 
 -- if the storage failed, the entry stays as it is but for the turn
-abbrev pub stored : Logic → Sight → Grain → Bool → Entry → Request → Phase → Option Effect
+abbrev pub stored : Logic → Context → Grain → Bool → Entry → Request → Phase → Option Effect
 stored logic s grain failed e request waiting = None
 stored logic s grain failed e request loading = None
 stored logic s grain failed e request (ready state version) =
@@ -141,10 +141,10 @@ stored logic s grain failed e request (ready state version) =
 
 -- ---- a turn that ran out of memory
 
-abbrev pub abandoned : Sight → Entry → Request → Effect
+abbrev pub abandoned : Context → Entry → Request → Effect
 abandoned s e request = record {
   account = keep;
   entry = put (record (without_turn e request) { last = s.clock });
   row = keep;
-  replies = answered request.sender (Err NoMemory);
+  replies = reply_to request.sender (Err NoMemory);
 }

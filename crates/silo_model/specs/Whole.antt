@@ -10,7 +10,7 @@ use Rattle.silo_event.specs.declared.step.Step.{Step}
 use Rattle.silo_event.specs.declared.step.Step.TheVariants.{Tick, Sweep}
 use Rattle.grain_kinds.specs.Logic.{Logic}
 use Rattle.silo_model.specs.Machine.{Machine, Account, Entries}
-use Rattle.silo_model.specs.Effect.{Effect, change_at, changed_at, sight_at}
+use Rattle.silo_model.specs.Effect.{Effect, change_at, changed_at, context_at}
 use Rattle.silo_model.specs.Idle.{kept_entries}
 use Rattle.silo_model.specs.Step.{grain_of, effect_of}
 
@@ -52,7 +52,7 @@ spread w tenant grain e = record w {
 
 -- the step's owner looks at its own part alone, and what it does there is done to the whole
 abbrev pub whole_owned_step : Logic → Whole → Step → List ℕ → Option Grain → Option Whole
-whole_owned_step logic w s owner grain = option_map (spread w owner grain) (effect_of logic (sight_at (shown_to owner w) grain) s)
+whole_owned_step logic w s owner grain = option_map (spread w owner grain) (effect_of logic (context_at (shown_to owner w) grain) s)
 
 -- a step of nobody is taken in every part
 abbrev pub whole_ticked : Whole → ℕ → Option Whole

@@ -6,7 +6,7 @@ ghost use Rattle.silo_model.specs.Exclusive.{JournalsAreExclusive, RunsAreExclus
 ghost use Rattle.silo_model.specs.FirstCall.{FirstCallAnswered};
 ghost use Rattle.silo_model.specs.Gates.{GateIsTables};
 ghost use Rattle.silo_model.specs.Laws.{FailingIsPossible, ReplayIsRun, AgreeingLists, OwnPart, OtherParts, NotNow, RunsOn, JournalsReplay, JournalsGrow, PartsLead};
-ghost use Rattle.silo_model.specs.Parts.{AnsweredInParts, RunsAnswer};
+ghost use Rattle.silo_model.specs.Parts.{StepAnswersInParts, RunsAnswer};
 ghost use Rattle.silo_model.specs.Readers.{ReadersTogether};
 ghost use Rattle.silo_model.specs.Replies.{RepliesInOrder};
 ghost use Rattle.silo_model.specs.Saved.{SavedComesBack};
@@ -51,7 +51,7 @@ pub fn runs_on()
 /// Whatever the answers that the whole gives to a list, those at a tenant's steps are its own
 /// machine's over these steps alone, which lead that machine to the tenant's part.
 pub fn answered_in_parts()
-    ensures { AnsweredInParts }
+    ensures { StepAnswersInParts }
 {}
 
 /// If no storage call fails, the answers are told by the steps: by the whole and by each tenant's

@@ -9,7 +9,7 @@ mutual
   pub Spells-ascend : (v : Tree) (bytes : List ℕ) → Spells v bytes → MapsAscend v
   Spells-ascend tree.null bytes h = tt
   Spells-ascend (tree.truth b) bytes h = tt
-  Spells-ascend (tree.whole i) bytes h = tt
+  Spells-ascend (tree.integer i) bytes h = tt
   Spells-ascend (tree.text s) bytes h = tt
   Spells-ascend (tree.list vs) bytes (rest, few, each, is) = SpellEach-ascend vs rest each
   Spells-ascend (tree.map fs) bytes (rest, few, each, is) = SpellFields-ascend fs rest each

@@ -1,4 +1,4 @@
-pub mod Answered
+pub mod PartAnswers
 pub mod Ascends
 pub mod Levels
-pub mod Placed
+pub mod FieldPlaces

@@ -17,7 +17,7 @@ abbrev mutual
   pub MapsAscend : Tree → Type 0
   MapsAscend tree.null = Unit {0}
   MapsAscend (tree.truth b) = Unit {0}
-  MapsAscend (tree.whole i) = Unit {0}
+  MapsAscend (tree.integer i) = Unit {0}
   MapsAscend (tree.text s) = Unit {0}
   MapsAscend (tree.list vs) = MembersAscend vs
   MapsAscend (tree.map fs) = FieldsAscend fs

@@ -4,7 +4,7 @@ ghost use Rattle.std.specs.Prelude.{IsTrue, IsUtf8, FitsSigned};
 ghost use Rattle.std.specs.Int.{w64};
 ghost use Rattle.request_codec.specs.Formed.{TestsDepth, TestDepths, TestFieldDepths};
 ghost use Rattle.turn_arena.specs.Ascending.{MapsAscend, MembersAscend, FieldsAscend};
-ghost use Rattle.turn_arena.specs.Shape.{shape, shapes, field_shapes};
+ghost use Rattle.turn_arena.specs.NodeValue.{node_value, node_values, field_values};
 
 use crate::node::{Field, Node};
 
@@ -27,8 +27,8 @@ fn is_text(_text: &str) -> bool
 /// Whether the value is no deeper than the limit. It looks no deeper than that.
 #[cycle(depth)]
 pub fn is_within(node: Node<'_>, limit: u8) -> bool
-    requires { MapsAscend (shape node) }
-    ensures { TestsDepth result limit (shape node.entry) }
+    requires { MapsAscend (node_value node) }
+    ensures { TestsDepth result limit (node_value node.entry) }
 {
     if limit == 0 {
         return false;
@@ -45,8 +45,8 @@ pub fn is_within(node: Node<'_>, limit: u8) -> bool
 
 #[cycle(depth)]
 fn are_within(nodes: &[Node<'_>], limit: u8) -> bool
-    requires { MembersAscend (shapes nodes.now) }
-    ensures { TestDepths result limit (shapes nodes.now) }
+    requires { MembersAscend (node_values nodes.now) }
+    ensures { TestDepths result limit (node_values nodes.now) }
 {
     'nodes: for node in nodes {
         if !is_within(*node, limit) {
@@ -58,8 +58,8 @@ fn are_within(nodes: &[Node<'_>], limit: u8) -> bool
 
 #[cycle(depth)]
 fn fields_within(fields: &[Field<'_>], limit: u8) -> bool
-    requires { FieldsAscend (field_shapes fields.now) }
-    ensures { TestFieldDepths result limit (field_shapes fields.now) }
+    requires { FieldsAscend (field_values fields.now) }
+    ensures { TestFieldDepths result limit (field_values fields.now) }
 {
     'fields: for field in fields {
         let Field { name, node } = *field;

@@ -3,7 +3,7 @@
 ghost use Rattle.std.specs.Prelude.{◌≡◌, ◌++◌, ◌∷◌, ◌≤◌, length, take, drop, IfOk, IfErr};
 ghost use Rattle.turn_arena.specs.Ascending.{NamesAscend};
 ghost use Rattle.turn_arena.specs.Fields.{field_put, field_dropped, put_field, dropped_field, IsPlaceOf, IsGapFor};
-ghost use Rattle.turn_arena.specs.Shape.{shape, field_shapes};
+ghost use Rattle.turn_arena.specs.NodeValue.{node_value, field_values};
 
 use crate::node::{Field, Node};
 use bumpalo::Bump;
@@ -19,7 +19,7 @@ pub fn put_in<'a>(
 ) -> Result<&'a [Field<'a>], AllocError>
     requires { NamesAscend members.now }
     ensures exact { IfOk result (λ r. r.now ≡ put_field (record { name = name.entry; node = node.entry }) members.now) }
-    ensures value { IfOk result (λ r. field_shapes r.now ≡ field_put name.now (shape node.entry) (field_shapes members.now)) }
+    ensures value { IfOk result (λ r. field_values r.now ≡ field_put name.now (node_value node.entry) (field_values members.now)) }
     ensures ascends { IfOk result (λ r. NamesAscend r.now) }
 {
     let field = [Field { name, node }];
@@ -37,7 +37,7 @@ pub fn drop_in<'a>(
 ) -> Result<&'a [Field<'a>], AllocError>
     requires { NamesAscend members.now }
     ensures exact { IfOk result (λ r. r.now ≡ dropped_field name.now members.now) }
-    ensures value { IfOk result (λ r. field_shapes r.now ≡ field_dropped name.now (field_shapes members.now)) }
+    ensures value { IfOk result (λ r. field_values r.now ≡ field_dropped name.now (field_values members.now)) }
     ensures ascends { IfOk result (λ r. NamesAscend r.now) }
 {
     match place_of(members, name) {

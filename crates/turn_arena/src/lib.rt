@@ -2,7 +2,7 @@
 //!
 //! A layer above may rely on this: a `Node` shows the value that `specs/Shape.antt` gives of it; reading
 //! answers a tree exactly where something spells the bytes, and the names of each of its maps ascend
-//! strictly; the tree operations copy nodes and no tree; writing gives the spelling of the shape.
+//! strictly; the tree operations copy nodes and no tree; writing gives the spelling of the value.
 //! What spells a value is in `request_codec`.
 #![tactic(auto)]
 

@@ -3,7 +3,7 @@
 ghost use Rattle.std.specs.Prelude.{None};
 ghost use Rattle.request_codec.specs.Reading.{value_at, members_at, fields_at};
 ghost use Rattle.turn_arena.specs.Answers.{ReadsIn};
-ghost use Rattle.turn_arena.specs.Shape.{shape, shapes, field_shapes};
+ghost use Rattle.turn_arena.specs.NodeValue.{node_value, node_values, field_values};
 
 use crate::fault::ArenaFault;
 use crate::node::{Field, Node};
@@ -18,7 +18,7 @@ pub fn node_at<'a, 'b>(
     bytes: &'b [u8],
     limit: u8,
 ) -> Result<(Node<'a>, &'b [u8]), ArenaFault>
-    ensures { ReadsIn (λ x. (shape x.0, x.1.now)) result (value_at limit bytes.now) }
+    ensures { ReadsIn (λ x. (node_value x.0, x.1.now)) result (value_at limit bytes.now) }
 {
     if limit == 0 {
         return Err(ArenaFault::NotAMessage);
@@ -49,7 +49,7 @@ fn nodes_at<'a, 'b>(
     count: u32,
     limit: u8,
 ) -> Result<(&'a [Node<'a>], &'b [u8]), ArenaFault>
-    ensures { ReadsIn (λ x. (shapes x.0.now, x.1.now)) result
+    ensures { ReadsIn (λ x. (node_values x.0.now, x.1.now)) result
         (members_at (value_at limit) count bytes.now) }
 {
     let mut items = Vec::new(bump);
@@ -69,7 +69,7 @@ fn fields_in<'a, 'b>(
     count: u32,
     limit: u8,
 ) -> Result<(&'a [Field<'a>], &'b [u8]), ArenaFault>
-    ensures { ReadsIn (λ x. (field_shapes x.0.now, x.1.now)) result
+    ensures { ReadsIn (λ x. (field_values x.0.now, x.1.now)) result
         (fields_at (value_at limit) count None bytes.now) }
 {
     let mut fields = Vec::new(bump);

@@ -2,7 +2,7 @@
 
 ghost use Rattle.std.specs.Prelude.{◌<◌, ◌≤◌, ◌^◌, length};
 ghost use Rattle.request_codec.specs.Written.{Puts, spelling, members_spelling, fields_spelling};
-ghost use Rattle.turn_arena.specs.Shape.{shape, shapes, field_shapes};
+ghost use Rattle.turn_arena.specs.NodeValue.{node_value, node_values, field_values};
 
 use crate::node::{Field, Node};
 use request_codec::CodecFault;
@@ -13,7 +13,7 @@ use request_codec::bytes::{Start, counted, put_start, put_text};
 pub fn put_node(out: &mut Vec<u8>, limit: usize, node: Node<'_>) -> Result<(), CodecFault>
     requires room { length out.old.items ≤ limit }
     requires small { limit < 2 ^ 32 }
-    ensures { Puts limit out.old.items out.new.items result (spelling (shape node.entry)) }
+    ensures { Puts limit out.old.items out.new.items result (spelling (node_value node.entry)) }
 {
     match node {
         Node::Null => put_start(out, limit, Start::Null),
@@ -37,7 +37,7 @@ pub fn put_node(out: &mut Vec<u8>, limit: usize, node: Node<'_>) -> Result<(), C
 fn put_nodes(out: &mut Vec<u8>, limit: usize, nodes: &[Node<'_>]) -> Result<(), CodecFault>
     requires room { length out.old.items ≤ limit }
     requires small { limit < 2 ^ 32 }
-    ensures { Puts limit out.old.items out.new.items result (members_spelling (shapes nodes.now)) }
+    ensures { Puts limit out.old.items out.new.items result (members_spelling (node_values nodes.now)) }
 {
     'nodes: for node in nodes {
         put_node(out, limit, *node)?;
@@ -49,7 +49,7 @@ fn put_nodes(out: &mut Vec<u8>, limit: usize, nodes: &[Node<'_>]) -> Result<(), 
 fn put_fields(out: &mut Vec<u8>, limit: usize, fields: &[Field<'_>]) -> Result<(), CodecFault>
     requires room { length out.old.items ≤ limit }
     requires small { limit < 2 ^ 32 }
-    ensures { Puts limit out.old.items out.new.items result (fields_spelling (field_shapes fields.now)) }
+    ensures { Puts limit out.old.items out.new.items result (fields_spelling (field_values fields.now)) }
 {
     'fields: for field in fields {
         let Field { name, node } = *field;

@@ -8,7 +8,7 @@ ghost use Rattle.request_codec.specs.Reading.{value_at, if_ended};
 ghost use Rattle.request_codec.specs.Call.{message_call, state_value, behind_version, asks};
 ghost use Rattle.turn_arena.specs.Answers.{ReadsIn};
 ghost use Rattle.turn_arena.specs.Ascending.{MapsAscend};
-ghost use Rattle.turn_arena.specs.Shape.{shape};
+ghost use Rattle.turn_arena.specs.NodeValue.{node_value};
 ghost use Rattle.turn_arena.specs.declared.fault.ArenaFault.TheVariants as faults;
 
 use crate::fault::ArenaFault;
@@ -20,7 +20,7 @@ use request_codec::limits::{MAX_DEPTH, MAX_MESSAGE_BYTES, MAX_STATE_BYTES};
 
 /// The one value that all of the bytes spell.
 fn whole_node<'a>(bump: &'a Bump, bytes: &[u8]) -> Result<Node<'a>, ArenaFault>
-    ensures { ReadsIn shape result (if_ended (value_at depth_limit bytes.now)) }
+    ensures { ReadsIn node_value result (if_ended (value_at depth_limit bytes.now)) }
 {
     let (node, rest) = node_at(bump, bytes, MAX_DEPTH)?;
     match rest {
@@ -31,7 +31,7 @@ fn whole_node<'a>(bump: &'a Bump, bytes: &[u8]) -> Result<Node<'a>, ArenaFault>
 
 /// The method and the argument behind the first byte of a message.
 fn call_in<'a>(bump: &'a Bump, bytes: &[u8]) -> Result<(&'a str, Node<'a>), ArenaFault>
-    ensures { ReadsIn (λ found. asks found.0.now (shape found.1)) result (behind_version bytes.now) }
+    ensures { ReadsIn (λ found. asks found.0.now (node_value found.1)) result (behind_version bytes.now) }
 {
     let [1, behind @ ..] = bytes else {
         return Err(ArenaFault::NotAMessage);
@@ -48,9 +48,9 @@ fn call_in<'a>(bump: &'a Bump, bytes: &[u8]) -> Result<(&'a str, Node<'a>), Aren
 /// `Memory` where the arena can't grow.
 #[tactic(auto, unfolding(request_codec::specs::Call::message_call))]
 pub fn decode_in<'a>(bump: &'a Bump, bytes: &[u8]) -> Result<(&'a str, Node<'a>), ArenaFault>
-    ensures reads { ReadsIn (λ found. asks found.0.now (shape found.1)) result (message_call bytes.now) }
-    ensures spelled { IfOk result (λ found. SpellsMessage found.0.now (shape found.1) bytes.now) }
-    ensures ascend { IfOk result (λ found. MapsAscend (shape found.1)) }
+    ensures reads { ReadsIn (λ found. asks found.0.now (node_value found.1)) result (message_call bytes.now) }
+    ensures spelled { IfOk result (λ found. SpellsMessage found.0.now (node_value found.1) bytes.now) }
+    ensures ascend { IfOk result (λ found. MapsAscend (node_value found.1)) }
     ensures none { result ≡ Err faults.NotAMessage → (method : List ℕ) → (v : Tree) → SpellsMessage method v bytes.now → ⊥ }
 {
     if bytes.len() > MAX_MESSAGE_BYTES {
@@ -63,9 +63,9 @@ pub fn decode_in<'a>(bump: &'a Bump, bytes: &[u8]) -> Result<(&'a str, Node<'a>)
 /// value is no deeper than 32. `NotAMessage` where the bytes spell no state, `Memory` where the arena can't grow.
 #[tactic(auto, unfolding(request_codec::specs::Call::state_value))]
 pub fn node_in<'a>(bump: &'a Bump, bytes: &[u8]) -> Result<Node<'a>, ArenaFault>
-    ensures reads { ReadsIn shape result (state_value bytes.now) }
-    ensures spelled { IfOk result (λ found. SpellsState (shape found) bytes.now) }
-    ensures ascend { IfOk result (λ found. MapsAscend (shape found)) }
+    ensures reads { ReadsIn node_value result (state_value bytes.now) }
+    ensures spelled { IfOk result (λ found. SpellsState (node_value found) bytes.now) }
+    ensures ascend { IfOk result (λ found. MapsAscend (node_value found)) }
     ensures none { result ≡ Err faults.NotAMessage → (v : Tree) → SpellsState v bytes.now → ⊥ }
 {
     if bytes.len() > MAX_STATE_BYTES {

@@ -9,7 +9,7 @@ use std::alloc::AllocError;
 use std::test::Fail;
 
 /// The field alone.
-#[tactic(auto, using(crate::proofs::Placed::none_ascend))]
+#[tactic(auto, using(crate::proofs::FieldPlaces::none_ascend))]
 fn alone<'a>(bump: &'a Bump, name: &'a str, node: Node<'a>) -> Result<&'a [Field<'a>], AllocError>
     ensures { IfOk result (λ r. NamesAscend r.now) }
 {

@@ -6,7 +6,7 @@ ghost use Rattle.request_codec.specs.Call.{asks};
 ghost use Rattle.request_codec.specs.Limits.{message_limit, state_limit};
 ghost use Rattle.request_codec.specs.Written.{WritesAll, text_spelling, spelling};
 ghost use Rattle.turn_arena.specs.Ascending.{MapsAscend};
-ghost use Rattle.turn_arena.specs.Shape.{shape};
+ghost use Rattle.turn_arena.specs.NodeValue.{node_value};
 
 use crate::depth::is_within;
 use crate::node::Node;
@@ -20,7 +20,7 @@ use std::alloc::Global;
 
 /// The bytes of a message of the method and its argument.
 fn message_bytes(alloc: Global, method: &str, argument: Node<'_>) -> Result<Vec<u8>, CodecFault>
-    ensures { WritesAll message_limit result (1 ∷ (text_spelling method.now ++ spelling (shape argument.entry))) }
+    ensures { WritesAll message_limit result (1 ∷ (text_spelling method.now ++ spelling (node_value argument.entry))) }
 {
     let mut out = Vec::with_capacity(alloc, MESSAGE_ROOM)?;
     put(&mut out, MAX_MESSAGE_BYTES, &[1])?;
@@ -31,7 +31,7 @@ fn message_bytes(alloc: Global, method: &str, argument: Node<'_>) -> Result<Vec<
 
 /// The bytes of a state of the value.
 fn state_bytes(alloc: Global, value: Node<'_>) -> Result<Vec<u8>, CodecFault>
-    ensures { WritesAll state_limit result (spelling (shape value.entry)) }
+    ensures { WritesAll state_limit result (spelling (node_value value.entry)) }
 {
     let mut out = Vec::with_capacity(alloc, STATE_ROOM)?;
     put_node(&mut out, MAX_STATE_BYTES, value)?;
@@ -40,9 +40,9 @@ fn state_bytes(alloc: Global, value: Node<'_>) -> Result<Vec<u8>, CodecFault>
 
 /// The message of a method and its argument. `TooDeep` comes before `TooLong`.
 pub fn encode_call(alloc: Global, method: &str, argument: Node<'_>) -> Result<Message, CodecFault>
-    requires { MapsAscend (shape argument) }
-    ensures { Writes result (asks method.now (shape argument.entry)) (shape argument.entry)
-        (message_length method.now (shape argument.entry)) message_limit }
+    requires { MapsAscend (node_value argument) }
+    ensures { Writes result (asks method.now (node_value argument.entry)) (node_value argument.entry)
+        (message_length method.now (node_value argument.entry)) message_limit }
 {
     if !is_within(argument, MAX_DEPTH) {
         return Err(CodecFault::TooDeep);
@@ -52,8 +52,8 @@ pub fn encode_call(alloc: Global, method: &str, argument: Node<'_>) -> Result<Me
 
 /// The state of a value. `TooDeep` comes before `TooLong`.
 pub fn encode_node(alloc: Global, node: Node<'_>) -> Result<StateBytes, CodecFault>
-    requires { MapsAscend (shape node) }
-    ensures { Writes result (shape node.entry) (shape node.entry) (spelled_length (shape node.entry)) state_limit }
+    requires { MapsAscend (node_value node) }
+    ensures { Writes result (node_value node.entry) (node_value node.entry) (spelled_length (node_value node.entry)) state_limit }
 {
     if !is_within(node, MAX_DEPTH) {
         return Err(CodecFault::TooDeep);

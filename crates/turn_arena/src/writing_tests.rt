@@ -2,7 +2,7 @@
 
 ghost use Rattle.std.specs.Prelude.{IfOk};
 ghost use Rattle.turn_arena.specs.Ascending.{MapsAscend};
-ghost use Rattle.turn_arena.specs.Shape.{shape};
+ghost use Rattle.turn_arena.specs.NodeValue.{node_value};
 
 use super::*;
 use bumpalo::Bump;
@@ -12,7 +12,7 @@ use std::test::Fail;
 
 /// The fault of writing the value inside that many lists.
 fn fault_inside(alloc: Global, node: Node<'_>, lists: u8) -> Option<CodecFault>
-    requires { MapsAscend (shape node) }
+    requires { MapsAscend (node_value node) }
 {
     if lists == 0 {
         return encode_node(alloc, node).err();
@@ -36,9 +36,9 @@ fn writes_a_list(rt: HostRuntime) -> Result<(), Fail> {
 }
 
 /// A map of the field `a` with null.
-#[tactic(auto, using(crate::proofs::Placed::one_ascends))]
+#[tactic(auto, using(crate::proofs::FieldPlaces::one_ascends))]
 fn null_named_a<'a>(bump: &'a Bump) -> Result<Node<'a>, AllocError>
-    ensures { IfOk result (λ n. MapsAscend (shape n)) }
+    ensures { IfOk result (λ n. MapsAscend (node_value n)) }
 {
     let fields = [Field {
         name: "a",

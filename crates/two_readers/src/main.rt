@@ -5,7 +5,7 @@
 #![tactic(auto)]
 
 ghost use Rattle.std.specs.Prelude.{◌≡◌, IfOk};
-ghost use Rattle.line_protocol.specs.Said.{said_of};
+ghost use Rattle.line_protocol.specs.Meaning.{meaning_of};
 
 use line_protocol::{Line, LineRoom, read_any_line, read_line};
 use std::alloc::{AllocError, Global};
@@ -36,7 +36,7 @@ fn way_of(word: &str) -> Option<Way> {
 
 /// What a line says, read that way.
 fn read_by(way: Way, alloc: Global, room: &mut LineRoom, line: &[u8]) -> Result<Line, AllocError>
-    ensures { IfOk result (λ said. said ≡ said_of line.now) }
+    ensures { IfOk result (λ said. said ≡ meaning_of line.now) }
 {
     match way {
         Way::Quick => read_line(alloc, room, line),

@@ -4,7 +4,7 @@ ghost use Rattle.std.specs.Prelude.{◌≡◌, ◌≤◌, ◌+◌, ◌++◌, Ok,
 ghost use Rattle.std.specs.FinMap as map;
 ghost use Rattle.silo_event.specs.declared.fault.Fault.TheVariants.{StorageFailed};
 ghost use Rattle.silo_model.specs.Machine.{Entry};
-ghost use Rattle.silo_model.specs.Calls.{answered};
+ghost use Rattle.silo_model.specs.Calls.{reply_to};
 ghost use Rattle.silo_event.specs.declared.step.Step.TheVariants as step;
 ghost use Rattle.silo_body.specs.Moves.{Moves};
 
@@ -83,7 +83,7 @@ fn unload<L: GrainLogic>(
 )
     requires { (e : Entry) → map.get activations.old grain.now ≡ Some e → length e.queue + vec_len replies.old ≤ vec_capacity replies.old }
     ensures gone { activations.new ≡ map.remove activations.old grain.now }
-    ensures told { (e : Entry) → map.get activations.old grain.now ≡ Some e → replies.new.items ≡ replies.old.items ++ flat_map (λ q. answered q.sender (Err StorageFailed)) e.queue }
+    ensures told { (e : Entry) → map.get activations.old grain.now ≡ Some e → replies.new.items ≡ replies.old.items ++ flat_map (λ q. reply_to q.sender (Err StorageFailed)) e.queue }
 {
     let Some(activation) = activations.remove(grain) else {
         return;

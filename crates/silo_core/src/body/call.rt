@@ -3,7 +3,7 @@
 ghost use Rattle.std.specs.Prelude.{◌≡◌, ◌<◌, None, IfOk};
 ghost use Rattle.silo_event.specs.declared.step.Step.TheVariants as step;
 ghost use Rattle.grain_kinds.specs.Counters.{counters};
-ghost use Rattle.silo_core.specs.Moves.{Moves};
+ghost use Rattle.silo_core.specs.WholeMoves.{WholeMoves};
 ghost use Rattle.silo_core.specs.Refusals.{Refuses, active_after};
 
 use crate::account::Account;
@@ -28,7 +28,7 @@ impl Body {
         grain: &GrainId,
         message: &Message,
     ) -> Result<Answer, StepFault>
-        ensures { Moves counters self.old (step.Call caller.now id grain.now message.now) result self.new }
+        ensures { WholeMoves counters self.old (step.Call caller.now id grain.now message.now) result self.new }
     {
         let sender = Party::Client(caller.clone()?, id);
         let queued = self.directory.waiting(grain);

@@ -3,7 +3,7 @@
 ghost use Rattle.std.specs.Prelude.{◌≡◌, false, Ok};
 ghost use Rattle.silo_event.specs.declared.step.Step.TheVariants as step;
 ghost use Rattle.grain_kinds.specs.Counters.{counters};
-ghost use Rattle.silo_core.specs.Moves.{Moves};
+ghost use Rattle.silo_core.specs.WholeMoves.{WholeMoves};
 
 use crate::body::Body;
 use grain_id::GrainId;
@@ -13,7 +13,7 @@ use std::alloc::Global;
 impl Body {
     /// A grain's entry that waits begins to load.
     pub fn activate(&mut self, grain: &GrainId) -> Answer
-        ensures { Moves counters self.old (step.Activate grain.now) (Ok result) self.new }
+        ensures { WholeMoves counters self.old (step.Activate grain.now) (Ok result) self.new }
     {
         let Some(activation) = self.directory.get_mut(grain) else {
             return Answer::NotNow;
@@ -23,7 +23,7 @@ impl Body {
 
     /// A loading grain gets its state.
     pub fn load(&mut self, alloc: Global, grain: &GrainId) -> Result<Answer, StepFault>
-        ensures { Moves counters self.old (step.Load grain.now false) result self.new }
+        ensures { WholeMoves counters self.old (step.Load grain.now false) result self.new }
     {
         let Some(activation) = self.directory.get_mut(grain) else {
             return Ok(Answer::NotNow);

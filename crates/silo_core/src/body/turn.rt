@@ -2,10 +2,10 @@
 
 ghost use Rattle.std.specs.Prelude.{◌≡◌, ◌+◌, ◌≤◌, ◌<◌, ◌++◌, Ok, vec_len, vec_capacity};
 ghost use Rattle.silo_event.specs.declared.step.Step.TheVariants as step;
-ghost use Rattle.silo_model.specs.Calls.{answered};
+ghost use Rattle.silo_model.specs.Calls.{reply_to};
 ghost use Rattle.grain_kinds.specs.Counters.{counters};
-ghost use Rattle.silo_core.specs.Answers.{is_told};
-ghost use Rattle.silo_core.specs.Moves.{Moves};
+ghost use Rattle.silo_core.specs.EntryAnswers.{is_told};
+ghost use Rattle.silo_core.specs.WholeMoves.{WholeMoves};
 
 use crate::body::Body;
 use bumpalo::Bump;
@@ -16,7 +16,7 @@ use std::alloc::Global;
 impl Body {
     /// The first waiting request of a ready grain becomes its open turn.
     pub fn begin(&mut self, grain: &GrainId) -> Answer
-        ensures { Moves counters self.old (step.Begin grain.now) (Ok result) self.new }
+        ensures { WholeMoves counters self.old (step.Begin grain.now) (Ok result) self.new }
     {
         let Some(activation) = self.directory.get_mut(grain) else {
             return Answer::NotNow;
@@ -26,7 +26,7 @@ impl Body {
 
     /// The open turn of that number runs, in an arena of its own, and is closed.
     pub fn end(&mut self, alloc: Global, grain: &GrainId, turn: u64) -> Result<Answer, StepFault>
-        ensures { Moves counters self.old (step.End grain.now turn) result self.new }
+        ensures { WholeMoves counters self.old (step.End grain.now turn) result self.new }
     {
         self.replies.reserve(1)?;
         let Some(activation) = self.directory.get_mut(grain) else {
@@ -53,7 +53,7 @@ fn is_client(party: &Party) -> bool
 /// A client is told its reply, and a grain gets no answer to what it asked.
 fn tell(replies: &mut Vec<Reply>, reply: Reply)
     requires { vec_len replies.old < vec_capacity replies.old }
-    ensures { replies.new.items ≡ replies.old.items ++ answered reply.recipient reply.outcome }
+    ensures { replies.new.items ≡ replies.old.items ++ reply_to reply.recipient reply.outcome }
 {
     if is_client(&reply.recipient) {
         replies.push_reserved(reply);

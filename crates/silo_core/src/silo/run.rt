@@ -5,7 +5,7 @@ ghost use Rattle.silo_model.specs.Run.{whole_run, answers_by, done_by};
 ghost use Rattle.silo_model.specs.Whole.{shown_to};
 ghost use Rattle.grain_kinds.specs.Counters.{counters};
 ghost use Rattle.silo_core.specs.Built.{built, built_step, built_machine_step};
-ghost use Rattle.silo_core.specs.Runs.{AllConcern, RunsInParts, AnswersInParts, Takes};
+ghost use Rattle.silo_core.specs.Runs.{AllConcern, RunsInParts, RunAnswersInParts, Takes};
 
 use crate::silo::Silo;
 use silo_event::{Answer, Step};
@@ -33,7 +33,7 @@ impl Silo {
 
         // For every tenant, the run of a silo of its own.
         ensures parts { RunsInParts counters self.old.whole (take (vec_len result.answers) steps.items) self.new.whole }
-        ensures own_answers { AnswersInParts counters self.old.whole (take (vec_len result.answers) steps.items) result.answers.items }
+        ensures own_answers { RunAnswersInParts counters self.old.whole (take (vec_len result.answers) steps.items) result.answers.items }
         ensures alone { (tenant : List ℕ) → AllConcern tenant steps.items
             → result.answers.items ≡ answers_by (built_machine_step counters) (shown_to tenant self.old.whole) (take (vec_len result.answers) steps.items) }
     {

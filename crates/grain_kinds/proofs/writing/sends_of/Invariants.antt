@@ -1,7 +1,7 @@
 use Rattle.std.proofs.Common.{◌≡◌, map, ◌++◌}
 use Rattle.std.specs.List.{AllByRecursion}
 use Rattle.request_codec.specs.Call.{asks}
-use Rattle.turn_arena.specs.Shape.{shape}
+use Rattle.turn_arena.specs.NodeValue.{node_value}
 use Rattle.grain_kinds.specs.Finished.{sent}
 use Rattle.grain_kinds.specs.Laws.{FitsMessage}
 use Rattle.grain_kinds.specs.Planned.{send_shown}
@@ -10,4 +10,4 @@ use Rattle.grain_kinds.proofs.writing.sends_of.Given as goal
 abbrev pub invariant-sends : goal.invariant-sends
 invariant-sends l =
     (map sent l.written.items ++ map send_shown l.target-iterator.rest.items ≡ map send_shown l.fn.sends.items)
-    × AllByRecursion (λ send. FitsMessage (asks send.method.now (shape send.args))) l.target-iterator.rest.items
+    × AllByRecursion (λ send. FitsMessage (asks send.method.now (node_value send.args))) l.target-iterator.rest.items

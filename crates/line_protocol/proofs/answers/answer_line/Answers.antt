@@ -1,5 +1,5 @@
 use Rattle.std.proofs.Common.{sym, ap, ◌∙◌}
-use Rattle.line_protocol.specs.Said.{taken}
+use Rattle.line_protocol.specs.Meaning.{taken}
 use Rattle.line_protocol.proofs.BuiltForms.{step_built}
 use Rattle.line_protocol.proofs.answers.answer_line.Goals as goal
 

@@ -1,5 +1,5 @@
 use Rattle.std.proofs.Common.{◌≡◌, ◌++◌, string_bytes, take}
-use Rattle.line_protocol.specs.Out.{texts_of}
+use Rattle.line_protocol.specs.LineTexts.{texts_of}
 use Rattle.line_protocol.proofs.answers.push_replies.Given as goal
 
 abbrev pub invariant-loop-reply : goal.invariant-loop-reply

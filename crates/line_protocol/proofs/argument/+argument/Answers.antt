@@ -6,9 +6,9 @@ use Rattle.request_codec.specs.Written.{text_spelling, spelling}
 use Rattle.request_codec.specs.Tree as tree
 use Rattle.line_protocol.specs.Argument.{PutsValue}
 use Rattle.line_protocol.specs.Fields.{IsBehind}
-use Rattle.line_protocol.proofs.SoFar.{items_start, items_next, items_stop}
-use Rattle.line_protocol.proofs.FieldsSoFar.{begun, fields_start, behind_them, fields_next, fields_stop}
-use Rattle.line_protocol.proofs.Values.{put_null, put_bool, put_string, put_number, put_list, put_map}
+use Rattle.line_protocol.proofs.ItemsRead.{items_start, items_next, items_stop}
+use Rattle.line_protocol.proofs.FieldsRead.{begun, fields_start, behind_them, fields_next, fields_stop}
+use Rattle.line_protocol.proofs.PutValues.{put_null, put_bool, put_string, put_number, put_list, put_map}
 use Rattle.line_protocol.proofs.argument.+argument.Goals as goal
 
 pub put_items-items-init : goal.put_items-items-init
@@ -99,7 +99,7 @@ put_value-returns-in_ok-put_start-in-Number-clause-value t c =
     let first : c.args.reader.now ≡ token_of c.in_ok-token.token ∷ c.next.new.self = grind arith in
     let is = to_z-of_z c.in-Some.ensures.fits in
     put_number c.args.depth c.args.reader.now c.next.new.self c.args.out.now.items c.put_start-in-Number.new.out.items c.in-Number.text.now c.in-Some.number (omega arith) (first ∙ ap (λ k. token_of k ∷ c.next.new.self) c.in-Number.is) c.in-Some.ensures
-    (c.in_ok-put_start-in-Number.ensures.0 ∙ ap (λ i. c.args.out.now.items ++ spelling (tree.whole i)) is)
+    (c.in_ok-put_start-in-Number.ensures.0 ∙ ap (λ i. c.args.out.now.items ++ spelling (tree.integer i)) is)
 
 pub put_value-returns-in_ok-put_start-in-String-clause-value : goal.put_value-returns-in_ok-put_start-in-String-clause-value
 put_value-returns-in_ok-put_start-in-String-clause-value t c =

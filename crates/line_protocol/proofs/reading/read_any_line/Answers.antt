@@ -1,6 +1,6 @@
 use Rattle.std.proofs.Common.{sym, ap, ◌∙◌}
-use Rattle.line_protocol.specs.Said.{said_by}
-use Rattle.line_protocol.proofs.Said.{said_of_asked, said_of_long, said_of_empty}
+use Rattle.line_protocol.specs.Meaning.{meaning_by}
+use Rattle.line_protocol.proofs.Meaning.{said_of_asked, said_of_long, said_of_empty}
 use Rattle.line_protocol.proofs.reading.read_any_line.Goals as goal
 
 pub returns-then-is_empty : goal.returns-then-is_empty
@@ -11,8 +11,8 @@ returns-then-line-gt-LINE_LIMIT c = sym (said_of_long c.args.line.now c.if-line-
 
 pub returns-in-Some : goal.returns-in-Some
 returns-in-Some c =
-    ap said_by (sym c.in-Some.is ∙ c.in_ok-step.ensures) ∙ sym (said_of_asked c.args.line.now c.is_empty.ensures c.if-is_empty.false c.if-line-gt-LINE_LIMIT.false)
+    ap meaning_by (sym c.in-Some.is ∙ c.in_ok-step.ensures) ∙ sym (said_of_asked c.args.line.now c.is_empty.ensures c.if-is_empty.false c.if-line-gt-LINE_LIMIT.false)
 
 pub returns-in-None : goal.returns-in-None
 returns-in-None c =
-    ap said_by (sym c.in-None.is ∙ c.in_ok-step.ensures) ∙ sym (said_of_asked c.args.line.now c.is_empty.ensures c.if-is_empty.false c.if-line-gt-LINE_LIMIT.false)
+    ap meaning_by (sym c.in-None.is ∙ c.in_ok-step.ensures) ∙ sym (said_of_asked c.args.line.now c.is_empty.ensures c.if-is_empty.false c.if-line-gt-LINE_LIMIT.false)

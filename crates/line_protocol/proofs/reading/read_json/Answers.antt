@@ -1,6 +1,6 @@
 use Rattle.std.proofs.Common.{sym}
 use Rattle.serde_json.specs.View.{view}
-use Rattle.line_protocol.proofs.Said.{json_of_line_some}
+use Rattle.line_protocol.proofs.Meaning.{json_of_line_some}
 use Rattle.line_protocol.proofs.reading.read_json.Goals as goal
 
 pub returns-in-Ok : goal.returns-in-Ok

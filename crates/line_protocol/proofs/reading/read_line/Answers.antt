@@ -3,8 +3,8 @@ use Rattle.std.specs.Prelude.{option_and_then, IsUtf8}
 use Rattle.std.proofs.lemmas.Str.{is_utf8-from_IsUtf8}
 use Rattle.serde_json.specs.Read.{read}
 use Rattle.line_protocol.specs.Form.{step_of_json}
-use Rattle.line_protocol.specs.Said.{said_by}
-use Rattle.line_protocol.proofs.Said.{said_of_asked}
+use Rattle.line_protocol.specs.Meaning.{meaning_by}
+use Rattle.line_protocol.proofs.Meaning.{said_of_asked}
 use Rattle.line_protocol.proofs.reading.read_line.Goals as goal
 
 pub returns-in-Ok-read_text_step : goal.returns-in-Ok-read_text_step
@@ -14,4 +14,4 @@ returns-in-Ok-read_text_step c =
     let valid : IsUtf8 line = c.in-Ok.ensures.cases.1 in
     let json = ap (λ b. cond b (read line) None) (is_utf8-from_IsUtf8 line valid) in
     let said = ap (option_and_then step_of_json) (json ∙ ap read (sym same)) ∙ c.in-Ok-read_text_step.ensures in
-    ap said_by (sym said) ∙ sym (said_of_asked line c.is_empty.ensures c.if-is_empty.false c.if-line-gt-LINE_LIMIT.false)
+    ap meaning_by (sym said) ∙ sym (said_of_asked line c.is_empty.ensures c.if-is_empty.false c.if-line-gt-LINE_LIMIT.false)

@@ -1,7 +1,7 @@
 use Rattle.std.proofs.Common.{◌≡◌, [], Some, None, ap, ◌∙◌, arith}
 use Rattle.json.specs.Json.{read_key}
-use Rattle.line_protocol.proofs.Placed.{nothing_held}
-use Rattle.line_protocol.proofs.SoFar.{members_start, members_next, members_stop}
+use Rattle.line_protocol.proofs.MembersTaken.{nothing_held}
+use Rattle.line_protocol.proofs.ItemsRead.{members_start, members_next, members_stop}
 use Rattle.line_protocol.proofs.slots.read_slots.Goals as goal
 
 pub members-init : goal.members-init

@@ -1,11 +1,11 @@
 use Rattle.std.proofs.Common.{◌≡◌, ◌∷◌, length}
 use Rattle.json.specs.Token.{begin_object}
-use Rattle.line_protocol.proofs.SoFar.{MembersSoFar}
+use Rattle.line_protocol.proofs.ItemsRead.{MembersRead}
 use Rattle.line_protocol.proofs.slots.read_slots.Given as goal
 
 abbrev pub invariant-members : goal.invariant-members
 invariant-members l = record {
-  so_far : MembersSoFar l.initial.reader l.reader l.slots l.bytes.items;
+  so_far : MembersRead l.initial.reader l.reader l.slots l.bytes.items;
   first : l.fn.reader ≡ begin_object ∷ l.initial.reader;
 }
 

@@ -3,7 +3,7 @@ use Rattle.std.specs.Prelude.{option_map}
 use Rattle.line_protocol.specs.Slots.{a_text, a_number, a_truth, TakesMember}
 use Rattle.line_protocol.specs.declared.slots.Slots.{Slots}
 use Rattle.line_protocol.specs.declared.slots.Name.TheVariants as name
-use Rattle.line_protocol.proofs.Placed.{text_taken, natural_taken, truth_taken, args_taken, state_taken, neither}
+use Rattle.line_protocol.proofs.MembersTaken.{text_taken, natural_taken, truth_taken, args_taken, state_taken, neither}
 use Rattle.line_protocol.proofs.slots.take_member.Goals as goal
 
 pub returns-in_ok-take_text-in-Op : goal.returns-in_ok-take_text-in-Op

@@ -4,12 +4,12 @@ use Rattle.std.proofs.lemmas.List.{map_push}
 use Rattle.std.proofs.lemmas.Int.{to_z-of_z}
 use mir.Val.{to_z, of_z}
 use mir.Syntax.{w64}
-use Rattle.request_codec.specs.Tree.{null, truth, whole, text, members_of, fields_of}
+use Rattle.request_codec.specs.Tree.{null, truth, integer, text, members_of, fields_of}
 use Rattle.request_codec.specs.Reading.{is_above, value_at, members_at, fields_at}
 use Rattle.request_codec.specs.Start.{begun}
-use Rattle.request_codec.proofs.Answered.{Fails-whole}
+use Rattle.request_codec.proofs.PartAnswers.{Fails-whole}
 use Rattle.request_codec.proofs.Levels.{value_at-zero, value_at-unstarted, started, value_at-leaf, value_at-list, value_at-map, value_at-no_list, value_at-no_map}
-use Rattle.request_codec.proofs.Loops.{members-go_on, members-end, members-done, fields-go_on, fields-unnamed, fields-misplaced, fields-end, fields-done}
+use Rattle.request_codec.proofs.MemberLoops.{members-go_on, members-end, members-done, fields-go_on, fields-unnamed, fields-misplaced, fields-end, fields-done}
 use Rattle.request_codec.specs.Seen.{value_of, entry_of}
 use Rattle.request_codec.proofs.Shown.{value_of-Null, value_of-Bool, value_of-Int, value_of-Text, value_of-List, value_of-Map}
 use Rattle.request_codec.proofs.Entries.{AreBelow, Entry, insert_entry-last, below_next}
@@ -32,7 +32,7 @@ datum_at-returns-in-Bool t c = value_at-leaf c.args.limit c.args.bytes.now (trut
 pub datum_at-returns-in-Int : goal.datum_at-returns-in-Int
 datum_at-returns-in-Int t c =
     let same : to_z w64 (of_z w64 c.in-Int.n) ≡ c.in-Int.n = grind (arith, to_z-of_z) in
-    rw same (value_at-leaf c.args.limit c.args.bytes.now (whole c.in-Int.n) _ c.in-Some.rest.now (omega arith) (started c.in-Some.ensures (ap begun c.in-Int.is)) (value_of-Int c.in-Int.n))
+    rw same (value_at-leaf c.args.limit c.args.bytes.now (integer c.in-Int.n) _ c.in-Some.rest.now (omega arith) (started c.in-Some.ensures (ap begun c.in-Int.is)) (value_of-Int c.in-Int.n))
 
 pub datum_at-returns-in_ok-from_str-in-Text : goal.datum_at-returns-in_ok-from_str-in-Text
 datum_at-returns-in_ok-from_str-in-Text t c = value_at-leaf c.args.limit c.args.bytes.now (text c.in-Text.text.now) _ c.in-Some.rest.now (omega arith) (started c.in-Some.ensures (ap begun c.in-Text.is)) (value_of-Text c.in_ok-from_str-in-Text.field-0 ∙ ap text c.in_ok-from_str-in-Text.ensures.ok)

@@ -1,7 +1,7 @@
 use Rattle.std.proofs.Common.{◌≡◌, ℕ, ◌+◌, ◌*◌, ◌-◌, List, map, None, option_map, true}
 use Rattle.request_codec.specs.Reading.{value_at, members_at, fields_at, is_above}
 use Rattle.request_codec.specs.Seen.{value_of, entry_of}
-use Rattle.request_codec.proofs.Loops.{with_members, with_fields}
+use Rattle.request_codec.proofs.MemberLoops.{with_members, with_fields}
 use Rattle.request_codec.proofs.Entries.{AreBelow}
 use Rattle.request_codec.proofs.datum_reader.+reading.Given as goal
 

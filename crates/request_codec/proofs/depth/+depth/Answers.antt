@@ -23,7 +23,7 @@ pub is_within-returns-in-Int : goal.is_within-returns-in-Int
 is_within-returns-in-Int t c =
     let same : to_z w64 (of_z w64 c.in-Int.number) ≡ c.in-Int.number = grind (arith, to_z-of_z) in
     let fits : FitsSigned w64 c.in-Int.number = subst (λ (z : ℤ). FitsSigned w64 z) same c.is_number.ensures.formed in
-    let tested = leaf_tested c.args.limit (value_of c.args.datum.now) (tree.whole c.in-Int.number) c.if-limit-eq0.false (ap value_of c.in-Int.is ∙ value_of-Int c.in-Int.number) refl fits in
+    let tested = leaf_tested c.args.limit (value_of c.args.datum.now) (tree.integer c.in-Int.number) c.if-limit-eq0.false (ap value_of c.in-Int.is ∙ value_of-Int c.in-Int.number) refl fits in
     subst (λ (b : Bool). TestsDepth b c.args.limit (value_of c.args.datum.now)) (sym c.is_number.ensures.always) tested
 
 pub is_within-returns-in-Text : goal.is_within-returns-in-Text

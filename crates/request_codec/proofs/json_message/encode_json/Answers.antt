@@ -6,7 +6,7 @@ use Rattle.request_codec.specs.Call.{asks, message_call}
 use Rattle.request_codec.specs.Lenient.{lenient}
 use Rattle.request_codec.specs.Written.{text_spelling, spelling}
 use Rattle.request_codec.specs.Answers.{message_length}
-use Rattle.request_codec.proofs.Answered.{WritesJson-fault}
+use Rattle.request_codec.proofs.PartAnswers.{WritesJson-fault}
 use Rattle.request_codec.proofs.Lenient.{lenient_tested}
 use Rattle.request_codec.proofs.Spelled.{length-message}
 use Rattle.request_codec.proofs.Whole.{message_is_some}

@@ -3,7 +3,7 @@ use Rattle.request_codec.specs.Answers.{Reads}
 use Rattle.request_codec.specs.Call.{Call, asks, message_call}
 use Rattle.request_codec.specs.Seen.{value_of}
 use Rattle.request_codec.specs.declared.datum.Datum.{Datum}
-use Rattle.request_codec.proofs.Answered.{Reads-ok, Reads-none}
+use Rattle.request_codec.proofs.PartAnswers.{Reads-ok, Reads-none}
 use Rattle.request_codec.proofs.Whole.{is_message, no_message, message_call-short}
 use Rattle.request_codec.proofs.reading.decode.Goals as goal
 

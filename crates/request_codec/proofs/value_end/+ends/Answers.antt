@@ -1,10 +1,10 @@
 use Rattle.std.proofs.Common.{None, option_map, sym, ap, ◌∙◌, arith}
-use Rattle.request_codec.specs.Tree.{null, truth, whole, text}
+use Rattle.request_codec.specs.Tree.{null, truth, integer, text}
 use Rattle.request_codec.specs.Reading.{value_at, members_at, fields_at}
 use Rattle.request_codec.specs.Start.{begun}
 use Rattle.request_codec.specs.Ends.{end_of}
 use Rattle.request_codec.proofs.Levels.{value_at-zero, value_at-unstarted, started}
-use Rattle.request_codec.proofs.Ends.{value_end-leaf, value_end-list, value_end-map, members_end-next, members_end-none, members_end-done, fields_end-next, fields_end-unnamed, fields_end-misplaced, fields_end-none, fields_end-done}
+use Rattle.request_codec.proofs.ValueEnds.{value_end-leaf, value_end-list, value_end-map, members_end-next, members_end-none, members_end-done, fields_end-next, fields_end-unnamed, fields_end-misplaced, fields_end-none, fields_end-done}
 use Rattle.request_codec.proofs.value_end.+ends.Goals as goal
 
 -- ---- one value
@@ -22,7 +22,7 @@ pub value_end-returns-in-Bool : goal.value_end-returns-in-Bool
 value_end-returns-in-Bool t c = value_end-leaf c.args.limit c.args.bytes.now (truth c.in-Bool.field-0) c.in-Some.rest.now c.if-limit-eq0.false (started c.in-Some.ensures (ap begun c.in-Bool.is))
 
 pub value_end-returns-in-Int : goal.value_end-returns-in-Int
-value_end-returns-in-Int t c = value_end-leaf c.args.limit c.args.bytes.now (whole c.in-Int.field-0) c.in-Some.rest.now c.if-limit-eq0.false (started c.in-Some.ensures (ap begun c.in-Int.is))
+value_end-returns-in-Int t c = value_end-leaf c.args.limit c.args.bytes.now (integer c.in-Int.field-0) c.in-Some.rest.now c.if-limit-eq0.false (started c.in-Some.ensures (ap begun c.in-Int.is))
 
 pub value_end-returns-in-Text : goal.value_end-returns-in-Text
 value_end-returns-in-Text t c = value_end-leaf c.args.limit c.args.bytes.now (text c.in-Text.field-0.now) c.in-Some.rest.now c.if-limit-eq0.false (started c.in-Some.ensures (ap begun c.in-Text.is))

@@ -5,7 +5,7 @@ use Rattle.request_codec.specs.Call.{asks, message_call}
 use Rattle.request_codec.specs.Seen.{value_of}
 use Rattle.request_codec.specs.Written.{text_spelling, spelling}
 use Rattle.request_codec.specs.Answers.{message_length}
-use Rattle.request_codec.proofs.Answered.{Writes-fault}
+use Rattle.request_codec.proofs.PartAnswers.{Writes-fault}
 use Rattle.request_codec.proofs.Spelled.{length-message}
 use Rattle.request_codec.proofs.Whole.{message_is_some}
 use Rattle.request_codec.proofs.Encoded.{encoded_message, same_found}

@@ -5,7 +5,7 @@ use Rattle.request_codec.specs.Call.{state_value}
 use Rattle.request_codec.specs.Seen.{value_of}
 use Rattle.request_codec.specs.Written.{spelling}
 use Rattle.request_codec.specs.Answers.{spelled_length}
-use Rattle.request_codec.proofs.Answered.{Writes-fault}
+use Rattle.request_codec.proofs.PartAnswers.{Writes-fault}
 use Rattle.request_codec.proofs.Spelled.{length-spelling}
 use Rattle.request_codec.proofs.Whole.{state_is_some}
 use Rattle.request_codec.proofs.Encoded.{encoded_state, same_found}

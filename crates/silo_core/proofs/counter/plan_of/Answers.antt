@@ -1,7 +1,7 @@
 use Rattle.std.proofs.Common.{ap, sym, ◌∙◌, rules, w64, SFits}
 use Rattle.std.proofs.lemmas.Result.{IfOk-weaker}
 use Rattle.std.proofs.lemmas.Int.{to_z-of_z}
-use Rattle.turn_arena.specs.Shape.{shape}
+use Rattle.turn_arena.specs.NodeValue.{node_value}
 use Rattle.grain_kinds.specs.Counter.{number_of, add_plan}
 use Rattle.grain_kinds.specs.Shared.{for_shape}
 use Rattle.silo_core.proofs.Counters.{plan-add, plan-get, plan-unknown, plan-call}
@@ -11,7 +11,7 @@ pub returns-then-eq : goal.returns-then-eq
 returns-then-eq c =
     let state = c.args.state.now in
     let method = c.in_ok-method.method.now in
-    let argument = shape c.in_ok-method.argument in
+    let argument = node_value c.in_ok-method.argument in
     let fits : SFits w64 c.number_of-number.result = search rules in
     let number = sym (c.number_of-number.ensures ∙ ap number_of c.in_ok-state_in.ensures) ∙ sym (to_z-of_z w64 c.number_of-number.result fits) in
     let plan = plan-add method state argument (sym c.if-eq.ensures) in
@@ -21,7 +21,7 @@ pub returns-then-eq-2 : goal.returns-then-eq-2
 returns-then-eq-2 c =
     let state = c.args.state.now in
     let method = c.in_ok-method.method.now in
-    let argument = shape c.in_ok-method.argument in
+    let argument = node_value c.in_ok-method.argument in
     let fits : SFits w64 c.number_of-number.result = search rules in
     let number = sym (c.number_of-number.ensures ∙ ap number_of c.in_ok-state_in.ensures) ∙ sym (to_z-of_z w64 c.number_of-number.result fits) in
     let plan = plan-get method state argument (sym c.if-eq.ensures) (sym c.if-eq-2.ensures) in
@@ -31,5 +31,5 @@ pub returns : goal.returns
 returns c =
     let state = c.args.state.now in
     let method = c.in_ok-method.method.now in
-    let argument = shape c.in_ok-method.argument in
+    let argument = node_value c.in_ok-method.argument in
     rw c.refused.ensures (sym (plan-unknown method state argument (sym c.if-eq.ensures) (sym c.if-eq-2.ensures)) ∙ plan-call method state argument c.args.message.now c.in_ok-method.ensures)

@@ -1,6 +1,6 @@
 use Rattle.std.proofs.Common.{rules}
 use Rattle.std.proofs.lemmas.List.Sorted.{answers_always}
-use Rattle.turn_arena.proofs.Placed.{found_at, gap_at}
+use Rattle.turn_arena.proofs.FieldPlaces.{found_at, gap_at}
 use Rattle.turn_arena.proofs.fields.place_of.Goals as goal
 
 -- the closure gives a field's name

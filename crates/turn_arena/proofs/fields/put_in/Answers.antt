@@ -1,8 +1,8 @@
 use Rattle.std.proofs.Common.{sym, ap, ◌∙◌, subst, add-one}
 use Rattle.std.proofs.lemmas.Result.{IfOk-weaker}
 use Rattle.turn_arena.specs.Ascending.{NamesAscend}
-use Rattle.turn_arena.specs.Shape.{field_shapes}
-use Rattle.turn_arena.proofs.Placed.{put_field-gap, put_field-place, field_shapes-put, NamesAscend-put}
+use Rattle.turn_arena.specs.NodeValue.{field_values}
+use Rattle.turn_arena.proofs.FieldPlaces.{put_field-gap, put_field-place, field_values-put, NamesAscend-put}
 use Rattle.turn_arena.specs.declared.node.Field.{Field}
 use Rattle.turn_arena.proofs.fields.put_in.Goals as goal
 
@@ -14,7 +14,7 @@ returns-in-Ok-clause-exact c =
 pub returns-in-Ok-clause-value : goal.returns-in-Ok-clause-value
 returns-in-Ok-clause-value c =
     let field : Field = record { name = c.args.name; node = c.args.node } in
-    IfOk-weaker c.splice_in.result _ _ (λ r put. ap field_shapes put ∙ field_shapes-put field c.args.members.now) (returns-in-Ok-clause-exact c)
+    IfOk-weaker c.splice_in.result _ _ (λ r put. ap field_values put ∙ field_values-put field c.args.members.now) (returns-in-Ok-clause-exact c)
 
 pub returns-in-Ok-clause-ascends : goal.returns-in-Ok-clause-ascends
 returns-in-Ok-clause-ascends c =
@@ -29,7 +29,7 @@ returns-in-Err-clause-exact c =
 pub returns-in-Err-clause-value : goal.returns-in-Err-clause-value
 returns-in-Err-clause-value c =
     let field : Field = record { name = c.args.name; node = c.args.node } in
-    IfOk-weaker c.splice_in-in-Err.result _ _ (λ r put. ap field_shapes put ∙ field_shapes-put field c.args.members.now) (returns-in-Err-clause-exact c)
+    IfOk-weaker c.splice_in-in-Err.result _ _ (λ r put. ap field_values put ∙ field_values-put field c.args.members.now) (returns-in-Err-clause-exact c)
 
 pub returns-in-Err-clause-ascends : goal.returns-in-Err-clause-ascends
 returns-in-Err-clause-ascends c =

@@ -4,28 +4,28 @@ use Rattle.request_codec.specs.Limits.{state_limit}
 use Rattle.request_codec.specs.Call.{state_value}
 use Rattle.request_codec.specs.Written.{spelling}
 use Rattle.request_codec.specs.Answers.{spelled_length}
-use Rattle.request_codec.proofs.Answered.{Writes-fault}
+use Rattle.request_codec.proofs.PartAnswers.{Writes-fault}
 use Rattle.request_codec.proofs.Spelled.{length-spelling}
 use Rattle.request_codec.proofs.Whole.{state_is_some}
 use Rattle.request_codec.proofs.Encoded.{encoded_state, same_found}
-use Rattle.turn_arena.specs.Shape.{shape}
+use Rattle.turn_arena.specs.NodeValue.{node_value}
 use Rattle.turn_arena.proofs.writing.encode_node.Goals as goal
 
 pub returns-in_err-state_bytes : goal.returns-in_err-state_bytes
 returns-in_err-state_bytes c =
     let p = err_from_is_err_and c.from_residual.result c.from_residual.ensures.1 in
-    let v = shape c.args.node in
+    let v = node_value c.args.node in
     rw (p.1, p.2) (Writes-fault c.in_err-state_bytes.field-0.0 v v (spelled_length v) state_limit (spelling v) c.if-not-is_within.ensures.0 (length-spelling v) c.in_err-state_bytes.ensures)
 
 pub from_spelling-requires : goal.from_spelling-requires
 from_spelling-requires c =
     let items = c.in_ok-state_bytes.field-0.items in
-    let v = shape c.args.node in
+    let v = node_value c.args.node in
     state_is_some items v (encoded_state items v c.if-not-is_within.ensures c.in_ok-state_bytes.ensures)
 
 pub returns : goal.returns
 returns c =
     let items = c.in_ok-state_bytes.field-0.items in
-    let v = shape c.args.node in
+    let v = node_value c.args.node in
     let short : spelled_length v ≤ state_limit = omega (arith, c.in_ok-state_bytes.ensures.1, length-spelling v) in
     (same_found (state_value items) c.in_ok-from_spelling.field-0 v c.in_ok-from_spelling.ensures (encoded_state items v c.if-not-is_within.ensures c.in_ok-state_bytes.ensures), c.if-not-is_within.ensures.0, short)

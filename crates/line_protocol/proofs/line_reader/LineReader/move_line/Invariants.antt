@@ -1,6 +1,6 @@
 use Rattle.std.proofs.Common.{◌≡◌, ◌+◌, ◌-◌, ◌*◌, min, ℕ, List, take}
 use Rattle.std.specs.Io.KnownBytes.{Consumes, Keeps}
-use Rattle.line_protocol.specs.Running.{left_of, HasNoBreak}
+use Rattle.line_protocol.specs.LineRuns.{left_of, HasNoBreak}
 use Rattle.line_protocol.proofs.line_reader.LineReader.move_line.Given as goal
 
 abbrev pub invariant-pieces : goal.invariant-pieces

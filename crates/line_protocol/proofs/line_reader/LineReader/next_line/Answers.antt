@@ -1,6 +1,6 @@
 use Rattle.std.proofs.Common.{[], ◌∷◌, Ok, refl, take, slice_range, ap, subst, ◌∙◌}
 use Rattle.line_protocol.specs.declared.line_reader.LineReader.{LineReader}
-use Rattle.line_protocol.specs.Running.{left_of, LinesTaken}
+use Rattle.line_protocol.specs.LineRuns.{left_of, LinesTaken}
 use Rattle.line_protocol.proofs.Pieces.{take_twice}
 use Rattle.line_protocol.proofs.LinesOfBytes.{whole_taken}
 use Rattle.line_protocol.proofs.line_reader.LineReader.next_line.Goals as goal

@@ -1,5 +1,5 @@
 use Rattle.std.proofs.Common.{◌≡◌, ◌+◌, ◌-◌, ◌≤◌, ◌∷◌, ◌++◌, ap, subst, ◌∙◌, arith, take, drop, length-take, slice_range}
-use Rattle.line_protocol.specs.Running.{HasNoBreak}
+use Rattle.line_protocol.specs.LineRuns.{HasNoBreak}
 use Rattle.line_protocol.proofs.Pieces.{at_break_in, slice_range_front}
 use Rattle.line_protocol.proofs.line_reader.LineReader.take_whole.Goals as goal
 

@@ -3,7 +3,7 @@ use Rattle.std.specs.Prelude.{IfOk, option_and_then}
 use Rattle.std.specs.FinMap as map
 use Rattle.std.proofs.lemmas.Result.{on_err_weaker}
 use Rattle.silo_model.specs.Machine.{Entries}
-use Rattle.silo_model.specs.Turns.{begun}
+use Rattle.silo_model.specs.Turns.{opened_if_ready}
 use Rattle.silo_body.specs.Shown.{entries_of}
 use Rattle.silo_body.specs.Entries.{Begins, opened_turn}
 use Rattle.silo_body.proofs.Shows.{get-entries, begin_shows, begin_turn, begin_marked, unmoved}
@@ -14,7 +14,7 @@ returns-in_default-clause-begins g c =
     let m = c.self.inside.directory.activations in
     let grain = c.args.grain.now in
     subst (λ (old : Entries). Begins g.L.GrainLogic.logic old grain None (entries_of m)) c.self.view_is
-    (ap (option_and_then (λ e. begun g.L.GrainLogic.logic grain e e.phase)) (get-entries m grain None (sym c.in_default.ensures.value)), refl)
+    (ap (option_and_then (λ e. opened_if_ready g.L.GrainLogic.logic grain e e.phase)) (get-entries m grain None (sym c.in_default.ensures.value)), refl)
 
 pub returns-in_default-clause-turn : goal.returns-in_default-clause-turn
 returns-in_default-clause-turn g c =

@@ -4,7 +4,7 @@ use Rattle.std.specs.FinMap as map
 use Rattle.silo_event.specs.declared.step.Step.TheVariants as step
 use Rattle.silo_event.specs.declared.step.Answer.TheVariants.{Done}
 use Rattle.silo_event.specs.declared.fault.Fault.TheVariants.{NoMemory}
-use Rattle.silo_model.specs.Calls.{answered}
+use Rattle.silo_model.specs.Calls.{reply_to}
 use Rattle.silo_model.specs.Whole.{whole_step}
 use Rattle.silo_body.specs.Held.{Held}
 use Rattle.silo_body.specs.Moves.{Moves}
@@ -59,6 +59,6 @@ returns g c =
     } in
     let grain = c.args.grain.now in
     let aged = settled_age b.collector c.expect.new.collector c.settle.new.collector grain b.clock c.may_rest-rests.result c.in-Some-close.idle c.in_ok-expect.ensures.done c.settle.ensures in
-    let told = c.tell.ensures.told ∙ ap (λ items. items ++ answered c.in-Some-close.sender (Err NoMemory)) c.in_ok-reserve.ensures.items in
+    let told = c.tell.ensures.told ∙ ap (λ items. items ++ reply_to c.in-Some-close.sender (Err NoMemory)) c.in_ok-reserve.ensures.items in
     subst (λ (h : Held). Moves g.L.GrainLogic.logic h (step.Abandon grain c.args.turn) (Ok Done) (closed_held g.L.GrainLogic.logic old grain c.args.turn c.settle.new.collector.age c.close.new.self c.tell.new.replies.items)) c.self.view_is
     (abandon_moves g.L.GrainLogic.logic old grain c.args.turn c.settle.new.collector.age c.in-Some-close.sender c.in-Some-close.idle c.close.new.self c.tell.new.replies.items aged c.in-Some-close.ensures told)

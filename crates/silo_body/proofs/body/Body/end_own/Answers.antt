@@ -6,7 +6,7 @@ use Rattle.idle_collector.specs.Notes.{Notes}
 use Rattle.silo_model.specs.Machine.{ready}
 use Rattle.silo_model.specs.Idle.{is_ready}
 use Rattle.silo_model.specs.Effect.{change_at}
-use Rattle.silo_model.specs.Calls.{answered}
+use Rattle.silo_model.specs.Calls.{reply_to}
 use Rattle.silo_model.specs.Turns.{sent_by, outcome_of}
 use Rattle.silo_body.specs.Held.{Held}
 use Rattle.silo_body.specs.Moves.{Moves}
@@ -56,7 +56,7 @@ returns g c =
     let sends = c.in_ok-sent.ensures ∙ ap (sent_by grain) c.sends.ensures in
     let sent = c.in-Ok.ensures.done ∙ (λ i. change_at b.accounts (c.tenant.ensures i) (with_more (map.get b.accounts (c.tenant.ensures i)) (sends i))) in
     let outcome = c.told.ensures ∙ ap outcome_of (c.in_ok-outcome.ensures ∙ c.outcome.ensures) in
-    let told = c.tell.ensures.told ∙ (λ i. c.in_ok-reserve.ensures.items i ++ answered c.in-Some.sender (outcome i)) in
+    let told = c.tell.ensures.told ∙ (λ i. c.in_ok-reserve.ensures.items i ++ reply_to c.in-Some.sender (outcome i)) in
     subst (λ (h : Held). Moves g.L.GrainLogic.logic h (step.End grain turn) (Ok Done) (record old { whole = record old.whole { accounts = c.send.new.self; age = c.settle.new.collector.age; entries = c.close.new.self; replies = c.tell.new.replies.items } })) c.self.view_is
     (end_moves g.L.GrainLogic.logic old grain turn version c.args.rests input own c.settle.new.collector.age c.in-Some.sender c.in-Some.idle c.send.new.self c.close.new.self c.tell.new.replies.items
     (ap asks (sym c.store_call.ensures) ∙ sym c.if-asks_storage.ensures) aged closed sent told)

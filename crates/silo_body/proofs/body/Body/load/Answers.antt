@@ -5,7 +5,7 @@ use Rattle.silo_event.specs.declared.step.Answer.TheVariants.{Done, Failed}
 use Rattle.silo_event.specs.declared.fault.Fault.TheVariants.{StorageFailed}
 use Rattle.idle_collector.specs.Notes.{Notes}
 use Rattle.silo_model.specs.Machine.{Entries}
-use Rattle.silo_model.specs.Calls.{answered}
+use Rattle.silo_model.specs.Calls.{reply_to}
 use Rattle.silo_model.specs.Whole.{whole_step}
 use Rattle.silo_model.proofs.EntrySteps.{load_absent}
 use Rattle.silo_body.specs.Held.{Held}
@@ -62,7 +62,7 @@ returns-then-failed g c =
     let e = entry_of c.in-Some.activation.now in
     let found = sym c.in-Some.ensures.entry in
     let is = loads e.phase (sym c.if-not-is_loading.ensures) in
-    let told = c.unload.ensures.told e found ∙ ap (λ items. items ++ flat_map (λ q. answered q.sender (Err StorageFailed)) e.queue) c.in_ok-reserve.ensures.items in
+    let told = c.unload.ensures.told e found ∙ ap (λ items. items ++ flat_map (λ q. reply_to q.sender (Err StorageFailed)) e.queue) c.in_ok-reserve.ensures.items in
     subst (λ (h : Held). Moves g.L.GrainLogic.logic h (step.Load grain c.args.failed) (Ok Done) (record old { whole = record old.whole { entries = c.unload.new.activations; replies = c.unload.new.replies.items } })) c.self.view_is
     (load_marked g.L.GrainLogic.logic old grain e found is b.collector.age refl c.unload.new.activations c.unload.new.replies.items c.unload.ensures.gone told c.args.failed c.if-failed.true)
 
@@ -127,7 +127,7 @@ returns-in-Err-Failed g c =
     let storage = c.read_state.new.storage in
     let fails = rw c.in-Err-Failed.field-0-is at c.in-Err-Failed.ensures in
     let back = settled_back b.activations b.collector c.expect.new.collector c.take_back.new.collector grain e.last c.self.invariant (used-loading b.activations b.collector c.self.invariant grain e found is) c.is_quiet-quiet.result c.in_ok-expect.ensures.done c.take_back.ensures in
-    let told = c.unload-in-Err-Failed.ensures.told e found ∙ ap (λ items. items ++ flat_map (λ q. answered q.sender (Err StorageFailed)) e.queue) c.in_ok-reserve.ensures.items in
+    let told = c.unload-in-Err-Failed.ensures.told e found ∙ ap (λ items. items ++ flat_map (λ q. reply_to q.sender (Err StorageFailed)) e.queue) c.in_ok-reserve.ensures.items in
     subst (λ (h : Held). Moves g.L.GrainLogic.logic h (step.Load grain c.args.failed) (Ok Failed)
     (record { whole = record old.whole { age = c.take_back.new.collector.age; entries = c.unload-in-Err-Failed.new.activations; rows = g.S.GrainStorage.rows storage; replies = c.unload-in-Err-Failed.new.replies.items }; failures = g.S.GrainStorage.failed storage })) c.self.view_is
     (load_failed g.L.GrainLogic.logic old grain e found is c.take_back.new.collector.age (ap (λ (n : Notes). n.age) back) c.unload-in-Err-Failed.new.activations c.unload-in-Err-Failed.new.replies.items c.unload-in-Err-Failed.ensures.gone told

@@ -3,7 +3,7 @@ use Rattle.std.specs.Prelude.{Err, flat_map}
 use Rattle.std.proofs.lemmas.List.{length-map}
 use Rattle.silo_event.specs.declared.fault.Fault.TheVariants.{StorageFailed}
 use Rattle.silo_model.specs.Machine.{Entry}
-use Rattle.silo_model.specs.Calls.{answered}
+use Rattle.silo_model.specs.Calls.{reply_to}
 use Rattle.silo_body.specs.Shown.{request_of, entry_of}
 use Rattle.silo_body.specs.Reads.{refused}
 use Rattle.silo_body.proofs.Idle.{the_same}
@@ -22,4 +22,4 @@ returns-clause-told g c e is =
     let same : entry_of c.in-Some.activation ≡ e = the_same (entry_of c.in-Some.activation) e (c.in-Some.ensures.found ∙ is) in
     c.refuse_all.ensures
     ∙ ap (λ told. c.args.replies.now.items ++ told)
-    (ap (flat_map refused) c.into_waiting.ensures ∙ refused_shown waiting ∙ ap (λ (x : Entry). flat_map (λ q. answered q.sender (Err StorageFailed)) x.queue) same)
+    (ap (flat_map refused) c.into_waiting.ensures ∙ refused_shown waiting ∙ ap (λ (x : Entry). flat_map (λ q. reply_to q.sender (Err StorageFailed)) x.queue) same)

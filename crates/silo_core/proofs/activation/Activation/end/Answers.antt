@@ -5,7 +5,7 @@ use Rattle.grain_kinds.specs.Counters.{counters}
 use Rattle.silo_model.specs.Machine.{Entry}
 use Rattle.silo_model.specs.Step.{at_turn}
 use Rattle.silo_model.specs.Turns.{ended}
-use Rattle.silo_core.specs.Answers.{closing}
+use Rattle.silo_core.specs.EntryAnswers.{closing}
 use Rattle.silo_core.specs.Plans.{PlansTurn}
 use Rattle.silo_core.proofs.Turns.{seen, planned_open, not_ended, ended_as}
 use Rattle.silo_core.proofs.activation.Activation.end.Goals as goal

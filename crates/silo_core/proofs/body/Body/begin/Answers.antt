@@ -6,7 +6,7 @@ use Rattle.silo_model.specs.Whole.{Whole}
 use Rattle.silo_core.specs.Built.{built_step}
 use Rattle.silo_model.proofs.EntrySteps.{begin_absent}
 use Rattle.silo_core.specs.contracts.body.Body.{the_view}
-use Rattle.silo_core.specs.Moves.{Moves}
+use Rattle.silo_core.specs.WholeMoves.{WholeMoves}
 use Rattle.silo_core.proofs.Steps.{begin_moves, still_kept}
 use Rattle.silo_core.proofs.body.Body.begin.Goals as goal
 
@@ -19,7 +19,7 @@ returns c =
     let g = c.args.grain.now in
     let e = c.in-Some.activation.now in
     let after = c.begin.new.self in
-    subst (λ (w : Whole). Moves counters w (step.Begin g) (Ok c.begin.result) (the_view (record c.self.inside { directory = map.insert c.self.inside.directory g after }))) c.self.view_is
+    subst (λ (w : Whole). WholeMoves counters w (step.Begin g) (Ok c.begin.result) (the_view (record c.self.inside { directory = map.insert c.self.inside.directory g after }))) c.self.view_is
     (begin_moves counters _ g e after (sym c.in-Some.ensures.value) c.begin.result (c.begin.ensures g))
 
 pub invariant_of-self-2 : goal.invariant_of-self-2

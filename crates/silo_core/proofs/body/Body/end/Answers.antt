@@ -5,7 +5,7 @@ use Rattle.grain_kinds.specs.Counters.{counters}
 use Rattle.silo_model.specs.Whole.{Whole}
 use Rattle.silo_core.specs.Built.{built_step}
 use Rattle.silo_model.proofs.TurnSteps.{end_absent}
-use Rattle.silo_model.proofs.Sights.{sight_of}
+use Rattle.silo_model.proofs.Contexts.{context_of}
 use Rattle.silo_core.specs.contracts.body.Body.{the_view}
 use Rattle.silo_core.proofs.Steps.{end_stays, end_closes, unmoved, memory_moves, still_kept}
 use Rattle.silo_core.proofs.body.Body.end.Goals as goal
@@ -30,7 +30,7 @@ returns-in_default-2 c =
     let turn = c.args.turn in
     let w = the_view (record c.self.inside { replies = c.reserve.new.self }) in
     let room : w ≡ c.args.self.now = (λ i. record (the_view c.self.inside) { replies = c.in_ok-reserve.ensures.items i }) ∙ c.self.view_is in
-    let closes = rw c.in_default-2.is at (c.in_ok-reply.ensures.closes (sight_of w g.tenant g) g refl) in
+    let closes = rw c.in_default-2.is at (c.in_ok-reply.ensures.closes (context_of w g.tenant g) g refl) in
     let stays = end_stays counters w g c.in-Some.activation.now c.end.new.self (sym c.in-Some.ensures.value) turn closes in
     (subst (λ (v : Whole). built_step counters v (step.End g turn) ≡ None) room stays.0, stays.1 ∙ room)
 
@@ -41,7 +41,7 @@ returns c =
     let after = c.end.new.self in
     let w = the_view (record c.self.inside { replies = c.reserve.new.self }) in
     let room : w ≡ c.args.self.now = (λ i. record (the_view c.self.inside) { replies = c.in_ok-reserve.ensures.items i }) ∙ c.self.view_is in
-    let closes = rw c.in-Some-2.is at (c.in_ok-reply.ensures.closes (sight_of w g.tenant g) g refl) in
+    let closes = rw c.in-Some-2.is at (c.in_ok-reply.ensures.closes (context_of w g.tenant g) g refl) in
     subst (λ (v : Whole). built_step counters v (step.End g turn) ≡ Some (the_view (record c.self.inside { directory = map.insert c.self.inside.directory g after; replies = c.tell.new.replies }))) room
     (end_closes counters w g c.in-Some.activation.now after (sym c.in-Some.ensures.value) turn c.in-Some-2.reply c.tell.new.replies.items closes c.tell.ensures)
 

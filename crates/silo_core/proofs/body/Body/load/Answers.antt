@@ -6,9 +6,9 @@ use Rattle.grain_kinds.specs.Counters.{counters}
 use Rattle.silo_model.specs.Whole.{Whole}
 use Rattle.silo_core.specs.Built.{built_step}
 use Rattle.silo_model.proofs.EntrySteps.{load_absent}
-use Rattle.silo_model.proofs.Sights.{sight_of}
+use Rattle.silo_model.proofs.Contexts.{context_of}
 use Rattle.silo_core.specs.contracts.body.Body.{the_view}
-use Rattle.silo_core.specs.Moves.{Moves}
+use Rattle.silo_core.specs.WholeMoves.{WholeMoves}
 use Rattle.silo_core.proofs.Steps.{load_moves, unmoved, memory_moves, still_kept}
 use Rattle.silo_core.proofs.body.Body.load.Goals as goal
 
@@ -26,8 +26,8 @@ returns c =
     let g = c.args.grain.now in
     let e = c.in-Some.activation.now in
     let after = c.load.new.self in
-    subst (λ (w : Whole). Moves counters w (step.Load g false) (Ok c.in_ok-answer.answer) (the_view (record c.self.inside { directory = map.insert c.self.inside.directory g after }))) c.self.view_is
-    (load_moves counters _ g e after (sym c.in-Some.ensures.value) c.in_ok-answer.answer (c.in_ok-answer.ensures.loads (sight_of (the_view c.self.inside) g.tenant g) g (map.get-empty grain_cmp g)))
+    subst (λ (w : Whole). WholeMoves counters w (step.Load g false) (Ok c.in_ok-answer.answer) (the_view (record c.self.inside { directory = map.insert c.self.inside.directory g after }))) c.self.view_is
+    (load_moves counters _ g e after (sym c.in-Some.ensures.value) c.in_ok-answer.answer (c.in_ok-answer.ensures.loads (context_of (the_view c.self.inside) g.tenant g) g (map.get-empty grain_cmp g)))
 
 pub invariant_of-self-2 : goal.invariant_of-self-2
 invariant_of-self-2 c =

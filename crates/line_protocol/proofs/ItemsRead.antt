@@ -16,11 +16,11 @@ use Rattle.line_protocol.specs.Argument.{too_deep, PutsValue, PutsItems}
 use Rattle.line_protocol.specs.Slots.{name_text, HoldsSlots, TakesMember, HasSlots}
 use Rattle.line_protocol.specs.declared.slots.Name.{Name}
 use Rattle.line_protocol.specs.declared.slots.Slots.{Slots}
-use Rattle.line_protocol.proofs.Turns.{item_read, items_over, member_read, members_over, parse_map-twice, converted-object, whole_read}
+use Rattle.line_protocol.proofs.GrammarLoops.{item_read, items_over, member_read, members_over, parse_map-twice, converted-object, whole_read}
 
 -- ---- the items of a list
 
-pub record ItemsSoFar (depth : ℕ) (initial now : List Token) (before after : List ℕ) (count : ℕ) : Type 0 where
+pub record ItemsRead (depth : ℕ) (initial now : List Token) (before after : List ℕ) (count : ℕ) : Type 0 where
   pub turns : ℕ
   pub enough : length now ≤ turns
   pub shorter : length now ≤ length initial
@@ -38,7 +38,7 @@ id_map : {A : Type 0} (o : Option (A × List Token)) → o ≡ parse_map (λ a. 
 id_map None = refl
 id_map (Some p) = refl
 
-pub items_start : (depth : ℕ) (ts : List Token) (before after : List ℕ) → after ≡ before ++ (5 ∷ 0 ∷ 0 ∷ 0 ∷ 0 ∷ []) → ItemsSoFar depth ts ts before after 0
+pub items_start : (depth : ℕ) (ts : List Token) (before after : List ℕ) → after ≡ before ++ (5 ∷ 0 ∷ 0 ∷ 0 ∷ 0 ∷ []) → ItemsRead depth ts ts before after 0
 items_start depth ts before after e = record {
   turns = length ts;
   enough = omega arith;
@@ -65,8 +65,8 @@ one_spelled d ds = refl
 pub longer : (mid after : List ℕ) (d : Data) → after ≡ mid ++ spelling (lenient_value d) → length mid < length after
 longer mid after d e = omega (arith, ap length e, length-append mid (spelling (lenient_value d)), length-spelling (lenient_value d), some_length (lenient_value d))
 
-pub items_next : (depth : ℕ) (initial ts r : List Token) (before mid after : List ℕ) (count : ℕ) → ItemsSoFar depth initial ts before mid count → after_end_array ts ≡ None → PutsValue depth ts r mid after
-    → ItemsSoFar depth initial r before after (count + 1)
+pub items_next : (depth : ℕ) (initial ts r : List Token) (before mid after : List ℕ) (count : ℕ) → ItemsRead depth initial ts before mid count → after_end_array ts ≡ None → PutsValue depth ts r mid after
+    → ItemsRead depth initial r before after (count + 1)
 items_next depth initial ts r before mid after count s going v =
     let some_turn : 0 < s.turns = omega (arith, s.enough, v.shorter) in
     let turn = item_read (value depth) s.turns ts r v.json some_turn going v.read in
@@ -100,7 +100,7 @@ pub counted_bytes : (tag at count : ℕ) (before old new done : List ℕ) → at
 counted_bytes tag at count before old new done is e set =
     set (before ++ tag ∷ []) done (omega (arith, is, length-append before (tag ∷ []))) (e ∙ one_front before tag _) ∙ sym (one_front before tag _)
 
-pub items_stop : (depth : ℕ) (initial ts r : List Token) (before after new : List ℕ) (at count : ℕ) → ItemsSoFar depth initial ts before after count → too_deep ≤ depth → after_end_array ts ≡ Some r
+pub items_stop : (depth : ℕ) (initial ts r : List Token) (before after new : List ℕ) (at count : ℕ) → ItemsRead depth initial ts before after count → too_deep ≤ depth → after_end_array ts ≡ Some r
     → at ≡ length before + 1 → SetsCount at count after new → PutsItems depth initial r before new
 items_stop depth initial ts r before after new at count s deep over is set =
     let n : count ≡ members_count (lenient_members (s.json no_items)) = omega (arith, s.counted no_items) in
@@ -116,14 +116,14 @@ items_stop depth initial ts r before after new at count s deep over is set =
 
 -- ---- the members of a line
 
-pub record MembersSoFar (initial now : List Token) (slots : Slots) (bytes : List ℕ) : Type 0 where
+pub record MembersRead (initial now : List Token) (slots : Slots) (bytes : List ℕ) : Type 0 where
   pub found : Members
   pub turns : ℕ
   pub enough : length now ≤ turns
   pub read : converted (λ ms. of_members ms no_members) (members (value 126) (length initial) initial) ≡ converted (λ ms. of_members ms found) (members (value 126) turns now)
   pub holds : HoldsSlots found slots bytes
 
-pub members_start : (ts : List Token) (slots : Slots) (bytes : List ℕ) → HoldsSlots no_members slots bytes → MembersSoFar ts ts slots bytes
+pub members_start : (ts : List Token) (slots : Slots) (bytes : List ℕ) → HoldsSlots no_members slots bytes → MembersRead ts ts slots bytes
 members_start ts slots bytes h = record {
   found = no_members;
   turns = length ts;
@@ -132,8 +132,8 @@ members_start ts slots bytes h = record {
   holds = h;
 }
 
-pub members_next : (initial ts s r : List Token) (old new : Slots) (before after : List ℕ) (name : Name) (k : List ℕ) → MembersSoFar initial ts old before → read_key ts ≡ Some (Some k, s) → k ≡ name_text name → TakesMember name s r old before new after
-    → MembersSoFar initial r new after
+pub members_next : (initial ts s r : List Token) (old new : Slots) (before after : List ℕ) (name : Name) (k : List ℕ) → MembersRead initial ts old before → read_key ts ≡ Some (Some k, s) → k ≡ name_text name → TakesMember name s r old before new after
+    → MembersRead initial r new after
 members_next initial ts s r old new before after name k m key is t =
     let less = read_key-shorter ts (Some k) s key in
     let some_turn : 0 < m.turns = omega (arith, m.enough, less) in
@@ -145,7 +145,7 @@ members_next initial ts s r old new before after name k m key is t =
       holds = subst (λ n. HoldsSlots (put n t.json m.found) new after) (sym is) (t.holds m.found m.holds);
     }
 
-pub members_stop : (initial ts : List Token) (slots : Slots) (bytes : List ℕ) (all : List Token) → all ≡ begin_object ∷ initial → MembersSoFar initial ts slots bytes → read_key ts ≡ Some (None, []) → HasSlots all slots bytes
+pub members_stop : (initial ts : List Token) (slots : Slots) (bytes : List ℕ) (all : List Token) → all ≡ begin_object ∷ initial → MembersRead initial ts slots bytes → read_key ts ≡ Some (None, []) → HasSlots all slots bytes
 members_stop initial ts slots bytes all first m over = record {
   found = m.found;
   read = whole_read (value 127 all) (object m.found)

@@ -10,9 +10,9 @@ use Rattle.silo_model.specs.Whole.{Whole}
 use Rattle.silo_core.specs.Built.{built_step}
 
 -- The whole is one step on; or the step isn't possible now, and nothing changed; or memory was refused, and nothing changed.
-abbrev pub Moves : Logic → Whole → Step → Result Answer StepFault → Whole → Type 0
-Moves logic old s (Ok Done) new = built_step logic old s ≡ Some new
-Moves logic old s (Ok Failed) new = ⊥
-Moves logic old s (Ok NotNow) new = (built_step logic old s ≡ None) × (new ≡ old)
-Moves logic old s (Err Memory) new = new ≡ old
-Moves logic old s (Err Stranger) new = ⊥
+abbrev pub WholeMoves : Logic → Whole → Step → Result Answer StepFault → Whole → Type 0
+WholeMoves logic old s (Ok Done) new = built_step logic old s ≡ Some new
+WholeMoves logic old s (Ok Failed) new = ⊥
+WholeMoves logic old s (Ok NotNow) new = (built_step logic old s ≡ None) × (new ≡ old)
+WholeMoves logic old s (Err Memory) new = new ≡ old
+WholeMoves logic old s (Err Stranger) new = ⊥

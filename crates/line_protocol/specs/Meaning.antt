@@ -15,16 +15,16 @@ use Rattle.line_protocol.specs.declared.line.LineRefusal.TheVariants as refusal
 abbrev pub json_of_line : List ℕ → Option Data
 json_of_line bytes = if is_utf8 bytes then read bytes else None
 
-abbrev pub said_by : Option Step → Line
-said_by None = line.Refusal refusal.NotARequest
-said_by (Some s) = line.Step s
+abbrev pub meaning_by : Option Step → Line
+meaning_by None = line.Refusal refusal.NotARequest
+meaning_by (Some s) = line.Step s
 
 -- a line of no bytes says nothing, one above the limit is too long, and any other is a step or no request
-unfoldable pub said_of : List ℕ → Line
-said_of [] = line.Nothing
-said_of (b ∷ bytes) =
+unfoldable pub meaning_of : List ℕ → Line
+meaning_of [] = line.Nothing
+meaning_of (b ∷ bytes) =
     if nat_lt line_limit (length (b ∷ bytes)) then line.Refusal refusal.TooLong
-    else said_by (option_and_then step_of_json (json_of_line (b ∷ bytes)))
+    else meaning_by (option_and_then step_of_json (json_of_line (b ∷ bytes)))
 
 -- what a silo is handed of what a line says: a step of a kind that it doesn't take yet is no request
 abbrev pub taken : Line → Line
@@ -33,4 +33,4 @@ taken (line.Refusal r) = line.Refusal r
 taken (line.Step s) = if is_built s then line.Step s else line.Refusal refusal.NotARequest
 
 abbrev pub taken_of : List ℕ → Line
-taken_of bytes = taken (said_of bytes)
+taken_of bytes = taken (meaning_of bytes)

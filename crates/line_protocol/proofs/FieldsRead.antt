@@ -15,14 +15,14 @@ use Rattle.line_protocol.specs.Argument.{too_deep, PutsValue, PutsFields}
 use Rattle.line_protocol.specs.Fields.{HoldsMembers, IsBehind, field_spelling}
 use Rattle.line_protocol.specs.declared.fields.Fields.{Fields}
 use Rattle.line_protocol.proofs.Ordered.{AreWhole, whole_tests, whole_put, deep_put, none_spelled}
-use Rattle.line_protocol.proofs.SoFar.{SetsCount, counted_bytes, longer}
-use Rattle.line_protocol.proofs.Turns.{member_read, members_over}
+use Rattle.line_protocol.proofs.ItemsRead.{SetsCount, counted_bytes, longer}
+use Rattle.line_protocol.proofs.GrammarLoops.{member_read, members_over}
 
 -- the bytes before the fields: those of before, and a start whose count is put at the end
 abbrev pub begun : List ℕ → List ℕ
 begun before = before ++ (6 ∷ 0 ∷ 0 ∷ 0 ∷ 0 ∷ [])
 
-pub record FieldsSoFar (depth : ℕ) (initial now : List Token) (before after : List ℕ) (fields : Fields) : Type 0 where
+pub record FieldsRead (depth : ℕ) (initial now : List Token) (before after : List ℕ) (fields : Fields) : Type 0 where
   pub turns : ℕ
   pub enough : length now ≤ turns
   pub shorter : length now ≤ length initial
@@ -34,7 +34,7 @@ pub record FieldsSoFar (depth : ℕ) (initial now : List Token) (before after : 
   pub bytes : after ≡ begun before ++ fields_spelling (lenient_fields json)
   pub some : fields.count ≤ length after
 
-pub fields_start : (depth : ℕ) (ts : List Token) (before after : List ℕ) (fields : Fields) → after ≡ begun before → HoldsMembers fields no_members → too_deep ≤ depth → FieldsSoFar depth ts ts before after fields
+pub fields_start : (depth : ℕ) (ts : List Token) (before after : List ℕ) (fields : Fields) → after ≡ begun before → HoldsMembers fields no_members → too_deep ≤ depth → FieldsRead depth ts ts before after fields
 fields_start depth ts before after fields e h deep = record {
   turns = length ts;
   enough = omega arith;
@@ -49,7 +49,7 @@ fields_start depth ts before after fields e h deep = record {
 }
 
 -- the field that was put last stands behind the others
-pub behind_them : (depth : ℕ) (initial ts s r : List Token) (before mid named after : List ℕ) (fields : Fields) (k : List ℕ) (from n : ℕ) (f : FieldsSoFar depth initial ts before mid fields) → named ≡ mid ++ text_spelling k → (v : PutsValue depth s r named after)
+pub behind_them : (depth : ℕ) (initial ts s r : List Token) (before mid named after : List ℕ) (fields : Fields) (k : List ℕ) (from n : ℕ) (f : FieldsRead depth initial ts before mid fields) → named ≡ mid ++ text_spelling k → (v : PutsValue depth s r named after)
     → from ≡ length mid → n ≡ length after - from → IsBehind f.json k v.json (length before + 5) n (begun before) after
 behind_them depth initial ts s r before mid named after fields k from n f name v is long =
     let all : after ≡ mid ++ field_spelling k v.json = v.bytes ∙ ap (λ l. l ++ spelling (lenient_value v.json)) name ∙ append_assoc mid (text_spelling k) (spelling (lenient_value v.json)) in
@@ -59,8 +59,8 @@ behind_them depth initial ts s r before mid named after fields k from n f name v
       bytes = all ∙ ap (λ l. l ++ field_spelling k v.json) f.bytes ∙ append_assoc (begun before) (fields_spelling (lenient_fields f.json)) (field_spelling k v.json);
     }
 
-pub fields_next : (depth : ℕ) (initial ts s r : List Token) (before mid named after new : List ℕ) (old fields : Fields) (k : List ℕ) (f : FieldsSoFar depth initial ts before mid old) → read_key ts ≡ Some (Some k, s) → IsUtf8 k → named ≡ mid ++ text_spelling k → (v : PutsValue depth s r named after)
-    → length new ≡ length after → HoldsMembers fields (put k v.json f.json) → new ≡ begun before ++ fields_spelling (lenient_fields (put k v.json f.json)) → fields.count ≤ old.count + 1 → FieldsSoFar depth initial r before new fields
+pub fields_next : (depth : ℕ) (initial ts s r : List Token) (before mid named after new : List ℕ) (old fields : Fields) (k : List ℕ) (f : FieldsRead depth initial ts before mid old) → read_key ts ≡ Some (Some k, s) → IsUtf8 k → named ≡ mid ++ text_spelling k → (v : PutsValue depth s r named after)
+    → length new ≡ length after → HoldsMembers fields (put k v.json f.json) → new ≡ begun before ++ fields_spelling (lenient_fields (put k v.json f.json)) → fields.count ≤ old.count + 1 → FieldsRead depth initial r before new fields
 fields_next depth initial ts s r before mid named after new old fields k f key valid name v same holds bytes more =
     let less = read_key-shorter ts (Some k) s key in
     let some_turn : 0 < f.turns = omega (arith, f.enough, less) in
@@ -78,7 +78,7 @@ fields_next depth initial ts s r before mid named after new old fields k f key v
       some = omega (arith, f.some, more, same, longer_now, ap length name, length-append mid (text_spelling k));
     }
 
-pub fields_stop : (depth : ℕ) (initial ts r : List Token) (before after new : List ℕ) (fields : Fields) (at count : ℕ) → FieldsSoFar depth initial ts before after fields → read_key ts ≡ Some (None, r)
+pub fields_stop : (depth : ℕ) (initial ts r : List Token) (before after new : List ℕ) (fields : Fields) (at count : ℕ) → FieldsRead depth initial ts before after fields → read_key ts ≡ Some (None, r)
     → at ≡ length before + 1 → count ≡ fields.count → SetsCount at count after new → PutsFields depth initial r before new
 fields_stop depth initial ts r before after new fields at count f over is n set =
     let all : after ≡ before ++ (6 ∷ 0 ∷ 0 ∷ 0 ∷ 0 ∷ fields_spelling (lenient_fields f.json)) = f.bytes ∙ append_assoc before (6 ∷ 0 ∷ 0 ∷ 0 ∷ 0 ∷ []) _ in

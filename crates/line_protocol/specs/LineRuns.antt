@@ -9,7 +9,7 @@ use Rattle.silo_core.specs.History.{History}
 use Rattle.silo_core.specs.Runs.{AllConcern}
 use Rattle.line_protocol.specs.Calls.{calls_limit}
 use Rattle.line_protocol.specs.Lines.{lines_of, lines_limit}
-use Rattle.line_protocol.specs.Out.{whole_stepper, machine_stepper, step_said, steps_of, line_text, lines_text}
+use Rattle.line_protocol.specs.LineTexts.{whole_stepper, machine_stepper, step_said, steps_of, line_text, lines_text}
 use Rattle.line_protocol.specs.declared.line.Line.{Line}
 use Rattle.line_protocol.specs.declared.calls.ReaderCalls.{ReaderCalls}
 use Rattle.line_protocol.specs.declared.fault.LineFault.{LineFault}

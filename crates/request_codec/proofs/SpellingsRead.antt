@@ -4,7 +4,7 @@ use Rattle.std.specs.Prelude.{ℤ, pos, negsuc, FitsSigned}
 use Rattle.std.specs.Int.{w32, w64, to_be_bytes, cast_signed, cast_unsigned}
 use Rattle.std.proofs.Math.Nat.{le-max_left, le-max_right}
 use Rattle.std.proofs.lemmas.Int.{to_z-of_z}
-use Rattle.request_codec.specs.Tree.{Tree, null, truth, whole, text, list, map, Members, no_members, member, Fields, no_fields, field, members_count, fields_count, depth, members_depth, fields_depth}
+use Rattle.request_codec.specs.Tree.{Tree, null, truth, integer, text, list, map, Members, no_members, member, Fields, no_fields, field, members_count, fields_count, depth, members_depth, fields_depth}
 use Rattle.request_codec.specs.Spelling.{Spells, SpellEach, SpellFields, IsBelowFirst}
 use Rattle.request_codec.specs.Reading.{Parse, number_at, members_at, is_above, fields_at, node_at, value_at}
 use Rattle.request_codec.proofs.Numbers.{wide32, wide64, number_again, text_again}
@@ -12,7 +12,7 @@ use Rattle.request_codec.proofs.Numbers.{wide32, wide64, number_again, text_agai
 pub depth_positive : (v : Tree) → 1 ≤ depth v
 depth_positive null = omega arith
 depth_positive (truth b) = omega arith
-depth_positive (whole i) = omega arith
+depth_positive (integer i) = omega arith
 depth_positive (text s) = omega arith
 depth_positive (list vs) = omega arith
 depth_positive (map fs) = omega arith
@@ -47,9 +47,9 @@ unfolding value_at node_at
 truth_again false d a x h = rw h refl
 truth_again true d a x h = rw h refl
 
-whole_again : (i : ℤ) (d : ℕ) (a x : List ℕ) → Spells (whole i) a → value_at (suc d) (a ++ x) ≡ Some (whole i, x)
+integer_again : (i : ℤ) (d : ℕ) (a x : List ℕ) → Spells (integer i) a → value_at (suc d) (a ++ x) ≡ Some (integer i, x)
 unfolding value_at node_at
-whole_again i d a x h = rw (h.1, number_again w64 (2 ^ 64) wide64 (cast_unsigned w64 i) x (cast_unsigned_below i h.0), cast_signed_again i h.0) refl
+integer_again i d a x h = rw (h.1, number_again w64 (2 ^ 64) wide64 (cast_unsigned w64 i) x (cast_unsigned_below i h.0), cast_signed_again i h.0) refl
 
 text_value_again : (s : List ℕ) (d : ℕ) (a x : List ℕ) → Spells (text s) a → value_at (suc d) (a ++ x) ≡ Some (text s, x)
 unfolding value_at node_at
@@ -89,7 +89,7 @@ mutual
   pub value_again : (v : Tree) (d : ℕ) (a x : List ℕ) → Spells v a → depth v ≤ suc d → value_at (suc d) (a ++ x) ≡ Some (v, x)
   value_again null d a x h le = null_again d a x h
   value_again (truth b) d a x h le = truth_again b d a x h
-  value_again (whole i) d a x h le = whole_again i d a x h
+  value_again (integer i) d a x h le = integer_again i d a x h
   value_again (text s) d a x h le = text_value_again s d a x h
   value_again (list vs) d a x h le = list_again vs d a x h (members_again vs d h.0 x h.2 (omega (arith, le)))
   value_again (map fs) d a x h le = map_again fs d a x h (fields_again fs d None h.0 x h.2 (above_none fs) (omega (arith, le)))

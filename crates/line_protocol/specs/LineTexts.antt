@@ -7,7 +7,7 @@ use Rattle.silo_model.specs.Machine.{Machine}
 use Rattle.silo_model.specs.Step.{machine_step}
 use Rattle.silo_model.specs.Whole.{Whole, whole_step}
 use Rattle.silo_model.specs.Run.{run_by}
-use Rattle.line_protocol.specs.Said.{taken_of}
+use Rattle.line_protocol.specs.Meaning.{taken_of}
 use Rattle.line_protocol.specs.Text.{line_of, refusal_line, not_now_line}
 use Rattle.line_protocol.specs.declared.line.Line.{Line}
 use Rattle.line_protocol.specs.declared.line.Line.TheVariants as line

@@ -7,7 +7,7 @@ use Rattle.grain_id.specs.Names.{Grain, grain_cmp, same_text}
 use Rattle.silo_event.specs.Owner.{owner_of}
 use Rattle.silo_event.specs.declared.step.Step.{Step}
 use Rattle.grain_kinds.specs.Logic.{Logic}
-use Rattle.silo_model.specs.Effect.{Sight, Effect, sight_at}
+use Rattle.silo_model.specs.Effect.{Context, Effect, context_at}
 use Rattle.silo_model.specs.Step.{grain_of, effect_of}
 use Rattle.silo_model.specs.Whole.{Whole, is_of, shown_to, spread, whole_owned_step, whole_step_by, whole_step}
 use Rattle.grain_id.proofs.Order.{same_text_decides}
@@ -36,11 +36,11 @@ abbrev pub active_of : Whole → List ℕ → ℕ
 active_of w tenant = map.len (map.retain_keys w.entries (is_of tenant))
 
 -- what the whole has of the tenant and at the grain
-abbrev pub sight_of : Whole → List ℕ → Grain → Sight
-sight_of w tenant g = record { tenant = tenant; account = map.get w.accounts tenant; clock = w.clock; active = active_of w tenant; entry = map.get w.entries g; row = map.get w.rows g }
+abbrev pub context_of : Whole → List ℕ → Grain → Context
+context_of w tenant g = record { tenant = tenant; account = map.get w.accounts tenant; clock = w.clock; active = active_of w tenant; entry = map.get w.entries g; row = map.get w.rows g }
 
-pub own_sight : (w : Whole) (tenant : List ℕ) (g : Grain) → g.tenant ≡ tenant → sight_at (shown_to tenant w) (Some g) ≡ sight_of w tenant g
-unfolding sight_at shown_to
+pub own_sight : (w : Whole) (tenant : List ℕ) (g : Grain) → g.tenant ≡ tenant → context_at (shown_to tenant w) (Some g) ≡ context_of w tenant g
+unfolding context_at shown_to
 own_sight w tenant g own = λ i. record { tenant = tenant; account = map.get w.accounts tenant; clock = w.clock; active = active_of w tenant; entry = get-own w.entries tenant g own i; row = get-own w.rows tenant g own i }
 
 pub shown_account : (w : Whole) (tenant : List ℕ) → (shown_to tenant w).account ≡ map.get w.accounts tenant
@@ -49,12 +49,12 @@ shown_account w tenant = refl
 
 -- a step by what it does where its owner looks
 pub step_by_sight : (logic : Logic) (w : Whole) (s : Step) (owner : List ℕ) (grain : Option Grain) (e : Option Effect)
-    → owner_of s ≡ Some owner → grain_of (map.get w.accounts owner) s ≡ grain → effect_of logic (sight_at (shown_to owner w) grain) s ≡ e → whole_step logic w s ≡ option_map (spread w owner grain) e
+    → owner_of s ≡ Some owner → grain_of (map.get w.accounts owner) s ≡ grain → effect_of logic (context_at (shown_to owner w) grain) s ≡ e → whole_step logic w s ≡ option_map (spread w owner grain) e
 unfolding whole_step
 step_by_sight logic w s owner grain e is place does =
     ap (whole_step_by logic w s) is ∙ ap (whole_owned_step logic w s owner) place ∙ ap (λ x. option_map (spread w owner grain) x) does
 
 -- a step at a grain of its owner, by what it does to what the whole has there
 pub step_at_own : (logic : Logic) (w : Whole) (s : Step) (owner : List ℕ) (g : Grain) (e : Option Effect)
-    → owner_of s ≡ Some owner → grain_of (map.get w.accounts owner) s ≡ Some g → g.tenant ≡ owner → effect_of logic (sight_of w owner g) s ≡ e → whole_step logic w s ≡ option_map (spread w owner (Some g)) e
+    → owner_of s ≡ Some owner → grain_of (map.get w.accounts owner) s ≡ Some g → g.tenant ≡ owner → effect_of logic (context_of w owner g) s ≡ e → whole_step logic w s ≡ option_map (spread w owner (Some g)) e
 step_at_own logic w s owner g e is place own does = step_by_sight logic w s owner (Some g) e is place (ap (λ x. effect_of logic x s) (own_sight w owner g own) ∙ does)

@@ -5,12 +5,12 @@ use Rattle.std.specs.Int.{w32, w64, to_be_bytes, cast_signed}
 use Rattle.std.proofs.Math.Nat.{max-le}
 use Rattle.std.proofs.lemmas.Int.{of_z-to_z, wrapping_add-bits, SFits-int_wrap}
 use Rattle.std.proofs.lemmas.Option.{some_pair_parts}
-use Rattle.request_codec.specs.Tree.{Tree, null, truth, whole, text, list, map, Members, no_members, member, Fields, no_fields, field, members_count, fields_count, depth, members_depth, fields_depth}
+use Rattle.request_codec.specs.Tree.{Tree, null, truth, integer, text, list, map, Members, no_members, member, Fields, no_fields, field, members_count, fields_count, depth, members_depth, fields_depth}
 use Rattle.request_codec.specs.Spelling.{SpellsText, Spells, SpellEach, SpellFields, IsBelowFirst}
 use Rattle.request_codec.specs.Reading.{Parse, number_at, text_at, members_at, is_above, fields_at, node_at, value_at}
 use Rattle.request_codec.proofs.Steps.{bound, provided, pair_is}
 use Rattle.request_codec.proofs.Numbers.{IsBytes, IsBytes-rest, Found, wide32, wide64, number_found, text_found}
-use Rattle.request_codec.proofs.Again.{AreAbove}
+use Rattle.request_codec.proofs.SpellingsRead.{AreAbove}
 
 -- ---- members, where what `read` gives is spelled and no deeper than d
 abbrev pub IsRead : Parse Tree → ℕ → Type 0
@@ -101,7 +101,7 @@ node_found read d reads (suc (suc zero)) bytes v rest fits e =
 node_found read d reads (suc (suc (suc zero))) bytes v rest fits e =
     let b = bound (number_at w64 bytes) _ (v, rest) e in
     let t = number_found w64 (2 ^ 64) wide64 bytes b.0.0 b.0.1 fits b.1 in
-    let result : Found (Spells (whole (cast_signed w64 b.0.0))) (3 ∷ bytes) b.0.1 × (depth (whole (cast_signed w64 b.0.0)) ≤ suc d) = (
+    let result : Found (Spells (integer (cast_signed w64 b.0.0))) (3 ∷ bytes) b.0.1 × (depth (integer (cast_signed w64 b.0.0)) ≤ suc d) = (
       record {
         used = 3 ∷ to_be_bytes w64 b.0.0;
         wanted = (SFits-cast_signed b.0.0 t.1, ap (λ (k : ℕ). 3 ∷ to_be_bytes w64 k) (sym (of_z-to_z w64 b.0.0 t.1)));

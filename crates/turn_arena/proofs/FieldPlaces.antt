@@ -12,7 +12,7 @@ use Rattle.request_codec.specs.Tree.{field}
 use Rattle.request_codec.proofs.Entries.{is_less}
 use Rattle.turn_arena.specs.Ascending.{NamesAscend, MapsAscend, FieldsAscend}
 use Rattle.turn_arena.specs.Fields.{by_order, field_put, field_dropped, put_field, dropped_field, IsPlaceOf, IsGapFor}
-use Rattle.turn_arena.specs.Shape.{shape, field_shapes}
+use Rattle.turn_arena.specs.NodeValue.{node_value, field_values}
 use Rattle.turn_arena.specs.declared.node.Field.{Field}
 
 abbrev order : List ℕ → List ℕ → Ordering
@@ -87,15 +87,15 @@ map_by_order h Less before here behind seen e = refl
 map_by_order h Equal before here behind seen e = refl
 map_by_order h Greater before here behind seen e = e
 
-pub field_shapes-put : (f : Field) (fs : List Field) → field_shapes (put_field f fs) ≡ field_put f.name.now (shape f.node) (field_shapes fs)
-field_shapes-put f [] = refl
-field_shapes-put f (g ∷ fs) =
-    map_by_order field_shapes (order f.name.now g.name.now) (f ∷ g ∷ fs) (f ∷ fs) (g ∷ put_field f fs) _ (ap (field g.name.now (shape g.node)) (field_shapes-put f fs))
+pub field_values-put : (f : Field) (fs : List Field) → field_values (put_field f fs) ≡ field_put f.name.now (node_value f.node) (field_values fs)
+field_values-put f [] = refl
+field_values-put f (g ∷ fs) =
+    map_by_order field_values (order f.name.now g.name.now) (f ∷ g ∷ fs) (f ∷ fs) (g ∷ put_field f fs) _ (ap (field g.name.now (node_value g.node)) (field_values-put f fs))
 
-pub field_shapes-dropped : (n : List ℕ) (fs : List Field) → field_shapes (dropped_field n fs) ≡ field_dropped n (field_shapes fs)
-field_shapes-dropped n [] = refl
-field_shapes-dropped n (g ∷ fs) =
-    map_by_order field_shapes (order n g.name.now) (g ∷ fs) fs (g ∷ dropped_field n fs) _ (ap (field g.name.now (shape g.node)) (field_shapes-dropped n fs))
+pub field_values-dropped : (n : List ℕ) (fs : List Field) → field_values (dropped_field n fs) ≡ field_dropped n (field_values fs)
+field_values-dropped n [] = refl
+field_values-dropped n (g ∷ fs) =
+    map_by_order field_values (order n g.name.now) (g ∷ fs) fs (g ∷ dropped_field n fs) _ (ap (field g.name.now (node_value g.node)) (field_values-dropped n fs))
 
 -- ---- the order of the names
 
@@ -149,15 +149,15 @@ NamesAscend-dropped n (g ∷ fs) up =
 -- the names of each map in each field's value ascend
 abbrev pub NodesAscend : List Field → Type 0
 NodesAscend [] = Unit {0}
-NodesAscend (f ∷ fs) = MapsAscend (shape f.node) × NodesAscend fs
+NodesAscend (f ∷ fs) = MapsAscend (node_value f.node) × NodesAscend fs
 
-pub fields_ascend : (fs : List Field) → NamesAscend fs → NodesAscend fs → FieldsAscend (field_shapes fs)
+pub fields_ascend : (fs : List Field) → NamesAscend fs → NodesAscend fs → FieldsAscend (field_values fs)
 unfolding IsStrictlySortedBy
 fields_ascend [] up each = tt
 fields_ascend (f ∷ []) up each = (each.0, tt, tt)
 fields_ascend (f ∷ g ∷ fs) up each = (each.0, ap is_lt up.0.0, fields_ascend (g ∷ fs) up.1 each.1)
 
-pub names_ascend : (fs : List Field) → FieldsAscend (field_shapes fs) → NamesAscend fs
+pub names_ascend : (fs : List Field) → FieldsAscend (field_values fs) → NamesAscend fs
 unfolding IsStrictlySortedBy
 names_ascend [] h = tt
 names_ascend (f ∷ []) h = (tt, tt)

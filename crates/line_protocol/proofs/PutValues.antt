@@ -10,11 +10,11 @@ use Rattle.serde_json.specs.Find.{of_integer, as_i64}
 use Rattle.serde_json.specs.Read.{of_json, converted}
 use Rattle.request_codec.specs.Tree as tree
 use Rattle.request_codec.specs.Tree.{list, map}
-use Rattle.request_codec.specs.Lenient.{lenient_value, lenient_members, lenient_fields, whole_or_null}
+use Rattle.request_codec.specs.Lenient.{lenient_value, lenient_members, lenient_fields, integer_or_null}
 use Rattle.request_codec.specs.Written.{spelling}
 use Rattle.line_protocol.specs.Number.{IsWhole}
 use Rattle.line_protocol.specs.Argument.{too_deep, PutsValue, PutsItems, PutsFields}
-use Rattle.line_protocol.proofs.Turns.{converted-array, converted-object}
+use Rattle.line_protocol.proofs.GrammarLoops.{converted-array, converted-object}
 use Rattle.line_protocol.proofs.Numbers.{as_i64-of_integer}
 
 one_less : (ts : List Token) (t : Token) (old : List Token) → old ≡ t ∷ ts → length ts < length old
@@ -53,10 +53,10 @@ put_string depth old new before after s deep e valid b = record {
   shorter = one_less new (Token.string s) old e;
 }
 
-pub put_number : (depth : ℕ) (old new : List Token) (before after s : List ℕ) (i : ℤ) → too_deep < depth → old ≡ Token.number s ∷ new → IsWhole s i → after ≡ before ++ spelling (tree.whole i) → PutsValue depth old new before after
+pub put_number : (depth : ℕ) (old new : List Token) (before after s : List ℕ) (i : ℤ) → too_deep < depth → old ≡ Token.number s ∷ new → IsWhole s i → after ≡ before ++ spelling (tree.integer i) → PutsValue depth old new before after
 put_number depth old new before after s i deep e w b =
     let is : as_i64 (of_integer i) ≡ Some i = as_i64-of_integer i w.fits in
-    let seen : lenient_value (json.number (of_integer i)) ≡ tree.whole i = ap whole_or_null is in
+    let seen : lenient_value (json.number (of_integer i)) ≡ tree.integer i = ap integer_or_null is in
     record {
       json = json.number (of_integer i);
       read = ap (converted of_json) (read_at depth old new (Token.number s) e ∙ value_is depth (Token.number s ∷ new)) ∙ ap (λ o. option_map {U = Data × List Token} (λ d. (d, new)) (option_map json.number o)) w.read;

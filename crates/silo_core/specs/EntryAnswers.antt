@@ -7,17 +7,17 @@ use Rattle.silo_event.specs.declared.reply.Party.TheVariants as party
 use Rattle.silo_event.specs.declared.reply.Reply.{Reply}
 use Rattle.silo_model.specs.Machine.{Entry}
 use Rattle.silo_model.specs.Effect.{Effect, keep, put, on_entry}
-use Rattle.silo_model.specs.Calls.{answered}
+use Rattle.silo_model.specs.Calls.{reply_to}
 
 -- The effect puts the new entry there; or there is no effect, and the entry stays.
-abbrev pub Turns : Option Effect → Entry → Answer → Entry → Type 0
-Turns effect old Done new = effect ≡ Some (on_entry new)
-Turns effect old Failed new = ⊥
-Turns effect old NotNow new = (effect ≡ None) × (new ≡ old)
+abbrev pub EntryAnswered : Option Effect → Entry → Answer → Entry → Type 0
+EntryAnswered effect old Done new = effect ≡ Some (on_entry new)
+EntryAnswered effect old Failed new = ⊥
+EntryAnswered effect old NotNow new = (effect ≡ None) × (new ≡ old)
 
 -- the new entry, and the reply where the recipient is told one
 abbrev pub closing : Entry → Reply → Effect
-closing entry reply = record { account = keep; entry = put entry; row = keep; replies = answered reply.recipient reply.outcome }
+closing entry reply = record { account = keep; entry = put entry; row = keep; replies = reply_to reply.recipient reply.outcome }
 
 -- The effect closes a turn with this reply; or there is no effect, and the entry stays.
 abbrev pub Closes : Option Effect → Entry → Option Reply → Entry → Type 0
