@@ -13,7 +13,8 @@ use Rattle.tenant_audit.specs.declared.recorded.RecordedReply.{RecordedReply}
 use Rattle.tenant_audit.specs.declared.line.Line.{Line}
 use Rattle.tenant_audit.specs.declared.line.Line.TheVariants as line
 use Rattle.tenant_audit.specs.Text.{History, history, tenant_line, row_line}
-use Rattle.tenant_audit.specs.Rules.{IsAge, IsLine, comes_after, are_ascending}
+use Rattle.tenant_gate.specs.Age.{IsAge}
+use Rattle.tenant_audit.specs.Rules.{IsLine, comes_after, are_ascending}
 use Rattle.tenant_audit.specs.Candidates.{only_if}
 use Rattle.tenant_audit.specs.Draft.{body, lines_so_far, IsDraft, is_empty, has_tenant, last_grain, tenant_fits, step_fits, reply_fits, row_fits, added}
 use Rattle.tenant_audit.proofs.Drafts.{empty, length-push, names_of-push, no_repeat, has_tenant-names}

@@ -5,7 +5,8 @@ use Rattle.tenant_audit.specs.declared.fault.LineFault.{LineFault}
 use Rattle.tenant_audit.specs.declared.fault.LineFault.TheVariants as faults
 use Rattle.tenant_audit.specs.declared.line.Line.{Line}
 use Rattle.tenant_audit.specs.Text.{History, line_text, lines_text}
-use Rattle.tenant_audit.specs.Rules.{IsAge, IsLine}
+use Rattle.tenant_gate.specs.Age.{IsAge}
+use Rattle.tenant_audit.specs.Rules.{IsLine}
 use Rattle.tenant_audit.specs.Answers.{ReadsLine}
 use Rattle.tenant_audit.specs.Draft.{lines_so_far, start_lines, IsDraft, added}
 use Rattle.tenant_audit.specs.JournalAnswers.{BeginsWithLine}

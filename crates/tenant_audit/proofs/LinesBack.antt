@@ -21,7 +21,8 @@ use Rattle.tenant_audit.specs.RecordedFault.{CodeAndText, is_recorded_fault, is_
 use Rattle.tenant_audit.specs.Form.{HasState, is_code, state_bytes}
 use Rattle.tenant_audit.specs.Candidates.{wide_of, age_of, tenant_of, recipient_of, recorded_fault_of, outcome_of, reply_of, content_of, version_of, row_of, candidate_of}
 use Rattle.tenant_audit.specs.Text.{◌␣◌, state_text, recipient_text, outcome_text, content_text, line_text}
-use Rattle.tenant_audit.specs.Rules.{IsAge, IsParty, IsOutcome, IsRow, IsLine}
+use Rattle.tenant_gate.specs.Age.{IsAge}
+use Rattle.tenant_audit.specs.Rules.{IsParty, IsOutcome, IsRow, IsLine}
 use Rattle.tenant_audit.proofs.Words.{differ}
 use Rattle.tenant_audit.proofs.Numbers.{wide_of-decimal, decimal_begins}
 use Rattle.tenant_audit.proofs.Cuts.{IsField, cut-field}

@@ -5,7 +5,8 @@ use Rattle.std.proofs.lemmas.Option.{same_Some}
 use Rattle.tenant_audit.specs.declared.line.Line.{Line}
 use Rattle.tenant_audit.specs.declared.line.Line.TheVariants as line
 use Rattle.tenant_audit.specs.Text.{History, journal_lines, journal_text}
-use Rattle.tenant_audit.specs.Rules.{IsAge, IsLine, KeepsRules}
+use Rattle.tenant_gate.specs.Age.{IsAge}
+use Rattle.tenant_audit.specs.Rules.{IsLine, KeepsRules}
 use Rattle.tenant_audit.specs.Draft.{body}
 use Rattle.tenant_audit.proofs.LinesCut.{same_lines}
 use Rattle.tenant_audit.proofs.Drafts.{empty, completed}

@@ -7,7 +7,8 @@ use Rattle.tenant_audit.specs.declared.line.Line.{Line}
 use Rattle.tenant_audit.specs.declared.line.Line.TheVariants as line
 use Rattle.tenant_audit.specs.RecordedFault.{is_text_byte}
 use Rattle.tenant_audit.specs.Text.{History, line_text, lines_text, journal_text}
-use Rattle.tenant_audit.specs.Rules.{IsAge, IsLine, KeepsRules}
+use Rattle.tenant_gate.specs.Age.{IsAge}
+use Rattle.tenant_audit.specs.Rules.{IsLine, KeepsRules}
 use Rattle.tenant_audit.specs.FirstFault.{IsFirstFault}
 use Rattle.tenant_audit.specs.Draft.{start_lines}
 

@@ -3,6 +3,7 @@ use Rattle.std.specs.Prelude.{◌≡◌, ℕ, ◌<◌, ◌≤◌, ◌^◌, Bool,
 use Rattle.std.specs.Ordering.{is_lt}
 use Rattle.grain_id.specs.Names.{Grain, grain_cmp, is_grain, is_client}
 use Rattle.grain_id.specs.Words.{is_word}
+use Rattle.tenant_gate.specs.Age.{IsAge}
 use Rattle.tenant_gate.specs.Table.{Table, table_fault, are_in_range}
 use Rattle.grain_storage.specs.declared.row.Row.{Row}
 use Rattle.silo_event.specs.declared.reply.Party.{Party}
@@ -19,10 +20,6 @@ use Rattle.tenant_audit.specs.declared.line.Line.TheVariants as line
 -- a client's number, a turn's number, or a moment
 abbrev pub IsNumber : ℕ → Type 0
 IsNumber n = n < 2 ^ 63
-
--- a millisecond to a day
-abbrev pub IsAge : ℕ → Type 0
-IsAge age = (1 ≤ age) × (age ≤ 86400000)
 
 abbrev pub IsParty : Party → Type 0
 IsParty (party.Client client id) = IsTrue (is_client client) × IsNumber id

@@ -1,7 +1,8 @@
 //! Journals.
 
 ghost use Rattle.std.specs.Prelude.{◌≡◌, IsTrue, None};
-ghost use Rattle.tenant_audit.specs.Rules.{IsAge, IsTable, are_ascending};
+ghost use Rattle.tenant_audit.specs.Rules.{IsTable, are_ascending};
+ghost use Rattle.tenant_gate.specs.Age.{IsAge};
 
 use crate::recorded::RecordedReply;
 use grain_id::{GrainId, Tenant};

@@ -4,7 +4,7 @@ ghost use Rattle.std.specs.Prelude.{◌≡◌, ◌↔◌, ℕ, ◌++◌, ◌∷�
 ghost use Rattle.tenant_audit.specs.declared.line.Line.TheVariants as lines;
 ghost use Rattle.tenant_audit.specs.JournalAnswers.{HasNoBreak, CutsLine, BeginsWithLine, BeginsWithHead, BeginsWithAge, ReadsStart, ReadsJournal};
 ghost use Rattle.tenant_audit.specs.Text.{line_text, lines_text};
-ghost use Rattle.tenant_audit.specs.Rules.{IsAge};
+ghost use Rattle.tenant_gate.specs.Age.{IsAge};
 ghost use Rattle.tenant_audit.specs.Draft.{start_lines, lines_so_far, IsDraft};
 
 use crate::draft::Draft;

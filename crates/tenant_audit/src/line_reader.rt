@@ -6,7 +6,8 @@ ghost use Rattle.grain_id.specs.Words.{is_word};
 ghost use Rattle.tenant_gate.specs.Table.{are_in_range};
 ghost use Rattle.tenant_audit.specs.Answers.{Reads};
 ghost use Rattle.tenant_audit.specs.Candidates.{age_of, limits_of, word_of, tenant_of, recipient_of, outcome_of, reply_of, content_of, version_of, row_of, head_of, step_line, step_of, named_of, candidate_of};
-ghost use Rattle.tenant_audit.specs.Rules.{IsLine, IsAge, IsParty, IsOutcome, IsRow};
+ghost use Rattle.tenant_audit.specs.Rules.{IsLine, IsParty, IsOutcome, IsRow};
+ghost use Rattle.tenant_gate.specs.Age.{IsAge};
 ghost use Rattle.tenant_audit.specs.Form.{HasState};
 ghost use Rattle.grain_id.specs.Names.{same_text};
 ghost use Rattle.tenant_audit.specs.Text.{line_text};
@@ -23,10 +24,9 @@ use grain_storage::Row;
 use request_codec::StateBytes;
 use silo_event::{Party, Step};
 use std::alloc::{AllocError, Global};
-use tenant_gate::{Limits, MAX_ACTIVATIONS, MAX_MAILBOX};
-
-/// The greatest age, in milliseconds.
-const MAX_AGE: u64 = 86_400_000;
+use tenant_gate::{
+    Limits, MAX_ACTIVATIONS, MAX_AGE_MILLISECONDS, MAX_MAILBOX, MIN_AGE_MILLISECONDS,
+};
 
 /// What stands behind `age`.
 fn parse_age(field: &str) -> Result<u64, LineFault>
@@ -34,7 +34,7 @@ fn parse_age(field: &str) -> Result<u64, LineFault>
     ensures in_range { IfOk result IsAge }
 {
     let age = parse_u64(field)?;
-    if 1 <= age && age <= MAX_AGE {
+    if MIN_AGE_MILLISECONDS <= age && age <= MAX_AGE_MILLISECONDS {
         Ok(age)
     } else {
         Err(LineFault::NoForm)

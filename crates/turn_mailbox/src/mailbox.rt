@@ -92,6 +92,8 @@ impl Mailbox {
     /// Out of memory: the mailbox is as before.
     pub fn make_room(&mut self) -> Result<(), AllocError>
         ensures room { OnOk result (length self.new.waiting < self.new.capacity) }
+        ensures had_room { length self.old.waiting < self.old.capacity → self.new ≡ self.old }
+        ensures refused { OnErr result (length self.old.waiting ≡ self.old.capacity) }
         ensures kept { self.new ≡ record self.old { capacity = self.new.capacity } }
         ensures unchanged { OnErr result (self.new ≡ self.old) }
     {
