@@ -24,6 +24,3 @@ module _ {X : Type 0} where
 
   pub text_insert-again : (m : FinMap text_cmp X) (k : List ℕ) (v : X) → map.get m k ≡ Some v → map.insert m k v ≡ m
   text_insert-again = maps.insert-again text_cmp_total text_cmp_exact
-
-  pub text_remove-absent : (m : FinMap text_cmp X) (k : List ℕ) → map.get m k ≡ None → map.remove m k ≡ m
-  text_remove-absent = maps.remove-absent text_cmp_total text_cmp_exact

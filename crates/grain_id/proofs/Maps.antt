@@ -73,14 +73,6 @@ module _ {K : Type 0} {R : K → K → Ordering} (total : IsTotalOrder R) (exact
       ∙ same_choice (eq_by_cmp R q k) (Some w) (Some v) (map.get m q)
       ∙ sym (map.get-insert total m k w q))
 
-  -- a value put at a key that was taken out first
-  pub insert-remove : (m : FinMap R X) (k : K) (v : X) → map.insert (map.remove m k) k v ≡ map.insert m k v
-  insert-remove m k v = alike _ _ (λ q.
-      map.get-insert total (map.remove m k) k v q
-      ∙ ap (λ o. cond (eq_by_cmp R q k) (Some v) o) (map.get-remove total m k q)
-      ∙ same_choice (eq_by_cmp R q k) (Some v) None (map.get m q)
-      ∙ sym (map.get-insert total m k v q))
-
   -- a key that was put and taken out again
   pub remove-insert : (m : FinMap R X) (k : K) (v : X) → map.remove (map.insert m k v) k ≡ map.remove m k
   remove-insert m k v = alike _ _ (λ q.

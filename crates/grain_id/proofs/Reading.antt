@@ -18,13 +18,6 @@ use Rattle.grain_id.specs.Reading.{cut_at, part, or_fault, grain_read, caller_re
 
 -- ---- faults
 
-pub Fails-from : {Y : Type 0} (e : IdFault) (read : Result Y IdFault) → read ≡ Err e → Fails e read
-Fails-from faults.Kind read is = is
-Fails-from faults.Tenant read is = is
-Fails-from faults.Name read is = is
-Fails-from faults.Client read is = is
-Fails-from faults.Memory read is = tt
-
 pub IfFaulty-from : (Y : Type 0) {said : Type 0} (e : IdFault) → said → IfFaulty {Y = Y} (Err e) said
 IfFaulty-from Y faults.Kind known = known
 IfFaulty-from Y faults.Tenant known = known

@@ -31,12 +31,6 @@ pub stale_itself : (found : Option Row) → is_stale (version_of found) found �
 stale_itself None = refl
 stale_itself (Some row) = ap not ((Decides-eqb row.version row.version).1 refl)
 
--- so a poke is never stale
-pub poked_by_put : (rows : Rows) (grain : Grain) (content : Tree)
-    → poked rows grain content ≡ (if is_spent (get rows grain) then Err spent else Ok (put rows grain (Some content)))
-unfolding poked written
-poked_by_put rows grain content = changed_fresh (version_of (get rows grain)) (get rows grain) (put rows grain (Some content)) (stale_itself (get rows grain))
-
 not_last : (version : ℕ) → version ≢ last_version → (version == last_version) ≡ false
 not_last version early = grind (arith, nat_tests)
 

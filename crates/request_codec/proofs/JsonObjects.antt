@@ -12,10 +12,6 @@ abbrev pub AreBelowKeys : List Entry → List JsonEntry → Type 0
 AreBelowKeys done [] = Unit {0}
 AreBelowKeys done (e ∷ es) = AreBelow done (string_bytes e.0)
 
-pub none_below : (es : List JsonEntry) → AreBelowKeys [] es
-none_below [] = tt
-none_below (e ∷ es) = tt
-
 pub below_first : (done : List Entry) (left : List JsonEntry) (e : JsonEntry) (es : List JsonEntry) → left ≡ e ∷ es → AreBelowKeys done left → AreBelow done (string_bytes e.0)
 below_first done left e es is h = subst (λ (l : List JsonEntry). AreBelowKeys done l) is h
 

@@ -35,10 +35,6 @@ regroup : (front : List Tree) (v : Tree) (o : Option Members) → with_front fro
 regroup front v None = refl
 regroup front v (Some vs) = ap (λ (us : Members). Some us) (before-append front v vs)
 
-pub front-none : (o : Option Members) → with_front [] o ≡ o
-front-none None = refl
-front-none (Some vs) = refl
-
 items-cut : (vs : List Value) (i : ℕ) (d : Value) (found : Option Tree) → i < length vs → value_of_json (view (get_or vs i d)) ≡ found
     → members_of_json (items_view (drop i vs)) ≡ option_and_then (λ u. option_map (member u) (members_of_json (items_view (drop (i + 1) vs)))) found
 items-cut vs i d found lt h =
@@ -50,10 +46,6 @@ pub items-next : (front : List Tree) (vs : List Value) (i : ℕ) (d : Value) (v 
 items-next front vs i d v total lt h so_far =
     let rest = members_of_json (items_view (drop (i + 1) vs)) in
     sym (ap (with_front front) (items-cut vs i d (Some v) lt h) ∙ regroup front v rest) ∙ so_far
-
-pub items-fail : (front : List Tree) (vs : List Value) (i : ℕ) (d : Value) (total : Option Members) → i < length vs
-    → with_front front (members_of_json (items_view (drop i vs))) ≡ total → value_of_json (view (get_or vs i d)) ≡ None → total ≡ None
-items-fail front vs i d total lt so_far h = sym so_far ∙ ap (with_front front) (items-cut vs i d None lt h)
 
 pub items-done : (front : List Tree) (vs : List Value) (i : ℕ) (total : Option Members) → length vs ≤ i → with_front front (members_of_json (items_view (drop i vs))) ≡ total → total ≡ Some (members_of front)
 items-done front vs i total le so_far =
@@ -69,10 +61,6 @@ regroup_fields : (front : List Named) (f : Named) (o : Option Fields) → with_f
 regroup_fields front f None = refl
 regroup_fields front f (Some fs) = ap (λ (us : Fields). Some us) (before_fields-append front f fs)
 
-pub fields-none : (o : Option Fields) → with_fields [] o ≡ o
-fields-none None = refl
-fields-none (Some fs) = refl
-
 fields-cut : (es : List JsonEntry) (e : JsonEntry) (rest : List JsonEntry) (found : Option Tree) → es ≡ e ∷ rest → value_of_json (view e.1) ≡ found
     → fields_of_json (members_view es) ≡ option_and_then (λ u. option_map (field (string_bytes e.0) u) (fields_of_json (members_view rest))) found
 fields-cut es e rest found is h =
@@ -83,10 +71,6 @@ pub fields-next : (front : List Named) (es : List JsonEntry) (e : JsonEntry) (re
     → with_fields front (fields_of_json (members_view es)) ≡ total → with_fields (front ++ (string_bytes e.0, v) ∷ []) (fields_of_json (members_view rest)) ≡ total
 fields-next front es e rest v total is h so_far =
     sym (ap (with_fields front) (fields-cut es e rest (Some v) is h) ∙ regroup_fields front (string_bytes e.0, v) (fields_of_json (members_view rest))) ∙ so_far
-
-pub fields-fail : (front : List Named) (es : List JsonEntry) (e : JsonEntry) (rest : List JsonEntry) (total : Option Fields) → es ≡ e ∷ rest
-    → with_fields front (fields_of_json (members_view es)) ≡ total → value_of_json (view e.1) ≡ None → total ≡ None
-fields-fail front es e rest total is so_far h = sym so_far ∙ ap (with_fields front) (fields-cut es e rest None is h)
 
 pub fields-done : (front : List Named) (es : List JsonEntry) (total : Option Fields) → es ≡ [] → with_fields front (fields_of_json (members_view es)) ≡ total → total ≡ Some (fields_of front)
 fields-done front es total is so_far =

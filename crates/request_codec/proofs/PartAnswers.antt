@@ -49,14 +49,6 @@ WritesJson-fault faults.TooDeep method d v bytes deep is same h = absurd h
 WritesJson-fault faults.NotWhole method d v bytes deep is same h = absurd h
 WritesJson-fault faults.NotAMessage method d v bytes deep is same h = absurd h
 
--- what was put at the end of nothing is all that was written
-pub WritesAll-fault : (e : CodecFault) (limit : ℕ) (old new : List ℕ) (bytes whole : List ℕ) → length old + length bytes ≤ length whole → Puts limit old new (Err e) bytes → WritesAll limit (Err e) whole
-WritesAll-fault faults.TooLong limit old new bytes whole le h = omega (arith, h, le)
-WritesAll-fault faults.Memory limit old new bytes whole le h = tt
-WritesAll-fault faults.TooDeep limit old new bytes whole le h = absurd h
-WritesAll-fault faults.NotWhole limit old new bytes whole le h = absurd h
-WritesAll-fault faults.NotAMessage limit old new bytes whole le h = absurd h
-
 -- why nothing was converted
 abbrev pub FailsToGive : {A : Type 0} → CodecFault → Option A → Type 0
 FailsToGive faults.NotWhole found = found ≡ None
@@ -64,11 +56,3 @@ FailsToGive faults.TooDeep found = ⊥
 FailsToGive faults.TooLong found = ⊥
 FailsToGive faults.NotAMessage found = ⊥
 FailsToGive faults.Memory found = Unit {0}
-
--- a fault of a part is the whole's fault
-pub FailsToGive-whole : {A B : Type 0} (e : CodecFault) (part : Option A) (whole : Option B) → (part ≡ None → whole ≡ None) → FailsToGive e part → FailsToGive e whole
-FailsToGive-whole faults.NotWhole part whole none h = none h
-FailsToGive-whole faults.Memory part whole none h = tt
-FailsToGive-whole faults.TooDeep part whole none h = absurd h
-FailsToGive-whole faults.TooLong part whole none h = absurd h
-FailsToGive-whole faults.NotAMessage part whole none h = absurd h

@@ -177,7 +177,3 @@ same_bytes b x y is equal = (bytes_eq-Decides x y).0 (sym is ∙ equal)
 
 bytes_same : (b : Bool) (x y : List ℕ) → b ≡ bytes_eq x y → x ≡ y → IsTrue b
 bytes_same b x y is same = is ∙ (bytes_eq-Decides x y).1 same
-
-pub same_where_bytes_are : {A : Type 0} (view : List ℕ → Option A) (write : A → List ℕ) (b : Bool) (x y : List ℕ) (v w : A) → b ≡ bytes_eq x y → x ≡ write v → y ≡ write w → view x ≡ Some v → view y ≡ Some w → IsTrue b ↔ (v ≡ w)
-same_where_bytes_are view write b x y v w is x_is y_is reads_x reads_y =
-    (λ equal. same_Some v w (sym reads_x ∙ ap view (same_bytes b x y is equal) ∙ reads_y), λ same. bytes_same b x y is (x_is ∙ ap write same ∙ sym y_is))

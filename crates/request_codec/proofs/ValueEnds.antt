@@ -104,17 +104,3 @@ fields_end-done read count i last bytes total le so_far =
     sym one ∙ so_far
 
 -- ---- the whole of the bytes
-
-pub is_whole-end : (o : Option (Tree × List ℕ)) → Some [] ≡ end_of o → true ≡ is_some (if_ended o)
-is_whole-end None e = absurd cc
-is_whole-end (Some (v, [])) e = refl
-is_whole-end (Some (v, b ∷ rest)) e = absurd cc
-
-pub is_whole-more : (o : Option (Tree × List ℕ)) (b : ℕ) (rest : List ℕ) → Some (b ∷ rest) ≡ end_of o → false ≡ is_some (if_ended o)
-is_whole-more None b rest e = refl
-is_whole-more (Some (v, [])) b rest e = absurd cc
-is_whole-more (Some (v, c ∷ more)) b rest e = refl
-
-pub is_whole-none : (o : Option (Tree × List ℕ)) → None ≡ end_of o → false ≡ is_some (if_ended o)
-is_whole-none None e = refl
-is_whole-none (Some x) e = absurd cc

@@ -21,7 +21,7 @@ use Rattle.silo_model.specs.Stores.{row_poked, version_value}
 use Rattle.silo_model.specs.Asks.{refused, row_told, poke_settled, poked, status_of, status_told}
 use Rattle.silo_model.specs.Step.{effect_of}
 use Rattle.silo_model.specs.Whole.{Whole, shown_to, spread, whole_step}
-use Rattle.silo_model.proofs.Contexts.{active_of, context_of, step_by_sight, step_at_own}
+use Rattle.silo_model.proofs.Contexts.{active_of, context_of, step_by_context, step_at_own}
 use Rattle.silo_model.proofs.CallRule.{gate_unknown_tenant, gate_across, gate_unknown_kind, gate_passed}
 use Rattle.silo_model.proofs.CallSteps.{spread-only_replies}
 
@@ -37,30 +37,30 @@ module _ (logic : Logic) (w : Whole) (caller : Client) (id : ℕ) where
   pub refuse_is : (code : Refusal) → whole_step logic w (Refuse caller id code) ≡ Some (told_whole (Err (refusal_fault code)))
   unfolding effect_of
   refuse_is code =
-      step_by_sight logic w (Refuse caller id code) caller.tenant None (Some (refused asker code)) refl refl refl
+      step_by_context logic w (Refuse caller id code) caller.tenant None (Some (refused asker code)) refl refl refl
       ∙ ap Some (spread-only_replies w caller.tenant None asker (Err (refusal_fault code)))
 
   -- ---- status
 
   -- what the whole has of the tenant, at no grain
-  abbrev tenant_sight : Context
-  tenant_sight = record { tenant = caller.tenant; account = map.get w.accounts caller.tenant; clock = w.clock; active = active_of w caller.tenant; entry = None; row = None }
+  abbrev tenant_context : Context
+  tenant_context = record { tenant = caller.tenant; account = map.get w.accounts caller.tenant; clock = w.clock; active = active_of w caller.tenant; entry = None; row = None }
 
-  sees_tenant : context_at (shown_to caller.tenant w) None ≡ tenant_sight
+  sees_tenant : context_at (shown_to caller.tenant w) None ≡ tenant_context
   unfolding context_at shown_to
   sees_tenant = refl
 
-  status_by : (account : Option Account) → map.get w.accounts caller.tenant ≡ account → whole_step logic w (Status caller id) ≡ Some (spread w caller.tenant None (status_told tenant_sight asker account))
+  status_by : (account : Option Account) → map.get w.accounts caller.tenant ≡ account → whole_step logic w (Status caller id) ≡ Some (spread w caller.tenant None (status_told tenant_context asker account))
   unfolding effect_of
   status_by account known =
-      step_by_sight logic w (Status caller id) caller.tenant None (Some (status_told tenant_sight asker account)) refl refl
-      (ap (λ (s : Context). Some (status_told s asker s.account)) sees_tenant ∙ ap (λ a. Some (status_told tenant_sight asker a)) known)
+      step_by_context logic w (Status caller id) caller.tenant None (Some (status_told tenant_context asker account)) refl refl
+      (ap (λ (s : Context). Some (status_told s asker s.account)) sees_tenant ∙ ap (λ a. Some (status_told tenant_context asker a)) known)
 
   pub status_unknown_tenant : map.get w.accounts caller.tenant ≡ None → whole_step logic w (Status caller id) ≡ Some (told_whole (Err (UnknownTenant caller.tenant)))
   status_unknown_tenant none = status_by None none ∙ ap Some (spread-only_replies w caller.tenant None asker (Err (UnknownTenant caller.tenant)))
 
-  pub status_is : (a : Account) → map.get w.accounts caller.tenant ≡ Some a → whole_step logic w (Status caller id) ≡ Some (told_whole (Ok (status_of tenant_sight a)))
-  status_is a known = status_by (Some a) known ∙ ap Some (spread-only_replies w caller.tenant None asker (Ok (status_of tenant_sight a)))
+  pub status_is : (a : Account) → map.get w.accounts caller.tenant ≡ Some a → whole_step logic w (Status caller id) ≡ Some (told_whole (Ok (status_of tenant_context a)))
+  status_is a known = status_by (Some a) known ∙ ap Some (spread-only_replies w caller.tenant None asker (Ok (status_of tenant_context a)))
 
   -- ---- pokes
 
@@ -79,7 +79,7 @@ module _ (logic : Logic) (w : Whole) (caller : Client) (id : ℕ) where
     poke_refused : (why : Fault) → gate logic seen seen.account g ≡ Err why → whole_step logic w (Poke caller id g state failed) ≡ Some (told_whole (Err why))
     unfolding effect_of poked
     poke_refused why is =
-        step_by_sight logic w (Poke caller id g state failed) caller.tenant (Some g) _ refl refl (ap (λ r. Some (poke_settled seen asker g state failed r)) is)
+        step_by_context logic w (Poke caller id g state failed) caller.tenant (Some g) _ refl refl (ap (λ r. Some (poke_settled seen asker g state failed r)) is)
         ∙ ap Some (spread-only_replies w caller.tenant (Some g) asker (Err why))
 
     -- the asker's tenant isn't known

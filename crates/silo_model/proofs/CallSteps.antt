@@ -17,7 +17,7 @@ use Rattle.silo_model.specs.Effect.{Context, Effect, context_at, only_replies}
 use Rattle.silo_model.specs.Calls.{told, last_number, gate, room, with_request, accepted, called}
 use Rattle.silo_model.specs.Step.{effect_of}
 use Rattle.silo_model.specs.Whole.{Whole, shown_to, spread, whole_step}
-use Rattle.silo_model.proofs.Contexts.{active_of, context_of, step_by_sight, step_at_own}
+use Rattle.silo_model.proofs.Contexts.{active_of, context_of, step_by_context, step_at_own}
 use Rattle.silo_model.proofs.CallRule.{gate_unknown_tenant, gate_across, gate_unknown_kind, gate_passed, called_refused, called_no_number, called_no_activation, called_new, called_full, called_again, called_accepted}
 
 -- the request that a call becomes, next after the account's last
@@ -48,7 +48,7 @@ module _ (logic : Logic) (w : Whole) (caller : Client) (id : ℕ) (g : Grain) (m
 
   by_called : (e : Effect) → called logic seen (party.Client caller id) g message ≡ e → whole_step logic w (Call caller id g message) ≡ Some (spread w caller.tenant (Some g) e)
   unfolding effect_of
-  by_called e is = step_by_sight logic w (Call caller id g message) caller.tenant (Some g) (Some e) refl refl (ap (λ (x : Effect). Some x) is)
+  by_called e is = step_by_context logic w (Call caller id g message) caller.tenant (Some g) (Some e) refl refl (ap (λ (x : Effect). Some x) is)
 
   refused_by : (why : Fault) → gate logic seen seen.account g ≡ Err why → whole_step logic w (Call caller id g message) ≡ Some (refused_whole why)
   refused_by why is =

@@ -27,10 +27,6 @@ same_text-apart s t apart = not_true (same_text s t) (λ e. apart ((same_text_de
 pub get-own : {X : Type 0} (m : FinMap grain_cmp X) (tenant : List ℕ) (g : Grain) → g.tenant ≡ tenant → map.get (map.retain_keys m (is_of tenant)) g ≡ map.get m g
 get-own m tenant g own = get-part m (is_of tenant) g ∙ ap (λ b. cond b (map.get m g) None) ((same_text_decides g.tenant tenant).1 own)
 
--- and nothing at a grain of another
-pub get-apart : {X : Type 0} (m : FinMap grain_cmp X) (tenant : List ℕ) (g : Grain) → g.tenant ≢ tenant → map.get (map.retain_keys m (is_of tenant)) g ≡ None
-get-apart m tenant g apart = get-part m (is_of tenant) g ∙ ap (λ b. cond b (map.get m g) None) (same_text-apart g.tenant tenant apart)
-
 -- how many entries the whole has of the tenant
 abbrev pub active_of : Whole → List ℕ → ℕ
 active_of w tenant = map.len (map.retain_keys w.entries (is_of tenant))
@@ -39,22 +35,22 @@ active_of w tenant = map.len (map.retain_keys w.entries (is_of tenant))
 abbrev pub context_of : Whole → List ℕ → Grain → Context
 context_of w tenant g = record { tenant = tenant; account = map.get w.accounts tenant; clock = w.clock; active = active_of w tenant; entry = map.get w.entries g; row = map.get w.rows g }
 
-pub own_sight : (w : Whole) (tenant : List ℕ) (g : Grain) → g.tenant ≡ tenant → context_at (shown_to tenant w) (Some g) ≡ context_of w tenant g
+pub own_context : (w : Whole) (tenant : List ℕ) (g : Grain) → g.tenant ≡ tenant → context_at (shown_to tenant w) (Some g) ≡ context_of w tenant g
 unfolding context_at shown_to
-own_sight w tenant g own = λ i. record { tenant = tenant; account = map.get w.accounts tenant; clock = w.clock; active = active_of w tenant; entry = get-own w.entries tenant g own i; row = get-own w.rows tenant g own i }
+own_context w tenant g own = λ i. record { tenant = tenant; account = map.get w.accounts tenant; clock = w.clock; active = active_of w tenant; entry = get-own w.entries tenant g own i; row = get-own w.rows tenant g own i }
 
 pub shown_account : (w : Whole) (tenant : List ℕ) → (shown_to tenant w).account ≡ map.get w.accounts tenant
 unfolding shown_to
 shown_account w tenant = refl
 
 -- a step by what it does where its owner looks
-pub step_by_sight : (logic : Logic) (w : Whole) (s : Step) (owner : List ℕ) (grain : Option Grain) (e : Option Effect)
+pub step_by_context : (logic : Logic) (w : Whole) (s : Step) (owner : List ℕ) (grain : Option Grain) (e : Option Effect)
     → owner_of s ≡ Some owner → grain_of (map.get w.accounts owner) s ≡ grain → effect_of logic (context_at (shown_to owner w) grain) s ≡ e → whole_step logic w s ≡ option_map (spread w owner grain) e
 unfolding whole_step
-step_by_sight logic w s owner grain e is place does =
+step_by_context logic w s owner grain e is place does =
     ap (whole_step_by logic w s) is ∙ ap (whole_owned_step logic w s owner) place ∙ ap (λ x. option_map (spread w owner grain) x) does
 
 -- a step at a grain of its owner, by what it does to what the whole has there
 pub step_at_own : (logic : Logic) (w : Whole) (s : Step) (owner : List ℕ) (g : Grain) (e : Option Effect)
     → owner_of s ≡ Some owner → grain_of (map.get w.accounts owner) s ≡ Some g → g.tenant ≡ owner → effect_of logic (context_of w owner g) s ≡ e → whole_step logic w s ≡ option_map (spread w owner (Some g)) e
-step_at_own logic w s owner g e is place own does = step_by_sight logic w s owner (Some g) e is place (ap (λ x. effect_of logic x s) (own_sight w owner g own) ∙ does)
+step_at_own logic w s owner g e is place own does = step_by_context logic w s owner (Some g) e is place (ap (λ x. effect_of logic x s) (own_context w owner g own) ∙ does)

@@ -64,9 +64,6 @@ module _ (logic : Logic) (w : Whole) (g : Grain) (e : Entry) (found : map.get w.
   pub activate_waiting : e.phase ≡ waiting → whole_step logic w (Activate g) ≡ Some (record w { entries = map.insert w.entries g (record e { phase = loading }) })
   activate_waiting is = activate_does (record e { phase = loading }) (ap (activated e) is)
 
-  pub activate_loading : e.phase ≡ loading → whole_step logic w (Activate g) ≡ None
-  activate_loading is = activate_not (ap (activated e) is)
-
   pub activate_ready : (state : Tree) (version : Option ℕ) → e.phase ≡ ready state version → whole_step logic w (Activate g) ≡ None
   activate_ready state version is = activate_not (ap (activated e) is)
 

@@ -19,7 +19,7 @@ use Rattle.silo_model.specs.Whole.{Whole, is_of, is_to, shown_to, spread, whole_
 use Rattle.grain_id.proofs.Order.{eq_by_cmp-Decides, same_text_decides, text_cmp_total, text_cmp_exact, grain_cmp_total, grain_cmp_exact}
 use Rattle.grain_id.proofs.ByGrain.{get-part}
 use Rattle.silo_model.proofs.Changes.{WhereChanged, WhereChanged-map, OfPut, OfPutAt, TestsAt, get-change_same, get-change_other, part-changed_in, part-changed_out, changed_all}
-use Rattle.silo_model.proofs.Contexts.{same_text-apart, not_true, shown_account, step_by_sight}
+use Rattle.silo_model.proofs.Contexts.{same_text-apart, not_true, shown_account, step_by_context}
 use Rattle.silo_model.proofs.SharedSteps.{shared_shown, shared_not, shared_sound}
 use Rattle.silo_model.proofs.Sound.{IsEntryOf, IsSound}
 use Rattle.silo_model.proofs.Proper.{AllTo, IsAt, IsProper, Proper, SeesOwn, effect_proper}
@@ -98,7 +98,7 @@ did_by logic w after s owner None does h = absurd (none-some after h)
 did_by logic w after s owner (Some what) does h = record { what = what; does = does; leaves = same_Some _ after h }
 
 pub did : (logic : Logic) (w after : Whole) (s : Step) (owner : List ℕ) → owner_of s ≡ Some owner → whole_step logic w s ≡ Some after → Did logic w s owner after
-did logic w after s owner is h = did_by logic w after s owner _ refl (sym (step_by_sight logic w s owner (place_in w owner s) _ is refl refl) ∙ h)
+did logic w after s owner is h = did_by logic w after s owner _ refl (sym (step_by_context logic w s owner (place_in w owner s) _ is refl refl) ∙ h)
 
 in_part : (b : Bool) (found : Option Entry) (e : Entry) → cond b found None ≡ Some e → (b ≡ true) × (found ≡ Some e)
 in_part true found e h = (refl, h)
@@ -155,7 +155,7 @@ none_inside f (Some x) e = absurd (none-some (f x) (sym e))
 pub owner_not_now : (logic : Logic) (w : Whole) (s : Step) (owner : List ℕ) → owner_of s ≡ Some owner → whole_step logic w s ≡ None → machine_step logic (shown_to owner w) s ≡ None
 owner_not_now logic w s owner is h =
     let place = place_in w owner s in
-    let none = none_inside (spread w owner place) (effect_of logic (context_at (shown_to owner w) place) s) (sym (step_by_sight logic w s owner place _ is refl refl) ∙ h) in
+    let none = none_inside (spread w owner place) (effect_of logic (context_at (shown_to owner w) place) s) (sym (step_by_context logic w s owner place _ is refl refl) ∙ h) in
     machine_step_by logic (shown_to owner w) s owner place None is (place_shown w owner s) none
 
 -- ---- a step of nobody

@@ -78,11 +78,6 @@ pub others_parts : (logic : Logic) (setup : Setup) (journal : List Step) (w afte
     → LeadsTo logic setup journal w → owner_of s ≡ Some owner → tenant ≢ owner → whole_step logic w s ≡ Some after → shown_to tenant after ≡ shown_to tenant w
 others_parts logic setup journal w after s owner tenant leads is apart step = isolation.others_parts logic w after s owner tenant (journal_sound logic setup journal w leads) is apart step
 
--- a step of nobody is every tenant's
-pub everyones_part : (logic : Logic) (setup : Setup) (journal : List Step) (w after : Whole) (s : Step) (tenant : List ℕ)
-    → LeadsTo logic setup journal w → owner_of s ≡ None → whole_step logic w s ≡ Some after → machine_step logic (shown_to tenant w) s ≡ Some (shown_to tenant after)
-everyones_part logic setup journal w after s tenant leads is step = own_part logic setup journal w after s tenant leads (ap (concerns_by tenant) is) step
-
 pub runs_on : RunsOn
 runs_on logic setup journal w tenant steps leads = run_shown logic tenant steps w (journal_sound logic setup journal w leads)
 
@@ -102,14 +97,6 @@ pub parts_lead : PartsLead
 parts_lead logic setup journal w tenant leads =
     ap (λ m. machine_all_done logic m (restricted_to tenant journal)) (sym (opening_shown setup tenant))
     ∙ struck_done logic tenant (opening setup) w journal (opening_sound setup) leads
-
--- each entry's requests were sent from its own tenant, and a turn is open at its request's number
-pub entry_of_own : (logic : Logic) (setup : Setup) (journal : List Step) (w : Whole) (g : Grain) (e : Entry) → LeadsTo logic setup journal w → map.get w.entries g ≡ Some e → IsEntryOf g.tenant e
-entry_of_own logic setup journal w g e leads found = journal_sound logic setup journal w leads g e found
-
-pub turn_number : (logic : Logic) (setup : Setup) (journal : List Step) (w : Whole) (g : Grain) (e : Entry) (turn : ℕ) (request : Request)
-    → LeadsTo logic setup journal w → map.get w.entries g ≡ Some e → map.get e.turns turn ≡ Some request → request.number ≡ turn
-turn_number logic setup journal w g e turn request leads found open_turn = ((entry_of_own logic setup journal w g e leads found).turns turn request open_turn).1
 
 -- ---- what a step replies
 

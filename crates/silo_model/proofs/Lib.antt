@@ -30,7 +30,6 @@ pub mod AskSteps
 pub mod SendSteps
 pub mod ClockSteps
 pub mod FailedSteps
-pub mod Lasts
 pub mod Actives
 pub mod SentCalls
 pub mod AnswersInParts

@@ -15,7 +15,7 @@ use Rattle.silo_model.specs.Calls.{told, last_number, gate, with_request, accept
 use Rattle.silo_model.specs.Sends.{first_from, first_target, on_account, delivered_to, delivered}
 use Rattle.silo_model.specs.Step.{grain_of, effect_of}
 use Rattle.silo_model.specs.Whole.{Whole, shown_to, spread, whole_step}
-use Rattle.silo_model.proofs.Contexts.{active_of, context_of, own_sight, step_by_sight}
+use Rattle.silo_model.proofs.Contexts.{active_of, context_of, own_context, step_by_context}
 use Rattle.silo_model.proofs.CallRule.{gate_across, gate_unknown_kind, gate_passed, called_refused, called_no_number, called_no_activation, called_new, called_full, called_again}
 use Rattle.silo_model.proofs.CallSteps.{next_request}
 
@@ -27,7 +27,7 @@ module _ (logic : Logic) (w : Whole) (g : Grain) where
   nothing_sent : (account : Option Account) → map.get w.accounts g.tenant ≡ account → option_and_then (delivered logic (context_at (shown_to g.tenant w) None) g) account ≡ None → grain_of account (Deliver g) ≡ None → whole_step logic w (Deliver g) ≡ None
   unfolding effect_of
   nothing_sent account known does place =
-      step_by_sight logic w (Deliver g) g.tenant None None refl (ap (λ a. first_target a g) known ∙ place)
+      step_by_context logic w (Deliver g) g.tenant None None refl (ap (λ a. first_target a g) known ∙ place)
       (ap (option_and_then (delivered logic (context_at (shown_to g.tenant w) None) g)) (seen_account None ∙ known) ∙ does)
 
   -- the grain's tenant isn't known
@@ -56,7 +56,7 @@ module _ (logic : Logic) (w : Whole) (g : Grain) where
       pub by_called : (e : Effect) → called logic seen (party.Grain g) target sent.message.call ≡ e → whole_step logic w (Deliver g) ≡ Some (spread w g.tenant (Some target) (on_account rest e))
       unfolding effect_of
       by_called e is =
-          step_by_sight logic w (Deliver g) g.tenant (Some target) (Some (on_account rest e)) refl place_is
+          step_by_context logic w (Deliver g) g.tenant (Some target) (Some (on_account rest e)) refl place_is
           (ap (option_and_then (delivered logic (context_at (shown_to g.tenant w) (Some target)) g)) (seen_account (Some target) ∙ known)
           ∙ ap (option_map (delivered_to logic (context_at (shown_to g.tenant w) (Some target)) g a)) first
           ∙ ap (λ (x : Effect). Some (on_account rest x)) is)
@@ -93,7 +93,7 @@ module _ (logic : Logic) (w : Whole) (g : Grain) where
         own_seen = record (context_of w g.tenant target) { account = Some rest }
 
         seen_own : called logic seen (party.Grain g) target sent.message.call ≡ called logic own_seen (party.Grain g) target sent.message.call
-        seen_own = ap (λ (s : Context). called logic (record s { account = Some rest }) (party.Grain g) target sent.message.call) (own_sight w g.tenant target own)
+        seen_own = ap (λ (s : Context). called logic (record s { account = Some rest }) (party.Grain g) target sent.message.call) (own_context w g.tenant target own)
 
         module _ (knows : logic.knows target.kind ≡ true) where
           passed : gate logic own_seen own_seen.account target ≡ Ok rest

@@ -112,10 +112,6 @@ body_completed d is rest = parts_completed d.tenants d.age d.steps d.replies d.r
 
 -- ---- what the tests of a draft see
 
-pub empty_by_length : {A : Type 0} (xs : List A) → eqb (length xs) 0 ≡ is_empty xs
-empty_by_length [] = refl
-empty_by_length (x ∷ xs) = grind arith
-
 second_on : (r s : Grain × Row) (rows : List (Grain × Row)) (d : Grain × Row) → get_or (r ∷ s ∷ rows) (length (r ∷ s ∷ rows) - 1) d ≡ get_or (s ∷ rows) (length (s ∷ rows) - 1) d
 second_on r s rows d = grind arith
 

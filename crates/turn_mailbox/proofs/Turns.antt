@@ -174,8 +174,5 @@ module _ (p : Request → Bool) (k : ℕ) (rest : List (ℕ × Request)) where
   pub any-here : (o : Option Request) (turn : Request) → o ≡ Some turn → p turn ≡ true → list_any p (values_of (with_value_at k o rest)) ≡ true
   any-here o turn e h = ap (λ o. list_any p (values_of (with_value_at k o rest))) e ∙ ap (λ b. b || list_any p (values_of rest)) h
 
-  pub any-later : (o : Option Request) (turn : Request) → o ≡ Some turn → p turn ≡ false → list_any p (values_of (with_value_at k o rest)) ≡ list_any p (values_of rest)
-  any-later o turn e h = ap (λ o. list_any p (values_of (with_value_at k o rest))) e ∙ ap (λ b. b || list_any p (values_of rest)) h
-
   pub any-none : (o : Option Request) → o ≡ None → list_any p (values_of (with_value_at k o rest)) ≡ list_any p (values_of rest)
   any-none o e = ap (λ o. list_any p (values_of (with_value_at k o rest))) e
