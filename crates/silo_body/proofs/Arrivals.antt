@@ -1,6 +1,6 @@
 -- What an activation, or a new one, is once a request came to it.
-use Rattle.std.proofs.Common.{◌≡◌, ℕ, true, List, [], ◌∷◌, ◌++◌, Option, Some, None, refl, ap, sym, ◌∙◌, subst}
-use Rattle.std.specs.Prelude.{Result, Ok, Err, OnOk, OnErr, map as map_list}
+use Rattle.std.proofs.Common.{◌≡◌, ℕ, true, List, [], ◌∷◌, ◌++◌, Some, None, ap, sym, ◌∙◌, subst}
+use Rattle.std.specs.Prelude.{Result, Ok, Err, OnOk, OnErr}
 use Rattle.std.specs.List.{AllByRecursion}
 use Rattle.std.specs.FinMap as map
 use Rattle.std.specs.FinMap.{FinMap, nat_cmp-IsAntisymmetric}
@@ -11,7 +11,6 @@ use Rattle.std.proofs.lemmas.Option.{none-some}
 use Rattle.grain_id.specs.Names.{Grain, grain_cmp}
 use Rattle.grain_kinds.specs.Logic.{Logic}
 use Rattle.turn_mailbox.specs.declared.request.Request.{Request}
-use Rattle.turn_mailbox.specs.Contents.{Contents}
 use Rattle.turn_mailbox.proofs.Mapped.{mapped-empty}
 use Rattle.activation_directory.specs.declared.activation.Activation.{Activation}
 use Rattle.silo_model.specs.Machine.{Entries}

@@ -1,12 +1,12 @@
 -- What replies, refused lines and pokes come to, as steps of the whole.
-use Rattle.std.proofs.Common.{◌≡◌, ◌≢◌, ℕ, ◌+◌, Bool, true, false, not, List, ◌∷◌, [], ◌++◌, Option, Some, None, refl, ap, sym, ◌∙◌, subst, arith}
+use Rattle.std.proofs.Common.{◌≡◌, ℕ, Bool, true, false, not, List, ◌++◌, Option, Some, None, refl, ap, sym, ◌∙◌, subst, arith}
 use Rattle.std.specs.Prelude.{Result, Ok, Err, if◌then◌else◌, nat_eq}
 use Rattle.std.specs.FinMap as map
 use Rattle.std.proofs.lemmas.Bool.Decides.{nat_tests}
 use Rattle.grain_id.specs.Names.{Grain, Client}
 use Rattle.request_codec.specs.Tree.{Tree}
 use Rattle.grain_storage.specs.declared.row.Row.{Row}
-use Rattle.grain_storage.specs.Rows.{Rows, RowFault, stale, spent, is_spent, version_of, changed, written, poked}
+use Rattle.grain_storage.specs.Rows.{Rows, stale, spent, is_spent, version_of, changed, written, poked}
 use Rattle.silo_event.specs.declared.fault.Fault.{Fault}
 use Rattle.silo_event.specs.declared.fault.Fault.TheVariants.{StorageFailed, VersionsSpent}
 use Rattle.silo_event.specs.declared.reply.Party.{Party}
@@ -18,9 +18,8 @@ use Rattle.silo_event.specs.declared.step.Answer.{Answer}
 use Rattle.silo_event.specs.declared.step.Answer.TheVariants.{Done, Failed, NotNow}
 use Rattle.grain_kinds.specs.Logic.{Logic}
 use Rattle.silo_model.specs.Machine.{Account}
-use Rattle.silo_model.specs.Effect.{Change, change_at}
 use Rattle.silo_model.specs.Calls.{told}
-use Rattle.silo_model.specs.Stores.{row_poked, at_row, version_value}
+use Rattle.silo_model.specs.Stores.{row_poked, version_value}
 use Rattle.silo_model.specs.Whole.{Whole, whole_step}
 use Rattle.silo_model.proofs.Stored.{stores_at_one_row}
 use Rattle.silo_model.proofs.AskSteps.{poke_unknown_tenant, poke_across, poke_unknown_kind, poke_failed, poke_spent, poke_done}
@@ -30,6 +29,7 @@ use Rattle.silo_body.specs.Requests.{with_told}
 use Rattle.silo_body.specs.Overwrites.{Overwrites}
 use Rattle.silo_body.specs.Verdicts.{gated}
 use Rattle.silo_body.proofs.Verdicts.{gated-cases}
+use Rattle.silo_body.proofs.AtRows.{done_at, refused_at}
 
 -- a step that only tells
 pub told_moves : (logic : Logic) (h new : Held) (s : Step) (recipient : Party) (outcome : Result Tree Fault)
@@ -38,20 +38,6 @@ pub told_moves : (logic : Logic) (h new : Held) (s : Step) (recipient : Party) (
 told_moves logic h new s recipient outcome step is = (step ∙ ap (λ (x : Held). Some x.whole) (sym is), ap (λ (x : Held). x.failures) is)
 
 -- ---- pokes
-
-abbrev value_or : {A E : Type 0} → A → Result A E → A
-value_or d (Ok x) = x
-value_or d (Err e) = d
-
-abbrev fault_or : {A E : Type 0} → E → Result A E → E
-fault_or d (Ok x) = d
-fault_or d (Err e) = e
-
-same_Ok : {A E : Type 0} (r : Result A E) (x y : A) → r ≡ Ok x → r ≡ Ok y → x ≡ y
-same_Ok r x y p q = ap (value_or x) (sym p ∙ q)
-
-same_Err : {A E : Type 0} (r : Result A E) (x y : E) → r ≡ Err x → r ≡ Err y → x ≡ y
-same_Err r x y p q = ap (fault_or x) (sym p ∙ q)
 
 -- a poke expects what is there
 either_not_stale : {A : Type 0} (b : Bool) (x : A) (found : Option ℕ) → (if b then Err spent else Ok x) ≡ Err (stale found) → ⊥
@@ -96,27 +82,17 @@ module _ (logic : Logic) (w : Whole) (caller : Client) (id : ℕ) (g : Grain) (s
     pub poke_marked : failed ≡ true → whole_step logic w (Poke caller id g state failed) ≡ Some (told_whole (Err StorageFailed))
     poke_marked is = poke_failed logic w caller id g state failed a passed.0 passed.1 passed.2 is
 
-    -- what the storage answered, at its one row
-    by_row : (r : Result (Option ℕ × Change Row) RowFault) → row_poked (map.get w.rows g) state ≡ r → (version : Option ℕ) (after : Rows) → at_row w.rows g r ≡ Ok (version, after)
-        → failed ≡ false → whole_step logic w (Poke caller id g state failed) ≡ Some (record w { rows = after; replies = w.replies ++ told (party.Client caller id) (Ok (version_value version)) })
-    by_row (Ok done) is version after same no_mark =
-        let parts = same_Ok (at_row w.rows g (Ok done)) (done.0, change_at w.rows g done.1) (version, after) refl same in
-        poke_done logic w caller id g state failed a passed.0 passed.1 passed.2 done.0 done.1 no_mark is
-        ∙ (λ i. Some (record w { rows = (parts i).1; replies = w.replies ++ told (party.Client caller id) (Ok (version_value (parts i).0)) }))
-    by_row (Err why) is version after same no_mark = absurd cc
-
     pub poke_stored : (version : Option ℕ) (after : Rows) → poked w.rows g state ≡ Ok (version, after) → failed ≡ false
         → whole_step logic w (Poke caller id g state failed) ≡ Some (record w { rows = after; replies = w.replies ++ told (party.Client caller id) (Ok (version_value version)) })
-    poke_stored version after is no_mark = by_row (row_poked (map.get w.rows g) state) refl version after (sym (stores_at_one_row.pokes w.rows g state) ∙ is) no_mark
-
-    by_fault : (r : Result (Option ℕ × Change Row) RowFault) → row_poked (map.get w.rows g) state ≡ r → at_row w.rows g r ≡ Err spent → row_poked (map.get w.rows g) state ≡ Err spent
-    by_fault (Ok done) is same = absurd cc
-    by_fault (Err why) is same = is ∙ ap Err (same_Err (at_row w.rows g (Err why)) why spent refl same)
+    poke_stored version after is no_mark =
+        let done = done_at w.rows g (row_poked (map.get w.rows g) state) version after (sym (stores_at_one_row.pokes w.rows g state) ∙ is) in
+        poke_done logic w caller id g state failed a passed.0 passed.1 passed.2 version done.row no_mark done.answer
+        ∙ (λ i. Some (record w { rows = done.rows_are i; replies = w.replies ++ told (party.Client caller id) (Ok (version_value version)) }))
 
     pub poke_refused : poked w.rows g state ≡ Err spent → failed ≡ false → whole_step logic w (Poke caller id g state failed) ≡ Some (told_whole (Err (VersionsSpent g)))
     poke_refused is no_mark =
         poke_spent logic w caller id g state failed a passed.0 passed.1 passed.2 no_mark
-        (by_fault (row_poked (map.get w.rows g) state) refl (sym (stores_at_one_row.pokes w.rows g state) ∙ is))
+        (refused_at w.rows g (row_poked (map.get w.rows g) state) spent (sym (stores_at_one_row.pokes w.rows g state) ∙ is))
 
 module _ (logic : Logic) (h : Held) (caller : Client) (id : ℕ) (g : Grain) (state : Tree) (failed : Bool) (a : Account) (passes : gated logic h.whole caller.tenant g ≡ Ok a) (no_mark : failed ≡ false) where
   abbrev left : Rows → List Reply → ℕ → Held

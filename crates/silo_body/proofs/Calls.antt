@@ -11,7 +11,6 @@ use Rattle.grain_id.proofs.Order.{text_cmp_total, text_cmp_exact}
 use Rattle.grain_id.proofs.Maps.{get-insert_same, insert-insert}
 use Rattle.request_codec.specs.Call as codec
 use Rattle.silo_event.specs.declared.fault.Fault.{Fault}
-use Rattle.silo_event.specs.declared.reply.Party.{Party}
 use Rattle.silo_event.specs.declared.reply.Party.TheVariants as party
 use Rattle.silo_event.specs.declared.step.Step.TheVariants.{Call, Deliver}
 use Rattle.grain_kinds.specs.Logic.{Logic}
@@ -20,15 +19,15 @@ use Rattle.silo_model.specs.Idle.{is_ready}
 use Rattle.silo_model.specs.Calls.{told, last_number, admitted, with_request}
 use Rattle.silo_model.specs.Sends.{first_from}
 use Rattle.silo_model.specs.Whole.{Whole, whole_step}
-use Rattle.silo_model.proofs.Contexts.{active_of, context_of}
+use Rattle.silo_model.specs.Contexts.{active_of, context_of}
 use Rattle.silo_model.proofs.CallSteps.{next_request}
 use Rattle.silo_body.specs.Held.{Held}
 use Rattle.silo_body.specs.Notes.{idle_since, AreNoted}
 use Rattle.silo_body.specs.Requests.{with_told, with_accepted}
 use Rattle.silo_body.specs.Deliveries.{changed_account}
-use Rattle.silo_body.specs.Verdicts.{gated, verdict, Passes, Settles}
+use Rattle.silo_body.specs.Verdicts.{gated, verdict, Settles}
 use Rattle.silo_body.proofs.Idle.{noted-used}
-use Rattle.silo_body.proofs.Verdicts.{Accepts, accepts, call_made, call_is, delivery_made, delivery_is}
+use Rattle.silo_body.proofs.Verdicts.{accepts, call_made, call_is, delivery_made, delivery_is}
 
 -- ---- why a request is refused
 

@@ -7,6 +7,7 @@ use Rattle.grain_id.specs.Names.{Grain, text_cmp}
 use Rattle.grain_kinds.specs.Logic.{Logic, Outgoing, StorageCall, asks_nothing, reads_row, writes_row, clears_row}
 use Rattle.grain_kinds.specs.Finished.{turn_plan}
 use Rattle.grain_kinds.specs.declared.turn.OpenedTurn.{OpenedTurn}
+use Rattle.idle_collector.specs.Notes.{Notes}
 use Rattle.silo_event.specs.declared.reply.Party.{Party}
 use Rattle.silo_event.specs.declared.reply.Reply.{Reply}
 use Rattle.silo_event.specs.declared.step.Answer.TheVariants.{Done}
@@ -21,8 +22,9 @@ use Rattle.silo_body.specs.Held.{Held}
 use Rattle.silo_body.specs.Moves.{Moves}
 use Rattle.silo_body.specs.Sends.{with_more}
 use Rattle.silo_body.specs.Entries.{ClosesEntry}
+use Rattle.silo_body.specs.Closings.{ClosesTold}
 use Rattle.silo_body.specs.Finds.{open_in, IsOwn, asks}
-use Rattle.silo_body.proofs.Idle.{the_same}
+use Rattle.silo_body.proofs.Idle.{the_same, told_age}
 
 -- what a turn sends comes to the account in one way
 more_sent : (g : Grain) (account : Option Account) (outgoing : List Outgoing) → with_sends g account outgoing ≡ with_more account (sent_by g outgoing)
@@ -78,20 +80,20 @@ module _ (logic : Logic) (h : Held) (g : Grain) (turn : ℕ) (version : Option �
     same_plan = ap (plan_of logic g own.state) same_request ∙ planned
 
   -- the plan's state stands, its sends go out, and its outcome is the reply
-  pub end_moves : (age : ℕ) (sender : Party) (idle : Bool) (accounts : FinMap text_cmp Account) (new : Entries) (replies : List Reply) → asks (turn_plan logic input).storage ≡ false → age ≡ h.whole.age
-      → ClosesEntry h.whole.entries g turn (Some (ready (turn_plan logic input).state version)) h.whole.clock sender idle new
+  pub end_moves : (accounts : FinMap text_cmp Account) (mid final : Notes) (new : Entries) (replies : List Reply) → asks (turn_plan logic input).storage ≡ false → mid.age ≡ h.whole.age
+      → ClosesTold h.whole.entries mid h.whole.replies g turn (Some (ready (turn_plan logic input).state version)) rests h.whole.clock (outcome_of (turn_plan logic input).outcome) new final replies
       → accounts ≡ change_at h.whole.accounts g.tenant (with_more (map.get h.whole.accounts g.tenant) (sent_by g (turn_plan logic input).sends))
-      → replies ≡ h.whole.replies ++ reply_to sender (outcome_of (turn_plan logic input).outcome)
-      → Moves logic h (End g turn) (Ok Done) (record h { whole = record h.whole { accounts = accounts; age = age; entries = new; replies = replies } })
-  end_moves age sender idle accounts new replies silent aged d sent told =
+      → Moves logic h (End g turn) (Ok Done) (record h { whole = record h.whole { accounts = accounts; age = final.age; entries = new; replies = replies } })
+  end_moves accounts mid final new replies silent aged t sent =
       let plan = turn_plan logic input in
-      let phase = Some (ready plan.state version) in (
-        end_turn logic h.whole g turn d.before d.found d.request d.open_turn own.state version (same_phase phase h.whole.clock sender idle new d) plan (same_plan phase h.whole.clock sender idle new d) (nothing_asked plan.storage silent)
+      let phase = Some (ready plan.state version) in
+      let d = t.closes in (
+        end_turn logic h.whole g turn d.before d.found d.request d.open_turn own.state version (same_phase phase h.whole.clock t.sender t.idle new d) plan (same_plan phase h.whole.clock t.sender t.idle new d) (nothing_asked plan.storage silent)
             ∙ (λ i. Some (record h.whole {
               accounts = sym (sent ∙ ap (change_at h.whole.accounts g.tenant) (sym (more_sent g (map.get h.whole.accounts g.tenant) plan.sends))) i;
-              age = sym aged i;
+              age = sym (told_age mid final g rests t.idle t.settled ∙ aged) i;
               entries = sym d.put i;
-              replies = sym (told ∙ ap (λ s. h.whole.replies ++ reply_to s (outcome_of plan.outcome)) d.sender_is) i;
+              replies = sym (t.told_is ∙ ap (λ s. h.whole.replies ++ reply_to s (outcome_of plan.outcome)) d.sender_is) i;
             })),
         refl,
       )

@@ -87,21 +87,20 @@ used-turn e n turn at =
 
 -- ---- a grain that is noted before it is idle, and not if it isn't after all
 
-pub settled_age : (notes mid final : Notes) (g : Grain) (last : ℕ) (rests idle : Bool) → mid ≡ cond rests (noted notes g last) notes → final ≡ cond rests (cond idle mid (forgotten mid g)) mid → final.age ≡ notes.age
-settled_age notes mid final g last rests idle m f = ap (λ (n : Notes). n.age) f ∙ by rests idle ∙ ap (λ (n : Notes). n.age) m ∙ first rests
-  where
-    by : (r i : Bool) → (cond r (cond i mid (forgotten mid g)) mid).age ≡ mid.age
-    by true true = refl
-    by true false = refl
-    by false i = refl
-
-    first : (r : Bool) → (cond r (noted notes g last) notes).age ≡ notes.age
-    first true = refl
-    first false = refl
-
 pub expected_age : (notes mid : Notes) (g : Grain) (last : ℕ) (rests : Bool) → mid ≡ cond rests (noted notes g last) notes → mid.age ≡ notes.age
 expected_age notes mid g last true m = ap (λ (n : Notes). n.age) m
 expected_age notes mid g last false m = ap (λ (n : Notes). n.age) m
+
+-- closing a turn leaves the age
+pub told_age : (mid final : Notes) (g : Grain) (rests idle : Bool) → final ≡ cond rests (cond idle mid (forgotten mid g)) mid → final.age ≡ mid.age
+told_age mid final g true true f = ap (λ (n : Notes). n.age) f
+told_age mid final g true false f = ap (λ (n : Notes). n.age) f
+told_age mid final g false idle f = ap (λ (n : Notes). n.age) f
+
+-- and so does taking a note back
+pub back_age : (mid final : Notes) (g : Grain) (rests : Bool) → final ≡ cond rests (forgotten mid g) mid → final.age ≡ mid.age
+back_age mid final g true f = ap (λ (n : Notes). n.age) f
+back_age mid final g false f = ap (λ (n : Notes). n.age) f
 
 -- taken back, the notes are as before
 pub settled_back : (entries : Entries) (notes mid final : Notes) (g : Grain) (last : ℕ) → AreNoted entries notes.lasts → idle_since (map.get entries g) ≡ None → (rests : Bool) → mid ≡ cond rests (noted notes g last) notes → final ≡ cond rests (forgotten mid g) mid → final ≡ notes

@@ -13,3 +13,7 @@ pub mod Calls
 pub mod Sweeps
 pub mod Ends
 pub mod Loads
+pub mod Stores
+pub mod AtRows
+pub mod Versions
+pub mod OpenTurns

@@ -15,7 +15,7 @@ use Rattle.silo_model.specs.Turns.{activated, opened_if_ready}
 use Rattle.silo_model.specs.Whole.{whole_step}
 use Rattle.silo_model.proofs.Contexts.{step_at_own}
 use Rattle.silo_event.specs.declared.fault.Fault.TheVariants.{NoMemory}
-use Rattle.silo_event.specs.declared.reply.Party.{Party}
+use Rattle.idle_collector.specs.Notes.{Notes}
 use Rattle.silo_event.specs.declared.reply.Reply.{Reply}
 use Rattle.silo_model.specs.Calls.{reply_to}
 use Rattle.silo_model.proofs.TurnSteps.{abandon_absent, abandon_closed, abandon_turn}
@@ -23,15 +23,16 @@ use Rattle.silo_model.proofs.EntrySteps.{activate_waiting, begin_does}
 use Rattle.silo_body.specs.Held.{Held}
 use Rattle.silo_body.specs.Moves.{Moves, done_if}
 use Rattle.silo_body.specs.Notes.{idle_since, AreNoted}
-use Rattle.silo_body.specs.Entries.{Activates, Begins, ClosesEntry}
-use Rattle.silo_body.proofs.Idle.{noted-same}
+use Rattle.silo_body.specs.Entries.{Activates, Begins}
+use Rattle.silo_body.specs.Closings.{ClosesTold}
+use Rattle.silo_body.proofs.Idle.{noted-same, told_age}
 
 -- the body with other entries
 abbrev pub with_entries : Held → Entries → Held
 with_entries h entries = record h { whole = record h.whole { entries = entries } }
 
 -- an entry that waits isn't idle, and isn't once it loads
-since_waiting : (e : Entry) → e.phase ≡ waiting → idle_since (Some e) ≡ None
+pub since_waiting : (e : Entry) → e.phase ≡ waiting → idle_since (Some e) ≡ None
 since_waiting e is = ap (λ p. idle_since (Some (record e { phase = p }))) is
 
 module _ (logic : Logic) (h : Held) (g : Grain) where
@@ -91,14 +92,14 @@ module _ (logic : Logic) (h : Held) (g : Grain) (turn : ℕ) where
   abbrev pub closed_held : ℕ → Entries → List Reply → Held
   closed_held age entries replies = record h { whole = record h.whole { age = age; entries = entries; replies = replies } }
 
-  pub abandon_moves : (age : ℕ) (sender : Party) (idle : Bool) (new : Entries) (replies : List Reply) → age ≡ h.whole.age → ClosesEntry h.whole.entries g turn None h.whole.clock sender idle new
-      → replies ≡ h.whole.replies ++ reply_to sender (Err NoMemory) → Moves logic h (Abandon g turn) (Ok Done) (closed_held age new replies)
-  abandon_moves age sender idle new replies aged d told = (
-    abandon_turn logic h.whole g turn d.before d.found d.request d.open_turn
+  pub abandon_moves : (rests : Bool) (mid final : Notes) (new : Entries) (replies : List Reply) → mid.age ≡ h.whole.age → ClosesTold h.whole.entries mid h.whole.replies g turn None rests h.whole.clock (Err NoMemory) new final replies
+      → Moves logic h (Abandon g turn) (Ok Done) (closed_held final.age new replies)
+  abandon_moves rests mid final new replies aged t = (
+    abandon_turn logic h.whole g turn t.closes.before t.closes.found t.closes.request t.closes.open_turn
         ∙ (λ i. Some (record h.whole {
-          age = sym aged i;
-          entries = sym d.put i;
-          replies = sym (told ∙ ap (λ s. h.whole.replies ++ reply_to s (Err NoMemory)) d.sender_is) i;
+          age = sym (told_age mid final g rests t.idle t.settled ∙ aged) i;
+          entries = sym t.closes.put i;
+          replies = sym (t.told_is ∙ ap (λ s. h.whole.replies ++ reply_to s (Err NoMemory)) t.closes.sender_is) i;
         })),
     refl,
   )

@@ -17,7 +17,7 @@ use Rattle.silo_model.specs.Effect.{Context}
 use Rattle.silo_model.specs.Calls.{told, last_number, kind_gate, gate, room, admitted, with_request}
 use Rattle.silo_model.specs.Sends.{first_from}
 use Rattle.silo_model.specs.Whole.{Whole, whole_step}
-use Rattle.silo_model.proofs.Contexts.{active_of, context_of}
+use Rattle.silo_model.specs.Contexts.{active_of, context_of}
 use Rattle.silo_model.proofs.CallSteps.{next_request, call_unknown_tenant, call_across, call_unknown_kind, call_no_number, call_no_activation, call_mailbox_full, call_new, call_again}
 use Rattle.silo_model.proofs.SendSteps.{deliver_across, deliver_unknown_kind, deliver_no_number, deliver_no_activation, deliver_mailbox_full, deliver_new, deliver_again}
 use Rattle.silo_body.specs.Verdicts.{gated, verdict}

@@ -1,5 +1,5 @@
 -- What becomes of one activation.
-use Rattle.std.specs.Prelude.{◌≡◌, ℕ, Option, Some, None, if◌then◌else◌, unwrap_or}
+use Rattle.std.specs.Prelude.{◌≡◌, ℕ, Option, Some, None, option_map, if◌then◌else◌, unwrap_or}
 use Rattle.std.specs.FinMap as map
 use Rattle.grain_id.specs.Names.{Grain}
 use Rattle.grain_kinds.specs.declared.turn.OpenedTurn.{OpenedTurn}
@@ -32,6 +32,13 @@ abbrev pub mail_begun : Contents → Phase → Contents
 mail_begun mail Waiting = mail
 mail_begun mail Loading = mail
 mail_begun mail (Ready state version) = if may_begin mail then begun mail mail.waiting else mail
+
+-- its open turn of that number, if it is ready
+abbrev pub open_at : Grain → ℕ → Contents → Phase → Option OpenedTurn
+open_at grain turn mail Waiting = None
+open_at grain turn mail Loading = None
+open_at grain turn mail (Ready state version) =
+    option_map (λ request. record { grain = grain; number = turn; reading = request.reading; state = state; message = request.message }) (map.get mail.opened turn)
 
 -- ---- closing a turn
 

@@ -1,5 +1,5 @@
 -- What the calls of the activations answer and leave, in the words of entries.
-use Rattle.std.specs.Prelude.{◌≡◌, ℕ, Bool, unwrap_or, List, [], ◌∷◌, Option, Some, None, option_and_then, if◌then◌else◌}
+use Rattle.std.specs.Prelude.{◌≡◌, ℕ, Bool, unwrap_or, List, [], ◌∷◌, Option, Some, None, option_and_then, option_map, if◌then◌else◌}
 use Rattle.std.specs.FinMap as map
 use Rattle.grain_id.specs.Names.{Grain}
 use Rattle.request_codec.specs.Tree.{Tree}
@@ -60,6 +60,18 @@ pub record Opens (logic : Logic) (old : Entries) (grain : Grain) (new : Entries)
 abbrev pub Begins : Logic → Entries → Grain → Option OpenedTurn → Entries → Type 0
 Begins logic old grain None new = (option_and_then (λ e. opened_if_ready logic grain e e.phase) (map.get old grain) ≡ None) × (new ≡ old)
 Begins logic old grain (Some turn) new = Opens logic old grain new
+
+-- ---- an open turn, again
+
+-- the open turn of that number, if the entry is ready: in the entry's state, of the request's own message
+abbrev pub open_as : Logic → Grain → ℕ → Entry → Phase → Option OpenedTurn
+open_as logic grain turn e waiting = None
+open_as logic grain turn e loading = None
+open_as logic grain turn e (ready state version) =
+    option_map (λ request. record { grain = grain; number = turn; reading = reads logic grain request; state = state; message = request.call }) (map.get e.turns turn)
+
+abbrev pub open_turn : Logic → Grain → ℕ → Option Entry → Option OpenedTurn
+open_turn logic grain turn found = option_and_then (λ e. open_as logic grain turn e e.phase) found
 
 -- ---- closing a turn
 

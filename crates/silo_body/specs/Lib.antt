@@ -16,3 +16,7 @@ pub mod Overwrites
 pub mod Sweeps
 pub mod Finds
 pub mod Reads
+pub mod Closings
+pub mod Versions
+pub mod Storing
+pub mod Status

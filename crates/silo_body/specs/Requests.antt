@@ -1,5 +1,5 @@
 -- What a body holds after a reply, and after a request that was accepted.
-use Rattle.std.specs.Prelude.{ℕ, ◌+◌, ◌++◌, Option, Some, None, Result}
+use Rattle.std.specs.Prelude.{◌+◌, ◌++◌, Option, Some, None, Result}
 use Rattle.std.specs.FinMap as map
 use Rattle.grain_id.specs.Names.{Grain}
 use Rattle.request_codec.specs.Tree.{Tree}

@@ -5,11 +5,10 @@ use Rattle.std.specs.FinMap as map
 use Rattle.grain_id.specs.Names.{Grain}
 use Rattle.grain_kinds.specs.Logic.{Logic}
 use Rattle.silo_event.specs.declared.fault.Fault.{Fault}
-use Rattle.silo_event.specs.declared.reply.Reply.{Reply}
 use Rattle.silo_model.specs.Machine.{Account}
 use Rattle.silo_model.specs.Calls.{gate, admitted}
 use Rattle.silo_model.specs.Whole.{Whole}
-use Rattle.silo_model.proofs.Contexts.{context_of}
+use Rattle.silo_model.specs.Contexts.{context_of}
 
 -- the account of the tenant, if it may ask the grain
 abbrev pub gated : Logic → Whole → List ℕ → Grain → Result Account Fault

@@ -3,7 +3,7 @@
 ghost use Rattle.std.specs.Prelude.{◌≡◌, ◌<◌, ◌^◌, IfOk, OnOk, OnErr, IfSome, None};
 ghost use Rattle.std.specs.Option.{option_copied, option_map};
 ghost use Rattle.std.specs.FinMap as map;
-ghost use Rattle.silo_model.proofs.Actives.{active_in};
+ghost use Rattle.silo_model.specs.Contexts.{active_in};
 ghost use Rattle.silo_body.specs.Shown.{entry_of};
 ghost use Rattle.silo_body.specs.Marks.{AreMarked};
 ghost use Rattle.silo_body.specs.Entries.{Activates, Begins, opened_turn};

@@ -8,7 +8,7 @@ use crate::activations::Activations;
 use grain_kinds::GrainLogic;
 use grain_storage::GrainStorage;
 use idle_collector::Collector;
-use silo_event::Reply;
+use silo_event::{Moment, Reply};
 use std::alloc::{AllocError, Global};
 use std::marker::Model;
 use tenant_gate::TenantTable;
@@ -18,6 +18,8 @@ mod call;
 mod clock;
 mod entry;
 mod send;
+mod step;
+mod store;
 mod turn;
 
 /// All tenants' accounts, activations and rows, and the replies in the order in which they were made.
@@ -25,7 +27,7 @@ mod turn;
 #[derive(Drop)]
 pub struct Body<S: GrainStorage, L: GrainLogic> {
     accounts: Accounts,
-    clock: u64,
+    clock: Moment,
     activations: Activations<L>,
     collector: Collector,
     storage: S,
@@ -60,6 +62,16 @@ impl<S: GrainStorage, L: GrainLogic> Model for Body<S, L> {
     ghost invariant = { λ b. AreNoted b.activations b.collector.lasts };
 }
 
+/// The moment at which the clock begins.
+fn beginning() -> Moment
+    ensures { result ≡ 0 }
+{
+    match Moment::new(0) {
+        Some(moment) => moment,
+        None => unreachable!(),
+    }
+}
+
 impl<S: GrainStorage + Drop, L: GrainLogic + Drop> Body<S, L> {
     /// Nothing is asked yet, and nothing answered. The rows are those of the storage.
     ///
@@ -77,7 +89,7 @@ impl<S: GrainStorage + Drop, L: GrainLogic + Drop> Body<S, L> {
     {
         Ok(Body {
             accounts: Accounts::new(alloc, table)?,
-            clock: 0,
+            clock: beginning(),
             activations: Activations::new(alloc),
             collector: Collector::new(alloc, age),
             storage,
@@ -99,7 +111,7 @@ impl<S: GrainStorage, L: GrainLogic> Body<S, L> {
     pub fn clock(&self) -> u64
         ensures { result ≡ self.now.whole.clock }
     {
-        self.clock
+        self.clock.get()
     }
 
     /// After how many milliseconds an idle activation may go.

@@ -13,9 +13,14 @@ mod activations;
 mod arrival;
 mod body;
 mod change;
+mod closing;
 mod finding;
 mod notes;
 mod reading;
+mod status;
+mod storing;
 mod telling;
+mod values;
+mod version;
 
 pub use body::Body;

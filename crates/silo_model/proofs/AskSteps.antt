@@ -21,7 +21,8 @@ use Rattle.silo_model.specs.Stores.{row_poked, version_value}
 use Rattle.silo_model.specs.Asks.{refused, row_told, poke_settled, poked, status_of, status_told}
 use Rattle.silo_model.specs.Step.{effect_of}
 use Rattle.silo_model.specs.Whole.{Whole, shown_to, spread, whole_step}
-use Rattle.silo_model.proofs.Contexts.{active_of, context_of, step_by_context, step_at_own}
+use Rattle.silo_model.specs.Contexts.{active_of, context_of}
+use Rattle.silo_model.proofs.Contexts.{step_by_context, step_at_own}
 use Rattle.silo_model.proofs.CallRule.{gate_unknown_tenant, gate_across, gate_unknown_kind, gate_passed}
 use Rattle.silo_model.proofs.CallSteps.{spread-only_replies}
 

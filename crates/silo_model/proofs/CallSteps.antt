@@ -17,7 +17,8 @@ use Rattle.silo_model.specs.Effect.{Context, Effect, context_at, only_replies}
 use Rattle.silo_model.specs.Calls.{told, last_number, gate, room, with_request, accepted, called}
 use Rattle.silo_model.specs.Step.{effect_of}
 use Rattle.silo_model.specs.Whole.{Whole, shown_to, spread, whole_step}
-use Rattle.silo_model.proofs.Contexts.{active_of, context_of, step_by_context, step_at_own}
+use Rattle.silo_model.specs.Contexts.{active_of, context_of}
+use Rattle.silo_model.proofs.Contexts.{step_by_context, step_at_own}
 use Rattle.silo_model.proofs.CallRule.{gate_unknown_tenant, gate_across, gate_unknown_kind, gate_passed, called_refused, called_no_number, called_no_activation, called_new, called_full, called_again, called_accepted}
 
 -- the request that a call becomes, next after the account's last

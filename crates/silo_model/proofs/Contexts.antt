@@ -9,6 +9,7 @@ use Rattle.silo_event.specs.declared.step.Step.{Step}
 use Rattle.grain_kinds.specs.Logic.{Logic}
 use Rattle.silo_model.specs.Effect.{Context, Effect, context_at}
 use Rattle.silo_model.specs.Step.{grain_of, effect_of}
+pub use Rattle.silo_model.specs.Contexts.{active_of, context_of}
 use Rattle.silo_model.specs.Whole.{Whole, is_of, shown_to, spread, whole_owned_step, whole_step_by, whole_step}
 use Rattle.grain_id.proofs.Order.{same_text_decides}
 use Rattle.grain_id.proofs.ByGrain.{get-part}
@@ -27,13 +28,9 @@ same_text-apart s t apart = not_true (same_text s t) (λ e. apart ((same_text_de
 pub get-own : {X : Type 0} (m : FinMap grain_cmp X) (tenant : List ℕ) (g : Grain) → g.tenant ≡ tenant → map.get (map.retain_keys m (is_of tenant)) g ≡ map.get m g
 get-own m tenant g own = get-part m (is_of tenant) g ∙ ap (λ b. cond b (map.get m g) None) ((same_text_decides g.tenant tenant).1 own)
 
--- how many entries the whole has of the tenant
-abbrev pub active_of : Whole → List ℕ → ℕ
-active_of w tenant = map.len (map.retain_keys w.entries (is_of tenant))
-
--- what the whole has of the tenant and at the grain
-abbrev pub context_of : Whole → List ℕ → Grain → Context
-context_of w tenant g = record { tenant = tenant; account = map.get w.accounts tenant; clock = w.clock; active = active_of w tenant; entry = map.get w.entries g; row = map.get w.rows g }
+-- and nothing at a grain of another
+pub get-apart : {X : Type 0} (m : FinMap grain_cmp X) (tenant : List ℕ) (g : Grain) → g.tenant ≢ tenant → map.get (map.retain_keys m (is_of tenant)) g ≡ None
+get-apart m tenant g apart = get-part m (is_of tenant) g ∙ ap (λ b. cond b (map.get m g) None) (same_text-apart g.tenant tenant apart)
 
 pub own_context : (w : Whole) (tenant : List ℕ) (g : Grain) → g.tenant ≡ tenant → context_at (shown_to tenant w) (Some g) ≡ context_of w tenant g
 unfolding context_at shown_to

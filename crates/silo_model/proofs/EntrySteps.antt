@@ -16,7 +16,8 @@ use Rattle.silo_model.specs.Calls.{reply_to}
 use Rattle.silo_model.specs.Turns.{activated, unloaded, loaded, may_open, opened_if_ready, opened}
 use Rattle.silo_model.specs.Step.{effect_of}
 use Rattle.silo_model.specs.Whole.{Whole, spread, whole_step}
-use Rattle.silo_model.proofs.Contexts.{context_of, step_at_own}
+use Rattle.silo_model.specs.Contexts.{context_of}
+use Rattle.silo_model.proofs.Contexts.{step_at_own}
 
 -- what is done to an entry that is there
 pub at_entry : (does : Entry → Option Effect) (found : Option Entry) (e : Entry) (r : Option Effect) → found ≡ Some e → does e ≡ r → option_and_then does found ≡ r

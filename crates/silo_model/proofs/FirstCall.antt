@@ -35,7 +35,7 @@ use Rattle.silo_model.proofs.TurnSteps.{closed_turn}
 use Rattle.silo_model.proofs.Counters.{end_counter}
 use Rattle.silo_model.proofs.Opening.{get-fresh_accounts, no_entry_of}
 use Rattle.silo_model.proofs.Fair.{may_open_alone}
-use Rattle.silo_model.proofs.Contexts.{active_of}
+use Rattle.silo_model.specs.Contexts.{active_of}
 
 then_done : (logic : Logic) (w next after : Whole) (s : Step) (steps : List Step) → whole_step logic w s ≡ Some next → all_done logic next steps ≡ Some after → all_done logic w (s ∷ steps) ≡ Some after
 then_done logic w next after s steps step rest = ap (option_and_then (λ x. all_done logic x steps)) step ∙ rest

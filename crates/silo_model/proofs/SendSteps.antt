@@ -15,7 +15,8 @@ use Rattle.silo_model.specs.Calls.{told, last_number, gate, with_request, accept
 use Rattle.silo_model.specs.Sends.{first_from, first_target, on_account, delivered_to, delivered}
 use Rattle.silo_model.specs.Step.{grain_of, effect_of}
 use Rattle.silo_model.specs.Whole.{Whole, shown_to, spread, whole_step}
-use Rattle.silo_model.proofs.Contexts.{active_of, context_of, own_context, step_by_context}
+use Rattle.silo_model.specs.Contexts.{active_of, context_of}
+use Rattle.silo_model.proofs.Contexts.{own_context, step_by_context}
 use Rattle.silo_model.proofs.CallRule.{gate_across, gate_unknown_kind, gate_passed, called_refused, called_no_number, called_no_activation, called_new, called_full, called_again}
 use Rattle.silo_model.proofs.CallSteps.{next_request}
 

@@ -17,7 +17,8 @@ use Rattle.silo_model.specs.Calls.{reply_to}
 use Rattle.silo_model.specs.Turns.{plan_of, closed, with_sends, outcome_of, ended_by, ended, ends_activation, row_changed, stored_by, stored, abandoned}
 use Rattle.silo_model.specs.Step.{at_turn, effect_of}
 use Rattle.silo_model.specs.Whole.{Whole, spread, whole_step}
-use Rattle.silo_model.proofs.Contexts.{context_of, step_at_own}
+use Rattle.silo_model.specs.Contexts.{context_of}
+use Rattle.silo_model.proofs.Contexts.{step_at_own}
 use Rattle.silo_model.proofs.EntrySteps.{at_entry}
 
 never : {A B : Type 0} (f : A → Option B) (o : Option A) → ((x : A) → f x ≡ None) → option_and_then f o ≡ None

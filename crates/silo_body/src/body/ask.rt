@@ -6,6 +6,8 @@ ghost use Rattle.silo_body.specs.Moves.{Moves};
 ghost use Rattle.silo_body.specs.Overwrites.{Overwrites};
 
 use crate::body::Body;
+use crate::status::status_value;
+use crate::version::{version_after, version_of, version_value};
 use grain_id::{Caller, GrainId};
 use grain_kinds::GrainLogic;
 use grain_storage::{GrainStorage, StoreFault};
@@ -24,6 +26,27 @@ impl<S: GrainStorage, L: GrainLogic> Body<S, L> {
     {
         let asker = Party::Client(caller.clone()?, id);
         self.tell(asker, Err(code.fault()))?;
+        Ok(Answer::Done)
+    }
+
+    /// A client is told how many activations its tenant has, the clock, and how many of its requests
+    /// were accepted.
+    ///
+    /// # Errors
+    ///
+    /// Out of memory: nothing changed.
+    pub fn status(&mut self, alloc: Global, caller: &Caller, id: u64) -> Result<Answer, StepFault>
+        ensures { Moves L.logic self.old (step.Status caller.now id) result self.new }
+    {
+        let asker = Party::Client(caller.clone()?, id);
+        let Some(account) = self.accounts.get(caller.tenant()) else {
+            self.tell(asker, Err(Fault::UnknownTenant(caller.to_tenant(alloc)?)))?;
+            return Ok(Answer::Done);
+        };
+        let requests = account.count();
+        let active = self.activations.count(caller.tenant());
+        let status = status_value(alloc, active, self.clock.get(), requests)?;
+        self.tell(asker, Ok(status))?;
         Ok(Answer::Done)
     }
 
@@ -62,7 +85,8 @@ impl<S: GrainStorage, L: GrainLogic> Body<S, L> {
     }
 }
 
-/// Overwrites a row: the answer of a step that does, and what its client is told.
+/// Overwrites a row: the answer of a step that does, and what its client is told. The row is read
+/// first, so that what is told of its version is made before the row is changed.
 fn overwrite<S: GrainStorage>(
     alloc: Global,
     storage: &mut S,
@@ -73,9 +97,17 @@ fn overwrite<S: GrainStorage>(
     ensures rows { OnErr result (S.rows storage.new ≡ S.rows storage.old) }
     ensures failures { OnErr result (S.failed storage.new ≡ S.failed storage.old) }
 {
+    let row = match storage.read(alloc, grain) {
+        Ok(row) => row,
+        Err(StoreFault::Failed) => return Ok((Answer::Failed, Err(Fault::StorageFailed))),
+        Err(StoreFault::Memory) => return Err(AllocError),
+        Err(StoreFault::Stale(_)) => unreachable!(),
+        Err(StoreFault::Spent) => unreachable!(),
+    };
+    let told = version_value(alloc, Some(version_after(version_of(&row))))?;
     let spent = Fault::VersionsSpent(grain.clone()?);
     match storage.poke(alloc, grain, state.clone()?) {
-        Ok(version) => Ok((Answer::Done, Ok(StateBytes::decimal(version)))),
+        Ok(_version) => Ok((Answer::Done, Ok(told))),
         Err(StoreFault::Failed) => Ok((Answer::Failed, Err(Fault::StorageFailed))),
         Err(StoreFault::Spent) => Ok((Answer::Done, Err(spent))),
         Err(StoreFault::Memory) => Err(AllocError),

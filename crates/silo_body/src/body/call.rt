@@ -127,7 +127,7 @@ impl<S: GrainStorage, L: GrainLogic> Body<S, L> {
         ensures unchanged { OnErr result (self.new ≡ self.old) }
     {
         let Some(account) = self.accounts.get(grain.tenant()) else {
-            return Ok(());
+            unreachable!()
         };
         let capacity = account.limits().mailbox as usize;
         let request = Request {
@@ -137,7 +137,7 @@ impl<S: GrainStorage, L: GrainLogic> Body<S, L> {
             message,
         };
         self.activations
-            .wait(alloc, grain, capacity, request, self.clock)?;
+            .wait(alloc, grain, capacity, request, self.clock.get())?;
         self.collector.forget(grain);
         self.accounts.count_one(grain.tenant());
         Ok(())

@@ -20,8 +20,7 @@ impl<S: GrainStorage, L: GrainLogic> Body<S, L> {
     pub fn tick(&mut self, now: Moment) -> Answer
         ensures { Moves L.logic self.old (step.Tick now) (Ok result) self.new }
     {
-        let now = now.get();
-        if now < self.clock {
+        if now.get() < self.clock.get() {
             return Answer::NotNow;
         }
         self.clock = now;
@@ -36,7 +35,7 @@ impl<S: GrainStorage, L: GrainLogic> Body<S, L> {
     pub fn sweep(&mut self, alloc: Global) -> Result<Answer, StepFault>
         ensures { Moves L.logic self.old step.Sweep result self.new }
     {
-        let due = self.collector.due(alloc, self.clock)?;
+        let due = self.collector.due(alloc, self.clock.get())?;
         drop_all(&mut self.activations, &mut self.collector, due.as_slice());
         Ok(Answer::Done)
     }

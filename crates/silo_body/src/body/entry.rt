@@ -67,10 +67,12 @@ impl<S: GrainStorage, L: GrainLogic> Body<S, L> {
                 unload(&mut self.activations, &mut self.replies, grain);
                 Ok(Answer::Failed)
             }
-            Err(_) => {
+            Err(StoreFault::Memory) => {
                 notes::take_back(&mut self.collector, grain, quiet);
                 Err(StepFault::Memory)
             }
+            Err(StoreFault::Stale(_)) => unreachable!(),
+            Err(StoreFault::Spent) => unreachable!(),
         }
     }
 }

@@ -3,14 +3,15 @@
 ghost use Rattle.std.specs.Prelude.{◌≡◌, ◌↔◌, Ok, Err, IfOk, OnErr};
 ghost use Rattle.std.specs.FinMap as map;
 ghost use Rattle.silo_event.specs.declared.step.Step.TheVariants as step;
-ghost use Rattle.silo_body.specs.Entries.{opened_turn};
+ghost use Rattle.silo_body.specs.Entries.{opened_turn, open_turn};
 ghost use Rattle.silo_event.specs.declared.step.StepFault.TheVariants.{Stranger};
 ghost use Rattle.silo_body.specs.Finds.{IsStranger, IsOwn, Finds};
 ghost use Rattle.silo_body.specs.Moves.{Moves, Ends, done_if};
 
 use crate::body::Body;
+use crate::closing::close_turn;
 use crate::finding::{Found, asks_storage};
-use crate::telling::{copied, tell, told};
+use crate::telling::{copied, told};
 use crate::{account, change, finding, notes};
 use activation_directory::Phase;
 use grain_id::GrainId;
@@ -32,6 +33,22 @@ impl<S: GrainStorage, L: GrainLogic> Body<S, L> {
         ensures unchanged { OnErr result (self.new ≡ self.old) }
     {
         self.activations.begin(grain)
+    }
+
+    /// The open turn of that number of a ready grain, as it was handed out when it began: with the
+    /// grain's state and the request's message. None if the grain isn't ready, or no such turn is
+    /// open.
+    ///
+    /// # Errors
+    ///
+    /// Out of memory.
+    pub fn open_turn(&self, grain: &GrainId, turn: u64) -> Result<Option<OpenedTurn>, AllocError>
+        ensures { IfOk result (λ found. found ≡ open_turn L.logic grain.now turn (map.get self.now.whole.entries grain.now)) }
+    {
+        let Some(activation) = self.activations.get(grain) else {
+            return Ok(None);
+        };
+        change::open_turn(grain, activation, turn)
     }
 
     /// What is found of a turn that is to be closed by what a turn of this input came to.
@@ -89,8 +106,9 @@ impl<S: GrainStorage, L: GrainLogic> Body<S, L> {
         let outcome = copied(finished.outcome())?;
         let sent = account::sent_by(alloc, grain, finished.sends())?;
         let state = finished.state().clone()?;
+        let now = self.clock.get();
         self.replies.reserve(1)?;
-        notes::expect(&mut self.collector, grain, rests, self.clock)?;
+        notes::expect(&mut self.collector, grain, rests, now)?;
         match self.accounts.send(grain.tenant(), sent) {
             Ok(()) => {}
             Err(AllocError) => {
@@ -99,12 +117,17 @@ impl<S: GrainStorage, L: GrainLogic> Body<S, L> {
             }
         }
         let phase = Phase::Ready { state, version };
-        let Some((sender, idle)) = self.activations.close(grain, turn, Some(phase), self.clock)
-        else {
-            unreachable!()
-        };
-        notes::settle(&mut self.collector, grain, rests, idle);
-        tell(&mut self.replies, sender, told(outcome));
+        close_turn(
+            &mut self.activations,
+            &mut self.collector,
+            &mut self.replies,
+            grain,
+            turn,
+            Some(phase),
+            rests,
+            now,
+            told(outcome),
+        );
         Ok(Answer::Done)
     }
 
@@ -123,13 +146,20 @@ impl<S: GrainStorage, L: GrainLogic> Body<S, L> {
             return Ok(Answer::NotNow);
         };
         let rests = change::may_rest(activation);
+        let now = self.clock.get();
         self.replies.reserve(1)?;
-        notes::expect(&mut self.collector, grain, rests, self.clock)?;
-        let Some((sender, idle)) = self.activations.close(grain, turn, None, self.clock) else {
-            unreachable!()
-        };
-        notes::settle(&mut self.collector, grain, rests, idle);
-        tell(&mut self.replies, sender, Err(Fault::NoMemory));
+        notes::expect(&mut self.collector, grain, rests, now)?;
+        close_turn(
+            &mut self.activations,
+            &mut self.collector,
+            &mut self.replies,
+            grain,
+            turn,
+            None,
+            rests,
+            now,
+            Err(Fault::NoMemory),
+        );
         Ok(Answer::Done)
     }
 }

@@ -1,8 +1,4 @@
-use Rattle.std.proofs.Common.{sym, ap, ◌∙◌}
-use Rattle.std.specs.List.{remove}
-use Rattle.silo_model.specs.Machine.{Account}
-use Rattle.silo_model.specs.Sends.{first_from}
-use Rattle.silo_body.specs.Sends.{send_of}
+use Rattle.std.proofs.Common.{sym, ◌∙◌}
 use Rattle.silo_body.proofs.Takes.{first_none, first_at}
 use Rattle.silo_body.proofs.account.Account.first_from.Goals as goal
 

@@ -1,5 +1,4 @@
 use Rattle.std.proofs.Common.{rules, ◌≡◌, length, ap, ◌∙◌}
-use Rattle.std.specs.Prelude.{OnSome, IfNone, map as map_list}
 use Rattle.std.specs.List.{remove}
 use Rattle.std.specs.VecDeque.{deque_len}
 use Rattle.silo_model.specs.Machine.{Account}

@@ -1,7 +1,7 @@
 use Rattle.std.proofs.Common.{ap, sym, ◌∙◌}
 use Rattle.grain_id.proofs.Order.{grain_cmp_total, grain_cmp_exact}
 use Rattle.silo_model.specs.Whole.{is_of}
-use Rattle.silo_model.proofs.Actives.{active_in}
+use Rattle.silo_model.specs.Contexts.{active_in}
 use Rattle.turn_mailbox.proofs.Mapped.{len-mapped, mapped-part}
 use Rattle.std.specs.FinMap as map
 use Rattle.silo_body.specs.Shown.{entry_of}

@@ -1,15 +1,16 @@
-use Rattle.std.proofs.Common.{◌≡◌, ◌++◌, None, Some, refl, ap, sym, ◌∙◌, subst, Ok}
-use Rattle.std.specs.Prelude.{Err, option_and_then}
+use Rattle.std.proofs.Common.{◌≡◌, ℕ, List, None, Some, refl, ap, sym, subst, Ok}
+use Rattle.std.specs.Prelude.{Err, IsSome, option_and_then}
 use Rattle.std.specs.FinMap as map
 use Rattle.silo_event.specs.declared.step.Step.TheVariants as step
 use Rattle.silo_event.specs.declared.step.Answer.TheVariants.{Done}
 use Rattle.silo_event.specs.declared.fault.Fault.TheVariants.{NoMemory}
-use Rattle.silo_model.specs.Calls.{reply_to}
+use Rattle.silo_event.specs.declared.reply.Reply.{Reply}
 use Rattle.silo_model.specs.Whole.{whole_step}
 use Rattle.silo_body.specs.Held.{Held}
 use Rattle.silo_body.specs.Moves.{Moves}
+use Rattle.silo_body.specs.Closings.{ClosesTold}
 use Rattle.silo_body.proofs.Shows.{turn_shown}
-use Rattle.silo_body.proofs.Idle.{settled_age, closing_noted}
+use Rattle.silo_body.proofs.Idle.{expected_age, closing_noted}
 use Rattle.silo_body.proofs.Steps.{abandon_none, abandon_moves, closed_held}
 use Rattle.silo_body.proofs.body.Body.abandon.Goals as goal
 
@@ -39,16 +40,15 @@ returns-in_default-opened g c =
       refl,
     )
 
-pub unreachable-requires : goal.unreachable-requires
-unreachable-requires g c =
-    let there = turn_shown c.self.inside.activations c.args.grain.now c.in-Some.activation.now c.args.turn (Some c.in-Some-opened._open.now) (sym c.in-Some.ensures.entry) (sym c.in-Some-opened.ensures) in
-    let none = c.in_default-close.ensures.0 in
-    cc (there, none)
+pub close_turn-requires-clause-is_open : goal.close_turn-requires-clause-is_open
+close_turn-requires-clause-is_open g c =
+    subst IsSome (sym (turn_shown c.self.inside.activations c.args.grain.now c.in-Some.activation.now c.args.turn (Some c.in-Some-opened._open.now) (sym c.in-Some.ensures.entry) (sym c.in-Some-opened.ensures))) refl
 
 pub invariant_of-self-2 : goal.invariant_of-self-2
 invariant_of-self-2 g c =
-    closing_noted c.self.inside.activations c.self.inside.collector c.self.invariant c.args.grain.now c.args.turn None c.self.inside.clock c.in-Some-close.sender c.in-Some-close.idle c.close.new.self c.in-Some-close.ensures
-    _ (sym c.in-Some.ensures.entry) (λ ready. ready) c.may_rest-rests.result c.expect.new.collector c.settle.new.collector c.may_rest-rests.ensures c.in_ok-expect.ensures.done c.settle.ensures
+    let t = c.close_turn.ensures in
+    closing_noted c.self.inside.activations c.self.inside.collector c.self.invariant c.args.grain.now c.args.turn None c.get-now.result t.sender t.idle c.close_turn.new.activations t.closes
+    _ (sym c.in-Some.ensures.entry) (λ ready. ready) c.may_rest-rests.result c.expect.new.collector c.close_turn.new.collector c.may_rest-rests.ensures c.in_ok-expect.ensures.done t.settled
 
 pub returns : goal.returns
 returns g c =
@@ -58,7 +58,10 @@ returns g c =
       failures = g.S.GrainStorage.failed b.storage;
     } in
     let grain = c.args.grain.now in
-    let aged = settled_age b.collector c.expect.new.collector c.settle.new.collector grain b.clock c.may_rest-rests.result c.in-Some-close.idle c.in_ok-expect.ensures.done c.settle.ensures in
-    let told = c.tell.ensures.told ∙ ap (λ items. items ++ reply_to c.in-Some-close.sender (Err NoMemory)) c.in_ok-reserve.ensures.items in
-    subst (λ (h : Held). Moves g.L.GrainLogic.logic h (step.Abandon grain c.args.turn) (Ok Done) (closed_held g.L.GrainLogic.logic old grain c.args.turn c.settle.new.collector.age c.close.new.self c.tell.new.replies.items)) c.self.view_is
-    (abandon_moves g.L.GrainLogic.logic old grain c.args.turn c.settle.new.collector.age c.in-Some-close.sender c.in-Some-close.idle c.close.new.self c.tell.new.replies.items aged c.in-Some-close.ensures told)
+    let turn = c.args.turn in
+    let rests = c.may_rest-rests.result in
+    let closed = subst (λ (p : List Reply × ℕ). ClosesTold b.activations c.expect.new.collector p.0 grain turn None rests p.1 (Err NoMemory) c.close_turn.new.activations c.close_turn.new.collector c.close_turn.new.replies.items)
+    (λ i. (c.in_ok-reserve.ensures.items i, c.get-now.ensures.value i)) c.close_turn.ensures in
+    let aged = expected_age b.collector c.expect.new.collector grain c.get-now.result rests c.in_ok-expect.ensures.done in
+    subst (λ (h : Held). Moves g.L.GrainLogic.logic h (step.Abandon grain turn) (Ok Done) (closed_held g.L.GrainLogic.logic old grain turn c.close_turn.new.collector.age c.close_turn.new.activations c.close_turn.new.replies.items)) c.self.view_is
+    (abandon_moves g.L.GrainLogic.logic old grain turn rests c.expect.new.collector c.close_turn.new.collector c.close_turn.new.activations c.close_turn.new.replies.items aged closed)

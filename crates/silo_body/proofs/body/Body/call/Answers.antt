@@ -1,7 +1,4 @@
-use Rattle.std.proofs.Common.{ap, sym, ◌∙◌, subst}
-use Rattle.silo_event.specs.declared.fault.Fault.{Fault}
-use Rattle.silo_event.specs.declared.reply.Party.TheVariants as party
-use Rattle.silo_event.specs.Owner.{tenant_of}
+use Rattle.std.proofs.Common.{subst}
 use Rattle.silo_body.specs.Verdicts.{verdict, Settles}
 use Rattle.silo_body.proofs.Calls.{call_told, call_taken}
 use Rattle.silo_body.proofs.body.Body.call.Goals as goal

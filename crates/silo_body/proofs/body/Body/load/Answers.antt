@@ -86,14 +86,14 @@ invariant_of-self-in-Err-Failed g c =
     let back = settled_back b.activations b.collector c.expect.new.collector c.take_back.new.collector grain e.last c.self.invariant (used-loading b.activations b.collector c.self.invariant grain e found is) c.is_quiet-quiet.result c.in_ok-expect.ensures.done c.take_back.ensures in
     subst (λ (p : Entries × Notes). AreNoted p.0 p.1.lasts) (λ i. (sym c.unload-in-Err-Failed.ensures.gone i, sym back i)) (unloaded_noted b.activations b.collector c.self.invariant grain e found is)
 
-pub invariant_of-self-in-Err : goal.invariant_of-self-in-Err
-invariant_of-self-in-Err g c =
+pub invariant_of-self-in-Err-Memory : goal.invariant_of-self-in-Err-Memory
+invariant_of-self-in-Err-Memory g c =
     let b = c.self.inside in
     let grain = c.args.grain.now in
     let e = entry_of c.in-Some.activation.now in
     let found = sym c.in-Some.ensures.entry in
     let is = loads e.phase (sym c.if-not-is_loading.ensures) in
-    let back = settled_back b.activations b.collector c.expect.new.collector c.take_back-in-Err.new.collector grain e.last c.self.invariant (used-loading b.activations b.collector c.self.invariant grain e found is) c.is_quiet-quiet.result c.in_ok-expect.ensures.done c.take_back-in-Err.ensures in
+    let back = settled_back b.activations b.collector c.expect.new.collector c.take_back-in-Err-Memory.new.collector grain e.last c.self.invariant (used-loading b.activations b.collector c.self.invariant grain e found is) c.is_quiet-quiet.result c.in_ok-expect.ensures.done c.take_back-in-Err-Memory.ensures in
     subst (λ (n : Notes). AreNoted b.activations n.lasts) (sym back) c.self.invariant
 
 pub returns-in-Ok : goal.returns-in-Ok

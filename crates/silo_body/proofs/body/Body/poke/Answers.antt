@@ -1,7 +1,6 @@
-use Rattle.std.proofs.Common.{◌++◌, ◌∷◌, [], ap, sym, ◌∙◌, subst}
+use Rattle.std.proofs.Common.{◌++◌, ap, sym, ◌∙◌, subst}
 use Rattle.std.specs.Prelude.{Ok, Err}
 use Rattle.silo_event.specs.declared.fault.Fault.TheVariants.{StorageFailed}
-use Rattle.silo_event.specs.declared.reply.Reply.{Reply}
 use Rattle.silo_event.specs.declared.reply.Party.TheVariants as party
 use Rattle.silo_event.specs.declared.step.Step.TheVariants as step
 use Rattle.silo_model.specs.Calls.{told}

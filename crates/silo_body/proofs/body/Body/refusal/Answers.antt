@@ -1,9 +1,8 @@
-use Rattle.std.proofs.Common.{◌≡◌, ◌<◌, ap, sym, ◌∙◌, subst}
+use Rattle.std.proofs.Common.{ap, sym, ◌∙◌, subst}
 use Rattle.std.specs.Prelude.{option_map, length}
 use Rattle.std.specs.FinMap as map
 use Rattle.silo_event.specs.Owner.{tenant_of}
-use Rattle.silo_model.proofs.Actives.{active_in}
-use Rattle.silo_model.specs.Machine.{Account}
+use Rattle.silo_model.specs.Contexts.{active_in}
 use Rattle.silo_body.specs.Held.{Held}
 use Rattle.silo_body.specs.Verdicts.{gated, Passes}
 use Rattle.silo_body.proofs.Calls.{nothing_waits, some_wait, settles_new, settles_again}

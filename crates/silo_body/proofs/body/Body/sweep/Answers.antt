@@ -1,7 +1,7 @@
 use Rattle.std.proofs.Common.{Some, refl, ap, sym, ◌∙◌, subst, Ok}
 use Rattle.silo_event.specs.declared.step.Step.TheVariants as step
 use Rattle.silo_event.specs.declared.step.Answer.TheVariants.{Done}
-use Rattle.idle_collector.specs.Notes.{Notes}
+use Rattle.idle_collector.specs.Notes.{Notes, due}
 use Rattle.silo_model.specs.Machine.{Entries}
 use Rattle.silo_model.proofs.ClockSteps.{sweep_is}
 use Rattle.silo_body.specs.Held.{Held}
@@ -24,6 +24,6 @@ returns g c =
       whole = record { accounts = b.accounts; age = b.collector.age; clock = b.clock; entries = b.activations; rows = g.S.GrainStorage.rows b.storage; replies = b.replies.items };
       failures = g.S.GrainStorage.failed b.storage;
     } in
-    let left = c.drop_all.ensures.gone ∙ ap (without b.activations) (c.as_slice.ensures.value ∙ c.in_ok-due.ensures) ∙ due_go b.activations b.collector c.self.invariant b.clock in
+    let left = c.drop_all.ensures.gone ∙ ap (without b.activations) (c.as_slice.ensures.value ∙ c.in_ok-due.ensures ∙ ap (due b.collector) c.get.ensures.value) ∙ due_go b.activations b.collector c.self.invariant b.clock in
     subst (λ (h : Held). Moves g.L.GrainLogic.logic h step.Sweep (Ok Done) (record old { whole = record old.whole { age = c.drop_all.new.collector.age; entries = c.drop_all.new.activations } })) c.self.view_is
     (sweep_is g.L.GrainLogic.logic old.whole ∙ (λ i. Some (record old.whole { age = (sym c.drop_all.ensures.forgotten i).age; entries = sym left i })), refl)

@@ -1,0 +1,114 @@
+//! Any step.
+
+ghost use Rattle.std.specs.Prelude.{◌≡◌, IfOk};
+ghost use Rattle.std.specs.FinMap as map;
+ghost use Rattle.silo_event.specs.declared.step.Step.TheVariants as step;
+ghost use Rattle.silo_body.specs.Entries.{open_turn};
+ghost use Rattle.silo_body.specs.Moves.{Moves};
+
+use crate::body::Body;
+use crate::change;
+use bumpalo::Bump;
+use grain_id::GrainId;
+use grain_kinds::{FinishedTurn, GrainLogic, OpenedTurn, run_turn};
+use grain_storage::GrainStorage;
+use silo_event::{Answer, Step, StepFault};
+use std::alloc::{AllocError, Global};
+
+impl<S: GrainStorage, L: GrainLogic> Body<S, L> {
+    /// Takes a step of any kind. The turn of an `End` or a `Store` is run here, in an arena of its own,
+    /// so that it is no stranger.
+    ///
+    /// # Errors
+    ///
+    /// Out of memory: nothing changed.
+    pub fn step(&mut self, alloc: Global, step: &Step) -> Result<Answer, StepFault>
+        ensures { Moves L.logic self.old step.now result self.new }
+    {
+        match step {
+            Step::Refuse { caller, id, code } => self.refuse(caller, *id, *code),
+            Step::Call {
+                caller,
+                id,
+                grain,
+                message,
+            } => self.call(alloc, caller, *id, grain, message),
+            Step::Poke {
+                caller,
+                id,
+                grain,
+                state,
+                failed,
+            } => self.poke(alloc, caller, *id, grain, state, *failed),
+            Step::Status { caller, id } => self.status(alloc, caller, *id),
+            Step::Deliver { grain } => self.deliver(alloc, grain),
+            Step::Activate { grain } => Ok(self.activate(grain)),
+            Step::Load { grain, failed } => self.load(alloc, grain, *failed),
+            Step::Begin { grain } => self.open(grain),
+            Step::Store {
+                grain,
+                turn,
+                failed,
+            } => self.run_store(alloc, grain, *turn, *failed),
+            Step::End { grain, turn } => self.run_end(alloc, grain, *turn),
+            Step::Abandon { grain, turn } => self.abandon(grain, *turn),
+            Step::Tick { now } => Ok(self.tick(*now)),
+            Step::Sweep => self.sweep(alloc),
+        }
+    }
+
+    /// The first waiting request of a ready grain becomes an open turn.
+    fn open(&mut self, grain: &GrainId) -> Result<Answer, StepFault>
+        ensures { Moves L.logic self.old (step.Begin grain.now) result self.new }
+    {
+        match self.begin(grain)? {
+            Some(_turn) => Ok(Answer::Done),
+            None => Ok(Answer::NotNow),
+        }
+    }
+
+    /// The open turn of that number, run in an arena of its own.
+    fn run(
+        &self,
+        alloc: Global,
+        grain: &GrainId,
+        turn: u64,
+    ) -> Result<Option<FinishedTurn<L>>, AllocError>
+        ensures { IfOk result (λ found. found ≡ open_turn L.logic grain.now turn (map.get self.now.whole.entries grain.now)) }
+    {
+        let Some(opened) = self.open_turn(grain, turn)? else {
+            return Ok(None);
+        };
+        let bump = Bump::new(alloc);
+        match run_turn(alloc, &bump, &self.logic, opened) {
+            Ok(finished) => Ok(Some(finished)),
+            Err(_opened) => Err(AllocError),
+        }
+    }
+
+    /// An open turn that asks for nothing of the storage runs and is closed.
+    fn run_end(&mut self, alloc: Global, grain: &GrainId, turn: u64) -> Result<Answer, StepFault>
+        ensures { Moves L.logic self.old (step.End grain.now turn) result self.new }
+    {
+        let Some(finished) = self.run(alloc, grain, turn)? else {
+            return Ok(Answer::NotNow);
+        };
+        self.end(alloc, grain, turn, &finished)
+    }
+
+    /// An open turn that asks for the storage runs and is closed.
+    fn run_store(
+        &mut self,
+        alloc: Global,
+        grain: &GrainId,
+        turn: u64,
+        failed: bool,
+    ) -> Result<Answer, StepFault>
+        ensures { Moves L.logic self.old (step.Store grain.now turn failed) result self.new }
+    {
+        let Some(finished) = self.run(alloc, grain, turn)? else {
+            return Ok(Answer::NotNow);
+        };
+        self.store(alloc, grain, turn, &finished, failed)
+    }
+}
