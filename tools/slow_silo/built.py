@@ -43,14 +43,6 @@ EVERYTHING = Built(
     tenants=1_000,
 )
 
-TODAY = Built(
-    commands=frozenset(["steps"]),
-    ops=frozenset(["call", "activate", "load", "begin", "end"]),
-    methods={"counter": frozenset(["add", "get"])},
-    reads_together=False,
-    failures=False,
-    refusals_are_steps=False,
-    tenants=1,
-)
+TODAY = EVERYTHING._replace(commands=frozenset(["steps"]))
 
 MODES = {"today": TODAY, "everything": EVERYTHING}

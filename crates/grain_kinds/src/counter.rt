@@ -8,7 +8,7 @@ ghost use Rattle.grain_kinds.specs.Counter.{add_plan, counter_plan};
 ghost use Rattle.grain_kinds.specs.Planned.{plan_shown};
 ghost use Rattle.grain_kinds.specs.Shared.{for_null, for_shape, integer_field};
 
-use crate::arguments::{is_null, integer_field};
+use crate::arguments::{integer_field, is_null};
 use crate::fault::MethodFault;
 use crate::plan::Plan;
 use crate::shared::shared_plan;

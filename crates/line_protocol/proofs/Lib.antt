@@ -5,7 +5,9 @@ pub mod Pushes
 pub mod Pieces
 pub mod LinesOfBytes
 pub mod StepTexts
-pub mod BuiltForms
+pub mod Saids
+pub mod OwnLines
+pub mod Unfailed
 pub mod Run
 pub mod GrammarLoops
 pub mod ItemsRead

@@ -3,25 +3,29 @@ use Rattle.std.proofs.Common.{◌≡◌, ◌≢◌, ℕ, suc, ◌+◌, ◌<◌, 
 use Rattle.std.proofs.lemmas.Bool.{cases_lt}
 use Rattle.std.specs.Io.KnownBytes.{Appends, Keeps, IsAtEnd, prepend_known}
 use Rattle.std.proofs.KnownBytes.{Appends-trans, Appends-kept, Appends-nil}
+use Rattle.silo_event.specs.Failed.{marked_step}
+use Rattle.silo_event.specs.declared.step.Answer.{Answer}
 use Rattle.silo_event.specs.declared.step.Step.{Step}
 use Rattle.grain_kinds.specs.Logic.{Logic}
-use Rattle.silo_model.specs.Step.{machine_step}
-use Rattle.silo_model.specs.Whole.{whole_step, shown_to}
-use Rattle.silo_model.specs.Run.{run_by, done_by, machine_run, whole_run, restricted_to}
-use Rattle.silo_model.proofs.Runs.{run_by-append, done_by-append, restricted-append}
+use Rattle.silo_model.specs.Journal.{LeadsTo}
+use Rattle.silo_model.specs.Whole.{Whole, whole_step}
+use Rattle.silo_model.specs.Run.{run_by, whole_run}
 use Rattle.silo_core.specs.History.{History}
-use Rattle.silo_core.specs.Runs.{AllConcern}
-use Rattle.silo_core.proofs.Histories.{all_restricted}
+use Rattle.silo_core.specs.Runs.{Takes}
+use Rattle.silo_core.proofs.Runs.{taken_none, taken_one, taken_on}
 use Rattle.line_protocol.specs.Calls.{HasCause}
 use Rattle.line_protocol.specs.Lines.{lines_of, onto, line_limit, lines_limit}
-use Rattle.line_protocol.specs.Meaning.{meaning_of, taken, taken_of}
-use Rattle.line_protocol.specs.LineTexts.{Stepper, whole_stepper, machine_stepper, step_said, steps_of, line_text, lines_text}
-use Rattle.line_protocol.specs.LineRuns.{TakesSteps, TakesLine, TakesLines, LineConcerns, LinesConcern, LineAlone, LinesAlone, LinesTaken, AnswersAll, AnswersAlone, StopsBefore, StopsAt, WrittenInPart, StopsAfter, StopsBy, MayTake, LineStopsBy}
+use Rattle.line_protocol.specs.Meaning.{meaning_of}
+use Rattle.line_protocol.specs.LineTexts.{whole_stepper, said_lines, steps_said, as_taken, lines_text}
+use Rattle.line_protocol.specs.LineRuns.{AnswersLine, AnswersSaid, AnswersLines, AnswersNext, LinesTaken, AnswersAll, StopsBefore, StopsAt, WrittenInPart, StopsAfter, StopsBy, MayTake, LineStopsBy}
 use Rattle.line_protocol.specs.declared.calls.ReaderCalls.{ReaderCalls}
 use Rattle.line_protocol.specs.declared.fault.LineFault.{LineFault}
 use Rattle.line_protocol.specs.declared.fault.LineFault.TheVariants as fault
 use Rattle.line_protocol.specs.declared.line.Line.{Line}
+use Rattle.line_protocol.specs.declared.line.Line.TheVariants as line
 use Rattle.line_protocol.proofs.Meaning.{said_under, meaning_of-under, long_under}
+use Rattle.line_protocol.proofs.Saids.{EachAnswered, said_lines-more, steps_said-more, as_taken-append, steps_said-taken, lines_text-append}
+use Rattle.line_protocol.proofs.OwnLines.{lines_own}
 use Rattle.line_protocol.proofs.LinesOfBytes.{LinesTaken-trans, LinesTaken-kept}
 
 -- ---- a line that was cut says what the whole line says
@@ -38,119 +42,121 @@ said_cut_at limit cut l e = ap (λ n. said_under limit (take n l)) e ∙ said_cu
 pub said_cut : (l : List ℕ) → meaning_of (take 65537 l) ≡ meaning_of l
 said_cut l = meaning_of-under (take 65537 l) ∙ said_cut_at line_limit 65537 l refl ∙ sym (meaning_of-under l)
 
--- ---- the definitions, by their last line
+-- ---- one line more
 
-steps_of-more : (done : List (List ℕ)) (l : List ℕ) → steps_of (done ++ l ∷ []) ≡ steps_of done ++ step_said (taken_of l)
-steps_of-more [] l = append-nil (step_said (taken_of l))
-steps_of-more (d ∷ done) l = ap (λ k. step_said (taken_of d) ++ k) (steps_of-more done l) ∙ sym (append_assoc (step_said (taken_of d)) (steps_of done) (step_said (taken_of l)))
+said_none : (logic : Logic) (old : History) → AnswersSaid logic old [] [] old []
+said_none logic old = record { silo = taken_none logic old; text_is = refl }
 
-lines_text-more : {M : Type 0} (by : Stepper M) (m : M) (done : List (List ℕ)) (l : List ℕ) → lines_text by m (done ++ l ∷ []) ≡ lines_text by m done ++ line_text by (run_by by.step m (steps_of done)) (taken_of l)
-lines_text-more by m [] l = append-nil (line_text by m (taken_of l))
-lines_text-more by m (d ∷ done) l =
-    let first = line_text by m (taken_of d) in
-    let after = run_by by.step m (step_said (taken_of d)) in
-    ap (λ k. first ++ k) (lines_text-more by after done l)
-    ∙ sym (append_assoc first (lines_text by after done) (line_text by (run_by by.step after (steps_of done)) (taken_of l)))
-    ∙ ap (λ x. (first ++ lines_text by after done) ++ line_text by x (taken_of l)) (sym (run_by-append by.step m (step_said (taken_of d)) (steps_of done)))
+-- what was said before, and one line more, with the answers to it
+pub record AnswersMore (logic : Logic) (old : History) (saids : List Line) (said : Line) (given : List Answer) (new : History) (text last : List ℕ) : Type 0 where
+  pub more : List Answer
+  pub all : AnswersSaid logic old (saids ++ said ∷ []) (given ++ more) new (text ++ last)
 
-AllConcern-append : (tenant : List ℕ) (steps others : List Step) → AllConcern tenant (steps ++ others) → AllConcern tenant steps × AllConcern tenant others
-AllConcern-append tenant [] others h = (tt, h)
-AllConcern-append tenant (s ∷ steps) others h = let more = AllConcern-append tenant steps others h.1 in ((h.0, more.0), more.1)
+module _ (logic : Logic) (old mid : History) (saids : List Line) (given : List Answer) (text : List ℕ) (p : AnswersSaid logic old saids given mid text) where
+  reached : run_by (whole_step logic) old.whole (steps_said (as_taken saids given)) ≡ mid.whole
+  reached = ap (whole_run logic old.whole) (steps_said-taken saids given p.silo.each_answered) ∙ sym p.silo.whole
 
-LinesConcern-more : (tenant : List ℕ) (done : List (List ℕ)) (l : List ℕ) → LinesConcern tenant (done ++ l ∷ []) → LinesConcern tenant done × LineConcerns tenant (taken_of l)
-LinesConcern-more tenant done l h = AllConcern-append tenant (steps_of done) (step_said (taken_of l)) (subst (AllConcern tenant) (steps_of-more done l) h)
+  text_more : (said : Line) (more : List Answer) (last : List ℕ) → last ≡ lines_text (whole_stepper logic) mid.whole (as_taken (said ∷ []) more)
+      → text ++ last ≡ lines_text (whole_stepper logic) old.whole (as_taken (saids ++ said ∷ []) (given ++ more))
+  text_more said more last e =
+      ap₂ (λ (t u : List ℕ). t ++ u) p.text_is (e ∙ ap (λ (w : Whole). lines_text (whole_stepper logic) w (as_taken (said ∷ []) more)) (sym reached))
+      ∙ sym (lines_text-append (whole_stepper logic) old.whole (as_taken saids given) (as_taken (said ∷ []) more))
+      ∙ ap (lines_text (whole_stepper logic) old.whole) (sym (as_taken-append saids (said ∷ []) given more p.silo.each_answered))
 
--- ---- the silo
+  -- a line that says no step
+  takes_no_step : (said : Line) (new : History) → steps_said (said ∷ []) ≡ [] → new ≡ mid → Takes logic old (steps_said (saids ++ said ∷ [])) (given ++ []) new
+  takes_no_step said new none same =
+      let steps : steps_said (saids ++ said ∷ []) ≡ steps_said saids = steps_said-more saids said ∙ ap (λ (ss : List Step). steps_said saids ++ ss) (sym (append-nil _) ∙ none) ∙ append-nil (steps_said saids) in
+      subst (λ (ss : List Step). Takes logic old ss (given ++ []) new) (sym steps)
+      (subst (λ (as' : List Answer). Takes logic old (steps_said saids) as' new) (sym (append-nil given))
+      (subst (λ (h : History). Takes logic old (steps_said saids) given h) (sym same) p.silo))
 
-TakesSteps-none : (logic : Logic) (old : History) → TakesSteps logic old [] old
-TakesSteps-none logic old = record { setup = refl; failures = refl; whole = refl; journal = sym (append-nil old.journal); parts = λ tenant. refl }
-
-TakesSteps-append : (logic : Logic) (old mid new : History) (steps others : List Step) → TakesSteps logic old steps mid → TakesSteps logic mid others new → TakesSteps logic old (steps ++ others) new
-TakesSteps-append logic old mid new steps others p q = record {
-  setup = q.setup ∙ p.setup;
-  failures = q.failures ∙ p.failures;
-  whole = q.whole ∙ ap (λ w. whole_run logic w others) p.whole ∙ sym (run_by-append (whole_step logic) old.whole steps others);
-  journal = q.journal ∙ ap₂ (λ j w. j ++ done_by (whole_step logic) w others) p.journal p.whole
-      ∙ append_assoc old.journal (done_by (whole_step logic) old.whole steps) (done_by (whole_step logic) (whole_run logic old.whole steps) others)
-      ∙ ap (λ k. old.journal ++ k) (sym (done_by-append (whole_step logic) old.whole steps others));
-  parts = λ tenant.
-      q.parts tenant ∙ ap (λ m. machine_run logic m (restricted_to tenant others)) (p.parts tenant)
-      ∙ sym (run_by-append (machine_step logic) (shown_to tenant old.whole) (restricted_to tenant steps) (restricted_to tenant others))
-      ∙ ap (machine_run logic (shown_to tenant old.whole)) (sym (restricted-append tenant steps others));
-}
-
-TakesLines-more : (logic : Logic) (old mid new : History) (done : List (List ℕ)) (l : List ℕ) → TakesLines logic old done mid → TakesLine logic mid (taken_of l) new → TakesLines logic old (done ++ l ∷ []) new
-TakesLines-more logic old mid new done l p q =
-    subst (λ steps. TakesSteps logic old steps new) (sym (steps_of-more done l)) (TakesSteps-append logic old mid new (steps_of done) (step_said (taken_of l)) p q)
-
--- the part of a tenant whom all lines concern
-part_alone : (logic : Logic) (tenant : List ℕ) (old new : History) (done : List (List ℕ)) → TakesLines logic old done new → LinesConcern tenant done
-    → shown_to tenant new.whole ≡ machine_run logic (shown_to tenant old.whole) (steps_of done)
-part_alone logic tenant old new done p c = p.parts tenant ∙ ap (machine_run logic (shown_to tenant old.whole)) (all_restricted tenant (steps_of done) c)
-
-LinesAlone-more : (logic : Logic) (tenant : List ℕ) (old mid : History) (done : List (List ℕ)) (l : List ℕ) → TakesLines logic old done mid → LinesConcern tenant done
-    → LinesAlone logic tenant old.whole done → LineAlone logic tenant mid.whole (taken_of l) → LinesAlone logic tenant old.whole (done ++ l ∷ [])
-LinesAlone-more logic tenant old mid done l p c text last =
-    let alone = shown_to tenant old.whole in
-    lines_text-more (whole_stepper logic) old.whole done l ∙ ap₂ (λ t w. t ++ line_text (whole_stepper logic) w (taken_of l)) text (sym p.whole)
-    ∙ ap (λ t. lines_text (machine_stepper logic) alone done ++ t) (last ∙ ap (λ m. line_text (machine_stepper logic) m (taken_of l)) (part_alone logic tenant old mid done p c))
-    ∙ sym (lines_text-more (machine_stepper logic) alone done l)
+  pub one_more : (said : Line) (new : History) (last : List ℕ) → AnswersLine logic mid said new last → AnswersMore logic old saids said given new text last
+  one_more line.Nothing new last h = record {
+    more = [];
+    all = record { silo = takes_no_step line.Nothing new refl h.0; text_is = text_more line.Nothing [] last h.1 };
+  }
+  one_more (line.Refusal r) new last h = record {
+    more = [];
+    all = record { silo = takes_no_step (line.Refusal r) new refl h.0; text_is = text_more (line.Refusal r) [] last (h.1 ∙ sym (append-nil _)) };
+  }
+  one_more (line.Step s) new last h = record {
+    more = h.0 ∷ [];
+    all = record {
+      silo = subst (λ (ss : List Step). Takes logic old ss (given ++ h.0 ∷ []) new) (sym (steps_said-more saids (line.Step s))) (taken_on logic old mid new (steps_said saids) given (s ∷ []) (h.0 ∷ []) p.silo (taken_one logic mid new s h.0 h.1));
+      text_is = text_more (line.Step s) (h.0 ∷ []) last (h.2 ∙ sym (append-nil _));
+    };
+  }
 
 -- ---- a run, so far: these lines were taken, answered and written
 
 pub record LinesDone (logic : Logic) (count : ℕ) (from left : Option (List ℕ)) (old new : History) (before after : Option (List ℕ)) : Type 0 where
+  pub leads : LeadsTo logic old.setup old.journal old.whole
   pub done : List (List ℕ)
   pub counted : length done ≡ count
   pub taken : LinesTaken from left done
-  pub silo : TakesLines logic old done new
-  pub written : Appends before after (lines_text (whole_stepper logic) old.whole done)
-  pub alone : (tenant : List ℕ) → LinesConcern tenant done → LinesAlone logic tenant old.whole done
+  pub given : List Answer
+  pub text : List ℕ
+  pub answers : AnswersSaid logic old (said_lines done) given new text
+  pub written : Appends before after text
 
-pub LinesDone-none : (logic : Logic) (from left : Option (List ℕ)) (old : History) (before : Option (List ℕ)) → LinesTaken from left [] → LinesDone logic 0 from left old old before before
-LinesDone-none logic from left old before h = record {
+pub LinesDone-none : (logic : Logic) (from left : Option (List ℕ)) (old : History) (before : Option (List ℕ)) → LeadsTo logic old.setup old.journal old.whole → LinesTaken from left [] → LinesDone logic 0 from left old old before before
+LinesDone-none logic from left old before leads h = record {
+  leads = leads;
   done = [];
   counted = refl;
   taken = h;
-  silo = TakesSteps-none logic old;
+  given = [];
+  text = [];
+  answers = said_none logic old;
   written = Appends-nil before;
-  alone = λ tenant c. refl;
 }
 
-pub LinesDone-more : (logic : Logic) (count : ℕ) (from left next : Option (List ℕ)) (old mid new : History) (before during after : Option (List ℕ)) (l : List ℕ) (said : Line)
-    → LinesDone logic count from left old mid before during → LinesTaken left next (l ∷ []) → said ≡ taken_of l
-    → TakesLine logic mid said new → Appends during after (line_text (whole_stepper logic) mid.whole said) → ((tenant : List ℕ) → LineConcerns tenant said → LineAlone logic tenant mid.whole said)
+-- the lines before, and one more
+line_more : (logic : Logic) (old mid new : History) (done : List (List ℕ)) (l : List ℕ) (given : List Answer) (text last : List ℕ) → AnswersSaid logic old (said_lines done) given mid text → AnswersLine logic mid (meaning_of l) new last
+    → (more : List Answer) × AnswersSaid logic old (said_lines (done ++ l ∷ [])) (given ++ more) new (text ++ last)
+line_more logic old mid new done l given text last p h =
+    let next = one_more logic old mid (said_lines done) given text p (meaning_of l) new last h in
+    (next.more, subst (λ (saids : List Line). AnswersSaid logic old saids (given ++ next.more) new (text ++ last)) (sym (said_lines-more done l)) next.all)
+
+pub LinesDone-more : (logic : Logic) (count : ℕ) (from left next : Option (List ℕ)) (old mid new : History) (before during after : Option (List ℕ)) (l : List ℕ) (said : Line) (last : List ℕ)
+    → LinesDone logic count from left old mid before during → LinesTaken left next (l ∷ []) → said ≡ meaning_of l
+    → AnswersLine logic mid said new last → Appends during after last
     → LinesDone logic (count + 1) from next old new before after
-LinesDone-more logic count from left next old mid new before during after l said p took e silo wrote alone =
-    let by = whole_stepper logic in
-    let text : line_text by mid.whole said ≡ line_text by (whole_run logic old.whole (steps_of p.done)) (taken_of l) = ap₂ (line_text by) p.silo.whole e in
+LinesDone-more logic count from left next old mid new before during after l said last p took e answers wrote =
+    let all = line_more logic old mid new p.done l p.given p.text last p.answers (subst (λ (s : Line). AnswersLine logic mid s new last) e answers) in
     record {
+      leads = p.leads;
       done = p.done ++ l ∷ [];
       counted = omega (arith, p.counted, length-append p.done (l ∷ []));
       taken = LinesTaken-trans from left next p.done (l ∷ []) p.taken took;
-      silo = TakesLines-more logic old mid new p.done l p.silo (subst (λ s. TakesLine logic mid s new) e silo);
-      written = subst (Appends before after) (ap (λ t. lines_text by old.whole p.done ++ t) text ∙ sym (lines_text-more by old.whole p.done l)) (Appends-trans before during after _ _ p.written wrote);
-      alone = λ tenant c.
-          let parts = LinesConcern-more tenant p.done l c in
-          LinesAlone-more logic tenant old mid p.done l p.silo parts.0 (p.alone tenant parts.0) (subst (LineAlone logic tenant mid.whole) e (alone tenant (subst (LineConcerns tenant) (sym e) parts.1)));
+      given = p.given ++ all.0;
+      text = p.text ++ last;
+      answers = all.1;
+      written = Appends-trans before during after _ _ p.written wrote;
     }
 
 -- the same is left to read
 pub LinesDone-kept : (logic : Logic) (count : ℕ) (from left next : Option (List ℕ)) (old new : History) (before after : Option (List ℕ)) → LinesDone logic count from left old new before after → Keeps left next → LinesDone logic count from next old new before after
 LinesDone-kept logic count from left next old new before after p h =
-    record { done = p.done; counted = p.counted; taken = LinesTaken-kept from left next p.done p.taken h; silo = p.silo; written = p.written; alone = p.alone }
+    record { leads = p.leads; done = p.done; counted = p.counted; taken = LinesTaken-kept from left next p.done p.taken h; given = p.given; text = p.text; answers = p.answers; written = p.written }
 
 -- what was written went out
 pub LinesDone-flushed : (logic : Logic) (count : ℕ) (from left : Option (List ℕ)) (old new : History) (before during after : Option (List ℕ)) → LinesDone logic count from left old new before during → Keeps during after
     → LinesDone logic count from left old new before after
 LinesDone-flushed logic count from left old new before during after p h =
-    record { done = p.done; counted = p.counted; taken = p.taken; silo = p.silo; written = Appends-kept before during after _ p.written h; alone = p.alone }
+    record { leads = p.leads; done = p.done; counted = p.counted; taken = p.taken; given = p.given; text = p.text; answers = p.answers; written = Appends-kept before during after _ p.written h }
 
 -- no line more was taken
 pub LinesDone-same : (logic : Logic) (count : ℕ) (from left next : Option (List ℕ)) (old new : History) (before after : Option (List ℕ)) → LinesDone logic count from left old new before after → LinesTaken left next []
     → LinesDone logic count from next old new before after
 LinesDone-same logic count from left next old new before after p h =
     let taken = subst (LinesTaken from next) (append-nil p.done) (LinesTaken-trans from left next p.done [] p.taken h) in
-    record { done = p.done; counted = p.counted; taken = taken; silo = p.silo; written = p.written; alone = p.alone }
+    record { leads = p.leads; done = p.done; counted = p.counted; taken = taken; given = p.given; text = p.text; answers = p.answers; written = p.written }
+
+-- what was taken and answered, for all and for each tenant
+lines_answered : (logic : Logic) (count : ℕ) (from left : Option (List ℕ)) (old new : History) (before after : Option (List ℕ)) (p : LinesDone logic count from left old new before after) → AnswersLines logic old p.done p.given new p.text
+lines_answered logic count from left old new before after p = lines_own logic old new p.done p.given p.text p.leads p.answers
 
 -- ---- the end of the input
 
@@ -158,43 +164,50 @@ all_taken_here : (input ahead : List ℕ) (rest : Option (List ℕ)) (done : Lis
 all_taken_here input ahead None done none end h = absurd h
 all_taken_here input ahead (Some bytes) done none end h = (ap Some end, h ∙ ap (λ l. done ++ lines_of l) (ap₂ (λ a b. a ++ b) none end) ∙ append-nil done)
 
-pub LinesDone-all : (logic : Logic) (count : ℕ) (from : Option (List ℕ)) (ahead : List ℕ) (rest : Option (List ℕ)) (old new : History) (before after : Option (List ℕ)) → ahead ≡ [] → IsAtEnd rest
-    → LinesDone logic count from (prepend_known ahead rest) old new before after → IfSome from (λ input. AnswersAll logic input count old new rest before after)
-LinesDone-all logic count None ahead rest old new before after none end p = tt
-LinesDone-all logic count (Some input) ahead rest old new before after none end p =
+pub LinesDone-all : (logic : Logic) (count n : ℕ) (from : Option (List ℕ)) (ahead : List ℕ) (rest : Option (List ℕ)) (old new : History) (before after : Option (List ℕ)) → n ≡ count → ahead ≡ [] → IsAtEnd rest
+    → LinesDone logic count from (prepend_known ahead rest) old new before after → IfSome from (λ input. AnswersAll logic input n old new rest before after)
+LinesDone-all logic count n None ahead rest old new before after same none end p = tt
+LinesDone-all logic count n (Some input) ahead rest old new before after same none end p =
     let whole = all_taken_here input ahead rest p.done none end p.taken in record {
       read = whole.0;
-      count = sym p.counted ∙ ap length (sym whole.1);
-      silo = subst (λ ls. TakesLines logic old ls new) (sym whole.1) p.silo;
-      written = subst (λ ls. Appends before after (lines_text (whole_stepper logic) old.whole ls)) (sym whole.1) p.written;
-    }
-
-pub LinesDone-alone : (logic : Logic) (count : ℕ) (from : Option (List ℕ)) (ahead : List ℕ) (rest : Option (List ℕ)) (old new : History) (before after : Option (List ℕ)) → ahead ≡ [] → IsAtEnd rest
-    → LinesDone logic count from (prepend_known ahead rest) old new before after
-    → IfSome from (λ input. (tenant : List ℕ) → LinesConcern tenant (lines_of input) → AnswersAlone logic tenant input old.whole new.whole before after)
-LinesDone-alone logic count None ahead rest old new before after none end p = tt
-LinesDone-alone logic count (Some input) ahead rest old new before after none end p =
-    let whole = all_taken_here input ahead rest p.done none end p.taken in
-    λ tenant c.
-    let here = subst (LinesConcern tenant) whole.1 c in
-    let alone = shown_to tenant old.whole in record {
-      part = part_alone logic tenant old new p.done p.silo here ∙ ap (λ ls. machine_run logic alone (steps_of ls)) (sym whole.1);
-      written = subst (Appends before after) (p.alone tenant here ∙ ap (lines_text (machine_stepper logic) alone) (sym whole.1)) p.written;
+      count = same ∙ sym p.counted ∙ ap length (sym whole.1);
+      given = p.given;
+      text = p.text;
+      answers = subst (λ ls. AnswersLines logic old ls p.given new p.text) (sym whole.1) (lines_answered logic count (Some input) (prepend_known ahead rest) old new before after p);
+      written = p.written;
     }
 
 -- ---- a fault
 
-stops_before : (logic : Logic) (from left : Option (List ℕ)) (old new : History) (before after : Option (List ℕ)) (done : List (List ℕ)) → LinesTaken from left done → TakesLines logic old done new → Appends before after (lines_text (whole_stepper logic) old.whole done)
+stops_before : (logic : Logic) (count : ℕ) (from left : Option (List ℕ)) (old new : History) (before after : Option (List ℕ)) → LinesDone logic count from left old new before after
     → IfSome from (λ input. StopsBefore logic (lines_of input) old new before after)
-stops_before logic None left old new before after done h silo written = tt
-stops_before logic (Some input) None old new before after done h silo written = absurd h
-stops_before logic (Some input) (Some bytes) old new before after done h silo written = record { done = done; rest = lines_of bytes; parts = h; silo = silo; written = written }
+stops_before logic count None left old new before after p = tt
+stops_before logic count (Some input) None old new before after p = absurd p.taken
+stops_before logic count (Some input) (Some bytes) old new before after p = record {
+  done = p.done;
+  rest = lines_of bytes;
+  parts = p.taken;
+  given = p.given;
+  text = p.text;
+  answers = lines_answered logic count (Some input) (Some bytes) old new before after p;
+  written = p.written;
+}
 
-stops_at : (logic : Logic) (from left : Option (List ℕ)) (old new : History) (before after : Option (List ℕ)) (done : List (List ℕ)) → LinesTaken from left done → TakesLines logic old done new → Appends before after (lines_text (whole_stepper logic) old.whole done)
+stops_at : (logic : Logic) (count : ℕ) (from left : Option (List ℕ)) (old new : History) (before after : Option (List ℕ)) → LinesDone logic count from left old new before after
     → IfSome from (λ input. StopsAt logic (lines_of input) old new before after)
-stops_at logic None left old new before after done h silo written = tt
-stops_at logic (Some input) None old new before after done h silo written = absurd h
-stops_at logic (Some input) (Some bytes) old new before after done h silo written = record { done = done; rest = lines_of bytes; parts = h; silo = inl silo; written = written }
+stops_at logic count None left old new before after p = tt
+stops_at logic count (Some input) None old new before after p = absurd p.taken
+stops_at logic count (Some input) (Some bytes) old new before after p = record {
+  done = p.done;
+  rest = lines_of bytes;
+  parts = p.taken;
+  given = p.given;
+  text = p.text;
+  mid = new;
+  answers = lines_answered logic count (Some input) (Some bytes) old new before after p;
+  next = inl refl;
+  written = p.written;
+}
 
 -- for a reason beside it
 for_reason : (from : Option (List ℕ)) (P Q : List ℕ → Type 0) → ((input : List ℕ) → P input → Q input) → IfSome from P → IfSome from Q
@@ -206,26 +219,33 @@ stops_flushing : (logic : Logic) (count : ℕ) (from left : Option (List ℕ)) (
     → IfSome from (λ input. StopsAfter logic (lines_of input) old new before after)
 stops_flushing logic count None left old new before after p = tt
 stops_flushing logic count (Some input) None old new before after p = absurd p.taken
-stops_flushing logic count (Some input) (Some bytes) old new before after p = record {
-  done = p.done;
-  last = [];
-  rest = lines_of bytes;
-  at_most_one = omega arith;
-  parts = p.taken ∙ ap (λ ls. ls ++ lines_of bytes) (sym (append-nil p.done));
-  silo = subst (λ ls. TakesLines logic old ls new) (sym (append-nil p.done)) p.silo;
-  during = after;
-  written = p.written;
-  part = record { front = []; back = []; parts = refl; written = Appends-nil after };
-}
+stops_flushing logic count (Some input) (Some bytes) old new before after p =
+    let answered = lines_answered logic count (Some input) (Some bytes) old new before after p in record {
+      done = p.done;
+      last = [];
+      rest = lines_of bytes;
+      at_most_one = omega arith;
+      parts = p.taken ∙ ap (λ ls. ls ++ lines_of bytes) (sym (append-nil p.done));
+      given = p.given;
+      more = [];
+      text = p.text;
+      last_text = [];
+      mid = new;
+      before_it = answered;
+      answers = subst (λ (ls : List (List ℕ)). AnswersLines logic old ls (p.given ++ []) new (p.text ++ [])) (sym (append-nil p.done))
+          (subst (λ (as' : List Answer). AnswersLines logic old p.done as' new (p.text ++ [])) (sym (append-nil p.given))
+          (subst (λ (t : List ℕ). AnswersLines logic old p.done p.given new t) (sym (append-nil p.text)) answered));
+      during = after;
+      written = p.written;
+      part = record { front = []; back = []; parts = refl; written = Appends-nil after };
+    }
 
 -- while the next line is read, or memory is refused before
 pub stops_reading : (logic : Logic) (e : LineFault) (calls : ReaderCalls) (count : ℕ) (from left : Option (List ℕ)) (old new : History) (before after : Option (List ℕ)) → HasCause e calls
     → LinesDone logic count from left old new before after → IfSome from (λ input. StopsBy logic e (lines_of input) calls old new before after)
-stops_reading logic fault.Read calls count from left old new before after cause p =
-    for_reason from _ _ (λ input stops. (stops, cause)) (stops_before logic from left old new before after p.done p.taken p.silo p.written)
-stops_reading logic fault.TooMuch calls count from left old new before after cause p =
-    for_reason from _ _ (λ input stops. (stops, inr cause)) (stops_before logic from left old new before after p.done p.taken p.silo p.written)
-stops_reading logic fault.Memory calls count from left old new before after cause p = stops_at logic from left old new before after p.done p.taken p.silo p.written
+stops_reading logic fault.Read calls count from left old new before after cause p = for_reason from _ _ (λ input stops. (stops, cause)) (stops_before logic count from left old new before after p)
+stops_reading logic fault.TooMuch calls count from left old new before after cause p = for_reason from _ _ (λ input stops. (stops, inr cause)) (stops_before logic count from left old new before after p)
+stops_reading logic fault.Memory calls count from left old new before after cause p = stops_at logic count from left old new before after p
 stops_reading logic fault.Write calls count from left old new before after cause p = stops_flushing logic count from left old new before after p
 
 -- bytes that are there are some line
@@ -247,57 +267,81 @@ pub stops_full : (logic : Logic) (calls : ReaderCalls) (count : ℕ) (from : Opt
 stops_full logic calls count None ahead rest old new before after full some p = tt
 stops_full logic calls count (Some input) ahead None old new before after full some p = absurd p.taken
 stops_full logic calls count (Some input) ahead (Some bytes) old new before after full some p = (
-  record { done = p.done; rest = lines_of (ahead ++ bytes); parts = p.taken; silo = p.silo; written = p.written },
+  record {
+    done = p.done;
+    rest = lines_of (ahead ++ bytes);
+    parts = p.taken;
+    given = p.given;
+    text = p.text;
+    answers = lines_answered logic count (Some input) (Some (ahead ++ bytes)) old new before after p;
+    written = p.written;
+  },
   inl (p.counted ∙ full, lines_some (ahead ++ bytes) (omega (arith, some, length-append ahead bytes))),
 )
 
 -- while a line is answered
-stops_in_writing : (logic : Logic) (from left next : Option (List ℕ)) (old mid new : History) (before during after : Option (List ℕ)) (done : List (List ℕ)) (l : List ℕ) → LinesTaken from left done → LinesTaken left next (l ∷ [])
-    → TakesLines logic old done mid → TakesLines logic old (done ++ l ∷ []) new → Appends before during (lines_text (whole_stepper logic) old.whole done)
-    → WrittenInPart during after (line_text (whole_stepper logic) mid.whole (taken_of l)) → IfSome from (λ input. StopsAfter logic (lines_of input) old new before after)
-stops_in_writing logic None left next old mid new before during after done l h g taken silo written part = tt
-stops_in_writing logic (Some input) None next old mid new before during after done l h g taken silo written part = absurd h
-stops_in_writing logic (Some input) (Some bytes) None old mid new before during after done l h g taken silo written part = absurd g
-stops_in_writing logic (Some input) (Some bytes) (Some others) old mid new before during after done l h g taken silo written part = record {
-  done = done;
-  last = l ∷ [];
-  rest = lines_of others;
-  at_most_one = omega arith;
-  parts = h ∙ ap (λ ls. done ++ ls) g ∙ sym (append_assoc done (l ∷ []) (lines_of others));
-  silo = silo;
-  during = during;
-  written = written;
-  part = subst (WrittenInPart during after) (ap (λ w. line_text (whole_stepper logic) w (taken_of l)) taken.whole ∙ sym (append-nil (line_text (whole_stepper logic) (whole_run logic old.whole (steps_of done)) (taken_of l)))) part;
-}
+stops_in_writing : (logic : Logic) (count : ℕ) (from left next : Option (List ℕ)) (old mid new : History) (before during after : Option (List ℕ)) (l last : List ℕ)
+    → LinesDone logic count from left old mid before during → LinesTaken left next (l ∷ []) → AnswersLine logic mid (meaning_of l) new last → WrittenInPart during after last
+    → IfSome from (λ input. StopsAfter logic (lines_of input) old new before after)
+stops_in_writing logic count None left next old mid new before during after l last p took answers part = tt
+stops_in_writing logic count (Some input) None next old mid new before during after l last p took answers part = absurd p.taken
+stops_in_writing logic count (Some input) (Some bytes) None old mid new before during after l last p took answers part = absurd took
+stops_in_writing logic count (Some input) (Some bytes) (Some others) old mid new before during after l last p took answers part =
+    let all = line_more logic old mid new p.done l p.given p.text last p.answers answers in record {
+      done = p.done;
+      last = l ∷ [];
+      rest = lines_of others;
+      at_most_one = omega arith;
+      parts = p.taken ∙ ap (λ ls. p.done ++ ls) took ∙ sym (append_assoc p.done (l ∷ []) (lines_of others));
+      given = p.given;
+      more = all.0;
+      text = p.text;
+      last_text = last;
+      mid = mid;
+      before_it = lines_answered logic count (Some input) (Some bytes) old mid before during p;
+      answers = lines_own logic old new (p.done ++ l ∷ []) (p.given ++ all.0) (p.text ++ last) p.leads all.1;
+      during = during;
+      written = p.written;
+      part = part;
+    }
 
-stops_for_memory : (logic : Logic) (from left next : Option (List ℕ)) (old mid new : History) (before after : Option (List ℕ)) (done : List (List ℕ)) (l : List ℕ) → LinesTaken from left done → LinesTaken left next (l ∷ [])
-    → TakesLines logic old done mid → Appends before after (lines_text (whole_stepper logic) old.whole done) → MayTake logic mid (taken_of l) new → IfSome from (λ input. StopsAt logic (lines_of input) old new before after)
-stops_for_memory logic None left next old mid new before after done l h g silo written may = tt
-stops_for_memory logic (Some input) None next old mid new before after done l h g silo written may = absurd h
-stops_for_memory logic (Some input) (Some bytes) None old mid new before after done l h g silo written may = absurd g
-stops_for_memory logic (Some input) (Some bytes) (Some others) old mid new before after done l h g silo written may = record {
-  done = done;
+stops_for_memory : (logic : Logic) (count : ℕ) (from left next : Option (List ℕ)) (old mid new : History) (before after : Option (List ℕ)) (l : List ℕ)
+    → LinesDone logic count from left old mid before after → LinesTaken left next (l ∷ []) → MayTake logic mid (meaning_of l) new
+    → IfSome from (λ input. StopsAt logic (lines_of input) old new before after)
+stops_for_memory logic count None left next old mid new before after l p took may = tt
+stops_for_memory logic count (Some input) None next old mid new before after l p took may = absurd p.taken
+stops_for_memory logic count (Some input) (Some bytes) None old mid new before after l p took may = absurd took
+stops_for_memory logic count (Some input) (Some bytes) (Some others) old mid new before after l p took may = record {
+  done = p.done;
   rest = l ∷ lines_of others;
-  parts = h ∙ ap (λ ls. done ++ ls) g;
-  silo = ⊎_elim (λ same. inl (subst (TakesLines logic old done) (sym same) silo)) (λ took. inr (TakesLines-more logic old mid new done l silo took)) may;
-  written = written;
+  parts = p.taken ∙ ap (λ ls. p.done ++ ls) took;
+  given = p.given;
+  text = p.text;
+  mid = mid;
+  answers = lines_answered logic count (Some input) (Some bytes) old mid before after p;
+  next = ⊎_elim (λ same. inl same) (λ took_it. inr (next_line took_it)) may;
+  written = p.written;
 }
+  where
+    next_line : (text : List ℕ) × AnswersLine logic mid (meaning_of l) new text → AnswersNext logic old p.done (l ∷ lines_of others) p.given new p.text
+    next_line took_it =
+        let all = line_more logic old mid new p.done l p.given p.text took_it.0 p.answers took_it.1 in
+        (all.0, took_it.0, lines_own logic old new (p.done ++ l ∷ []) (p.given ++ all.0) (p.text ++ took_it.0) p.leads all.1)
 
 pub stops_answering : (logic : Logic) (e : LineFault) (calls : ReaderCalls) (count : ℕ) (from left next : Option (List ℕ)) (old mid new : History) (before during after : Option (List ℕ)) (l : List ℕ) (said : Line)
-    → LinesDone logic count from left old mid before during → LinesTaken left next (l ∷ []) → said ≡ taken_of l → LineStopsBy logic e said mid new during after
+    → LinesDone logic count from left old mid before during → LinesTaken left next (l ∷ []) → said ≡ meaning_of l → LineStopsBy logic e said mid new during after
     → IfSome from (λ input. StopsBy logic e (lines_of input) calls old new before after)
 stops_answering logic fault.Read calls count from left next old mid new before during after l said p took e h = absurd h
 stops_answering logic fault.TooMuch calls count from left next old mid new before during after l said p took e h = absurd h
 stops_answering logic fault.Memory calls count from left next old mid new before during after l said p took e h =
-    stops_for_memory logic from left next old mid new before after p.done l p.taken took p.silo (Appends-kept before during after _ p.written h.1) (subst (λ s. MayTake logic mid s new) e h.0)
+    stops_for_memory logic count from left next old mid new before after l (LinesDone-flushed logic count from left old mid before during after p h.1) took (subst (λ (s : Line). MayTake logic mid s new) e h.0)
 stops_answering logic fault.Write calls count from left next old mid new before during after l said p took e h =
-    stops_in_writing logic from left next old mid new before during after p.done l p.taken took p.silo (TakesLines-more logic old mid new p.done l p.silo (subst (λ s. TakesLine logic mid s new) e h.0)) p.written
-    (subst (λ s. WrittenInPart during after (line_text (whole_stepper logic) mid.whole s)) e h.1)
+    stops_in_writing logic count from left next old mid new before during after l h.0 p took (subst (λ (s : Line). AnswersLine logic mid s new h.0) e h.1) h.2
 
 -- what a `?` hands on
 pub handed_on : {T E : Type 0} (r : Result T E) (P : E → Type 0) (e : E) → r ≡ Err e → P e → IfErr r P
 handed_on r P e is h = subst (λ x. IfErr x P) (sym is) h
 
 -- a line that is cut in the same place says the same
-pub same_said : (found shown l : List ℕ) → found ≡ shown → take 65537 shown ≡ take 65537 l → taken_of found ≡ taken_of l
-same_said found shown l e h = ap taken (ap meaning_of e ∙ sym (said_cut shown) ∙ ap meaning_of h ∙ said_cut l)
+pub same_said : (found shown l : List ℕ) → found ≡ shown → take 65537 shown ≡ take 65537 l → meaning_of found ≡ meaning_of l
+same_said found shown l e h = ap meaning_of e ∙ sym (said_cut shown) ∙ ap meaning_of h ∙ said_cut l

@@ -1,59 +1,53 @@
 -- What a run over lines leaves: in the silo, in the reader and in the writer, and as each tenant sees it.
-use Rattle.std.specs.Prelude.{◌≡◌, ◌≢◌, ℕ, ◌<◌, ◌≤◌, List, [], ◌∷◌, ◌++◌, length, slice_index, slice_range, true, Option, Some, None, ◌⊎◌, ⊤}
+use Rattle.std.specs.Prelude.{◌≡◌, ◌≢◌, ℕ, ◌<◌, ◌≤◌, List, [], ◌∷◌, ◌++◌, length, slice_index, slice_range, true, Option, Some, None, Ok, ◌⊎◌, ⊤}
 use Rattle.std.specs.Io.KnownBytes.{Appends, Keeps, prepend_known}
-use Rattle.silo_event.specs.declared.step.Step.{Step}
+use Rattle.silo_event.specs.Failed.{marked_step}
+use Rattle.silo_event.specs.declared.step.Answer.{Answer}
 use Rattle.grain_kinds.specs.Logic.{Logic}
-use Rattle.silo_model.specs.Whole.{Whole, whole_step, shown_to}
-use Rattle.silo_model.specs.Run.{machine_run, whole_run, done_by, restricted_to}
-use Rattle.silo_core.specs.History.{History}
-use Rattle.silo_core.specs.Runs.{AllConcern}
+use Rattle.silo_model.specs.Whole.{Whole, shown_to}
+use Rattle.silo_model.specs.Run.{answers_to}
+use Rattle.silo_model.specs.Parts.{AnsweredAlone}
+use Rattle.silo_core.specs.History.{History, Answered}
+use Rattle.silo_core.specs.Runs.{Takes}
 use Rattle.line_protocol.specs.Calls.{calls_limit}
 use Rattle.line_protocol.specs.Lines.{lines_of, lines_limit}
-use Rattle.line_protocol.specs.LineTexts.{whole_stepper, machine_stepper, step_said, steps_of, line_text, lines_text}
+use Rattle.line_protocol.specs.Meaning.{meaning_of}
+use Rattle.line_protocol.specs.Text.{refusal_line}
+use Rattle.line_protocol.specs.LineTexts.{whole_stepper, machine_stepper, said_lines, steps_said, as_taken, ended, line_text, line_texts, lines_text, lines_to, texts_to}
 use Rattle.line_protocol.specs.declared.line.Line.{Line}
+use Rattle.line_protocol.specs.declared.line.Line.TheVariants as line
 use Rattle.line_protocol.specs.declared.calls.ReaderCalls.{ReaderCalls}
 use Rattle.line_protocol.specs.declared.fault.LineFault.{LineFault}
 use Rattle.line_protocol.specs.declared.fault.LineFault.TheVariants as fault
 
--- ---- the silo
+-- ---- lines, and what is written for them
 
--- The silo took these steps, one after another, and no call of the storage failed; and for every tenant its part is the run of the tenant's own machine, with the other tenants' steps struck out.
-pub record TakesSteps (logic : Logic) (old : History) (steps : List Step) (new : History) : Type 0 where
-  pub setup : new.setup ≡ old.setup
-  pub failures : new.failures ≡ old.failures
-  pub whole : new.whole ≡ whole_run logic old.whole steps
-  pub journal : new.journal ≡ old.journal ++ done_by (whole_step logic) old.whole steps
-  pub parts : (tenant : List ℕ) → shown_to tenant new.whole ≡ machine_run logic (shown_to tenant old.whole) (restricted_to tenant steps)
+-- The silo took what one line says, and this is its text: a line that says no step changes nothing.
+abbrev pub AnswersLine : Logic → History → Line → History → List ℕ → Type 0
+AnswersLine logic old line.Nothing new text = (new ≡ old) × (text ≡ [])
+AnswersLine logic old (line.Refusal r) new text = (new ≡ old) × (text ≡ ended (refusal_line r))
+AnswersLine logic old (line.Step s) new text = (a : Answer) × Answered logic old s (Ok a) new × (text ≡ line_text (whole_stepper logic) old.whole (line.Step (marked_step s a)))
 
--- The silo took what one line says.
-abbrev pub TakesLine : Logic → History → Line → History → Type 0
-TakesLine logic old said new = TakesSteps logic old (step_said said) new
+-- The silo took the steps that are said, each with its answer, and this is the text of all that is said.
+pub record AnswersSaid (logic : Logic) (old : History) (saids : List Line) (given : List Answer) (new : History) (text : List ℕ) : Type 0 where
+  pub silo : Takes logic old (steps_said saids) given new
+  pub text_is : text ≡ lines_text (whole_stepper logic) old.whole (as_taken saids given)
 
--- The silo took these lines, one after another.
-abbrev pub TakesLines : Logic → History → List (List ℕ) → History → Type 0
-TakesLines logic old lines new = TakesSteps logic old (steps_of lines) new
+-- For one tenant: the answers at its steps are its own machine's over these steps alone, which lead that machine to the tenant's part; and the texts of the lines that concern it are what that machine writes for these lines alone.
+pub record AnswersOwn (logic : Logic) (tenant : List ℕ) (w : Whole) (saids : List Line) (given : List Answer) : Type 0 where
+  pub silo : AnsweredAlone logic tenant w (steps_said saids) given
+  pub texts : texts_to tenant saids (line_texts (whole_stepper logic) w (as_taken saids given))
+      ≡ line_texts (machine_stepper logic) (shown_to tenant w) (as_taken (lines_to tenant saids) (answers_to tenant (steps_said saids) given))
 
--- one line more
-abbrev pub TakesNext : Logic → History → List (List ℕ) → List (List ℕ) → History → Type 0
-TakesNext logic old done [] new = ⊥
-TakesNext logic old done (l ∷ rest) new = TakesLines logic old (done ++ l ∷ []) new
+-- The silo took these lines, and this is their text; and so it is for every tenant alone.
+pub record AnswersLines (logic : Logic) (old : History) (lines : List (List ℕ)) (given : List Answer) (new : History) (text : List ℕ) : Type 0 where
+  pub all : AnswersSaid logic old (said_lines lines) given new text
+  pub own : (tenant : List ℕ) → AnswersOwn logic tenant old.whole (said_lines lines) given
 
--- ---- one tenant
-
--- no line says a step of another tenant
-abbrev pub LineConcerns : List ℕ → Line → Type 0
-LineConcerns tenant said = AllConcern tenant (step_said said)
-
-abbrev pub LinesConcern : List ℕ → List (List ℕ) → Type 0
-LinesConcern tenant lines = AllConcern tenant (steps_of lines)
-
--- the line's text is that of the tenant's machine alone
-abbrev pub LineAlone : Logic → List ℕ → Whole → Line → Type 0
-LineAlone logic tenant old said = line_text (whole_stepper logic) old said ≡ line_text (machine_stepper logic) (shown_to tenant old) said
-
--- the text of all lines is that of the tenant's machine alone
-abbrev pub LinesAlone : Logic → List ℕ → Whole → List (List ℕ) → Type 0
-LinesAlone logic tenant old lines = lines_text (whole_stepper logic) old lines ≡ lines_text (machine_stepper logic) (shown_to tenant old) lines
+-- the same, and one line more
+abbrev pub AnswersNext : Logic → History → List (List ℕ) → List (List ℕ) → List Answer → History → List ℕ → Type 0
+AnswersNext logic old done [] given new text = ⊥
+AnswersNext logic old done (l ∷ rest) given new text = (more : List Answer) × (last : List ℕ) × AnswersLines logic old (done ++ l ∷ []) (given ++ more) new (text ++ last)
 
 -- ---- the reader
 
@@ -72,33 +66,36 @@ HasNoBreak bytes = (k : ℕ) → k < length bytes → slice_index bytes k ≢ 10
 
 -- ---- a run
 
--- All of the input was read, it has n lines, the silo took each, and what was written is their texts and nothing else.
+-- All of the input was read, it has n lines, the silo took each, and what was written is their text and nothing else.
 pub record AnswersAll (logic : Logic) (input : List ℕ) (n : ℕ) (old new : History) (left before after : Option (List ℕ)) : Type 0 where
   pub read : left ≡ Some []
   pub count : n ≡ length (lines_of input)
-  pub silo : TakesLines logic old (lines_of input) new
-  pub written : Appends before after (lines_text (whole_stepper logic) old.whole (lines_of input))
+  pub given : List Answer
+  pub text : List ℕ
+  pub answers : AnswersLines logic old (lines_of input) given new text
+  pub written : Appends before after text
 
--- What was written is what the tenant's machine alone answers, and the tenant's part is where it ends.
-pub record AnswersAlone (logic : Logic) (tenant input : List ℕ) (old new : Whole) (before after : Option (List ℕ)) : Type 0 where
-  pub part : shown_to tenant new ≡ machine_run logic (shown_to tenant old) (steps_of (lines_of input))
-  pub written : Appends before after (lines_text (machine_stepper logic) (shown_to tenant old) (lines_of input))
-
--- The silo took the lines before the failing one, and their texts were written whole, and nothing after them.
+-- The silo took the lines before the failing one, and their text was written whole, and nothing after it.
 pub record StopsBefore (logic : Logic) (lines : List (List ℕ)) (old new : History) (before after : Option (List ℕ)) : Type 0 where
   pub done : List (List ℕ)
   pub rest : List (List ℕ)
   pub parts : lines ≡ done ++ rest
-  pub silo : TakesLines logic old done new
-  pub written : Appends before after (lines_text (whole_stepper logic) old.whole done)
+  pub given : List Answer
+  pub text : List ℕ
+  pub answers : AnswersLines logic old done given new text
+  pub written : Appends before after text
 
 -- The same, but the silo may also have taken the failing line.
 pub record StopsAt (logic : Logic) (lines : List (List ℕ)) (old new : History) (before after : Option (List ℕ)) : Type 0 where
   pub done : List (List ℕ)
   pub rest : List (List ℕ)
   pub parts : lines ≡ done ++ rest
-  pub silo : TakesLines logic old done new ⊎ TakesNext logic old done rest new
-  pub written : Appends before after (lines_text (whole_stepper logic) old.whole done)
+  pub given : List Answer
+  pub text : List ℕ
+  pub mid : History
+  pub answers : AnswersLines logic old done given mid text
+  pub next : (new ≡ mid) ⊎ AnswersNext logic old done rest given new text
+  pub written : Appends before after text
 
 -- A part of the bytes was written: the first of them, and nothing else.
 pub record WrittenInPart (before after : Option (List ℕ)) (bytes : List ℕ) : Type 0 where
@@ -107,17 +104,23 @@ pub record WrittenInPart (before after : Option (List ℕ)) (bytes : List ℕ) :
   pub parts : bytes ≡ front ++ back
   pub written : Appends before after front
 
--- The silo took the lines before the failing one, and that one, if there is one. The texts of the lines before were written whole, and a part of its own.
+-- The silo took the lines before the failing one, and that one, if there is one. The text of the lines before was written whole, and a part of its own.
 pub record StopsAfter (logic : Logic) (lines : List (List ℕ)) (old new : History) (before after : Option (List ℕ)) : Type 0 where
   pub done : List (List ℕ)
   pub last : List (List ℕ)
   pub rest : List (List ℕ)
   pub at_most_one : length last ≤ 1
   pub parts : lines ≡ (done ++ last) ++ rest
-  pub silo : TakesLines logic old (done ++ last) new
+  pub given : List Answer
+  pub more : List Answer
+  pub text : List ℕ
+  pub last_text : List ℕ
+  pub mid : History
+  pub before_it : AnswersLines logic old done given mid text
+  pub answers : AnswersLines logic old (done ++ last) (given ++ more) new (text ++ last_text)
   pub during : Option (List ℕ)
-  pub written : Appends before during (lines_text (whole_stepper logic) old.whole done)
-  pub part : WrittenInPart during after (lines_text (whole_stepper logic) (whole_run logic old.whole (steps_of done)) last)
+  pub written : Appends before during text
+  pub part : WrittenInPart during after last_text
 
 -- As many lines were done as an input may have, and there are more.
 abbrev pub IsFull : List (List ℕ) → List (List ℕ) → Type 0
@@ -132,12 +135,13 @@ StopsBy logic fault.Write lines calls old new before after = StopsAfter logic li
 
 -- ---- one line of a run
 
+-- Nothing changed, or the silo took what the line says.
 abbrev pub MayTake : Logic → History → Line → History → Type 0
-MayTake logic old said new = (new ≡ old) ⊎ TakesLine logic old said new
+MayTake logic old said new = (new ≡ old) ⊎ ((text : List ℕ) × AnswersLine logic old said new text)
 
 -- by the fault that stopped one line
 abbrev pub LineStopsBy : Logic → LineFault → Line → History → History → Option (List ℕ) → Option (List ℕ) → Type 0
 LineStopsBy logic fault.Read said old new before after = ⊥
 LineStopsBy logic fault.TooMuch said old new before after = ⊥
 LineStopsBy logic fault.Memory said old new before after = MayTake logic old said new × Keeps before after
-LineStopsBy logic fault.Write said old new before after = TakesLine logic old said new × WrittenInPart before after (line_text (whole_stepper logic) old.whole said)
+LineStopsBy logic fault.Write said old new before after = (text : List ℕ) × AnswersLine logic old said new text × WrittenInPart before after text

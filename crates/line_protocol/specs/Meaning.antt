@@ -4,7 +4,6 @@ use Rattle.std.specs.Str.{is_utf8}
 use Rattle.serde_json.specs.Data.{Data}
 use Rattle.serde_json.specs.Read.{read}
 use Rattle.silo_event.specs.declared.step.Step.{Step}
-use Rattle.silo_core.specs.Built.{is_built}
 use Rattle.line_protocol.specs.Lines.{line_limit}
 use Rattle.line_protocol.specs.Form.{step_of_json}
 use Rattle.line_protocol.specs.declared.line.Line.{Line}
@@ -25,12 +24,3 @@ meaning_of [] = line.Nothing
 meaning_of (b ∷ bytes) =
     if nat_lt line_limit (length (b ∷ bytes)) then line.Refusal refusal.TooLong
     else meaning_by (option_and_then step_of_json (json_of_line (b ∷ bytes)))
-
--- what a silo is handed of what a line says: a step of a kind that it doesn't take yet is no request
-abbrev pub taken : Line → Line
-taken line.Nothing = line.Nothing
-taken (line.Refusal r) = line.Refusal r
-taken (line.Step s) = if is_built s then line.Step s else line.Refusal refusal.NotARequest
-
-abbrev pub taken_of : List ℕ → Line
-taken_of bytes = taken (meaning_of bytes)

@@ -1,17 +1,16 @@
-//! What one line leaves in the silo and adds to the text.
+//! What one line leaves in the silo, and its text.
 
-ghost use Rattle.std.specs.Prelude.{◌≡◌, ℕ, List, ◌++◌, ◌⊎◌, OnOk, OnErr, string_bytes, take, true};
-ghost use Rattle.line_protocol.specs.Meaning.{taken_of};
-ghost use Rattle.grain_kinds.specs.Counters.{counters};
-ghost use Rattle.silo_core.specs.Built.{is_built};
-ghost use Rattle.line_protocol.specs.LineTexts.{texts_of, whole_stepper, line_text};
-ghost use Rattle.line_protocol.specs.LineRuns.{TakesLine, LineConcerns, LineAlone, MayTake};
+ghost use Rattle.std.specs.Prelude.{◌≡◌, [], ◌++◌, OnOk, OnErr, string_bytes};
+ghost use Rattle.line_protocol.specs.Meaning.{meaning_of};
+ghost use Rattle.line_protocol.specs.LineTexts.{texts_of};
+ghost use Rattle.line_protocol.specs.LineRuns.{AnswersLine, MayTake};
 ghost use Rattle.line_protocol.specs.declared.line.Line.TheVariants as line;
 
-use crate::built::taken;
 use crate::line::Line;
 use crate::reading::{LineRoom, read_line};
 use crate::replies::{push_not_now, push_refusal, push_reply};
+use grain_kinds::GrainLogic;
+use grain_storage::GrainStorage;
 use silo_core::Silo;
 use silo_event::{Answer, Reply, Step, StepFault};
 use std::alloc::{AllocError, Global};
@@ -27,25 +26,22 @@ fn push_replies(alloc: Global, text: &mut String, replies: &[Reply]) -> Result<(
     Ok(())
 }
 
-/// Takes a step of a kind that is built, and adds its text: the replies that it added, or that it
-/// isn't possible now.
-fn answer_step(
+/// Takes a step, and puts its text in place of another: the replies that it added, or that it isn't
+/// possible now.
+fn answer_step<S: GrainStorage, L: GrainLogic>(
     alloc: Global,
-    silo: &mut Silo,
+    silo: &mut Silo<S, L>,
     step: Step,
     text: &mut String,
 ) -> Result<(), AllocError>
-    requires built { is_built step ≡ true }
-    ensures silo { OnOk result (TakesLine counters silo.old (line.Step step) silo.new) }
-    ensures text { OnOk result (string_bytes text.new ≡ string_bytes text.old ++ line_text (whole_stepper counters) silo.old.whole (line.Step step)) }
-    ensures alone { OnOk result ((tenant : List ℕ) → LineConcerns tenant (line.Step step)
-        → LineAlone counters tenant silo.old.whole (line.Step step)) }
-    ensures err { OnErr result (MayTake counters silo.old (line.Step step) silo.new) }
+    ensures ok { OnOk result (AnswersLine L.logic silo.old (line.Step step) silo.new (string_bytes text.new)) }
+    ensures err { OnErr result (MayTake L.logic silo.old (line.Step step) silo.new) }
 {
+    text.clear();
     let before = silo.replies().len();
     match silo.apply(alloc, step) {
         Ok(Answer::Done) => push_replies(alloc, text, &silo.replies()[before..]),
-        Ok(Answer::Failed) => unreachable!(),
+        Ok(Answer::Failed) => push_replies(alloc, text, &silo.replies()[before..]),
         Ok(Answer::NotNow) => {
             push_not_now(text)?;
             text.push_str("\n")
@@ -55,23 +51,24 @@ fn answer_step(
     }
 }
 
-/// Takes what it is handed of a line, and adds its text.
-pub(crate) fn answer_line(
+/// Takes what a line says, and puts its text in place of another.
+pub(crate) fn answer_line<S: GrainStorage, L: GrainLogic>(
     alloc: Global,
     room: &mut LineRoom,
-    silo: &mut Silo,
+    silo: &mut Silo<S, L>,
     line: &[u8],
     text: &mut String,
 ) -> Result<(), AllocError>
-    ensures silo { OnOk result (TakesLine counters silo.old (taken_of line.now) silo.new) }
-    ensures text { OnOk result (string_bytes text.new ≡ string_bytes text.old ++ line_text (whole_stepper counters) silo.old.whole (taken_of line.now)) }
-    ensures alone { OnOk result ((tenant : List ℕ) → LineConcerns tenant (taken_of line.now)
-        → LineAlone counters tenant silo.old.whole (taken_of line.now)) }
-    ensures err { OnErr result (MayTake counters silo.old (taken_of line.now) silo.new) }
+    ensures ok { OnOk result (AnswersLine L.logic silo.old (meaning_of line.now) silo.new (string_bytes text.new)) }
+    ensures err { OnErr result (MayTake L.logic silo.old (meaning_of line.now) silo.new) }
 {
-    match taken(read_line(alloc, room, line)?) {
-        Line::Nothing => Ok(()),
+    match read_line(alloc, room, line)? {
+        Line::Nothing => {
+            text.clear();
+            Ok(())
+        }
         Line::Refusal(refusal) => {
+            text.clear();
             push_refusal(text, refusal)?;
             text.push_str("\n")
         }

@@ -9,7 +9,6 @@
 mod answers;
 mod argument;
 mod asked;
-mod built;
 mod calls;
 mod fault;
 mod fields;
@@ -25,8 +24,6 @@ mod request;
 mod runner;
 mod slots;
 mod step;
-#[cfg(test)]
-mod tests;
 mod text;
 mod unread;
 mod value_text;

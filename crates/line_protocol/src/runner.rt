@@ -1,18 +1,18 @@
 //! Every line of an input, answered in order.
 
-ghost use Rattle.std.specs.Prelude.{◌≡◌, ◌≤◌, List, ℕ, IfOk, IfErr, IfSome, OnOk};
+ghost use Rattle.std.specs.Prelude.{◌≤◌, List, ℕ, IfOk, IfErr, IfSome, OnOk};
 ghost use Rattle.std.specs.Io.KnownBytes.{Appends};
 ghost use Rattle.line_protocol.specs.Lines.{lines_of, lines_limit};
-ghost use Rattle.line_protocol.specs.Meaning.{taken_of};
-ghost use Rattle.grain_kinds.specs.Counters.{counters};
-ghost use Rattle.line_protocol.specs.LineTexts.{whole_stepper, line_text};
-ghost use Rattle.line_protocol.specs.LineRuns.{TakesLine, LineConcerns, LinesConcern, LineAlone, LineStopsBy, AnswersAll, AnswersAlone, StopsBy, left_of};
+ghost use Rattle.line_protocol.specs.Meaning.{meaning_of};
+ghost use Rattle.line_protocol.specs.LineRuns.{AnswersLine, LineStopsBy, AnswersAll, StopsBy, left_of};
 
 use crate::answers::answer_line;
 use crate::fault::LineFault;
 use crate::line_reader::LineReader;
 use crate::reading::LineRoom;
 use crate::written::write_whole;
+use grain_kinds::GrainLogic;
+use grain_storage::GrainStorage;
 use silo_core::Silo;
 use std::alloc::Global;
 use std::io::{Read, Write};
@@ -21,21 +21,18 @@ use std::io::{Read, Write};
 const LINES_LIMIT: u64 = 1_000_000;
 
 /// Takes what a line says, and writes its text at once.
-fn write_answer<W: Write>(
+fn write_answer<W: Write, S: GrainStorage, L: GrainLogic>(
     alloc: Global,
     room: &mut LineRoom,
     writer: &mut W,
-    silo: &mut Silo,
+    silo: &mut Silo<S, L>,
     line: &[u8],
     text: &mut String,
 ) -> Result<(), LineFault>
-    ensures silo { OnOk result (TakesLine counters silo.old (taken_of line.now) silo.new) }
-    ensures text { OnOk result (Appends (W.contents writer.old) (W.contents writer.new) (line_text (whole_stepper counters) silo.old.whole (taken_of line.now))) }
-    ensures alone { OnOk result ((tenant : List ℕ) → LineConcerns tenant (taken_of line.now)
-        → LineAlone counters tenant silo.old.whole (taken_of line.now)) }
-    ensures err { IfErr result (λ e. LineStopsBy counters e (taken_of line.now) silo.old silo.new (W.contents writer.old) (W.contents writer.new)) }
+    ensures ok { OnOk result ((written : List ℕ) × AnswersLine L.logic silo.old (meaning_of line.now) silo.new written
+        × Appends (W.contents writer.old) (W.contents writer.new) written) }
+    ensures err { IfErr result (λ e. LineStopsBy L.logic e (meaning_of line.now) silo.old silo.new (W.contents writer.old) (W.contents writer.new)) }
 {
-    text.clear();
     answer_line(alloc, room, silo, line, text)?;
     write_whole(writer, text.as_str().as_bytes())
 }
@@ -45,24 +42,20 @@ fn write_answer<W: Write>(
 ///
 /// All that one line answers is written in one go, and goes out before a read that may wait. What the
 /// line reader has read ahead comes first.
-pub fn run_lines<R: Read, W: Write>(
+pub fn run_lines<R: Read, W: Write, S: GrainStorage, L: GrainLogic>(
     alloc: Global,
     lines: &mut LineReader,
     reader: &mut R,
     writer: &mut W,
-    silo: &mut Silo,
+    silo: &mut Silo<S, L>,
 ) -> Result<u64, LineFault>
     ensures ok { IfOk result (λ n. IfSome (left_of lines.old.bytes.items lines.old.start lines.old.end (R.remaining reader.old)) (λ input.
-        AnswersAll counters input n silo.old silo.new (R.remaining reader.new) (W.contents writer.old) (W.contents writer.new))) }
-
-    // The run of a silo of one's own, for a tenant whom all lines concern.
-    ensures alone { IfOk result (λ _. IfSome (left_of lines.old.bytes.items lines.old.start lines.old.end (R.remaining reader.old)) (λ input.
-        (tenant : List ℕ) → LinesConcern tenant (lines_of input)
-        → AnswersAlone counters tenant input silo.old.whole silo.new.whole (W.contents writer.old) (W.contents writer.new))) }
+        AnswersAll L.logic input n silo.old silo.new (R.remaining reader.new) (W.contents writer.old) (W.contents writer.new))) }
     ensures err { IfErr result (λ e. IfSome (left_of lines.old.bytes.items lines.old.start lines.old.end (R.remaining reader.old)) (λ input.
-        StopsBy counters e (lines_of input) lines.new.calls silo.old silo.new (W.contents writer.old) (W.contents writer.new))) }
+        StopsBy L.logic e (lines_of input) lines.new.calls silo.old silo.new (W.contents writer.old) (W.contents writer.new))) }
     ensures bound { IfOk result (λ n. n ≤ lines_limit) }
 {
+    let _ = silo.journal();
     let mut room = LineRoom::new(alloc)?;
     let mut line = Vec::new(alloc);
     let mut text = String::new(alloc);

@@ -1,3 +1,4 @@
 pub mod TenantLemmas
 pub mod WordLemmas
+pub mod TableLemmas
 pub mod EndLemmas

@@ -1,48 +1,64 @@
 -- How the program ends, by its status: what the words ask for, what was read and written, and what was told.
 use Rattle.std.specs.Prelude.{◌≡◌, ◌≤◌, ◌⊎◌, ◌++◌, ℕ, List, [], length, Option, Some, IfSome, string_bytes}
+use Rattle.std.specs.FinMap.{empty}
 use Rattle.std.specs.Io.KnownBytes.{Appends, Keeps}
 use Rattle.clap.specs.Words.{Text}
-use Rattle.tenant_gate.specs.declared.limits.Limits.{Limits}
-use Rattle.grain_kinds.specs.Counters.{counters}
+use Rattle.tenant_gate.specs.Table.{Table}
+use Rattle.grain_kinds.specs.Kinds.{kinds}
 use Rattle.silo_model.specs.Opening.{Setup, opening, start_of}
-use Rattle.silo_model.specs.Run.{whole_run}
-use Rattle.silo_core.specs.Shown.{setup_of}
 use Rattle.line_protocol.specs.Lines.{lines_of}
-use Rattle.line_protocol.specs.LineTexts.{whole_stepper, machine_stepper, lines_text, steps_of}
-use Rattle.line_protocol.specs.LineRuns.{LinesConcern, WrittenInPart}
+use Rattle.line_protocol.specs.LineTexts.{whole_stepper, machine_stepper, said_lines, line_texts, lines_text, lines_to, texts_to}
+use Rattle.line_protocol.specs.LineRuns.{WrittenInPart}
 use Rattle.line_protocol.specs.declared.fault.LineFault.{LineFault}
 use Rattle.line_protocol.specs.declared.fault.LineFault.TheVariants as line
 use Rattle.silo_console.specs.Status.{refused_text, version_text}
-use Rattle.silo_console.specs.Tenants.{IsFirstRefused, IsOnlyTenant}
+use Rattle.silo_console.specs.Tenants.{IsFirstRefused, NameTenants}
 use Rattle.silo_console.specs.Words.{AreRefused, AreTaken, AskForHelp, AskForSteps, AskForVersion, EndsWithExample, IsNoAge, found_in}
 use Rattle.silo_console.specs.declared.failure.ProgramFault.{ProgramFault}
 use Rattle.silo_console.specs.declared.failure.ProgramFault.TheVariants as fault
 
 -- ---- the steps of an input
 
--- All of the input was read, and what was written is what a silo answers to its lines from its opening, and nothing else: if all lines concern one tenant, what the tenant's own machine answers from its start.
+-- the tenants that were named, this age, and no rows
+abbrev pub setup_of : Table → ℕ → Setup
+setup_of tenants age = record { tenants = tenants; age = age; rows = empty }
+
+-- The text is what a silo answers to the lines from its opening, and nothing else. For every tenant, the texts of the lines that concern it are what the tenant's own machine answers to these lines alone, from its start.
+pub record IsTextOf (setup : Setup) (lines : List (List ℕ)) (text : List ℕ) : Type 0 where
+  pub whole : text ≡ lines_text (whole_stepper kinds) (opening setup) (said_lines lines)
+  pub own : (tenant : List ℕ) → texts_to tenant (said_lines lines) (line_texts (whole_stepper kinds) (opening setup) (said_lines lines))
+      ≡ line_texts (machine_stepper kinds) (start_of setup tenant) (lines_to tenant (said_lines lines))
+
+-- All of the input was read, and its text was written, and nothing else.
 pub record AnswersSteps (setup : Setup) (input : List ℕ) (left before after : Option (List ℕ)) : Type 0 where
   pub read : left ≡ Some []
-  pub written : Appends before after (lines_text (whole_stepper counters) (opening setup) (lines_of input))
-  pub alone : (tenant : List ℕ) → LinesConcern tenant (lines_of input) → Appends before after (lines_text (machine_stepper counters) (start_of setup tenant) (lines_of input))
+  pub text : List ℕ
+  pub answers : IsTextOf setup (lines_of input) text
+  pub written : Appends before after text
 
--- What a silo answers to the first lines was written whole, and nothing after it.
+-- The text of the first lines was written whole, and nothing after it.
 pub record StopsBetween (setup : Setup) (lines : List (List ℕ)) (before after : Option (List ℕ)) : Type 0 where
   pub done : List (List ℕ)
   pub rest : List (List ℕ)
   pub parts : lines ≡ done ++ rest
-  pub written : Appends before after (lines_text (whole_stepper counters) (opening setup) done)
+  pub text : List ℕ
+  pub answers : IsTextOf setup done text
+  pub written : Appends before after text
 
--- What a silo answers to the first lines was written whole, and then a part of what it answers to the next one, if there is one.
+-- The text of the first lines was written whole, and then a part of the next line's, if there is one.
 pub record StopsInside (setup : Setup) (lines : List (List ℕ)) (before after : Option (List ℕ)) : Type 0 where
   pub done : List (List ℕ)
   pub last : List (List ℕ)
   pub rest : List (List ℕ)
   pub at_most_one : length last ≤ 1
   pub parts : lines ≡ (done ++ last) ++ rest
+  pub text : List ℕ
+  pub last_text : List ℕ
+  pub before_it : IsTextOf setup done text
+  pub answers : IsTextOf setup (done ++ last) (text ++ last_text)
   pub during : Option (List ℕ)
-  pub written : Appends before during (lines_text (whole_stepper counters) (opening setup) done)
-  pub part : WrittenInPart during after (lines_text (whole_stepper counters) (whole_run counters (opening setup) (steps_of done)) last)
+  pub written : Appends before during text
+  pub part : WrittenInPart during after last_text
 
 -- what was written before the steps ended with a fault
 abbrev pub StopsSteps : Setup → LineFault → List ℕ → Option (List ℕ) → Option (List ℕ) → Type 0
@@ -55,11 +71,11 @@ StopsSteps setup why input before after = StopsBetween setup (lines_of input) be
 abbrev pub AskForText : List Text → Text → Type 0
 AskForText words text = (AskForHelp words × EndsWithExample text) ⊎ (AskForVersion words × (text ≡ version_text))
 
--- The words ask to take steps for this one tenant, within these limits, under this age.
-pub record AskForTenant (words : List Text) (tenant : List ℕ) (limits : Limits) (age : ℕ) : Type 0 where
+-- The words ask to take steps for these tenants, each within its limits, under this age.
+pub record AskForTenants (words : List Text) (tenants : Table) (age : ℕ) : Type 0 where
   pub arguments : List Text
   pub asked : AskForSteps words age arguments
-  pub only : IsOnlyTenant arguments tenant limits
+  pub named : NameTenants arguments tenants
 
 -- The words ask to take steps, and of their tenant arguments the one of this number is the first that is refused.
 pub record NameNoTenant (words : List Text) (number : ℕ) : Type 0 where
@@ -81,13 +97,12 @@ pub record ShowsText (words : List Text) (from left before after : Option (List 
   pub kept : Keeps from left
   pub written : Appends before after text
 
--- The words name a tenant, and the steps of the input were answered for it.
+-- The words name tenants, and the steps of the input were answered for them.
 pub record ServesSteps (words : List Text) (from left before after : Option (List ℕ)) : Type 0 where
-  pub tenant : List ℕ
-  pub limits : Limits
+  pub tenants : Table
   pub age : ℕ
-  pub asked : AskForTenant words tenant limits age
-  pub answered : IfSome from (λ input. AnswersSteps (setup_of tenant limits age) input left before after)
+  pub asked : AskForTenants words tenants age
+  pub answered : IfSome from (λ input. AnswersSteps (setup_of tenants age) input left before after)
 
 -- With status 0 the words ask for a text, which was written, or for steps, which were answered.
 abbrev pub EndsWell : List Text → Option (List ℕ) → Option (List ℕ) → Option (List ℕ) → Option (List ℕ) → Type 0
@@ -100,13 +115,12 @@ pub record StopsText (words : List Text) (from left before after : Option (List 
   pub kept : Keeps from left
   pub part : WrittenInPart before after text
 
--- The words name a tenant, and the steps of the input were answered for it up to this fault.
+-- The words name tenants, and the steps of the input were answered for them up to this fault.
 pub record StopsServing (words : List Text) (why : LineFault) (from before after : Option (List ℕ)) : Type 0 where
-  pub tenant : List ℕ
-  pub limits : Limits
+  pub tenants : Table
   pub age : ℕ
-  pub asked : AskForTenant words tenant limits age
-  pub stopped : IfSome from (λ input. StopsSteps (setup_of tenant limits age) why input before after)
+  pub asked : AskForTenants words tenants age
+  pub stopped : IfSome from (λ input. StopsSteps (setup_of tenants age) why input before after)
 
 -- By the fault with which the program fails: where memory was refused, nothing may have been read and written yet; where writing failed, it may be that of a text.
 abbrev pub FailsBy : List Text → LineFault → Option (List ℕ) → Option (List ℕ) → Option (List ℕ) → Option (List ℕ) → Type 0

@@ -1,6 +1,9 @@
 -- The tenant arguments of the program.
-use Rattle.std.specs.Prelude.{◌≡◌, ◌≢◌, ◌≤◌, ◌⊎◌, ℕ, List, [], ◌∷◌, ◌++◌, All, IsTrue, decimal}
+use Rattle.std.specs.Prelude.{◌≡◌, ◌≢◌, ◌≤◌, ◌<◌, ◌⊎◌, ℕ, suc, Bool, true, false, List, [], ◌∷◌, ◌++◌, length, None, All, IsTrue, decimal}
+use Rattle.std.specs.List.{list_any}
+use Rattle.grain_id.specs.Names.{same_text}
 use Rattle.grain_id.specs.Words.{is_word}
+use Rattle.tenant_gate.specs.Table.{Table, names_of, most_tenants, first_repeat, table_fault}
 use Rattle.tenant_gate.specs.declared.limits.Limits.{Limits}
 use Rattle.silo_console.specs.declared.tenants.TenantsFault.{TenantsFault}
 use Rattle.silo_console.specs.declared.tenants.TenantsFault.TheVariants.{Memory, Refused}
@@ -37,17 +40,56 @@ IsTenantText text tenant limits = IsTrue (is_word tenant) × AreLimits limits ×
 abbrev pub IsNoTenantText : List ℕ → Type 0
 IsNoTenantText text = (tenant : List ℕ) (limits : Limits) → ¬ IsTenantText text tenant limits
 
--- The arguments are one, and it writes that tenant with its limits.
-abbrev pub IsOnlyTenant : List (List ℕ) → List ℕ → Limits → Type 0
-IsOnlyTenant [] tenant limits = ⊥
-IsOnlyTenant (first ∷ others) tenant limits = IsTenantText first tenant limits × (others ≡ [])
+-- The texts write the tenants with their limits, in order.
+abbrev pub WriteTenants : List (List ℕ) → Table → Type 0
+WriteTenants [] [] = Unit {0}
+WriteTenants [] (entry ∷ table) = ⊥
+WriteTenants (text ∷ texts) [] = ⊥
+WriteTenants (text ∷ texts) (entry ∷ table) = IsTenantText text entry.0 entry.1 × WriteTenants texts table
 
--- The number of the first argument that is refused: 1 where the first is missing or writes no tenant, and 2 where it writes one and another follows.
+-- The arguments write the table: 1 to 1,000 tenants, none twice, each with limits within their ranges.
+pub record NameTenants (texts : List (List ℕ)) (table : Table) : Type 0 where
+  pub written : WriteTenants texts table
+  pub is_table : table_fault table ≡ None
+
+-- the tenant is one of the table's
+abbrev pub is_named : Table → List ℕ → Bool
+is_named table tenant = list_any (λ entry. same_text tenant entry.0) table
+
+-- The text writes a tenant that is named before.
+pub record IsRepeated (before : Table) (text : List ℕ) : Type 0 where
+  pub tenant : List ℕ
+  pub limits : Limits
+  pub written : IsTenantText text tenant limits
+  pub named : is_named before tenant ≡ true
+
+-- Behind these tenants the text is refused: it writes no tenant, or one that is named before, or it is one too many.
+abbrev pub IsRefusedBehind : Table → List ℕ → Type 0
+IsRefusedBehind before text = IsNoTenantText text ⊎ (IsRepeated before text ⊎ (most_tenants ≤ length before))
+
+-- The tenant isn't named before, and there is a place for it.
+abbrev pub MayFollow : Table → List ℕ → Type 0
+MayFollow before tenant = (is_named before tenant ≡ false) × (length before < most_tenants)
+
+-- The texts write up to 1,000 tenants, none twice.
+pub record WriteDistinct (texts : List (List ℕ)) (table : Table) : Type 0 where
+  pub written : WriteTenants texts table
+  pub distinct : first_repeat [] (names_of table) ≡ None
+  pub at_most : length table ≤ most_tenants
+
+-- The arguments before this one write up to 1,000 tenants, none twice, and behind these it is refused.
+pub record IsRefusedAt (front : List (List ℕ)) (text : List ℕ) : Type 0 where
+  pub before : Table
+  pub named : WriteDistinct front before
+  pub why : IsRefusedBehind before text
+
+-- The number of the first argument that is refused, from 1; and 1 if there is none.
 abbrev pub IsFirstRefused : List (List ℕ) → ℕ → Type 0
 IsFirstRefused [] number = number ≡ 1
-IsFirstRefused (first ∷ others) number = ((number ≡ 1) × IsNoTenantText first) ⊎ ((number ≡ 2) × ((tenant : List ℕ) × (limits : Limits) × IsTenantText first tenant limits) × (others ≢ []))
+IsFirstRefused (first ∷ others) number =
+    (front : List (List ℕ)) × (text : List ℕ) × (rest : List (List ℕ)) × (first ∷ others ≡ front ++ text ∷ rest) × (number ≡ suc (length front)) × IsRefusedAt front text
 
--- The fault is why the arguments name no tenant, unless memory was refused.
+-- The fault is why the arguments name no tenants, unless memory was refused.
 abbrev pub IsReason : List (List ℕ) → TenantsFault → Type 0
 IsReason texts Memory = Unit {0}
 IsReason texts (Refused number) = IsFirstRefused texts number

@@ -6,21 +6,23 @@ ghost use Rattle.clap.specs.Words.{Text};
 ghost use Rattle.line_protocol.specs.LineRuns.{WrittenInPart};
 ghost use Rattle.line_protocol.specs.declared.fault.LineFault.{LineFault as Cause};
 ghost use Rattle.tenant_gate.specs.Age.{IsAge};
-ghost use Rattle.silo_core.specs.Shown.{setup_of};
+ghost use Rattle.silo_model.specs.Opening.{opening};
 ghost use Rattle.silo_console.specs.Status.{IsTenantsFault, failure_text};
-ghost use Rattle.silo_console.specs.Steps.{AnswersSteps, AreRefusedBy, EndsWell, FailsBy, IsFaultOf, StopsSteps};
+ghost use Rattle.silo_console.specs.Steps.{AnswersSteps, AreRefusedBy, EndsWell, FailsBy, IsFaultOf, StopsSteps, setup_of};
 ghost use Rattle.silo_console.specs.Words.{IsWhy, texts_of};
 
 use crate::command_line::{Task, WordsFault, read_words};
 use crate::failure::{ProgramFault, say, tell};
 use crate::files::WholeFiles;
-use crate::tenants::{TenantLimits, TenantsFault, only_tenant};
+use crate::tenants::{TenantsFault, read_tenants};
+use grain_kinds::Kinds;
+use grain_storage::MemoryStorage;
 use line_protocol::{LineFault, LineReader, run_lines};
-use silo_core::Silo;
-use std::alloc::Global;
+use silo_core::{Setup, Silo};
+use std::alloc::{AllocError, Global};
 use std::io::{Read, Write};
 use std::mem;
-use tenant_gate::Age;
+use tenant_gate::{Age, TenantTable};
 
 /// What `--version` shows.
 const VERSION_LINE: &str = "silo 0.1.0\n";
@@ -65,31 +67,51 @@ fn explain_tenants(alloc: Global, fault: TenantsFault) -> ProgramFault
     }
 }
 
+/// A silo of the kinds `counter`, `sheet` and `relay`, over no rows.
+fn new_silo(
+    alloc: Global,
+    tenants: TenantTable,
+    age: Age,
+) -> Result<Silo<MemoryStorage, Kinds>, AllocError>
+    ensures setup { IfOk result (λ s. s.setup ≡ setup_of tenants age) }
+    ensures opening { IfOk result (λ s. s.whole ≡ opening (setup_of tenants age)) }
+{
+    Silo::new(
+        alloc,
+        Setup {
+            tenants,
+            age,
+            storage: MemoryStorage::new(alloc),
+            logic: Kinds,
+        },
+    )
+}
+
 /// Takes every step of the input, and writes what it answers.
 fn answer_lines<R: Read, W: Write>(
     alloc: Global,
-    served: TenantLimits,
+    tenants: TenantTable,
     age: u64,
     reader: &mut R,
     writer: &mut W,
 ) -> Result<(), LineFault>
     requires { IsAge age }
     ensures answered { OnOk result (IfSome (R.remaining reader.old) (λ input.
-        AnswersSteps (setup_of served.tenant served.limits age) input (R.remaining reader.new) (W.contents writer.old) (W.contents writer.new))) }
+        AnswersSteps (setup_of tenants age) input (R.remaining reader.new) (W.contents writer.old) (W.contents writer.new))) }
     ensures stopped { IfErr result (λ why. IfSome (R.remaining reader.old) (λ input.
-        StopsSteps (setup_of served.tenant served.limits age) why input (W.contents writer.old) (W.contents writer.new))) }
+        StopsSteps (setup_of tenants age) why input (W.contents writer.old) (W.contents writer.new))) }
 {
-    let TenantLimits { tenant, limits } = served;
     let Some(age) = Age::new(age) else {
         unreachable!();
     };
-    let Ok(mut silo) = Silo::new(alloc, tenant, limits, age) else {
+    let Ok(mut silo) = new_silo(alloc, tenants, age) else {
         return Err(LineFault::Memory);
     };
     let Ok(mut lines) = LineReader::new(alloc) else {
         return Err(LineFault::Memory);
     };
     let done = run_lines(alloc, &mut lines, reader, writer, &mut silo);
+    let _ = silo.storage();
 
     // The process ends soon, and gives all of its memory back at once.
     mem::forget(silo);
@@ -102,18 +124,18 @@ fn answer_lines<R: Read, W: Write>(
 /// Takes every step of the input. What was written goes out, also what was written before a fault.
 fn answer_steps<R: Read, W: Write>(
     alloc: Global,
-    served: TenantLimits,
+    tenants: TenantTable,
     age: u64,
     reader: &mut R,
     writer: &mut W,
 ) -> Result<(), LineFault>
     requires { IsAge age }
     ensures answered { OnOk result (IfSome (R.remaining reader.old) (λ input.
-        AnswersSteps (setup_of served.tenant served.limits age) input (R.remaining reader.new) (W.contents writer.old) (W.contents writer.new))) }
+        AnswersSteps (setup_of tenants age) input (R.remaining reader.new) (W.contents writer.old) (W.contents writer.new))) }
     ensures stopped { IfErr result (λ why. IfSome (R.remaining reader.old) (λ input.
-        StopsSteps (setup_of served.tenant served.limits age) why input (W.contents writer.old) (W.contents writer.new))) }
+        StopsSteps (setup_of tenants age) why input (W.contents writer.old) (W.contents writer.new))) }
 {
-    let done = answer_lines(alloc, served, age, reader, writer);
+    let done = answer_lines(alloc, tenants, age, reader, writer);
     let flushed = writer.flush();
     match done {
         Err(why) => Err(why),
@@ -134,15 +156,15 @@ fn answer<R: Read, W: Write>(
     ensures well { OnOk result (EndsWell (texts_of words.now) (R.remaining reader.old) (R.remaining reader.new) (W.contents writer.old) (W.contents writer.new)) }
     ensures fault { IfErr result (λ why. IsFaultOf (texts_of words.now) why (R.remaining reader.old) (R.remaining reader.new) (W.contents writer.old) (W.contents writer.new)) }
 {
-    let (age, tenants) = match read_words(alloc, words) {
+    let (age, arguments) = match read_words(alloc, words) {
         Ok(Task::Steps { age, tenants }) => (age, tenants),
         Err(fault) => return explain_words(fault, writer),
     };
-    let served = match only_tenant(alloc, tenants.as_slice()) {
-        Ok(served) => served,
+    let tenants = match read_tenants(alloc, arguments.as_slice()) {
+        Ok(tenants) => tenants,
         Err(fault) => return Err(explain_tenants(alloc, fault)),
     };
-    match answer_steps(alloc, served, age, reader, writer) {
+    match answer_steps(alloc, tenants, age, reader, writer) {
         Ok(()) => Ok(()),
         Err(why) => Err(ProgramFault::Failed(why)),
     }

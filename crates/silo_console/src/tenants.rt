@@ -1,13 +1,14 @@
 //! The tenant arguments.
 
-ghost use Rattle.std.specs.Prelude.{◌≡◌, ◌≤◌, ◌↔◌, ◌++◌, ◌∷◌, ℕ, List, false, map, slice_index, IsTrue, IfSome, IfNone, IsSomeAnd, IfOk, IfErr};
+ghost use Rattle.std.specs.Prelude.{◌≡◌, ◌≤◌, ◌↔◌, ◌++◌, ◌∷◌, [], ℕ, List, false, map, slice_index, IsTrue, IfSome, IfNone, IsSomeAnd, IfOk, IfErr, OnOk};
+ghost use Rattle.grain_id.specs.Names.{same_text};
 ghost use Rattle.grain_id.specs.Words.{is_word};
 ghost use Rattle.tenant_gate.specs.declared.limits.Limits.{Limits};
-ghost use Rattle.silo_console.specs.Tenants.{HasNoColon, IsLimitText, IsLimitsText, IsTenantText, IsNoTenantText, IsOnlyTenant, IsReason};
+ghost use Rattle.silo_console.specs.Tenants.{is_named, HasNoColon, IsLimitText, IsLimitsText, IsTenantText, IsNoTenantText, IsRefusedBehind, MayFollow, NameTenants, IsReason};
 
 use grain_id::{IdFault, Tenant};
 use std::alloc::{AllocError, Global};
-use tenant_gate::{Limits, MAX_ACTIVATIONS, MAX_MAILBOX};
+use tenant_gate::{Limits, MAX_ACTIVATIONS, MAX_MAILBOX, MAX_TENANTS, TableFault, TenantTable};
 
 /// A tenant and what it may have.
 #[derive(Drop)]
@@ -16,7 +17,7 @@ pub struct TenantLimits {
     pub limits: Limits,
 }
 
-/// Why the tenant arguments do not name one tenant.
+/// Why the tenant arguments name no tenants.
 #[derive(Clone, Copy, Debug, PartialEq, Eq)]
 pub enum TenantsFault {
     Memory,
@@ -105,19 +106,76 @@ fn read_tenant(alloc: Global, text: &str) -> Result<Option<TenantLimits>, AllocE
     Ok(Some(TenantLimits { tenant, limits }))
 }
 
-/// The one tenant that the arguments name.
-pub fn only_tenant(alloc: Global, texts: &[&str]) -> Result<TenantLimits, TenantsFault>
-    ensures named { IfOk result (λ t. IsOnlyTenant (map (λ text. text.now) texts.now) t.tenant t.limits) }
+/// Whether both are the same tenant.
+fn is_same(tenant: &Tenant, other: &Tenant) -> bool
+    ensures { result ≡ same_text tenant.now other.now }
+{
+    tenant.text() == other.text()
+}
+
+/// Whether the tenant is one of these.
+fn is_named(list: &[(Tenant, Limits)], tenant: &Tenant) -> bool
+    ensures { result ≡ is_named list.now tenant.now }
+{
+    for (named, _) in list {
+        if is_same(tenant, named) {
+            return true;
+        }
+    }
+    false
+}
+
+/// The tenant that the text writes, if it isn't named before and there is a place for it.
+fn next_tenant(
+    alloc: Global,
+    before: &[(Tenant, Limits)],
+    text: &str,
+) -> Result<Option<TenantLimits>, AllocError>
+    ensures some { IfOk result (λ read. IfSome read (λ t. IsTenantText text.now t.tenant t.limits × MayFollow before.now t.tenant)) }
+    ensures none { IfOk result (λ read. IfNone read (IsRefusedBehind before.now text.now)) }
+{
+    if before.len() >= MAX_TENANTS {
+        return Ok(None);
+    }
+    let Some(read) = read_tenant(alloc, text)? else {
+        return Ok(None);
+    };
+    if is_named(before, &read.tenant) {
+        return Ok(None);
+    }
+    Ok(Some(read))
+}
+
+fn add(list: &mut Vec<(Tenant, Limits)>, read: TenantLimits) -> Result<(), AllocError>
+    ensures { OnOk result (list.new.items ≡ list.old.items ++ (read.tenant, read.limits) ∷ []) }
+{
+    list.push((read.tenant, read.limits))?;
+    Ok(())
+}
+
+/// The table of 1 to 1,000 tenants that the arguments name, in order.
+///
+/// # Errors
+///
+/// `Refused` with the number of the first argument that writes no tenant with its limits, or repeats a
+/// tenant, or is one too many; and with 1 if there is no argument. `Memory`.
+pub fn read_tenants(alloc: Global, texts: &[&str]) -> Result<TenantTable, TenantsFault>
+    ensures named { IfOk result (λ table. NameTenants (map (λ text. text.now) texts.now) table) }
     ensures refused { IfErr result (λ fault. IsReason (map (λ text. text.now) texts.now) fault) }
 {
-    let Some((first, others)) = texts.split_first() else {
-        return Err(TenantsFault::Refused(1));
-    };
-    let Some(read) = read_tenant(alloc, first)? else {
-        return Err(TenantsFault::Refused(1));
-    };
-    if !others.is_empty() {
-        return Err(TenantsFault::Refused(2));
+    let mut list = Vec::new(alloc);
+    for text in texts {
+        let Some(read) = next_tenant(alloc, &list, text)? else {
+            return Err(TenantsFault::Refused(list.len() + 1));
+        };
+        add(&mut list, read)?;
     }
-    Ok(read)
+    match TenantTable::new(alloc, list) {
+        Ok(table) => Ok(table),
+        Err(TableFault::Memory) => Err(TenantsFault::Memory),
+        Err(TableFault::Empty) => Err(TenantsFault::Refused(1)),
+        Err(TableFault::TooMany) => unreachable!(),
+        Err(TableFault::Twice(_)) => unreachable!(),
+        Err(TableFault::Range(_)) => unreachable!(),
+    }
 }

@@ -188,12 +188,62 @@ fn answers_lines(rt: HostRuntime) -> Result<(), Fail> {
     Ok(())
 }
 
+const TWO: &[&str] = &["steps", "--age", "1", "red:2:4", "blue:2:4"];
+
+/// The lines of two tenants, and the clock.
+const MIXED: &str = concat!(
+    r#"{"from":"blue/c1","id":1,"op":"call","grain":"counter/blue:a","method":"add","args":{"by":7}}"#,
+    "\n",
+    r#"{"from":"red/c1","id":1,"op":"call","grain":"counter/red:a","method":"add","args":{"by":3}}"#,
+    "\n",
+    r#"{"op":"activate","grain":"counter/blue:a"}"#,
+    "\n",
+    r#"{"op":"activate","grain":"counter/red:a"}"#,
+    "\n",
+    r#"{"op":"load","grain":"counter/blue:a"}"#,
+    "\n",
+    r#"{"op":"load","grain":"counter/red:a"}"#,
+    "\n",
+    r#"{"op":"begin","grain":"counter/blue:a"}"#,
+    "\n",
+    r#"{"op":"end","grain":"counter/blue:a","turn":1}"#,
+    "\n",
+    r#"{"op":"tick","now":1}"#,
+    "\n",
+    r#"{"op":"sweep"}"#,
+    "\n",
+    r#"{"from":"blue/c1","id":2,"op":"call","grain":"counter/blue:b","method":"get","args":null}"#,
+    "\n",
+    r#"{"op":"begin","grain":"counter/red:a"}"#,
+    "\n",
+    r#"{"op":"end","grain":"counter/red:a","turn":1}"#,
+    "\n"
+);
+
+const MIXED_REPLIES: &str = concat!(
+    r#"{"from":"blue/c1","id":1,"ok":7}"#,
+    "\n",
+    r#"{"from":"red/c1","id":1,"ok":3}"#,
+    "\n"
+);
+
+#[test]
+fn serves_two_tenants(rt: HostRuntime) -> Result<(), Fail> {
+    let mut reader = MIXED.as_bytes();
+    let outcome = run(&rt, TWO, &mut reader, room(rt.alloc())?)?;
+    assert!(rt; outcome.output.as_slice() == MIXED_REPLIES.as_bytes());
+    assert!(rt; outcome.errors.is_empty());
+    assert_eq!(rt; outcome.status, 0);
+    Ok(())
+}
+
 #[test]
 fn refuses_tenants(rt: HostRuntime) -> Result<(), Fail> {
     const FIRST: &str = "silo: tenant argument 1 is refused\n";
     const SECOND: &str = "silo: tenant argument 2 is refused\n";
-    let rows: [(&[&str], &str); 15] = [
-        (&["steps", "red:2:4", "blue:2:4"], SECOND),
+    let rows: [(&[&str], &str); 16] = [
+        (&["steps", "red:2:4", "red:2:4"], SECOND),
+        (&["steps", "red:2:4", "red:1:1", "x"], SECOND),
         (&["steps", "red:2:4", "red:02:4"], SECOND),
         (&["steps", "red:02:4", "blue:2:4"], FIRST),
         (&["steps", "--age", "1", "red:2:04"], FIRST),

@@ -1,7 +1,5 @@
-pub mod Maps
-pub mod Turns
-pub mod Counters
-pub mod Built
 pub mod Steps
-pub mod Calls
-pub mod Histories
+pub mod Moved
+pub mod Runs
+pub mod Alone
+pub mod Opened

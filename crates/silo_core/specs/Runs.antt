@@ -1,12 +1,37 @@
 -- What a run of steps answers and leaves.
-use Rattle.std.specs.Prelude.{◌≡◌, ℕ, true, List, [], ◌∷◌, ◌++◌}
+use Rattle.std.specs.Prelude.{◌≡◌, ℕ, suc, true, List, [], ◌∷◌, ◌++◌, length}
+use Rattle.silo_event.specs.Failed.{as_failed}
 use Rattle.silo_event.specs.declared.step.Step.{Step}
 use Rattle.silo_event.specs.declared.step.Answer.{Answer}
+use Rattle.silo_event.specs.declared.step.Answer.TheVariants as answer
 use Rattle.grain_kinds.specs.Logic.{Logic}
 use Rattle.silo_model.specs.Whole.{Whole, shown_to}
-use Rattle.silo_model.specs.Run.{machine_run, whole_run, answers_by, done_by, restricted_to, concerns, answers_to}
-use Rattle.silo_core.specs.Built.{built, built_step, built_machine_step}
-use Rattle.silo_core.specs.History.{History}
+use Rattle.silo_model.specs.Run.{machine_run, whole_run, restricted_to, concerns, answers_to, marked}
+use Rattle.silo_model.specs.Answers.{AreAnswers, AreMachineAnswers}
+use Rattle.silo_core.specs.History.{History, failed_since}
+
+-- the step as the journal has it, if it was done, and what comes after it
+abbrev pub noted : Step → Answer → List Step → List Step
+noted s answer.Done rest = s ∷ rest
+noted s answer.Failed rest = as_failed s ∷ rest
+noted s answer.NotNow rest = rest
+
+-- the steps that were done, in order, each as it was taken
+abbrev pub done_steps : List Step → List Answer → List Step
+done_steps [] given = []
+done_steps (s ∷ steps) [] = []
+done_steps (s ∷ steps) (a ∷ given) = noted s a (done_steps steps given)
+
+-- one more, if the storage failed
+abbrev pub one_if_failed : Answer → ℕ → ℕ
+one_if_failed answer.Failed n = suc n
+one_if_failed answer.Done n = n
+one_if_failed answer.NotNow n = n
+
+-- how many of the answers say that the storage failed
+abbrev pub failed_in : List Answer → ℕ
+failed_in [] = 0
+failed_in (a ∷ given) = one_if_failed a (failed_in given)
 
 -- each of the steps is the tenant's or nobody's
 abbrev pub AllConcern : List ℕ → List Step → Type 0
@@ -15,16 +40,17 @@ AllConcern tenant (s ∷ steps) = (concerns tenant s ≡ true) × AllConcern ten
 
 -- For every tenant the part is the run of the tenant's own machine, with the other tenants' steps struck out.
 abbrev pub RunsInParts : Logic → Whole → List Step → Whole → Type 0
-RunsInParts logic old steps new = (tenant : List ℕ) → shown_to tenant new ≡ machine_run logic (shown_to tenant old) (restricted_to tenant (built steps))
+RunsInParts logic old steps new = (tenant : List ℕ) → shown_to tenant new ≡ machine_run logic (shown_to tenant old) (restricted_to tenant steps)
 
--- And so are the answers to the tenant's steps.
+-- And the answers to the tenant's steps are that machine's.
 abbrev pub RunAnswersInParts : Logic → Whole → List Step → List Answer → Type 0
-RunAnswersInParts logic old steps given = (tenant : List ℕ) → answers_to tenant steps given ≡ answers_by (built_machine_step logic) (shown_to tenant old) (restricted_to tenant steps)
+RunAnswersInParts logic old steps given = (tenant : List ℕ) → AreMachineAnswers logic (shown_to tenant old) (restricted_to tenant steps) (answers_to tenant steps given)
 
 -- From the old history the steps were taken, each with its answer, and led to the new one.
 pub record Takes (logic : Logic) (old : History) (steps : List Step) (given : List Answer) (new : History) : Type 0 where
-  pub answers : given ≡ answers_by (built_step logic) old.whole steps
-  pub whole : new.whole ≡ whole_run logic old.whole (built steps)
-  pub journal : new.journal ≡ old.journal ++ done_by (built_step logic) old.whole steps
+  pub each_answered : length given ≡ length steps
+  pub answers : AreAnswers logic old.whole steps given
+  pub whole : new.whole ≡ whole_run logic old.whole (marked steps given)
+  pub journal : new.journal ≡ old.journal ++ done_steps steps given
   pub setup : new.setup ≡ old.setup
-  pub failures : new.failures ≡ old.failures
+  pub failures : new.failures ≡ failed_since (failed_in given) old.failures

@@ -1,7 +1,7 @@
 //! The silo, and the journal that led to what it shows.
 
-ghost use Rattle.std.specs.Prelude.{◌≡◌, ℕ, false, List, [], IfOk};
-ghost use Rattle.silo_event.specs.declared.step.Step.TheVariants as step;
+ghost use Rattle.std.specs.Prelude.{◌≡◌, ◌<◌, ◌++◌, ℕ, List, [], IfOk, vec_len, vec_capacity};
+ghost use Rattle.std.specs.FinMap.{entries};
 ghost use Rattle.silo_model.specs.Opening.{opening, start_of};
 ghost use Rattle.silo_model.specs.Whole.{shown_to};
 ghost use Rattle.silo_model.specs.Run.{restricted_to};
@@ -9,184 +9,97 @@ ghost use Rattle.silo_model.specs.Journal.{LeadsTo};
 ghost use Rattle.silo_model.specs.Exclusive.{Exclusive, done_answers};
 ghost use Rattle.silo_model.specs.Settled.{Settled};
 ghost use Rattle.tenant_gate.specs.Age.{IsAge};
-ghost use Rattle.grain_kinds.specs.Counters.{counters};
-ghost use Rattle.silo_core.specs.History.{Answered, StepAnswersInParts, no_failures};
-ghost use Rattle.silo_core.specs.Shown.{setup_of};
+ghost use Rattle.silo_core.specs.Runs.{noted};
 
-use crate::body::Body;
-use crate::replies;
-use grain_id::{Caller, GrainId, Tenant};
-use request_codec::Message;
-use silo_event::{Answer, Reply, Step, StepFault};
+use crate::setup::Setup;
+use crate::{replies, rows};
+use grain_id::{GrainId, Tenant};
+use grain_kinds::GrainLogic;
+use grain_storage::{GrainStorage, Row};
+use silo_body::Body;
+use silo_event::{Answer, Reply, Step};
 use std::alloc::{AllocError, Global};
 use std::marker::Model;
-use tenant_gate::{Age, Limits};
+use tenant_gate::{Age, TenantTable};
 
 mod run;
+mod steps;
 
 pub use run::RunReport;
 
-/// How many calls of the storage have failed: no step calls one yet.
-const NO_FAILURES: u64 = 0;
-
-/// A silo of one known tenant: what its grains and callers have, beside the journal that led there.
+/// A silo: what its tenants have, beside the rows and the failures that it opened with, and the
+/// journal that led from there.
 #[derive(Drop)]
-pub struct Silo {
-    tenant: Tenant,
-    limits: Limits,
+pub struct Silo<S: GrainStorage, L: GrainLogic> {
+    tenants: TenantTable,
     age: Age,
-    body: Body,
+    opening: Vec<(GrainId, Row)>,
+    opening_failures: u64,
+    body: Body<S, L>,
     journal: Vec<Step>,
 }
 
-impl Model for Silo {
+impl<S: GrainStorage, L: GrainLogic> Model for Silo<S, L> {
     ghost use Rattle.std.specs.Coded.{codes};
     ghost use Rattle.request_codec.specs.Code.{coded_tree};
     ghost use Rattle.request_codec.specs.contracts.state.StateBytes as state;
     ghost use Rattle.silo_model.specs.Codes.{by_grain_code, by_text_code, by_number_code};
     ghost use Rattle.silo_model.specs.Journal.{LeadsTo};
-    ghost use Rattle.grain_kinds.specs.Counters.{counters};
-    ghost use Rattle.silo_core.specs.History.{History, no_failures};
-    ghost use Rattle.silo_core.specs.Shown.{setup_of};
+    ghost use Rattle.silo_core.specs.History.{History};
+    ghost use Rattle.silo_core.specs.Shown.{setup_of, AreListed};
 
     ghost Value = { History };
 
     ghost coded = { Prim.hlevel (codes, by_grain_code, by_text_code, by_number_code, coded_tree, state.the_row.coded) };
 
     ghost view = { λ s. record {
-      setup = setup_of s.tenant s.limits s.age;
-      whole = s.body;
+      setup = setup_of s.tenants s.age s.opening.items;
+      whole = s.body.whole;
       journal = s.journal.items;
-      failures = no_failures;
+      failures = record { at_opening = s.opening_failures; now = s.body.failures };
     } };
 
-    ghost invariant = { λ s. LeadsTo counters (setup_of s.tenant s.limits s.age) s.journal.items s.body };
+    ghost invariant = { λ s. LeadsTo L.logic (setup_of s.tenants s.age s.opening.items) s.journal.items s.body.whole × AreListed s.opening.items };
 }
 
-impl Silo {
-    /// A silo that knows one tenant, whose idle activations may go after the age.
-    pub fn new(alloc: Global, tenant: Tenant, limits: Limits, age: Age) -> Result<Silo, AllocError>
-        ensures setup { IfOk result (λ s. s.setup ≡ setup_of tenant limits age) }
+impl<S: GrainStorage + Drop, L: GrainLogic + Drop> Silo<S, L> {
+    /// A silo at its opening: it has the storage's rows, and nothing was asked yet.
+    ///
+    /// # Errors
+    ///
+    /// Out of memory.
+    pub fn new(alloc: Global, setup: Setup<S, L>) -> Result<Silo<S, L>, AllocError>
+        ensures setup { IfOk result (λ s. s.setup ≡ record { tenants = setup.tenants; age = setup.age; rows = S.rows setup.storage }) }
         ensures opening { IfOk result (λ s. (s.whole ≡ opening s.setup) × (s.journal ≡ [])) }
-        ensures failures { IfOk result (λ s. s.failures ≡ no_failures) }
+        ensures failures { IfOk result (λ s. s.failures ≡ record { at_opening = S.failed setup.storage; now = S.failed setup.storage }) }
         ensures parts { IfOk result (λ s. (tenant : List ℕ) → shown_to tenant s.whole ≡ start_of s.setup tenant) }
     {
-        let known = tenant.clone()?;
-        Ok(Silo {
-            tenant: known,
-            limits,
+        let Setup {
+            tenants,
             age,
-            body: Body::new(alloc, tenant, limits, age),
+            storage,
+            logic,
+        } = setup;
+        let opening = storage.list(alloc)?;
+        let opening_failures = storage.failures();
+        let body = Body::new(alloc, &tenants, age.millis(), storage, logic)?;
+        Ok(Silo {
+            tenants,
+            age,
+            opening,
+            opening_failures,
+            body,
             journal: Vec::new(alloc),
         })
     }
+}
 
-    /// A client asks a grain for a method.
-    pub fn call(
-        &mut self,
-        alloc: Global,
-        caller: Caller,
-        id: u64,
-        grain: GrainId,
-        message: Message,
-    ) -> Result<Answer, StepFault>
-        ensures answered { Answered counters self.old (step.Call caller id grain message) result self.new }
-        ensures parts { StepAnswersInParts counters self.old.whole (step.Call caller id grain message) result self.new.whole }
+impl<S: GrainStorage, L: GrainLogic> Silo<S, L> {
+    /// The tenants that are known, with their limits.
+    pub fn tenants(&self) -> &TenantTable
+        ensures { result.now ≡ self.now.setup.tenants }
     {
-        self.apply(
-            alloc,
-            Step::Call {
-                caller,
-                id,
-                grain,
-                message,
-            },
-        )
-    }
-
-    /// A grain's entry that waits begins to load.
-    pub fn activate(&mut self, alloc: Global, grain: GrainId) -> Result<Answer, StepFault>
-        ensures answered { Answered counters self.old (step.Activate grain) result self.new }
-        ensures parts { StepAnswersInParts counters self.old.whole (step.Activate grain) result self.new.whole }
-    {
-        self.apply(alloc, Step::Activate { grain })
-    }
-
-    /// A loading grain gets its state.
-    pub fn load(&mut self, alloc: Global, grain: GrainId) -> Result<Answer, StepFault>
-        ensures answered { Answered counters self.old (step.Load grain false) result self.new }
-        ensures parts { StepAnswersInParts counters self.old.whole (step.Load grain false) result self.new.whole }
-    {
-        self.apply(
-            alloc,
-            Step::Load {
-                grain,
-                failed: false,
-            },
-        )
-    }
-
-    /// The first waiting request of a ready grain becomes its open turn.
-    pub fn begin(&mut self, alloc: Global, grain: GrainId) -> Result<Answer, StepFault>
-        ensures answered { Answered counters self.old (step.Begin grain) result self.new }
-        ensures parts { StepAnswersInParts counters self.old.whole (step.Begin grain) result self.new.whole }
-    {
-        self.apply(alloc, Step::Begin { grain })
-    }
-
-    /// The open turn of that number runs and is closed.
-    pub fn end(&mut self, alloc: Global, grain: GrainId, turn: u64) -> Result<Answer, StepFault>
-        ensures answered { Answered counters self.old (step.End grain turn) result self.new }
-        ensures parts { StepAnswersInParts counters self.old.whole (step.End grain turn) result self.new.whole }
-    {
-        self.apply(alloc, Step::End { grain, turn })
-    }
-
-    /// Takes a step. One of a kind that isn't built is never possible.
-    pub fn apply(&mut self, alloc: Global, step: Step) -> Result<Answer, StepFault>
-        ensures answered { Answered counters self.old step result self.new }
-        ensures parts { StepAnswersInParts counters self.old.whole step result self.new.whole }
-    {
-        let _ = &self.journal;
-        self.take(alloc, step)
-    }
-
-    /// Takes a step, and notes it where it was done: room for the note comes first.
-    fn take(&mut self, alloc: Global, step: Step) -> Result<Answer, StepFault>
-        ensures { Answered counters self.old step result self.new }
-    {
-        self.journal.reserve(1)?;
-        match self.body.step(alloc, &step)? {
-            Answer::Done => {
-                self.journal.push_reserved(step);
-                Ok(Answer::Done)
-            }
-            Answer::Failed => unreachable!(),
-            Answer::NotNow => Ok(Answer::NotNow),
-        }
-    }
-
-    /// All replies, in the order in which they were made.
-    pub fn replies(&self) -> &[Reply]
-        ensures { result.now ≡ self.now.whole.replies }
-    {
-        self.body.replies()
-    }
-
-    /// The steps that were done, in order.
-    pub fn journal(&self) -> &[Step]
-        ensures steps { result.now ≡ self.now.journal }
-
-        // They lead from the opening to what the silo shows.
-        ensures leads { LeadsTo counters self.now.setup self.now.journal self.now.whole }
-
-        // At every prefix of them, a turn that may write is the only open turn of its grain.
-        ensures exclusive { Exclusive counters self.now.setup self.now.journal (done_answers self.now.journal) }
-
-        // Of every tenant, what a client asked is answered once, or waits, or is open.
-        ensures settled { (tenant : List ℕ) → Settled (restricted_to tenant self.now.journal) (shown_to tenant self.now.whole) }
-    {
-        self.journal.as_slice()
+        &self.tenants
     }
 
     /// The milliseconds after which an idle activation may go, 1 to 86,400,000.
@@ -197,26 +110,101 @@ impl Silo {
         self.age.millis()
     }
 
+    /// The rows that were stored as the silo opened, grains ascending.
+    pub fn opening(&self) -> &[(GrainId, Row)]
+        ensures { result.now ≡ entries self.now.setup.rows }
+    {
+        self.opening.as_slice()
+    }
+
     /// How many calls of the storage had failed as the silo opened.
     pub fn opening_failures(&self) -> u64
         ensures { result ≡ self.now.failures.at_opening }
     {
-        let _ = &self.journal;
-        NO_FAILURES
+        self.opening_failures
     }
 
     /// How many calls of the storage have failed by now.
     pub fn failures(&self) -> u64
         ensures { result ≡ self.now.failures.now }
     {
-        let _ = &self.journal;
-        NO_FAILURES
+        self.body.storage().failures()
+    }
+
+    /// Where the rows are kept.
+    pub fn storage(&self) -> &S
+        ensures rows { S.rows result.now ≡ self.now.whole.rows }
+        ensures failures { S.failed result.now ≡ self.now.failures.now }
+    {
+        self.body.storage()
+    }
+
+    /// All replies, in the order in which they were made.
+    pub fn replies(&self) -> &[Reply]
+        ensures { result.now ≡ self.now.whole.replies }
+    {
+        self.body.replies()
     }
 
     /// The replies to a tenant's callers and grains, in order.
+    ///
+    /// # Errors
+    ///
+    /// Out of memory.
     pub fn replies_of(&self, alloc: Global, tenant: &Tenant) -> Result<Vec<Reply>, AllocError>
         ensures { IfOk result (λ found. found.items ≡ (shown_to tenant.now self.now.whole).replies) }
     {
         replies::sent_to(alloc, self.body.replies(), tenant)
+    }
+
+    /// The stored rows of all tenants, grains ascending.
+    ///
+    /// # Errors
+    ///
+    /// Out of memory.
+    pub fn rows(&self, alloc: Global) -> Result<Vec<(GrainId, Row)>, AllocError>
+        ensures { IfOk result (λ list. list.items ≡ entries self.now.whole.rows) }
+    {
+        self.body.storage().list(alloc)
+    }
+
+    /// The stored rows of a tenant's grains, grains ascending.
+    ///
+    /// # Errors
+    ///
+    /// Out of memory.
+    pub fn rows_of(&self, alloc: Global, tenant: &Tenant) -> Result<Vec<(GrainId, Row)>, AllocError>
+        ensures { IfOk result (λ list. list.items ≡ entries (shown_to tenant.now self.now.whole).rows) }
+    {
+        let all = self.body.storage().list(alloc)?;
+        rows::stored_of(alloc, all, tenant)
+    }
+
+    /// The steps that were done, in order.
+    pub fn journal(&self) -> &[Step]
+        ensures steps { result.now ≡ self.now.journal }
+
+        // They lead from the opening to what the silo shows.
+        ensures leads { LeadsTo L.logic self.now.setup self.now.journal self.now.whole }
+
+        // At every prefix of them, a turn that may write is the only open turn of its grain.
+        ensures exclusive { Exclusive L.logic self.now.setup self.now.journal (done_answers self.now.journal) }
+
+        // Of every tenant, what a client asked is answered once, or waits, or is open.
+        ensures settled { (tenant : List ℕ) → Settled (restricted_to tenant self.now.journal) (shown_to tenant self.now.whole) }
+    {
+        self.journal.as_slice()
+    }
+}
+
+/// Puts a step that was done at the journal's end, as it was taken.
+fn note(journal: &mut Vec<Step>, answer: Answer, step: Step)
+    requires { vec_len journal.old < vec_capacity journal.old }
+    ensures { journal.new.items ≡ journal.old.items ++ noted step answer [] }
+{
+    match answer {
+        Answer::Done => journal.push_reserved(step),
+        Answer::Failed => journal.push_reserved(step.into_failed()),
+        Answer::NotNow => {}
     }
 }

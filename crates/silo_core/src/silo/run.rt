@@ -1,13 +1,16 @@
 //! Lists of steps.
 
-ghost use Rattle.std.specs.Prelude.{◌≡◌, ◌<◌, ◌↔◌, ℕ, List, IsTrue, ◌++◌, length, take, vec_len};
-ghost use Rattle.silo_model.specs.Run.{whole_run, answers_by, done_by};
+ghost use Rattle.std.specs.Prelude.{◌≡◌, ◌<◌, ◌↔◌, ℕ, List, [], IsTrue, ◌++◌, length, take, vec_len};
+ghost use Rattle.silo_model.specs.Answers.{AreAnswers, AreMachineAnswers};
+ghost use Rattle.silo_model.specs.Exclusive.{Exclusive};
+ghost use Rattle.silo_model.specs.Run.{whole_run, marked};
 ghost use Rattle.silo_model.specs.Whole.{shown_to};
-ghost use Rattle.grain_kinds.specs.Counters.{counters};
-ghost use Rattle.silo_core.specs.Built.{built, built_step, built_machine_step};
-ghost use Rattle.silo_core.specs.Runs.{AllConcern, RunsInParts, RunAnswersInParts, Takes};
+ghost use Rattle.silo_core.specs.History.{failed_since};
+ghost use Rattle.silo_core.specs.Runs.{done_steps, failed_in, AllConcern, RunsInParts, RunAnswersInParts, Takes};
 
 use crate::silo::Silo;
+use grain_kinds::GrainLogic;
+use grain_storage::GrainStorage;
 use silo_event::{Answer, Step};
 use std::alloc::Global;
 use std::collections::VecDeque;
@@ -20,22 +23,28 @@ pub struct RunReport {
     pub stopped: bool,
 }
 
-impl Silo {
+impl<S: GrainStorage, L: GrainLogic> Silo<S, L> {
     /// Takes steps in their order, up to the first for which memory is refused. Room for all answers
-    /// comes first: where that is refused, no step is taken.
+    /// comes first: if that is refused, no step is taken. How many answers say `Failed` is how many
+    /// calls of the storage failed.
     pub fn run(&mut self, alloc: Global, steps: Vec<Step>) -> RunReport
         ensures stopped { IsTrue result.stopped ↔ (vec_len result.answers < vec_len steps) }
-        ensures answers { result.answers.items ≡ answers_by (built_step counters) self.old.whole (take (vec_len result.answers) steps.items) }
-        ensures whole { self.new.whole ≡ whole_run counters self.old.whole (built (take (vec_len result.answers) steps.items)) }
-        ensures journal { self.new.journal ≡ self.old.journal ++ done_by (built_step counters) self.old.whole (take (vec_len result.answers) steps.items) }
+        ensures answers { AreAnswers L.logic self.old.whole (take (vec_len result.answers) steps.items) result.answers.items }
+
+        // The steps that were answered, each as it was taken, are done one after another.
+        ensures whole { self.new.whole ≡ whole_run L.logic self.old.whole (marked (take (vec_len result.answers) steps.items) result.answers.items) }
+        ensures journal { self.new.journal ≡ self.old.journal ++ done_steps (take (vec_len result.answers) steps.items) result.answers.items }
         ensures setup { self.new.setup ≡ self.old.setup }
-        ensures failures { self.new.failures ≡ self.old.failures }
+        ensures failures { self.new.failures ≡ failed_since (failed_in result.answers.items) self.old.failures }
 
         // For every tenant, the run of a silo of its own.
-        ensures parts { RunsInParts counters self.old.whole (take (vec_len result.answers) steps.items) self.new.whole }
-        ensures own_answers { RunAnswersInParts counters self.old.whole (take (vec_len result.answers) steps.items) result.answers.items }
+        ensures parts { RunsInParts L.logic self.old.whole (marked (take (vec_len result.answers) steps.items) result.answers.items) self.new.whole }
+        ensures own_answers { RunAnswersInParts L.logic self.old.whole (take (vec_len result.answers) steps.items) result.answers.items }
         ensures alone { (tenant : List ℕ) → AllConcern tenant steps.items
-            → result.answers.items ≡ answers_by (built_machine_step counters) (shown_to tenant self.old.whole) (take (vec_len result.answers) steps.items) }
+            → AreMachineAnswers L.logic (shown_to tenant self.old.whole) (take (vec_len result.answers) steps.items) result.answers.items }
+
+        // On a new silo, a turn that may write is the only open turn of its grain at every prefix of the list.
+        ensures exclusive { self.old.journal ≡ [] → Exclusive L.logic self.old.setup (take (vec_len result.answers) steps.items) result.answers.items }
     {
         let _ = &self.journal;
         self.take_each(alloc, steps)
@@ -43,7 +52,7 @@ impl Silo {
 
     fn take_each(&mut self, alloc: Global, steps: Vec<Step>) -> RunReport
         ensures stopped { IsTrue result.stopped ↔ (vec_len result.answers < vec_len steps) }
-        ensures taken { Takes counters self.old (take (vec_len result.answers) steps.items) result.answers.items self.new }
+        ensures taken { Takes L.logic self.old (take (vec_len result.answers) steps.items) result.answers.items self.new }
     {
         let mut answers = Vec::new(alloc);
         if answers.reserve(steps.len()).is_err() {

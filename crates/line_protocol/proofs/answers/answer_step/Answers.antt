@@ -1,12 +1,17 @@
-use Rattle.grain_kinds.specs.Counters.{counters}
-use Rattle.silo_core.specs.History.{Advances, StepsInParts}
-use Rattle.line_protocol.proofs.StepTexts.{alone_done, whatever}
+use Rattle.std.specs.Prelude.{Ok}
+use Rattle.silo_event.specs.declared.step.Answer.TheVariants.{Done, Failed}
+use Rattle.silo_core.specs.History.{Answered}
+use Rattle.line_protocol.proofs.StepTexts.{step_taken}
 use Rattle.line_protocol.proofs.answers.answer_step.Goals as goal
 
-pub returns-in-Ok-Done-clause-alone : goal.returns-in-Ok-Done-clause-alone
-returns-in-Ok-Done-clause-alone c =
-    let old = c.args.silo.now in
-    let new = c.apply.new.self in
-    let done : Advances counters old c.args.step old.failures new = rw c.in-Ok-Done.field-0-is at c.in-Ok-Done.ensures.answered in
-    let parts : StepsInParts counters old.whole c.args.step new.whole = rw c.in-Ok-Done.field-0-is at c.in-Ok-Done.ensures.parts in
-    whatever c.push_replies.result (alone_done counters c.args.step c.requires.built old.whole new.whole done.whole parts)
+pub returns-in-Ok-Done-clause-err : goal.returns-in-Ok-Done-clause-err
+returns-in-Ok-Done-clause-err g c =
+    let logic = g.L.GrainLogic.logic in
+    let taken : Answered logic c.args.silo.now c.args.step (Ok Done) c.apply.new.self = rw c.in-Ok-Done.field-0-is at c.in-Ok-Done.ensures.answered in
+    step_taken logic c.args.silo.now c.apply.new.self c.args.step c.push_replies.result Done taken
+
+pub returns-in-Ok-Failed-clause-err : goal.returns-in-Ok-Failed-clause-err
+returns-in-Ok-Failed-clause-err g c =
+    let logic = g.L.GrainLogic.logic in
+    let taken : Answered logic c.args.silo.now c.args.step (Ok Failed) c.apply.new.self = rw c.in-Ok-Failed.field-0-is at c.in-Ok-Failed.ensures.answered in
+    step_taken logic c.args.silo.now c.apply.new.self c.args.step c.push_replies-in-Ok-Failed.result Failed taken

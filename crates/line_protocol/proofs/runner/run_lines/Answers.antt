@@ -1,34 +1,37 @@
-use Rattle.std.proofs.Common.{Ok, Err, ap, ◌∙◌, arith}
+use Rattle.std.proofs.Common.{Ok, Err, refl, ap, ◌∙◌, arith}
 use Rattle.std.proofs.lemmas.Result.{err_from_is_err_and}
 use Rattle.line_protocol.specs.Place.{bytes_at}
+use Rattle.line_protocol.specs.declared.fault.LineFault.TheVariants as fault
 use Rattle.line_protocol.proofs.Pieces.{slice_range_empty, slice_range_some}
 use Rattle.line_protocol.proofs.LinesOfBytes.{LinesTaken-self}
-use Rattle.line_protocol.proofs.Run.{LinesDone-none, same_said, LinesDone-more, LinesDone-kept, LinesDone-same, LinesDone-flushed, LinesDone-alone, stops_reading, stops_full, stops_answering, handed_on}
+use Rattle.line_protocol.proofs.Run.{LinesDone-none, same_said, LinesDone-more, LinesDone-kept, LinesDone-same, LinesDone-flushed, LinesDone-all, stops_reading, stops_full, stops_answering, handed_on}
 use Rattle.line_protocol.proofs.runner.run_lines.Goals as goal
 
 pub loop-count-init : goal.loop-count-init
-loop-count-init g c = LinesDone-none _ _ _ _ _ (LinesTaken-self _)
+loop-count-init g c = LinesDone-none _ _ _ _ _ c.journal.ensures.leads (LinesTaken-self _)
 
 pub loop-count-preserved : goal.loop-count-preserved
 loop-count-preserved g c =
     let w = rw c.in-Some.is at c.in_ok-place.ensures.line in
     let shown = bytes_at c.in-Some.place c.next_line.new.self.bytes.items in
     let same = same_said c.line_at-found.result.now (shown c.next_line.new.line.items) w.0 (c.line_at-found.ensures ∙ ap shown c.deref.ensures.value) w.1 in
-    LinesDone-more _ _ _ _ _ _ _ _ _ _ _ w.0 _ (LinesDone-flushed _ _ _ _ _ _ _ _ _ c.loop-count.invariant c.in_ok-place.ensures.written) w.2 same c.in_ok-write_answer.ensures.silo c.in_ok-write_answer.ensures.text c.in_ok-write_answer.ensures.alone
+    let so_far = LinesDone-flushed _ _ _ _ _ _ _ _ _ c.loop-count.invariant c.in_ok-place.ensures.written in
+    let answered = c.in_ok-write_answer.ensures.ok in
+    LinesDone-more _ _ _ _ _ _ _ _ _ _ _ w.0 _ answered.0 so_far w.2 same answered.1 answered.2
 
-pub returns-in_default-clause-alone : goal.returns-in_default-clause-alone
-returns-in_default-clause-alone g c =
+pub returns-in_default-clause-ok : goal.returns-in_default-clause-ok
+returns-in_default-clause-ok g c =
     let end = c.in_ok-place.ensures.end (ap Ok c.in_default.is) in
     let read = c.next_line.new.self in
     let so_far = LinesDone-flushed _ _ _ _ _ _ _ _ _ c.loop-count.invariant c.in_ok-place.ensures.written in
-    LinesDone-alone _ _ _ _ _ _ _ _ _ (slice_range_empty read.bytes.items read.start read.end end.1) end.2 (LinesDone-same _ _ _ _ _ _ _ _ _ so_far end.0)
+    LinesDone-all _ _ _ _ _ _ _ _ _ _ refl (slice_range_empty read.bytes.items read.start read.end end.1) end.2 (LinesDone-same _ _ _ _ _ _ _ _ _ so_far end.0)
 
-pub returns-clause-alone : goal.returns-clause-alone
-returns-clause-alone g c =
+pub returns-clause-ok : goal.returns-clause-ok
+returns-clause-ok g c =
     let end = c.in_ok-fill.ensures.none (ap Ok c.if-branch.false) in
     let read = c.fill.new.self in
     let so_far = LinesDone-flushed _ _ _ _ _ _ _ _ _ c.loop-count.invariant c.in_ok-fill.ensures.written in
-    LinesDone-alone _ _ _ _ _ _ _ _ _ (slice_range_empty read.bytes.items read.start read.end end.0) end.1 (LinesDone-kept _ _ _ _ _ _ _ _ _ so_far c.in_ok-fill.ensures.bytes)
+    LinesDone-all _ _ _ _ _ _ _ _ _ _ (omega arith) (slice_range_empty read.bytes.items read.start read.end end.0) end.1 (LinesDone-kept _ _ _ _ _ _ _ _ _ so_far c.in_ok-fill.ensures.bytes)
 
 pub returns-in_err-place-clause-err : goal.returns-in_err-place-clause-err
 returns-in_err-place-clause-err g c =
@@ -57,3 +60,8 @@ returns-then-branch-clause-err g c =
     let some = slice_range_some read.bytes.items read.start read.end (c.in_ok-fill.ensures.some (ap Ok c.if-branch.true)) (omega (arith, read.in_bounds, read.bytes.ok.0)) in
     let so_far = LinesDone-flushed _ _ _ _ _ _ _ _ _ c.loop-count.invariant c.in_ok-fill.ensures.written in
     stops_full _ read.calls _ _ _ _ _ _ _ _ (omega arith) some (LinesDone-kept _ _ _ _ _ _ _ _ _ so_far c.in_ok-fill.ensures.bytes)
+
+pub returns-in_err-room-clause-err : goal.returns-in_err-room-clause-err
+returns-in_err-room-clause-err g c =
+    let p = err_from_is_err_and c.from_residual.result c.from_residual.ensures.1 in
+    handed_on _ _ _ (p.1 ∙ ap Err p.2) (stops_reading _ fault.Memory c.args.lines.now.calls _ _ _ _ _ _ _ tt (LinesDone-none _ _ _ _ _ c.journal.ensures.leads (LinesTaken-self _)))

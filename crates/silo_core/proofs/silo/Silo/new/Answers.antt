@@ -1,28 +1,46 @@
 use Rattle.std.proofs.Common.{◌≡◌, List, [], ap, sym, subst, ◌∙◌}
 use Rattle.silo_event.specs.declared.step.Step.{Step}
-use Rattle.grain_kinds.specs.Counters.{counters}
+use Rattle.grain_storage.specs.Rows.{Rows}
 use Rattle.silo_model.specs.Journal.{LeadsTo}
-use Rattle.silo_model.specs.Opening.{fresh_account, opening}
+use Rattle.silo_model.specs.Opening.{Setup, opening}
 use Rattle.silo_model.specs.Whole.{Whole, shown_to}
 use Rattle.silo_model.proofs.Journals.{journals_begin}
 use Rattle.silo_model.proofs.Opening.{opening_shown}
-use Rattle.silo_core.specs.Shown.{setup_of}
-use Rattle.silo_core.proofs.Histories.{opened_with, opening_one}
+use Rattle.silo_body.specs.Held.{Held}
+use Rattle.silo_core.specs.Shown.{rows_in, setup_of}
+use Rattle.silo_core.proofs.Opened.{listed, are_listed}
+use Rattle.silo_core.proofs.silo.Silo.new.Given as given
 use Rattle.silo_core.proofs.silo.Silo.new.Goals as goal
 
+module _ (g : given.Over) (c : goal.After-new-2 g) where
+  abbrev rows : Rows
+  rows = g.S.GrainStorage.rows c.args.setup.storage
+
+  same_rows : rows_in c.in_ok-opening.opening.items ≡ rows
+  same_rows = listed rows c.in_ok-opening.opening.items c.in_ok-opening.ensures
+
+  abbrev opened : Setup
+  opened = setup_of c.args.setup.tenants c.args.setup.age c.in_ok-opening.opening.items
+
+  opens : c.in_ok-body.body.whole ≡ opening opened
+  opens =
+      ap (λ (h : Held). h.whole) c.in_ok-body.ensures
+      ∙ (λ i. opening (record { tenants = c.args.setup.tenants; age = c.millis.ensures.value i; rows = sym same_rows i }))
+
 pub invariant_of-result : goal.invariant_of-result
-invariant_of-result c =
-    let setup = setup_of c.in_ok-known.known c.args.limits c.args.age in
-    let opens : c.new.result ≡ opening setup = c.new.ensures ∙ ap (λ t. opened_with t (fresh_account c.args.limits) c.args.age) (sym c.in_ok-known.ensures.cases) ∙ sym (opening_one c.in_ok-known.known c.args.limits c.args.age) in
-    subst (λ (journal : List Step). LeadsTo counters setup journal c.new.result) (sym c.new-2.ensures.items)
-    (subst (λ (w : Whole). LeadsTo counters setup [] w) (sym opens) (journals_begin counters setup))
+invariant_of-result g c =
+    let logic = g.L.GrainLogic.logic in
+    let setup = opened g c in (
+      subst (λ (journal : List Step). LeadsTo logic setup journal c.in_ok-body.body.whole) (sym c.new-2.ensures.items)
+          (subst (λ (w : Whole). LeadsTo logic setup [] w) (sym (opens g c)) (journals_begin logic setup)),
+      are_listed (rows g c) c.in_ok-opening.opening.items c.in_ok-opening.ensures,
+    )
+
+pub returns-clause-setup : goal.returns-clause-setup
+returns-clause-setup g c = λ i. record { tenants = c.args.setup.tenants; age = c.args.setup.age; rows = same_rows g c i }
 
 pub returns-clause-opening : goal.returns-clause-opening
-returns-clause-opening c =
-    (c.new.ensures ∙ ap (λ t. opened_with t (fresh_account c.args.limits) c.args.age) (sym c.in_ok-known.ensures.cases) ∙ sym (opening_one c.in_ok-known.known c.args.limits c.args.age), c.new-2.ensures.items)
+returns-clause-opening g c = (opens g c, c.new-2.ensures.items)
 
 pub returns-clause-parts : goal.returns-clause-parts
-returns-clause-parts c = λ tenant.
-    let setup = setup_of c.in_ok-known.known c.args.limits c.args.age in
-    let opens : c.new.result ≡ opening setup = c.new.ensures ∙ ap (λ t. opened_with t (fresh_account c.args.limits) c.args.age) (sym c.in_ok-known.ensures.cases) ∙ sym (opening_one c.in_ok-known.known c.args.limits c.args.age) in
-    ap (shown_to tenant) opens ∙ opening_shown setup tenant
+returns-clause-parts g c = λ tenant. ap (shown_to tenant) (opens g c) ∙ opening_shown (opened g c) tenant

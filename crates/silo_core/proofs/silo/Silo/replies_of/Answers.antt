@@ -7,7 +7,7 @@ use Rattle.silo_core.proofs.silo.Silo.replies_of.Goals as goal
 
 pub returns : goal.returns
 unfolding shown_to
-returns c =
+returns g c =
     IfOk-weaker c.sent_to.result _ _
     (λ found h. h ∙ ap (filter (is_to c.args.tenant.now)) (c.replies.ensures ∙ ap (λ (k : History). k.whole.replies) c.self.view_is))
     c.sent_to.ensures

@@ -1,19 +1,15 @@
-use Rattle.std.proofs.Common.{List, [], ◌∷◌, ◌++◌, ap, sym, subst, ◌∙◌}
+use Rattle.std.proofs.Common.{◌≡◌, List, [], ◌++◌, ap, ◌∙◌}
 use Rattle.silo_event.specs.declared.step.Step.{Step}
-use Rattle.grain_kinds.specs.Counters.{counters}
-use Rattle.silo_model.specs.Journal.{LeadsTo}
-use Rattle.silo_model.specs.Whole.{whole_step}
-use Rattle.silo_core.specs.Built.{is_built}
-use Rattle.silo_core.proofs.Built.{inside}
-use Rattle.silo_model.proofs.Journals.{journals_grow}
 use Rattle.silo_core.specs.Shown.{setup_of}
+use Rattle.silo_core.specs.Runs.{noted}
+use Rattle.silo_core.proofs.Moved.{moves_lead}
 use Rattle.silo_core.proofs.silo.Silo.take.Goals as goal
 
-pub invariant_of-self-in-Done : goal.invariant_of-self-in-Done
-invariant_of-self-in-Done c =
+pub invariant_of-self-2 : goal.invariant_of-self-2
+invariant_of-self-2 g c =
     let a = c.self.inside in
-    let setup = setup_of a.tenant a.limits a.age in
-    let grown = c.push_reserved.ensures.items ∙ ap (λ (journal : List Step). journal ++ c.args.step ∷ []) c.in_ok-reserve.ensures.items in
-    let done = inside (is_built c.args.step) (whole_step counters a.body c.args.step) c.step-2.new.self (rw c.in-Done.is at c.in_ok-step.ensures) in
-    subst (λ (journal : List Step). LeadsTo counters setup journal c.step-2.new.self) (sym grown)
-    (journals_grow counters setup a.journal.items a.body c.step-2.new.self c.args.step c.self.invariant done.1)
+    let logic = g.L.GrainLogic.logic in
+    let setup = setup_of a.tenants a.age a.opening.items in
+    let answer = c.in_ok-answer.answer in
+    let grown : c.note.new.journal.items ≡ a.journal.items ++ noted c.args.step answer [] = c.note.ensures ∙ ap (λ (j : List Step). j ++ noted c.args.step answer []) c.in_ok-reserve.ensures.items in
+    (moves_lead logic setup a.journal.items c.note.new.journal.items a.body c.step-2.new.self c.args.step answer c.self.invariant.0 c.in_ok-answer.ensures grown, c.self.invariant.1)

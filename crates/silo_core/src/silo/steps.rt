@@ -1,0 +1,224 @@
+//! One step at a time: a method for each kind of step, and one for any.
+//!
+//! Each answers `Done` and notes the step; or `Failed`, if the storage failed in it, and notes it as
+//! one whose storage call failed; or `NotNow`: it isn't possible, and nothing changed. Each may answer
+//! the fault `Memory`, and those that take a finished turn also `Stranger`: after a fault nothing has
+//! changed.
+
+ghost use Rattle.std.specs.Prelude.{◌≡◌, Ok, IfOk, OnErr};
+ghost use Rattle.std.specs.FinMap as map;
+ghost use Rattle.silo_event.specs.declared.step.Step.TheVariants as step;
+ghost use Rattle.silo_body.specs.Entries.{opened_turn};
+ghost use Rattle.silo_body.specs.Moves.{done_if};
+ghost use Rattle.silo_core.specs.History.{Answered, StepAnswersInParts};
+ghost use Rattle.silo_core.specs.Turns.{AnsweredTurn};
+
+use crate::silo::{Silo, note};
+use grain_id::{Caller, GrainId};
+use grain_kinds::{FinishedTurn, GrainLogic, OpenedTurn};
+use grain_storage::GrainStorage;
+use request_codec::{Message, StateBytes};
+use silo_event::{Answer, Moment, Refusal, Step, StepFault};
+use std::alloc::Global;
+
+impl<S: GrainStorage, L: GrainLogic> Silo<S, L> {
+    /// A client's line asked for something that can't be asked.
+    pub fn refuse(
+        &mut self,
+        alloc: Global,
+        caller: Caller,
+        id: u64,
+        code: Refusal,
+    ) -> Result<Answer, StepFault>
+        ensures answered { Answered L.logic self.old (step.Refuse caller id code) result self.new }
+        ensures parts { StepAnswersInParts L.logic self.old.whole (step.Refuse caller id code) result self.new.whole }
+    {
+        self.apply(alloc, Step::Refuse { caller, id, code })
+    }
+
+    /// A client asks a grain for a method.
+    pub fn call(
+        &mut self,
+        alloc: Global,
+        caller: Caller,
+        id: u64,
+        grain: GrainId,
+        message: Message,
+    ) -> Result<Answer, StepFault>
+        ensures answered { Answered L.logic self.old (step.Call caller id grain message) result self.new }
+        ensures parts { StepAnswersInParts L.logic self.old.whole (step.Call caller id grain message) result self.new.whole }
+    {
+        let call = Step::Call {
+            caller,
+            id,
+            grain,
+            message,
+        };
+        self.apply(alloc, call)
+    }
+
+    /// A client overwrites a grain's stored row. If `failed`, the storage isn't called, and the step is
+    /// taken as one whose storage call failed.
+    pub fn poke(
+        &mut self,
+        alloc: Global,
+        caller: Caller,
+        id: u64,
+        grain: GrainId,
+        state: StateBytes,
+        failed: bool,
+    ) -> Result<Answer, StepFault>
+        ensures answered { Answered L.logic self.old (step.Poke caller id grain state failed) result self.new }
+        ensures parts { StepAnswersInParts L.logic self.old.whole (step.Poke caller id grain state failed) result self.new.whole }
+    {
+        let poke = Step::Poke {
+            caller,
+            id,
+            grain,
+            state,
+            failed,
+        };
+        self.apply(alloc, poke)
+    }
+
+    /// A client asks how much its tenant has.
+    pub fn status(&mut self, alloc: Global, caller: Caller, id: u64) -> Result<Answer, StepFault>
+        ensures answered { Answered L.logic self.old (step.Status caller id) result self.new }
+        ensures parts { StepAnswersInParts L.logic self.old.whole (step.Status caller id) result self.new.whole }
+    {
+        self.apply(alloc, Step::Status { caller, id })
+    }
+
+    /// The first call that the grain sent, and that is not yet delivered, is asked of its target.
+    pub fn deliver(&mut self, alloc: Global, grain: GrainId) -> Result<Answer, StepFault>
+        ensures answered { Answered L.logic self.old (step.Deliver grain) result self.new }
+        ensures parts { StepAnswersInParts L.logic self.old.whole (step.Deliver grain) result self.new.whole }
+    {
+        self.apply(alloc, Step::Deliver { grain })
+    }
+
+    /// A grain's entry that waits begins to load.
+    pub fn activate(&mut self, alloc: Global, grain: GrainId) -> Result<Answer, StepFault>
+        ensures answered { Answered L.logic self.old (step.Activate grain) result self.new }
+        ensures parts { StepAnswersInParts L.logic self.old.whole (step.Activate grain) result self.new.whole }
+    {
+        self.apply(alloc, Step::Activate { grain })
+    }
+
+    /// A loading grain gets its row's content, or the empty state of its kind. If `failed`, the storage
+    /// isn't called, and the step is taken as one whose storage call failed.
+    pub fn load(&mut self, alloc: Global, grain: GrainId, failed: bool) -> Result<Answer, StepFault>
+        ensures answered { Answered L.logic self.old (step.Load grain failed) result self.new }
+        ensures parts { StepAnswersInParts L.logic self.old.whole (step.Load grain failed) result self.new.whole }
+    {
+        self.apply(alloc, Step::Load { grain, failed })
+    }
+
+    /// The first waiting request of a ready grain becomes an open turn, if the turn rule allows it: the
+    /// turn, for `run_turn`. None stands for `NotNow`.
+    pub fn begin(&mut self, alloc: Global, grain: GrainId) -> Result<Option<OpenedTurn>, StepFault>
+        ensures answered { IfOk result (λ turn. Answered L.logic self.old (step.Begin grain) (Ok (done_if turn)) self.new) }
+        ensures turn { IfOk result (λ turn. turn ≡ opened_turn L.logic grain (map.get self.old.whole.entries grain)) }
+        ensures unchanged { OnErr result (self.new ≡ self.old) }
+        ensures parts { IfOk result (λ turn. StepAnswersInParts L.logic self.old.whole (step.Begin grain) (Ok (done_if turn)) self.new.whole) }
+    {
+        self.journal.reserve(1)?;
+        let Some(turn) = self.body.begin(&grain)? else {
+            return Ok(None);
+        };
+        self.journal.push_reserved(Step::Begin { grain });
+        Ok(Some(turn))
+    }
+
+    /// The open turn that asks for the storage is closed, as its plan and the storage's answer say. If
+    /// `failed`, the storage isn't called, and the step is taken as one whose storage call failed.
+    ///
+    /// # Errors
+    ///
+    /// `Stranger`, if the turn is open and its own message or state isn't the finished turn's.
+    pub fn store(
+        &mut self,
+        alloc: Global,
+        finished: &FinishedTurn<L>,
+        failed: bool,
+    ) -> Result<Answer, StepFault>
+        ensures answered { AnsweredTurn L.logic self.old (step.Store finished.now.grain finished.now.number failed) finished.now result self.new }
+        ensures parts { StepAnswersInParts L.logic self.old.whole (step.Store finished.now.grain finished.now.number failed) result self.new.whole }
+    {
+        self.journal.reserve(1)?;
+        let grain = finished.grain().clone()?;
+        let turn = finished.number();
+        let answer = self.body.store(alloc, &grain, turn, finished, failed)?;
+        note(
+            &mut self.journal,
+            answer,
+            Step::Store {
+                grain,
+                turn,
+                failed,
+            },
+        );
+        Ok(answer)
+    }
+
+    /// The open turn that asks for nothing of the storage is closed, as its plan says.
+    ///
+    /// # Errors
+    ///
+    /// `Stranger`, if the turn is open and its own message or state isn't the finished turn's.
+    pub fn end(&mut self, alloc: Global, finished: &FinishedTurn<L>) -> Result<Answer, StepFault>
+        ensures answered { AnsweredTurn L.logic self.old (step.End finished.now.grain finished.now.number) finished.now result self.new }
+        ensures parts { StepAnswersInParts L.logic self.old.whole (step.End finished.now.grain finished.now.number) result self.new.whole }
+    {
+        self.journal.reserve(1)?;
+        let grain = finished.grain().clone()?;
+        let turn = finished.number();
+        let answer = self.body.end(alloc, &grain, turn, finished)?;
+        note(&mut self.journal, answer, Step::End { grain, turn });
+        Ok(answer)
+    }
+
+    /// An open turn that ran out of memory is closed, and its state stays.
+    pub fn abandon(&mut self, alloc: Global, grain: GrainId, turn: u64) -> Result<Answer, StepFault>
+        ensures answered { Answered L.logic self.old (step.Abandon grain turn) result self.new }
+        ensures parts { StepAnswersInParts L.logic self.old.whole (step.Abandon grain turn) result self.new.whole }
+    {
+        self.apply(alloc, Step::Abandon { grain, turn })
+    }
+
+    /// The clock is set, to milliseconds of one's own beginning. It never goes back.
+    pub fn tick(&mut self, alloc: Global, now: Moment) -> Result<Answer, StepFault>
+        ensures answered { Answered L.logic self.old (step.Tick now) result self.new }
+        ensures parts { StepAnswersInParts L.logic self.old.whole (step.Tick now) result self.new.whole }
+    {
+        self.apply(alloc, Step::Tick { now })
+    }
+
+    /// The activations that were idle for as long as the age go.
+    pub fn sweep(&mut self, alloc: Global) -> Result<Answer, StepFault>
+        ensures answered { Answered L.logic self.old step.Sweep result self.new }
+        ensures parts { StepAnswersInParts L.logic self.old.whole step.Sweep result self.new.whole }
+    {
+        self.apply(alloc, Step::Sweep)
+    }
+
+    /// Takes a step of any kind. The turn of an `End` or a `Store` runs here, in an arena of its own, so
+    /// that it is no stranger.
+    pub fn apply(&mut self, alloc: Global, step: Step) -> Result<Answer, StepFault>
+        ensures answered { Answered L.logic self.old step result self.new }
+        ensures parts { StepAnswersInParts L.logic self.old.whole step result self.new.whole }
+    {
+        let _ = &self.journal;
+        self.take(alloc, step)
+    }
+
+    /// Takes a step, and notes it if it was done: room for the note comes first.
+    fn take(&mut self, alloc: Global, step: Step) -> Result<Answer, StepFault>
+        ensures { Answered L.logic self.old step result self.new }
+    {
+        self.journal.reserve(1)?;
+        let answer = self.body.step(alloc, &step)?;
+        note(&mut self.journal, answer, step);
+        Ok(answer)
+    }
+}
