@@ -108,7 +108,7 @@ call_asked caller id text method d = step_or_refusal caller id (unless_refused (
 
 -- a poke with a state; no line says that the storage is to fail
 abbrev pub poke_with : Client → ℕ → List ℕ → Tree → Result Step Refusal
-poke_with caller id text state = unless_refused (grain_asked text) (λ grain. Ok (Poke caller id grain state false))
+poke_with caller id text state = unless_refused (grain_asked text) (λ grain. Ok (Poke false caller id grain state))
 
 -- the state is asked for before the grain
 abbrev pub poke_asked : Client → ℕ → List ℕ → Data → Step

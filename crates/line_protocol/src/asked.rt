@@ -10,7 +10,9 @@ ghost use Rattle.silo_event.specs.declared.refusal.Refusal.TheVariants as refusa
 ghost use Rattle.line_protocol.specs.Form.{within_or, message_asked, state_asked, grain_asked, step_or_refusal, call_with, poke_with, call_asked, poke_asked};
 
 use grain_id::{Caller, GrainId, IdFault, LatelyRead};
-use request_codec::{CodecFault, Datum, Message, StateBytes, encode_json, encode_state, from_json};
+use request_codec::{
+    CodecFault, Datum, Message, SharedState, StateBytes, encode_json, encode_state, from_json,
+};
 use serde_json::Value;
 use silo_event::{Refusal, Step};
 use std::alloc::{AllocError, Global};
@@ -112,11 +114,11 @@ pub(crate) fn poke_with(
 {
     match read_grain(alloc, names, text)? {
         Ok(grain) => Ok(Step::Poke {
+            failed: false,
             caller,
             id,
             grain,
-            state,
-            failed: false,
+            state: SharedState::new(alloc, state)?,
         }),
         Err(code) => Ok(Step::Refuse { caller, id, code }),
     }

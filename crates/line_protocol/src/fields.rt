@@ -10,6 +10,7 @@ ghost use Rattle.line_protocol.specs.Fields.{IsPlace, HoldsMembers, IsBehind, Al
 use crate::unread::Unread;
 use arrayvec::ArrayVec;
 use request_codec::bytes::may_follow;
+use std::alloc::AllocError;
 
 /// The most fields that a map may have if its names don't ascend.
 const MOST_KNOWN: usize = 16;
@@ -41,14 +42,19 @@ fn place_of(known: &[(&str, usize)], name: &str) -> Option<(usize, usize)>
     None
 }
 
-/// Moves the last so many bytes to a place before them.
-fn move_back(out: &mut Vec<u8>, place: usize, count: usize)
+/// Moves the last so many bytes to a place before them. What they pass is put behind them first.
+fn move_back(out: &mut Vec<u8>, place: usize, count: usize) -> Result<(), AllocError>
     requires { place + count ≤ length out.old.items }
     ensures len { length out.new.items ≡ length out.old.items }
-    ensures bytes { (front back moved : List ℕ) → length front ≡ place → length moved ≡ count
-        → out.old.items ≡ front ++ (back ++ moved) → out.new.items ≡ front ++ (moved ++ back) }
+    ensures bytes { OnOk result ((front back moved : List ℕ) → length front ≡ place → length moved ≡ count
+        → out.old.items ≡ front ++ (back ++ moved) → out.new.items ≡ front ++ (moved ++ back)) }
 {
-    out[place..].rotate_right(count);
+    let whole = out.len();
+    let from = whole - count;
+    out.extend_from_within(place..from)?;
+    out.copy_within(from.., place);
+    out.truncate(whole);
+    Ok(())
 }
 
 impl<'a> Fields<'a> {
@@ -100,7 +106,7 @@ impl<'a> Fields<'a> {
         let Some((place, before)) = place_of(self.known.as_slice(), name) else {
             return Err(Unread::Unusual);
         };
-        move_back(out, start + before, count);
+        move_back(out, start + before, count)?;
         self.known.insert(place, (name, count));
         self.count += 1;
         Ok(())

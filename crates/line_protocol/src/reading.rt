@@ -15,6 +15,7 @@ use grain_id::LatelyRead;
 use json::{Reader, Scratch};
 use serde_json::Value;
 use silo_event::Step;
+use simdutf8::compat::from_utf8;
 use std::alloc::{AllocError, Global};
 
 /// The bytes that a line may have, without its LF.
@@ -108,7 +109,7 @@ pub fn read_line(alloc: Global, room: &mut LineRoom, line: &[u8]) -> Result<Line
     if line.is_empty() || line.len() > LINE_LIMIT {
         return read_any_line(alloc, room, line);
     }
-    let Ok(text) = std::str::from_utf8(line) else {
+    let Ok(text) = from_utf8(line) else {
         return read_any_line(alloc, room, line);
     };
     match read_text_step(alloc, room, text) {

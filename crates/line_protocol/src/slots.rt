@@ -46,21 +46,36 @@ pub(crate) struct Slots<'a> {
 /// The levels that a member's value may have: what is left of 127 behind the line's object.
 const MEMBER_DEPTH: usize = 126;
 
-/// The member of that name.
+/// The member of that name. Only names of its length are compared.
 fn name_of(key: &str) -> Option<Name>
     ensures { IfSome result (λ name. key.now ≡ name_text name) }
 {
-    match key {
-        "op" => Some(Name::Op),
-        "from" => Some(Name::From),
-        "grain" => Some(Name::Grain),
-        "method" => Some(Name::Method),
-        "id" => Some(Name::Id),
-        "turn" => Some(Name::Turn),
-        "now" => Some(Name::Now),
-        "failed" => Some(Name::Failed),
-        "args" => Some(Name::Args),
-        "state" => Some(Name::State),
+    match key.len() {
+        2 => match key {
+            "op" => Some(Name::Op),
+            "id" => Some(Name::Id),
+            _ => None,
+        },
+        3 => match key {
+            "now" => Some(Name::Now),
+            _ => None,
+        },
+        4 => match key {
+            "turn" => Some(Name::Turn),
+            "from" => Some(Name::From),
+            "args" => Some(Name::Args),
+            _ => None,
+        },
+        5 => match key {
+            "grain" => Some(Name::Grain),
+            "state" => Some(Name::State),
+            _ => None,
+        },
+        6 => match key {
+            "method" => Some(Name::Method),
+            "failed" => Some(Name::Failed),
+            _ => None,
+        },
         _ => None,
     }
 }

@@ -31,23 +31,41 @@ pub(crate) enum Form {
     Sweep,
 }
 
-/// The form that `op` names.
+/// The form that `op` names. Only names of its length are compared.
 fn form_of(op: &str) -> Option<Form>
     ensures { IfSome result (λ form. op.now ≡ form_text form) }
 {
-    match op {
-        "call" => Some(Form::Call),
-        "poke" => Some(Form::Poke),
-        "status" => Some(Form::Status),
-        "deliver" => Some(Form::Deliver),
-        "activate" => Some(Form::Activate),
-        "load" => Some(Form::Load),
-        "begin" => Some(Form::Begin),
-        "store" => Some(Form::Store),
-        "end" => Some(Form::End),
-        "abandon" => Some(Form::Abandon),
-        "tick" => Some(Form::Tick),
-        "sweep" => Some(Form::Sweep),
+    match op.len() {
+        3 => match op {
+            "end" => Some(Form::End),
+            _ => None,
+        },
+        4 => match op {
+            "call" => Some(Form::Call),
+            "load" => Some(Form::Load),
+            "poke" => Some(Form::Poke),
+            "tick" => Some(Form::Tick),
+            _ => None,
+        },
+        5 => match op {
+            "begin" => Some(Form::Begin),
+            "store" => Some(Form::Store),
+            "sweep" => Some(Form::Sweep),
+            _ => None,
+        },
+        6 => match op {
+            "status" => Some(Form::Status),
+            _ => None,
+        },
+        7 => match op {
+            "deliver" => Some(Form::Deliver),
+            "abandon" => Some(Form::Abandon),
+            _ => None,
+        },
+        8 => match op {
+            "activate" => Some(Form::Activate),
+            _ => None,
+        },
         _ => None,
     }
 }

@@ -5,5 +5,5 @@ use Rattle.request_codec.specs.declared.held.Held.{Held}
 use Rattle.request_codec.specs.declared.held.Held.TheVariants.{Short, Long}
 
 abbrev pub held_bytes : Held → List ℕ
-held_bytes (Short count bytes) = take (min count 25) bytes
+held_bytes (Short count bytes) = take (min count 22) bytes
 held_bytes (Long bytes) = arc_slice_items bytes

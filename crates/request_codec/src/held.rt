@@ -7,8 +7,9 @@ ghost use Rattle.request_codec.specs.Written.{text_spelling};
 use std::alloc::{AllocError, Global};
 use std::sync::ArcSlice;
 
-/// The most bytes in place: a number's state has 9, and that of a version's text at most 25.
-const SHORT: usize = 25;
+/// The most bytes in place, so that a state takes 24 bytes: a number's state has 9, and that of a
+/// text has 5 more than the text.
+const SHORT: usize = 22;
 
 /// Bytes: as many in place as the count says, or shared.
 #[derive(Debug, Drop)]
@@ -19,26 +20,13 @@ pub(crate) enum Held {
 
 /// The bytes, in place.
 fn hold_short(bytes: &[u8]) -> Held
-    requires { length bytes.now ≤ 25 }
+    requires { length bytes.now ≤ 22 }
     ensures { held_bytes result ≡ bytes.now }
 {
     let mut short = [0; SHORT];
     let count = bytes.len();
     short[..count].copy_from_slice(bytes);
     Held::Short(count as u8, short)
-}
-
-/// The spelling of a short text, in place.
-pub(crate) fn hold_text(text: &[u8]) -> Held
-    requires { length text.now ≤ 20 }
-    ensures { held_bytes result ≡ 4 ∷ text_spelling text.now }
-{
-    let mut short = [0; SHORT];
-    let count = text.len();
-    short[0] = 4;
-    short[1..5].copy_from_slice(&(count as u32).to_be_bytes());
-    short[5..5 + count].copy_from_slice(text);
-    Held::Short(5 + count as u8, short)
 }
 
 /// The bytes, held. Shared ones keep no spare room.
@@ -61,6 +49,19 @@ pub(crate) fn hold_copy(alloc: Global, bytes: &[u8]) -> Result<Held, AllocError>
         return Ok(hold_short(bytes));
     }
     Ok(Held::Long(ArcSlice::from_slice(alloc, bytes)?))
+}
+
+/// The spelling of a text of at most 20 bytes, held.
+pub(crate) fn hold_text(alloc: Global, text: &[u8]) -> Result<Held, AllocError>
+    requires { length text.now ≤ 20 }
+    ensures { IfOk result (λ held. held_bytes held ≡ 4 ∷ text_spelling text.now) }
+{
+    let mut spelled = [0; 25];
+    let count = text.len();
+    spelled[0] = 4;
+    spelled[1..5].copy_from_slice(&(count as u32).to_be_bytes());
+    spelled[5..5 + count].copy_from_slice(text);
+    hold_copy(alloc, &spelled[..5 + count])
 }
 
 /// The bytes that are held.

@@ -76,14 +76,14 @@ impl StateBytes {
         })
     }
 
-    /// The state that is the decimal text of a number. Takes no memory.
-    pub fn decimal(number: u64) -> StateBytes
-        ensures { result ≡ text (decimal number) }
+    /// The state that is the decimal text of a number. Up to 17 digits take no memory.
+    pub fn decimal(alloc: Global, number: u64) -> Result<StateBytes, AllocError>
+        ensures { IfOk result (λ state. state ≡ text (decimal number)) }
     {
         let mut buffer = Buffer::new();
-        StateBytes {
-            held: hold_text(buffer.format(number).as_bytes()),
-        }
+        Ok(StateBytes {
+            held: hold_text(alloc, buffer.format(number).as_bytes())?,
+        })
     }
 
     /// The bytes, which spell the value.

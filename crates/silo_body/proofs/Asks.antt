@@ -63,7 +63,7 @@ module _ (logic : Logic) (w : Whole) (caller : Client) (id : ℕ) (g : Grain) (s
   -- what the gate refuses, or that the poke passed
   abbrev GateSays : Result Account Fault → Type 0
   GateSays (Ok a) = (map.get w.accounts caller.tenant ≡ Some a) × (g.tenant ≡ caller.tenant) × (logic.knows g.kind ≡ true)
-  GateSays (Err why) = whole_step logic w (Poke caller id g state failed) ≡ Some (told_whole (Err why))
+  GateSays (Err why) = whole_step logic w (Poke failed caller id g state) ≡ Some (told_whole (Err why))
 
   gate_says : GateSays (gated logic w caller.tenant g)
   gate_says = gated-cases logic w caller.tenant g GateSays
@@ -72,24 +72,24 @@ module _ (logic : Logic) (w : Whole) (caller : Client) (id : ℕ) (g : Grain) (s
       (poke_unknown_kind logic w caller id g state failed)
       (λ a known own knows. (known, own, knows))
 
-  pub poke_stopped : (why : Fault) → gated logic w caller.tenant g ≡ Err why → whole_step logic w (Poke caller id g state failed) ≡ Some (told_whole (Err why))
+  pub poke_stopped : (why : Fault) → gated logic w caller.tenant g ≡ Err why → whole_step logic w (Poke failed caller id g state) ≡ Some (told_whole (Err why))
   poke_stopped why is = subst GateSays is gate_says
 
   module _ (a : Account) (passes : gated logic w caller.tenant g ≡ Ok a) where
     passed : GateSays (Ok a)
     passed = subst GateSays passes gate_says
 
-    pub poke_marked : failed ≡ true → whole_step logic w (Poke caller id g state failed) ≡ Some (told_whole (Err StorageFailed))
+    pub poke_marked : failed ≡ true → whole_step logic w (Poke failed caller id g state) ≡ Some (told_whole (Err StorageFailed))
     poke_marked is = poke_failed logic w caller id g state failed a passed.0 passed.1 passed.2 is
 
     pub poke_stored : (version : Option ℕ) (after : Rows) → poked w.rows g state ≡ Ok (version, after) → failed ≡ false
-        → whole_step logic w (Poke caller id g state failed) ≡ Some (record w { rows = after; replies = w.replies ++ told (party.Client caller id) (Ok (version_value version)) })
+        → whole_step logic w (Poke failed caller id g state) ≡ Some (record w { rows = after; replies = w.replies ++ told (party.Client caller id) (Ok (version_value version)) })
     poke_stored version after is no_mark =
         let done = done_at w.rows g (row_poked (map.get w.rows g) state) version after (sym (stores_at_one_row.pokes w.rows g state) ∙ is) in
         poke_done logic w caller id g state failed a passed.0 passed.1 passed.2 version done.row no_mark done.answer
         ∙ (λ i. Some (record w { rows = done.rows_are i; replies = w.replies ++ told (party.Client caller id) (Ok (version_value version)) }))
 
-    pub poke_refused : poked w.rows g state ≡ Err spent → failed ≡ false → whole_step logic w (Poke caller id g state failed) ≡ Some (told_whole (Err (VersionsSpent g)))
+    pub poke_refused : poked w.rows g state ≡ Err spent → failed ≡ false → whole_step logic w (Poke failed caller id g state) ≡ Some (told_whole (Err (VersionsSpent g)))
     poke_refused is no_mark =
         poke_spent logic w caller id g state failed a passed.0 passed.1 passed.2 no_mark
         (refused_at w.rows g (row_poked (map.get w.rows g) state) spent (sym (stores_at_one_row.pokes w.rows g state) ∙ is))
@@ -100,7 +100,7 @@ module _ (logic : Logic) (h : Held) (caller : Client) (id : ℕ) (g : Grain) (st
 
   -- what a poke that passed comes to
   pub poke_moves : (answer : Answer) (outcome : Result Tree Fault) (rows : Rows) (count : ℕ) (replies : List Reply) → Overwrites h.whole.rows h.failures g state answer outcome rows count
-      → replies ≡ h.whole.replies ++ told (party.Client caller id) outcome → Moves logic h (Poke caller id g state failed) (Ok answer) (left rows replies count)
+      → replies ≡ h.whole.replies ++ told (party.Client caller id) outcome → Moves logic h (Poke failed caller id g state) (Ok answer) (left rows replies count)
   poke_moves Done (Ok v) rows count replies o is = (
     poke_stored logic h.whole caller id g state failed a passes o.0 rows o.1 no_mark
         ∙ (λ i. Some (record h.whole { rows = rows; replies = h.whole.replies ++ told (party.Client caller id) (Ok (sym o.2 i)) }))

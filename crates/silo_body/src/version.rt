@@ -58,8 +58,8 @@ pub fn version_value(alloc: Global, version: Option<u64>) -> Result<StateBytes, 
 }
 
 /// The decimal text of a number.
-fn decimal(_alloc: Global, number: u64) -> Result<StateBytes, AllocError>
+fn decimal(alloc: Global, number: u64) -> Result<StateBytes, AllocError>
     ensures { IfOk result (λ value. value ≡ text (decimal number)) }
 {
-    Ok(StateBytes::decimal(number))
+    StateBytes::decimal(alloc, number)
 }

@@ -6,7 +6,7 @@ ghost use Rattle.silo_event.specs.declared.step.StepFault.TheVariants.{Memory};
 use crate::moment::Moment;
 use crate::refusal::Refusal;
 use grain_id::{Caller, GrainId};
-use request_codec::{Message, StateBytes};
+use request_codec::{Message, SharedState};
 use std::alloc::AllocError;
 
 mod failed;
@@ -32,13 +32,14 @@ pub enum Step {
         grain: GrainId,
         message: Message,
     },
-    /// A client overwrites a grain's stored row.
+    /// A client overwrites a grain's stored row. The mark stands first, beside the byte that tells
+    /// the steps apart, so that no step takes more than 40 bytes.
     Poke {
+        failed: bool,
         caller: Caller,
         id: u64,
         grain: GrainId,
-        state: StateBytes,
-        failed: bool,
+        state: SharedState,
     },
     /// A client asks how much its tenant has.
     Status {

@@ -3,7 +3,7 @@ use crate::{
     copy_of_step,
 };
 use grain_id::{Caller, GrainId, Kind, Tenant};
-use request_codec::{Datum, encode, encode_state};
+use request_codec::{Datum, SharedState, encode, encode_state};
 use std::alloc::Global;
 use std::process::Abort;
 use std::test::Fail;
@@ -204,12 +204,13 @@ fn owner_of_end(rt: HostRuntime) -> Result<(), Fail> {
 
 #[test]
 fn owner_of_a_poke(rt: HostRuntime) -> Result<(), Fail> {
+    let state = encode_state(rt.alloc(), &Datum::Int(3))?;
     let step = Step::Poke {
+        failed: false,
         caller: Caller::read(rt.alloc(), "reddish/c1")?,
         id: 7,
         grain: grain(rt.alloc())?,
-        state: encode_state(rt.alloc(), &Datum::Int(3))?,
-        failed: false,
+        state: SharedState::new(rt.alloc(), state)?,
     };
     is_of(&rt, &step, "reddish")
 }

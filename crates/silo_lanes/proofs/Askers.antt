@@ -35,7 +35,7 @@ weigh_quiet client f g = refl
 pub asked_weight : (client : Client) (f : ℕ → ℕ) (s : Step) → asked_by (weigh client f) s ≡ sum_by f (id_asked client (asking_of s))
 asked_weight client f (Refuse caller id code) = refl
 asked_weight client f (Call caller id grain message) = refl
-asked_weight client f (Poke caller id grain state failed) = refl
+asked_weight client f (Poke failed caller id grain state) = refl
 asked_weight client f (Status caller id) = refl
 asked_weight client f _ = refl
 
@@ -86,7 +86,7 @@ is_front (n ∷ o ∷ ns) (k ∷ ks) short less = absurd (omega (arith, short, w
 asks_own : (s : Step) (caller : Client) (id : ℕ) → asking_of s ≡ Some (caller, id) → owner_of s ≡ Some caller.tenant
 asks_own (Refuse c n code) caller id is = ap (λ (a : Client × ℕ). Some a.0.tenant) (same_Some _ _ is)
 asks_own (Call c n grain message) caller id is = ap (λ (a : Client × ℕ). Some a.0.tenant) (same_Some _ _ is)
-asks_own (Poke c n grain state failed) caller id is = ap (λ (a : Client × ℕ). Some a.0.tenant) (same_Some _ _ is)
+asks_own (Poke failed c n grain state) caller id is = ap (λ (a : Client × ℕ). Some a.0.tenant) (same_Some _ _ is)
 asks_own (Status c n) caller id is = ap (λ (a : Client × ℕ). Some a.0.tenant) (same_Some _ _ is)
 asks_own _ caller id is = absurd (none-some (caller, id) is)
 
@@ -95,7 +95,7 @@ pub asks_always : (logic : Logic) (m : Machine) (s : Step) → machine_step logi
 unfolding machine_step effect_of
 asks_always logic m (Refuse caller id code) e = absurd (none-some _ (sym e))
 asks_always logic m (Call caller id grain message) e = absurd (none-some _ (sym e))
-asks_always logic m (Poke caller id grain state failed) e = absurd (none-some _ (sym e))
+asks_always logic m (Poke failed caller id grain state) e = absurd (none-some _ (sym e))
 asks_always logic m (Status caller id) e = absurd (none-some _ (sym e))
 asks_always logic m _ e = refl
 

@@ -27,7 +27,7 @@ use Rattle.silo_lanes.proofs.AnswerOrder.{answered_in_order}
 pub asking_failed : (s : Step) → asking_of (as_failed s) ≡ asking_of s
 asking_failed (Refuse caller id code) = refl
 asking_failed (Call caller id grain message) = refl
-asking_failed (Poke caller id grain state failed) = refl
+asking_failed (Poke failed caller id grain state) = refl
 asking_failed (Status caller id) = refl
 asking_failed _ = refl
 
@@ -39,7 +39,7 @@ ids_failed client (s ∷ steps) = λ i. id_asked client (asking_failed s i) ++ i
 apart_lane : (client : Client) (s : Step) → is_given_by (Some client) (lane_of s) ≡ false → id_asked client (asking_of s) ≡ []
 apart_lane client (Refuse caller id code) apart = ap (λ b. cond b (id ∷ []) []) apart
 apart_lane client (Call caller id grain message) apart = ap (λ b. cond b (id ∷ []) []) apart
-apart_lane client (Poke caller id grain state failed) apart = ap (λ b. cond b (id ∷ []) []) apart
+apart_lane client (Poke failed caller id grain state) apart = ap (λ b. cond b (id ∷ []) []) apart
 apart_lane client (Status caller id) apart = ap (λ b. cond b (id ∷ []) []) apart
 apart_lane client _ apart = refl
 
@@ -87,7 +87,7 @@ quiet_pending client m quiet = ap (λ qs. list_any (λ (q : Request). is_of_clie
 one_asked : (client : Client) (s : Step) → is_given_by (Some client) (lane_of s) ≡ true → length (id_asked client (asking_of s)) ≡ 1
 one_asked client (Refuse caller id code) own = ap (λ b. length (cond b (id ∷ []) [])) own
 one_asked client (Call caller id grain message) own = ap (λ b. length (cond b (id ∷ []) [])) own
-one_asked client (Poke caller id grain state failed) own = ap (λ b. length (cond b (id ∷ []) [])) own
+one_asked client (Poke failed caller id grain state) own = ap (λ b. length (cond b (id ∷ []) [])) own
 one_asked client (Status caller id) own = ap (λ b. length (cond b (id ∷ []) [])) own
 one_asked client _ own = absurd (true≢false (sym own))
 

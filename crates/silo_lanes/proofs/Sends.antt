@@ -210,7 +210,7 @@ module _ (logic : Logic) (s : Context) (g : Grain) (e : Effect) where
   unfolding effect_of
   effect_less (Refuse caller id code) apart h = leaves logic s g e _ refl h
   effect_less (Call caller id grain call) apart h = subst (λ (y : Effect). Less g s.account y.account) (same_Some _ e h) (called_less logic s g grain (party.Client caller id) call)
-  effect_less (Poke caller id grain state failed) apart h = leaves logic s g e _ (poked_keeps logic s (party.Client caller id) grain state failed) h
+  effect_less (Poke failed caller id grain state) apart h = leaves logic s g e _ (poked_keeps logic s (party.Client caller id) grain state failed) h
   effect_less (Status caller id) apart h = leaves logic s g e _ (status_keeps s (party.Client caller id) s.account) h
   effect_less (Deliver grain) apart h = let known = bound (delivered logic s grain) s.account e h in first_less grain known.0 (first_from grain known.0.sends) known.1 refl known.2
   effect_less (Activate grain) apart h = let found = bound _ s.entry e h in activated_less found.0 found.0.phase found.2

@@ -17,7 +17,7 @@ use Rattle.silo_model.specs.Settled.{all_pending}
 abbrev pub asking_of : Step → Option (Client × ℕ)
 asking_of (Refuse caller id code) = Some (caller, id)
 asking_of (Call caller id grain message) = Some (caller, id)
-asking_of (Poke caller id grain state failed) = Some (caller, id)
+asking_of (Poke failed caller id grain state) = Some (caller, id)
 asking_of (Status caller id) = Some (caller, id)
 asking_of _ = None
 

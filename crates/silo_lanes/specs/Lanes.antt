@@ -44,7 +44,7 @@ given_by from journal = filter (λ s. is_given_by from (lane_of s)) journal
 
 -- the storage failed in the step
 abbrev pub has_failed : Step → Bool
-has_failed (Poke caller id grain state failed) = failed
+has_failed (Poke failed caller id grain state) = failed
 has_failed (Load grain failed) = failed
 has_failed (Store grain turn failed) = failed
 has_failed _ = false

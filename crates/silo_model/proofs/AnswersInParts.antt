@@ -22,7 +22,7 @@ use Rattle.silo_model.proofs.Journals.{journal_sound}
 -- ---- a step is its tenant's also where its storage call failed
 
 owner_failed : (s : Step) → owner_of (as_failed s) ≡ owner_of s
-owner_failed (Poke caller id grain state failed) = refl
+owner_failed (Poke failed caller id grain state) = refl
 owner_failed (Load grain failed) = refl
 owner_failed (Store grain turn failed) = refl
 owner_failed _ = refl

@@ -77,53 +77,53 @@ module _ (logic : Logic) (w : Whole) (caller : Client) (id : ℕ) where
     unfolding context_at shown_to
     seen_tenant = refl
 
-    poke_refused : (why : Fault) → gate logic seen seen.account g ≡ Err why → whole_step logic w (Poke caller id g state failed) ≡ Some (told_whole (Err why))
+    poke_refused : (why : Fault) → gate logic seen seen.account g ≡ Err why → whole_step logic w (Poke failed caller id g state) ≡ Some (told_whole (Err why))
     unfolding effect_of poked
     poke_refused why is =
-        step_by_context logic w (Poke caller id g state failed) caller.tenant (Some g) _ refl refl (ap (λ r. Some (poke_settled seen asker g state failed r)) is)
+        step_by_context logic w (Poke failed caller id g state) caller.tenant (Some g) _ refl refl (ap (λ r. Some (poke_settled seen asker g state failed r)) is)
         ∙ ap Some (spread-only_replies w caller.tenant (Some g) asker (Err why))
 
     -- the asker's tenant isn't known
-    pub poke_unknown_tenant : map.get w.accounts caller.tenant ≡ None → whole_step logic w (Poke caller id g state failed) ≡ Some (told_whole (Err (UnknownTenant caller.tenant)))
+    pub poke_unknown_tenant : map.get w.accounts caller.tenant ≡ None → whole_step logic w (Poke failed caller id g state) ≡ Some (told_whole (Err (UnknownTenant caller.tenant)))
     poke_unknown_tenant none = poke_refused (UnknownTenant caller.tenant) (gate_unknown_tenant logic seen g (seen_account ∙ none) ∙ ap (λ t. Err (UnknownTenant t)) seen_tenant)
 
     module _ (a : Account) (known : map.get w.accounts caller.tenant ≡ Some a) where
       -- the grain is another tenant's
-      pub poke_across : g.tenant ≢ caller.tenant → whole_step logic w (Poke caller id g state failed) ≡ Some (told_whole (Err (AcrossTenants caller.tenant g.tenant)))
+      pub poke_across : g.tenant ≢ caller.tenant → whole_step logic w (Poke failed caller id g state) ≡ Some (told_whole (Err (AcrossTenants caller.tenant g.tenant)))
       poke_across apart =
           poke_refused (AcrossTenants caller.tenant g.tenant)
           (gate_across logic seen g a (seen_account ∙ known) (λ same. apart (same ∙ seen_tenant)) ∙ ap (λ t. Err (AcrossTenants t g.tenant)) seen_tenant)
 
       module _ (own : g.tenant ≡ caller.tenant) where
-        pub poke_unknown_kind : logic.knows g.kind ≡ false → whole_step logic w (Poke caller id g state failed) ≡ Some (told_whole (Err (UnknownKind g.kind)))
+        pub poke_unknown_kind : logic.knows g.kind ≡ false → whole_step logic w (Poke failed caller id g state) ≡ Some (told_whole (Err (UnknownKind g.kind)))
         poke_unknown_kind unknown = poke_refused (UnknownKind g.kind) (gate_unknown_kind logic seen g a (seen_account ∙ known) (own ∙ sym seen_tenant) unknown)
 
         abbrev own_seen : Context
         own_seen = context_of w caller.tenant g
 
         module _ (knows : logic.knows g.kind ≡ true) where
-          poke_passed : whole_step logic w (Poke caller id g state failed)
+          poke_passed : whole_step logic w (Poke failed caller id g state)
               ≡ Some (spread w caller.tenant (Some g) (if failed then only_replies (told asker (Err StorageFailed)) else row_told asker g (row_poked (map.get w.rows g) state)))
           unfolding effect_of poked
           poke_passed =
-              step_at_own logic w (Poke caller id g state failed) caller.tenant g (Some (poke_settled own_seen asker g state failed (Ok a))) refl refl own
+              step_at_own logic w (Poke failed caller id g state) caller.tenant g (Some (poke_settled own_seen asker g state failed (Ok a))) refl refl own
               (ap (λ r. Some (poke_settled own_seen asker g state failed r)) (gate_passed logic own_seen g a known own knows))
 
           -- the storage failed
-          pub poke_failed : failed ≡ true → whole_step logic w (Poke caller id g state failed) ≡ Some (told_whole (Err StorageFailed))
+          pub poke_failed : failed ≡ true → whole_step logic w (Poke failed caller id g state) ≡ Some (told_whole (Err StorageFailed))
           poke_failed is =
               poke_passed
               ∙ ap (λ b. Some (spread w caller.tenant (Some g) (if b then only_replies (told asker (Err StorageFailed)) else row_told asker g (row_poked (map.get w.rows g) state)))) is
               ∙ ap Some (spread-only_replies w caller.tenant (Some g) asker (Err StorageFailed))
 
-          poke_answered : (r : Result (Option ℕ × Change Row) RowFault) → failed ≡ false → row_poked (map.get w.rows g) state ≡ r → whole_step logic w (Poke caller id g state failed) ≡ Some (spread w caller.tenant (Some g) (row_told asker g r))
+          poke_answered : (r : Result (Option ℕ × Change Row) RowFault) → failed ≡ false → row_poked (map.get w.rows g) state ≡ r → whole_step logic w (Poke failed caller id g state) ≡ Some (spread w caller.tenant (Some g) (row_told asker g r))
           poke_answered r is answers =
               poke_passed
               ∙ ap (λ b. Some (spread w caller.tenant (Some g) (if b then only_replies (told asker (Err StorageFailed)) else row_told asker g (row_poked (map.get w.rows g) state)))) is
               ∙ ap (λ x. Some (spread w caller.tenant (Some g) (row_told asker g x))) answers
 
           -- the row has no version left
-          pub poke_spent : failed ≡ false → row_poked (map.get w.rows g) state ≡ Err spent → whole_step logic w (Poke caller id g state failed) ≡ Some (told_whole (Err (VersionsSpent g)))
+          pub poke_spent : failed ≡ false → row_poked (map.get w.rows g) state ≡ Err spent → whole_step logic w (Poke failed caller id g state) ≡ Some (told_whole (Err (VersionsSpent g)))
           poke_spent is answers = poke_answered (Err spent) is answers ∙ ap Some (spread-only_replies w caller.tenant (Some g) asker (Err (VersionsSpent g)))
 
           spread-poked : (version : Option ℕ) (row : Change Row) → spread w caller.tenant (Some g) (row_told asker g (Ok (version, row))) ≡ record w { rows = change_at w.rows g row; replies = w.replies ++ told (party.Client caller id) (Ok (version_value version)) }
@@ -132,5 +132,5 @@ module _ (logic : Logic) (w : Whole) (caller : Client) (id : ℕ) where
 
           -- the row is overwritten, and its version is told
           pub poke_done : (version : Option ℕ) (row : Change Row) → failed ≡ false → row_poked (map.get w.rows g) state ≡ Ok (version, row)
-              → whole_step logic w (Poke caller id g state failed) ≡ Some (record w { rows = change_at w.rows g row; replies = w.replies ++ told (party.Client caller id) (Ok (version_value version)) })
+              → whole_step logic w (Poke failed caller id g state) ≡ Some (record w { rows = change_at w.rows g row; replies = w.replies ++ told (party.Client caller id) (Ok (version_value version)) })
           poke_done version row is answers = poke_answered (Ok (version, row)) is answers ∙ ap Some (spread-poked version row)

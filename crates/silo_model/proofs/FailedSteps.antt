@@ -39,7 +39,7 @@ both_done w owner g r q same = is_some-map _ r ∙ same ∙ sym (is_some-map _ q
 
 alike : (logic : Logic) (w : Whole) (s : Step) → is_some (whole_step logic w s) ≡ is_some (whole_step logic w (as_failed s))
 unfolding whole_step effect_of
-alike logic w (Poke caller id g state failed) = refl
+alike logic w (Poke failed caller id g state) = refl
 alike logic w (Load g failed) = both_done w g.tenant g _ _ (is_some-and_then _ _ (context_at (shown_to g.tenant w) (Some g)).entry (λ e. loaded_alike logic (context_at (shown_to g.tenant w) (Some g)) g failed e e.phase))
 alike logic w (Store g turn failed) =
     both_done w g.tenant g _ _ (is_some-and_then _ _ (context_at (shown_to g.tenant w) (Some g)).entry (λ e. is_some-and_then _ _ (map.get e.turns turn) (λ request. stored_alike logic (context_at (shown_to g.tenant w) (Some g)) g failed e request e.phase)))

@@ -49,7 +49,7 @@ asks_nothing : (logic : Logic) (m : Machine) (w : Party → ℕ) (s : Step) → 
 unfolding machine_step effect_of
 asks_nothing logic m w (Refuse caller id code) e = absurd (none-some _ (sym e))
 asks_nothing logic m w (Call caller id grain message) e = absurd (none-some _ (sym e))
-asks_nothing logic m w (Poke caller id grain state failed) e = absurd (none-some _ (sym e))
+asks_nothing logic m w (Poke failed caller id grain state) e = absurd (none-some _ (sym e))
 asks_nothing logic m w (Status caller id) e = absurd (none-some _ (sym e))
 asks_nothing logic m w _ e = refl
 
@@ -81,7 +81,7 @@ weigh_client client id p = one_if (is_client_with client id p)
 asked_as : (client : Client) (id : ℕ) (s : Step) → asked_by (weigh_client client id) s ≡ one_if (asks client id s)
 asked_as client id (Refuse caller n code) = refl
 asked_as client id (Call caller n grain message) = refl
-asked_as client id (Poke caller n grain state failed) = refl
+asked_as client id (Poke failed caller n grain state) = refl
 asked_as client id (Status caller n) = refl
 asked_as client id _ = refl
 

@@ -51,7 +51,7 @@ Quiet w = (g : Grain) → w (party.Grain g) ≡ 0
 abbrev pub asked_by : (Party → ℕ) → Step → ℕ
 asked_by w (Refuse caller id code) = w (party.Client caller id)
 asked_by w (Call caller id grain message) = w (party.Client caller id)
-asked_by w (Poke caller id grain state failed) = w (party.Client caller id)
+asked_by w (Poke failed caller id grain state) = w (party.Client caller id)
 asked_by w (Status caller id) = w (party.Client caller id)
 asked_by w _ = 0
 

@@ -243,7 +243,7 @@ pub effect_proper : (logic : Logic) (s : Context) (step : Step) (tenant : List â
 unfolding effect_of
 effect_proper logic s (Refuse caller id code) tenant owner is sees = only_replies_proper tenant None (party.Client caller id) _ (same_Some caller.tenant tenant owner)
 effect_proper logic s (Call caller id g call) tenant owner is sees = called_proper logic s tenant (party.Client caller id) g call is (same_Some caller.tenant tenant owner) sees
-effect_proper logic s (Poke caller id g state failed) tenant owner is sees = poked_proper logic s tenant (party.Client caller id) g state failed is (same_Some caller.tenant tenant owner)
+effect_proper logic s (Poke failed caller id g state) tenant owner is sees = poked_proper logic s tenant (party.Client caller id) g state failed is (same_Some caller.tenant tenant owner)
 effect_proper logic s (Status caller id) tenant owner is sees = status_proper s tenant (party.Client caller id) s.account (same_Some caller.tenant tenant owner)
 effect_proper logic s (Deliver g) tenant owner is sees = delivered_proper logic s tenant g s.account is (same_Some g.tenant tenant owner) sees
 effect_proper logic s (Activate g) tenant owner is sees = found_proper tenant (Some g) _ s.entry (Î» e found. activated_proper tenant g e e.phase (same_Some g.tenant tenant owner) (sees e found))

@@ -102,7 +102,7 @@ effect_row : (logic : Logic) (s : Context) (step : Step) (g : Grain) → touches
 unfolding effect_of
 effect_row logic s (Refuse caller id code) g apart = inl refl
 effect_row logic s (Call caller id q call) g apart = inl (called_row logic s _ q call)
-effect_row logic s (Poke caller id q state failed) g apart = inr (q, refl, apart)
+effect_row logic s (Poke failed caller id q state) g apart = inr (q, refl, apart)
 effect_row logic s (Status caller id) g apart = inl (status_row s _ s.account)
 effect_row logic s (Deliver q) g apart = inl (found_row (delivered logic s q) s.account (λ a. sent_row logic s q a (first_from q a.sends)))
 effect_row logic s (Activate q) g apart = inl (found_row _ s.entry (λ e. activated_row e e.phase))

@@ -80,7 +80,7 @@ pub effect_moves : (logic : Logic) → ReadersAskNothing logic → (s : Context)
 unfolding effect_of
 effect_moves logic law s (Refuse caller id code) e sees does = subst (StepMoves logic s (Refuse caller id code)) (same_Some _ e does) (told_moves logic None s (party.Client caller id) keep _)
 effect_moves logic law s (Call caller id g call) e sees does = subst (StepMoves logic s (Call caller id g call)) (same_Some _ e does) (called_moves logic s (party.Client caller id) g call sees)
-effect_moves logic law s (Poke caller id g state failed) e sees does = subst (StepMoves logic s (Poke caller id g state failed)) (same_Some _ e does) (poked_moves logic s g (party.Client caller id) state failed)
+effect_moves logic law s (Poke failed caller id g state) e sees does = subst (StepMoves logic s (Poke failed caller id g state)) (same_Some _ e does) (poked_moves logic s g (party.Client caller id) state failed)
 effect_moves logic law s (Status caller id) e sees does = subst (StepMoves logic s (Status caller id)) (same_Some _ e does) (status_moves logic s (party.Client caller id) s.account)
 effect_moves logic law s (Deliver g) e sees does = delivered_moves logic s g e s.account refl sees does
 effect_moves logic law s (Activate g) e sees does =

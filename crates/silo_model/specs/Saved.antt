@@ -27,7 +27,7 @@ pub record IsSaving (logic : Logic) (w : Whole) (grain : Grain) (turn : ℕ) (st
 
 -- the step may change the grain's row
 abbrev pub touches_row : Grain → Step → Bool
-touches_row grain (Poke caller id other state failed) = grain_eq other grain
+touches_row grain (Poke failed caller id other state) = grain_eq other grain
 touches_row grain (Store other turn failed) = grain_eq other grain
 touches_row grain _ = false
 

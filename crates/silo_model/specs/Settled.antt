@@ -19,7 +19,7 @@ use Rattle.silo_model.specs.Journal.{LeadsTo}
 abbrev pub asks : Client → ℕ → Step → Bool
 asks client id (Refuse caller n code) = client_eq caller client && (n == id)
 asks client id (Call caller n grain message) = client_eq caller client && (n == id)
-asks client id (Poke caller n grain state failed) = client_eq caller client && (n == id)
+asks client id (Poke failed caller n grain state) = client_eq caller client && (n == id)
 asks client id (Status caller n) = client_eq caller client && (n == id)
 asks client id _ = false
 

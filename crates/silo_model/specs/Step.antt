@@ -21,7 +21,7 @@ use Rattle.silo_model.specs.Idle.{kept_entries}
 abbrev pub grain_of : Option Account → Step → Option Grain
 grain_of account (Refuse caller id code) = None
 grain_of account (Call caller id grain message) = Some grain
-grain_of account (Poke caller id grain state failed) = Some grain
+grain_of account (Poke failed caller id grain state) = Some grain
 grain_of account (Status caller id) = None
 grain_of account (Deliver grain) = first_target account grain
 grain_of account (Activate grain) = Some grain
@@ -41,7 +41,7 @@ at_turn does turn e = option_and_then (does e) (finite.get e.turns turn)
 unfoldable pub effect_of : Logic → Context → Step → Option Effect
 effect_of logic s (Refuse caller id code) = Some (refused (party.Client caller id) code)
 effect_of logic s (Call caller id grain message) = Some (called logic s (party.Client caller id) grain message)
-effect_of logic s (Poke caller id grain state failed) = Some (poked logic s (party.Client caller id) grain state failed)
+effect_of logic s (Poke failed caller id grain state) = Some (poked logic s (party.Client caller id) grain state failed)
 effect_of logic s (Status caller id) = Some (status_told s (party.Client caller id) s.account)
 effect_of logic s (Deliver grain) = option_and_then (delivered logic s grain) s.account
 effect_of logic s (Activate grain) = option_and_then (λ e. activated e e.phase) s.entry

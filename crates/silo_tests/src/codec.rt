@@ -2,8 +2,8 @@
 
 use crate::values::{datum, message, state};
 use request_codec::{
-    CodecFault, Datum, Message, StateBytes, decode, decode_message, decode_state, encode,
-    encode_json, encode_state, from_json, laws, to_json,
+    CodecFault, Datum, Message, SharedState, StateBytes, decode, decode_message, decode_state,
+    encode, encode_json, encode_state, from_json, laws, to_json,
 };
 use serde_json::Value;
 use std::alloc::Global;
@@ -314,4 +314,23 @@ fn whole_numbers_alone_are_converted(rt: HostRuntime) -> Result<(), Fail> {
 fn the_laws_are_stated() {
     laws::one_spelling();
     laws::no_prefix();
+}
+
+#[test]
+fn a_number_has_its_text_as_a_state(rt: HostRuntime) -> Result<(), Fail> {
+    let alloc = rt.alloc();
+    let version = StateBytes::decimal(alloc, 1024)?;
+    assert_eq!(rt; version.bytes(), b"\x04\0\0\0\x041024");
+    let last = StateBytes::decimal(alloc, u64::MAX)?;
+    assert_eq!(rt; last.bytes(), b"\x04\0\0\0\x1418446744073709551615");
+    Ok(())
+}
+
+#[test]
+fn a_shared_state_is_the_same(rt: HostRuntime) -> Result<(), Fail> {
+    let alloc = rt.alloc();
+    let shared = SharedState::new(alloc, state(alloc, "{\"a\":[1,2]}")?)?;
+    let copy = shared.clone()?;
+    assert_eq!(rt; value_of(alloc, copy.state())?.as_str(), "{\"a\":[1,2]}");
+    Ok(())
 }

@@ -49,7 +49,7 @@ refused refusal.TooLarge = plain _ refl
 step_plain : (s : Step) → IsStep s → IsPlain (step_text s)
 step_plain (step.Refuse c n r) is = plain_more (codes "refuse") _ (plain _ refl) (plain_more (client_text c) _ (client c is.0) (plain_more (decimal n) _ (number n is.1) (refused r)))
 step_plain (step.Call c n g m) is = plain_more (codes "call") _ (plain _ refl) (plain_more (client_text c) _ (client c is.0) (plain_more (decimal n) _ (number n is.1) (plain_more (grain_text g) _ (grain g is.2) (plain_hex _ is.3.0))))
-step_plain (step.Poke c n g v failed) is = plain_more (codes "poke") _ (plain _ refl) (plain_more (client_text c) _ (client c is.0) (plain_more (decimal n) _ (number n is.1) (plain_more (grain_text g) _ (grain g is.2) (plain_more (mark_text failed) _ (mark failed) (plain_hex _ is.3.0)))))
+step_plain (step.Poke failed c n g v) is = plain_more (codes "poke") _ (plain _ refl) (plain_more (client_text c) _ (client c is.0) (plain_more (decimal n) _ (number n is.1) (plain_more (grain_text g) _ (grain g is.2) (plain_more (mark_text failed) _ (mark failed) (plain_hex _ is.3.0)))))
 step_plain (step.Status c n) is = plain_more (codes "status") _ (plain _ refl) (plain_more (client_text c) _ (client c is.0) (number n is.1))
 step_plain (step.Deliver g) is = plain_more (codes "deliver") _ (plain _ refl) (grain g is)
 step_plain (step.Activate g) is = plain_more (codes "activate") _ (plain _ refl) (grain g is)

@@ -51,7 +51,7 @@ pub call_back : (c : Client) (n : ℕ) (g : Grain) (m : Call) → IsTrue (is_cli
 call_back c n g m caller small grain has =
     rw (cut-field (client_text c) (decimal n ␣ grain_text g ␣ message_text m) (IsField-client c caller), cut-field (decimal n) (grain_text g ␣ message_text m) (IsField-number n small), cut-field (grain_text g) (message_text m) (IsField-grain g grain), client_back c caller, small_back n small, grain_back g grain, message_back m has) refl
 
-pub poke_back : (c : Client) (n : ℕ) (g : Grain) (v : Tree) (failed : Bool) → IsTrue (is_client c) → n < 2 ^ 63 → IsTrue (is_grain g) → HasState v → poke_of (client_text c ␣ decimal n ␣ grain_text g ␣ mark_text failed ␣ state_text v) ≡ Some (step.Poke c n g v failed)
+pub poke_back : (c : Client) (n : ℕ) (g : Grain) (v : Tree) (failed : Bool) → IsTrue (is_client c) → n < 2 ^ 63 → IsTrue (is_grain g) → HasState v → poke_of (client_text c ␣ decimal n ␣ grain_text g ␣ mark_text failed ␣ state_text v) ≡ Some (step.Poke failed c n g v)
 poke_back c n g v failed caller small grain has =
     rw (cut-field (client_text c) (decimal n ␣ grain_text g ␣ mark_text failed ␣ state_text v) (IsField-client c caller), cut-field (decimal n) (grain_text g ␣ mark_text failed ␣ state_text v) (IsField-number n small), cut-field (grain_text g) (mark_text failed ␣ state_text v) (IsField-grain g grain), cut-field (mark_text failed) (state_text v) (IsField-mark failed), client_back c caller, small_back n small, grain_back g grain, mark_back failed, state_back v has) refl
 
@@ -74,7 +74,7 @@ pub step_back : (s : Step) → IsStep s → candidate_of (step_text s) ≡ Some 
 unfolding candidate_of
 step_back (step.Refuse caller id code) is = by_word (codes "refuse") _ refl refl ∙ ap step_line (refuse_back caller id code is.0 is.1)
 step_back (step.Call caller id grain message) is = by_word (codes "call") _ refl refl ∙ ap step_line (call_back caller id grain message is.0 is.1 is.2 is.3)
-step_back (step.Poke caller id grain state failed) is = by_word (codes "poke") _ refl refl ∙ ap step_line (poke_back caller id grain state failed is.0 is.1 is.2 is.3)
+step_back (step.Poke failed caller id grain state) is = by_word (codes "poke") _ refl refl ∙ ap step_line (poke_back caller id grain state failed is.0 is.1 is.2 is.3)
 step_back (step.Status caller id) is = by_word (codes "status") _ refl refl ∙ ap step_line (status_back caller id is.0 is.1)
 step_back (step.Deliver grain) is = by_word (codes "deliver") _ refl refl ∙ rw (grain_back grain is) refl
 step_back (step.Activate grain) is = by_word (codes "activate") _ refl refl ∙ rw (grain_back grain is) refl

@@ -110,7 +110,7 @@ poke_of fields = do
   grain ← grain_of target.0
   failed ← mark_of mark.0
   state ← state_of mark.1
-  Some (step.Poke client number grain state failed)
+  Some (step.Poke failed client number grain state)
 
 abbrev pub status_of : List ℕ → Option Step
 status_of fields = do

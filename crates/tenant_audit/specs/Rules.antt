@@ -36,7 +36,7 @@ IsRow row = (1 ≤ row.version) × (row.version < 2 ^ 64) × IfSome row.content 
 abbrev pub IsStep : Step → Type 0
 IsStep (Refuse caller id code) = IsTrue (is_client caller) × IsNumber id
 IsStep (Calling caller id grain message) = IsTrue (is_client caller) × IsNumber id × IsTrue (is_grain grain) × HasMessage message
-IsStep (Poke caller id grain state failed) = IsTrue (is_client caller) × IsNumber id × IsTrue (is_grain grain) × HasState state
+IsStep (Poke failed caller id grain state) = IsTrue (is_client caller) × IsNumber id × IsTrue (is_grain grain) × HasState state
 IsStep (Status caller id) = IsTrue (is_client caller) × IsNumber id
 IsStep (Deliver grain) = IsTrue (is_grain grain)
 IsStep (Activate grain) = IsTrue (is_grain grain)

@@ -69,7 +69,7 @@ content_text None = codes "-"
 abbrev pub step_text : Step → List ℕ
 step_text (Refuse caller id code) = codes "refuse" ␣ client_text caller ␣ decimal id ␣ refusal_text code
 step_text (Calling caller id grain message) = codes "call" ␣ client_text caller ␣ decimal id ␣ grain_text grain ␣ message_text message
-step_text (Poke caller id grain state failed) = codes "poke" ␣ client_text caller ␣ decimal id ␣ grain_text grain ␣ mark_text failed ␣ state_text state
+step_text (Poke failed caller id grain state) = codes "poke" ␣ client_text caller ␣ decimal id ␣ grain_text grain ␣ mark_text failed ␣ state_text state
 step_text (Status caller id) = codes "status" ␣ client_text caller ␣ decimal id
 step_text (Deliver grain) = codes "deliver" ␣ grain_text grain
 step_text (Activate grain) = codes "activate" ␣ grain_text grain

@@ -56,7 +56,7 @@ fn push_poke(
     state: &StateBytes,
     failed: bool,
 ) -> Result<(), AllocError>
-    ensures { OnOk result (string_bytes text.new ≡ string_bytes text.old ++ (step_text (step.Poke caller.now id grain.now state.now failed) ++ 10 ∷ [])) }
+    ensures { OnOk result (string_bytes text.new ≡ string_bytes text.old ++ (step_text (step.Poke failed caller.now id grain.now state.now) ++ 10 ∷ [])) }
 {
     let caller = caller.text();
     let grain = grain.text();
@@ -129,7 +129,7 @@ pub(crate) fn push_step(alloc: Global, text: &mut String, step: &Step) -> Result
             grain,
             state,
             failed,
-        } => push_poke(alloc, text, caller, *id, grain, state, *failed),
+        } => push_poke(alloc, text, caller, *id, grain, state.state(), *failed),
         Step::Status { caller, id } => push_status(text, caller, *id),
         Step::Deliver { grain } => push_at(text, "deliver", grain),
         Step::Activate { grain } => push_at(text, "activate", grain),

@@ -12,6 +12,7 @@ use crate::field_reader::{
     parse_state,
 };
 use grain_id::{GrainId, LatelyRead};
+use request_codec::SharedState;
 use silo_event::{Moment, Step};
 use std::alloc::Global;
 
@@ -74,11 +75,11 @@ fn parse_poke(alloc: Global, names: &mut LatelyRead, fields: &str) -> Result<Ste
     let failed = parse_mark(mark)?;
     let state = parse_state(alloc, state)?;
     Ok(Step::Poke {
+        failed,
         caller,
         id,
         grain,
-        state,
-        failed,
+        state: SharedState::new(alloc, state)?,
     })
 }
 

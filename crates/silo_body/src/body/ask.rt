@@ -64,7 +64,7 @@ impl<S: GrainStorage, L: GrainLogic> Body<S, L> {
         state: &StateBytes,
         failed: bool,
     ) -> Result<Answer, StepFault>
-        ensures { Moves L.logic self.old (step.Poke caller.now id grain.now state.now failed) result self.new }
+        ensures { Moves L.logic self.old (step.Poke failed caller.now id grain.now state.now) result self.new }
     {
         let asker = Party::Client(caller.clone()?, id);
         if let Err(why) = self.passed(alloc, &asker, grain)? {

@@ -17,7 +17,7 @@ use crate::silo::{Silo, note};
 use grain_id::{Caller, GrainId};
 use grain_kinds::{FinishedTurn, GrainLogic, OpenedTurn};
 use grain_storage::GrainStorage;
-use request_codec::{Message, StateBytes};
+use request_codec::{Message, SharedState, StateBytes};
 use silo_event::{Answer, Moment, Refusal, Step, StepFault};
 use std::alloc::Global;
 
@@ -68,15 +68,15 @@ impl<S: GrainStorage, L: GrainLogic> Silo<S, L> {
         state: StateBytes,
         failed: bool,
     ) -> Result<Answer, StepFault>
-        ensures answered { Answered L.logic self.old (step.Poke caller id grain state failed) result self.new }
-        ensures parts { StepAnswersInParts L.logic self.old.whole (step.Poke caller id grain state failed) result self.new.whole }
+        ensures answered { Answered L.logic self.old (step.Poke failed caller id grain state) result self.new }
+        ensures parts { StepAnswersInParts L.logic self.old.whole (step.Poke failed caller id grain state) result self.new.whole }
     {
         let poke = Step::Poke {
+            failed,
             caller,
             id,
             grain,
-            state,
-            failed,
+            state: SharedState::new(alloc, state)?,
         };
         self.apply(alloc, poke)
     }

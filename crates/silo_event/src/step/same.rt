@@ -63,7 +63,7 @@ pub fn same_but_failed(step: &Step, other: &Step) -> bool
                 state: other_state,
                 ..
             },
-        ) => *state == *other_state
+        ) => *state.state() == *other_state.state()
             && same_source(caller, *id, grain, other_caller, *other_id, other_grain),
         (
             Step::Status { caller, id },

@@ -47,7 +47,7 @@ returns-clause-put c ms d front h b =
     let m = moves c.args.self.now c.args.name.now c.args.out.now.items c.args.start c.args.count c.in-Some.place c.in-Some.before ms d front h b full p in
     let known = ap (map (λ f. (f.0.now, f.1))) c.insert.ensures.items ∙ map_insert (λ f. (f.0.now, f.1)) c.args.self.now.known.items c.in-Some.place (c.args.name, c.args.count) in (
       placed_held ms d (option_map (λ t. t.now) c.args.self.now.last) c.args.self.now.count (puts c.args.self.now) (map (λ f. (f.0.now, f.1)) c.insert.new.self.items) c.args.name.now c.args.count c.in-Some.place c.in-Some.before h full p b.count_is known,
-      c.move_back.ensures.bytes m.ahead m.back (field_spelling c.args.name.now d) m.from_place m.from_count m.before ∙ m.after,
+      c.in_ok-move_back.ensures.bytes m.ahead m.back (field_spelling c.args.name.now d) m.from_place m.from_count m.before ∙ m.after,
     )
 
 pub returns-clause-len : goal.returns-clause-len

@@ -7,9 +7,9 @@ use Rattle.request_codec.proofs.state.StateBytes.decimal.Goals as goal
 pub invariant_of-result : goal.invariant_of-result
 invariant_of-result c =
     let few : length c.as_bytes.result.now ≤ 20 = omega (arith, c.format.ensures.fits, c.as_bytes.ensures.len) in
-    state_is_some _ _ (encoded_text _ _ c.as_bytes.ensures.utf8 few c.hold_text.ensures)
+    state_is_some _ _ (encoded_text _ _ c.as_bytes.ensures.utf8 few c.in_ok-hold_text.ensures)
 
 pub returns : goal.returns
 returns c =
     let few : length c.as_bytes.result.now ≤ 20 = omega (arith, c.format.ensures.fits, c.as_bytes.ensures.len) in
-    state_is _ _ (encoded_text _ _ c.as_bytes.ensures.utf8 few c.hold_text.ensures) ∙ ap text (c.as_bytes.ensures.value ∙ c.format.ensures.text)
+    state_is _ _ (encoded_text _ _ c.as_bytes.ensures.utf8 few c.in_ok-hold_text.ensures) ∙ ap text (c.as_bytes.ensures.value ∙ c.format.ensures.text)
