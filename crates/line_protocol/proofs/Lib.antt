@@ -1,4 +1,3 @@
-pub mod Meaning
 pub mod Texts
 pub mod Plain
 pub mod Pushes
@@ -9,14 +8,4 @@ pub mod Saids
 pub mod OwnLines
 pub mod Unfailed
 pub mod Run
-pub mod GrammarLoops
-pub mod ItemsRead
-pub mod Ordered
-pub mod FieldsRead
-pub mod Numbers
-pub mod Counts
-pub mod PutValues
-pub mod MembersTaken
-pub mod Steps
 pub mod ValueTexts
-pub mod AskedDeep

@@ -14,16 +14,16 @@ use Rattle.silo_core.specs.History.{History}
 use Rattle.silo_core.specs.Runs.{Takes}
 use Rattle.silo_core.proofs.Runs.{taken_none, taken_one, taken_on}
 use Rattle.line_protocol.specs.Calls.{HasCause}
-use Rattle.line_protocol.specs.Lines.{lines_of, onto, line_limit, lines_limit}
-use Rattle.line_protocol.specs.Meaning.{meaning_of}
+use Rattle.line_protocol.specs.Lines.{lines_of, onto, lines_limit}
+use Rattle.line_parser.specs.Meaning.{line_limit, meaning_of}
 use Rattle.line_protocol.specs.LineTexts.{whole_stepper, said_lines, steps_said, as_taken, lines_text}
 use Rattle.line_protocol.specs.LineRuns.{AnswersLine, AnswersSaid, AnswersLines, AnswersNext, LinesTaken, AnswersAll, StopsBefore, StopsAt, WrittenInPart, StopsAfter, StopsBy, MayTake, LineStopsBy}
 use Rattle.line_protocol.specs.declared.calls.ReaderCalls.{ReaderCalls}
 use Rattle.line_protocol.specs.declared.fault.LineFault.{LineFault}
 use Rattle.line_protocol.specs.declared.fault.LineFault.TheVariants as fault
-use Rattle.line_protocol.specs.declared.line.Line.{Line}
-use Rattle.line_protocol.specs.declared.line.Line.TheVariants as line
-use Rattle.line_protocol.proofs.Meaning.{said_under, meaning_of-under, long_under}
+use Rattle.line_parser.specs.declared.line.Line.{Line}
+use Rattle.line_parser.specs.declared.line.Line.TheVariants as line
+use Rattle.line_parser.proofs.Meaning.{said_under, meaning_of-under, long_under}
 use Rattle.line_protocol.proofs.Saids.{EachAnswered, said_lines-more, steps_said-more, as_taken-append, steps_said-taken, lines_text-append}
 use Rattle.line_protocol.proofs.OwnLines.{lines_own}
 use Rattle.line_protocol.proofs.LinesOfBytes.{LinesTaken-trans, LinesTaken-kept}

@@ -4,10 +4,10 @@ use Rattle.silo_event.specs.Failed.{marked_step}
 use Rattle.silo_event.specs.declared.step.Answer.{Answer}
 use Rattle.silo_event.specs.declared.step.Step.{Step}
 use Rattle.silo_model.specs.Run.{run_by, marked}
-use Rattle.line_protocol.specs.Meaning.{meaning_of}
+use Rattle.line_parser.specs.Meaning.{meaning_of}
 use Rattle.line_protocol.specs.LineTexts.{Stepper, said_lines, step_said, steps_said, as_taken, line_text, line_texts, lines_text}
-use Rattle.line_protocol.specs.declared.line.Line.{Line}
-use Rattle.line_protocol.specs.declared.line.Line.TheVariants as line
+use Rattle.line_parser.specs.declared.line.Line.{Line}
+use Rattle.line_parser.specs.declared.line.Line.TheVariants as line
 
 pub said_lines-more : (lines : List (List ℕ)) (l : List ℕ) → said_lines (lines ++ l ∷ []) ≡ said_lines lines ++ meaning_of l ∷ []
 said_lines-more [] l = refl

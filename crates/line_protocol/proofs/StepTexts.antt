@@ -11,7 +11,7 @@ use Rattle.silo_core.specs.History.{History, Answered}
 use Rattle.line_protocol.specs.LineTexts.{whole_stepper, ended, texts_of, step_text, line_text}
 use Rattle.line_protocol.specs.Text.{line_of, not_now_line}
 use Rattle.line_protocol.specs.LineRuns.{AnswersLine, MayTake}
-use Rattle.line_protocol.specs.declared.line.Line.TheVariants as line
+use Rattle.line_parser.specs.declared.line.Line.TheVariants as line
 
 pub texts_of-more : (rs : List Reply) (r : Reply) → texts_of (rs ++ r ∷ []) ≡ texts_of rs ++ ended (line_of r)
 texts_of-more [] r = append-nil (ended (line_of r))

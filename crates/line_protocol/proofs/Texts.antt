@@ -3,7 +3,7 @@ use Rattle.std.proofs.Common.{◌≡◌, ◌++◌, ◌∷◌, [], codes, decimal
 use Rattle.std.proofs.lemmas.Fmt.{decimal_digit, decimal_step}
 use Rattle.json.specs.Print.{quoted}
 use Rattle.serde_json.proofs.OnLiterals.{serde_json_on_literals}
-use Rattle.line_protocol.specs.declared.line.LineRefusal.TheVariants as refusal
+use Rattle.line_parser.specs.declared.line.LineRefusal.TheVariants as refusal
 use Rattle.line_protocol.specs.Text.{refusal_line}
 
 decimal_10 : decimal 10 ≡ 49 ∷ 48 ∷ []

@@ -9,10 +9,10 @@ use Rattle.silo_model.specs.Machine.{Machine}
 use Rattle.silo_model.specs.Step.{machine_step}
 use Rattle.silo_model.specs.Whole.{Whole, whole_step}
 use Rattle.silo_model.specs.Run.{run_by, concerns}
-use Rattle.line_protocol.specs.Meaning.{meaning_of}
+use Rattle.line_parser.specs.Meaning.{meaning_of}
 use Rattle.line_protocol.specs.Text.{line_of, refusal_line, not_now_line}
-use Rattle.line_protocol.specs.declared.line.Line.{Line}
-use Rattle.line_protocol.specs.declared.line.Line.TheVariants as line
+use Rattle.line_parser.specs.declared.line.Line.{Line}
+use Rattle.line_parser.specs.declared.line.Line.TheVariants as line
 
 -- what takes steps: the replies that it holds, and what it is after a step, if the step is possible
 pub record Stepper (M : Type 0) : Type 0 where

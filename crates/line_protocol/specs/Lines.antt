@@ -9,9 +9,5 @@ abbrev pub lines_of : List ℕ → List (List ℕ)
 lines_of [] = []
 lines_of (b ∷ bytes) = if b == 10 then [] ∷ lines_of bytes else onto b (lines_of bytes)
 
--- bytes of a line, without its LF
-abbrev pub line_limit : ℕ
-line_limit = 65536
-
 abbrev pub lines_limit : ℕ
 lines_limit = 1000000

@@ -10,8 +10,8 @@ use Rattle.silo_event.specs.declared.fault.Fault.TheVariants.{NotARequest, TooLo
 use Rattle.silo_event.specs.declared.reply.Reply.{Reply}
 use Rattle.silo_event.specs.declared.reply.Party.{Party}
 use Rattle.silo_event.specs.declared.reply.Party.TheVariants as party
-use Rattle.line_protocol.specs.declared.line.LineRefusal.{LineRefusal}
-use Rattle.line_protocol.specs.declared.line.LineRefusal.TheVariants as refusal
+use Rattle.line_parser.specs.declared.line.LineRefusal.{LineRefusal}
+use Rattle.line_parser.specs.declared.line.LineRefusal.TheVariants as refusal
 
 -- a value as compact JSON; `more_` has a comma before what is left, and ends with the bracket
 abbrev mutual

@@ -1,16 +1,15 @@
 //! What one line leaves in the silo, and its text.
 
 ghost use Rattle.std.specs.Prelude.{◌≡◌, [], ◌++◌, OnOk, OnErr, string_bytes};
-ghost use Rattle.line_protocol.specs.Meaning.{meaning_of};
+ghost use Rattle.line_parser.specs.Meaning.{meaning_of};
 ghost use Rattle.line_protocol.specs.LineTexts.{texts_of};
 ghost use Rattle.line_protocol.specs.LineRuns.{AnswersLine, MayTake};
-ghost use Rattle.line_protocol.specs.declared.line.Line.TheVariants as line;
+ghost use Rattle.line_parser.specs.declared.line.Line.TheVariants as line;
 
-use crate::line::Line;
-use crate::reading::{LineRoom, read_line};
 use crate::replies::{push_not_now, push_refusal, push_reply};
 use grain_kinds::GrainLogic;
 use grain_storage::GrainStorage;
+use line_parser::{Line, LineRoom, read_line};
 use silo_core::Silo;
 use silo_event::{Answer, Reply, Step, StepFault};
 use std::alloc::{AllocError, Global};

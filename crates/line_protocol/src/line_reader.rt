@@ -8,7 +8,7 @@ ghost use Rattle.line_protocol.specs.Place.{IsInside, bytes_at};
 
 use crate::calls::{Call, ReaderCalls};
 use crate::fault::LineFault;
-use crate::reading::LINE_LIMIT;
+use line_parser::LINE_LIMIT;
 use memchr::memchr;
 use std::alloc::{AllocError, Global};
 use std::io::{Read, Write};

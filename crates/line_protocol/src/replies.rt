@@ -7,10 +7,10 @@ ghost use Rattle.silo_event.specs.Fault.{fault_code, fault_text};
 ghost use Rattle.silo_event.specs.declared.reply.Party.TheVariants as party;
 ghost use Rattle.line_protocol.specs.Text.{line_of, line_to, done_line, refused_line, done_to_grain_line, refused_to_grain_line, refusal_line, not_now_line};
 
-use crate::line::LineRefusal;
 use crate::text::{push, push_natural, push_quoted};
 use crate::value_text::push_state;
 use grain_id::{Caller, GrainId};
+use line_parser::LineRefusal;
 use request_codec::StateBytes;
 use silo_event::{Fault, Party, Reply};
 use std::alloc::{AllocError, Global};

@@ -3,16 +3,16 @@
 ghost use Rattle.std.specs.Prelude.{◌≤◌, List, ℕ, IfOk, IfErr, IfSome, OnOk};
 ghost use Rattle.std.specs.Io.KnownBytes.{Appends};
 ghost use Rattle.line_protocol.specs.Lines.{lines_of, lines_limit};
-ghost use Rattle.line_protocol.specs.Meaning.{meaning_of};
+ghost use Rattle.line_parser.specs.Meaning.{meaning_of};
 ghost use Rattle.line_protocol.specs.LineRuns.{AnswersLine, LineStopsBy, AnswersAll, StopsBy, left_of};
 
 use crate::answers::answer_line;
 use crate::fault::LineFault;
 use crate::line_reader::LineReader;
-use crate::reading::LineRoom;
 use crate::written::write_whole;
 use grain_kinds::GrainLogic;
 use grain_storage::GrainStorage;
+use line_parser::LineRoom;
 use silo_core::Silo;
 use std::alloc::Global;
 use std::io::{Read, Write};

@@ -16,7 +16,7 @@ use Rattle.line_protocol.specs.LineRuns.{AnswersLines, AnswersNext, AnswersAll, 
 use Rattle.line_protocol.specs.declared.calls.ReaderCalls.{ReaderCalls}
 use Rattle.line_protocol.specs.declared.fault.LineFault.{LineFault}
 use Rattle.line_protocol.specs.declared.fault.LineFault.TheVariants as line
-use Rattle.line_protocol.specs.declared.line.Line.{Line}
+use Rattle.line_parser.specs.declared.line.Line.{Line}
 use Rattle.line_protocol.proofs.Unfailed.{none_failed, none_failed_before, unmarked, own_unmarked}
 use Rattle.silo_console.specs.Steps.{IsTextOf, AnswersSteps, StopsBetween, StopsInside, StopsSteps}
 

@@ -1,13 +1,13 @@
-//! Reads lines by one of the two readers of `line_protocol`, and prints what each line says.
+//! Reads lines by one of the two readers of `line_parser`, and prints what each line says.
 //!
 //! Both readers have one contract, so that this shows nothing of it. It shows whether both succeed, and
 //! what a proof leaves out: memory that is refused. `tools/compare-readers` runs it.
 #![tactic(auto)]
 
 ghost use Rattle.std.specs.Prelude.{◌≡◌, IfOk};
-ghost use Rattle.line_protocol.specs.Meaning.{meaning_of};
+ghost use Rattle.line_parser.specs.Meaning.{meaning_of};
 
-use line_protocol::{Line, LineRoom, read_any_line, read_line};
+use line_parser::{Line, LineRoom, read_any_line, read_line};
 use std::alloc::{AllocError, Global};
 use std::io::{BufRead, BufReader, BufWriter, ErrorKind, Write};
 use std::process::ExitCode;

@@ -1,6 +1,6 @@
 use Rattle.std.proofs.Common.{OnErr, sym, subst, ◌∙◌}
 use Rattle.line_protocol.specs.LineRuns.{MayTake}
-use Rattle.line_protocol.specs.declared.line.Line.{Line}
+use Rattle.line_parser.specs.declared.line.Line.{Line}
 use Rattle.line_protocol.proofs.answers.answer_line.Goals as goal
 
 pub returns-in-Step-clause-err : goal.returns-in-Step-clause-err

@@ -1,0 +1,11 @@
+pub mod Meaning
+pub mod GrammarLoops
+pub mod ItemsRead
+pub mod Ordered
+pub mod FieldsRead
+pub mod Numbers
+pub mod Counts
+pub mod PutValues
+pub mod MembersTaken
+pub mod Steps
+pub mod AskedDeep

@@ -1,0 +1,5 @@
+use Rattle.std.proofs.Common.{◌==◌, ap, ◌∙◌}
+use Rattle.line_parser.proofs.step.grain_from.Goals as goal
+
+pub returns-clause-alone : goal.returns-clause-alone
+returns-clause-alone c l found h = ap (λ k. k == 2) (h.count ∙ c.if-slots-ne2.false)

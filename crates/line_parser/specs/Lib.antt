@@ -1,0 +1,7 @@
+pub mod Form
+pub mod Meaning
+pub mod Number
+pub mod Argument
+pub mod Fields
+pub mod Slots
+pub mod Step

@@ -1,0 +1,96 @@
+-- What is known of the members of a line: an object as serde_json reads it, and where each of its members went.
+use Rattle.std.specs.Prelude.{◌≡◌, ℕ, ◌<◌, ◌≤◌, ◌^◌, Bool, true, false, List, ◌∷◌, length, Option, Some, None, option_map, option_and_then, codes}
+use Rattle.json.specs.Token.{Token, number as number_token}
+use Rattle.json.specs.Json.{value, if_last}
+use Rattle.serde_json.specs.Data.{Data, object, string, number, boolean, unsigned, Members, put}
+use Rattle.serde_json.specs.Events.{members_len}
+use Rattle.serde_json.specs.Find.{get_member}
+use Rattle.serde_json.specs.Read.{of_json, converted, number_of}
+use Rattle.request_codec.specs.Limits.{depth_limit}
+use Rattle.request_codec.specs.Json.{json_depth}
+use Rattle.request_codec.specs.Lenient.{lenient_value, TestsWhole}
+use Rattle.request_codec.specs.Written.{spelling}
+use Rattle.line_parser.specs.declared.slots.Name.{Name}
+use Rattle.line_parser.specs.declared.slots.Name.TheVariants.{Op, From, Id, Grain, Method, Turn, Now, Failed, Args, State}
+use Rattle.line_parser.specs.declared.slots.Slots.{Slots}
+
+-- the name of a member
+abbrev pub name_text : Name → List ℕ
+name_text Op = codes "op"
+name_text From = codes "from"
+name_text Grain = codes "grain"
+name_text Method = codes "method"
+name_text Id = codes "id"
+name_text Turn = codes "turn"
+name_text Now = codes "now"
+name_text Failed = codes "failed"
+name_text Args = codes "args"
+name_text State = codes "state"
+
+-- the first token is a number that is not below 0
+pub record IsNatural (old : List Token) (n : ℕ) (new : List Token) : Type 0 where
+  pub text : List ℕ
+  pub token : old ≡ number_token text ∷ new
+  pub read : number_of text ≡ Some (unsigned n)
+  pub fits : n < 2 ^ 63
+
+-- The bytes are those of the JSON's value, which is no deeper than a value may be and has whole numbers alone.
+pub record IsArgument (json : Data) (bytes : List ℕ) : Type 0 where
+  pub whole : TestsWhole true json
+  pub deep : json_depth json ≤ depth_limit
+  pub spelled : bytes ≡ spelling (lenient_value json)
+
+-- what a slot holds: a text, a number that is not below 0, a truth value, or the bytes of a value
+pub data Held : Type 0 where
+  a_text : List ℕ → Held
+  a_number : ℕ → Held
+  a_truth : Bool → Held
+  a_value : List ℕ → Held
+
+-- of which JSON that is
+abbrev pub IsHeld : Held → Data → Type 0
+IsHeld (a_text s) json = json ≡ string s
+IsHeld (a_number n) json = (json ≡ number (unsigned n)) × (n < 2 ^ 63)
+IsHeld (a_truth b) json = json ≡ boolean b
+IsHeld (a_value l) json = IsArgument json l
+
+-- what a slot says of the member that it is for: an empty one, that there is none
+abbrev pub Holds : Option Held → Option Data → Type 0
+Holds None o = o ≡ None
+Holds (Some held) o = (json : Data) × (o ≡ Some json) × IsHeld held json
+
+-- bytes that were put elsewhere, if they were
+abbrev pub put_bytes : Bool → List ℕ → Option Held
+put_bytes true l = Some (a_value l)
+put_bytes false l = None
+
+-- the slot of each member; the bytes of a value were put elsewhere
+abbrev pub slot_of : Name → Slots → List ℕ → Option Held
+slot_of Op s l = option_map (λ t. a_text t.now) s.op
+slot_of From s l = option_map (λ t. a_text t.now) s.from
+slot_of Grain s l = option_map (λ t. a_text t.now) s.grain
+slot_of Method s l = option_map (λ t. a_text t.now) s.method
+slot_of Id s l = option_map a_number s.id
+slot_of Turn s l = option_map a_number s.turn
+slot_of Now s l = option_map a_number s.moment
+slot_of Failed s l = option_map a_truth s.failed
+slot_of Args s l = put_bytes s.args l
+slot_of State s l = put_bytes s.state l
+
+-- where each member went, and how many there are
+pub record HoldsSlots (found : Members) (s : Slots) (l : List ℕ) : Type 0 where
+  pub each : (name : Name) → Holds (slot_of name s l) (get_member (name_text name) found)
+  pub count : members_len found ≡ s.count
+
+-- one more member
+pub record TakesMember (name : Name) (old new : List Token) (slots_old : Slots) (bytes_old : List ℕ) (slots_new : Slots) (bytes_new : List ℕ) : Type 0 where
+  pub json : Data
+  pub read : converted of_json (value 126 old) ≡ Some (json, new)
+  pub holds : (found : Members) → HoldsSlots found slots_old bytes_old → HoldsSlots (put (name_text name) json found) slots_new bytes_new
+  pub shorter : length new < length old
+
+-- the tokens are one object, whose members are known
+pub record HasSlots (ts : List Token) (slots : Slots) (bytes : List ℕ) : Type 0 where
+  pub found : Members
+  pub read : option_and_then of_json (option_and_then (λ p. if_last p.0 p.1) (value 127 ts)) ≡ Some (object found)
+  pub holds : HoldsSlots found slots bytes

@@ -1,0 +1,244 @@
+//! The step that JSON asks for.
+
+ghost use Rattle.std.specs.Prelude.{◌≡◌, ◌<◌, IfOk, option_map};
+ghost use Rattle.serde_json.specs.Data.{null};
+ghost use Rattle.serde_json.specs.View.{view};
+ghost use Rattle.line_parser.specs.Form.{where_so, has_members, grain_at, turn_alone, argument_at, failed_at, call_of, poke_of, status_of, load_of, store_of, tick_of, sweep_of, step_of_json};
+
+use crate::asked::{ask_call, ask_poke};
+use crate::members::{caller_at, grain_at, has_members, natural_at, text_at, truth_at};
+use grain_id::{GrainId, LatelyRead};
+use serde_json::Value;
+use silo_event::{Moment, Step};
+use std::alloc::{AllocError, Global};
+
+/// The argument of a call: `null` where it is left out.
+fn argument_at<'v>(value: &'v Value, left_out: &'v Value) -> Option<&'v Value>
+    requires { view left_out.now ≡ null }
+    ensures { option_map (λ v. view v.now) result ≡ argument_at (view value.now) }
+{
+    if has_members(value, 5) {
+        return Some(left_out);
+    }
+    if has_members(value, 6) {
+        return value.get("args");
+    }
+    None
+}
+
+/// Whether the storage call is to fail: `false` where it is left out, which leaves `count` members.
+fn failed_at(value: &Value, count: usize) -> Option<bool>
+    requires { count < 16 }
+    ensures { result ≡ failed_at count (view value.now) }
+{
+    if has_members(value, count) {
+        return Some(false);
+    }
+    if has_members(value, count + 1) {
+        return truth_at(value, "failed");
+    }
+    None
+}
+
+#[tactic(auto, unfolding(crate::specs::Form::call_of))]
+fn read_call(
+    alloc: Global,
+    names: &mut LatelyRead,
+    value: &Value,
+) -> Result<Option<Step>, AllocError>
+    ensures { IfOk result (λ step. step ≡ call_of (view value.now)) }
+{
+    let left_out = Value::Null;
+    let Some(argument) = argument_at(value, &left_out) else {
+        return Ok(None);
+    };
+    let Some(caller) = caller_at(alloc, names, value)? else {
+        return Ok(None);
+    };
+    let Some(id) = natural_at(value, "id") else {
+        return Ok(None);
+    };
+    let Some(grain) = text_at(value, "grain") else {
+        return Ok(None);
+    };
+    let Some(method) = text_at(value, "method") else {
+        return Ok(None);
+    };
+    let step = ask_call(alloc, names, caller, id, grain, method, argument)?;
+    Ok(Some(step))
+}
+
+#[tactic(auto, unfolding(crate::specs::Form::poke_of))]
+fn read_poke(
+    alloc: Global,
+    names: &mut LatelyRead,
+    value: &Value,
+) -> Result<Option<Step>, AllocError>
+    ensures { IfOk result (λ step. step ≡ poke_of (view value.now)) }
+{
+    if !has_members(value, 5) {
+        return Ok(None);
+    }
+    let Some(caller) = caller_at(alloc, names, value)? else {
+        return Ok(None);
+    };
+    let Some(id) = natural_at(value, "id") else {
+        return Ok(None);
+    };
+    let Some(grain) = text_at(value, "grain") else {
+        return Ok(None);
+    };
+    let Some(state) = value.get("state") else {
+        return Ok(None);
+    };
+    let step = ask_poke(alloc, names, caller, id, grain, state)?;
+    Ok(Some(step))
+}
+
+#[tactic(auto, unfolding(crate::specs::Form::status_of))]
+fn read_status(
+    alloc: Global,
+    names: &mut LatelyRead,
+    value: &Value,
+) -> Result<Option<Step>, AllocError>
+    ensures { IfOk result (λ step. step ≡ status_of (view value.now)) }
+{
+    if !has_members(value, 3) {
+        return Ok(None);
+    }
+    let Some(caller) = caller_at(alloc, names, value)? else {
+        return Ok(None);
+    };
+    let Some(id) = natural_at(value, "id") else {
+        return Ok(None);
+    };
+    Ok(Some(Step::Status { caller, id }))
+}
+
+/// The grain of a form with a grain alone.
+fn read_grain(
+    alloc: Global,
+    names: &mut LatelyRead,
+    value: &Value,
+) -> Result<Option<GrainId>, AllocError>
+    ensures { IfOk result (λ grain. grain ≡ where_so (has_members 2 (view value.now)) (grain_at (view value.now))) }
+{
+    if !has_members(value, 2) {
+        return Ok(None);
+    }
+    grain_at(alloc, names, value)
+}
+
+#[tactic(auto, unfolding(crate::specs::Form::load_of))]
+fn read_load(
+    alloc: Global,
+    names: &mut LatelyRead,
+    value: &Value,
+) -> Result<Option<Step>, AllocError>
+    ensures { IfOk result (λ step. step ≡ load_of (view value.now)) }
+{
+    let Some(failed) = failed_at(value, 2) else {
+        return Ok(None);
+    };
+    let Some(grain) = grain_at(alloc, names, value)? else {
+        return Ok(None);
+    };
+    Ok(Some(Step::Load { grain, failed }))
+}
+
+#[tactic(auto, unfolding(crate::specs::Form::store_of))]
+fn read_store(
+    alloc: Global,
+    names: &mut LatelyRead,
+    value: &Value,
+) -> Result<Option<Step>, AllocError>
+    ensures { IfOk result (λ step. step ≡ store_of (view value.now)) }
+{
+    let Some(failed) = failed_at(value, 3) else {
+        return Ok(None);
+    };
+    let Some(grain) = grain_at(alloc, names, value)? else {
+        return Ok(None);
+    };
+    let Some(turn) = natural_at(value, "turn") else {
+        return Ok(None);
+    };
+    Ok(Some(Step::Store {
+        grain,
+        turn,
+        failed,
+    }))
+}
+
+/// The grain and the turn of a form with these alone.
+fn read_turn(
+    alloc: Global,
+    names: &mut LatelyRead,
+    value: &Value,
+) -> Result<Option<(GrainId, u64)>, AllocError>
+    ensures { IfOk result (λ found. found ≡ turn_alone (view value.now)) }
+{
+    if !has_members(value, 3) {
+        return Ok(None);
+    }
+    let Some(grain) = grain_at(alloc, names, value)? else {
+        return Ok(None);
+    };
+    let Some(turn) = natural_at(value, "turn") else {
+        return Ok(None);
+    };
+    Ok(Some((grain, turn)))
+}
+
+#[tactic(auto, unfolding(crate::specs::Form::tick_of))]
+fn read_tick(value: &Value) -> Option<Step>
+    ensures { result ≡ tick_of (view value.now) }
+{
+    if !has_members(value, 2) {
+        return None;
+    }
+    let now = Moment::new(natural_at(value, "now")?)?;
+    Some(Step::Tick { now })
+}
+
+#[tactic(auto, unfolding(crate::specs::Form::sweep_of))]
+fn read_sweep(value: &Value) -> Option<Step>
+    ensures { result ≡ sweep_of (view value.now) }
+{
+    if !has_members(value, 1) {
+        return None;
+    }
+    Some(Step::Sweep)
+}
+
+#[tactic(auto, unfolding(crate::specs::Form::step_of_json, crate::specs::Form::form_of))]
+/// The step that the JSON asks for, where it has exactly the members of one form.
+pub(crate) fn read_step(
+    alloc: Global,
+    names: &mut LatelyRead,
+    value: &Value,
+) -> Result<Option<Step>, AllocError>
+    ensures { IfOk result (λ step. step ≡ step_of_json (view value.now)) }
+{
+    let Some(op) = text_at(value, "op") else {
+        return Ok(None);
+    };
+    match op {
+        "call" => read_call(alloc, names, value),
+        "poke" => read_poke(alloc, names, value),
+        "status" => read_status(alloc, names, value),
+        "deliver" => Ok(read_grain(alloc, names, value)?.map(|grain| Step::Deliver { grain })),
+        "activate" => Ok(read_grain(alloc, names, value)?.map(|grain| Step::Activate { grain })),
+        "load" => read_load(alloc, names, value),
+        "begin" => Ok(read_grain(alloc, names, value)?.map(|grain| Step::Begin { grain })),
+        "store" => read_store(alloc, names, value),
+        "end" => Ok(read_turn(alloc, names, value)?.map(|(grain, turn)| Step::End { grain, turn })),
+        "abandon" => Ok(read_turn(alloc, names, value)?.map(|(grain, turn)| Step::Abandon {
+            grain,
+            turn,
+        })),
+        "tick" => Ok(read_tick(value)),
+        "sweep" => Ok(read_sweep(value)),
+        _ => Ok(None),
+    }
+}

@@ -1,0 +1,22 @@
+//! What a line of JSON says: a step, a refusal, or nothing.
+//!
+//! A layer above may rely on this: `read_line` answers exactly what a line says, for all thirteen forms.
+//! What a line says is in `specs/Meaning.antt`, and the forms are in `specs/Form.antt`.
+#![tactic(auto)]
+
+mod argument;
+mod asked;
+mod fields;
+mod forms;
+mod line;
+mod members;
+mod named;
+mod number;
+mod reading;
+mod request;
+mod slots;
+mod step;
+mod unread;
+
+pub use line::{Line, LineRefusal};
+pub use reading::{LINE_LIMIT, LineRoom, read_any_line, read_line};

@@ -1,0 +1,52 @@
+//! Whole numbers of 64 bits in JSON.
+
+ghost use Rattle.std.specs.Prelude.{◌≡◌, ◌<◌, ◌==◌, length, slice_index, IsTrue, IfSome, Some, true, false, FitsSigned};
+ghost use Rattle.std.specs.Int.{w64};
+ghost use Rattle.serde_json.specs.Data.{unsigned};
+ghost use Rattle.serde_json.specs.Find.{of_integer};
+ghost use Rattle.serde_json.specs.Read.{number_from};
+ghost use Rattle.line_parser.specs.Number.{IsWhole};
+
+use fast_float::Numeral;
+
+/// Whether the text of a number begins with a minus.
+fn has_minus(bytes: &[u8]) -> bool
+    ensures value { result ≡ (slice_index bytes.now 0 == 45) }
+    ensures len { IsTrue result → 0 < length bytes.now }
+{
+    !bytes.is_empty() && bytes[0] == b'-'
+}
+
+/// The number of a numeral with no minus, if it is whole and below 2^64.
+fn unsigned_of(numeral: &Numeral<'_>) -> Option<u64>
+    ensures { IfSome result (λ n. number_from false numeral.now ≡ Some (unsigned n)) }
+{
+    numeral.to_u64()
+}
+
+/// The number of a numeral behind a minus, if it is whole, below 0 and has 64 bits.
+fn negative_of(numeral: &Numeral<'_>) -> Option<i64>
+    ensures read { IfSome result (λ n. number_from true numeral.now ≡ Some (of_integer n)) }
+    ensures fits { IfSome result (λ n. FitsSigned w64 n) }
+{
+    let number = numeral.to_i64(true)?;
+    if number < 0 { Some(number) } else { None }
+}
+
+/// The number, if it is written as a whole one and has 64 bits: `1.0` and `-0` are none.
+pub(crate) fn whole_number(text: &str) -> Option<i64>
+    ensures { IfSome result (λ n. IsWhole text.now n) }
+{
+    let bytes = text.as_bytes();
+    if has_minus(bytes) {
+        let number = negative_of(&Numeral::scan(&bytes[1..]))?;
+        Some(number)
+    } else {
+        let number = unsigned_of(&Numeral::scan(bytes))?;
+        if number <= i64::MAX as u64 {
+            Some(number as i64)
+        } else {
+            None
+        }
+    }
+}

@@ -1,0 +1,120 @@
+//! What a line says.
+
+ghost use Rattle.std.specs.Prelude.{◌≡◌, IfOk, Some, option_map, option_and_then};
+ghost use Rattle.serde_json.specs.Read.{read};
+ghost use Rattle.serde_json.specs.View.{view};
+ghost use Rattle.line_parser.specs.Form.{step_of_json};
+ghost use Rattle.line_parser.specs.Meaning.{json_of_line, meaning_of};
+
+use crate::forms::read_step;
+use crate::line::{Line, LineRefusal};
+use crate::slots::read_slots;
+use crate::step::step_from;
+use crate::unread::Unread;
+use grain_id::LatelyRead;
+use json::{Reader, Scratch};
+use serde_json::Value;
+use silo_event::Step;
+use simdutf8::compat::from_utf8;
+use std::alloc::{AllocError, Global};
+
+/// The bytes that a line may have, without its LF.
+pub const LINE_LIMIT: usize = 65536;
+
+#[tactic(auto, using(crate::proofs::Meaning::json_of_line_none))]
+/// The JSON of a line, if it is JSON.
+fn read_json(alloc: Global, line: &[u8]) -> Result<Option<Value>, AllocError>
+    ensures { IfOk result (λ value. option_map view value ≡ json_of_line line.now) }
+{
+    match Value::from_slice(alloc, line) {
+        Ok(value) => Ok(Some(value)),
+        Err(e) if e.is_memory() => Err(AllocError),
+        Err(_) => Ok(None),
+    }
+}
+
+/// The step of a line that has bytes and isn't too long.
+fn read_request(
+    alloc: Global,
+    names: &mut LatelyRead,
+    line: &[u8],
+) -> Result<Option<Step>, AllocError>
+    ensures { IfOk result (λ step. step ≡ option_and_then step_of_json (json_of_line line.now)) }
+{
+    let Some(value) = read_json(alloc, line)? else {
+        return Ok(None);
+    };
+    read_step(alloc, names, &value)
+}
+
+/// What is used again from line to line: names that were read lately, and memory for the parts of a
+/// line. What a line says doesn't depend on it.
+#[derive(Drop)]
+pub struct LineRoom {
+    names: LatelyRead,
+    scratch: Scratch,
+    args: Vec<u8>,
+    message: Vec<u8>,
+}
+
+impl LineRoom {
+    /// No name was read yet. The names have room at once, the rest grows to what the lines need.
+    pub fn new(alloc: Global) -> Result<LineRoom, AllocError> {
+        Ok(LineRoom {
+            names: LatelyRead::new(alloc)?,
+            scratch: Scratch::new(alloc),
+            args: Vec::new(alloc),
+            message: Vec::new(alloc),
+        })
+    }
+}
+
+/// What a line says, by its JSON as `serde_json` reads it: any line. `read_line` says the same, and is
+/// mostly faster.
+pub fn read_any_line(alloc: Global, room: &mut LineRoom, line: &[u8]) -> Result<Line, AllocError>
+    ensures { IfOk result (λ said. said ≡ meaning_of line.now) }
+{
+    if line.is_empty() {
+        return Ok(Line::Nothing);
+    }
+    if line.len() > LINE_LIMIT {
+        return Ok(Line::Refusal(LineRefusal::TooLong));
+    }
+    match read_request(alloc, &mut room.names, line)? {
+        Some(step) => Ok(Line::Step(step)),
+        None => Ok(Line::Refusal(LineRefusal::NotARequest)),
+    }
+}
+
+/// The step of a line in the usual form, in one pass over its tokens.
+fn read_text_step(alloc: Global, room: &mut LineRoom, text: &str) -> Result<Step, Unread>
+    ensures { IfOk result (λ step. option_and_then step_of_json (read text.now) ≡ Some step) }
+{
+    let mut reader = Reader::new(text, &mut room.scratch)?;
+    let slots = read_slots(&mut reader, &mut room.args)?;
+    step_from(
+        alloc,
+        &mut room.names,
+        &mut room.message,
+        &slots,
+        room.args.as_slice(),
+    )
+}
+
+/// What a line says, without its LF. A line in the usual form is read without a tree; every other
+/// one goes to `serde_json`.
+pub fn read_line(alloc: Global, room: &mut LineRoom, line: &[u8]) -> Result<Line, AllocError>
+    ensures { IfOk result (λ said. said ≡ meaning_of line.now) }
+{
+    if line.is_empty() || line.len() > LINE_LIMIT {
+        return read_any_line(alloc, room, line);
+    }
+    let Ok(text) = from_utf8(line) else {
+        return read_any_line(alloc, room, line);
+    };
+    match read_text_step(alloc, room, text) {
+        Ok(step) => Ok(Line::Step(step)),
+        Err(Unread::Memory) => Err(AllocError),
+        Err(Unread::Unusual) => read_any_line(alloc, room, line),
+    }
+}

@@ -1,0 +1,151 @@
+//! What the members of a line ask of a silo for a client.
+
+ghost use Rattle.std.specs.Prelude.{◌≡◌, ◌≤◌, ◌∷◌, ◌++◌, length, IfOk, OnOk, IsSome, Some, Ok};
+ghost use Rattle.serde_json.specs.Data.{Data, Members, object};
+ghost use Rattle.request_codec.specs.Call.{message_call, state_value};
+ghost use Rattle.request_codec.specs.Limits.{message_limit};
+ghost use Rattle.request_codec.specs.Written.{text_spelling};
+ghost use Rattle.line_parser.specs.Form.{argument_at, message_asked, state_asked, call_of, poke_of, status_of};
+ghost use Rattle.line_parser.specs.Slots.{IsArgument, HoldsSlots};
+ghost use Rattle.line_parser.specs.Step.{FindsIn, Finds};
+
+use crate::asked::{call_with, poke_with};
+use crate::named::{caller_of, id_of};
+use crate::slots::Slots;
+use crate::unread::Unread;
+use grain_id::LatelyRead;
+use request_codec::bytes::{put, put_text};
+use request_codec::limits::{MAX_MESSAGE_BYTES, MAX_STATE_BYTES};
+use request_codec::{Message, StateBytes};
+use silo_event::Step;
+use std::alloc::Global;
+
+/// Writes a message's bytes: those of a method, and those of its argument.
+fn write_message(out: &mut Vec<u8>, method: &str, argument: &[u8]) -> Result<(), Unread>
+    ensures { OnOk result ((out.new.items ≡ 1 ∷ (text_spelling method.now ++ argument.now)) × (length out.new.items ≤ message_limit)) }
+{
+    out.clear();
+    put(out, MAX_MESSAGE_BYTES, &[1])?;
+    put_text(out, MAX_MESSAGE_BYTES, method)?;
+    put(out, MAX_MESSAGE_BYTES, argument)?;
+    Ok(())
+}
+
+/// The message that the bytes spell.
+fn keep_message(alloc: Global, out: &Vec<u8>) -> Result<Message, Unread>
+    requires { IsSome (message_call out.now.items) }
+    ensures { IfOk result (λ m. message_call out.now.items ≡ Some m) }
+{
+    Ok(Message::copy_spelling(alloc, out.as_slice())?)
+}
+
+/// The message of a method and the bytes of its argument.
+fn read_message(
+    alloc: Global,
+    out: &mut Vec<u8>,
+    method: &str,
+    argument: &[u8],
+) -> Result<Message, Unread>
+    requires { (json : Data) × IsArgument json argument.now }
+    ensures { IfOk result (λ m. (json : Data) → IsArgument json argument.now → message_asked method.now json ≡ Ok m) }
+{
+    write_message(out, method, argument)?;
+    keep_message(alloc, out)
+}
+
+/// The state that the bytes spell.
+fn read_state(alloc: Global, bytes: &[u8]) -> Result<StateBytes, Unread>
+    ensures { IfOk result (λ s. (json : Data) → IsArgument json bytes.now → state_asked json ≡ Ok s) }
+{
+    if bytes.len() > MAX_STATE_BYTES {
+        return Err(Unread::Unusual);
+    }
+    let state = StateBytes::read(alloc, bytes)?;
+    Ok(state)
+}
+
+/// The bytes of a call's argument: null where it is left out.
+fn argument_of<'t>(slots: &Slots<'_>, bytes: &'t [u8]) -> Result<&'t [u8], Unread>
+    ensures { IfOk result (λ argument. (found : Members) → HoldsSlots found slots.now bytes.now
+        → (json : Data) × (argument_at (object found) ≡ Some json) × IsArgument json argument.now) }
+{
+    if slots.args {
+        if slots.count == 6 {
+            Ok(bytes)
+        } else {
+            Err(Unread::Unusual)
+        }
+    } else if slots.count == 5 {
+        Ok(&[0])
+    } else {
+        Err(Unread::Unusual)
+    }
+}
+
+/// The call, if the members are those of a call and its message keeps the limits; it is refused if
+/// its grain isn't well formed.
+pub(crate) fn call_from(
+    alloc: Global,
+    names: &mut LatelyRead,
+    out: &mut Vec<u8>,
+    slots: &Slots<'_>,
+    bytes: &[u8],
+) -> Result<Step, Unread>
+    requires { (found : Members) × HoldsSlots found slots.now bytes.now }
+    ensures { IfOk result (λ step. FindsIn slots.now bytes.now call_of step) }
+{
+    let argument = argument_of(slots, bytes)?;
+    let caller = caller_of(alloc, names, slots)?;
+    let id = id_of(slots)?;
+    let Some(grain) = slots.grain else {
+        return Err(Unread::Unusual);
+    };
+    let Some(method) = slots.method else {
+        return Err(Unread::Unusual);
+    };
+    let message = read_message(alloc, out, method, argument)?;
+    let step = call_with(alloc, names, caller, id, grain, message)?;
+    Ok(step)
+}
+
+/// The poke, if the members are those of a poke and its state keeps the limits; it is refused if its
+/// grain isn't well formed.
+pub(crate) fn poke_from(
+    alloc: Global,
+    names: &mut LatelyRead,
+    slots: &Slots<'_>,
+    bytes: &[u8],
+) -> Result<Step, Unread>
+    ensures { IfOk result (λ step. FindsIn slots.now bytes.now poke_of step) }
+{
+    if !slots.state {
+        return Err(Unread::Unusual);
+    }
+    if slots.count != 5 {
+        return Err(Unread::Unusual);
+    }
+    let caller = caller_of(alloc, names, slots)?;
+    let id = id_of(slots)?;
+    let Some(grain) = slots.grain else {
+        return Err(Unread::Unusual);
+    };
+    let state = read_state(alloc, bytes)?;
+    let step = poke_with(alloc, names, caller, id, grain, state)?;
+    Ok(step)
+}
+
+/// The question for a tenant's status, if the members are those of one.
+pub(crate) fn status_from(
+    alloc: Global,
+    names: &mut LatelyRead,
+    slots: &Slots<'_>,
+) -> Result<Step, Unread>
+    ensures { IfOk result (λ step. Finds slots.now status_of step) }
+{
+    if slots.count != 3 {
+        return Err(Unread::Unusual);
+    }
+    let caller = caller_of(alloc, names, slots)?;
+    let id = id_of(slots)?;
+    Ok(Step::Status { caller, id })
+}

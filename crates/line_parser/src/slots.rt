@@ -1,0 +1,222 @@
+//! The members of a line, each by its name.
+
+ghost use Rattle.std.specs.Prelude.{◌≡◌, ◌<◌, ◌^◌, ◌||◌, [], ◌∷◌, false, None, IfSome, IfOk, OnOk, option_map};
+ghost use Rattle.json.specs.Token.{string, boolean};
+ghost use Rattle.line_parser.specs.Argument.{PutsValue};
+ghost use Rattle.line_parser.specs.Slots.{name_text, TakesMember, HasSlots, IsNatural};
+
+use crate::argument::put_value;
+use crate::number::whole_number;
+use crate::unread::Unread;
+use json::{Reader, Token};
+use request_codec::limits::{MAX_MESSAGE_BYTES, MAX_STATE_BYTES};
+
+/// The members that a step may have.
+#[derive(Clone, Copy)]
+pub(crate) enum Name {
+    Op,
+    From,
+    Grain,
+    Method,
+    Id,
+    Turn,
+    Now,
+    Failed,
+    Args,
+    State,
+}
+
+/// What the members of a line were, each at most once. `args` and `state` say whether they were
+/// there, which is at most one of them; its bytes are kept elsewhere.
+#[derive(Drop)]
+pub(crate) struct Slots<'a> {
+    pub(crate) op: Option<&'a str>,
+    pub(crate) from: Option<&'a str>,
+    pub(crate) grain: Option<&'a str>,
+    pub(crate) method: Option<&'a str>,
+    pub(crate) id: Option<u64>,
+    pub(crate) turn: Option<u64>,
+    pub(crate) moment: Option<u64>,
+    pub(crate) failed: Option<bool>,
+    pub(crate) args: bool,
+    pub(crate) state: bool,
+    pub(crate) count: usize,
+}
+
+/// The levels that a member's value may have: what is left of 127 behind the line's object.
+const MEMBER_DEPTH: usize = 126;
+
+/// The member of that name. Only names of its length are compared.
+fn name_of(key: &str) -> Option<Name>
+    ensures { IfSome result (λ name. key.now ≡ name_text name) }
+{
+    match key.len() {
+        2 => match key {
+            "op" => Some(Name::Op),
+            "id" => Some(Name::Id),
+            _ => None,
+        },
+        3 => match key {
+            "now" => Some(Name::Now),
+            _ => None,
+        },
+        4 => match key {
+            "turn" => Some(Name::Turn),
+            "from" => Some(Name::From),
+            "args" => Some(Name::Args),
+            _ => None,
+        },
+        5 => match key {
+            "grain" => Some(Name::Grain),
+            "state" => Some(Name::State),
+            _ => None,
+        },
+        6 => match key {
+            "method" => Some(Name::Method),
+            "failed" => Some(Name::Failed),
+            _ => None,
+        },
+        _ => None,
+    }
+}
+
+/// The next token, which has to be a text, for a slot that has none.
+fn take_text<'a>(slot: Option<&str>, reader: &mut Reader<'a>) -> Result<&'a str, Unread>
+    ensures empty { OnOk result (slot.entry ≡ None) }
+    ensures token { IfOk result (λ s. reader.old ≡ string s.now ∷ reader.new) }
+{
+    if slot.is_some() {
+        return Err(Unread::Unusual);
+    }
+    match reader.next() {
+        Some(Token::String(text)) => Ok(text),
+        _ => Err(Unread::Unusual),
+    }
+}
+
+/// The next token, which has to be a whole number, 0 or above, for a slot that has none.
+fn take_natural(slot: Option<u64>, reader: &mut Reader<'_>) -> Result<u64, Unread>
+    ensures empty { OnOk result (slot ≡ None) }
+    ensures token { IfOk result (λ n. IsNatural reader.old n reader.new) }
+{
+    if slot.is_some() {
+        return Err(Unread::Unusual);
+    }
+    let Some(Token::Number(text)) = reader.next() else {
+        return Err(Unread::Unusual);
+    };
+    let Some(n) = whole_number(text) else {
+        return Err(Unread::Unusual);
+    };
+    if n < 0 {
+        return Err(Unread::Unusual);
+    }
+    Ok(n as u64)
+}
+
+/// The next token, which has to be a truth value, for a slot that has none.
+fn take_truth(slot: Option<bool>, reader: &mut Reader<'_>) -> Result<bool, Unread>
+    ensures empty { OnOk result (slot ≡ None) }
+    ensures token { IfOk result (λ b. reader.old ≡ boolean b ∷ reader.new) }
+{
+    if slot.is_some() {
+        return Err(Unread::Unusual);
+    }
+    match reader.next() {
+        Some(Token::Bool(b)) => Ok(b),
+        _ => Err(Unread::Unusual),
+    }
+}
+
+/// Whether there was a member whose bytes are kept.
+fn has_value(slots: &Slots<'_>) -> bool
+    ensures { result ≡ (slots.now.args || slots.now.state) }
+{
+    slots.args || slots.state
+}
+
+/// Puts the next value's bytes in place of others, unless a value was put there before.
+fn take_value(
+    taken: bool,
+    bytes: &mut Vec<u8>,
+    limit: usize,
+    reader: &mut Reader<'_>,
+) -> Result<(), Unread>
+    requires { limit < 2 ^ 32 }
+    ensures empty { OnOk result (taken ≡ false) }
+    ensures value { OnOk result (PutsValue 126 reader.old reader.new [] bytes.new.items) }
+{
+    if taken {
+        return Err(Unread::Unusual);
+    }
+    bytes.clear();
+    put_value(bytes, limit, reader, MEMBER_DEPTH)
+}
+
+/// Takes a member that wasn't there yet.
+#[inline(always)]
+fn take_member<'a>(
+    slots: &mut Slots<'a>,
+    bytes: &mut Vec<u8>,
+    reader: &mut Reader<'a>,
+    name: Name,
+) -> Result<(), Unread>
+    ensures { OnOk result (TakesMember name reader.old reader.new slots.old bytes.old.items slots.new bytes.new.items) }
+{
+    let count = slots.count.checked_add(1).ok_or(Unread::Unusual)?;
+    slots.count = count;
+    match name {
+        Name::Op => slots.op = Some(take_text(slots.op, reader)?),
+        Name::From => slots.from = Some(take_text(slots.from, reader)?),
+        Name::Grain => slots.grain = Some(take_text(slots.grain, reader)?),
+        Name::Method => slots.method = Some(take_text(slots.method, reader)?),
+        Name::Id => slots.id = Some(take_natural(slots.id, reader)?),
+        Name::Turn => slots.turn = Some(take_natural(slots.turn, reader)?),
+        Name::Now => slots.moment = Some(take_natural(slots.moment, reader)?),
+        Name::Failed => slots.failed = Some(take_truth(slots.failed, reader)?),
+        Name::Args => {
+            take_value(has_value(slots), bytes, MAX_MESSAGE_BYTES, reader)?;
+            slots.args = true;
+        }
+        Name::State => {
+            take_value(has_value(slots), bytes, MAX_STATE_BYTES, reader)?;
+            slots.state = true;
+        }
+    }
+    Ok(())
+}
+
+/// The members of the object that the tokens are, if each is known and stands once.
+pub(crate) fn read_slots<'a>(
+    reader: &mut Reader<'a>,
+    bytes: &mut Vec<u8>,
+) -> Result<Slots<'a>, Unread>
+    ensures { IfOk result (λ slots. HasSlots reader.old slots bytes.new.items) }
+{
+    let Some(Token::BeginObject) = reader.next() else {
+        return Err(Unread::Unusual);
+    };
+    let mut slots = Slots {
+        op: None,
+        from: None,
+        grain: None,
+        method: None,
+        id: None,
+        turn: None,
+        moment: None,
+        failed: None,
+        args: false,
+        state: false,
+        count: 0,
+    };
+    'members: while let Some(key) = reader.next_key()? {
+        let Some(name) = name_of(key) else {
+            return Err(Unread::Unusual);
+        };
+        take_member(&mut slots, bytes, reader, name)?;
+    }
+    match reader.next() {
+        None => Ok(slots),
+        Some(_) => Err(Unread::Unusual),
+    }
+}

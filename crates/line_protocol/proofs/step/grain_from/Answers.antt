@@ -1,5 +1,0 @@
-use Rattle.std.proofs.Common.{◌==◌, ap, ◌∙◌}
-use Rattle.line_protocol.proofs.step.grain_from.Goals as goal
-
-pub returns-clause-alone : goal.returns-clause-alone
-returns-clause-alone c l found h = ap (λ k. k == 2) (h.count ∙ c.if-slots-ne2.false)
