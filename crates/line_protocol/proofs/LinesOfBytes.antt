@@ -5,9 +5,6 @@ use Rattle.std.proofs.KnownBytes.{Consumes-trans, Consumes-kept}
 use Rattle.line_protocol.specs.Lines.{onto, lines_of}
 use Rattle.line_protocol.specs.LineRuns.{LinesTaken, HasNoBreak}
 
-pub HasNoBreak-nil : HasNoBreak []
-HasNoBreak-nil k h = absurd (omega arith)
-
 HasNoBreak-tail : (x : ℕ) (xs : List ℕ) → HasNoBreak (x ∷ xs) → HasNoBreak xs
 HasNoBreak-tail x xs h k lt = h (suc k) (omega arith)
 
@@ -96,9 +93,6 @@ LinesTaken-self (Some bytes) = refl
 pub prepend-nil : (a : Option (List ℕ)) → prepend_known [] a ≡ a
 prepend-nil None = refl
 prepend-nil (Some bytes) = refl
-
-pub nothing_taken : (a : Option (List ℕ)) (ahead : List ℕ) → ahead ≡ [] → LinesTaken a (prepend_known ahead a) []
-nothing_taken a ahead e = subst (λ l. LinesTaken a l []) (sym (ap (λ l. prepend_known l a) e ∙ prepend-nil a)) (LinesTaken-self a)
 
 -- a line and its LF stand whole in what was read ahead
 pub whole_taken : (front back whole : List ℕ) (rest : Option (List ℕ)) → HasNoBreak front → whole ≡ front ++ 10 ∷ back → LinesTaken (prepend_known whole rest) (prepend_known back rest) (front ∷ [])

@@ -45,9 +45,6 @@ as_many [] (entry ∷ table) w = absurd w
 as_many (t ∷ texts) [] w = absurd w
 as_many (t ∷ texts) (entry ∷ table) w = ap suc (as_many texts table w.1)
 
-pub WriteDistinct-none : WriteDistinct [] []
-WriteDistinct-none = record { written = tt; distinct = refl; at_most = omega arith }
-
 pub WriteDistinct-push : (texts : List (List ℕ)) (table : Table) (text tenant : List ℕ) (limits : Limits) → WriteDistinct texts table → IsTenantText text tenant limits → MayFollow table tenant
     → WriteDistinct (texts ++ text ∷ []) (table ++ (tenant, limits) ∷ [])
 WriteDistinct-push texts table text tenant limits p is may = record {
