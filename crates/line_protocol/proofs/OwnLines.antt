@@ -1,5 +1,5 @@
 -- What is written for the lines of one tenant, among those of many.
-use Rattle.std.proofs.Common.{◌≡◌, ℕ, Bool, true, false, cond, List, [], ◌∷◌, ◌++◌, length, drop, Option, Some, None, unwrap_or, refl, sym, ap, ap₂, ◌∙◌, subst}
+use Rattle.std.proofs.Common.{◌≡◌, ℕ, Bool, true, false, cond, List, [], ◌∷◌, ◌++◌, length, drop, Option, Some, None, unwrap_or, refl, sym, ap, ap₂, ◌∙◌}
 use Rattle.std.proofs.Math.Seq.{drop-append_seam}
 use Rattle.silo_event.specs.Failed.{marked_step}
 use Rattle.silo_event.specs.declared.reply.Reply.{Reply}
@@ -18,7 +18,7 @@ use Rattle.silo_model.proofs.Runs.{whole_after, machine_after, next_shown}
 use Rattle.silo_core.specs.History.{History}
 use Rattle.silo_core.proofs.Steps.{done_parts}
 use Rattle.line_protocol.specs.LineTexts.{whole_stepper, machine_stepper, texts_of, step_text, line_text, line_texts, said_lines, steps_said, as_taken, lines_to, texts_to}
-use Rattle.line_protocol.specs.LineRuns.{AnswersSaid, AnswersOwn, AnswersLines}
+use Rattle.line_protocol.specs.LineRuns.{AnswersSaid, AnswersLines}
 use Rattle.line_parser.specs.declared.line.Line.{Line}
 use Rattle.line_parser.specs.declared.line.Line.TheVariants as line
 use Rattle.line_protocol.proofs.Saids.{EachAnswered}

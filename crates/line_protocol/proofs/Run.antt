@@ -3,7 +3,6 @@ use Rattle.std.proofs.Common.{◌≡◌, ◌≢◌, ℕ, suc, ◌+◌, ◌<◌, 
 use Rattle.std.proofs.lemmas.Bool.{cases_lt}
 use Rattle.std.specs.Io.KnownBytes.{Appends, Keeps, IsAtEnd, prepend_known}
 use Rattle.std.proofs.KnownBytes.{Appends-trans, Appends-kept, Appends-nil}
-use Rattle.silo_event.specs.Failed.{marked_step}
 use Rattle.silo_event.specs.declared.step.Answer.{Answer}
 use Rattle.silo_event.specs.declared.step.Step.{Step}
 use Rattle.grain_kinds.specs.Logic.{Logic}
@@ -24,7 +23,7 @@ use Rattle.line_protocol.specs.declared.fault.LineFault.TheVariants as fault
 use Rattle.line_parser.specs.declared.line.Line.{Line}
 use Rattle.line_parser.specs.declared.line.Line.TheVariants as line
 use Rattle.line_parser.proofs.Meaning.{said_under, meaning_of-under, long_under}
-use Rattle.line_protocol.proofs.Saids.{EachAnswered, said_lines-more, steps_said-more, as_taken-append, steps_said-taken, lines_text-append}
+use Rattle.line_protocol.proofs.Saids.{said_lines-more, steps_said-more, as_taken-append, steps_said-taken, lines_text-append}
 use Rattle.line_protocol.proofs.OwnLines.{lines_own}
 use Rattle.line_protocol.proofs.LinesOfBytes.{LinesTaken-trans, LinesTaken-kept}
 

@@ -11,7 +11,6 @@ use Rattle.silo_core.specs.History.{History, Answered}
 use Rattle.silo_core.specs.Runs.{Takes}
 use Rattle.line_protocol.specs.Calls.{calls_limit}
 use Rattle.line_protocol.specs.Lines.{lines_of, lines_limit}
-use Rattle.line_parser.specs.Meaning.{meaning_of}
 use Rattle.line_protocol.specs.Text.{refusal_line}
 use Rattle.line_protocol.specs.LineTexts.{whole_stepper, machine_stepper, said_lines, steps_said, as_taken, ended, line_text, line_texts, lines_text, lines_to, texts_to}
 use Rattle.line_parser.specs.declared.line.Line.{Line}
