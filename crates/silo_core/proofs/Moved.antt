@@ -16,7 +16,7 @@ use Rattle.silo_core.specs.History.{StepAnswersInParts}
 use Rattle.silo_core.specs.Runs.{noted}
 use Rattle.silo_core.proofs.Steps.{done_parts}
 
-leads_on : (logic : Logic) (setup : Setup) (journal : List Step) (old new : Held) (s : Step) (a : Answer) → LeadsTo logic setup journal old.whole → Moves logic old s (Ok a) new → LeadsTo logic setup (journal ++ noted s a []) new.whole
+leads_on : (logic : Logic) (setup : Setup) (journal : List Step) (old new : Held) (s : Step) (a : Answer) → LeadsTo logic setup journal old.whole → Moves logic old s (Ok a) new → LeadsTo logic setup (journal ++ noted s a) new.whole
 leads_on logic setup journal old new s Done leads h = journals_grow logic setup journal old.whole new.whole s leads h.0
 leads_on logic setup journal old new s Failed leads h = journals_grow logic setup journal old.whole new.whole (as_failed s) leads h.1
 leads_on logic setup journal old new s NotNow leads h =
@@ -25,7 +25,7 @@ leads_on logic setup journal old new s NotNow leads h =
 
 -- the journal with the step behind it, if it was done
 pub moves_lead : (logic : Logic) (setup : Setup) (journal after : List Step) (old new : Held) (s : Step) (a : Answer)
-    → LeadsTo logic setup journal old.whole → Moves logic old s (Ok a) new → after ≡ journal ++ noted s a [] → LeadsTo logic setup after new.whole
+    → LeadsTo logic setup journal old.whole → Moves logic old s (Ok a) new → after ≡ journal ++ noted s a → LeadsTo logic setup after new.whole
 moves_lead logic setup journal after old new s a leads h grown = subst (λ (j : List Step). LeadsTo logic setup j new.whole) (sym grown) (leads_on logic setup journal old new s a leads h)
 
 pub moved_parts : (logic : Logic) (setup : Setup) (journal : List Step) (old new : Held) (s : Step) (a : Answer) → LeadsTo logic setup journal old.whole → Moves logic old s (Ok a) new → StepAnswersInParts logic old.whole s (Ok a) new.whole

@@ -1,19 +1,20 @@
 -- Runs, one after another.
-use Rattle.std.proofs.Common.{◌≡◌, ◌≢◌, ℕ, zero, suc, ◌+◌, List, [], ◌∷◌, ◌++◌, length, take, drop, Option, Some, None, unwrap_or, refl, ap, sym, ◌∙◌, subst, arith, length-append}
+use Rattle.std.proofs.Common.{◌≡◌, ◌≢◌, ℕ, zero, suc, ◌+◌, cond, List, [], ◌∷◌, ◌++◌, length, take, drop, Option, Some, None, unwrap_or, refl, ap, sym, ◌∙◌, subst, arith, length-append}
 use Rattle.std.specs.Prelude.{Ok}
 use Rattle.std.proofs.lemmas.List.{append-nil, append_assoc}
+use Rattle.std.proofs.lemmas.List.Sums.{sum_by-append}
 use Rattle.std.proofs.lemmas.Option.{none-some}
 use Rattle.silo_event.specs.Failed.{as_failed, marked_step}
 use Rattle.silo_event.specs.declared.step.Step.{Step}
 use Rattle.silo_event.specs.declared.step.Answer.{Answer}
 use Rattle.silo_event.specs.declared.step.Answer.TheVariants.{Done, Failed, NotNow}
 use Rattle.grain_kinds.specs.Logic.{Logic}
-use Rattle.silo_model.specs.Whole.{whole_step}
-use Rattle.silo_model.specs.Run.{run_by, whole_run, marked}
+use Rattle.silo_model.specs.Whole.{Whole, whole_step}
+use Rattle.silo_model.specs.Run.{run_by, if_possible, done_by, whole_run, marked}
 use Rattle.silo_model.specs.Answers.{AreAnswersBy, AreAnswers}
-use Rattle.silo_model.proofs.Runs.{run_by-append}
+use Rattle.silo_model.proofs.Runs.{run_by-append, done_by-append}
 use Rattle.silo_core.specs.History.{History, Failures, Answered, failed_since}
-use Rattle.silo_core.specs.Runs.{noted, done_steps, one_if_failed, failed_in, Takes}
+use Rattle.silo_core.specs.Runs.{is_failed, failed_in, Takes}
 
 -- ---- lists of steps and of answers, as long as each other
 
@@ -23,25 +24,16 @@ marked-append [] (a ∷ given) ts more same = absurd (cc (same))
 marked-append (s ∷ ss) [] ts more same = absurd (cc (same))
 marked-append (s ∷ ss) (a ∷ given) ts more same = ap (λ (rest : List Step). marked_step s a ∷ rest) (marked-append ss given ts more (cc (same)))
 
-noted-append : (s : Step) (a : Answer) (xs ys : List Step) → noted s a (xs ++ ys) ≡ noted s a xs ++ ys
-noted-append s Done xs ys = refl
-noted-append s Failed xs ys = refl
-noted-append s NotNow xs ys = refl
-
-pub done_steps-append : (ss : List Step) (given : List Answer) (ts : List Step) (more : List Answer) → length given ≡ length ss → done_steps (ss ++ ts) (given ++ more) ≡ done_steps ss given ++ done_steps ts more
-done_steps-append [] [] ts more same = refl
-done_steps-append [] (a ∷ given) ts more same = absurd (cc (same))
-done_steps-append (s ∷ ss) [] ts more same = absurd (cc (same))
-done_steps-append (s ∷ ss) (a ∷ given) ts more same = ap (noted s a) (done_steps-append ss given ts more (cc (same))) ∙ noted-append s a (done_steps ss given) (done_steps ts more)
-
-one_more : (a : Answer) (n m : ℕ) → one_if_failed a (n + m) ≡ one_if_failed a n + m
-one_more Done n m = refl
-one_more Failed n m = omega arith
-one_more NotNow n m = refl
+-- the steps that are done in a list, and then those in another
+done_on : (logic : Logic) (old mid : Whole) (ss : List Step) (given : List Answer) (ts : List Step) (more : List Answer) → length given ≡ length ss → mid ≡ whole_run logic old (marked ss given)
+    → done_by (whole_step logic) old (marked ss given) ++ done_by (whole_step logic) mid (marked ts more) ≡ done_by (whole_step logic) old (marked (ss ++ ts) (given ++ more))
+done_on logic old mid ss given ts more same led =
+    ap (λ (w : Whole). done_by (whole_step logic) old (marked ss given) ++ done_by (whole_step logic) w (marked ts more)) led
+    ∙ sym (done_by-append (whole_step logic) old (marked ss given) (marked ts more))
+    ∙ ap (λ (steps : List Step). done_by (whole_step logic) old steps) (sym (marked-append ss given ts more same))
 
 pub failed_in-append : (given more : List Answer) → failed_in (given ++ more) ≡ failed_in given + failed_in more
-failed_in-append [] more = omega arith
-failed_in-append (a ∷ given) more = ap (one_if_failed a) (failed_in-append given more) ∙ one_more a (failed_in given) (failed_in more)
+failed_in-append given more = sum_by-append (λ (a : Answer). cond (is_failed a) 1 0) given more
 
 answers-append : {M : Type 0} (step : M → Step → Option M) (m : M) (ss : List Step) (given : List Answer) (ts : List Step) (more : List Answer) → length given ≡ length ss
     → AreAnswersBy step m ss given → AreAnswersBy step (run_by step m (marked ss given)) ts more → AreAnswersBy step m (ss ++ ts) (given ++ more)
@@ -77,13 +69,17 @@ taken_none logic old = record {
 possible : {A : Type 0} (o : Option A) (x : A) → o ≡ Some x → o ≢ None
 possible o x e none = none-some x (sym none ∙ e)
 
+-- what is done of one step, by what becomes of it
+done_one : (logic : Logic) (old : Whole) (s : Step) (o : Option Whole) → whole_step logic old s ≡ o → done_by (whole_step logic) old (s ∷ []) ≡ if_possible s o ++ []
+done_one logic old s o is = ap (λ (found : Option Whole). if_possible s found ++ []) is
+
 -- one step is a run of itself
 pub taken_one : (logic : Logic) (old new : History) (s : Step) (a : Answer) → Answered logic old s (Ok a) new → Takes logic old (s ∷ []) (a ∷ []) new
 taken_one logic old new s Done h = record {
   each_answered = refl;
   answers = (possible (whole_step logic old.whole s) new.whole h.whole, tt);
   whole = sym (ap (λ o. unwrap_or o old.whole) h.whole);
-  journal = h.journal;
+  journal = h.journal ∙ ap (λ (j : List Step). old.journal ++ j) (sym (done_one logic old.whole s (Some new.whole) h.whole));
   setup = h.setup;
   failures = h.failures;
 }
@@ -91,7 +87,7 @@ taken_one logic old new s Failed h = record {
   each_answered = refl;
   answers = ((h.calls, possible (whole_step logic old.whole (as_failed s)) new.whole h.advances.whole), tt);
   whole = sym (ap (λ o. unwrap_or o old.whole) h.advances.whole);
-  journal = h.advances.journal;
+  journal = h.advances.journal ∙ ap (λ (j : List Step). old.journal ++ j) (sym (done_one logic old.whole (as_failed s) (Some new.whole) h.advances.whole));
   setup = h.advances.setup;
   failures = h.advances.failures;
 }
@@ -99,7 +95,7 @@ taken_one logic old new s NotNow h = record {
   each_answered = refl;
   answers = (h.impossible, tt);
   whole = ap (λ (k : History). k.whole) h.unchanged ∙ sym (ap (λ o. unwrap_or o old.whole) h.impossible);
-  journal = ap (λ (k : History). k.journal) h.unchanged ∙ sym (append-nil old.journal);
+  journal = ap (λ (k : History). k.journal) h.unchanged ∙ sym (append-nil old.journal) ∙ ap (λ (j : List Step). old.journal ++ j) (sym (done_one logic old.whole s None h.impossible));
   setup = ap (λ (k : History). k.setup) h.unchanged;
   failures = ap (λ (k : History). k.failures) h.unchanged ∙ sym (since_none old.failures);
 }
@@ -116,9 +112,9 @@ taken_on logic old mid new ss given ts more t u = record {
       ∙ ap (whole_run logic old.whole) (sym (marked-append ss given ts more t.each_answered));
   journal =
       u.journal
-      ∙ ap (λ (j : List Step). j ++ done_steps ts more) t.journal
-      ∙ append_assoc old.journal (done_steps ss given) (done_steps ts more)
-      ∙ ap (λ (j : List Step). old.journal ++ j) (sym (done_steps-append ss given ts more t.each_answered));
+      ∙ ap (λ (j : List Step). j ++ done_by (whole_step logic) mid.whole (marked ts more)) t.journal
+      ∙ append_assoc old.journal (done_by (whole_step logic) old.whole (marked ss given)) (done_by (whole_step logic) mid.whole (marked ts more))
+      ∙ ap (λ (j : List Step). old.journal ++ j) (done_on logic old.whole mid.whole ss given ts more t.each_answered t.whole);
   setup = u.setup ∙ t.setup;
   failures =
       u.failures

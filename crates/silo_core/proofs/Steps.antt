@@ -1,5 +1,5 @@
 -- What a silo's step shows of each tenant, by its journal.
-use Rattle.std.proofs.Common.{◌≡◌, ℕ, true, List, [], ◌++◌, Option, Some, None, refl, ap, sym, ◌∙◌, subst}
+use Rattle.std.proofs.Common.{◌≡◌, ℕ, true, List, [], ◌++◌, Option, Some, None, refl, ap, sym, ◌∙◌}
 use Rattle.std.specs.Prelude.{Result, Ok, Err, filter}
 use Rattle.std.proofs.lemmas.List.{append-nil}
 use Rattle.grain_id.proofs.Order.{same_text_decides}
@@ -18,9 +18,8 @@ use Rattle.silo_model.specs.Opening.{Setup}
 use Rattle.silo_model.specs.Journal.{LeadsTo}
 use Rattle.silo_model.proofs.Isolation.{shared_by}
 use Rattle.silo_model.proofs.SharedSteps.{shared_leaves}
-use Rattle.silo_model.proofs.Journals.{own_part, other_parts, not_now, journals_grow, adds_replies}
+use Rattle.silo_model.proofs.Journals.{own_part, other_parts, not_now, adds_replies}
 use Rattle.silo_core.specs.History.{History, Answered, StepAnswersInParts, StepsInParts}
-use Rattle.silo_core.specs.Runs.{noted}
 
 -- The replies that a step adds stand last among all, and last among those of each tenant that it concerns.
 record Adds (w : Whole) (s : Step) (after : Whole) : Type 0 where
@@ -66,11 +65,3 @@ step_parts logic old new s (Ok Failed) leads h = done_parts logic old.setup old.
 step_parts logic old new s (Ok NotNow) leads h = λ tenant concerned. not_now logic old.whole s tenant concerned h.impossible
 step_parts logic old new s (Err Memory) leads h = ap (λ (k : History). k.whole) h
 step_parts logic old new s (Err Stranger) leads h = absurd h
-
--- a journal with the step behind it, if it was done, leads to what the silo shows after it
-pub answer_leads : (logic : Logic) (old new : History) (s : Step) (a : Answer) → LeadsTo logic old.setup old.journal old.whole → Answered logic old s (Ok a) new → LeadsTo logic old.setup (old.journal ++ noted s a []) new.whole
-answer_leads logic old new s Done leads h = journals_grow logic old.setup old.journal old.whole new.whole s leads h.whole
-answer_leads logic old new s Failed leads h = journals_grow logic old.setup old.journal old.whole new.whole (as_failed s) leads h.advances.whole
-answer_leads logic old new s NotNow leads h =
-    subst (λ (k : History). LeadsTo logic old.setup (old.journal ++ []) k.whole) (sym h.unchanged)
-    (subst (λ (j : List Step). LeadsTo logic old.setup j old.whole) (sym (append-nil old.journal)) leads)

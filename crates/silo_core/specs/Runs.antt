@@ -1,37 +1,30 @@
 -- What a run of steps answers and leaves.
-use Rattle.std.specs.Prelude.{◌≡◌, ℕ, suc, true, List, [], ◌∷◌, ◌++◌, length}
+use Rattle.std.specs.Prelude.{◌≡◌, ℕ, Bool, true, false, List, [], ◌∷◌, ◌++◌, length, count_by}
 use Rattle.silo_event.specs.Failed.{as_failed}
 use Rattle.silo_event.specs.declared.step.Step.{Step}
 use Rattle.silo_event.specs.declared.step.Answer.{Answer}
 use Rattle.silo_event.specs.declared.step.Answer.TheVariants as answer
 use Rattle.grain_kinds.specs.Logic.{Logic}
-use Rattle.silo_model.specs.Whole.{Whole, shown_to}
-use Rattle.silo_model.specs.Run.{machine_run, whole_run, restricted_to, concerns, answers_to, marked}
+use Rattle.silo_model.specs.Whole.{Whole, shown_to, whole_step}
+use Rattle.silo_model.specs.Run.{done_by, machine_run, whole_run, restricted_to, concerns, answers_to, marked}
 use Rattle.silo_model.specs.Answers.{AreAnswers, AreMachineAnswers}
 use Rattle.silo_core.specs.History.{History, failed_since}
 
--- the step as the journal has it, if it was done, and what comes after it
-abbrev pub noted : Step → Answer → List Step → List Step
-noted s answer.Done rest = s ∷ rest
-noted s answer.Failed rest = as_failed s ∷ rest
-noted s answer.NotNow rest = rest
+-- the step as the journal has it, if it was done
+abbrev pub noted : Step → Answer → List Step
+noted s answer.Done = s ∷ []
+noted s answer.Failed = as_failed s ∷ []
+noted s answer.NotNow = []
 
--- the steps that were done, in order, each as it was taken
-abbrev pub done_steps : List Step → List Answer → List Step
-done_steps [] given = []
-done_steps (s ∷ steps) [] = []
-done_steps (s ∷ steps) (a ∷ given) = noted s a (done_steps steps given)
+-- the answer says that the storage failed
+abbrev pub is_failed : Answer → Bool
+is_failed answer.Failed = true
+is_failed answer.Done = false
+is_failed answer.NotNow = false
 
--- one more, if the storage failed
-abbrev pub one_if_failed : Answer → ℕ → ℕ
-one_if_failed answer.Failed n = suc n
-one_if_failed answer.Done n = n
-one_if_failed answer.NotNow n = n
-
--- how many of the answers say that the storage failed
+-- how many of the answers do
 abbrev pub failed_in : List Answer → ℕ
-failed_in [] = 0
-failed_in (a ∷ given) = one_if_failed a (failed_in given)
+failed_in given = count_by is_failed given
 
 -- each of the steps is the tenant's or nobody's
 abbrev pub AllConcern : List ℕ → List Step → Type 0
@@ -51,6 +44,6 @@ pub record Takes (logic : Logic) (old : History) (steps : List Step) (given : Li
   pub each_answered : length given ≡ length steps
   pub answers : AreAnswers logic old.whole steps given
   pub whole : new.whole ≡ whole_run logic old.whole (marked steps given)
-  pub journal : new.journal ≡ old.journal ++ done_steps steps given
+  pub journal : new.journal ≡ old.journal ++ done_by (whole_step logic) old.whole (marked steps given)
   pub setup : new.setup ≡ old.setup
   pub failures : new.failures ≡ failed_since (failed_in given) old.failures

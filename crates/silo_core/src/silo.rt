@@ -200,7 +200,7 @@ impl<S: GrainStorage, L: GrainLogic> Silo<S, L> {
 /// Puts a step that was done at the journal's end, as it was taken.
 fn note(journal: &mut Vec<Step>, answer: Answer, step: Step)
     requires { vec_len journal.old < vec_capacity journal.old }
-    ensures { journal.new.items ≡ journal.old.items ++ noted step answer [] }
+    ensures { journal.new.items ≡ journal.old.items ++ noted step answer }
 {
     match answer {
         Answer::Done => journal.push_reserved(step),

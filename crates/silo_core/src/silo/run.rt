@@ -1,12 +1,12 @@
 //! Lists of steps.
 
-ghost use Rattle.std.specs.Prelude.{◌≡◌, ◌<◌, ◌↔◌, ℕ, List, [], IsTrue, ◌++◌, length, take, vec_len};
+ghost use Rattle.std.specs.Prelude.{◌≡◌, ◌<◌, ◌↔◌, ℕ, List, [], IsTrue, ◌++◌, take, vec_len};
 ghost use Rattle.silo_model.specs.Answers.{AreAnswers, AreMachineAnswers};
 ghost use Rattle.silo_model.specs.Exclusive.{Exclusive};
-ghost use Rattle.silo_model.specs.Run.{whole_run, marked};
-ghost use Rattle.silo_model.specs.Whole.{shown_to};
+ghost use Rattle.silo_model.specs.Run.{done_by, whole_run, marked};
+ghost use Rattle.silo_model.specs.Whole.{shown_to, whole_step};
 ghost use Rattle.silo_core.specs.History.{failed_since};
-ghost use Rattle.silo_core.specs.Runs.{done_steps, failed_in, AllConcern, RunsInParts, RunAnswersInParts, Takes};
+ghost use Rattle.silo_core.specs.Runs.{failed_in, AllConcern, RunsInParts, RunAnswersInParts, Takes};
 
 use crate::silo::Silo;
 use grain_kinds::GrainLogic;
@@ -33,7 +33,7 @@ impl<S: GrainStorage, L: GrainLogic> Silo<S, L> {
 
         // The steps that were answered, each as it was taken, are done one after another.
         ensures whole { self.new.whole ≡ whole_run L.logic self.old.whole (marked (take (vec_len result.answers) steps.items) result.answers.items) }
-        ensures journal { self.new.journal ≡ self.old.journal ++ done_steps (take (vec_len result.answers) steps.items) result.answers.items }
+        ensures journal { self.new.journal ≡ self.old.journal ++ done_by (whole_step L.logic) self.old.whole (marked (take (vec_len result.answers) steps.items) result.answers.items) }
         ensures setup { self.new.setup ≡ self.old.setup }
         ensures failures { self.new.failures ≡ failed_since (failed_in result.answers.items) self.old.failures }
 

@@ -15,7 +15,7 @@ invariant_of-self-2 g c =
     let setup = setup_of a.tenants a.age a.opening.items in
     let s = step.End c.in_ok-grain.grain c.number-turn.result in
     let answer = c.in_ok-answer.answer in
-    let grown : c.note.new.journal.items ≡ a.journal.items ++ noted s answer [] = c.note.ensures ∙ ap (λ (j : List Step). j ++ noted s answer []) c.in_ok-reserve.ensures.items in
+    let grown : c.note.new.journal.items ≡ a.journal.items ++ noted s answer = c.note.ensures ∙ ap (λ (j : List Step). j ++ noted s answer) c.in_ok-reserve.ensures.items in
     (moves_lead logic setup a.journal.items c.note.new.journal.items a.body c.end.new.self s answer c.self.invariant.0 c.in_ok-answer.ensures.moves grown, c.self.invariant.1)
 
 pub returns-clause-parts : goal.returns-clause-parts
