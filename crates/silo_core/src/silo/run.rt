@@ -11,7 +11,7 @@ ghost use Rattle.silo_core.specs.Runs.{failed_in, AllConcern, RunsInParts, RunAn
 use crate::silo::Silo;
 use grain_kinds::GrainLogic;
 use grain_storage::GrainStorage;
-use silo_event::{Answer, Step};
+use silo_event::{Answer, Step, StepFault};
 use std::alloc::Global;
 use std::collections::VecDeque;
 
@@ -65,12 +65,13 @@ impl<S: GrainStorage, L: GrainLogic> Silo<S, L> {
         'each: while let Some(step) = left.pop_front() {
             match self.apply(alloc, step) {
                 Ok(answer) => answers.push_reserved(answer),
-                Err(_) => {
+                Err(StepFault::Memory) => {
                     return RunReport {
                         answers,
                         stopped: true,
                     };
                 }
+                Err(StepFault::Stranger) => unreachable!(),
             }
         }
         RunReport {
