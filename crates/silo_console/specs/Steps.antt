@@ -65,6 +65,13 @@ abbrev pub StopsSteps : Setup → LineFault → List ℕ → Option (List ℕ) �
 StopsSteps setup line.Write input before after = StopsInside setup (lines_of input) before after
 StopsSteps setup why input before after = StopsBetween setup (lines_of input) before after
 
+-- the same of a reader, whose input may be unknown
+abbrev pub AnswersFrom : Setup → Option (List ℕ) → Option (List ℕ) → Option (List ℕ) → Option (List ℕ) → Type 0
+AnswersFrom setup from left before after = IfSome from (λ input. AnswersSteps setup input left before after)
+
+abbrev pub StopsFrom : Setup → LineFault → Option (List ℕ) → Option (List ℕ) → Option (List ℕ) → Type 0
+StopsFrom setup why from before after = IfSome from (λ input. StopsSteps setup why input before after)
+
 -- ---- what the words ask for
 
 -- the text that the words ask for: help, or the version
@@ -102,7 +109,7 @@ pub record ServesSteps (words : List Text) (from left before after : Option (Lis
   pub tenants : Table
   pub age : ℕ
   pub asked : AskForTenants words tenants age
-  pub answered : IfSome from (λ input. AnswersSteps (setup_of tenants age) input left before after)
+  pub answered : AnswersFrom (setup_of tenants age) from left before after
 
 -- With status 0 the words ask for a text, which was written, or for steps, which were answered.
 abbrev pub EndsWell : List Text → Option (List ℕ) → Option (List ℕ) → Option (List ℕ) → Option (List ℕ) → Type 0
@@ -120,7 +127,7 @@ pub record StopsServing (words : List Text) (why : LineFault) (from before after
   pub tenants : Table
   pub age : ℕ
   pub asked : AskForTenants words tenants age
-  pub stopped : IfSome from (λ input. StopsSteps (setup_of tenants age) why input before after)
+  pub stopped : StopsFrom (setup_of tenants age) why from before after
 
 -- By the fault with which the program fails: where memory was refused, nothing may have been read and written yet; where writing failed, it may be that of a text.
 abbrev pub FailsBy : List Text → LineFault → Option (List ℕ) → Option (List ℕ) → Option (List ℕ) → Option (List ℕ) → Type 0

@@ -1,6 +1,6 @@
 //! What the program does, over any files and streams.
 
-ghost use Rattle.std.specs.Prelude.{◌≡◌, ◌≤◌, List, ℕ, Option, OnOk, IfOk, IfErr, IfSome};
+ghost use Rattle.std.specs.Prelude.{◌≡◌, ◌≤◌, List, ℕ, Option, OnOk, IfOk, IfErr};
 ghost use Rattle.std.specs.Io.KnownBytes.{Appends, Keeps};
 ghost use Rattle.clap.specs.Words.{Text};
 ghost use Rattle.line_protocol.specs.LineRuns.{WrittenInPart};
@@ -8,7 +8,7 @@ ghost use Rattle.line_protocol.specs.declared.fault.LineFault.{LineFault as Caus
 ghost use Rattle.tenant_gate.specs.Age.{IsAge};
 ghost use Rattle.silo_model.specs.Opening.{opening};
 ghost use Rattle.silo_console.specs.Status.{IsTenantsFault, failure_text};
-ghost use Rattle.silo_console.specs.Steps.{AnswersSteps, AreRefusedBy, EndsWell, FailsBy, IsFaultOf, StopsSteps, setup_of};
+ghost use Rattle.silo_console.specs.Steps.{AnswersFrom, AreRefusedBy, EndsWell, FailsBy, IsFaultOf, StopsFrom, setup_of};
 ghost use Rattle.silo_console.specs.Words.{IsWhy, texts_of};
 
 use crate::command_line::{Task, WordsFault, read_words};
@@ -96,10 +96,8 @@ fn answer_lines<R: Read, W: Write>(
     writer: &mut W,
 ) -> Result<(), LineFault>
     requires { IsAge age }
-    ensures answered { OnOk result (IfSome (R.remaining reader.old) (λ input.
-        AnswersSteps (setup_of tenants age) input (R.remaining reader.new) (W.contents writer.old) (W.contents writer.new))) }
-    ensures stopped { IfErr result (λ why. IfSome (R.remaining reader.old) (λ input.
-        StopsSteps (setup_of tenants age) why input (W.contents writer.old) (W.contents writer.new))) }
+    ensures answered { OnOk result (AnswersFrom (setup_of tenants age) (R.remaining reader.old) (R.remaining reader.new) (W.contents writer.old) (W.contents writer.new)) }
+    ensures stopped { IfErr result (λ why. StopsFrom (setup_of tenants age) why (R.remaining reader.old) (W.contents writer.old) (W.contents writer.new)) }
 {
     let Some(age) = Age::new(age) else {
         unreachable!();
@@ -130,10 +128,8 @@ fn answer_steps<R: Read, W: Write>(
     writer: &mut W,
 ) -> Result<(), LineFault>
     requires { IsAge age }
-    ensures answered { OnOk result (IfSome (R.remaining reader.old) (λ input.
-        AnswersSteps (setup_of tenants age) input (R.remaining reader.new) (W.contents writer.old) (W.contents writer.new))) }
-    ensures stopped { IfErr result (λ why. IfSome (R.remaining reader.old) (λ input.
-        StopsSteps (setup_of tenants age) why input (W.contents writer.old) (W.contents writer.new))) }
+    ensures answered { OnOk result (AnswersFrom (setup_of tenants age) (R.remaining reader.old) (R.remaining reader.new) (W.contents writer.old) (W.contents writer.new)) }
+    ensures stopped { IfErr result (λ why. StopsFrom (setup_of tenants age) why (R.remaining reader.old) (W.contents writer.old) (W.contents writer.new)) }
 {
     let done = answer_lines(alloc, tenants, age, reader, writer);
     let flushed = writer.flush();
