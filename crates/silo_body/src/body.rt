@@ -128,9 +128,4 @@ impl<S: GrainStorage, L: GrainLogic> Body<S, L> {
     {
         &self.storage
     }
-
-    /// What the grains do with their messages.
-    pub fn logic(&self) -> &L {
-        &self.logic
-    }
 }
