@@ -1,5 +1,5 @@
 -- A field that is put among those of a map: it goes to the place of its name, and the others stay as they are.
-use Rattle.std.proofs.Common.{◌≡◌, ℕ, zero, suc, ◌+◌, ◌≤◌, ◌<◌, true, List, [], ◌∷◌, ◌++◌, length, map, drop, get_or, Option, Some, None, Ordering, Less, Equal, Greater, inl, inr, Result, Ok, Err, refl, sym, ap, subst, ◌∙◌, append_assoc, append-nil, arith}
+use Rattle.std.proofs.Common.{◌≡◌, ℕ, zero, suc, ◌+◌, ◌≤◌, ◌<◌, true, List, [], ◌∷◌, ◌++◌, length, map, drop, get_or, Option, Some, Ordering, Less, Equal, Greater, inl, inr, Result, Ok, Err, refl, sym, ap, subst, ◌∙◌, append_assoc, append-nil, arith}
 use Rattle.std.specs.Prelude.{IsUtf8, ◌⊎◌, OnOk, OnErr}
 use Rattle.std.proofs.lemmas.List.Edits.{length-insert}
 use Rattle.std.specs.Cmp.Lexicographic.{slice_cmp}
@@ -146,14 +146,6 @@ placed_below k j d (member l e ms) zero bytes (lt, none) (is, all) = subst (AllB
 placed_below k j d (member l e ms) (suc place) bytes (rest, lt, eq, h) (is, all) = subst (AllBelow j) (sym (put_behind k l d e ms lt)) (is, placed_below k j d ms place rest h all)
 
 -- ---- what is known of the fields that were put
-
-pub none_held : (known : List Put) → known ≡ [] → HoldsFields no_members None 0 known
-none_held known is = record {
-  last_is = λ k h. tt;
-  count_is = refl;
-  within = omega (arith, ap length is);
-  known_are = λ h. is;
-}
 
 -- what became of those that are known when one more came last
 abbrev pub MayGrow : List Put → Put → List Put → Type 0

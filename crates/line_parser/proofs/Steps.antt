@@ -65,9 +65,6 @@ pub null_argument : IsArgument null (0 ∷ [])
 unfolding spelling
 null_argument = record { whole = (refl, tt); deep = omega arith; spelled = refl }
 
-pub failed_left_out : (n : ℕ) (d : Data) → has_members n d ≡ true → failed_at n d ≡ Some false
-failed_left_out n d h = rw h refl
-
 pub failed_is : (n : ℕ) (d : Data) (b : Bool) → has_members n d ≡ false → has_members (suc n) d ≡ true → truth_at (codes "failed") d ≡ Some b → failed_at n d ≡ Some b
 failed_is n d b h m t = rw (h, m, t) refl
 

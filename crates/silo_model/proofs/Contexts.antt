@@ -28,10 +28,6 @@ same_text-apart s t apart = not_true (same_text s t) (λ e. apart ((same_text_de
 pub get-own : {X : Type 0} (m : FinMap grain_cmp X) (tenant : List ℕ) (g : Grain) → g.tenant ≡ tenant → map.get (map.retain_keys m (is_of tenant)) g ≡ map.get m g
 get-own m tenant g own = get-part m (is_of tenant) g ∙ ap (λ b. cond b (map.get m g) None) ((same_text_decides g.tenant tenant).1 own)
 
--- and nothing at a grain of another
-pub get-apart : {X : Type 0} (m : FinMap grain_cmp X) (tenant : List ℕ) (g : Grain) → g.tenant ≢ tenant → map.get (map.retain_keys m (is_of tenant)) g ≡ None
-get-apart m tenant g apart = get-part m (is_of tenant) g ∙ ap (λ b. cond b (map.get m g) None) (same_text-apart g.tenant tenant apart)
-
 pub own_context : (w : Whole) (tenant : List ℕ) (g : Grain) → g.tenant ≡ tenant → context_at (shown_to tenant w) (Some g) ≡ context_of w tenant g
 unfolding context_at shown_to
 own_context w tenant g own = λ i. record { tenant = tenant; account = map.get w.accounts tenant; clock = w.clock; active = active_of w tenant; entry = get-own w.entries tenant g own i; row = get-own w.rows tenant g own i }

@@ -7,7 +7,6 @@ use Rattle.request_codec.specs.Tree.{Tree, integer}
 use Rattle.grain_kinds.specs.declared.fault.MethodFault.{MethodFault}
 use Rattle.grain_kinds.specs.declared.fault.MethodFault.TheVariants.{UnknownMethod, Misfit, OutOfRange}
 use Rattle.grain_kinds.specs.Logic.{Plan, asks_nothing}
-use Rattle.grain_kinds.specs.Laws.{ReadersAskNothing}
 use Rattle.grain_kinds.specs.Shared.{keeps, becomes, is_null, for_shape, for_null, integer_field}
 use Rattle.grain_kinds.specs.Counter.{add_plan, get_plan, fits_64, number_of, number_plan}
 use Rattle.grain_kinds.specs.Counters.{counters}
@@ -57,7 +56,3 @@ pub end_counter : (w : Whole) (g : Grain) (turn : ℕ) (e : Entry) (request : Re
 end_counter w g turn e request state version found open_turn is =
     let silent = counter_silent g.kind request.call.method state request.call.argument in
     end_silent_turn counters w g turn e found request open_turn state version is (plan_of counters g state request) refl silent.storage silent.sends
-
--- no method asks for the storage, so none that only reads does
-pub counters_ask_nothing : ReadersAskNothing counters
-counters_ask_nothing kind method state argument reads = (counter_silent kind method state argument).storage

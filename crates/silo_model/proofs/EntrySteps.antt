@@ -7,11 +7,10 @@ use Rattle.grain_id.specs.Names.{Grain}
 use Rattle.grain_storage.specs.Rows.{version_of, content_or}
 use Rattle.request_codec.specs.Tree.{Tree}
 use Rattle.silo_event.specs.declared.fault.Fault.TheVariants.{StorageFailed}
-use Rattle.silo_event.specs.declared.reply.Reply.{Reply}
 use Rattle.silo_event.specs.declared.step.Step.TheVariants.{Activate, Load, Begin}
 use Rattle.grain_kinds.specs.Logic.{Logic}
 use Rattle.silo_model.specs.Machine.{Entry, Request, waiting, loading, ready}
-use Rattle.silo_model.specs.Effect.{Effect, keep, put, on_entry}
+use Rattle.silo_model.specs.Effect.{Effect, on_entry}
 use Rattle.silo_model.specs.Calls.{reply_to}
 use Rattle.silo_model.specs.Turns.{activated, unloaded, loaded, may_open, opened_if_ready, opened}
 use Rattle.silo_model.specs.Step.{effect_of}
@@ -22,12 +21,6 @@ use Rattle.silo_model.proofs.Contexts.{step_at_own}
 -- what is done to an entry that is there
 pub at_entry : (does : Entry → Option Effect) (found : Option Entry) (e : Entry) (r : Option Effect) → found ≡ Some e → does e ≡ r → option_and_then does found ≡ r
 at_entry does found e r is h = ap (option_and_then does) is ∙ h
-
--- an entry that is put, and replies
-pub spread-entry_and_replies : (w : Whole) (tenant : List ℕ) (g : Grain) (e : Entry) (replies : List Reply)
-    → spread w tenant (Some g) (record { account = keep; entry = put e; row = keep; replies = replies }) ≡ record w { entries = map.insert w.entries g e; replies = w.replies ++ replies }
-unfolding spread
-spread-entry_and_replies w tenant g e replies = refl
 
 -- an entry that is put, and nothing else
 pub spread-on_entry : (w : Whole) (tenant : List ℕ) (g : Grain) (e : Entry) → spread w tenant (Some g) (on_entry e) ≡ record w { entries = map.insert w.entries g e }

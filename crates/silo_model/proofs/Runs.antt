@@ -1,6 +1,5 @@
 -- A run of the whole shows each tenant the run of its own machine over the steps that concern it.
 use Rattle.std.proofs.Common.{◌≡◌, ℕ, Bool, true, false, cond, List, [], ◌∷◌, ◌++◌, Option, Some, None, unwrap_or, refl, ap, sym, ◌∙◌, append_assoc}
-use Rattle.std.proofs.lemmas.List.Elements.{filter-append}
 use Rattle.silo_event.specs.declared.step.Step.{Step}
 use Rattle.grain_kinds.specs.Logic.{Logic}
 use Rattle.silo_model.specs.Machine.{Machine}
@@ -53,9 +52,6 @@ run_shown logic tenant (s ∷ steps) w sound =
     ∙ run_of_cond logic (concerns tenant s) (shown_to tenant w) s (restricted_to tenant steps)
 
 -- ---- runs of lists that are joined
-
-pub restricted-append : (tenant : List ℕ) (steps others : List Step) → restricted_to tenant (steps ++ others) ≡ restricted_to tenant steps ++ restricted_to tenant others
-restricted-append tenant steps others = filter-append (concerns tenant) steps others
 
 pub run_by-append : {M : Type 0} (step : M → Step → Option M) (m : M) (steps others : List Step) → run_by step m (steps ++ others) ≡ run_by step (run_by step m steps) others
 run_by-append step m [] others = refl
