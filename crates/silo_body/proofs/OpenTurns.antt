@@ -15,7 +15,7 @@ use Rattle.silo_event.specs.declared.step.Step.{Step}
 use Rattle.silo_event.specs.declared.step.StepFault.{StepFault}
 use Rattle.silo_event.specs.declared.step.StepFault.TheVariants.{Memory, Stranger}
 use Rattle.silo_model.specs.Machine as model
-use Rattle.silo_model.specs.Machine.{Entry, Entries, Request, waiting, loading, ready}
+use Rattle.silo_model.specs.Machine.{Entry, Request, waiting, loading, ready}
 use Rattle.silo_model.specs.Turns.{reads}
 use Rattle.silo_body.specs.Shown.{phase_of, entry_of}
 use Rattle.silo_body.specs.Marks.{AreMarked}

@@ -3,22 +3,21 @@ use Rattle.std.proofs.Common.{◌≡◌, ◌≢◌, ℕ, Bool, true, false, cond
 use Rattle.std.specs.Prelude.{option_and_then}
 use Rattle.std.proofs.lemmas.List.{append-nil}
 use Rattle.std.proofs.lemmas.Option.{same_Some, none-some}
-use Rattle.std.specs.FinMap as map
 use Rattle.grain_id.specs.Names.{Grain}
 use Rattle.silo_event.specs.Owner.{owner_of}
 use Rattle.silo_event.specs.declared.reply.Reply.{Reply}
 use Rattle.silo_event.specs.declared.step.Step.{Step}
 use Rattle.grain_kinds.specs.Logic.{Logic}
-use Rattle.silo_model.specs.Machine.{Machine, Entry, Request}
+use Rattle.silo_model.specs.Machine.{Machine}
 use Rattle.silo_model.specs.Step.{machine_step}
 use Rattle.silo_model.specs.Effect.{Effect, applied}
 use Rattle.silo_model.specs.Whole.{Whole, shown_to, spread, whole_step}
-use Rattle.silo_model.specs.Run.{whole_run, concerns_by, concerns, restricted_to}
+use Rattle.silo_model.specs.Run.{whole_run, concerns, restricted_to}
 use Rattle.silo_model.specs.Opening.{Setup, opening}
 use Rattle.silo_model.specs.Journal.{machine_all_done, all_done, LeadsTo}
 use Rattle.silo_model.specs.Laws.{OwnPart, OtherParts, NotNow, RunsOn, JournalsReplay, JournalsGrow, PartsLead}
 use Rattle.silo_model.proofs.Changes.{bound}
-use Rattle.silo_model.proofs.Sound.{IsEntryOf, IsSound}
+use Rattle.silo_model.proofs.Sound.{IsSound}
 use Rattle.silo_model.proofs.Proper.{AllTo}
 use Rattle.silo_model.proofs.SharedSteps.{shared_leaves}
 use Rattle.silo_model.proofs.Isolation as isolation
