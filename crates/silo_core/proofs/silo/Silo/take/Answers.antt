@@ -12,4 +12,4 @@ invariant_of-self-2 g c =
     let setup = setup_of a.tenants a.age a.opening.items in
     let answer = c.in_ok-answer.answer in
     let grown : c.note.new.journal.items ≡ a.journal.items ++ noted c.args.step answer = c.note.ensures ∙ ap (λ (j : List Step). j ++ noted c.args.step answer) c.in_ok-reserve.ensures.items in
-    (moves_lead logic setup a.journal.items c.note.new.journal.items a.body c.step-2.new.self c.args.step answer c.self.invariant.0 c.in_ok-answer.ensures grown, c.self.invariant.1)
+    (moves_lead logic setup a.journal.items c.note.new.journal.items a.body c.step.new.self c.args.step answer c.self.invariant.0 c.in_ok-answer.ensures grown, c.self.invariant.1)
