@@ -320,9 +320,12 @@ fn the_laws_are_stated() {
 fn a_number_has_its_text_as_a_state(rt: HostRuntime) -> Result<(), Fail> {
     let alloc = rt.alloc();
     let version = StateBytes::decimal(alloc, 1024)?;
-    assert_eq!(rt; version.bytes(), b"\x04\0\0\0\x041024");
+    assert_eq!(rt; version.bytes(), b"\x04\0\0\0\x041024".as_slice());
     let last = StateBytes::decimal(alloc, u64::MAX)?;
-    assert_eq!(rt; last.bytes(), b"\x04\0\0\0\x1418446744073709551615");
+    assert_eq!(rt;
+        last.bytes(),
+        b"\x04\0\0\0\x1418446744073709551615".as_slice()
+    );
     Ok(())
 }
 
