@@ -3,7 +3,9 @@
 ghost use Rattle.std.specs.Prelude.{◌≡◌, ◌<◌, ◌↔◌, ℕ, List, [], IsTrue, ◌++◌, take, vec_len};
 ghost use Rattle.silo_model.specs.Answers.{AreAnswers, AreMachineAnswers};
 ghost use Rattle.silo_model.specs.Exclusive.{Exclusive};
-ghost use Rattle.silo_model.specs.Run.{done_by, whole_run, marked};
+ghost use Rattle.silo_model.specs.Opening.{start_of};
+ghost use Rattle.silo_model.specs.Run.{done_by, machine_run, whole_run, restricted_to, marked};
+ghost use Rattle.silo_model.specs.Settled.{Settled};
 ghost use Rattle.silo_model.specs.Whole.{shown_to, whole_step};
 ghost use Rattle.silo_core.specs.History.{failed_since};
 ghost use Rattle.silo_core.specs.Runs.{failed_in, AllConcern, RunsInParts, RunAnswersInParts, Takes};
@@ -43,8 +45,13 @@ impl<S: GrainStorage, L: GrainLogic> Silo<S, L> {
         ensures alone { (tenant : List ℕ) → AllConcern tenant steps.items
             → AreMachineAnswers L.logic (shown_to tenant self.old.whole) (take (vec_len result.answers) steps.items) result.answers.items }
 
-        // On a new silo, a turn that may write is the only open turn of its grain at every prefix of the list.
+        // On a new silo each part is that run from the start of the tenant's own machine, a turn that may write is the only
+        // open turn of its grain at every prefix of the list, and what a client asked is answered once, or waits, or is open.
+        ensures from_start { self.old.journal ≡ [] → (tenant : List ℕ) → shown_to tenant self.new.whole
+            ≡ machine_run L.logic (start_of self.old.setup tenant) (restricted_to tenant (marked (take (vec_len result.answers) steps.items) result.answers.items)) }
         ensures exclusive { self.old.journal ≡ [] → Exclusive L.logic self.old.setup (take (vec_len result.answers) steps.items) result.answers.items }
+        ensures settled { self.old.journal ≡ [] → (tenant : List ℕ)
+            → Settled (restricted_to tenant (marked (take (vec_len result.answers) steps.items) result.answers.items)) (shown_to tenant self.new.whole) }
     {
         let _ = &self.journal;
         self.take_each(alloc, steps)
