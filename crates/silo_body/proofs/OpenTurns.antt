@@ -1,19 +1,14 @@
--- An open turn that is run again is no stranger.
+-- The turn that a mailbox has open is the one that the entry has, or none is open.
 use Rattle.std.proofs.Common.{◌≡◌, ℕ, Option, Some, None, refl, ap, sym, ◌∙◌}
-use Rattle.std.specs.Prelude.{Result, Ok, Err, option_map, option_and_then}
+use Rattle.std.specs.Prelude.{option_map, option_and_then}
 use Rattle.std.specs.FinMap as map
 use Rattle.grain_id.specs.Names.{Grain}
 use Rattle.request_codec.specs.Tree.{Tree}
 use Rattle.grain_kinds.specs.Logic.{Logic}
-use Rattle.grain_kinds.specs.declared.turn.OpenedTurn.{OpenedTurn}
 use Rattle.turn_mailbox.specs.declared.request.Request as mailbox
 use Rattle.activation_directory.specs.declared.activation.Activation.{Activation}
 use Rattle.activation_directory.specs.declared.activation.Phase.{Phase}
 use Rattle.activation_directory.specs.declared.activation.Phase.TheVariants.{Waiting, Loading, Ready}
-use Rattle.silo_event.specs.declared.step.Answer.{Answer}
-use Rattle.silo_event.specs.declared.step.Step.{Step}
-use Rattle.silo_event.specs.declared.step.StepFault.{StepFault}
-use Rattle.silo_event.specs.declared.step.StepFault.TheVariants.{Memory, Stranger}
 use Rattle.silo_model.specs.Machine as model
 use Rattle.silo_model.specs.Machine.{Entry, Request, waiting, loading, ready}
 use Rattle.silo_model.specs.Turns.{reads}
@@ -21,10 +16,7 @@ use Rattle.silo_body.specs.Shown.{phase_of, entry_of}
 use Rattle.silo_body.specs.Marks.{AreMarked}
 use Rattle.silo_body.specs.Changes.{open_at}
 use Rattle.silo_body.specs.Entries.{open_as, open_turn}
-use Rattle.silo_body.specs.Finds.{open_in, IsStranger}
-use Rattle.silo_body.specs.Held.{Held}
-use Rattle.silo_body.specs.Moves.{Moves, Ends}
-use Rattle.silo_body.proofs.Idle.{the_same}
+use Rattle.silo_body.specs.Finds.{open_in}
 use Rattle.silo_body.proofs.Shows.{get-turns}
 
 -- ---- the turn that a mailbox has open is the one that the entry has
@@ -50,7 +42,7 @@ module _ (logic : Logic) (g : Grain) (turn : ℕ) (a : Activation) (marked : Are
   pub open-shown : (found : Option Entry) → found ≡ Some (entry_of a) → open_at g turn a.mailbox a.phase ≡ open_turn logic g turn found
   open-shown found is = open-same a.phase ∙ ap (open_turn logic g turn) (sym is)
 
--- ---- closing it
+-- ---- or none is
 
 module _ (logic : Logic) (g : Grain) (turn : ℕ) where
   mapped_none : {X Y : Type 0} (f : X → Y) (o : Option X) → option_map f o ≡ None → o ≡ None
@@ -66,20 +58,3 @@ module _ (logic : Logic) (g : Grain) (turn : ℕ) where
   pub none_open : (found : Option Entry) → open_turn logic g turn found ≡ None → option_and_then (λ e. open_in e turn e.phase) found ≡ None
   none_open None none = refl
   none_open (Some e) none = none_in e e.phase none
-
-  -- the turn that is open is its own
-  pub no_stranger : (found : Option Entry) (input : OpenedTurn) → open_turn logic g turn found ≡ Some input → IsStranger g found turn input → ⊥
-  no_stranger found input is s =
-      let there = s.is_open in
-      let own : OpenedTurn = record { grain = g; number = turn; reading = reads logic g s.request; state = s.state; message = s.request.call } in
-      let same = the_same own input
-      (sym (ap (open_turn logic g turn) there.found_is
-      ∙ ap (open_as logic g turn s.entry) there.phase_is
-      ∙ ap (option_map (λ (r : Request). record { grain = g; number = turn; reading = reads logic g r; state = s.state; message = r.call })) there.open_turn) ∙ is) in
-      s.other (record { kind_is = ap (λ (t : OpenedTurn). t.grain.kind) (sym same); state_is = ap (λ (t : OpenedTurn). t.state) (sym same); message_is = ap (λ (t : OpenedTurn). t.message) (sym same) })
-
--- a step that meets no stranger is one that moves
-pub ends_move : (logic : Logic) (old : Held) (s : Step) (r : Result Answer StepFault) (new : Held) → Ends logic old s r new → (r ≡ Err Stranger → ⊥) → Moves logic old s r new
-ends_move logic old s (Ok answer) new ends own = ends
-ends_move logic old s (Err Memory) new ends own = ends
-ends_move logic old s (Err Stranger) new ends own = absurd (own refl)
