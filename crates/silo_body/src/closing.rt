@@ -18,27 +18,35 @@ use idle_collector::Collector;
 use request_codec::StateBytes;
 use silo_event::{Answer, Fault, Reply, StepFault};
 
+/// A turn that is closed: of which grain, under which number, whether the grain was noted as one that
+/// rests after it, and the moment.
+#[derive(Clone, Copy)]
+pub struct Closing<'a> {
+    pub grain: &'a GrainId,
+    pub turn: u64,
+    pub rests: bool,
+    pub now: u64,
+}
+
 /// Closes an open turn of a grain that was noted if it rests, and tells the turn's sender. Takes no
 /// memory.
 pub fn close_turn<L: GrainLogic>(
     activations: &mut Activations<L>,
     collector: &mut Collector,
     replies: &mut Vec<Reply>,
-    grain: &GrainId,
-    turn: u64,
+    closing: Closing<'_>,
     phase: Option<Phase>,
-    rests: bool,
-    last: u64,
     outcome: Result<StateBytes, Fault>,
 )
-    requires is_open { IsSome (option_and_then (λ e. map.get e.turns turn) (map.get activations.old grain.now)) }
+    requires is_open { IsSome (option_and_then (λ e. map.get e.turns closing.turn) (map.get activations.old closing.grain.now)) }
     requires room { vec_len replies.old < vec_capacity replies.old }
-    ensures { ClosesTold activations.old collector.old replies.old.items grain.now turn (option_map phase_of phase) rests last outcome activations.new collector.new replies.new.items }
+    ensures { ClosesTold activations.old collector.old replies.old.items closing.entry.grain.now closing.entry.turn (option_map phase_of phase) closing.entry.rests closing.entry.now outcome activations.new collector.new replies.new.items }
 {
-    let Some((sender, idle)) = activations.close(grain, turn, phase, last) else {
+    let Some((sender, idle)) = activations.close(closing.grain, closing.turn, phase, closing.now)
+    else {
         unreachable!()
     };
-    notes::settle(collector, grain, rests, idle);
+    notes::settle(collector, closing.grain, closing.rests, idle);
     tell(replies, sender, outcome);
 }
 
@@ -48,21 +56,24 @@ fn end_activation<L: GrainLogic>(
     activations: &mut Activations<L>,
     collector: &mut Collector,
     replies: &mut Vec<Reply>,
-    grain: &GrainId,
-    turn: u64,
-    rests: bool,
+    closing: Closing<'_>,
     last: u64,
     why: Fault,
 )
-    requires is_open { IsSome (option_and_then (λ e. map.get e.turns turn) (map.get activations.old grain.now)) }
+    requires is_open { IsSome (option_and_then (λ e. map.get e.turns closing.turn) (map.get activations.old closing.grain.now)) }
     requires room { vec_len replies.old < vec_capacity replies.old }
-    ensures { EndsTold activations.old collector.old replies.old.items grain.now turn rests last (Err why) activations.new collector.new replies.new.items }
+    ensures { EndsTold activations.old collector.old replies.old.items closing.entry.grain.now closing.entry.turn closing.entry.rests last (Err why) activations.new collector.new replies.new.items }
 {
-    let Some((sender, _)) = activations.close(grain, turn, Some(Phase::Waiting), last) else {
+    let Some((sender, _)) = activations.close(
+        closing.grain,
+        closing.turn,
+        Some(Phase::Waiting),
+        last,
+    ) else {
         unreachable!()
     };
-    drop_if(activations, grain, rests);
-    notes::take_back(collector, grain, rests);
+    drop_if(activations, closing.grain, closing.rests);
+    notes::take_back(collector, closing.grain, closing.rests);
     tell(replies, sender, Err(why));
 }
 
@@ -85,19 +96,16 @@ pub fn close_by<L: GrainLogic>(
     activations: &mut Activations<L>,
     collector: &mut Collector,
     replies: &mut Vec<Reply>,
-    grain: &GrainId,
-    turn: u64,
-    rests: bool,
-    now: u64,
+    closing: Closing<'_>,
     last: u64,
     failed: bool,
     stored: Result<Stored, StoreFault>,
     named: GrainId,
 ) -> Result<Answer, StepFault>
-    requires is_open { IsSome (option_and_then (λ e. map.get e.turns turn) (map.get activations.old grain.now)) }
+    requires is_open { IsSome (option_and_then (λ e. map.get e.turns closing.turn) (map.get activations.old closing.grain.now)) }
     requires room { vec_len replies.old < vec_capacity replies.old }
-    requires named { named ≡ grain.now }
-    ensures { ClosesBy activations.old collector.old replies.old.items grain.now turn rests now last failed stored result activations.new collector.new replies.new.items }
+    requires named { named ≡ closing.grain.now }
+    ensures { ClosesBy activations.old collector.old replies.old.items closing.entry.grain.now closing.entry.turn closing.entry.rests closing.entry.now last failed stored result activations.new collector.new replies.new.items }
 {
     let stored = match stored {
         Ok(stored) => stored,
@@ -105,10 +113,7 @@ pub fn close_by<L: GrainLogic>(
             activations,
             collector,
             replies,
-            grain,
-            turn,
-            rests,
-            now,
+            closing,
             last,
             failed,
             fault,
@@ -123,11 +128,8 @@ pub fn close_by<L: GrainLogic>(
         activations,
         collector,
         replies,
-        grain,
-        turn,
+        closing,
         Some(phase),
-        rests,
-        now,
         Ok(stored.told),
     );
     Ok(Answer::Done)
@@ -138,67 +140,35 @@ fn close_refused<L: GrainLogic>(
     activations: &mut Activations<L>,
     collector: &mut Collector,
     replies: &mut Vec<Reply>,
-    grain: &GrainId,
-    turn: u64,
-    rests: bool,
-    now: u64,
+    closing: Closing<'_>,
     last: u64,
     failed: bool,
     fault: StoreFault,
     named: GrainId,
 ) -> Result<Answer, StepFault>
-    requires is_open { IsSome (option_and_then (λ e. map.get e.turns turn) (map.get activations.old grain.now)) }
+    requires is_open { IsSome (option_and_then (λ e. map.get e.turns closing.turn) (map.get activations.old closing.grain.now)) }
     requires room { vec_len replies.old < vec_capacity replies.old }
-    requires named { named ≡ grain.now }
-    ensures { ClosesBy activations.old collector.old replies.old.items grain.now turn rests now last failed (Err fault) result activations.new collector.new replies.new.items }
+    requires named { named ≡ closing.grain.now }
+    ensures { ClosesBy activations.old collector.old replies.old.items closing.entry.grain.now closing.entry.turn closing.entry.rests closing.entry.now last failed (Err fault) result activations.new collector.new replies.new.items }
 {
     match fault {
         StoreFault::Failed => {
             let why = Err(Fault::StorageFailed);
-            close_turn(
-                activations,
-                collector,
-                replies,
-                grain,
-                turn,
-                None,
-                rests,
-                now,
-                why,
-            );
+            close_turn(activations, collector, replies, closing, None, why);
             Ok(answer_failed(failed))
         }
         StoreFault::Spent => {
             let why = Err(Fault::VersionsSpent(named));
-            close_turn(
-                activations,
-                collector,
-                replies,
-                grain,
-                turn,
-                None,
-                rests,
-                now,
-                why,
-            );
+            close_turn(activations, collector, replies, closing, None, why);
             Ok(Answer::Done)
         }
         StoreFault::Stale(_) => {
             let why = Fault::StateChanged(named);
-            end_activation(
-                activations,
-                collector,
-                replies,
-                grain,
-                turn,
-                rests,
-                last,
-                why,
-            );
+            end_activation(activations, collector, replies, closing, last, why);
             Ok(Answer::Done)
         }
         StoreFault::Memory => {
-            notes::take_back(collector, grain, rests);
+            notes::take_back(collector, closing.grain, closing.rests);
             Err(StepFault::Memory)
         }
     }

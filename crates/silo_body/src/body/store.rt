@@ -8,7 +8,7 @@ ghost use Rattle.silo_body.specs.Finds.{IsStranger, IsOwn};
 ghost use Rattle.silo_body.specs.Moves.{Moves, Ends};
 
 use crate::body::Body;
-use crate::closing::close_by;
+use crate::closing::{Closing, close_by};
 use crate::finding::{Found, asks_storage};
 use crate::notes;
 use crate::storing::ask;
@@ -83,14 +83,17 @@ impl<S: GrainStorage, L: GrainLogic> Body<S, L> {
             call,
             failed,
         );
-        close_by(
-            &mut self.activations,
-            &mut self.collector,
-            &mut self.replies,
+        let closing = Closing {
             grain,
             turn,
             rests,
             now,
+        };
+        close_by(
+            &mut self.activations,
+            &mut self.collector,
+            &mut self.replies,
+            closing,
             last,
             failed,
             stored,

@@ -9,7 +9,7 @@ ghost use Rattle.silo_body.specs.Finds.{IsStranger, IsOwn, Finds};
 ghost use Rattle.silo_body.specs.Moves.{Moves, Ends, done_if};
 
 use crate::body::Body;
-use crate::closing::close_turn;
+use crate::closing::{Closing, close_turn};
 use crate::finding::{Found, asks_storage};
 use crate::telling::{copied, told};
 use crate::{account, change, finding, notes};
@@ -117,15 +117,18 @@ impl<S: GrainStorage, L: GrainLogic> Body<S, L> {
             }
         }
         let phase = Phase::Ready { state, version };
+        let closing = Closing {
+            grain,
+            turn,
+            rests,
+            now,
+        };
         close_turn(
             &mut self.activations,
             &mut self.collector,
             &mut self.replies,
-            grain,
-            turn,
+            closing,
             Some(phase),
-            rests,
-            now,
             told(outcome),
         );
         Ok(Answer::Done)
@@ -149,15 +152,18 @@ impl<S: GrainStorage, L: GrainLogic> Body<S, L> {
         let now = self.clock.get();
         self.replies.reserve(1)?;
         notes::expect(&mut self.collector, grain, rests, now)?;
+        let closing = Closing {
+            grain,
+            turn,
+            rests,
+            now,
+        };
         close_turn(
             &mut self.activations,
             &mut self.collector,
             &mut self.replies,
-            grain,
-            turn,
+            closing,
             None,
-            rests,
-            now,
             Err(Fault::NoMemory),
         );
         Ok(Answer::Done)
