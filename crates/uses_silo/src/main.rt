@@ -1,17 +1,20 @@
-//! How a crate uses the silo: a kind of grain and a storage of its own, and a silo over both, which is
-//! asked for three methods and shows its replies.
+//! How a crate uses the silo: a kind of grain and a storage of its own, and a silo over both.
 #![tactic(auto)]
 
 use bumpalo::Bump;
 use grain_id::{Caller, GrainId, Tenant};
 use grain_kinds::{GrainLogic, MethodFault, Plan, StoreCall, run_turn};
 use grain_storage::{GrainStorage, Row, StoreFault};
-use request_codec::{Datum, Message, StateBytes, decode_state, encode, to_json};
+use request_codec::{Datum, StateBytes, decode_state, encode, to_json};
 use silo_core::{Setup, Silo};
 use std::alloc::{AllocError, Global};
 use std::test::Fail;
 use tenant_gate::{Age, Limits, TenantTable};
 use turn_arena::{Node, encode_node};
+
+type NoteSilo = Silo<FullDisk, Notes>;
+
+type Stored<A> = Result<A, StoreFault>;
 
 /// A kind of grain: a note holds one value. Its table is in `specs/Notes.antt`.
 #[derive(Drop)]
@@ -55,13 +58,11 @@ impl GrainLogic for Notes {
     }
 }
 
-/// A storage: a disk without room has no rows, and fails in each call that would make one.
+/// A storage: a disk without room has no rows, and each call that would change one fails.
 #[derive(Drop)]
 struct FullDisk {
     failures: u64,
 }
-
-type Stored<A> = Result<A, StoreFault>;
 
 impl GrainStorage for FullDisk {
     ghost use Rattle.std.specs.FinMap.{empty};
@@ -83,15 +84,14 @@ impl GrainStorage for FullDisk {
         Err(StoreFault::Failed)
     }
 
-    fn clear(&mut self, _: Global, _: &GrainId, expected: Option<u64>) -> Stored<Option<u64>> {
-        match expected {
-            Some(_) => Err(StoreFault::Stale(None)),
-            None => Ok(None),
-        }
+    fn clear(&mut self, _: Global, _: &GrainId, _: Option<u64>) -> Stored<Option<u64>> {
+        self.failures = self.failures.checked_add(1).ok_or(StoreFault::Memory)?;
+        Err(StoreFault::Failed)
     }
 
-    fn poke(&mut self, alloc: Global, grain: &GrainId, content: StateBytes) -> Stored<u64> {
-        self.write(alloc, grain, None, content)
+    fn poke(&mut self, _: Global, _: &GrainId, _: StateBytes) -> Stored<u64> {
+        self.failures = self.failures.checked_add(1).ok_or(StoreFault::Memory)?;
+        Err(StoreFault::Failed)
     }
 
     fn list(&self, alloc: Global) -> Result<Vec<(GrainId, Row)>, AllocError> {
@@ -99,17 +99,14 @@ impl GrainStorage for FullDisk {
     }
 }
 
-type NoteSilo = Silo<FullDisk, Notes>;
-
-/// A silo that knows the tenant `red`.
 fn new_silo(alloc: Global) -> Result<NoteSilo, Fail> {
     let limits = Limits {
         activations: 2,
         mailbox: 4,
     };
-    let red = Tenant::read(alloc, "red")?;
+    let known = vec![in alloc; (Tenant::read(alloc, "red")?, limits)]?;
     let setup = Setup {
-        tenants: TenantTable::new(alloc, vec![in alloc; (red, limits)]?)?,
+        tenants: TenantTable::new(alloc, known)?,
         age: Age::new(900_000).ok_or("no age")?,
         storage: FullDisk { failures: 0 },
         logic: Notes,
@@ -118,9 +115,10 @@ fn new_silo(alloc: Global) -> Result<NoteSilo, Fail> {
 }
 
 /// Asks a note, and takes the steps to its reply. A step that isn't possible now changes nothing.
-fn ask(alloc: Global, silo: &mut NoteSilo, id: u64, message: Message) -> Result<(), Fail> {
+fn ask(alloc: Global, silo: &mut NoteSilo, id: u64, method: &str) -> Result<(), Fail> {
     let caller = Caller::read(alloc, "red/c1")?;
     let note = GrainId::read(alloc, "note/red:a")?;
+    let message = encode(alloc, method, &Datum::Int(3))?;
     silo.call(alloc, caller, id, note.clone()?, message)?;
     silo.activate(alloc, note.clone()?)?;
     silo.load(alloc, note.clone()?, false)?;
@@ -133,12 +131,10 @@ fn ask(alloc: Global, silo: &mut NoteSilo, id: u64, message: Message) -> Result<
     Ok(())
 }
 
-fn main(rt: HostRuntime) -> Result<(), Fail> {
-    let alloc = rt.alloc();
-    let mut silo = new_silo(alloc)?;
-    ask(alloc, &mut silo, 1, encode(alloc, "put", &Datum::Int(3))?)?;
-    ask(alloc, &mut silo, 2, encode(alloc, "get", &Datum::Null)?)?;
-    ask(alloc, &mut silo, 3, encode(alloc, "save", &Datum::Null)?)?;
+fn show(rt: &impl Print, alloc: Global, silo: &mut NoteSilo) -> Result<(), Fail> {
+    ask(alloc, silo, 1, "put")?;
+    ask(alloc, silo, 2, "get")?;
+    ask(alloc, silo, 3, "save")?;
     for reply in silo.replies() {
         match &reply.outcome {
             Ok(value) => println!(rt; "{}", to_json(alloc, &decode_state(alloc, value)?)?)?,
@@ -146,4 +142,8 @@ fn main(rt: HostRuntime) -> Result<(), Fail> {
         }
     }
     Ok(())
+}
+
+fn main(rt: HostRuntime) -> Result<(), Fail> {
+    show(&rt, rt.alloc(), &mut new_silo(rt.alloc())?)
 }
