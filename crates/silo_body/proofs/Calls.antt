@@ -1,7 +1,6 @@
 -- What requests that are refused or accepted come to, as steps of the whole.
 use Rattle.std.proofs.Common.{◌≡◌, ◌≢◌, ℕ, suc, ◌+◌, ◌==◌, ◌<◌, Bool, true, false, ◌&&◌, List, [], ◌∷◌, ◌++◌, length, Option, Some, None, refl, ap, sym, ◌∙◌, subst, arith}
 use Rattle.std.specs.Prelude.{Result, Ok, Err, nat_lt, option_map, if◌then◌else◌}
-use Rattle.std.specs.List.{remove}
 use Rattle.std.specs.FinMap as map
 use Rattle.std.specs.FinMap.{FinMap}
 use Rattle.std.proofs.lemmas.Bool.Decides.{nat_tests}
@@ -24,7 +23,7 @@ use Rattle.silo_model.proofs.CallSteps.{next_request}
 use Rattle.silo_body.specs.Held.{Held}
 use Rattle.silo_body.specs.Notes.{idle_since, AreNoted}
 use Rattle.silo_body.specs.Requests.{with_told, with_accepted}
-use Rattle.silo_body.specs.Deliveries.{changed_account}
+use Rattle.silo_body.specs.Deliveries.{changed_account, without_first}
 use Rattle.silo_body.specs.Verdicts.{gated, verdict, Settles}
 use Rattle.silo_body.proofs.Idle.{noted-used}
 use Rattle.silo_body.proofs.Verdicts.{accepts, call_made, call_is, delivery_made, delivery_is}
@@ -103,29 +102,29 @@ module _ (logic : Logic) (h new : Held) (caller : Client) (id : ℕ) (g : Grain)
 
 -- ---- deliveries
 
-abbrev pub taken : ℕ → FinMap text_cmp Account → List ℕ → FinMap text_cmp Account
-taken place accounts t = changed_account (λ a. record a { sends = remove a.sends place }) accounts t (map.get accounts t)
+abbrev pub taken : Grain → FinMap text_cmp Account → List ℕ → FinMap text_cmp Account
+taken g accounts t = changed_account (λ a. record a { sends = without_first g a.sends }) accounts t (map.get accounts t)
 
-abbrev pub without_sent : Held → List ℕ → ℕ → Held
-without_sent h t place = record h { whole = record h.whole { accounts = taken place h.whole.accounts t } }
+abbrev pub without_sent : Held → Grain → Held
+without_sent h g = record h { whole = record h.whole { accounts = taken g h.whole.accounts g.tenant } }
 
-module _ (logic : Logic) (h mid new : Held) (g : Grain) (a : Account) (known : map.get h.whole.accounts g.tenant ≡ Some a) (sent : Send) (place : ℕ)
-    (first : first_from g a.sends ≡ Some (sent, remove a.sends place)) (left : new ≡ without_sent mid g.tenant place) where
+module _ (logic : Logic) (h mid new : Held) (g : Grain) (a : Account) (known : map.get h.whole.accounts g.tenant ≡ Some a) (sent : Send)
+    (first : first_from g a.sends ≡ Some (sent, without_first g a.sends)) (left : new ≡ without_sent mid g) where
   abbrev Delivers : Type 0
   Delivers = (whole_step logic h.whole (Deliver g) ≡ Some new.whole) × (new.failures ≡ h.failures)
 
   abbrev change : Account → Account
-  change x = record x { sends = remove x.sends place }
+  change x = record x { sends = without_first g x.sends }
 
-  by_delivery : (r : Result Account Fault) → verdict logic h.whole g.tenant sent.message.target ≡ r → new ≡ record h { whole = delivery_made h.whole g a sent (remove a.sends place) r } → Delivers
+  by_delivery : (r : Result Account Fault) → verdict logic h.whole g.tenant sent.message.target ≡ r → new ≡ record h { whole = delivery_made h.whole g a sent (without_first g a.sends) r } → Delivers
   by_delivery r is made =
-      (delivery_is logic h.whole g a known sent (remove a.sends place) first ∙ ap (λ x. Some (delivery_made h.whole g a sent (remove a.sends place) x)) is ∙ ap (λ (x : Held). Some x.whole) (sym made), ap (λ (x : Held). x.failures) made)
+      (delivery_is logic h.whole g a known sent (without_first g a.sends) first ∙ ap (λ x. Some (delivery_made h.whole g a sent (without_first g a.sends) x)) is ∙ ap (λ (x : Held). Some x.whole) (sym made), ap (λ (x : Held). x.failures) made)
 
   pub deliver_told : (grain : Grain) → grain ≡ g → (target : Grain) → target ≡ sent.message.target → (why : Fault) → Settles (verdict logic h.whole grain.tenant target) (Some why) → mid ≡ with_told h (party.Grain grain) (Err why) → Delivers
   deliver_told grain same target aimed why is tells =
       by_delivery (Err why) ((λ i. verdict logic h.whole (sym same i).tenant (sym aimed i)) ∙ is)
       (left
-      ∙ ap (λ x. without_sent x g.tenant place) (tells ∙ ap (λ x. with_told h (party.Grain x) (Err why)) same)
+      ∙ ap (λ x. without_sent x g) (tells ∙ ap (λ x. with_told h (party.Grain x) (Err why)) same)
       ∙ ap (λ o. record h { whole = record h.whole { accounts = changed_account change h.whole.accounts g.tenant o; replies = h.whole.replies ++ told (party.Grain g) (Err why) } }) known)
 
   pub deliver_taken : (grain : Grain) → grain ≡ g → (target : Grain) → target ≡ sent.message.target → (message : codec.Call) → message ≡ sent.message.call → Settles (verdict logic h.whole grain.tenant target) None
@@ -133,11 +132,11 @@ module _ (logic : Logic) (h mid new : Held) (g : Grain) (a : Account) (known : m
   deliver_taken grain same target aimed message asks is accepted =
       by_delivery (Ok is.0) ((λ i. verdict logic h.whole (sym same i).tenant (sym aimed i)) ∙ is.1)
       (left
-      ∙ ap (λ x. without_sent x g.tenant place) (accepted
+      ∙ ap (λ x. without_sent x g) (accepted
       ∙ (λ i. with_accepted h (party.Grain (same i)) (aimed i) (asks i) (map.get h.whole.accounts (same i).tenant))
       ∙ ap (with_accepted h (party.Grain g) sent.message.target sent.message.call) known)
       ∙ ap (made (map.insert h.whole.accounts g.tenant (record a { count = a.count + 1 }))) (get-insert_same text_cmp_total text_cmp_exact h.whole.accounts g.tenant (record a { count = a.count + 1 }))
-      ∙ ap made_of (insert-insert text_cmp_total text_cmp_exact h.whole.accounts g.tenant (record a { count = a.count + 1 }) (record a { count = a.count + 1; sends = remove a.sends place })))
+      ∙ ap made_of (insert-insert text_cmp_total text_cmp_exact h.whole.accounts g.tenant (record a { count = a.count + 1 }) (record a { count = a.count + 1; sends = without_first g a.sends })))
     where
       made_of : FinMap text_cmp Account → Held
       made_of accounts = record h {

@@ -7,6 +7,7 @@ pub mod Shows
 pub mod Steps
 pub mod Verdicts
 pub mod Arrivals
+pub mod Queues
 pub mod Takes
 pub mod Asks
 pub mod Calls

@@ -20,3 +20,4 @@ pub mod Closings
 pub mod Versions
 pub mod Storing
 pub mod Status
+pub mod Undelivered

@@ -1,7 +1,6 @@
 //! What is kept of a known tenant.
 
-ghost use Rattle.std.specs.Prelude.{◌≡◌, ◌+◌, ◌<◌, ◌≤◌, ◌++◌, OnOk, OnErr, IfOk, length, map};
-ghost use Rattle.std.specs.VecDeque.{deque_len, deque_capacity};
+ghost use Rattle.std.specs.Prelude.{◌≡◌, ◌+◌, ◌<◌, ◌≤◌, IfOk, map};
 ghost use Rattle.grain_kinds.specs.Finished.{sent};
 ghost use Rattle.silo_model.specs.Turns.{sent_by};
 ghost use Rattle.silo_body.specs.Sends.{send_of};
@@ -11,10 +10,11 @@ ghost use Rattle.silo_model.specs.Calls.{last_number};
 use grain_id::GrainId;
 use request_codec::Message;
 use std::alloc::{AllocError, Global};
-use std::collections::VecDeque;
+use std::collections::{BTreeMap, VecDeque};
 use std::marker::Model;
 use tenant_gate::Limits;
 
+mod index;
 mod sends;
 
 /// A call that a grain sent, and that is not yet delivered.
@@ -27,11 +27,16 @@ pub struct Sent {
 
 /// What is kept of a known tenant: its limits, how many requests of it were accepted, and what its
 /// grains sent, in order.
+///
+/// What was sent is kept by numbers that rise, and an index has the numbers of each grain's own: so
+/// the first of a grain is found by two look-ups, however much was sent.
 #[derive(Drop)]
 pub struct Account {
     limits: Limits,
     count: u64,
-    sends: VecDeque<Sent>,
+    sends: BTreeMap<u64, Sent>,
+    index: BTreeMap<GrainId, VecDeque<u64>>,
+    next: u64,
 }
 
 impl Model for Account {
@@ -41,14 +46,15 @@ impl Model for Account {
     ghost use Rattle.silo_model.specs.Machine as model;
     ghost use Rattle.silo_model.specs.Calls.{last_number};
     ghost use Rattle.silo_body.specs.Sends.{send_of};
+    ghost use Rattle.silo_body.specs.Undelivered.{IsIndexed};
 
     ghost Value = { model.Account };
 
     ghost coded = { Prim.hlevel (codes, coded_tree) };
 
-    ghost view = { λ a. record { limits = a.limits; count = a.count; sends = map send_of a.sends.items } };
+    ghost view = { λ a. record { limits = a.limits; count = a.count; sends = map (λ e. send_of e.1) a.sends.entries } };
 
-    ghost invariant = { λ a. a.count ≤ last_number };
+    ghost invariant = { λ a. (a.count ≤ last_number) × IsIndexed a.sends.entries a.index a.next };
 }
 
 impl Account {
@@ -59,7 +65,9 @@ impl Account {
         Account {
             limits,
             count: 0,
-            sends: VecDeque::new(alloc),
+            sends: BTreeMap::new(alloc),
+            index: BTreeMap::new(alloc),
+            next: 0,
         }
     }
 
@@ -84,30 +92,6 @@ impl Account {
         ensures { self.new ≡ record self.old { count = self.old.count + 1 } }
     {
         self.count += 1;
-    }
-
-    /// Its grains sent these, after what they sent before.
-    ///
-    /// # Errors
-    ///
-    /// Out of memory: the account is as before.
-    pub fn send(&mut self, sent: VecDeque<Sent>) -> Result<(), AllocError>
-        ensures done { OnOk result (self.new ≡ record self.old { sends = self.old.sends ++ map send_of sent.items }) }
-        ensures unchanged { OnErr result (self.new ≡ self.old) }
-    {
-        self.sends.reserve(sent.len())?;
-        add_all(&mut self.sends, sent);
-        Ok(())
-    }
-}
-
-/// Puts calls behind others, where there is room.
-fn add_all(sends: &mut VecDeque<Sent>, mut sent: VecDeque<Sent>)
-    requires { length sent.items + deque_len sends.old ≤ deque_capacity sends.old }
-    ensures { sends.new.items ≡ sends.old.items ++ sent.items }
-{
-    while let Some(one) = sent.pop_front() {
-        sends.push_back_reserved(one);
     }
 }
 

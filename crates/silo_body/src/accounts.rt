@@ -77,7 +77,12 @@ impl Accounts {
     /// # Errors
     ///
     /// Out of memory: nothing changed.
-    pub fn send(&mut self, tenant: &str, sent: VecDeque<Sent>) -> Result<(), AllocError>
+    pub fn send(
+        &mut self,
+        alloc: Global,
+        tenant: &str,
+        sent: VecDeque<Sent>,
+    ) -> Result<(), AllocError>
         ensures done { OnOk result (self.new ≡ change_at self.old tenant.now (with_more (map.get self.old tenant.now) (map_list send_of sent.items))) }
         ensures unchanged { OnErr result (self.new ≡ self.old) }
     {
@@ -87,7 +92,7 @@ impl Accounts {
         let Some(account) = self.get_mut(tenant) else {
             return Ok(());
         };
-        account.send(sent)
+        account.send(alloc, sent)
     }
 }
 

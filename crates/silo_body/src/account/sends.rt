@@ -1,38 +1,98 @@
 //! What a tenant's grains sent, and is not yet delivered.
 
-ghost use Rattle.std.specs.Prelude.{◌≡◌};
-ghost use Rattle.std.specs.List.{remove};
-ghost use Rattle.silo_body.specs.Deliveries.{FindsFirst, place_from};
+ghost use Rattle.std.specs.Prelude.{◌≡◌, ◌∷◌, [], ◌++◌, ◌-◌, OnOk, OnErr, length, map, take};
+ghost use Rattle.silo_body.specs.Sends.{send_of};
+ghost use Rattle.silo_body.specs.Deliveries.{FindsFirst, without_first};
 
-use crate::account::{Account, Sent};
+use crate::account::{Account, Sent, index};
 use grain_id::GrainId;
+use std::alloc::{AllocError, Global};
 use std::collections::VecDeque;
 
 impl Account {
-    /// The first call that the grain sent, and its place among all that were sent.
-    pub fn first_from(&self, grain: &GrainId) -> Option<(usize, &Sent)>
+    /// The first call that the grain sent.
+    pub fn first_from(&self, grain: &GrainId) -> Option<&Sent>
         ensures { FindsFirst grain.now self.now.sends result }
     {
-        let Some(place) = place_from(&self.sends, grain) else {
+        let Some(number) = index::first(&self.index, grain) else {
             return None;
         };
-        let Some(sent) = self.sends.get(place) else {
-            return None;
-        };
-        Some((place, sent))
+        self.sends.get(&number)
     }
 
-    /// The call at that place is taken out. Takes no memory.
-    pub fn take(&mut self, place: usize)
-        ensures { self.new ≡ record self.old { sends = remove self.old.sends place } }
+    /// The first call that the grain sent is taken out. Takes no memory.
+    pub fn take_first(&mut self, grain: &GrainId)
+        ensures { self.new ≡ record self.old { sends = without_first grain.now self.old.sends } }
     {
-        drop(self.sends.remove(place));
+        if let Some(number) = index::take_first(&mut self.index, grain) {
+            drop(self.sends.remove(&number));
+        }
     }
-}
 
-/// The place of the first call that the grain sent.
-fn place_from(sends: &VecDeque<Sent>, grain: &GrainId) -> Option<usize>
-    ensures { result ≡ place_from grain.now sends.now.items }
-{
-    sends.iter().position(|sent| sent.source == *grain)
+    /// Its grains sent these, after what they sent before.
+    ///
+    /// # Errors
+    ///
+    /// Out of memory: the account is as before.
+    pub fn send(&mut self, alloc: Global, mut sent: VecDeque<Sent>) -> Result<(), AllocError>
+        ensures done { OnOk result (self.new ≡ record self.old { sends = self.old.sends ++ map send_of sent.items }) }
+        ensures unchanged { OnErr result (self.new ≡ self.old) }
+    {
+        let before = self.sends.len();
+        while let Some(one) = sent.pop_front() {
+            match self.add(alloc, one) {
+                Ok(()) => {}
+                Err(AllocError) => {
+                    self.keep(before);
+                    return Err(AllocError);
+                }
+            }
+        }
+        Ok(())
+    }
+
+    /// A grain of it sent this, after what was sent before.
+    ///
+    /// # Errors
+    ///
+    /// Out of memory, or of numbers: the account is as before.
+    fn add(&mut self, alloc: Global, sent: Sent) -> Result<(), AllocError>
+        ensures done { OnOk result (self.new ≡ record self.old { sends = self.old.sends ++ send_of sent ∷ [] }) }
+        ensures unchanged { OnErr result (self.new ≡ self.old) }
+    {
+        let number = self.next;
+        let Some(next) = number.checked_add(1) else {
+            return Err(AllocError);
+        };
+        index::add_last(alloc, &mut self.index, &sent.source, number)?;
+        match self.sends.insert(number, sent) {
+            Ok(_) => {
+                self.next = next;
+                Ok(())
+            }
+            Err(refused) => {
+                let (_, sent) = refused.value;
+                let _ = index::take_last(&mut self.index, &sent.source);
+                Err(AllocError)
+            }
+        }
+    }
+
+    /// Only that many of the first calls stay. Takes no memory.
+    fn keep(&mut self, many: usize)
+        ensures { self.new ≡ record self.old { sends = take many self.old.sends } }
+    {
+        while many < self.sends.len() {
+            self.take_last();
+        }
+    }
+
+    /// The last call that was sent is taken out. Takes no memory.
+    fn take_last(&mut self)
+        ensures { self.new ≡ record self.old { sends = take (length self.old.sends - 1) self.old.sends } }
+    {
+        if let Some((_, sent)) = self.sends.pop_last() {
+            let _ = index::take_last(&mut self.index, &sent.source);
+        }
+    }
 }

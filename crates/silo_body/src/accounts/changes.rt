@@ -1,12 +1,12 @@
 //! What becomes of a tenant's account.
 
 ghost use Rattle.std.specs.Prelude.{◌≡◌, ◌+◌, ◌<◌, IfSome};
-ghost use Rattle.std.specs.List.{remove};
 ghost use Rattle.std.specs.FinMap as map;
 ghost use Rattle.silo_model.specs.Calls.{last_number};
-ghost use Rattle.silo_body.specs.Deliveries.{changed_account};
+ghost use Rattle.silo_body.specs.Deliveries.{changed_account, without_first};
 
 use crate::accounts::Accounts;
+use grain_id::GrainId;
 
 impl Accounts {
     /// One request more of the tenant was accepted.
@@ -19,12 +19,13 @@ impl Accounts {
         }
     }
 
-    /// The call at that place is taken out of what the tenant's grains sent. Takes no memory.
-    pub fn take(&mut self, tenant: &str, place: usize)
-        ensures { self.new ≡ changed_account (λ a. record a { sends = remove a.sends place }) self.old tenant.now (map.get self.old tenant.now) }
+    /// The first call that the grain sent is taken out of what its tenant's grains sent. Takes no
+    /// memory.
+    pub fn take_first(&mut self, grain: &GrainId)
+        ensures { self.new ≡ changed_account (λ a. record a { sends = without_first grain.now a.sends }) self.old grain.now.tenant (map.get self.old grain.now.tenant) }
     {
-        if let Some(account) = self.get_mut(tenant) {
-            account.take(place);
+        if let Some(account) = self.get_mut(grain.tenant()) {
+            account.take_first(grain);
         }
     }
 }

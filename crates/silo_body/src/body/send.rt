@@ -24,7 +24,7 @@ impl<S: GrainStorage, L: GrainLogic> Body<S, L> {
         let Some(account) = self.accounts.get(grain.tenant()) else {
             return Ok(Answer::NotNow);
         };
-        let Some((place, sent)) = account.first_from(grain) else {
+        let Some(sent) = account.first_from(grain) else {
             return Ok(Answer::NotNow);
         };
         let target = sent.target.clone()?;
@@ -34,7 +34,7 @@ impl<S: GrainStorage, L: GrainLogic> Body<S, L> {
             Some(why) => self.tell(sender, Err(why))?,
             None => self.accept(alloc, sender, &target, message)?,
         }
-        self.accounts.take(grain.tenant(), place);
+        self.accounts.take_first(grain);
         Ok(Answer::Done)
     }
 }

@@ -109,7 +109,7 @@ impl<S: GrainStorage, L: GrainLogic> Body<S, L> {
         let now = self.clock.get();
         self.replies.reserve(1)?;
         notes::expect(&mut self.collector, grain, rests, now)?;
-        match self.accounts.send(grain.tenant(), sent) {
+        match self.accounts.send(alloc, grain.tenant(), sent) {
             Ok(()) => {}
             Err(AllocError) => {
                 notes::take_back(&mut self.collector, grain, rests);

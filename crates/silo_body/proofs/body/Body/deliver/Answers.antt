@@ -5,7 +5,7 @@ use Rattle.silo_model.proofs.SendSteps.{deliver_unknown, deliver_nothing}
 use Rattle.silo_body.specs.Held.{Held}
 use Rattle.silo_body.specs.Sends.{send_of}
 use Rattle.silo_body.specs.Verdicts.{verdict, Settles}
-use Rattle.silo_body.proofs.Calls.{deliver_told, deliver_taken, taken, without_sent}
+use Rattle.silo_body.proofs.Calls.{deliver_told, deliver_taken, without_sent}
 use Rattle.silo_body.proofs.body.Body.deliver.Goals as goal
 use Rattle.silo_body.proofs.body.Body.deliver.Goals.{in-Some-2+in_ok-tell-in-Some-2, in-None+in_ok-accept-in-None}
 
@@ -28,27 +28,26 @@ returns g c =
     let logic = g.L.GrainLogic.logic in
     let h = c.args.self.now in
     let grain = c.args.grain.now in
-    let place = c.in-Some-first_from.place in
     let target = c.in_ok-target.target in
     let b = c.self-2.inside in
     let known = sym (ap option_copied (sym c.in-Some.is) ∙ c.get.ensures ∙ (λ i. map.get (c.self.view_is i).whole.accounts (c.tenant.ensures i))) in
     let new : Held = record {
-      whole = record { accounts = c.take.new.self; age = b.collector.age; clock = b.clock; entries = b.activations; rows = g.S.GrainStorage.rows b.storage; replies = b.replies.items };
+      whole = record { accounts = c.take_first.new.self; age = b.collector.age; clock = b.clock; entries = b.activations; rows = g.S.GrainStorage.rows b.storage; replies = b.replies.items };
       failures = g.S.GrainStorage.failed b.storage;
     } in
-    let accounts = c.take.ensures ∙ ap (taken place b.accounts) c.tenant-2.ensures in
-    let left : new ≡ without_sent c.match-branch-5.self grain.tenant place =
+    let accounts = c.take_first.ensures in
+    let left : new ≡ without_sent c.match-branch-5.self grain =
     (λ i. record {
       whole = record { accounts = accounts i; age = b.collector.age; clock = b.clock; entries = b.activations; rows = g.S.GrainStorage.rows b.storage; replies = b.replies.items };
       failures = g.S.GrainStorage.failed b.storage;
-    }) ∙ ap (λ (x : Held). without_sent x grain.tenant place) c.self-2.view_is in
+    }) ∙ ap (λ (x : Held). without_sent x grain) c.self-2.view_is in
     elim c.match-branch-5.branch [
       | in-Some-2+in_ok-tell-in-Some-2 w ↦
-          deliver_told logic h c.match-branch-5.self new grain c.in-Some.account.now known (send_of c.in-Some-first_from.sent.now) place c.in-Some-first_from.ensures left
+          deliver_told logic h c.match-branch-5.self new grain c.in-Some.account.now known (send_of c.in-Some-first_from.sent.now) c.in-Some-first_from.ensures left
           c.in_ok-clone.field-0 c.in_ok-clone.ensures.cases target c.in_ok-target.ensures.cases w.in-Some-2.why
           (subst (Settles (verdict logic h.whole c.in_ok-clone.field-0.tenant target)) w.in-Some-2.is c.in_ok-why.ensures) (w.self-is ∙ w.in_ok-tell-in-Some-2.ensures.told)
       | in-None+in_ok-accept-in-None w ↦
-          deliver_taken logic h c.match-branch-5.self new grain c.in-Some.account.now known (send_of c.in-Some-first_from.sent.now) place c.in-Some-first_from.ensures left
+          deliver_taken logic h c.match-branch-5.self new grain c.in-Some.account.now known (send_of c.in-Some-first_from.sent.now) c.in-Some-first_from.ensures left
           c.in_ok-clone.field-0 c.in_ok-clone.ensures.cases target c.in_ok-target.ensures.cases c.in_ok-message.message c.in_ok-message.ensures.cases
           (subst (Settles (verdict logic h.whole c.in_ok-clone.field-0.tenant target)) w.in-None.is c.in_ok-why.ensures) (w.self-is ∙ w.in_ok-accept-in-None.ensures.accepted)
     ]
