@@ -1,5 +1,5 @@
 -- How what a tenant's grains sent is kept: by the numbers in which it came, and for each grain the numbers of its own.
-use Rattle.std.specs.Prelude.{◌≡◌, ℕ, ◌+◌, ◌≤◌, Bool, List, [], ◌∷◌, ◌++◌, Option, Some, None, if◌then◌else◌, ⊤}
+use Rattle.std.specs.Prelude.{◌≡◌, ℕ, ◌+◌, ◌≤◌, Bool, List, [], ◌∷◌, ◌++◌, Option, Some, None, if◌then◌else◌}
 use Rattle.std.specs.Ordering.{eq_by_cmp}
 use Rattle.std.specs.Option.{option_to_list}
 use Rattle.std.specs.BTreeMap.{BTreeMap, get}

@@ -1,5 +1,4 @@
-use Rattle.std.proofs.Common.{◌≡◌, ℕ, ◌+◌, ◌∷◌, [], ◌++◌, Option, IfNone, ap, sym, ◌∙◌, subst, arith, rules}
-use Rattle.grain_id.specs.Names.{Grain}
+use Rattle.std.proofs.Common.{◌≡◌, ℕ, ◌+◌, ◌∷◌, [], ◌++◌, IfNone, ap, sym, ◌∙◌, subst, rules}
 use Rattle.silo_model.specs.Machine.{Account}
 use Rattle.silo_body.specs.declared.account.Sent.{Sent}
 use Rattle.silo_body.specs.Sends.{send_of}

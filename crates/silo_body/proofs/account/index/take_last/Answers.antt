@@ -1,4 +1,4 @@
-use Rattle.std.proofs.Common.{◌≡◌, Some, ◌++◌, refl, ap, sym, ◌∙◌}
+use Rattle.std.proofs.Common.{Some, ◌++◌, refl, ap, sym, ◌∙◌}
 use Rattle.silo_body.specs.Undelivered.{only_at}
 use Rattle.std.specs.Option.{option_to_list}
 use Rattle.silo_body.proofs.Queues.{puts_last_out}
