@@ -1,0 +1,99 @@
+//! Runs of rows, of which any allocation may be refused: what was answered before it stands, and the rest of the steps
+//! gives the rest of the row.
+
+use crate::lines::{shown, steps_behind, steps_of, stored, told};
+use crate::rows::{ACROSS, CLEARED, COLLECTED, FIRST_CALL, OVERWRITTEN, Worked};
+use crate::silos::{TestedSilo, new_silo, replies, rows, run};
+use silo_event::{Answer, Step};
+use std::alloc::Global;
+use std::test::Fail;
+
+/// Takes the steps in one run: how many were answered, or none if one of them wasn't done.
+fn done(alloc: Global, silo: &mut TestedSilo, steps: Vec<Step>) -> Option<usize> {
+    let report = run(alloc, silo, steps);
+    for answer in &report.answers {
+        if *answer != Answer::Done {
+            return None;
+        }
+    }
+    Some(report.answers.len())
+}
+
+/// What a silo shows that took the first so many of the lines.
+fn shown_after(alloc: Global, lines: &str, first: usize) -> Result<String, Fail> {
+    let mut steps = steps_of(alloc, lines)?;
+    steps.truncate(first);
+    let mut silo = new_silo(alloc)?;
+    drop(run(alloc, &mut silo, steps));
+    shown(alloc, &silo)
+}
+
+/// Whether the silo is where the first so many of the row's lines lead, and told a beginning of what is to be told.
+fn is_at(alloc: Global, silo: &TestedSilo, row: &Worked, first: usize) -> Result<bool, Fail> {
+    let same = shown(alloc, silo)?.as_str() == shown_after(alloc, row.lines, first)?.as_str();
+    let begins = row.told.starts_with(told(alloc, replies(silo))?.as_str());
+    Ok(same && begins)
+}
+
+/// Whether the row is told and stored.
+fn is_shown(alloc: Global, silo: &TestedSilo, row: &Worked) -> Result<bool, Fail> {
+    let said = told(alloc, replies(silo))?;
+    let kept = stored(alloc, rows(alloc, silo)?.as_slice())?;
+    Ok(said.as_str() == row.told && kept.as_str() == row.stored)
+}
+
+/// Runs the lines behind the first so many: whether all were done.
+fn is_ended(alloc: Global, silo: &mut TestedSilo, lines: &str, first: usize) -> Result<bool, Fail> {
+    let rest = steps_behind(alloc, lines, first)?;
+    let count = rest.len();
+    Ok(done(alloc, silo, rest) == Some(count))
+}
+
+/// Whether a run of the row's lines gives the row. A run that is stopped is at the lines that were answered, and the
+/// others are run after it.
+fn is_worked(alloc: Global, row: &Worked) -> Result<bool, Fail> {
+    let mut silo = new_silo(alloc)?;
+    let steps = steps_of(alloc, row.lines)?;
+    let all = steps.len();
+    let Some(first) = done(alloc, &mut silo, steps) else {
+        return Ok(false);
+    };
+    if first < all {
+        let same = is_at(alloc, &silo, row, first)?;
+        let ended = is_ended(alloc, &mut silo, row.lines, first)?;
+        if !same || !ended {
+            return Ok(false);
+        }
+    }
+    is_shown(alloc, &silo, row)
+}
+
+#[test]
+fn a_first_call(rt: HostRuntime) -> Result<(), Fail> {
+    assert!(rt; is_worked(rt.alloc(), &FIRST_CALL)?);
+    Ok(())
+}
+
+#[test]
+fn a_row_that_another_wrote(rt: HostRuntime) -> Result<(), Fail> {
+    assert!(rt; is_worked(rt.alloc(), &OVERWRITTEN)?);
+    Ok(())
+}
+
+#[test]
+fn a_row_that_is_cleared(rt: HostRuntime) -> Result<(), Fail> {
+    assert!(rt; is_worked(rt.alloc(), &CLEARED)?);
+    Ok(())
+}
+
+#[test]
+fn a_grain_that_is_idle(rt: HostRuntime) -> Result<(), Fail> {
+    assert!(rt; is_worked(rt.alloc(), &COLLECTED)?);
+    Ok(())
+}
+
+#[test]
+fn a_call_across_tenants(rt: HostRuntime) -> Result<(), Fail> {
+    assert!(rt; is_worked(rt.alloc(), &ACROSS)?);
+    Ok(())
+}

@@ -1,0 +1,208 @@
+//! Worked rows: lines of steps, with what is told and stored after them. Each can be followed by hand.
+//!
+//! The tenants are red and blue, each with 2 activations of 4 waiting requests, and the age is 1,000.
+
+/// Lines, the lines of their replies, and the grains with the versions of their rows.
+#[derive(Clone, Copy)]
+pub struct Worked {
+    pub lines: &'static str,
+    pub told: &'static str,
+    pub stored: &'static str,
+}
+
+/// A counter is asked to add 3.
+pub const FIRST_CALL: Worked = Worked {
+    lines: r#"{"op":"call","from":"red/c1","id":1,"grain":"counter/red:a","method":"add","args":{"by":3}}
+{"op":"activate","grain":"counter/red:a"}
+{"op":"load","grain":"counter/red:a"}
+{"op":"begin","grain":"counter/red:a"}
+{"op":"end","grain":"counter/red:a","turn":1}
+"#,
+    told: r#"{"from":"red/c1","id":1,"ok":3}
+"#,
+    stored: "",
+};
+
+/// A call of a counter to add 3, which waits for its turn.
+pub const ADD_3: &str =
+    r#"{"op":"call","from":"red/c1","id":1,"grain":"counter/red:a","method":"add","args":{"by":3}}
+{"op":"activate","grain":"counter/red:a"}
+{"op":"load","grain":"counter/red:a"}
+"#;
+
+/// A call of a counter to add 4, which waits for its turn.
+pub const ADD_4: &str =
+    r#"{"op":"call","from":"red/c1","id":1,"grain":"counter/red:a","method":"add","args":{"by":4}}
+{"op":"activate","grain":"counter/red:a"}
+{"op":"load","grain":"counter/red:a"}
+"#;
+
+/// A row that another wrote ends the activation, and what waits is answered from the row.
+pub const OVERWRITTEN: Worked = Worked {
+    lines: r#"{"op":"call","from":"red/c1","id":1,"grain":"counter/red:a","method":"add","args":{"by":3}}
+{"op":"activate","grain":"counter/red:a"}
+{"op":"load","grain":"counter/red:a"}
+{"op":"begin","grain":"counter/red:a"}
+{"op":"end","grain":"counter/red:a","turn":1}
+{"op":"call","from":"red/c1","id":2,"grain":"counter/red:a","method":"save","args":null}
+{"op":"begin","grain":"counter/red:a"}
+{"op":"store","grain":"counter/red:a","turn":2}
+{"op":"poke","from":"red/c1","id":3,"grain":"counter/red:a","state":10}
+{"op":"call","from":"red/c1","id":4,"grain":"counter/red:a","method":"save","args":null}
+{"op":"call","from":"red/c1","id":5,"grain":"counter/red:a","method":"get","args":null}
+{"op":"begin","grain":"counter/red:a"}
+{"op":"store","grain":"counter/red:a","turn":3}
+{"op":"activate","grain":"counter/red:a"}
+{"op":"load","grain":"counter/red:a"}
+{"op":"begin","grain":"counter/red:a"}
+{"op":"end","grain":"counter/red:a","turn":4}
+"#,
+    told: r#"{"from":"red/c1","id":1,"ok":3}
+{"from":"red/c1","id":2,"ok":"1"}
+{"from":"red/c1","id":3,"ok":"2"}
+{"error":54,"from":"red/c1","id":4,"text":"stored state of counter/red:a has changed"}
+{"from":"red/c1","id":5,"ok":10}
+"#,
+    stored: "counter/red:a 2\n",
+};
+
+/// A row is written, cleared and written again.
+pub const CLEARED: Worked = Worked {
+    lines: r#"{"op":"call","from":"red/c1","id":1,"grain":"counter/red:a","method":"save","args":null}
+{"op":"activate","grain":"counter/red:a"}
+{"op":"load","grain":"counter/red:a"}
+{"op":"begin","grain":"counter/red:a"}
+{"op":"store","grain":"counter/red:a","turn":1}
+{"op":"call","from":"red/c1","id":2,"grain":"counter/red:a","method":"clear","args":null}
+{"op":"begin","grain":"counter/red:a"}
+{"op":"store","grain":"counter/red:a","turn":2}
+{"op":"call","from":"red/c1","id":3,"grain":"counter/red:a","method":"save","args":null}
+{"op":"begin","grain":"counter/red:a"}
+{"op":"store","grain":"counter/red:a","turn":3}
+"#,
+    told: r#"{"from":"red/c1","id":1,"ok":"1"}
+{"from":"red/c1","id":2,"ok":"2"}
+{"from":"red/c1","id":3,"ok":"3"}
+"#,
+    stored: "counter/red:a 3\n",
+};
+
+/// An idle grain goes when it is as old as the age.
+pub const COLLECTED: Worked = Worked {
+    lines: r#"{"op":"tick","now":5000}
+{"op":"call","from":"red/c1","id":1,"grain":"counter/red:a","method":"add","args":{"by":3}}
+{"op":"activate","grain":"counter/red:a"}
+{"op":"load","grain":"counter/red:a"}
+{"op":"begin","grain":"counter/red:a"}
+{"op":"end","grain":"counter/red:a","turn":1}
+{"op":"tick","now":5999}
+{"op":"sweep"}
+{"op":"status","from":"red/c1","id":2}
+{"op":"tick","now":6000}
+{"op":"sweep"}
+{"op":"status","from":"red/c1","id":3}
+{"op":"call","from":"red/c1","id":4,"grain":"counter/red:a","method":"get","args":null}
+{"op":"activate","grain":"counter/red:a"}
+{"op":"load","grain":"counter/red:a"}
+{"op":"begin","grain":"counter/red:a"}
+{"op":"end","grain":"counter/red:a","turn":2}
+"#,
+    told: r#"{"from":"red/c1","id":1,"ok":3}
+{"from":"red/c1","id":2,"ok":{"activations":1,"clock":5999,"requests":1}}
+{"from":"red/c1","id":3,"ok":{"activations":0,"clock":6000,"requests":1}}
+{"from":"red/c1","id":4,"ok":0}
+"#,
+    stored: "",
+};
+
+/// What a relay sends across tenants is refused, and the relay is told.
+pub const ACROSS: Worked = Worked {
+    lines: r#"{"op":"call","from":"red/c1","id":1,"grain":"relay/red:r","method":"join","args":{"grain":"counter/blue:x"}}
+{"op":"activate","grain":"relay/red:r"}
+{"op":"load","grain":"relay/red:r"}
+{"op":"begin","grain":"relay/red:r"}
+{"op":"end","grain":"relay/red:r","turn":1}
+{"op":"call","from":"red/c1","id":2,"grain":"relay/red:r","method":"send","args":{"args":null,"method":"get"}}
+{"op":"begin","grain":"relay/red:r"}
+{"op":"end","grain":"relay/red:r","turn":2}
+{"op":"deliver","grain":"relay/red:r"}
+"#,
+    told: r#"{"from":"red/c1","id":1,"ok":true}
+{"from":"red/c1","id":2,"ok":1}
+{"error":40,"from":"relay/red:r","text":"tenant red may not call a grain of tenant blue"}
+"#,
+    stored: "",
+};
+
+/// A call is refused for its argument, and the turn of another is abandoned.
+pub const ABANDONED: Worked = Worked {
+    lines: r#"{"op":"call","from":"red/c1","id":1,"grain":"counter/red:a","method":"get","args":1.5}
+{"op":"call","from":"red/c1","id":2,"grain":"counter/red:a","method":"get","args":null}
+{"op":"activate","grain":"counter/red:a"}
+{"op":"load","grain":"counter/red:a"}
+{"op":"begin","grain":"counter/red:a"}
+{"op":"abandon","grain":"counter/red:a","turn":1}
+"#,
+    told: r#"{"error":13,"from":"red/c1","id":1,"text":"number is not a whole number of 64 bits"}
+{"error":70,"from":"red/c1","id":2,"text":"turn met want of memory"}
+"#,
+    stored: "",
+};
+
+/// A grain is loaded twice, and the first call of the storage fails.
+pub const LOADED_TWICE: Worked = Worked {
+    lines: r#"{"op":"call","from":"red/c1","id":1,"grain":"counter/red:a","method":"get","args":null}
+{"op":"activate","grain":"counter/red:a"}
+{"op":"load","grain":"counter/red:a"}
+{"op":"call","from":"red/c1","id":2,"grain":"counter/red:a","method":"get","args":null}
+{"op":"activate","grain":"counter/red:a"}
+{"op":"load","grain":"counter/red:a"}
+{"op":"begin","grain":"counter/red:a"}
+{"op":"end","grain":"counter/red:a","turn":2}
+"#,
+    told: r#"{"error":53,"from":"red/c1","id":1,"text":"storage failed"}
+{"from":"red/c1","id":2,"ok":0}
+"#,
+    stored: "",
+};
+
+/// The row has the last version and 3, and is to be written.
+pub const SPENT: Worked = Worked {
+    lines: r#"{"op":"call","from":"red/c1","id":1,"grain":"counter/red:a","method":"save","args":null}
+{"op":"activate","grain":"counter/red:a"}
+{"op":"load","grain":"counter/red:a"}
+{"op":"begin","grain":"counter/red:a"}
+{"op":"store","grain":"counter/red:a","turn":1}
+{"op":"call","from":"red/c1","id":2,"grain":"counter/red:a","method":"get","args":null}
+{"op":"begin","grain":"counter/red:a"}
+{"op":"end","grain":"counter/red:a","turn":2}
+"#,
+    told: r#"{"error":56,"from":"red/c1","id":1,"text":"versions of counter/red:a are spent"}
+{"from":"red/c1","id":2,"ok":3}
+"#,
+    stored: "counter/red:a 18446744073709551615\n",
+};
+
+/// What is told for the lines of `CLEARED` if the first call of the storage fails, the second, and so on.
+pub const CLEARED_BUT: [&str; 4] = [
+    r#"{"error":53,"from":"red/c1","id":1,"text":"storage failed"}
+{"text":"not now"}
+{"text":"not now"}
+{"text":"not now"}
+{"text":"not now"}
+{"text":"not now"}
+{"text":"not now"}
+"#,
+    r#"{"error":53,"from":"red/c1","id":1,"text":"storage failed"}
+{"from":"red/c1","id":2,"ok":null}
+{"from":"red/c1","id":3,"ok":"1"}
+"#,
+    r#"{"from":"red/c1","id":1,"ok":"1"}
+{"error":53,"from":"red/c1","id":2,"text":"storage failed"}
+{"from":"red/c1","id":3,"ok":"2"}
+"#,
+    r#"{"from":"red/c1","id":1,"ok":"1"}
+{"from":"red/c1","id":2,"ok":"2"}
+{"error":53,"from":"red/c1","id":3,"text":"storage failed"}
+"#,
+];
