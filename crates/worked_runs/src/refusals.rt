@@ -2,7 +2,7 @@
 //! gives the rest of the row.
 
 use crate::lines::{shown, steps_behind, steps_of, stored, told};
-use crate::rows::{ACROSS, CLEARED, COLLECTED, FIRST_CALL, OVERWRITTEN, Worked};
+use crate::rows::{Worked, across, cleared, collected, first_call, overwritten};
 use crate::silos::{TestedSilo, new_silo, replies, rows, run};
 use silo_event::{Answer, Step};
 use std::alloc::Global;
@@ -70,30 +70,30 @@ fn is_worked(alloc: Global, row: &Worked) -> Result<bool, Fail> {
 
 #[test]
 fn a_first_call(rt: HostRuntime) -> Result<(), Fail> {
-    assert!(rt; is_worked(rt.alloc(), &FIRST_CALL)?);
+    assert!(rt; is_worked(rt.alloc(), &first_call())?);
     Ok(())
 }
 
 #[test]
 fn a_row_that_another_wrote(rt: HostRuntime) -> Result<(), Fail> {
-    assert!(rt; is_worked(rt.alloc(), &OVERWRITTEN)?);
+    assert!(rt; is_worked(rt.alloc(), &overwritten())?);
     Ok(())
 }
 
 #[test]
 fn a_row_that_is_cleared(rt: HostRuntime) -> Result<(), Fail> {
-    assert!(rt; is_worked(rt.alloc(), &CLEARED)?);
+    assert!(rt; is_worked(rt.alloc(), &cleared())?);
     Ok(())
 }
 
 #[test]
 fn a_grain_that_is_idle(rt: HostRuntime) -> Result<(), Fail> {
-    assert!(rt; is_worked(rt.alloc(), &COLLECTED)?);
+    assert!(rt; is_worked(rt.alloc(), &collected())?);
     Ok(())
 }
 
 #[test]
 fn a_call_across_tenants(rt: HostRuntime) -> Result<(), Fail> {
-    assert!(rt; is_worked(rt.alloc(), &ACROSS)?);
+    assert!(rt; is_worked(rt.alloc(), &across())?);
     Ok(())
 }

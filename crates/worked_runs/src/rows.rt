@@ -1,6 +1,7 @@
 //! Worked rows: lines of steps, with what is told and stored after them. Each can be followed by hand.
 //!
-//! The tenants are red and blue, each with 2 activations of 4 waiting requests, and the age is 1,000.
+//! The tenants are red and blue, each with 2 activations of 4 waiting requests, and the age is 1,000. The texts come from
+//! functions, since a long text in a test's own body stands in all its goals.
 
 /// Lines, the lines of their replies, and the grains with the versions of their rows.
 #[derive(Clone, Copy)]
@@ -11,35 +12,40 @@ pub struct Worked {
 }
 
 /// A counter is asked to add 3.
-pub const FIRST_CALL: Worked = Worked {
-    lines: r#"{"op":"call","from":"red/c1","id":1,"grain":"counter/red:a","method":"add","args":{"by":3}}
+pub fn first_call() -> Worked {
+    Worked {
+        lines: r#"{"op":"call","from":"red/c1","id":1,"grain":"counter/red:a","method":"add","args":{"by":3}}
 {"op":"activate","grain":"counter/red:a"}
 {"op":"load","grain":"counter/red:a"}
 {"op":"begin","grain":"counter/red:a"}
 {"op":"end","grain":"counter/red:a","turn":1}
 "#,
-    told: r#"{"from":"red/c1","id":1,"ok":3}
+        told: r#"{"from":"red/c1","id":1,"ok":3}
 "#,
-    stored: "",
-};
+        stored: "",
+    }
+}
 
 /// A call of a counter to add 3, which waits for its turn.
-pub const ADD_3: &str =
+pub fn add_3() -> &'static str {
     r#"{"op":"call","from":"red/c1","id":1,"grain":"counter/red:a","method":"add","args":{"by":3}}
 {"op":"activate","grain":"counter/red:a"}
 {"op":"load","grain":"counter/red:a"}
-"#;
+"#
+}
 
 /// A call of a counter to add 4, which waits for its turn.
-pub const ADD_4: &str =
+pub fn add_4() -> &'static str {
     r#"{"op":"call","from":"red/c1","id":1,"grain":"counter/red:a","method":"add","args":{"by":4}}
 {"op":"activate","grain":"counter/red:a"}
 {"op":"load","grain":"counter/red:a"}
-"#;
+"#
+}
 
 /// A row that another wrote ends the activation, and what waits is answered from the row.
-pub const OVERWRITTEN: Worked = Worked {
-    lines: r#"{"op":"call","from":"red/c1","id":1,"grain":"counter/red:a","method":"add","args":{"by":3}}
+pub fn overwritten() -> Worked {
+    Worked {
+        lines: r#"{"op":"call","from":"red/c1","id":1,"grain":"counter/red:a","method":"add","args":{"by":3}}
 {"op":"activate","grain":"counter/red:a"}
 {"op":"load","grain":"counter/red:a"}
 {"op":"begin","grain":"counter/red:a"}
@@ -57,18 +63,20 @@ pub const OVERWRITTEN: Worked = Worked {
 {"op":"begin","grain":"counter/red:a"}
 {"op":"end","grain":"counter/red:a","turn":4}
 "#,
-    told: r#"{"from":"red/c1","id":1,"ok":3}
+        told: r#"{"from":"red/c1","id":1,"ok":3}
 {"from":"red/c1","id":2,"ok":"1"}
 {"from":"red/c1","id":3,"ok":"2"}
 {"error":54,"from":"red/c1","id":4,"text":"stored state of counter/red:a has changed"}
 {"from":"red/c1","id":5,"ok":10}
 "#,
-    stored: "counter/red:a 2\n",
-};
+        stored: "counter/red:a 2\n",
+    }
+}
 
 /// A row is written, cleared and written again.
-pub const CLEARED: Worked = Worked {
-    lines: r#"{"op":"call","from":"red/c1","id":1,"grain":"counter/red:a","method":"save","args":null}
+pub fn cleared() -> Worked {
+    Worked {
+        lines: r#"{"op":"call","from":"red/c1","id":1,"grain":"counter/red:a","method":"save","args":null}
 {"op":"activate","grain":"counter/red:a"}
 {"op":"load","grain":"counter/red:a"}
 {"op":"begin","grain":"counter/red:a"}
@@ -80,16 +88,18 @@ pub const CLEARED: Worked = Worked {
 {"op":"begin","grain":"counter/red:a"}
 {"op":"store","grain":"counter/red:a","turn":3}
 "#,
-    told: r#"{"from":"red/c1","id":1,"ok":"1"}
+        told: r#"{"from":"red/c1","id":1,"ok":"1"}
 {"from":"red/c1","id":2,"ok":"2"}
 {"from":"red/c1","id":3,"ok":"3"}
 "#,
-    stored: "counter/red:a 3\n",
-};
+        stored: "counter/red:a 3\n",
+    }
+}
 
 /// An idle grain goes when it is as old as the age.
-pub const COLLECTED: Worked = Worked {
-    lines: r#"{"op":"tick","now":5000}
+pub fn collected() -> Worked {
+    Worked {
+        lines: r#"{"op":"tick","now":5000}
 {"op":"call","from":"red/c1","id":1,"grain":"counter/red:a","method":"add","args":{"by":3}}
 {"op":"activate","grain":"counter/red:a"}
 {"op":"load","grain":"counter/red:a"}
@@ -107,17 +117,19 @@ pub const COLLECTED: Worked = Worked {
 {"op":"begin","grain":"counter/red:a"}
 {"op":"end","grain":"counter/red:a","turn":2}
 "#,
-    told: r#"{"from":"red/c1","id":1,"ok":3}
+        told: r#"{"from":"red/c1","id":1,"ok":3}
 {"from":"red/c1","id":2,"ok":{"activations":1,"clock":5999,"requests":1}}
 {"from":"red/c1","id":3,"ok":{"activations":0,"clock":6000,"requests":1}}
 {"from":"red/c1","id":4,"ok":0}
 "#,
-    stored: "",
-};
+        stored: "",
+    }
+}
 
 /// What a relay sends across tenants is refused, and the relay is told.
-pub const ACROSS: Worked = Worked {
-    lines: r#"{"op":"call","from":"red/c1","id":1,"grain":"relay/red:r","method":"join","args":{"grain":"counter/blue:x"}}
+pub fn across() -> Worked {
+    Worked {
+        lines: r#"{"op":"call","from":"red/c1","id":1,"grain":"relay/red:r","method":"join","args":{"grain":"counter/blue:x"}}
 {"op":"activate","grain":"relay/red:r"}
 {"op":"load","grain":"relay/red:r"}
 {"op":"begin","grain":"relay/red:r"}
@@ -127,31 +139,35 @@ pub const ACROSS: Worked = Worked {
 {"op":"end","grain":"relay/red:r","turn":2}
 {"op":"deliver","grain":"relay/red:r"}
 "#,
-    told: r#"{"from":"red/c1","id":1,"ok":true}
+        told: r#"{"from":"red/c1","id":1,"ok":true}
 {"from":"red/c1","id":2,"ok":1}
 {"error":40,"from":"relay/red:r","text":"tenant red may not call a grain of tenant blue"}
 "#,
-    stored: "",
-};
+        stored: "",
+    }
+}
 
 /// A call is refused for its argument, and the turn of another is abandoned.
-pub const ABANDONED: Worked = Worked {
-    lines: r#"{"op":"call","from":"red/c1","id":1,"grain":"counter/red:a","method":"get","args":1.5}
+pub fn abandoned() -> Worked {
+    Worked {
+        lines: r#"{"op":"call","from":"red/c1","id":1,"grain":"counter/red:a","method":"get","args":1.5}
 {"op":"call","from":"red/c1","id":2,"grain":"counter/red:a","method":"get","args":null}
 {"op":"activate","grain":"counter/red:a"}
 {"op":"load","grain":"counter/red:a"}
 {"op":"begin","grain":"counter/red:a"}
 {"op":"abandon","grain":"counter/red:a","turn":1}
 "#,
-    told: r#"{"error":13,"from":"red/c1","id":1,"text":"number is not a whole number of 64 bits"}
+        told: r#"{"error":13,"from":"red/c1","id":1,"text":"number is not a whole number of 64 bits"}
 {"error":70,"from":"red/c1","id":2,"text":"turn met want of memory"}
 "#,
-    stored: "",
-};
+        stored: "",
+    }
+}
 
 /// A grain is loaded twice, and the first call of the storage fails.
-pub const LOADED_TWICE: Worked = Worked {
-    lines: r#"{"op":"call","from":"red/c1","id":1,"grain":"counter/red:a","method":"get","args":null}
+pub fn loaded_twice() -> Worked {
+    Worked {
+        lines: r#"{"op":"call","from":"red/c1","id":1,"grain":"counter/red:a","method":"get","args":null}
 {"op":"activate","grain":"counter/red:a"}
 {"op":"load","grain":"counter/red:a"}
 {"op":"call","from":"red/c1","id":2,"grain":"counter/red:a","method":"get","args":null}
@@ -160,15 +176,17 @@ pub const LOADED_TWICE: Worked = Worked {
 {"op":"begin","grain":"counter/red:a"}
 {"op":"end","grain":"counter/red:a","turn":2}
 "#,
-    told: r#"{"error":53,"from":"red/c1","id":1,"text":"storage failed"}
+        told: r#"{"error":53,"from":"red/c1","id":1,"text":"storage failed"}
 {"from":"red/c1","id":2,"ok":0}
 "#,
-    stored: "",
-};
+        stored: "",
+    }
+}
 
 /// The row has the last version and 3, and is to be written.
-pub const SPENT: Worked = Worked {
-    lines: r#"{"op":"call","from":"red/c1","id":1,"grain":"counter/red:a","method":"save","args":null}
+pub fn spent() -> Worked {
+    Worked {
+        lines: r#"{"op":"call","from":"red/c1","id":1,"grain":"counter/red:a","method":"save","args":null}
 {"op":"activate","grain":"counter/red:a"}
 {"op":"load","grain":"counter/red:a"}
 {"op":"begin","grain":"counter/red:a"}
@@ -177,15 +195,17 @@ pub const SPENT: Worked = Worked {
 {"op":"begin","grain":"counter/red:a"}
 {"op":"end","grain":"counter/red:a","turn":2}
 "#,
-    told: r#"{"error":56,"from":"red/c1","id":1,"text":"versions of counter/red:a are spent"}
+        told: r#"{"error":56,"from":"red/c1","id":1,"text":"versions of counter/red:a are spent"}
 {"from":"red/c1","id":2,"ok":3}
 "#,
-    stored: "counter/red:a 18446744073709551615\n",
-};
+        stored: "counter/red:a 18446744073709551615\n",
+    }
+}
 
-/// What is told for the lines of `CLEARED` if the first call of the storage fails, the second, and so on.
-pub const CLEARED_BUT: [&str; 4] = [
-    r#"{"error":53,"from":"red/c1","id":1,"text":"storage failed"}
+/// What is told for the lines of `cleared` if the storage's call of that number fails. There is no fifth.
+pub fn cleared_but(number: u64) -> &'static str {
+    match number {
+        1 => r#"{"error":53,"from":"red/c1","id":1,"text":"storage failed"}
 {"text":"not now"}
 {"text":"not now"}
 {"text":"not now"}
@@ -193,16 +213,18 @@ pub const CLEARED_BUT: [&str; 4] = [
 {"text":"not now"}
 {"text":"not now"}
 "#,
-    r#"{"error":53,"from":"red/c1","id":1,"text":"storage failed"}
+        2 => r#"{"error":53,"from":"red/c1","id":1,"text":"storage failed"}
 {"from":"red/c1","id":2,"ok":null}
 {"from":"red/c1","id":3,"ok":"1"}
 "#,
-    r#"{"from":"red/c1","id":1,"ok":"1"}
+        3 => r#"{"from":"red/c1","id":1,"ok":"1"}
 {"error":53,"from":"red/c1","id":2,"text":"storage failed"}
 {"from":"red/c1","id":3,"ok":"2"}
 "#,
-    r#"{"from":"red/c1","id":1,"ok":"1"}
+        4 => r#"{"from":"red/c1","id":1,"ok":"1"}
 {"from":"red/c1","id":2,"ok":"2"}
 {"error":53,"from":"red/c1","id":3,"text":"storage failed"}
 "#,
-];
+        _ => cleared().told,
+    }
+}

@@ -3,8 +3,8 @@
 use crate::lines::{shown, steps_of, stored, told};
 use crate::methods::{begin, end, finished, take};
 use crate::rows::{
-    ABANDONED, ACROSS, ADD_3, ADD_4, CLEARED, CLEARED_BUT, COLLECTED, LOADED_TWICE, OVERWRITTEN,
-    SPENT, Worked,
+    Worked, abandoned, across, add_3, add_4, cleared, cleared_but, collected, first_call,
+    loaded_twice, overwritten, spent,
 };
 use crate::silos::{
     TestedSilo, answers, failures, journal, new_silo, opening, opening_failures, replies,
@@ -50,9 +50,9 @@ fn is_worked(alloc: Global, silo: &mut TestedSilo, row: &Worked) -> Result<bool,
 
 #[test]
 fn each_kind_of_step_has_a_method(rt: HostRuntime) -> Result<(), Fail> {
-    for row in [&OVERWRITTEN, &CLEARED, &COLLECTED, &ACROSS, &ABANDONED] {
+    for row in [overwritten(), cleared(), collected(), across(), abandoned()] {
         let mut silo = new_silo(rt.alloc())?;
-        assert!(rt; is_worked(rt.alloc(), &mut silo, row)?);
+        assert!(rt; is_worked(rt.alloc(), &mut silo, &row)?);
     }
     Ok(())
 }
@@ -60,22 +60,22 @@ fn each_kind_of_step_has_a_method(rt: HostRuntime) -> Result<(), Fail> {
 /// What is told if that call of the storage fails, and how many calls failed.
 fn told_but(alloc: Global, fails_at: u64) -> Result<(String, u64), Fail> {
     let mut silo = silo_over(alloc, MemoryStorage::new(alloc), fails_at)?;
-    let said = told_by(alloc, &mut silo, CLEARED.lines)?;
+    let said = told_by(alloc, &mut silo, cleared().lines)?;
     Ok((said, failures(&silo)))
 }
 
 #[test]
 fn each_call_of_the_storage_may_fail(rt: HostRuntime) -> Result<(), Fail> {
-    for (number, wanted) in (1..).zip(&CLEARED_BUT) {
+    for number in 1..6 {
         let (said, failed) = told_but(rt.alloc(), number)?;
-        assert_eq!(rt; said.as_str(), *wanted);
-        assert_eq!(rt; failed, 1);
+        assert_eq!(rt; said.as_str(), cleared_but(number));
+        assert_eq!(rt; failed, u64::from(number < 5));
     }
-    // There is no fifth.
-    let (said, failed) = told_but(rt.alloc(), 5)?;
-    assert_eq!(rt; said.as_str(), CLEARED.told);
-    assert_eq!(rt; failed, 0);
     Ok(())
+}
+
+fn is_told(alloc: Global, silo: &TestedSilo, wanted: &str) -> Result<bool, Fail> {
+    Ok(told(alloc, replies(silo))?.as_str() == wanted)
 }
 
 /// Whether the load was answered and noted as one that failed.
@@ -87,10 +87,10 @@ fn is_failed_load(answer: Option<&Answer>, noted: Option<&Step>) -> bool {
 fn a_load_that_fails_is_noted_so(rt: HostRuntime) -> Result<(), Fail> {
     let alloc = rt.alloc();
     let mut silo = silo_over(alloc, MemoryStorage::new(alloc), 1)?;
-    let steps = steps_of(alloc, LOADED_TWICE.lines)?;
+    let steps = steps_of(alloc, loaded_twice().lines)?;
     let answered = answers(alloc, &mut silo, steps)?;
     assert!(rt; is_failed_load(answered.get(2), journal(&silo).get(2)));
-    assert_eq!(rt; told(alloc, replies(&silo))?.as_str(), LOADED_TWICE.told);
+    assert!(rt; is_told(alloc, &silo, loaded_twice().told)?);
     Ok(())
 }
 
@@ -108,8 +108,8 @@ fn last_version(alloc: Global) -> Result<MemoryStorage, Fail> {
 fn a_row_of_the_last_version_stays(rt: HostRuntime) -> Result<(), Fail> {
     let alloc = rt.alloc();
     let mut silo = silo_over(alloc, last_version(alloc)?, 0)?;
-    assert!(rt; is_worked(alloc, &mut silo, &SPENT)?);
-    assert_eq!(rt; stored(alloc, opening(&silo))?.as_str(), SPENT.stored);
+    assert!(rt; is_worked(alloc, &mut silo, &spent())?);
+    assert_eq!(rt; stored(alloc, opening(&silo))?.as_str(), spent().stored);
     Ok(())
 }
 
@@ -138,20 +138,28 @@ fn is_stranger(
     }
 }
 
+/// The first turn of another silo, in which 4 is added.
+fn turn_of_another(alloc: Global) -> Result<FinishedTurn<Kinds>, Fail> {
+    let mut silo = new_silo(alloc)?;
+    opened_turn(alloc, &mut silo, add_4())
+}
+
+/// Whether the turn is a stranger, and the silo shows what it showed before.
+fn is_left(alloc: Global, silo: &mut TestedSilo, turn: &FinishedTurn<Kinds>) -> Result<bool, Fail> {
+    let before = shown(alloc, silo)?;
+    let stranger = is_stranger(alloc, silo, turn)?;
+    Ok(stranger && shown(alloc, silo)?.as_str() == before.as_str())
+}
+
 #[test]
 fn another_silos_turn_is_a_stranger(rt: HostRuntime) -> Result<(), Fail> {
     let alloc = rt.alloc();
-    let (mut first, mut second) = (new_silo(alloc)?, new_silo(alloc)?);
-    let own = opened_turn(alloc, &mut first, ADD_3)?;
-    let other = opened_turn(alloc, &mut second, ADD_4)?;
-    let before = shown(alloc, &first)?;
-    assert!(rt; is_stranger(alloc, &mut first, &other)?);
-    assert_eq!(rt; shown(alloc, &first)?.as_str(), before.as_str());
-    assert!(rt; !is_stranger(alloc, &mut first, &own)?);
-    assert_eq!(rt;
-        told(alloc, replies(&first))?.as_str(),
-        "{\"from\":\"red/c1\",\"id\":1,\"ok\":3}\n"
-    );
+    let mut silo = new_silo(alloc)?;
+    let own = opened_turn(alloc, &mut silo, add_3())?;
+    let other = turn_of_another(alloc)?;
+    assert!(rt; is_left(alloc, &mut silo, &other)?);
+    assert!(rt; !is_stranger(alloc, &mut silo, &own)?);
+    assert!(rt; is_told(alloc, &silo, first_call().told)?);
     Ok(())
 }
 
@@ -167,7 +175,7 @@ fn counts_of(alloc: Global, silo: &TestedSilo, name: &str) -> Result<(usize, usi
 fn each_tenant_has_its_own_replies_and_rows(rt: HostRuntime) -> Result<(), Fail> {
     let alloc = rt.alloc();
     let mut silo = new_silo(alloc)?;
-    drop(answers(alloc, &mut silo, steps_of(alloc, OVERWRITTEN.lines)?)?);
+    drop(answers(alloc, &mut silo, steps_of(alloc, overwritten().lines)?)?);
     assert_eq!(rt; counts_of(alloc, &silo, "red")?, (5, 1));
     assert_eq!(rt; counts_of(alloc, &silo, "blue")?, (0, 0));
     Ok(())
