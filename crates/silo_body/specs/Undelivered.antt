@@ -42,7 +42,7 @@ pub record IsIndexed (sends : List (ℕ × Sent)) (index : Index) (next : ℕ) :
 abbrev pub IsSameIndex : Index → Index → Type 0
 IsSameIndex old new = (g : Grain) → numbers_at new g ≡ numbers_at old g
 
--- the number, if it's that grain that is asked for
+-- the numbers, if it's that grain that is asked for
 abbrev pub only_at : Grain → List ℕ → Grain → List ℕ
 only_at grain numbers g = if is_grain grain g then numbers else []
 
