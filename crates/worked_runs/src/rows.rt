@@ -26,22 +26,6 @@ pub fn first_call() -> Worked {
     }
 }
 
-/// A call of a counter to add 3, which waits for its turn.
-pub fn add_3() -> &'static str {
-    r#"{"op":"call","from":"red/c1","id":1,"grain":"counter/red:a","method":"add","args":{"by":3}}
-{"op":"activate","grain":"counter/red:a"}
-{"op":"load","grain":"counter/red:a"}
-"#
-}
-
-/// A call of a counter to add 4, which waits for its turn.
-pub fn add_4() -> &'static str {
-    r#"{"op":"call","from":"red/c1","id":1,"grain":"counter/red:a","method":"add","args":{"by":4}}
-{"op":"activate","grain":"counter/red:a"}
-{"op":"load","grain":"counter/red:a"}
-"#
-}
-
 /// A row that another wrote ends the activation, and what waits is answered from the row.
 pub fn overwritten() -> Worked {
     Worked {
@@ -147,23 +131,6 @@ pub fn across() -> Worked {
     }
 }
 
-/// A call is refused for its argument, and the turn of another is abandoned.
-pub fn abandoned() -> Worked {
-    Worked {
-        lines: r#"{"op":"call","from":"red/c1","id":1,"grain":"counter/red:a","method":"get","args":1.5}
-{"op":"call","from":"red/c1","id":2,"grain":"counter/red:a","method":"get","args":null}
-{"op":"activate","grain":"counter/red:a"}
-{"op":"load","grain":"counter/red:a"}
-{"op":"begin","grain":"counter/red:a"}
-{"op":"abandon","grain":"counter/red:a","turn":1}
-"#,
-        told: r#"{"error":13,"from":"red/c1","id":1,"text":"number is not a whole number of 64 bits"}
-{"error":70,"from":"red/c1","id":2,"text":"turn met want of memory"}
-"#,
-        stored: "",
-    }
-}
-
 /// A grain is loaded twice, and the first call of the storage fails.
 pub fn loaded_twice() -> Worked {
     Worked {
@@ -199,32 +166,5 @@ pub fn spent() -> Worked {
 {"from":"red/c1","id":2,"ok":3}
 "#,
         stored: "counter/red:a 18446744073709551615\n",
-    }
-}
-
-/// What is told for the lines of `cleared` if the storage's call of that number fails. There is no fifth.
-pub fn cleared_but(number: u64) -> &'static str {
-    match number {
-        1 => r#"{"error":53,"from":"red/c1","id":1,"text":"storage failed"}
-{"text":"not now"}
-{"text":"not now"}
-{"text":"not now"}
-{"text":"not now"}
-{"text":"not now"}
-{"text":"not now"}
-"#,
-        2 => r#"{"error":53,"from":"red/c1","id":1,"text":"storage failed"}
-{"from":"red/c1","id":2,"ok":null}
-{"from":"red/c1","id":3,"ok":"1"}
-"#,
-        3 => r#"{"from":"red/c1","id":1,"ok":"1"}
-{"error":53,"from":"red/c1","id":2,"text":"storage failed"}
-{"from":"red/c1","id":3,"ok":"2"}
-"#,
-        4 => r#"{"from":"red/c1","id":1,"ok":"1"}
-{"from":"red/c1","id":2,"ok":"2"}
-{"error":53,"from":"red/c1","id":3,"text":"storage failed"}
-"#,
-        _ => cleared().told,
     }
 }

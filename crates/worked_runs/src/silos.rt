@@ -97,26 +97,6 @@ pub fn opening<S: GrainStorage, L: GrainLogic>(silo: &Silo<S, L>) -> &[(GrainId,
     silo.opening()
 }
 
-pub fn failures<S: GrainStorage, L: GrainLogic>(silo: &Silo<S, L>) -> u64 {
-    silo.failures()
-}
-
 pub fn opening_failures<S: GrainStorage, L: GrainLogic>(silo: &Silo<S, L>) -> u64 {
     silo.opening_failures()
-}
-
-pub fn replies_of<S: GrainStorage, L: GrainLogic>(
-    alloc: Global,
-    silo: &Silo<S, L>,
-    tenant: &Tenant,
-) -> Result<Vec<Reply>, AllocError> {
-    silo.replies_of(alloc, tenant)
-}
-
-pub fn rows_of<S: GrainStorage, L: GrainLogic>(
-    alloc: Global,
-    silo: &Silo<S, L>,
-    tenant: &Tenant,
-) -> Result<Vec<(GrainId, Row)>, AllocError> {
-    silo.rows_of(alloc, tenant)
 }
