@@ -16,4 +16,6 @@ mod rows;
 #[cfg(test)]
 mod silos;
 #[cfg(test)]
+mod strangers;
+#[cfg(test)]
 mod worked;

@@ -8,15 +8,18 @@ use silo_event::{Answer, Step};
 use std::alloc::Global;
 use std::test::Fail;
 
+fn are_done(answers: &[Answer]) -> bool {
+    answers.iter().all(|answer| *answer == Answer::Done)
+}
+
 /// Takes the steps in one run: how many were answered, or none if one of them wasn't done.
 fn done(alloc: Global, silo: &mut TestedSilo, steps: Vec<Step>) -> Option<usize> {
     let report = run(alloc, silo, steps);
-    for answer in &report.answers {
-        if *answer != Answer::Done {
-            return None;
-        }
+    if are_done(&report.answers) {
+        Some(report.answers.len())
+    } else {
+        None
     }
-    Some(report.answers.len())
 }
 
 /// What a silo shows that took the first so many of the lines.

@@ -168,3 +168,46 @@ pub fn spent() -> Worked {
         stored: "counter/red:a 18446744073709551615\n",
     }
 }
+
+/// What is told for the lines of `cleared` if the storage's call of that number fails. There is no fifth.
+pub fn cleared_but(number: u64) -> &'static str {
+    match number {
+        1 => r#"{"error":53,"from":"red/c1","id":1,"text":"storage failed"}
+{"text":"not now"}
+{"text":"not now"}
+{"text":"not now"}
+{"text":"not now"}
+{"text":"not now"}
+{"text":"not now"}
+"#,
+        2 => r#"{"error":53,"from":"red/c1","id":1,"text":"storage failed"}
+{"from":"red/c1","id":2,"ok":null}
+{"from":"red/c1","id":3,"ok":"1"}
+"#,
+        3 => r#"{"from":"red/c1","id":1,"ok":"1"}
+{"error":53,"from":"red/c1","id":2,"text":"storage failed"}
+{"from":"red/c1","id":3,"ok":"2"}
+"#,
+        4 => r#"{"from":"red/c1","id":1,"ok":"1"}
+{"from":"red/c1","id":2,"ok":"2"}
+{"error":53,"from":"red/c1","id":3,"text":"storage failed"}
+"#,
+        _ => cleared().told,
+    }
+}
+
+/// A call of a counter to add 3, which waits for its turn.
+pub fn add_3() -> &'static str {
+    r#"{"op":"call","from":"red/c1","id":1,"grain":"counter/red:a","method":"add","args":{"by":3}}
+{"op":"activate","grain":"counter/red:a"}
+{"op":"load","grain":"counter/red:a"}
+"#
+}
+
+/// A call of a counter to add 4, which waits for its turn.
+pub fn add_4() -> &'static str {
+    r#"{"op":"call","from":"red/c1","id":1,"grain":"counter/red:a","method":"add","args":{"by":4}}
+{"op":"activate","grain":"counter/red:a"}
+{"op":"load","grain":"counter/red:a"}
+"#
+}

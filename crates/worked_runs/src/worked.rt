@@ -2,7 +2,7 @@
 
 use crate::lines::{steps_of, stored, told};
 use crate::methods::take;
-use crate::rows::{Worked, loaded_twice, spent};
+use crate::rows::{Worked, cleared, cleared_but, loaded_twice, spent};
 use crate::silos::{
     TestedSilo, answers, journal, new_silo, opening, opening_failures, replies, rows, silo_over,
 };
@@ -40,6 +40,21 @@ fn is_worked(alloc: Global, silo: &mut TestedSilo, row: &Worked) -> Result<bool,
     let said = told_by(alloc, silo, row.lines)?;
     let kept = stored(alloc, rows(alloc, silo)?.as_slice())?;
     Ok(said.as_str() == row.told && kept.as_str() == row.stored)
+}
+
+/// Whether the lines of `cleared` tell what they are to tell if that call of the storage fails.
+fn is_worked_but(alloc: Global, number: u64) -> Result<bool, Fail> {
+    let mut silo = silo_over(alloc, MemoryStorage::new(alloc), number)?;
+    let said = told_by(alloc, &mut silo, cleared().lines)?;
+    Ok(said.as_str() == cleared_but(number))
+}
+
+#[test]
+fn each_call_of_the_storage_may_fail(rt: HostRuntime) -> Result<(), Fail> {
+    for number in 1..6 {
+        assert!(rt; is_worked_but(rt.alloc(), number)?);
+    }
+    Ok(())
 }
 
 fn is_told(alloc: Global, silo: &TestedSilo, wanted: &str) -> Result<bool, Fail> {

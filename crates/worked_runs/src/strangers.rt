@@ -1,0 +1,97 @@
+//! A turn of another silo is a stranger: nothing comes of it.
+
+use crate::lines::{shown, steps_of, told};
+use crate::methods::{begin, end, finished};
+use crate::rows::{add_3, add_4, first_call};
+use crate::silos::{TestedSilo, answers, new_silo, replies};
+use grain_id::GrainId;
+use grain_kinds::{FinishedTurn, Kinds, OpenedTurn};
+use silo_event::StepFault;
+use std::alloc::{AllocError, Global};
+use std::test::Fail;
+
+/// A silo that took these lines.
+fn silo_of(alloc: Global, lines: &str) -> Result<TestedSilo, Fail> {
+    let mut silo = new_silo(alloc)?;
+    drop(answers(alloc, &mut silo, steps_of(alloc, lines)?)?);
+    Ok(silo)
+}
+
+/// The next turn of the counter, opened.
+fn opened(alloc: Global, silo: &mut TestedSilo) -> Result<OpenedTurn, Fail> {
+    let grain = GrainId::read(alloc, "counter/red:a")?;
+    match begin(alloc, silo, grain)? {
+        Some(turn) => Ok(turn),
+        None => Err(Fail::from("no turn is opened")),
+    }
+}
+
+/// The next turn of the counter, opened and run.
+fn turn_of(alloc: Global, silo: &mut TestedSilo) -> Result<FinishedTurn<Kinds>, Fail> {
+    let turn = opened(alloc, silo)?;
+    Ok(finished(alloc, turn)?)
+}
+
+/// The first turn of another silo, in which 4 is added.
+fn turn_of_another(alloc: Global) -> Result<FinishedTurn<Kinds>, Fail> {
+    let mut silo = silo_of(alloc, add_4())?;
+    turn_of(alloc, &mut silo)
+}
+
+/// Whether the turn is none of this silo's own.
+fn is_stranger(
+    alloc: Global,
+    silo: &mut TestedSilo,
+    turn: &FinishedTurn<Kinds>,
+) -> Result<bool, Fail> {
+    match end(alloc, silo, turn) {
+        Err(StepFault::Stranger) => Ok(true),
+        Err(StepFault::Memory) => Err(Fail::from(AllocError)),
+        Ok(_) => Ok(false),
+    }
+}
+
+/// Whether the turn is a stranger, and the silo shows what it showed before.
+fn is_left(alloc: Global, silo: &mut TestedSilo, turn: &FinishedTurn<Kinds>) -> Result<bool, Fail> {
+    let before = shown(alloc, silo)?;
+    let stranger = is_stranger(alloc, silo, turn)?;
+    let after = shown(alloc, silo)?;
+    Ok(stranger && after.as_str() == before.as_str())
+}
+
+/// Whether the silo takes its own turn, and tells what the first call is to tell.
+fn is_taken(
+    alloc: Global,
+    silo: &mut TestedSilo,
+    turn: &FinishedTurn<Kinds>,
+) -> Result<bool, Fail> {
+    let stranger = is_stranger(alloc, silo, turn)?;
+    let said = told(alloc, replies(silo))?;
+    Ok(!stranger && said.as_str() == first_call().told)
+}
+
+/// Whether the silo leaves the first turn of another.
+fn leaves_another(alloc: Global, silo: &mut TestedSilo) -> Result<bool, Fail> {
+    let other = turn_of_another(alloc)?;
+    is_left(alloc, silo, &other)
+}
+
+/// Whether the silo, with a turn open, leaves another's turn, and then takes its own.
+fn tells_apart(alloc: Global, silo: &mut TestedSilo) -> Result<bool, Fail> {
+    let own = turn_of(alloc, silo)?;
+    let left = leaves_another(alloc, silo)?;
+    let taken = is_taken(alloc, silo, &own)?;
+    Ok(left && taken)
+}
+
+/// Whether the first turns of two silos are told apart.
+fn are_told_apart(alloc: Global) -> Result<bool, Fail> {
+    let mut silo = silo_of(alloc, add_3())?;
+    tells_apart(alloc, &mut silo)
+}
+
+#[test]
+fn another_silos_turn_is_a_stranger(rt: HostRuntime) -> Result<(), Fail> {
+    assert!(rt; are_told_apart(rt.alloc())?);
+    Ok(())
+}
