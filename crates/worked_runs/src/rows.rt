@@ -211,3 +211,54 @@ pub fn add_4() -> &'static str {
 {"op":"load","grain":"counter/red:a"}
 "#
 }
+
+/// A call is refused for its argument, and the turn of another is abandoned.
+pub fn abandoned() -> Worked {
+    Worked {
+        lines: r#"{"op":"call","from":"red/c1","id":1,"grain":"counter/red:a","method":"get","args":1.5}
+{"op":"call","from":"red/c1","id":2,"grain":"counter/red:a","method":"get","args":null}
+{"op":"activate","grain":"counter/red:a"}
+{"op":"load","grain":"counter/red:a"}
+{"op":"begin","grain":"counter/red:a"}
+{"op":"abandon","grain":"counter/red:a","turn":1}
+"#,
+        told: r#"{"error":13,"from":"red/c1","id":1,"text":"number is not a whole number of 64 bits"}
+{"error":70,"from":"red/c1","id":2,"text":"turn met want of memory"}
+"#,
+        stored: "",
+    }
+}
+
+/// A relay sends to its two members, and the one of another tenant is refused.
+pub fn sent() -> Worked {
+    Worked {
+        lines: r#"{"from":"red/c1","id":1,"op":"call","grain":"relay/red:r","method":"join","args":{"grain":"counter/red:a"}}
+{"from":"red/c1","id":2,"op":"call","grain":"relay/red:r","method":"join","args":{"grain":"counter/blue:a"}}
+{"from":"red/c1","id":3,"op":"call","grain":"relay/red:r","method":"send","args":{"args":{"by":2},"method":"add"}}
+{"op":"activate","grain":"relay/red:r"}
+{"op":"load","grain":"relay/red:r"}
+{"op":"begin","grain":"relay/red:r"}
+{"op":"end","grain":"relay/red:r","turn":1}
+{"op":"begin","grain":"relay/red:r"}
+{"op":"end","grain":"relay/red:r","turn":2}
+{"op":"begin","grain":"relay/red:r"}
+{"op":"end","grain":"relay/red:r","turn":3}
+{"op":"deliver","grain":"relay/red:r"}
+{"op":"deliver","grain":"relay/red:r"}
+{"op":"activate","grain":"counter/red:a"}
+{"op":"load","grain":"counter/red:a"}
+{"op":"begin","grain":"counter/red:a"}
+{"op":"end","grain":"counter/red:a","turn":4}
+{"from":"red/c1","id":4,"op":"call","grain":"counter/red:a","method":"get"}
+{"op":"begin","grain":"counter/red:a"}
+{"op":"end","grain":"counter/red:a","turn":5}
+"#,
+        told: r#"{"from":"red/c1","id":1,"ok":true}
+{"from":"red/c1","id":2,"ok":true}
+{"from":"red/c1","id":3,"ok":2}
+{"error":40,"from":"relay/red:r","text":"tenant red may not call a grain of tenant blue"}
+{"from":"red/c1","id":4,"ok":2}
+"#,
+        stored: "",
+    }
+}

@@ -100,3 +100,19 @@ pub fn opening<S: GrainStorage, L: GrainLogic>(silo: &Silo<S, L>) -> &[(GrainId,
 pub fn opening_failures<S: GrainStorage, L: GrainLogic>(silo: &Silo<S, L>) -> u64 {
     silo.opening_failures()
 }
+
+pub fn replies_of<S: GrainStorage, L: GrainLogic>(
+    alloc: Global,
+    silo: &Silo<S, L>,
+    tenant: &Tenant,
+) -> Result<Vec<Reply>, AllocError> {
+    silo.replies_of(alloc, tenant)
+}
+
+pub fn rows_of<S: GrainStorage, L: GrainLogic>(
+    alloc: Global,
+    silo: &Silo<S, L>,
+    tenant: &Tenant,
+) -> Result<Vec<(GrainId, Row)>, AllocError> {
+    silo.rows_of(alloc, tenant)
+}

@@ -2,11 +2,14 @@
 
 use crate::lines::{steps_of, stored, told};
 use crate::methods::take;
-use crate::rows::{Worked, cleared, cleared_but, loaded_twice, spent};
-use crate::silos::{
-    TestedSilo, answers, journal, new_silo, opening, opening_failures, replies, rows, silo_over,
+use crate::rows::{
+    Worked, abandoned, cleared, cleared_but, collected, loaded_twice, overwritten, sent, spent,
 };
-use grain_id::GrainId;
+use crate::silos::{
+    TestedSilo, answers, journal, new_silo, opening, opening_failures, replies, replies_of, rows,
+    rows_of, silo_over,
+};
+use grain_id::{GrainId, Tenant};
 use grain_storage::{MemoryStorage, Row};
 use request_codec::StateBytes;
 use silo_event::{Answer, Step};
@@ -40,6 +43,45 @@ fn is_worked(alloc: Global, silo: &mut TestedSilo, row: &Worked) -> Result<bool,
     let said = told_by(alloc, silo, row.lines)?;
     let kept = stored(alloc, rows(alloc, silo)?.as_slice())?;
     Ok(said.as_str() == row.told && kept.as_str() == row.stored)
+}
+
+/// Whether a new silo gives the row, by the method for each step.
+fn is_worked_anew(alloc: Global, row: &Worked) -> Result<bool, Fail> {
+    let mut silo = new_silo(alloc)?;
+    is_worked(alloc, &mut silo, row)
+}
+
+#[test]
+fn each_kind_of_step_has_a_method(rt: HostRuntime) -> Result<(), Fail> {
+    assert!(rt; is_worked_anew(rt.alloc(), &collected())?);
+    assert!(rt; is_worked_anew(rt.alloc(), &sent())?);
+    assert!(rt; is_worked_anew(rt.alloc(), &abandoned())?);
+    Ok(())
+}
+
+/// How many replies and rows a tenant has.
+fn counts_of(alloc: Global, silo: &TestedSilo, name: &str) -> Result<(usize, usize), Fail> {
+    let tenant = Tenant::read(alloc, name)?;
+    let replies = replies_of(alloc, silo, &tenant)?;
+    let rows = rows_of(alloc, silo, &tenant)?;
+    Ok((replies.len(), rows.len()))
+}
+
+/// How many replies and rows red and blue have after the lines of `overwritten`, which are red's.
+fn counts(alloc: Global) -> Result<((usize, usize), (usize, usize)), Fail> {
+    let mut silo = new_silo(alloc)?;
+    let steps = steps_of(alloc, overwritten().lines)?;
+    drop(answers(alloc, &mut silo, steps)?);
+    Ok((
+        counts_of(alloc, &silo, "red")?,
+        counts_of(alloc, &silo, "blue")?,
+    ))
+}
+
+#[test]
+fn each_tenant_has_its_own_replies_and_rows(rt: HostRuntime) -> Result<(), Fail> {
+    assert!(rt; counts(rt.alloc())? == ((5, 1), (0, 0)));
+    Ok(())
 }
 
 /// Whether the lines of `cleared` tell what they are to tell if that call of the storage fails.
