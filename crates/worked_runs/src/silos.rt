@@ -97,6 +97,10 @@ pub fn opening<S: GrainStorage, L: GrainLogic>(silo: &Silo<S, L>) -> &[(GrainId,
     silo.opening()
 }
 
+pub fn failures<S: GrainStorage, L: GrainLogic>(silo: &Silo<S, L>) -> u64 {
+    silo.failures()
+}
+
 pub fn opening_failures<S: GrainStorage, L: GrainLogic>(silo: &Silo<S, L>) -> u64 {
     silo.opening_failures()
 }

@@ -6,8 +6,8 @@ use crate::rows::{
     Worked, abandoned, cleared, cleared_but, collected, loaded_twice, overwritten, sent, spent,
 };
 use crate::silos::{
-    TestedSilo, answers, journal, new_silo, opening, opening_failures, replies, replies_of, rows,
-    rows_of, silo_over,
+    TestedSilo, answers, failures, journal, new_silo, opening, opening_failures, replies,
+    replies_of, rows, rows_of, silo_over,
 };
 use grain_id::{GrainId, Tenant};
 use grain_storage::{MemoryStorage, Row};
@@ -53,6 +53,7 @@ fn is_worked_anew(alloc: Global, row: &Worked) -> Result<bool, Fail> {
 
 #[test]
 fn each_kind_of_step_has_a_method(rt: HostRuntime) -> Result<(), Fail> {
+    assert!(rt; is_worked_anew(rt.alloc(), &overwritten())?);
     assert!(rt; is_worked_anew(rt.alloc(), &collected())?);
     assert!(rt; is_worked_anew(rt.alloc(), &sent())?);
     assert!(rt; is_worked_anew(rt.alloc(), &abandoned())?);
@@ -84,11 +85,13 @@ fn each_tenant_has_its_own_replies_and_rows(rt: HostRuntime) -> Result<(), Fail>
     Ok(())
 }
 
-/// Whether the lines of `cleared` tell what they are to tell if that call of the storage fails.
+/// Whether the lines of `cleared` tell what they are to tell if that call of the storage fails, and it is counted. They
+/// make four calls.
 fn is_worked_but(alloc: Global, number: u64) -> Result<bool, Fail> {
     let mut silo = silo_over(alloc, MemoryStorage::new(alloc), number)?;
     let said = told_by(alloc, &mut silo, cleared().lines)?;
-    Ok(said.as_str() == cleared_but(number))
+    let failed = failures(&silo) == u64::from(number < 5);
+    Ok(failed && said.as_str() == cleared_but(number))
 }
 
 #[test]
