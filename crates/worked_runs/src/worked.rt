@@ -60,12 +60,22 @@ fn each_kind_of_step_has_a_method(rt: HostRuntime) -> Result<(), Fail> {
     Ok(())
 }
 
+/// How many replies a tenant has.
+fn reply_count(alloc: Global, silo: &TestedSilo, tenant: &Tenant) -> Result<usize, Fail> {
+    Ok(replies_of(alloc, silo, tenant)?.len())
+}
+
+/// How many rows a tenant has.
+fn row_count(alloc: Global, silo: &TestedSilo, tenant: &Tenant) -> Result<usize, Fail> {
+    Ok(rows_of(alloc, silo, tenant)?.len())
+}
+
 /// How many replies and rows a tenant has.
 fn counts_of(alloc: Global, silo: &TestedSilo, name: &str) -> Result<(usize, usize), Fail> {
     let tenant = Tenant::read(alloc, name)?;
-    let replies = replies_of(alloc, silo, &tenant)?;
-    let rows = rows_of(alloc, silo, &tenant)?;
-    Ok((replies.len(), rows.len()))
+    let replies = reply_count(alloc, silo, &tenant)?;
+    let rows = row_count(alloc, silo, &tenant)?;
+    Ok((replies, rows))
 }
 
 /// How many replies and rows red and blue have after the lines of `overwritten`, which are red's.
