@@ -5,7 +5,7 @@
 //! the fault `Memory`, and those that take a finished turn also `Stranger`: after a fault nothing has
 //! changed.
 
-ghost use Rattle.std.specs.Prelude.{◌≡◌, Ok, IfOk, OnErr};
+ghost use Rattle.std.specs.Prelude.{◌≡◌, Ok, IfOk, IfErr, OnErr};
 ghost use Rattle.std.specs.FinMap as map;
 ghost use Rattle.silo_event.specs.declared.step.Step.TheVariants as step;
 ghost use Rattle.silo_body.specs.Entries.{opened_turn};
@@ -116,9 +116,14 @@ impl<S: GrainStorage, L: GrainLogic> Silo<S, L> {
 
     /// The first waiting request of a ready grain becomes an open turn, if the turn rule allows it: the
     /// turn, for `run_turn`. None stands for `NotNow`.
+    ///
+    /// # Errors
+    ///
+    /// `Memory` alone: nothing changed.
     pub fn begin(&mut self, alloc: Global, grain: GrainId) -> Result<Option<OpenedTurn>, StepFault>
         ensures answered { IfOk result (λ turn. Answered L.logic self.old (step.Begin grain) (Ok (done_if turn)) self.new) }
         ensures turn { IfOk result (λ turn. turn ≡ opened_turn L.logic grain (map.get self.old.whole.entries grain)) }
+        ensures fault { IfErr result (λ fault. fault ≡ StepFault.Memory) }
         ensures unchanged { OnErr result (self.new ≡ self.old) }
         ensures parts { IfOk result (λ turn. StepAnswersInParts L.logic self.old.whole (step.Begin grain) (Ok (done_if turn)) self.new.whole) }
     {
