@@ -16,14 +16,15 @@ use Rattle.grain_kinds.specs.Logic.{Plan}
 use Rattle.grain_kinds.specs.Shared.{integer_field, shared_plan}
 
 -- what passes the test is a number of 64 bits
-fits : (i : ℤ) → fits_64 i ≡ true → FitsSigned w64 i
+pub fits : (i : ℤ) → fits_64 i ≡ true → FitsSigned w64 i
 fits (pos n) e = record { sfits = ltb-true n 9223372036854775808 e }
 fits (negsuc n) e = record { sfits = ltb-true n 9223372036854775808 e }
 
 pub zero_fits : FitsSigned w64 (pos 0)
 zero_fits = fits (pos 0) refl
 
-number_fits : (state : Tree) → IsFormed state → FitsSigned w64 (number_of state)
+-- the number that a state counts as has 64 bits
+pub number_fits : (state : Tree) → IsFormed state → FitsSigned w64 (number_of state)
 number_fits (integer i) formed = formed
 number_fits tree.null formed = zero_fits
 number_fits (tree.truth b) formed = zero_fits

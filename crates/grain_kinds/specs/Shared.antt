@@ -1,9 +1,11 @@
 -- What the kinds share: the forms of a plan, the shapes of arguments, and the methods of every kind.
 --
 --   method   argument   state   answer
---   save     null       kept    null, and the storage is asked to write
---   reload   null       kept    null, and the storage is asked to read
---   clear    null       kept    null, and the storage is asked to clear
+--   save     null       kept    what comes of writing the state
+--   reload   null       kept    what comes of reading the row
+--   clear    null       kept    what comes of clearing the row
+--
+-- These ask the storage: the plan's own value is null, and the caller is told what came of the storage's call.
 use Rattle.std.specs.Prelude.{ℕ, Bool, true, false, List, [], Option, Some, None, Result, Ok, Err, ℤ, ◌&&◌, if◌then◌else◌, codes, option_and_then}
 use Rattle.grain_id.specs.Names.{same_text}
 use Rattle.request_codec.specs.Tree as tree

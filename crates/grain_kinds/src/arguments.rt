@@ -7,7 +7,8 @@ ghost use Rattle.grain_kinds.specs.Shared as shared;
 
 use turn_arena::{Field, Node};
 
-pub(crate) fn is_null(argument: Node<'_>) -> bool
+/// Whether an argument is null.
+pub fn is_null(argument: Node<'_>) -> bool
     ensures { result ≡ shared.is_null (node_value argument.entry) }
 {
     match argument {
@@ -35,7 +36,7 @@ fn integer_value(value: Node<'_>) -> Option<i64>
 }
 
 /// The text that a value is.
-pub(crate) fn text_value<'a>(value: Node<'a>) -> Option<&'a str>
+pub fn text_value<'a>(value: Node<'a>) -> Option<&'a str>
     ensures { option_map (λ s. s.now) result ≡ shared.text_value (node_value value.entry) }
 {
     match value {
@@ -73,7 +74,7 @@ fn only_field<'a>(argument: Node<'a>, name: &str) -> Option<Node<'a>>
 }
 
 /// The values of the only two fields, if they have these names.
-pub(crate) fn only_fields<'a>(
+pub fn only_fields<'a>(
     argument: Node<'a>,
     first: &str,
     second: &str,
@@ -92,14 +93,14 @@ pub(crate) fn only_fields<'a>(
 }
 
 /// The number in `{"name": int}`.
-pub(crate) fn integer_field(argument: Node<'_>, name: &str) -> Option<i64>
+pub fn integer_field(argument: Node<'_>, name: &str) -> Option<i64>
     ensures { result ≡ shared.integer_field name.now (node_value argument.entry) }
 {
     integer_value(only_field(argument, name)?)
 }
 
 /// The text in `{"name": text}`.
-pub(crate) fn text_field<'a>(argument: Node<'a>, name: &str) -> Option<&'a str>
+pub fn text_field<'a>(argument: Node<'a>, name: &str) -> Option<&'a str>
     ensures { option_map (λ s. s.now) result ≡ shared.text_field name.now (node_value argument.entry) }
 {
     text_value(only_field(argument, name)?)

@@ -10,7 +10,7 @@ use request_codec::limits::MAX_STATE_BYTES;
 use turn_arena::{Field, Node};
 
 /// Whether the value's spelling is longer than that of a state may be.
-pub(crate) fn is_too_large(value: Node<'_>) -> bool
+pub fn is_too_large(value: Node<'_>) -> bool
     ensures { result ≡ nat_lt state_limit (spelled_length (node_value value.entry)) }
 {
     after_node(value, MAX_STATE_BYTES).is_none()

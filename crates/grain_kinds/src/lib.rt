@@ -4,19 +4,22 @@
 //! empty state of a kind, and the plan of a method, a state and an argument. What a logic is, and its
 //! laws, are in `specs/Logic.antt` and `specs/Laws.antt`; the kinds are in `specs/Kinds.antt` and the
 //! page of each.
+//!
+//! For a logic of one's own: `arguments` takes an argument apart, `shared` has the methods of every
+//! kind, and `length` says whether a value is too long for a state.
 #![tactic(auto)]
 
-mod arguments;
+pub mod arguments;
 mod counter;
 mod fault;
 mod kinds;
 pub mod laws;
-mod length;
+pub mod length;
 mod logic;
 mod plan;
 mod reading;
 mod relay;
-mod shared;
+pub mod shared;
 mod sheet;
 mod turn;
 mod writing;

@@ -22,9 +22,10 @@ fn asking<'a>(alloc: Global, args: Node<'a>, store: StoreCall) -> Plan<'a>
     Plan::keeps(alloc, Err(MethodFault::Misfit))
 }
 
-/// The plan of a method of every kind.
+/// The plan of a method of every kind: `save`, `reload` and `clear` take null and ask the storage. Any
+/// other method is unknown.
 #[tactic(auto, unfolding(crate::specs::Shared::shared_plan))]
-pub(crate) fn shared_plan<'a>(alloc: Global, method: &str, args: Node<'a>) -> Plan<'a>
+pub fn shared_plan<'a>(alloc: Global, method: &str, args: Node<'a>) -> Plan<'a>
     ensures { (state : Tree) → plan_shown state result ≡ shared_plan method.now state (node_value args.entry) }
 {
     if method == "save" {

@@ -3,7 +3,7 @@
 --   method   state          answer
 --   get      kept           the value
 --   put      the argument   null
---   save     kept           null, and the storage is asked to write
+--   save     kept           what comes of writing the state
 use Rattle.std.specs.Prelude.{ℕ, Bool, List, Ok, Err, codes, if◌then◌else◌}
 use Rattle.grain_id.specs.Names.{same_text}
 use Rattle.request_codec.specs.Tree.{Tree, null}
