@@ -1,4 +1,4 @@
-"""What the methods of grains come to: one function for each method, each a row of the table in docs/steps.md.
+"""What the methods of grains come to: one function for each method, each a row of the table in docs/formats.md.
 
 A method's function takes the state and the argument, and gives the plan of a turn. A state of another shape, as a poke
 can leave one, counts as the kind's empty state; a plan that keeps the state leaves such a state as it is.
