@@ -81,10 +81,6 @@ rule-removed opened k rule n m turn beside at other = rule n m turn beside
     (left_open (eq_by_cmp nat_cmp m k) (map.get opened m) beside (sym (map.get-remove nat_cmp_total opened k m) ∙ other))
 
 module _ (opened : Turns) (first : Request) where
-  found_after : (n : ℕ) (turn : Request) (b : Bool) → eq_by_cmp nat_cmp n first.number ≡ b → cond b (Some first) (map.get opened n) ≡ Some turn → (b ≡ true → ⊥) → map.get opened n ≡ Some turn
-  found_after n turn true t e h = absurd (h refl)
-  found_after n turn false t e h = e
-
   reads_on : first.reading ≡ true → list_all (λ turn. turn.reading) (map.values opened) ≡ true → (n : ℕ) (turn : Request) (b : Bool) → cond b (Some first) (map.get opened n) ≡ Some turn → turn.reading ≡ true
   reads_on reads all n turn true e = ap (λ (r : Request). r.reading) (sym (one_turn first turn e)) ∙ reads
   reads_on reads all n turn false e = each_reading opened n turn e all
