@@ -9,7 +9,7 @@ use Rattle.json.proofs.Grammar.{read_key-shorter}
 use Rattle.serde_json.specs.Data.{Members, no_members, put}
 use Rattle.serde_json.specs.Read.{of_members, converted}
 use Rattle.request_codec.specs.Json.{json_members_depth}
-use Rattle.request_codec.specs.Lenient.{lenient_value, lenient_fields}
+use Rattle.line_parser.specs.Lenient.{lenient_value, lenient_fields}
 use Rattle.request_codec.specs.Written.{text_spelling, spelling, fields_spelling}
 use Rattle.line_parser.specs.Argument.{too_deep, PutsValue, PutsFields}
 use Rattle.line_parser.specs.Fields.{HoldsMembers, IsBehind, field_spelling}

@@ -1,5 +1,5 @@
 -- What the loops over a list's items and over a line's members have read so far. Of the items each part is said of all that may still follow, so that a turn only adds to it.
-use Rattle.std.proofs.Common.{◌≡◌, ℕ, ◌+◌, ◌-◌, ◌<◌, ◌≤◌, true, List, [], ◌∷◌, ◌++◌, length, Option, Some, None, refl, sym, ap, ap₂, subst, ◌∙◌, append_assoc, append-nil, arith}
+use Rattle.std.proofs.Common.{◌≡◌, ℕ, ◌+◌, ◌-◌, ◌<◌, ◌≤◌, List, [], ◌∷◌, ◌++◌, length, Option, Some, None, refl, sym, ap, ap₂, subst, ◌∙◌, append_assoc, append-nil, arith}
 use Rattle.std.specs.Int.{w32, to_be_bytes}
 use Rattle.std.proofs.lemmas.List.{length-append}
 use Rattle.json.specs.Token.{Token, begin_object}
@@ -9,7 +9,7 @@ use Rattle.serde_json.specs.Data.{Data, Items, no_items, item, Members, no_membe
 use Rattle.serde_json.specs.Read.{of_json, of_items, of_members, converted}
 use Rattle.request_codec.specs.Tree.{members_count}
 use Rattle.request_codec.specs.Json.{items_depth}
-use Rattle.request_codec.specs.Lenient.{lenient_value, lenient_members, TestsWhole, TestsItems}
+use Rattle.line_parser.specs.Lenient.{lenient_value, lenient_members, HasValue, HaveValues}
 use Rattle.request_codec.specs.Written.{spelling, members_spelling}
 use Rattle.request_codec.proofs.Spelled.{length-spelling, some_length}
 use Rattle.line_parser.specs.Argument.{too_deep, PutsValue, PutsItems}
@@ -26,7 +26,7 @@ pub record ItemsRead (depth : ℕ) (initial now : List Token) (before after : Li
   pub shorter : length now ≤ length initial
   pub json : Items → Items
   pub read : converted of_items (items (value depth) (length initial) initial) ≡ parse_map json (converted of_items (items (value depth) turns now))
-  pub whole : (ds : Items) → TestsItems true ds → TestsItems true (json ds)
+  pub whole : (ds : Items) → HaveValues ds → HaveValues (json ds)
   pub deep : (ds : Items) → items_depth ds + too_deep ≤ depth → items_depth (json ds) + too_deep ≤ depth
   pub counted : (ds : Items) → members_count (lenient_members (json ds)) ≡ count + members_count (lenient_members ds)
   pub done : List ℕ
@@ -55,7 +55,7 @@ items_start depth ts before after e = record {
 }
 
 -- the value was whole, and so are the items
-item_whole : (d : Data) (ds : Items) → TestsWhole true d → TestsItems true ds → TestsItems true (item d ds)
+item_whole : (d : Data) (ds : Items) → HasValue d → HaveValues ds → HaveValues (item d ds)
 item_whole d ds h t = (rw (h.0, t.0) refl, (h.1, t.1))
 
 one_spelled : (d : Data) (ds : Items) → members_spelling (lenient_members (item d ds)) ≡ spelling (lenient_value d) ++ members_spelling (lenient_members ds)

@@ -8,4 +8,3 @@ pub mod Counts
 pub mod PutValues
 pub mod MembersTaken
 pub mod Steps
-pub mod AskedDeep

@@ -12,7 +12,7 @@ use Rattle.request_codec.specs.Tree.{fields_count}
 use Rattle.request_codec.specs.Reading.{is_above}
 use Rattle.request_codec.specs.Spelling.{IsBelowFirst}
 use Rattle.request_codec.specs.Json.{json_depth, json_members_depth}
-use Rattle.request_codec.specs.Lenient.{lenient_value, lenient_fields, TestsWhole, TestsMembers}
+use Rattle.line_parser.specs.Lenient.{lenient_value, lenient_fields, HasValue, FieldsHaveValues}
 use Rattle.request_codec.specs.Written.{text_spelling, spelling, fields_spelling}
 use Rattle.request_codec.proofs.Entries.{is_less}
 use Rattle.line_parser.specs.Fields.{field_spelling, Put, puts_of, IsBelow, AllBelow, IsPlace, HoldsFields, IsBehind}
@@ -48,9 +48,9 @@ put_by P k l d e ms a b c =
 
 abbrev pub AreWhole : Members → Type 0
 AreWhole no_members = Unit {0}
-AreWhole (member k d ms) = IsUtf8 k × TestsWhole true d × IsBelowFirst k (lenient_fields ms) × AreWhole ms
+AreWhole (member k d ms) = IsUtf8 k × HasValue d × IsBelowFirst k (lenient_fields ms) × AreWhole ms
 
-pub whole_tests : (ms : Members) → AreWhole ms → TestsMembers true ms
+pub whole_tests : (ms : Members) → AreWhole ms → FieldsHaveValues ms
 whole_tests no_members h = (refl, tt)
 whole_tests (member k d ms) (valid, w, b, h) = let t = whole_tests ms h in (rw (w.0, t.0) refl, (valid, w.1, b, t.1))
 
@@ -58,7 +58,7 @@ still_below : (l k : List ℕ) (d : Data) (ms : Members) → IsBelow l k → IsB
 still_below l k d no_members lt h = ap is_lt lt
 still_below l k d (member m e ms) lt h = put_by (λ x. IsBelowFirst l (lenient_fields x)) k m d e ms (λ a. ap is_lt lt) h (λ a. h)
 
-pub whole_put : (k : List ℕ) (d : Data) (ms : Members) → IsUtf8 k → TestsWhole true d → AreWhole ms → AreWhole (put k d ms)
+pub whole_put : (k : List ℕ) (d : Data) (ms : Members) → IsUtf8 k → HasValue d → AreWhole ms → AreWhole (put k d ms)
 whole_put k d no_members valid w h = (valid, w, tt, tt)
 whole_put k d (member l e ms) valid w (u, v, b, h) =
     put_by AreWhole k l d e ms (λ a. (valid, w, ap is_lt a, (u, v, b, h))) (u, w, b, h) (λ a. (u, v, still_below l k d ms a b, whole_put k d ms valid w h))

@@ -10,7 +10,7 @@ use Rattle.serde_json.specs.Find.{of_integer, as_i64}
 use Rattle.serde_json.specs.Read.{of_json, converted}
 use Rattle.request_codec.specs.Tree as tree
 use Rattle.request_codec.specs.Tree.{list, map}
-use Rattle.request_codec.specs.Lenient.{lenient_value, lenient_members, lenient_fields, integer_or_null}
+use Rattle.line_parser.specs.Lenient.{lenient_value, lenient_members, lenient_fields, integer_or_null}
 use Rattle.request_codec.specs.Written.{spelling}
 use Rattle.line_parser.specs.Number.{IsWhole}
 use Rattle.line_parser.specs.Argument.{too_deep, PutsValue, PutsItems, PutsFields}

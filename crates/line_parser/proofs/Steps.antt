@@ -10,10 +10,10 @@ use Rattle.request_codec.specs.Limits.{message_limit, state_limit}
 use Rattle.request_codec.specs.Tree.{Tree}
 use Rattle.request_codec.specs.Call.{Call, asks, message_call, state_value}
 use Rattle.request_codec.specs.Answers.{message_length, spelled_length}
-use Rattle.request_codec.specs.Lenient.{lenient_value}
+use Rattle.line_parser.specs.Lenient.{lenient_value}
 use Rattle.request_codec.specs.Written.{text_spelling, spelling}
 use Rattle.request_codec.proofs.Encoded.{encoded_message, encoded_state, same_found}
-use Rattle.request_codec.proofs.Lenient.{lenient_tested}
+use Rattle.request_codec.proofs.JsonDepths.{within_depth}
 use Rattle.request_codec.proofs.Spelled.{length-message, length-spelling}
 use Rattle.silo_event.specs.declared.step.Step.{Step}
 use Rattle.silo_event.specs.declared.step.Step.TheVariants as step
@@ -76,7 +76,7 @@ message_of items method argument json valid is put =
     let v = lenient_value json in
     let bytes : items ≡ 1 ∷ (text_spelling method ++ spelling v) = put.0 ∙ ap (λ (a : List ℕ). 1 ∷ (text_spelling method ++ a)) is.spelled in
     let short : length (1 ∷ (text_spelling method ++ spelling v)) ≤ message_limit = subst (λ (l : List ℕ). length l ≤ message_limit) bytes put.1 in
-    encoded_message items method v valid (lenient_tested json is.deep is.whole) (bytes, short)
+    encoded_message items method v valid (within_depth json v is.deep is.whole.0, is.whole.1) (bytes, short)
 
 pub message_fits : (items method argument : List ℕ) (json : Data) → IsArgument json argument → (items ≡ 1 ∷ (text_spelling method ++ argument)) × (length items ≤ message_limit) → message_asked method json ≡ Ok (asks method (lenient_value json))
 message_fits items method argument json is put =
@@ -90,7 +90,7 @@ state_fits l state json is short read =
     let v = lenient_value json in
     let spelled : length (spelling v) ≤ state_limit = subst (λ (k : List ℕ). length k ≤ state_limit) is.spelled short in
     let fits : spelled_length v ≤ state_limit = omega (arith, spelled, length-spelling v) in
-    let same : state ≡ v = same_found (state_value l) state v read (encoded_state l v (lenient_tested json is.deep is.whole) (is.spelled, spelled)) in
+    let same : state ≡ v = same_found (state_value l) state v read (encoded_state l v (within_depth json v is.deep is.whole.0, is.whole.1) (is.spelled, spelled)) in
     let asked : state_asked json ≡ Ok v = rw (le-leb _ _ is.deep, is.whole.0, le-leb _ _ fits) refl in
     asked ∙ ap (λ x. Ok x) (sym same)
 

@@ -6,7 +6,7 @@ use Rattle.std.specs.declared.cmp.Ordering.TheVariants.{Less}
 use Rattle.serde_json.specs.Data.{Data, Members, no_members, member}
 use Rattle.request_codec.specs.Tree.{fields_count}
 use Rattle.request_codec.specs.Reading.{is_above}
-use Rattle.request_codec.specs.Lenient.{lenient_value, lenient_fields}
+use Rattle.line_parser.specs.Lenient.{lenient_value, lenient_fields}
 use Rattle.request_codec.specs.Written.{text_spelling, spelling, fields_spelling}
 use Rattle.line_parser.specs.declared.fields.Fields.{Fields}
 

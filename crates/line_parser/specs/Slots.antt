@@ -8,7 +8,7 @@ use Rattle.serde_json.specs.Find.{get_member}
 use Rattle.serde_json.specs.Read.{of_json, converted, number_of}
 use Rattle.request_codec.specs.Limits.{depth_limit}
 use Rattle.request_codec.specs.Json.{json_depth}
-use Rattle.request_codec.specs.Lenient.{lenient_value, TestsWhole}
+use Rattle.line_parser.specs.Lenient.{lenient_value, HasValue}
 use Rattle.request_codec.specs.Written.{spelling}
 use Rattle.line_parser.specs.declared.slots.Name.{Name}
 use Rattle.line_parser.specs.declared.slots.Name.TheVariants.{Op, From, Id, Grain, Method, Turn, Now, Failed, Args, State}
@@ -36,7 +36,7 @@ pub record IsNatural (old : List Token) (n : ℕ) (new : List Token) : Type 0 wh
 
 -- The bytes are those of the JSON's value, which is no deeper than a value may be and has whole numbers alone.
 pub record IsArgument (json : Data) (bytes : List ℕ) : Type 0 where
-  pub whole : TestsWhole true json
+  pub whole : HasValue json
   pub deep : json_depth json ≤ depth_limit
   pub spelled : bytes ≡ spelling (lenient_value json)
 

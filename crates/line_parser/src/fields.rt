@@ -3,7 +3,7 @@
 ghost use Rattle.std.specs.Prelude.{◌≡◌, ◌<◌, ◌≤◌, ◌^◌, ◌+◌, ◌++◌, ℕ, List, length, map, IsTrue, IfSome, OnOk, option_map};
 ghost use Rattle.serde_json.specs.Data.{Data, Members, no_members, put};
 ghost use Rattle.request_codec.specs.Reading.{is_above};
-ghost use Rattle.request_codec.specs.Lenient.{lenient_fields};
+ghost use Rattle.line_parser.specs.Lenient.{lenient_fields};
 ghost use Rattle.request_codec.specs.Written.{fields_spelling};
 ghost use Rattle.line_parser.specs.Fields.{IsPlace, HoldsMembers, IsBehind, AllBelow, field_spelling};
 

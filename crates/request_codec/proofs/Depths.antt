@@ -5,7 +5,7 @@ use Rattle.std.proofs.lemmas.List.{drop_more, drop_all}
 use Rattle.request_codec.specs.Tree.{Tree, list, map, Members, no_members, member, Fields, no_fields, field, depth, members_depth, fields_depth, members_of, fields_of}
 use Rattle.request_codec.specs.Spelling.{IsBelowFirst}
 use Rattle.request_codec.specs.Formed.{IsFormed, TestsDepth, TestDepths, TestFieldDepths}
-use Rattle.request_codec.proofs.MemberLoops.{Named}
+use Rattle.request_codec.specs.Build.{Named}
 
 -- ---- a list, where f gives the value of each thing
 

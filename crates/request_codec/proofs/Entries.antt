@@ -1,5 +1,5 @@
 -- A map into which names go in their order.
-use Rattle.std.proofs.Common.{◌≡◌, ℕ, List, [], ◌∷◌, ◌++◌, Some, String, Global, string_bytes, string_cmp, nat_cmp, Ordering, Less, Equal, Greater, true, map, refl, ap, ◌∙◌}
+use Rattle.std.proofs.Common.{◌≡◌, ℕ, List, [], ◌∷◌, ◌++◌, String, Global, string_bytes, string_cmp, nat_cmp, Ordering, Less, Equal, Greater, true, map, refl, ap, ◌∙◌}
 use Rattle.std.proofs.lemmas.Cmp.{nat_list_cmp_total}
 use Rattle.std.specs.Cmp.Lexicographic.{slice_cmp}
 use Rattle.std.specs.Ordering.{is_lt, ordering_reverse}
@@ -8,7 +8,6 @@ use Rattle.std.specs.List.Sorted.{IsStrictlySortedBy}
 use Rattle.std.specs.Map.{keys_of}
 use Rattle.request_codec.specs.Tree.{fields_of}
 use Rattle.request_codec.specs.Spelling.{IsBelowFirst}
-use Rattle.request_codec.specs.Reading.{is_above}
 use Rattle.request_codec.specs.Seen.{entry_of}
 use Rattle.request_codec.specs.declared.datum.Datum.{Datum}
 
@@ -40,12 +39,6 @@ insert_entry-last (e ∷ es) k d h =
     let above : slice_cmp nat_cmp (string_bytes k) (string_bytes e.0) ≡ Greater =
     nat_list_cmp_total.antisymm (string_bytes k) (string_bytes e.0) ∙ ap ordering_reverse h.0 in
     rw above (ap (λ (r : List Entry). e ∷ r) (insert_entry-last es k d h.1))
-
--- what comes after a name comes after those before it
-pub below_next : (es : List Entry) (k : String Global) (d : Datum) (name : List ℕ) → string_bytes k ≡ name → AreBelow es name → (next : List ℕ) → is_above (Some name) next ≡ true → AreBelow (es ++ (k, d) ∷ []) next
-below_next es k d name copied h next later =
-    let lt = is_less (slice_cmp nat_cmp name next) later in
-    AreBelow-push es (k, d) next (AreBelow-later es name next h lt) (ap (λ (s : List ℕ). slice_cmp nat_cmp s next) copied ∙ lt)
 
 -- the first name of a map is before the next
 pub below_rest : (e : Entry) (es : List Entry) → IsStrictlySortedBy string_cmp (keys_of (e ∷ es)) → IsBelowFirst (string_bytes e.0) (fields_of (map entry_of es))

@@ -1,29 +1,16 @@
 -- JSON, part after part.
 use Rattle.std.proofs.Common.{◌≡◌, ℕ, ◌+◌, ◌<◌, ◌≤◌, List, [], ◌∷◌, ◌++◌, length, get_or, drop, String, Global, Option, Some, None, option_map, string_bytes, refl, sym, ap, ◌∙◌}
-use Rattle.std.specs.Prelude.{max, option_and_then}
+use Rattle.std.specs.Prelude.{option_and_then}
 use Rattle.std.proofs.lemmas.List.{drop_more, drop_all}
 use Rattle.serde_json.specs.View.{view, items_view, members_view}
 use Rattle.serde_json.specs.declared.value.Value.{Value}
 use Rattle.request_codec.specs.Tree.{Tree, Members, no_members, member, Fields, no_fields, field, members_of, fields_of}
-use Rattle.request_codec.proofs.MemberLoops.{Named, before, before-nil, before-append, before_fields, before_fields-nil, before_fields-append}
-use Rattle.request_codec.specs.Json.{value_of_json, members_of_json, fields_of_json, json_depth, items_depth, json_members_depth}
+use Rattle.request_codec.specs.Build.{Named}
+use Rattle.request_codec.proofs.MemberLoops.{before, before-nil, before-append, before_fields, before_fields-nil, before_fields-append}
+use Rattle.request_codec.specs.Json.{value_of_json, members_of_json, fields_of_json}
 
 abbrev pub JsonEntry : Type 0
 JsonEntry = String Global × Value
-
--- ---- depths
-
-pub items_depth-more : (vs : List Value) (i : ℕ) (d : Value) → i < length vs → items_depth (items_view (drop i vs)) ≡ max (json_depth (view (get_or vs i d))) (items_depth (items_view (drop (i + 1) vs)))
-items_depth-more vs i d lt = ap (λ (ws : List Value). items_depth (items_view ws)) (drop_more vs i d lt)
-
-pub items_depth-all : (vs : List Value) (i : ℕ) → length vs ≤ i → items_depth (items_view (drop i vs)) ≡ 0
-items_depth-all vs i le = ap (λ (ws : List Value). items_depth (items_view ws)) (drop_all i vs le)
-
-pub json_members_depth-more : (es : List JsonEntry) (e : JsonEntry) (rest : List JsonEntry) → es ≡ e ∷ rest → json_members_depth (members_view es) ≡ max (json_depth (view e.1)) (json_members_depth (members_view rest))
-json_members_depth-more es e rest is = ap (λ (l : List JsonEntry). json_members_depth (members_view l)) is
-
-pub json_members_depth-all : (es : List JsonEntry) → es ≡ [] → json_members_depth (members_view es) ≡ 0
-json_members_depth-all es is = ap (λ (l : List JsonEntry). json_members_depth (members_view l)) is
 
 -- ---- values
 

@@ -1,9 +1,9 @@
 -- What was answered, by what a part answered.
-use Rattle.std.proofs.Common.{◌≡◌, ℕ, ◌+◌, ◌<◌, ◌≤◌, List, length, Option, Some, None, Result, Ok, Err, IfOk, subst, arith}
+use Rattle.std.proofs.Common.{◌≡◌, ℕ, ◌<◌, ◌≤◌, List, length, Option, Some, None, Result, Ok, Err, IfOk, subst}
 use Rattle.serde_json.specs.Data.{Data}
 use Rattle.request_codec.specs.Limits.{depth_limit, message_limit}
 use Rattle.request_codec.specs.Tree.{Tree, depth}
-use Rattle.request_codec.specs.Written.{Puts, WritesAll}
+use Rattle.request_codec.specs.Written.{WritesAll}
 use Rattle.request_codec.specs.Json.{value_of_json, json_depth}
 use Rattle.request_codec.specs.Answers.{Reads, Writes, WritesJson, message_length}
 use Rattle.request_codec.specs.declared.fault.CodecFault.{CodecFault}
@@ -48,11 +48,3 @@ WritesJson-fault faults.Memory method d v bytes deep is same h = tt
 WritesJson-fault faults.TooDeep method d v bytes deep is same h = absurd h
 WritesJson-fault faults.NotWhole method d v bytes deep is same h = absurd h
 WritesJson-fault faults.NotAMessage method d v bytes deep is same h = absurd h
-
--- why nothing was converted
-abbrev pub FailsToGive : {A : Type 0} → CodecFault → Option A → Type 0
-FailsToGive faults.NotWhole found = found ≡ None
-FailsToGive faults.TooDeep found = ⊥
-FailsToGive faults.TooLong found = ⊥
-FailsToGive faults.NotAMessage found = ⊥
-FailsToGive faults.Memory found = Unit {0}

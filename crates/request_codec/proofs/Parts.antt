@@ -7,7 +7,7 @@ use Rattle.request_codec.specs.Written.{Puts, text_spelling, spelling, members_s
 use Rattle.request_codec.specs.declared.fault.CodecFault.{CodecFault}
 use Rattle.request_codec.specs.declared.fault.CodecFault.TheVariants as faults
 use Rattle.request_codec.proofs.Puts.{Puts-part}
-use Rattle.request_codec.proofs.MemberLoops.{Named}
+use Rattle.request_codec.specs.Build.{Named}
 
 some_byte : (t : Tree) → 1 ≤ length (spelling t)
 unfolding spelling

@@ -1,9 +1,6 @@
 -- The bytes that are written for a value that a spelling is there for are a spelling of it.
-use Rattle.std.proofs.Common.{◌≡◌, ℕ, ◌+◌, ◌^◌, ◌<◌, ◌≤◌, Bool, true, false, Option, Some, List, ◌∷◌, ◌++◌, length, refl, sym, ap, ◌∙◌, append_assoc, arith}
-use Rattle.std.specs.Prelude.{IsUtf8, IsTrue, ◌↔◌}
-use Rattle.std.specs.Str.{bytes_eq}
-use Rattle.std.proofs.lemmas.Slice.Eq.{bytes_eq-Decides}
-use Rattle.std.proofs.lemmas.Option.{same_Some}
+use Rattle.std.proofs.Common.{◌≡◌, ℕ, ◌+◌, ◌^◌, ◌<◌, ◌≤◌, true, false, List, ◌∷◌, ◌++◌, length, refl, sym, ap, ◌∙◌, append_assoc, arith}
+use Rattle.std.specs.Prelude.{IsUtf8}
 use Rattle.request_codec.specs.Call.{Call}
 use Rattle.std.specs.Int.{w32, to_be_bytes}
 use Rattle.std.proofs.lemmas.List.{length-append}
@@ -169,11 +166,3 @@ message_spelling-is call bytes h = h.whole_bytes ∙ (λ i. 1 ∷ (h.method_spel
 
 pub state_spelling-is : (v : Tree) (bytes : List ℕ) → SpellsState v bytes → bytes ≡ spelling v
 state_spelling-is v bytes h = spelling-is v bytes h.value_spelled
-
--- ---- what is shown is the same exactly where the bytes are
-
-same_bytes : (b : Bool) (x y : List ℕ) → b ≡ bytes_eq x y → IsTrue b → x ≡ y
-same_bytes b x y is equal = (bytes_eq-Decides x y).0 (sym is ∙ equal)
-
-bytes_same : (b : Bool) (x y : List ℕ) → b ≡ bytes_eq x y → x ≡ y → IsTrue b
-bytes_same b x y is same = is ∙ (bytes_eq-Decides x y).1 same

@@ -1,8 +1,7 @@
 -- The end of a value is found level by level and member by member.
-use Rattle.std.proofs.Common.{◌≡◌, ℕ, suc, ◌+◌, ◌-◌, ◌<◌, ◌≤◌, ◌≢◌, true, false, List, [], ◌∷◌, Option, Some, None, refl, sym, ap, ◌∙◌, arith}
-use Rattle.std.specs.Prelude.{is_some}
+use Rattle.std.proofs.Common.{◌≡◌, ℕ, suc, ◌+◌, ◌-◌, ◌<◌, ◌≤◌, ◌≢◌, true, false, List, Option, Some, None, refl, sym, ap, ◌∙◌, arith}
 use Rattle.request_codec.specs.Tree.{Tree, list, map, member, field}
-use Rattle.request_codec.specs.Reading.{Parse, ◌>>=◌, text_at, members_at, fields_at, is_above, value_at, if_ended}
+use Rattle.request_codec.specs.Reading.{Parse, ◌>>=◌, text_at, members_at, fields_at, is_above, value_at}
 use Rattle.request_codec.specs.Start.{leaf, list_of, map_of, start_at, value_behind}
 use Rattle.request_codec.specs.Ends.{end_of}
 use Rattle.request_codec.proofs.Levels.{value_at-leaf, value_at-started}

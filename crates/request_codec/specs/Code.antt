@@ -56,9 +56,6 @@ node_back (gnum (suc (suc (suc zero)))) g vs fs = list vs
 node_back (gnum (suc (suc (suc (suc n))))) g vs fs = map fs
 node_back (gcons a b) g vs fs = null
 
-abbrev fields_behind : Gv → List ℕ → (Tree × Fields) → Fields
-fields_behind g n p = field n p.0 p.1
-
 -- read in each of the ways in which a code may stand: as a value, as members, as fields, and as a value in front of fields
 abbrev back : Gv → Tree × Members × Fields × (Tree × Fields)
 back gnil = (null, no_members, no_fields, (null, no_fields))

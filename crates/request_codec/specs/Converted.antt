@@ -1,12 +1,15 @@
 -- What the parts of a conversion from JSON answer.
-use Rattle.std.specs.Prelude.{◌≡◌, ℕ, ◌<◌, ◌≤◌, Bool, true, false, Option, Some, None, Result, Ok, Err}
+use Rattle.std.specs.Prelude.{◌≡◌, ℕ, ◌<◌, ◌≤◌, Option, Some, None, IsSomeAnd, Result, Ok, Err}
+use Rattle.request_codec.specs.declared.json_test.JsonTest.{JsonTest}
+use Rattle.request_codec.specs.declared.json_test.JsonTest.TheVariants.{Passed, NotWhole, TooDeep}
 use Rattle.request_codec.specs.declared.fault.CodecFault.{CodecFault}
 use Rattle.request_codec.specs.declared.fault.CodecFault.TheVariants as faults
 
--- the answer of a test against a limit
-abbrev pub TestsLimit : Bool → ℕ → ℕ → Type 0
-TestsLimit true limit n = n ≤ limit
-TestsLimit false limit n = limit < n
+-- The answer of a test of JSON: its depth is n, what is found is its value, and formed is what holds of one that passes.
+abbrev pub Tests : {A : Type 0} → (A → Type 0) → JsonTest → ℕ → ℕ → Option A → Type 0
+Tests formed Passed limit n found = (n ≤ limit) × IsSomeAnd found formed
+Tests formed NotWhole limit n found = (n ≤ limit) × (found ≡ None)
+Tests formed TooDeep limit n found = limit < n
 
 -- The answer, seen by view, is what is there; and NotWhole exactly where nothing is.
 abbrev pub Gives : {X A : Type 0} → (X → A) → Result X CodecFault → Option A → Type 0

@@ -8,8 +8,8 @@ ghost use Rattle.request_codec.specs.Answers.{Converts};
 
 use crate::datum::Datum;
 use crate::fault::CodecFault;
-use crate::json_depth::is_json_within;
 use crate::json_reader::datum_of_json;
+use crate::json_test::{JsonTest, test_json};
 use crate::json_writer::json_of_datum;
 use crate::limits::MAX_DEPTH;
 use serde_json::Value;
@@ -19,10 +19,11 @@ use std::alloc::{AllocError, Global};
 pub fn from_json(alloc: Global, value: &Value) -> Result<Datum, CodecFault>
     ensures { Converts value_of result (view value.now) }
 {
-    if !is_json_within(value, MAX_DEPTH) {
-        return Err(CodecFault::TooDeep);
+    match test_json(value, MAX_DEPTH) {
+        JsonTest::Passed => datum_of_json(alloc, value),
+        JsonTest::NotWhole => Err(CodecFault::NotWhole),
+        JsonTest::TooDeep => Err(CodecFault::TooDeep),
     }
-    datum_of_json(alloc, value)
 }
 
 /// The JSON of a value.

@@ -1,17 +1,17 @@
 //! Writing JSON as the argument of a message.
 
-ghost use Rattle.std.specs.Prelude.{◌∷◌, ◌++◌};
+ghost use Rattle.std.specs.Prelude.{◌∷◌, ◌++◌, IsSome};
 ghost use Rattle.serde_json.specs.View.{view};
 ghost use Rattle.request_codec.specs.Limits.{message_limit};
-ghost use Rattle.request_codec.specs.Lenient.{lenient};
+ghost use Rattle.request_codec.specs.Json.{value_of_json};
+ghost use Rattle.request_codec.specs.JsonValue.{value_in};
 ghost use Rattle.request_codec.specs.Written.{WritesAll, text_spelling, spelling};
 ghost use Rattle.request_codec.specs.Answers.{WritesJson};
 
 use crate::bytes::{put, put_text};
 use crate::fault::CodecFault;
-use crate::json_depth::is_json_within;
 use crate::json_put::put_json;
-use crate::json_whole::is_json_whole;
+use crate::json_test::{JsonTest, test_json};
 use crate::limits::{MAX_DEPTH, MAX_MESSAGE_BYTES, MESSAGE_ROOM};
 use crate::message::Message;
 use serde_json::Value;
@@ -19,7 +19,8 @@ use std::alloc::Global;
 
 /// The bytes of a message of the method and the value of the JSON.
 fn json_message_bytes(alloc: Global, method: &str, argument: &Value) -> Result<Vec<u8>, CodecFault>
-    ensures { WritesAll message_limit result (1 ∷ (text_spelling method.now ++ spelling (lenient argument.now))) }
+    requires { IsSome (value_of_json (view argument.now)) }
+    ensures { WritesAll message_limit result (1 ∷ (text_spelling method.now ++ spelling (value_in argument.now))) }
 {
     let mut out = Vec::with_capacity(alloc, MESSAGE_ROOM)?;
     put(&mut out, MAX_MESSAGE_BYTES, &[1])?;
@@ -33,11 +34,12 @@ fn json_message_bytes(alloc: Global, method: &str, argument: &Value) -> Result<V
 pub fn encode_json(alloc: Global, method: &str, argument: &Value) -> Result<Message, CodecFault>
     ensures { WritesJson result method.now (view argument.now) }
 {
-    if !is_json_within(argument, MAX_DEPTH) {
-        return Err(CodecFault::TooDeep);
+    match test_json(argument, MAX_DEPTH) {
+        JsonTest::Passed => {
+            let bytes = json_message_bytes(alloc, method, argument)?;
+            Ok(Message::from_spelling(bytes)?)
+        }
+        JsonTest::NotWhole => Err(CodecFault::NotWhole),
+        JsonTest::TooDeep => Err(CodecFault::TooDeep),
     }
-    if !is_json_whole(argument) {
-        return Err(CodecFault::NotWhole);
-    }
-    Ok(Message::from_spelling(json_message_bytes(alloc, method, argument)?)?)
 }

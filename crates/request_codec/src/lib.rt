@@ -6,19 +6,19 @@
 //! in `specs/Spelling.antt`, the values in `specs/Tree.antt`, the limits in `specs/Limits.antt`.
 #![tactic(auto)]
 
+mod builder;
 pub mod bytes;
 mod conversion;
 mod datum;
-mod datum_reader;
+mod datum_builder;
 mod datum_writer;
 mod depth;
 mod fault;
 mod held;
-mod json_depth;
 mod json_message;
 mod json_put;
 mod json_reader;
-mod json_whole;
+mod json_test;
 mod json_writer;
 mod kept;
 pub mod laws;
@@ -28,8 +28,10 @@ mod reading;
 mod shared;
 mod state;
 mod value_end;
+mod value_reader;
 mod writing;
 
+pub use builder::Builder;
 pub use conversion::{from_json, to_json};
 pub use datum::Datum;
 pub use fault::CodecFault;
@@ -38,4 +40,5 @@ pub use message::Message;
 pub use reading::{decode, decode_message, decode_state};
 pub use shared::SharedState;
 pub use state::StateBytes;
+pub use value_reader::read_value;
 pub use writing::{encode, encode_state};

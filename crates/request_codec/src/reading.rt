@@ -12,18 +12,19 @@ ghost use Rattle.request_codec.specs.declared.fault.CodecFault.TheVariants as fa
 
 use crate::bytes::text_of;
 use crate::datum::Datum;
-use crate::datum_reader::datum_at;
+use crate::datum_builder::DatumBuilder;
 use crate::fault::CodecFault;
 use crate::limits::{MAX_DEPTH, MAX_MESSAGE_BYTES, MAX_STATE_BYTES};
 use crate::message::Message;
 use crate::state::StateBytes;
+use crate::value_reader::read_value;
 use std::alloc::{AllocError, Global};
 
 /// The one value that all of the bytes spell.
 fn whole_datum(alloc: Global, bytes: &[u8]) -> Result<Datum, CodecFault>
     ensures { Reads value_of result (if_ended (value_at depth_limit bytes.now)) }
 {
-    let (datum, rest) = datum_at(alloc, bytes, MAX_DEPTH)?;
+    let (datum, rest) = read_value(&DatumBuilder { alloc }, bytes, MAX_DEPTH)?;
     match rest {
         [] => Ok(datum),
         [_, ..] => Err(CodecFault::NotAMessage),

@@ -4,16 +4,6 @@ use Rattle.turn_arena.specs.Answers.{ReadsIn}
 use Rattle.turn_arena.specs.declared.fault.ArenaFault.{ArenaFault}
 use Rattle.turn_arena.specs.declared.fault.ArenaFault.TheVariants as faults
 
--- why nothing was read
-abbrev pub Fails : {A : Type 0} → ArenaFault → Option A → Type 0
-Fails faults.NotAMessage found = found ≡ None
-Fails faults.Memory found = Unit {0}
-
--- a fault of a part is the whole's fault
-pub Fails-whole : {A B : Type 0} (e : ArenaFault) (part : Option A) (whole : Option B) → (part ≡ None → whole ≡ None) → Fails e part → Fails e whole
-Fails-whole faults.NotAMessage part whole none h = none h
-Fails-whole faults.Memory part whole none h = tt
-
 -- what was read, and that there was nothing to read
 pub ReadsIn-ok : {X A : Type 0} (view : X → A) (r : Result X ArenaFault) (found : Option A) → ReadsIn view r found → IfOk r (λ x. found ≡ Some (view x))
 ReadsIn-ok view (Ok x) found h = h

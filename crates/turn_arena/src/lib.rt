@@ -10,6 +10,7 @@ mod depth;
 mod fault;
 mod fields;
 mod node;
+mod node_builder;
 mod node_reader;
 mod node_writer;
 mod reading;

@@ -9,6 +9,7 @@ use crate::bytes::start::Start;
 use crate::fault::CodecFault;
 
 /// Puts the bytes at the end, if they fit below the limit.
+#[inline(always)]
 pub fn put(out: &mut Vec<u8>, limit: usize, bytes: &[u8]) -> Result<(), CodecFault>
     requires { length out.old.items ≤ limit }
     ensures { Puts limit out.old.items out.new.items result bytes.now }
@@ -21,6 +22,7 @@ pub fn put(out: &mut Vec<u8>, limit: usize, bytes: &[u8]) -> Result<(), CodecFau
 }
 
 /// A count of members or bytes, each of which takes a byte at least: `TooLong` above the limit.
+#[inline(always)]
 pub fn counted(count: usize, limit: usize) -> Result<u32, CodecFault>
     requires { limit < 2 ^ 32 }
     ensures { MatchResult result (λ n. n ≡ count) (λ e. (e ≡ faults.TooLong) × (limit < count)) }
@@ -32,6 +34,7 @@ pub fn counted(count: usize, limit: usize) -> Result<u32, CodecFault>
 }
 
 /// Puts a text at the end: its length and its bytes.
+#[inline(always)]
 pub fn put_text(out: &mut Vec<u8>, limit: usize, text: &str) -> Result<(), CodecFault>
     requires room { length out.old.items ≤ limit }
     requires small { limit < 2 ^ 32 }
@@ -44,6 +47,7 @@ pub fn put_text(out: &mut Vec<u8>, limit: usize, text: &str) -> Result<(), Codec
 
 /// Puts the start of a value at the end.
 #[tactic(auto, unfolding(crate::specs::Written::spelling))]
+#[inline(always)]
 pub fn put_start(out: &mut Vec<u8>, limit: usize, start: Start<'_>) -> Result<(), CodecFault>
     requires room { length out.old.items ≤ limit }
     requires small { limit < 2 ^ 32 }

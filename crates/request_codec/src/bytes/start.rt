@@ -19,6 +19,7 @@ pub enum Start<'a> {
 }
 
 #[tactic(auto, unfolding(crate::specs::Reading::number_at))]
+#[inline(always)]
 fn u32_of(bytes: &[u8]) -> Option<(u32, &[u8])>
     ensures { option_map (λ x. (x.0, x.1.now)) result ≡ number_at w32 bytes.now }
 {
@@ -31,6 +32,7 @@ fn u32_of(bytes: &[u8]) -> Option<(u32, &[u8])>
 }
 
 #[tactic(auto, unfolding(crate::specs::Reading::number_at))]
+#[inline(always)]
 fn u64_of(bytes: &[u8]) -> Option<(u64, &[u8])>
     ensures { option_map (λ x. (x.0, x.1.now)) result ≡ number_at w64 bytes.now }
 {
@@ -47,6 +49,7 @@ fn u64_of(bytes: &[u8]) -> Option<(u64, &[u8])>
 /// The count of a list's or a map's members. Each member takes a byte at least, so a count above
 /// the number of bytes that are left is refused here, before anything grows for it.
 #[tactic(auto, unfolding(crate::specs::Start::count_at))]
+#[inline(always)]
 fn count_of(bytes: &[u8]) -> Option<(u32, &[u8])>
     ensures { option_map (λ x. (x.0, x.1.now)) result ≡ count_at bytes.now }
 {
@@ -59,6 +62,7 @@ fn count_of(bytes: &[u8]) -> Option<(u32, &[u8])>
 
 /// The text at the front, and the bytes after it.
 #[tactic(auto, using(crate::proofs::Characters::utf8_tests), unfolding(crate::specs::Reading::text_at))]
+#[inline(always)]
 pub fn text_of(bytes: &[u8]) -> Option<(&str, &[u8])>
     ensures { option_map (λ x. (x.0.now, x.1.now)) result ≡ text_at bytes.now }
 {
@@ -75,6 +79,7 @@ pub fn text_of(bytes: &[u8]) -> Option<(&str, &[u8])>
 }
 
 /// Whether a name may follow the one before it: names ascend strictly by their bytes.
+#[inline(always)]
 pub fn may_follow(last: Option<&str>, name: &str) -> bool
     ensures { result ≡ is_above (option_map (λ s. s.now) last.entry) name.now }
 {
@@ -86,6 +91,7 @@ pub fn may_follow(last: Option<&str>, name: &str) -> bool
 
 /// The start of the value at the front, and the bytes after it.
 #[tactic(auto, unfolding(crate::specs::Start::start_at))]
+#[inline(always)]
 pub fn start_of(bytes: &[u8]) -> Option<(Start<'_>, &[u8])>
     ensures { option_map (λ x. (begun x.0, x.1.now)) result ≡ start_at bytes.now }
 {

@@ -1,6 +1,6 @@
 use Rattle.serde_json.specs.View.{view}
 use Rattle.request_codec.specs.Seen.{value_of}
-use Rattle.line_parser.proofs.AskedDeep.{within_depth}
+use Rattle.request_codec.proofs.JsonDepths.{within_depth}
 use Rattle.line_parser.proofs.asked.read_state.Goals as goal
 
 pub write_state-requires : goal.write_state-requires

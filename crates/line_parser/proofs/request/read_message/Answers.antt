@@ -1,7 +1,7 @@
 use Rattle.std.proofs.Common.{ap, ◌∙◌, sym, Ok}
 use Rattle.std.proofs.lemmas.Result.{IfOk-weaker}
 use Rattle.request_codec.specs.Call.{asks}
-use Rattle.request_codec.specs.Lenient.{lenient_value}
+use Rattle.line_parser.specs.Lenient.{lenient_value}
 use Rattle.request_codec.proofs.Encoded.{same_found}
 use Rattle.request_codec.proofs.Whole.{message_is_some}
 use Rattle.line_parser.proofs.Steps.{message_of, message_fits}
