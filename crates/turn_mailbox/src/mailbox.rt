@@ -4,7 +4,7 @@ ghost use Rattle.std.specs.Prelude.{◌≡◌, ◌↔◌, ◌<◌, ◌≤◌, �
 ghost use Rattle.std.specs.Option.{option_copied};
 ghost use Rattle.std.specs.List.{list_any};
 ghost use Rattle.std.specs.FinMap as map;
-ghost use Rattle.slab.specs.Slab.{Updates};
+ghost use Rattle.slab.specs.Slab.{Updates, HasRoomFor};
 ghost use Rattle.turn_mailbox.specs.Contents.{may_begin, begun, turn_of, is_idle, has_from, is_from, Finishes};
 
 use crate::request::Request;
@@ -188,7 +188,7 @@ impl Mailbox {
         ensures begun { OnOk result (self.new ≡ begun self.old self.old.waiting) }
         ensures unchanged { OnErr result (self.new ≡ self.old) }
     {
-        self.turns.reserve(1)?;
+        room_for_one(&mut self.turns)?;
         self.places.reserve(1)?;
         let Some(request) = self.waiting.pop_front() else {
             return Ok(());
@@ -263,4 +263,15 @@ fn free(turns: &mut Slab<Request>, place: usize)
     ensures { Updates turns.old turns.new place None }
 {
     turns.try_remove(place);
+}
+
+/// Makes room for one more turn. The first takes room for itself alone, since mostly one is open.
+fn room_for_one(turns: &mut Slab<Request>) -> Result<(), AllocError>
+    ensures room { OnOk result (HasRoomFor turns.new 1) }
+    ensures rest_kept { turns.new ≡ record turns.old { capacity = turns.new.capacity } }
+{
+    if turns.capacity() == 0 {
+        return turns.reserve_exact(1);
+    }
+    turns.reserve(1)
 }
