@@ -1,39 +1,67 @@
--- The notes by grain, as a map, through changes of the entries.
-use Rattle.std.proofs.Common.{◌≡◌, ℕ, cond, List, [], ◌∷◌, Some, None, refl, ap, sym, ◌∙◌}
-use Rattle.std.specs.Ordering.{eq_by_cmp}
+-- What a collector shows, through changes of the notes by grain.
+use Rattle.std.proofs.Common.{◌≡◌, ℕ, Bool, true, false, cond, List, [], ◌∷◌, Option, Some, None, refl, ap, sym, ◌∙◌}
+use Rattle.std.proofs.lemmas.Map.Made.{lookup-map_values}
 use Rattle.std.specs.Cmp.{eq_by_cmp_equiv}
 use Rattle.std.specs.Map.{lookup}
+use Rattle.std.specs.Option.{option_map}
+use Rattle.std.specs.Ordering.{eq_by_cmp}
 use Rattle.std.specs.FinMap as map
 use Rattle.std.specs.FinMap.{find, from_entries}
-use Rattle.grain_id.specs.Names.{Grain, grain_cmp}
-use Rattle.grain_id.proofs.Order.{grain_cmp_total, grain_cmp_exact}
+use Rattle.grain_id.specs.Names.{Grain, grain_cmp, grain_eq}
+use Rattle.grain_id.proofs.Order.{grain_cmp_total, grain_cmp_exact, grain_eq_decides, grain_ties}
 use Rattle.grain_id.proofs.Maps as maps
 use Rattle.idle_collector.specs.Notes.{Notes, noted, forgotten}
+use Rattle.idle_collector.specs.Ties.{moments}
 
-find-lookup : (es : List (Grain × ℕ)) (q : Grain) → find grain_cmp q es ≡ lookup (λ k. eq_by_cmp grain_cmp q k) es
+find-lookup : (es : List (Grain × ℕ)) (q : Grain) → find grain_cmp q es ≡ lookup (grain_eq q) es
 find-lookup [] q = refl
-find-lookup (e ∷ es) q = ap (cond (eq_by_cmp grain_cmp q e.0) (Some e.1)) (find-lookup es q)
+find-lookup (e ∷ es) q = λ i. cond (sym (grain_ties q e.0) i) (Some e.1) (find-lookup es q i)
 
--- the map has at a grain what a look-up finds
-pub get-lasts : (es : List (Grain × ℕ)) (q : Grain) → map.get (from_entries {R = grain_cmp} es) q ≡ lookup (λ k. eq_by_cmp grain_cmp q k) es
-get-lasts es q = map.get-from_entries grain_cmp_total es q ∙ find-lookup es q
+-- the map has at a grain the moment that a look-up finds
+pub get-lasts : (es : List (Grain × (ℕ × ℕ))) (q : Grain) → map.get (from_entries {R = grain_cmp} (moments es)) q ≡ option_map (λ p. p.0) (lookup (grain_eq q) es)
+get-lasts es q = map.get-from_entries grain_cmp_total (moments es) q ∙ find-lookup (moments es) q ∙ lookup-map_values (λ p. p.0) (grain_eq q) es
 
-module _ (es fs : List (Grain × ℕ)) (k : Grain) where
+turned : (k q : Grain) → grain_eq k q ≡ eq_by_cmp grain_cmp q k
+turned k q = grain_ties k q ∙ (eq_by_cmp_equiv grain_cmp_total).symm k q
+
+moment_of : (b : Bool) (o p : Option (ℕ × ℕ)) → option_map (λ p. p.0) (cond b o p) ≡ cond b (option_map (λ p. p.0) o) (option_map (λ p. p.0) p)
+moment_of true o p = refl
+moment_of false o p = refl
+
+-- what a look-up finds in the same entries
+pub found : (es fs : List (Grain × (ℕ × ℕ))) (f : Grain → Option (ℕ × ℕ)) → fs ≡ es → ((q : Grain) → lookup (grain_eq q) es ≡ f q) → (q : Grain) → lookup (grain_eq q) fs ≡ f q
+found es fs f same l q = ap (lookup (grain_eq q)) same ∙ l q
+
+-- a grain that is noted as it was
+pub noted_again : (es : List (Grain × (ℕ × ℕ))) (k : Grain) (note : ℕ × ℕ) → lookup (grain_eq k) es ≡ Some note → (q : Grain) → cond (grain_eq k q) (Some note) (lookup (grain_eq q) es) ≡ lookup (grain_eq q) es
+noted_again es k note was q = by (grain_eq k q) refl
+  where
+    by : (b : Bool) → grain_eq k q ≡ b → cond b (Some note) (lookup (grain_eq q) es) ≡ lookup (grain_eq q) es
+    by true e = sym was ∙ ap (λ g. lookup (grain_eq g) es) ((grain_eq_decides k q).0 e)
+    by false e = refl
+
+-- what a collector of this age with these entries shows
+abbrev shown : ℕ → List (Grain × (ℕ × ℕ)) → Notes
+shown age es = record { age = age; lasts = from_entries (moments es) }
+
+module _ (age : ℕ) (es fs : List (Grain × (ℕ × ℕ))) where
+  -- each look-up finds what it found
+  pub shown-same : ((q : Grain) → lookup (grain_eq q) fs ≡ lookup (grain_eq q) es) → shown age fs ≡ shown age es
+  shown-same l = ap (λ lasts. record { age = age; lasts = lasts }) (maps.alike grain_cmp_total grain_cmp_exact _ _ (λ q. get-lasts fs q ∙ ap (option_map (λ p. p.0)) (l q) ∙ sym (get-lasts es q)))
+
+  module _ (k : Grain) (o : Option (ℕ × ℕ)) (l : (q : Grain) → lookup (grain_eq q) fs ≡ cond (grain_eq k q) o (lookup (grain_eq q) es)) where
+    get-changed : (q : Grain) → map.get (from_entries {R = grain_cmp} (moments fs)) q ≡ cond (eq_by_cmp grain_cmp q k) (option_map (λ p. p.0) o) (map.get (from_entries {R = grain_cmp} (moments es)) q)
+    get-changed q =
+        get-lasts fs q ∙ ap (option_map (λ p. p.0)) (l q) ∙ moment_of (grain_eq k q) o (lookup (grain_eq q) es)
+        ∙ (λ i. cond (turned k q i) (option_map (λ p. p.0) o) (sym (get-lasts es q) i))
+
   -- one grain is noted, and each other look-up finds what it found
-  pub lasts-noted : (last : ℕ) → ((q : Grain) → lookup (λ x. eq_by_cmp grain_cmp q x) fs ≡ cond (eq_by_cmp grain_cmp k q) (Some last) (lookup (λ x. eq_by_cmp grain_cmp q x) es))
-      → from_entries {R = grain_cmp} fs ≡ map.insert (from_entries es) k last
-  lasts-noted last l = maps.alike grain_cmp_total grain_cmp_exact _ _ (λ q.
-      get-lasts fs q ∙ l q ∙ ap (cond (eq_by_cmp grain_cmp k q) (Some last)) (sym (get-lasts es q))
-      ∙ ap (λ b. cond b (Some last) (map.get (from_entries {R = grain_cmp} es) q)) ((eq_by_cmp_equiv grain_cmp_total).symm k q)
-      ∙ sym (map.get-insert grain_cmp_total (from_entries es) k last q))
+  pub shown-noted : (k : Grain) (note : ℕ × ℕ) → ((q : Grain) → lookup (grain_eq q) fs ≡ cond (grain_eq k q) (Some note) (lookup (grain_eq q) es)) → shown age fs ≡ noted (shown age es) k note.0
+  shown-noted k note l = ap (λ lasts. record { age = age; lasts = lasts }) (maps.alike grain_cmp_total grain_cmp_exact _ _ (λ q. get-changed k (Some note) l q ∙ sym (map.get-insert grain_cmp_total (from_entries (moments es)) k note.0 q)))
 
   -- one grain is forgotten
-  pub lasts-forgotten : ((q : Grain) → lookup (λ x. eq_by_cmp grain_cmp q x) fs ≡ cond (eq_by_cmp grain_cmp k q) None (lookup (λ x. eq_by_cmp grain_cmp q x) es))
-      → from_entries {R = grain_cmp} fs ≡ map.remove (from_entries es) k
-  lasts-forgotten l = maps.alike grain_cmp_total grain_cmp_exact _ _ (λ q.
-      get-lasts fs q ∙ l q ∙ ap (cond (eq_by_cmp grain_cmp k q) None) (sym (get-lasts es q))
-      ∙ ap (λ b. cond b None (map.get (from_entries {R = grain_cmp} es) q)) ((eq_by_cmp_equiv grain_cmp_total).symm k q)
-      ∙ sym (map.get-remove grain_cmp_total (from_entries es) k q))
+  pub shown-forgotten : (k : Grain) → ((q : Grain) → lookup (grain_eq q) fs ≡ cond (grain_eq k q) None (lookup (grain_eq q) es)) → shown age fs ≡ forgotten (shown age es) k
+  shown-forgotten k l = ap (λ lasts. record { age = age; lasts = lasts }) (maps.alike grain_cmp_total grain_cmp_exact _ _ (λ q. get-changed k None l q ∙ sym (map.get-remove grain_cmp_total (from_entries (moments es)) k q)))
 
 -- the note of a grain that wasn't noted, taken back, leaves the notes as they were
 pub taken_back : (notes : Notes) (grain : Grain) (last : ℕ) → map.get notes.lasts grain ≡ None → forgotten (noted notes grain last) grain ≡ notes

@@ -1,33 +1,36 @@
 -- In the order of time the grains that are due stand first, each once.
-use Rattle.std.proofs.Common.{◌≡◌, ℕ, Bool, true, false, ◌&&◌, ◌||◌, ◌==◌, ◌+◌, ◌-◌, ◌<◌, ◌≤◌, cond, List, [], ◌∷◌, Option, Some, None, refl, ap, sym, ◌∙◌, subst, true≢false, arith, rules}
+use Rattle.std.proofs.Common.{◌≡◌, ℕ, Bool, true, false, ◌&&◌, ◌||◌, ◌+◌, ◌-◌, ◌<◌, ◌≤◌, cond, List, [], ◌∷◌, Option, Some, None, refl, ap, sym, ◌∙◌, subst, true≢false, arith, rules}
 use Rattle.std.proofs.lemmas.List.Recursion.{is_count_by}
 use Rattle.std.specs.FinMap.{nat_cmp-IsAntisymmetric, from_entries}
 use Rattle.std.proofs.lemmas.Bool.{lt-leb, leb-false}
-use Rattle.std.proofs.lemmas.Bool.Decides.{Decides-eqb}
 use Rattle.std.specs.Prelude.{nat_le, count_by}
+use Rattle.std.specs.Option.{option_map}
 use Rattle.std.specs.declared.cmp.Ordering.{Ordering}
 use Rattle.std.specs.declared.cmp.Ordering.TheVariants.{Less, Equal, Greater}
+use Rattle.std.specs.Map.{lookup}
 use Rattle.std.specs.Ordering.{nat_cmp, is_eq, is_lt, eq_by_cmp, ordering_then}
-use Rattle.std.specs.Cmp.{Equal-is}
 use Rattle.std.specs.List.{AllByRecursion, list_any}
 use Rattle.std.specs.List.Sorted.{IsStrictlySortedBy}
-use Rattle.std.specs.BTreeMap.{BTreeMap, get}
-use Rattle.std.specs.BTreeSet.{BTreeSet, contains}
-use Rattle.grain_id.specs.Names.{Grain, grain_cmp}
-use Rattle.grain_id.proofs.Order.{grain_cmp_exact}
+use Rattle.grain_id.specs.Names.{Grain, grain_cmp, grain_eq}
+use Rattle.grain_id.proofs.Order.{grain_cmp_total, grain_cmp_exact, eq_by_cmp-Decides}
 use Rattle.idle_collector.specs.Notes.{is_due, HoldsDue}
-use Rattle.idle_collector.specs.Ties.{time_cmp, is_at, IsTied}
-use Rattle.idle_collector.proofs.Ties.{time_test}
+use Rattle.idle_collector.specs.Ties.{time_cmp, moments, AreTied}
+use Rattle.idle_collector.proofs.Ties.{same_note, some_is, refuted}
 use Rattle.idle_collector.proofs.Lasts.{get-lasts}
 
+-- one more grain, if there is one
+abbrev pub with_grain : Option Grain → List Grain → List Grain
+with_grain None gs = gs
+with_grain (Some g) gs = g ∷ gs
+
 -- the grains at the front that have been unused for the age
-abbrev pub front : ℕ → ℕ → List (ℕ × Grain) → List Grain
-front age now [] = []
-front age now (k ∷ ks) = cond (nat_le age (now - k.0)) (k.1 ∷ front age now ks) []
+abbrev pub front : (ℕ → Option Grain) → ℕ → ℕ → List (ℕ × ℕ) → List Grain
+front grain_at age now [] = []
+front grain_at age now (k ∷ ks) = cond (nat_le age (now - k.0)) (with_grain (grain_at k.1) (front grain_at age now ks)) []
 
 -- it ends where one isn't due
-pub front-stops : (age now : ℕ) (k : ℕ × Grain) (ks : List (ℕ × Grain)) → now - k.0 < age → front age now (k ∷ ks) ≡ []
-front-stops age now k ks h = ap (λ b. cond b (k.1 ∷ front age now ks) []) (lt-leb age (now - k.0) h)
+pub front-stops : (grain_at : ℕ → Option Grain) (age now : ℕ) (k : ℕ × ℕ) (ks : List (ℕ × ℕ)) → now - k.0 < age → front grain_at age now (k ∷ ks) ≡ []
+front-stops grain_at age now k ks h = ap (λ b. cond b (with_grain (grain_at k.1) (front grain_at age now ks)) []) (lt-leb age (now - k.0) h)
 
 -- ---- counts
 
@@ -39,10 +42,6 @@ count p (x ∷ xs) = cond (p x) (1 + count p xs) (count p xs)
 pub count_is : {X : Type 0} (p : X → Bool) (xs : List X) → count p xs ≡ count_by p xs
 count_is p xs = is_count_by (count p) p refl (λ x xs. refl) xs
 
-one_of : (b : Bool) (n : ℕ) → b ≡ true → n ≡ 0 → cond b (1 + n) n ≡ 1
-one_of true n e h = ap (λ n. 1 + n) h
-one_of false n e h = absurd (true≢false (sym e))
-
 passed : (b : Bool) (n m : ℕ) → b ≡ false → n ≡ m → cond b (1 + n) n ≡ m
 passed false n m e h = h
 passed true n m e h = absurd (true≢false e)
@@ -50,10 +49,6 @@ passed true n m e h = absurd (true≢false e)
 no_and : (b : Bool) → b && false ≡ false
 no_and true = refl
 no_and false = refl
-
-yes_and : (b : Bool) → b && true ≡ b
-yes_and true = refl
-yes_and false = refl
 
 -- ---- the order of time
 
@@ -63,131 +58,122 @@ below_less l m e = search rules
 below_equal : (l m : ℕ) → nat_cmp l m ≡ Equal → l ≤ m
 below_equal l m e = let same : l ≡ m = nat_cmp-IsAntisymmetric l m e in omega arith
 
-ordered : (l m : ℕ) (x y : Grain) → time_cmp (l, x) (m, y) ≡ Less → l ≤ m
-ordered l m x y e = by (nat_cmp l m) refl e
+ordered : (p q : ℕ × ℕ) → time_cmp p q ≡ Less → p.0 ≤ q.0
+ordered p q e = by (nat_cmp p.0 q.0) refl e
   where
-    by : (o : Ordering) → nat_cmp l m ≡ o → ordering_then o (grain_cmp x y) ≡ Less → l ≤ m
-    by Less p h = below_less l m p
-    by Equal p h = below_equal l m p
-    by Greater p h = absurd (true≢false (sym (ap is_lt h)))
-
-both_true : (a b : Bool) → a && b ≡ true → (a ≡ true) × (b ≡ true)
-both_true true true e = (refl, refl)
-both_true true false e = absurd (true≢false (sym e))
-both_true false b e = absurd (true≢false (sym e))
-
--- the same moment and the same grain
-same_pair : (x y : ℕ × Grain) → is_eq (time_cmp x y) ≡ true → x ≡ y
-same_pair (l, x) (m, y) e =
-    let both = both_true _ _ (sym (time_test l m x y) ∙ e) in
-    λ i. ((Decides-eqb l m).0 both.0 i, grain_cmp_exact x y ((Equal-is (grain_cmp x y)).0 both.1) i)
+    by : (o : Ordering) → nat_cmp p.0 q.0 ≡ o → ordering_then o (nat_cmp p.1 q.1) ≡ Less → p.0 ≤ q.0
+    by Less f h = below_less p.0 q.0 f
+    by Equal f h = below_equal p.0 q.0 f
+    by Greater f h = absurd (true≢false (sym (ap is_lt h)))
 
 -- ---- what stands in order
 
--- the pair is due, and of this grain
-abbrev ripe : ℕ → ℕ → Grain → ℕ × Grain → Bool
-ripe age now q k = nat_le age (now - k.0) && eq_by_cmp grain_cmp q k.1
+-- the grain is this one
+abbrev is_of : Grain → Option Grain → Bool
+is_of q None = false
+is_of q (Some g) = eq_by_cmp grain_cmp q g
 
-module _ (age now : ℕ) (q : Grain) where
+module _ (grain_at : ℕ → Option Grain) (age now : ℕ) (q : Grain) where
+  -- the note is due, and of this grain
+  abbrev ripe : ℕ × ℕ → Bool
+  ripe k = nat_le age (now - k.0) && is_of q (grain_at k.1)
+
   -- what was used later isn't due either
-  none_later : (k : ℕ × Grain) (ks : List (ℕ × Grain)) → AllByRecursion (λ y. time_cmp k y ≡ Less) ks → nat_le age (now - k.0) ≡ false → count (ripe age now q) ks ≡ 0
+  none_later : (k : ℕ × ℕ) (ks : List (ℕ × ℕ)) → AllByRecursion (λ y. time_cmp k y ≡ Less) ks → nat_le age (now - k.0) ≡ false → count ripe ks ≡ 0
   none_later k [] below e = refl
   none_later k (y ∷ ks) below e =
       let p = leb-false age (now - k.0) e in
-      let o = ordered k.0 y.0 k.1 y.1 below.0 in
+      let o = ordered k y below.0 in
       let late : nat_le age (now - y.0) ≡ false = lt-leb age (now - y.0) (omega arith) in
-      passed (ripe age now q y) _ _ (ap (λ b. b && eq_by_cmp grain_cmp q y.1) late) (none_later k ks below.1 e)
+      passed (ripe y) _ _ (ap (λ b. b && is_of q (grain_at y.1)) late) (none_later k ks below.1 e)
 
-  first_of : (b : Bool) (k : ℕ × Grain) (ks : List (ℕ × Grain)) → nat_le age (now - k.0) ≡ b → count (eq_by_cmp grain_cmp q) (front age now ks) ≡ count (ripe age now q) ks → (b ≡ false → count (ripe age now q) ks ≡ 0)
-      → count (eq_by_cmp grain_cmp q) (cond b (k.1 ∷ front age now ks) []) ≡ cond (b && eq_by_cmp grain_cmp q k.1) (1 + count (ripe age now q) ks) (count (ripe age now q) ks)
-  first_of true k ks e same none = ap (λ n. cond (eq_by_cmp grain_cmp q k.1) (1 + n) n) same
-  first_of false k ks e same none = sym (none refl)
+  one_more : (o : Option Grain) (gs : List Grain) (n : ℕ) → count (eq_by_cmp grain_cmp q) gs ≡ n → count (eq_by_cmp grain_cmp q) (with_grain o gs) ≡ cond (is_of q o) (1 + n) n
+  one_more None gs n same = same
+  one_more (Some g) gs n same = ap (λ n. cond (eq_by_cmp grain_cmp q g) (1 + n) n) same
+
+  first_of : (b : Bool) (o : Option Grain) (gs : List Grain) (n : ℕ) → count (eq_by_cmp grain_cmp q) gs ≡ n → (b ≡ false → n ≡ 0)
+      → count (eq_by_cmp grain_cmp q) (cond b (with_grain o gs) []) ≡ cond (b && is_of q o) (1 + n) n
+  first_of true o gs n same none = one_more o gs n same
+  first_of false o gs n same none = sym (none refl)
 
   -- the front has all that are due
-  pub count-front : (ks : List (ℕ × Grain)) → IsStrictlySortedBy time_cmp ks → count (eq_by_cmp grain_cmp q) (front age now ks) ≡ count (ripe age now q) ks
+  count-front : (ks : List (ℕ × ℕ)) → IsStrictlySortedBy time_cmp ks → count (eq_by_cmp grain_cmp q) (front grain_at age now ks) ≡ count ripe ks
   unfolding IsStrictlySortedBy
   count-front [] sorted = refl
-  count-front (k ∷ ks) sorted = first_of (nat_le age (now - k.0)) k ks refl (count-front ks sorted.1) (none_later k ks sorted.0)
+  count-front (k ∷ ks) sorted = first_of (nat_le age (now - k.0)) (grain_at k.1) (front grain_at age now ks) (count ripe ks) (count-front ks sorted.1) (none_later k ks sorted.0)
 
--- ---- each pair stands once
+-- ---- each note stands once
 
-none_more : (x : ℕ × Grain) (ks : List (ℕ × Grain)) → AllByRecursion (λ y. time_cmp x y ≡ Less) ks → count (λ y. is_eq (time_cmp x y)) ks ≡ 0
+none_more : (x : ℕ × ℕ) (ks : List (ℕ × ℕ)) → AllByRecursion (λ y. time_cmp x y ≡ Less) ks → count (λ y. is_eq (time_cmp x y)) ks ≡ 0
 none_more x [] below = refl
 none_more x (y ∷ ks) below = passed (is_eq (time_cmp x y)) _ _ (ap is_eq below.0) (none_more x ks below.1)
 
-once_of : (b : Bool) (x k : ℕ × Grain) (ks : List (ℕ × Grain)) → is_eq (time_cmp x k) ≡ b → AllByRecursion (λ y. time_cmp k y ≡ Less) ks
+once_of : (b : Bool) (x k : ℕ × ℕ) (ks : List (ℕ × ℕ)) → is_eq (time_cmp x k) ≡ b → AllByRecursion (λ y. time_cmp k y ≡ Less) ks
     → (list_any (λ y. is_eq (time_cmp x y)) ks ≡ true → count (λ y. is_eq (time_cmp x y)) ks ≡ 1) → (b || list_any (λ y. is_eq (time_cmp x y)) ks) ≡ true
     → cond b (1 + count (λ y. is_eq (time_cmp x y)) ks) (count (λ y. is_eq (time_cmp x y)) ks) ≡ 1
-once_of true x k ks e below rest there = one_of true _ refl (none_more x ks (subst (λ z. AllByRecursion (λ y. time_cmp z y ≡ Less) ks) (sym (same_pair x k e)) below))
+once_of true x k ks e below rest there = ap (λ n. 1 + n) (none_more x ks (subst (λ z. AllByRecursion (λ y. time_cmp z y ≡ Less) ks) (sym ((same_note x k).0 e)) below))
 once_of false x k ks e below rest there = rest there
 
-stands_once : (x : ℕ × Grain) (ks : List (ℕ × Grain)) → IsStrictlySortedBy time_cmp ks → list_any (λ y. is_eq (time_cmp x y)) ks ≡ true → count (λ y. is_eq (time_cmp x y)) ks ≡ 1
+stands_once : (x : ℕ × ℕ) (ks : List (ℕ × ℕ)) → IsStrictlySortedBy time_cmp ks → list_any (λ y. is_eq (time_cmp x y)) ks ≡ true → count (λ y. is_eq (time_cmp x y)) ks ≡ 1
 unfolding IsStrictlySortedBy
 stands_once x [] sorted there = absurd (true≢false (sym there))
 stands_once x (k ∷ ks) sorted there = once_of (is_eq (time_cmp x k)) x k ks refl sorted.0 (stands_once x ks sorted.1) there
 
--- ---- the pairs are the notes
+-- ---- what stands in order are the notes
 
-none_of : (b c : Bool) → (b ≡ true → ⊥) → c && b ≡ false
-none_of true c h = absurd (h refl)
-none_of false c h = no_and c
+-- the note is this one
+abbrev is_note : Option (ℕ × ℕ) → ℕ × ℕ → Bool
+is_note None k = false
+is_note (Some p) k = is_eq (time_cmp p k)
 
-module _ (lasts : BTreeMap Grain ℕ) (age now : ℕ) (q : Grain) where
-  abbrev AreNotes : List (ℕ × Grain) → Type 0
-  AreNotes = AllByRecursion (λ (k : ℕ × Grain). get grain_cmp lasts k.1 ≡ Some k.0)
+module _ (note_of : Grain → Option (ℕ × ℕ)) (grain_at : ℕ → Option Grain) (stands : ℕ × ℕ → Bool) (tied : AreTied note_of grain_at stands) (age now : ℕ) (q : Grain) where
+  -- of a grain nothing but its note is due
+  its_note : (k : ℕ × ℕ) (g : Grain) (b : Bool) (o : Option (ℕ × ℕ)) → grain_at k.1 ≡ Some g → note_of g ≡ Some k → eq_by_cmp grain_cmp q g ≡ b → note_of q ≡ o
+      → nat_le age (now - k.0) && b ≡ is_due age now (option_map (λ p. p.0) o) && is_note o k
+  its_note k g true o at note t is =
+      let same = (eq_by_cmp-Decides grain_cmp_total grain_cmp_exact q g).0 t in
+      let e : Some k ≡ o = sym note ∙ ap note_of (sym same) ∙ is in
+      subst (λ o. nat_le age (now - k.0) && true ≡ is_due age now (option_map (λ p. p.0) o) && is_note o k) e (ap (λ b. nat_le age (now - k.0) && b) (sym ((same_note k k).1 refl)))
+  its_note k g false None at note t is = no_and (nat_le age (now - k.0))
+  its_note k g false (Some p) at note t is =
+      let other : is_eq (time_cmp p k) ≡ false = refuted _ (same_note p k) (λ (one : p ≡ k).
+      let same : q ≡ g = some_is q g (sym (tied.placed q p is) ∙ ap (λ k. grain_at k.1) one ∙ at) in
+      let tie : eq_by_cmp grain_cmp q g ≡ true = (eq_by_cmp-Decides grain_cmp_total grain_cmp_exact q g).1 same in cc) in
+      no_and (nat_le age (now - k.0)) ∙ sym (ap (λ b. nat_le age (now - p.0) && b) other ∙ no_and (nat_le age (now - p.0)))
 
-  found : (g : Grain) → eq_by_cmp grain_cmp q g ≡ true → get grain_cmp lasts g ≡ get grain_cmp lasts q
-  found g t = ap (get grain_cmp lasts) (sym (grain_cmp_exact q g ((Equal-is (grain_cmp q g)).0 t)))
+  ripe_is : (k : ℕ × ℕ) → stands k ≡ true → ripe grain_at age now q k ≡ is_due age now (option_map (λ p. p.0) (note_of q)) && is_note (note_of q) k
+  ripe_is k there =
+      let n = tied.noted k there in
+      ap (λ o. nat_le age (now - k.0) && is_of q o) n.1 ∙ its_note k n.0 (eq_by_cmp grain_cmp q n.0) (note_of q) n.1 n.2 refl refl
 
-  -- of a grain that isn't noted nothing is due
-  count-none : get grain_cmp lasts q ≡ None → (ks : List (ℕ × Grain)) → AreNotes ks → count (ripe age now q) ks ≡ 0
-  count-none none [] notes = refl
-  count-none none (k ∷ ks) notes =
-      passed (ripe age now q k) _ 0 (none_of (eq_by_cmp grain_cmp q k.1) (nat_le age (now - k.0)) (λ t. let e : Some k.0 ≡ None = sym notes.0 ∙ found k.1 t ∙ none in absurd cc)) (count-none none ks notes.1)
+  none_due : (b : Bool) → ◌≡◌ {A = ℕ} 0 (cond b 0 0)
+  none_due true = refl
+  none_due false = refl
 
-  one : (last : ℕ) (k : ℕ × Grain) (b : Bool) → eq_by_cmp grain_cmp q k.1 ≡ b → (b ≡ true → k.0 ≡ last) → nat_le age (now - k.0) && b ≡ nat_le age (now - last) && ((last == k.0) && b)
-  one last k true t h = ap (λ l. nat_le age (now - l) && true) (h refl) ∙ ap (λ b. nat_le age (now - last) && b) (sym (yes_and (last == k.0) ∙ (Decides-eqb last k.0).1 (sym (h refl))))
-  one last k false t h = no_and (nat_le age (now - k.0)) ∙ sym (ap (λ b. nat_le age (now - last) && b) (no_and (last == k.0)) ∙ no_and (nat_le age (now - last)))
+  apart : (b c : Bool) (n : ℕ) → cond (b && c) (1 + cond b n 0) (cond b n 0) ≡ cond b (cond c (1 + n) n) 0
+  apart true c n = refl
+  apart false c n = refl
 
-  no_count : (b : Bool) → ◌≡◌ {A = ℕ} 0 (cond b 0 0)
-  no_count true = refl
-  no_count false = refl
-
-  split : (b c : Bool) (n : ℕ) → cond (b && c) (1 + cond b n 0) (cond b n 0) ≡ cond b (cond c (1 + n) n) 0
-  split true c n = refl
-  split false c n = refl
-
-  -- of a noted grain its one note
-  count-noted : (last : ℕ) → get grain_cmp lasts q ≡ Some last → (ks : List (ℕ × Grain)) → AreNotes ks → count (ripe age now q) ks ≡ cond (nat_le age (now - last)) (count (λ y. is_eq (time_cmp (last, q) y)) ks) 0
-  count-noted last is [] notes = no_count (nat_le age (now - last))
-  count-noted last is (k ∷ ks) notes =
-      ap (λ n. cond (ripe age now q k) (1 + n) n) (count-noted last is ks notes.1)
-      ∙ ap (λ b. cond b (1 + cond (nat_le age (now - last)) (count (λ y. is_eq (time_cmp (last, q) y)) ks) 0) (cond (nat_le age (now - last)) (count (λ y. is_eq (time_cmp (last, q) y)) ks) 0))
-      (one last k (eq_by_cmp grain_cmp q k.1) refl (λ t. let e : Some k.0 ≡ Some last = sym notes.0 ∙ found k.1 t ∙ is in cc) ∙ ap (λ b. nat_le age (now - last) && b) (sym (time_test last k.0 q k.1)))
-      ∙ split (nat_le age (now - last)) (is_eq (time_cmp (last, q) k)) (count (λ y. is_eq (time_cmp (last, q) y)) ks)
+  count-ripe : (ks : List (ℕ × ℕ)) → AllByRecursion (λ k. stands k ≡ true) ks → count (ripe grain_at age now q) ks ≡ cond (is_due age now (option_map (λ p. p.0) (note_of q))) (count (is_note (note_of q)) ks) 0
+  count-ripe [] there = none_due (is_due age now (option_map (λ p. p.0) (note_of q)))
+  count-ripe (k ∷ ks) there =
+      let b = is_due age now (option_map (λ p. p.0) (note_of q)) in
+      (λ i. cond (ripe_is k there.0 i) (1 + count-ripe ks there.1 i) (count-ripe ks there.1 i)) ∙ apart b (is_note (note_of q) k) (count (is_note (note_of q)) ks)
 
   -- a grain stands among the first as often as it's due: once or not at all
-  due_once : (by_last : BTreeSet (ℕ × Grain)) → IsTied lasts by_last → IsStrictlySortedBy time_cmp by_last.keys → AreNotes by_last.keys → (o : Option ℕ) → get grain_cmp lasts q ≡ o
-      → count (eq_by_cmp grain_cmp q) (front age now by_last.keys) ≡ cond (is_due age now o) 1 0
-  due_once by_last tied sorted notes None is = count-front age now q by_last.keys sorted ∙ count-none is by_last.keys notes
-  due_once by_last tied sorted notes (Some last) is =
-      count-front age now q by_last.keys sorted ∙ count-noted last is by_last.keys notes
-      ∙ ap (λ n. cond (nat_le age (now - last)) n 0) (stands_once (last, q) by_last.keys sorted (tied last q ∙ ap (is_at last) is ∙ (Decides-eqb last last).1 refl))
+  due_once : (ks : List (ℕ × ℕ)) → IsStrictlySortedBy time_cmp ks → AllByRecursion (λ k. stands k ≡ true) ks → ((p : ℕ × ℕ) → stands p ≡ list_any (λ k. is_eq (time_cmp p k)) ks) → (o : Option (ℕ × ℕ)) → note_of q ≡ o
+      → cond (is_due age now (option_map (λ p. p.0) o)) (count (is_note o) ks) 0 ≡ cond (is_due age now (option_map (λ p. p.0) o)) 1 0
+  due_once ks sorted there all None is = refl
+  due_once ks sorted there all (Some p) is = ap (λ n. cond (nat_le age (now - p.0)) n 0) (stands_once p ks sorted (sym (all p) ∙ tied.entered q p is))
 
--- ---- what the order of time holds
+  pub count-due : (ks : List (ℕ × ℕ)) → IsStrictlySortedBy time_cmp ks → AllByRecursion (λ k. stands k ≡ true) ks → ((p : ℕ × ℕ) → stands p ≡ list_any (λ k. is_eq (time_cmp p k)) ks)
+      → count_by (eq_by_cmp grain_cmp q) (front grain_at age now ks) ≡ cond (is_due age now (option_map (λ p. p.0) (note_of q))) 1 0
+  count-due ks sorted there all =
+      sym (count_is (eq_by_cmp grain_cmp q) (front grain_at age now ks)) ∙ count-front grain_at age now q ks sorted ∙ count-ripe ks there ∙ due_once ks sorted there all (note_of q) refl
 
-some_at : (l : ℕ) (o : Option ℕ) → is_at l o ≡ true → o ≡ Some l
-some_at l None e = absurd (true≢false (sym e))
-some_at l (Some m) e = ap Some ((Decides-eqb m l).0 e)
-
-module _ (lasts : BTreeMap Grain ℕ) (by_last : BTreeSet (ℕ × Grain)) (tied : IsTied lasts by_last) where
-  all_notes : (ks : List (ℕ × Grain)) → AllByRecursion (λ k. contains time_cmp by_last k ≡ true) ks → AllByRecursion (λ (k : ℕ × Grain). get grain_cmp lasts k.1 ≡ Some k.0) ks
-  all_notes [] there = tt
-  all_notes (k ∷ ks) there = (some_at k.0 _ (sym (tied k.0 k.1) ∙ there.0), all_notes ks there.1)
-
-  -- the front holds what is due
-  pub front-holds : (age now : ℕ) → IsStrictlySortedBy time_cmp by_last.keys → AllByRecursion (λ k. contains time_cmp by_last k ≡ true) by_last.keys → HoldsDue (record { age = age; lasts = from_entries lasts.entries }) now (front age now by_last.keys)
-  front-holds age now sorted there q =
-      sym (count_is (eq_by_cmp grain_cmp q) (front age now by_last.keys))
-      ∙ due_once lasts age now q by_last tied sorted (all_notes by_last.keys there) (get grain_cmp lasts q) refl
-      ∙ ap (λ o. cond (is_due age now o) 1 0) (sym (get-lasts lasts.entries q))
+-- the front holds what is due
+pub front-holds : (es : List (Grain × (ℕ × ℕ))) (grain_at : ℕ → Option Grain) (ks : List (ℕ × ℕ)) → AreTied (λ g. lookup (grain_eq g) es) grain_at (λ p. list_any (λ k. is_eq (time_cmp p k)) ks)
+    → (age now : ℕ) → IsStrictlySortedBy time_cmp ks → AllByRecursion (λ p. list_any (λ k. is_eq (time_cmp p k)) ks ≡ true) ks → HoldsDue (record { age = age; lasts = from_entries (moments es) }) now (front grain_at age now ks)
+front-holds es grain_at ks tied age now sorted there q =
+    count-due (λ g. lookup (grain_eq g) es) grain_at (λ p. list_any (λ k. is_eq (time_cmp p k)) ks) tied age now q ks sorted there (λ p. refl)
+    ∙ ap (λ o. cond (is_due age now o) 1 0) (sym (get-lasts es q))

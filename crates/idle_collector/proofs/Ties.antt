@@ -1,143 +1,166 @@
--- The notes in the order of time stay tied to the notes by grain.
-use Rattle.std.proofs.Common.{◌≡◌, ℕ, Bool, true, false, ◌&&◌, ◌==◌, cond, Option, Some, None, refl, ap, sym, ◌∙◌, ◌≢◌}
-use Rattle.std.proofs.lemmas.Bool.Decides.{Decides-eqb}
+-- The notes, the places and the order of time stay tied through each change.
+use Rattle.std.proofs.Common.{◌≡◌, ◌≢◌, ℕ, ◌==◌, Bool, true, false, cond, Option, Some, None, refl, ap, sym, ◌∙◌}
 use Rattle.std.specs.declared.cmp.Ordering.{Ordering}
 use Rattle.std.specs.declared.cmp.Ordering.TheVariants.{Less, Equal, Greater}
-use Rattle.std.specs.Ordering.{nat_cmp, ordering_then, is_eq, eq_by_cmp}
-use Rattle.std.specs.Cmp.{unsigned_tied, Equal-is}
-use Rattle.std.specs.Map.{lookup}
-use Rattle.std.specs.BTreeMap.{BTreeMap, get}
-use Rattle.std.specs.BTreeSet.{BTreeSet, contains}
-use Rattle.grain_id.specs.Names.{Grain, grain_cmp}
-use Rattle.grain_id.proofs.Order.{grain_cmp_exact}
-use Rattle.idle_collector.specs.Ties.{time_cmp, is_at, IsTied}
+use Rattle.std.specs.Bool.{Decides}
+use Rattle.std.specs.Ordering.{nat_cmp, ordering_then, is_eq}
+use Rattle.std.specs.Cmp.{IsTotalOrder}
+use Rattle.std.proofs.lemmas.Cmp.{nat_cmp_total, on_total, then_total}
+use Rattle.std.proofs.lemmas.Bool.Decides.{Decides-eqb}
+use Rattle.std.specs.FinMap.{IsAntisymmetric, nat_cmp-IsAntisymmetric}
+use Rattle.grain_id.specs.Names.{Grain, grain_eq}
+use Rattle.grain_id.proofs.Order.{eq_by_cmp-Decides, grain_eq_decides}
+use Rattle.idle_collector.specs.Ties.{time_cmp, AreTied}
 
-both_tied : (a b : Ordering) → is_eq (ordering_then a b) ≡ is_eq a && is_eq b
-both_tied Less b = refl
-both_tied Equal b = refl
-both_tied Greater b = refl
+time_cmp_total : IsTotalOrder time_cmp
+time_cmp_total = then_total (on_total (λ p. p.0) nat_cmp_total) (on_total (λ p. p.1) nat_cmp_total)
 
--- one note: the same moment and the same grain
-pub time_test : (l m : ℕ) (x y : Grain) → is_eq (time_cmp (l, x) (m, y)) ≡ (l == m) && eq_by_cmp grain_cmp x y
-time_test l m x y = both_tied (nat_cmp l m) (grain_cmp x y) ∙ ap (λ b. b && eq_by_cmp grain_cmp x y) (unsigned_tied l m)
-
--- ---- what the tie says at one moment and one grain, e whether it's the grain that is changed
-
--- noted at `last`, and was noted at `last` or not at all
-pub at-noted : (last l : ℕ) (e : Bool) (o : Option ℕ) → (e ≡ true → cond (last == l) true (is_at l o) ≡ (last == l)) → cond ((last == l) && e) true (is_at l o) ≡ is_at l (cond e (Some last) o)
-at-noted last l true o h = by (last == l) h
+time_cmp_exact : IsAntisymmetric time_cmp
+time_cmp_exact p q e = by (nat_cmp p.0 q.0) refl e
   where
-    by : (b : Bool) → (true ≡ true → cond b true (is_at l o) ≡ b) → cond (b && true) true (is_at l o) ≡ b
-    by true h = refl
-    by false h = h refl
-at-noted last l false o h = by (last == l)
-  where
-    by : (b : Bool) → cond (b && false) true (is_at l o) ≡ is_at l o
-    by true = refl
-    by false = refl
+    by : (o : Ordering) → nat_cmp p.0 q.0 ≡ o → ordering_then o (nat_cmp p.1 q.1) ≡ Equal → p ≡ q
+    by Less f h = absurd cc
+    by Equal f h = λ i. (nat_cmp-IsAntisymmetric p.0 q.0 f i, nat_cmp-IsAntisymmetric p.1 q.1 h i)
+    by Greater f h = absurd cc
 
-same_or : (b : Bool) → cond b true b ≡ b
-same_or true = refl
-same_or false = refl
+-- one note: the same moment and the same place
+pub same_note : (p q : ℕ × ℕ) → Decides (is_eq (time_cmp p q)) (p ≡ q)
+same_note = eq_by_cmp-Decides time_cmp_total time_cmp_exact
 
-no_or : (b : Bool) → cond b true false ≡ b
-no_or true = refl
-no_or false = refl
+-- ---- tests and choices
 
-pub was_so : (last l : ℕ) (o : Option ℕ) → o ≡ Some last → cond (last == l) true (is_at l o) ≡ (last == l)
-was_so last l o e = ap (λ o. cond (last == l) true (is_at l o)) e ∙ same_or (last == l)
+pub refuted : {P : Type 0} (b : Bool) → Decides b P → (P → ⊥) → b ≡ false
+refuted true d h = absurd (h (d.0 refl))
+refuted false d h = refl
 
-pub was_none : (last l : ℕ) (o : Option ℕ) → o ≡ None → cond (last == l) true (is_at l o) ≡ (last == l)
-was_none last l o e = ap (λ o. cond (last == l) true (is_at l o)) e ∙ no_or (last == l)
+pub some_is : {X : Type 0} (x y : X) → Some x ≡ Some y → x ≡ y
+some_is x y e = cc
 
--- noted at `last` in place of another moment
-pub at-renoted : (before last l : ℕ) (e : Bool) (o : Option ℕ) → before ≢ last → (e ≡ true → o ≡ Some before)
-    → cond ((before == l) && e) false (cond ((last == l) && e) true (is_at l o)) ≡ is_at l (cond e (Some last) o)
-at-renoted before last l true o n h = ap (λ o. cond ((before == l) && true) false (cond ((last == l) && true) true (is_at l o))) (h refl) ∙ by (before == l) (last == l) refl refl
-  where
-    by : (a b : Bool) → (before == l) ≡ a → (last == l) ≡ b → cond (a && true) false (cond (b && true) true a) ≡ b
-    by true true p q = absurd (n ((Decides-eqb before l).0 p ∙ sym ((Decides-eqb last l).0 q)))
-    by true false p q = refl
-    by false true p q = refl
-    by false false p q = refl
-at-renoted before last l false o n h = by (before == l) (last == l)
-  where
-    by : (a b : Bool) → cond (a && false) false (cond (b && false) true (is_at l o)) ≡ is_at l o
-    by true true = refl
-    by true false = refl
-    by false true = refl
-    by false false = refl
+at_true : {X : Type 0} (b : Bool) (x y : X) → b ≡ true → cond b x y ≡ x
+at_true b x y e = ap (λ b. cond b x y) e
 
--- a note of a grain that wasn't noted is taken back
-pub at-refused : (last l : ℕ) (e : Bool) (o : Option ℕ) → (e ≡ true → o ≡ None) → cond ((last == l) && e) false (cond ((last == l) && e) true (is_at l o)) ≡ is_at l o
-at-refused last l true o h = by (last == l)
-  where
-    by : (b : Bool) → cond (b && true) false (cond (b && true) true (is_at l o)) ≡ is_at l o
-    by true = sym (ap (is_at l) (h refl))
-    by false = refl
-at-refused last l false o h = by (last == l)
-  where
-    by : (b : Bool) → cond (b && false) false (cond (b && false) true (is_at l o)) ≡ is_at l o
-    by true = refl
-    by false = refl
+at_false : {X : Type 0} (b : Bool) (x y : X) → b ≡ false → cond b x y ≡ y
+at_false b x y e = ap (λ b. cond b x y) e
 
--- forgotten
-pub at-forgotten : (gone l : ℕ) (e : Bool) (o : Option ℕ) → (e ≡ true → o ≡ Some gone) → cond ((gone == l) && e) false (is_at l o) ≡ is_at l (cond e None o)
-at-forgotten gone l true o h = ap (λ o. cond ((gone == l) && true) false (is_at l o)) (h refl) ∙ by (gone == l)
-  where
-    by : (b : Bool) → cond (b && true) false b ≡ false
-    by true = refl
-    by false = refl
-at-forgotten gone l false o h = by (gone == l)
-  where
-    by : (b : Bool) → cond (b && false) false (is_at l o) ≡ is_at l o
-    by true = refl
-    by false = refl
+either_true : (b c : Bool) → c ≡ true → cond b true c ≡ true
+either_true true c e = refl
+either_true false c e = e
 
--- ---- the tie after each change
+itself : (g : Grain) → grain_eq g g ≡ true
+itself g = (grain_eq_decides g g).1 refl
 
--- the set has this pair exactly if b is true, and each other as before
-abbrev pub Changes : BTreeSet (ℕ × Grain) → BTreeSet (ℕ × Grain) → ℕ → Grain → Bool → Type 0
-Changes old new last grain b = (q : ℕ × Grain) → contains time_cmp new q ≡ cond (is_eq (time_cmp (last, grain) q)) b (contains time_cmp old q)
+module _ {note_of later_note : Grain → Option (ℕ × ℕ)} {grain_at later_grain : ℕ → Option Grain} {stands later_stands : ℕ × ℕ → Bool} (tied : AreTied note_of grain_at stands) where
+  -- nothing changes
+  pub tied-same : ((g : Grain) → later_note g ≡ note_of g) → ((n : ℕ) → later_grain n ≡ grain_at n) → ((p : ℕ × ℕ) → later_stands p ≡ stands p) → AreTied later_note later_grain later_stands
+  tied-same a t l = record {
+    placed = λ g p e. t p.1 ∙ tied.placed g p (sym (a g) ∙ e);
+    entered = λ g p e. l p ∙ tied.entered g p (sym (a g) ∙ e);
+    noted = λ p e. let n = tied.noted p (sym (l p) ∙ e) in (n.0, t p.1 ∙ n.1, a n.0 ∙ n.2);
+  }
 
--- the map has this at the grain, and at each other what it had
-abbrev pub Moves : BTreeMap Grain ℕ → BTreeMap Grain ℕ → Grain → Option ℕ → Type 0
-Moves old new grain o = (q : Grain) → get grain_cmp new q ≡ cond (eq_by_cmp grain_cmp grain q) o (get grain_cmp old q)
+  -- a grain is noted that wasn't, at a place where none was
+  module _ (id : Grain) (last place : ℕ) (none : note_of id ≡ None) (vacant : grain_at place ≡ None)
+      (a : (g : Grain) → later_note g ≡ cond (grain_eq id g) (Some (last, place)) (note_of g))
+      (there : later_grain place ≡ Some id) (others : (n : ℕ) → n ≢ place → later_grain n ≡ grain_at n)
+      (l : (p : ℕ × ℕ) → later_stands p ≡ cond (is_eq (time_cmp (last, place) p)) true (stands p)) where
+    kept_place : (g : Grain) (p : ℕ × ℕ) → grain_at p.1 ≡ Some g → later_grain p.1 ≡ Some g
+    kept_place g p e = others p.1 (λ (one : p.1 ≡ place). let n : grain_at p.1 ≡ None = ap grain_at one ∙ vacant in cc) ∙ e
 
-pub changed : (old new : BTreeSet (ℕ × Grain)) (last : ℕ) (grain : Grain) (b : Bool) → Changes old new last grain b
-    → (l : ℕ) (g : Grain) → contains time_cmp new (l, g) ≡ cond ((last == l) && eq_by_cmp grain_cmp grain g) b (contains time_cmp old (l, g))
-changed old new last grain b u l g = u (l, g) ∙ ap (λ t. cond t b (contains time_cmp old (l, g))) (time_test last l grain g)
+    first_placed : (g : Grain) (p : ℕ × ℕ) (b : Bool) → grain_eq id g ≡ b → cond b (Some (last, place)) (note_of g) ≡ Some p → later_grain p.1 ≡ Some g
+    first_placed g p true t e = ap (λ q. later_grain q.1) (sym (some_is (last, place) p e)) ∙ there ∙ ap Some ((grain_eq_decides id g).0 t)
+    first_placed g p false t e = kept_place g p (tied.placed g p e)
 
--- what is found at a grain is found at what ties with it
-pub found_at : (m : BTreeMap Grain ℕ) (k g : Grain) (o : Option ℕ) → o ≡ get grain_cmp m k → eq_by_cmp grain_cmp k g ≡ true → get grain_cmp m g ≡ o
-found_at m k g o e t = ap (get grain_cmp m) (sym (grain_cmp_exact k g ((Equal-is (grain_cmp k g)).0 t))) ∙ sym e
+    first_entered : (g : Grain) (p : ℕ × ℕ) (b : Bool) → cond b (Some (last, place)) (note_of g) ≡ Some p → later_stands p ≡ true
+    first_entered g p true e = l p ∙ at_true _ true (stands p) ((same_note (last, place) p).1 (some_is (last, place) p e))
+    first_entered g p false e = l p ∙ either_true _ (stands p) (tied.entered g p e)
 
-module _ (lasts after : BTreeMap Grain ℕ) (old new : BTreeSet (ℕ × Grain)) (tied : IsTied lasts old) (id : Grain) (last : ℕ) (u : Changes old new last id true) where
-  -- the moment stays, or there was none
-  tied-kept : ((l : ℕ) (g : Grain) → eq_by_cmp grain_cmp id g ≡ true → cond (last == l) true (is_at l (get grain_cmp lasts g)) ≡ (last == l)) → Moves lasts after id (Some last) → IsTied after new
-  tied-kept h m l g =
-      changed old new last id true u l g
-      ∙ ap (cond ((last == l) && eq_by_cmp grain_cmp id g) true) (tied l g)
-      ∙ at-noted last l (eq_by_cmp grain_cmp id g) (get grain_cmp lasts g) (h l g)
-      ∙ ap (is_at l) (sym (m g))
+    first_noted : (p : ℕ × ℕ) (b : Bool) → is_eq (time_cmp (last, place) p) ≡ b → cond b true (stands p) ≡ true → (g : Grain) × (later_grain p.1 ≡ Some g) × (later_note g ≡ Some p)
+    first_noted p true t e =
+        let same = (same_note (last, place) p).0 t in
+        (id, ap (λ q. later_grain q.1) (sym same) ∙ there, a id ∙ at_true _ (Some (last, place)) (note_of id) (itself id) ∙ ap Some same)
+    first_noted p false t e =
+        let n = tied.noted p e in
+        (n.0, kept_place n.0 p n.1, a n.0 ∙ at_false _ (Some (last, place)) (note_of n.0) (refuted _ (grain_eq_decides id n.0) (λ (one : id ≡ n.0). let found : note_of id ≡ Some p = ap note_of one ∙ n.2 in cc)) ∙ n.2)
 
-  pub tied-same : Some last ≡ get grain_cmp lasts id → Moves lasts after id (Some last) → IsTied after new
-  tied-same e = tied-kept (λ l g t. was_so last l (get grain_cmp lasts g) (found_at lasts id g (Some last) e t))
+    pub tied-first : AreTied later_note later_grain later_stands
+    tied-first = record {
+      placed = λ g p e. first_placed g p (grain_eq id g) refl (sym (a g) ∙ e);
+      entered = λ g p e. first_entered g p (grain_eq id g) (sym (a g) ∙ e);
+      noted = λ p e. first_noted p (is_eq (time_cmp (last, place) p)) refl (sym (l p) ∙ e);
+    }
 
-  pub tied-first : None ≡ get grain_cmp lasts id → Moves lasts after id (Some last) → IsTied after new
-  tied-first e = tied-kept (λ l g t. was_none last l (get grain_cmp lasts g) (found_at lasts id g None e t))
+  -- a grain is forgotten, and its place left
+  module _ (id : Grain) (gone : ℕ × ℕ) (was : note_of id ≡ Some gone)
+      (a : (g : Grain) → later_note g ≡ cond (grain_eq id g) None (note_of g))
+      (vacated : later_grain gone.1 ≡ None) (others : (n : ℕ) → n ≢ gone.1 → later_grain n ≡ grain_at n)
+      (l : (p : ℕ × ℕ) → later_stands p ≡ cond (is_eq (time_cmp gone p)) false (stands p)) where
+    -- another grain has another place
+    apart : (g : Grain) (p : ℕ × ℕ) → grain_at p.1 ≡ Some g → grain_eq id g ≡ false → p.1 ≢ gone.1
+    apart g p e t one =
+        let same : id ≡ g = some_is id g (sym (tied.placed id gone was) ∙ ap grain_at (sym one) ∙ e) in
+        let f : grain_eq id g ≡ true = (grain_eq_decides id g).1 same in cc
 
-  module _ (left : BTreeSet (ℕ × Grain)) where
-    pub tied-other : (before : ℕ) → before ≢ last → Some before ≡ get grain_cmp lasts id → Changes new left before id false → Moves lasts after id (Some last) → IsTied after left
-    tied-other before n e v m l g =
-        changed new left before id false v l g
-        ∙ ap (cond ((before == l) && eq_by_cmp grain_cmp id g) false) (changed old new last id true u l g ∙ ap (cond ((last == l) && eq_by_cmp grain_cmp id g) true) (tied l g))
-        ∙ at-renoted before last l (eq_by_cmp grain_cmp id g) (get grain_cmp lasts g) n (found_at lasts id g (Some before) e)
-        ∙ ap (is_at l) (sym (m g))
+    -- and a note in the order of time that isn't the one that goes is another grain's
+    another : (p : ℕ × ℕ) (g : Grain) → note_of g ≡ Some p → is_eq (time_cmp gone p) ≡ false → grain_eq id g ≡ false
+    another p g e t = refuted _ (grain_eq_decides id g) (λ (one : id ≡ g).
+        let same : gone ≡ p = some_is gone p (sym was ∙ ap note_of one ∙ e) in
+        let f : is_eq (time_cmp gone p) ≡ true = (same_note gone p).1 same in cc)
 
-    pub tied-refused : None ≡ get grain_cmp lasts id → Changes new left last id false → after.entries ≡ lasts.entries → IsTied after left
-    tied-refused e v same l g =
-        changed new left last id false v l g
-        ∙ ap (cond ((last == l) && eq_by_cmp grain_cmp id g) false) (changed old new last id true u l g ∙ ap (cond ((last == l) && eq_by_cmp grain_cmp id g) true) (tied l g))
-        ∙ at-refused last l (eq_by_cmp grain_cmp id g) (get grain_cmp lasts g) (found_at lasts id g None e)
-        ∙ ap (λ es. is_at l (lookup (λ k. eq_by_cmp grain_cmp g k) es)) (sym same)
+    gone_placed : (g : Grain) (p : ℕ × ℕ) (b : Bool) → grain_eq id g ≡ b → cond b None (note_of g) ≡ Some p → later_grain p.1 ≡ Some g
+    gone_placed g p true t e = absurd cc
+    gone_placed g p false t e = others p.1 (apart g p (tied.placed g p e) t) ∙ tied.placed g p e
+
+    gone_entered : (g : Grain) (p : ℕ × ℕ) (b : Bool) → grain_eq id g ≡ b → cond b None (note_of g) ≡ Some p → later_stands p ≡ true
+    gone_entered g p true t e = absurd cc
+    gone_entered g p false t e =
+        l p ∙ at_false _ false (stands p) (refuted _ (same_note gone p) (λ (one : gone ≡ p). apart g p (tied.placed g p e) t (ap (λ q. q.1) (sym one)))) ∙ tied.entered g p e
+
+    gone_noted : (p : ℕ × ℕ) (b : Bool) → is_eq (time_cmp gone p) ≡ b → cond b false (stands p) ≡ true → (g : Grain) × (later_grain p.1 ≡ Some g) × (later_note g ≡ Some p)
+    gone_noted p true t e = absurd cc
+    gone_noted p false t e =
+        let n = tied.noted p e in
+        let other = another p n.0 n.2 t in
+        (n.0, others p.1 (apart n.0 p n.1 other) ∙ n.1, a n.0 ∙ at_false _ None (note_of n.0) other ∙ n.2)
+
+    pub tied-gone : AreTied later_note later_grain later_stands
+    tied-gone = record {
+      placed = λ g p e. gone_placed g p (grain_eq id g) refl (sym (a g) ∙ e);
+      entered = λ g p e. gone_entered g p (grain_eq id g) refl (sym (a g) ∙ e);
+      noted = λ p e. gone_noted p (is_eq (time_cmp gone p)) refl (sym (l p) ∙ e);
+    }
+
+-- ---- a noted grain gets another moment: it's forgotten, and noted at the place that it had
+
+same_choice : {X : Type 0} (b : Bool) (x y z : X) → cond b x (cond b y z) ≡ cond b x z
+same_choice true x y z = refl
+same_choice false x y z = refl
+
+choices_apart : (b c s : Bool) → (b ≡ true → c ≡ true → ⊥) → cond b false (cond c true s) ≡ cond c true (cond b false s)
+choices_apart true true s h = absurd (h refl refl)
+choices_apart true false s h = refl
+choices_apart false c s h = refl
+
+-- the grains by place, but for that of one place
+module _ (grain_at : ℕ → Option Grain) (place : ℕ) where
+  abbrev without : ℕ → Option Grain
+  without n = cond (place == n) None (grain_at n)
+
+  without-place : without place ≡ None
+  without-place = at_true (place == place) None (grain_at place) ((Decides-eqb place place).1 refl)
+
+  without-other : (n : ℕ) → n ≢ place → without n ≡ grain_at n
+  without-other n other = at_false (place == n) None (grain_at n) (refuted (place == n) (Decides-eqb place n) (λ (one : place ≡ n). other (sym one)))
+
+module _ {note_of later_note : Grain → Option (ℕ × ℕ)} {grain_at : ℕ → Option Grain} {stands later_stands : ℕ × ℕ → Bool} where
+  pub tied-moved : AreTied note_of grain_at stands → (id : Grain) (before last place : ℕ) → note_of id ≡ Some (before, place) → before ≢ last
+      → ((g : Grain) → later_note g ≡ cond (grain_eq id g) (Some (last, place)) (note_of g))
+      → ((p : ℕ × ℕ) → later_stands p ≡ cond (is_eq (time_cmp (before, place) p)) false (cond (is_eq (time_cmp (last, place) p)) true (stands p)))
+      → AreTied later_note grain_at later_stands
+  tied-moved tied id before last place was moves a l =
+      let gone : AreTied (λ g. cond (grain_eq id g) None (note_of g)) (without grain_at place) (λ p. cond (is_eq (time_cmp (before, place) p)) false (stands p)) =
+      tied-gone tied id (before, place) was (λ g. refl) (without-place grain_at place) (without-other grain_at place) (λ p. refl) in
+      tied-first gone id last place (at_true _ None (note_of id) (itself id)) (without-place grain_at place)
+      (λ g. a g ∙ sym (same_choice (grain_eq id g) (Some (last, place)) None (note_of g)))
+      (tied.placed id (before, place) was) (λ n other. sym (without-other grain_at place n other))
+      (λ p. l p ∙ choices_apart (is_eq (time_cmp (before, place) p)) (is_eq (time_cmp (last, place) p)) (stands p)
+      (λ e f. moves (ap (λ q. q.0) ((same_note (before, place) p).0 e ∙ sym ((same_note (last, place) p).0 f)))))

@@ -1,20 +1,19 @@
--- The notes in the order of time, beside the notes by grain.
-use Rattle.std.specs.Prelude.{◌≡◌, ℕ, ◌==◌, Bool, false, Option, Some, None}
+-- The notes by grain, the grains by place, and the order of time.
+use Rattle.std.specs.Prelude.{◌≡◌, ℕ, Bool, true, List, map, Option, Some}
 use Rattle.std.specs.Ordering.{nat_cmp, on, then_cmp}
 use Rattle.std.specs.declared.cmp.Ordering.{Ordering}
-use Rattle.std.specs.BTreeMap.{BTreeMap, get}
-use Rattle.std.specs.BTreeSet.{BTreeSet, contains}
-use Rattle.grain_id.specs.Names.{Grain, grain_cmp}
+use Rattle.grain_id.specs.Names.{Grain}
 
--- by time, then by grain
-abbrev pub time_cmp : ℕ × Grain → ℕ × Grain → Ordering
-time_cmp = then_cmp (on (λ p. p.0) nat_cmp) (on (λ p. p.1) grain_cmp)
+-- by moment, then by place
+abbrev pub time_cmp : ℕ × ℕ → ℕ × ℕ → Ordering
+time_cmp = then_cmp (on (λ p. p.0) nat_cmp) (on (λ p. p.1) nat_cmp)
 
--- the noted moment is this one
-abbrev pub is_at : ℕ → Option ℕ → Bool
-is_at last None = false
-is_at last (Some noted) = noted == last
+-- each grain with its moment, and without its place
+abbrev pub moments : List (Grain × (ℕ × ℕ)) → List (Grain × ℕ)
+moments entries = map (λ entry. (entry.0, entry.1.0)) entries
 
--- Each note stands in the order of time, and nothing else does.
-abbrev pub IsTied : BTreeMap Grain ℕ → BTreeSet (ℕ × Grain) → Type 0
-IsTied lasts by_last = (last : ℕ) (grain : Grain) → contains time_cmp by_last (last, grain) ≡ is_at last (get grain_cmp lasts grain)
+-- A note is a moment and a place. The grain of each note stands at its place, each note stands in the order of time, and nothing else does.
+pub record AreTied (note_of : Grain → Option (ℕ × ℕ)) (grain_at : ℕ → Option Grain) (stands : ℕ × ℕ → Bool) : Type 0 where
+  pub placed : (grain : Grain) (note : ℕ × ℕ) → note_of grain ≡ Some note → grain_at note.1 ≡ Some grain
+  pub entered : (grain : Grain) (note : ℕ × ℕ) → note_of grain ≡ Some note → stands note ≡ true
+  pub noted : (note : ℕ × ℕ) → stands note ≡ true → (grain : Grain) × (grain_at note.1 ≡ Some grain) × (note_of grain ≡ Some note)

@@ -62,3 +62,27 @@ fn due_grains_ascend_whatever_their_moments(rt: HostRuntime) -> Result<(), Fail>
     assert!(rt; three);
     Ok(())
 }
+
+#[test]
+fn notes_of_one_moment_stay_apart(rt: HostRuntime) -> Result<(), Fail> {
+    let alloc = rt.alloc();
+    let a = GrainId::read(alloc, "counter/red:a")?;
+    let b = GrainId::read(alloc, "counter/red:b")?;
+    let c = GrainId::read(alloc, "counter/red:c")?;
+    let mut collector = Collector::new(alloc, 0);
+    collector.note(b.clone()?, 7)?;
+    collector.note(a.clone()?, 7)?;
+    collector.note(b.clone()?, 7)?;
+    let both = are_due(alloc, &collector, 7, &["counter/red:a", "counter/red:b"])?;
+    assert!(rt; both);
+    collector.forget(&b);
+    collector.forget(&b);
+    collector.note(c, 7)?;
+    let others = are_due(alloc, &collector, 7, &["counter/red:a", "counter/red:c"])?;
+    assert!(rt; others);
+    collector.note(a.clone()?, 6)?;
+    collector.forget(&a);
+    let last = are_due(alloc, &collector, 7, &["counter/red:c"])?;
+    assert!(rt; last);
+    Ok(())
+}

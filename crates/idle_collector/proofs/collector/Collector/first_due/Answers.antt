@@ -2,25 +2,24 @@ use Rattle.std.proofs.Common.{◌≡◌, List, [], ◌++◌, ap, sym, ◌∙◌}
 use Rattle.std.proofs.lemmas.List.Elements.{recursion_from_All}
 use Rattle.std.proofs.lemmas.List.{append-nil}
 use Rattle.std.specs.BTreeSet.{contains}
+use Rattle.slab.specs.Slab.{get}
 use Rattle.grain_id.specs.Names.{Grain}
 use Rattle.idle_collector.specs.Ties.{time_cmp}
 use Rattle.idle_collector.proofs.Prefix.{front, front-stops, front-holds}
 use Rattle.idle_collector.proofs.collector.Collector.first_due.Goals as goal
 use Rattle.idle_collector.proofs.collector.Collector.first_due.Goals.{in-None, in-Some+then-unused-self}
 
-pub loop-last-init : goal.loop-last-init
-loop-last-init c = ap (λ (gs : List Grain). gs ++ front c.self.inside.age c.args.now c.into_iter-last-iterator.result) c.new-grains.ensures.items
-
 pub returns : goal.returns
 returns c =
     let inside = c.self.inside in
+    let first = front (get inside.grains) inside.age c.args.now in
     let there = recursion_from_All (λ k. contains time_cmp inside.by_last k ≡ _) inside.by_last.keys c.iter-last-items.ensures.found in
-    let holds = front-holds inside.lasts inside.by_last c.self.invariant inside.age c.args.now c.iter-last-items.ensures.ordered there in
-    let ended : front inside.age c.args.now c.loop-last.last-iterator ≡ [] = elim c.match-next.branch [
-      | in-None w ↦ ap (front inside.age c.args.now) w.in-None.ensures.steps.0
-      | in-Some+then-unused-self w ↦ ap (front inside.age c.args.now) w.in-Some.ensures.steps ∙ front-stops inside.age c.args.now w.in-Some.field-0.now c.next.new.self (rw (← w.saturating_sub-unused.ensures) w.if-unused-self.true)
+    let holds = front-holds inside.lasts.entries (get inside.grains) inside.by_last.keys c.self.invariant inside.age c.args.now c.iter-last-items.ensures.ordered there in
+    let ended : first c.loop-last.last-iterator ≡ [] = elim c.match-next.branch [
+      | in-None w ↦ ap first w.in-None.ensures.steps.0
+      | in-Some+then-unused-self w ↦ ap first w.in-Some.ensures.steps ∙ front-stops (get inside.grains) inside.age c.args.now w.in-Some.field-0.now c.next.new.self (rw (← w.saturating_sub-unused.ensures) w.if-unused-self.true)
     ] in
-    let same : c.loop-last.grains.items ≡ front inside.age c.args.now inside.by_last.keys =
+    let same : c.loop-last.grains.items ≡ first inside.by_last.keys =
     sym (append-nil c.loop-last.grains.items) ∙ ap (λ (gs : List Grain). c.loop-last.grains.items ++ gs) (sym ended) ∙ c.loop-last.invariant
-    ∙ ap (front inside.age c.args.now) (c.into_iter-last-iterator.ensures.into_iter_gives ∙ c.iter-last-items.ensures.rest) in
+    ∙ ap first (c.into_iter-last-iterator.ensures.into_iter_gives ∙ c.iter-last-items.ensures.rest) in
     rw (← c.self.view_is, same) holds
