@@ -54,7 +54,7 @@ no_place xs ys n d same = d.apart (same_left d.common d.left d.right (sym d.left
 -- ---- steps
 
 module _ (logic : Logic) where
-  done_then : (m reached : Machine) (before steps : List Step) → machine_all_done logic m before ≡ Some reached → machine_all_done logic m (before ++ steps) ≡ machine_all_done logic reached steps
+  pub done_then : (m reached : Machine) (before steps : List Step) → machine_all_done logic m before ≡ Some reached → machine_all_done logic m (before ++ steps) ≡ machine_all_done logic reached steps
   done_then m reached [] steps e = ap (λ x. machine_all_done logic x steps) (same_Some m reached e)
   done_then m reached (s ∷ before) steps e =
       let next = bound (λ x. machine_all_done logic x before) (machine_step logic m s) reached e in

@@ -106,7 +106,7 @@ no_difference logic journal w tenant leads records = (
 
 -- ---- rows that ascend
 
-is_less : (r : Ordering) → is_lt r ≡ true → r ≡ Less
+pub is_less : (r : Ordering) → is_lt r ≡ true → r ≡ Less
 is_less Less e = refl
 is_less Equal e = absurd (true≢false (sym e))
 is_less Greater e = absurd (true≢false (sym e))
@@ -125,12 +125,12 @@ ascend_after last (row ∷ rows) e =
     ((below, all_above last row.0 (keys_of rows) below rest.0), rest)
 
 -- each of the rows is above all before it
-ascend : (rows : List (Grain × Row)) → are_ascending None rows ≡ true → IsStrictlySortedBy grain_cmp (keys_of rows)
+pub ascend : (rows : List (Grain × Row)) → are_ascending None rows ≡ true → IsStrictlySortedBy grain_cmp (keys_of rows)
 unfolding IsStrictlySortedBy
 ascend [] e = tt
 ascend (row ∷ rows) e = ascend_after row.0 rows e
 
-keys_filter : (p : Grain → Bool) (rows : List (Grain × Row)) → keys_of (filter (λ row. p row.0) rows) ≡ filter p (keys_of rows)
+pub keys_filter : (p : Grain → Bool) (rows : List (Grain × Row)) → keys_of (filter (λ row. p row.0) rows) ≡ filter p (keys_of rows)
 keys_filter p [] = refl
 keys_filter p (row ∷ rows) = by_test (p row.0) (keys_filter p rows)
   where

@@ -88,7 +88,7 @@ above_first : {K X : Type 0} (R : K → K → Ordering) (k : K) (es : List (K ×
 above_first R k [] h = tt
 above_first R k (e ∷ es) h = let parts = both_true (is_lt (R k e.0)) (below_all R k es) h in (less (R k e.0) parts.0, above_first R k es parts.1)
 
-keys_ascend : {K X : Type 0} (R : K → K → Ordering) (es : List (K × X)) → T (is_sorted R es) → IsStrictlySortedBy R (map_list (λ e. e.0) es)
+pub keys_ascend : {K X : Type 0} (R : K → K → Ordering) (es : List (K × X)) → T (is_sorted R es) → IsStrictlySortedBy R (map_list (λ e. e.0) es)
 unfolding IsStrictlySortedBy
 keys_ascend R [] h = tt
 keys_ascend R (e ∷ es) h = let parts = both_true (below_all R e.0 es) (is_sorted R es) h in (above_first R e.0 es parts.0, keys_ascend R es parts.1)
