@@ -1,0 +1,13 @@
+mod Alone
+mod SiloJournal
+mod OneTable
+mod Steps
+mod Lists
+mod RowsApart
+mod Owners
+mod RepliesWalked
+mod RowsWalked
+mod FirstDifference
+mod Tables
+mod Lines
+mod Reports

@@ -1,0 +1,24 @@
+-- Reports of tenants, one after another.
+use Rattle.std.proofs.Common.{◌≡◌, ℕ, List, [], ◌∷◌, ◌++◌, All, map, ap, sym, ◌∙◌, subst}
+use Rattle.std.proofs.lemmas.List.{map-append}
+use Rattle.std.proofs.lemmas.List.Elements.{All-push}
+use Rattle.grain_kinds.specs.Logic.{Logic}
+use Rattle.tenant_audit.specs.Text.{History}
+use Rattle.silo_report.specs.Report.{TenantReport, IsTenantReport}
+use Rattle.journal_audit.specs.Reported.{tenant_report_of}
+use Rattle.journal_audit.specs.declared.report.TenantReport.{TenantReport as Reported}
+
+module _ (reports more : List Reported) (r : Reported) (pushed : more ≡ reports ++ r ∷ []) where
+  seen_more : map tenant_report_of more ≡ map tenant_report_of reports ++ tenant_report_of r ∷ []
+  seen_more = ap (map tenant_report_of) pushed ∙ map-append tenant_report_of reports (r ∷ [])
+
+  pub tenants_more : (names : List (List ℕ)) (tenant : List ℕ) → map (λ (s : TenantReport). s.tenant) (map tenant_report_of reports) ≡ names → r.tenant ≡ tenant → map (λ (s : TenantReport). s.tenant) (map tenant_report_of more) ≡ names ++ tenant ∷ []
+  tenants_more names tenant before is =
+      ap (map (λ (s : TenantReport). s.tenant)) seen_more
+      ∙ map-append (λ (s : TenantReport). s.tenant) (map tenant_report_of reports) (tenant_report_of r ∷ [])
+      ∙ ap (λ front. front ++ r.tenant ∷ []) before
+      ∙ ap (λ t. names ++ t ∷ []) is
+
+  pub each_more : (logic : Logic) (journal : History) → All (IsTenantReport logic journal) (map tenant_report_of reports) → IsTenantReport logic journal (tenant_report_of r) → All (IsTenantReport logic journal) (map tenant_report_of more)
+  each_more logic journal each one =
+      subst (All (IsTenantReport logic journal)) (sym seen_more) (All-push (IsTenantReport logic journal) (map tenant_report_of reports) (tenant_report_of r) each one)
