@@ -41,7 +41,7 @@ unfolding spread
 spread_elsewhere w owner place e g apart = get-elsewhere w.entries place e.entry g apart
 
 -- the entry of another grain was there
-was_there : (logic : Logic) (w after : Whole) (s : Step) (g : Grain) (o : Option (List ℕ)) → owner_of s ≡ o → whole_step logic w s ≡ Some after → is_among (grain_by_owner w s o) g ≡ false
+pub was_there : (logic : Logic) (w after : Whole) (s : Step) (g : Grain) (o : Option (List ℕ)) → owner_of s ≡ o → whole_step logic w s ≡ Some after → is_among (grain_by_owner w s o) g ≡ false
     → (e : Entry) → map.get after.entries g ≡ Some e → map.get w.entries g ≡ Some e
 was_there logic w after s g None is step apart e found = (shared_leaves w after s (sym (shared_by logic w s is) ∙ step)).entries g e found
 was_there logic w after s g (Some owner) is step apart e found =
@@ -58,7 +58,7 @@ work_stays logic w after s g step apart some = by_entry (map.get after.entries g
 
 -- ---- what is to be delivered
 
-delivers : (g : Grain) (account : Option Account) → is_some (delivery_of g account) ≡ has_sent g (sends_of account)
+pub delivers : (g : Grain) (account : Option Account) → is_some (delivery_of g account) ≡ has_sent g (sends_of account)
 delivers g None = refl
 delivers g (Some a) = mapped (λ found. Deliver g) (first_from g a.sends)
 
@@ -79,34 +79,42 @@ spread_accounts : (w : Whole) (owner : List ℕ) (place : Option Grain) (e : Eff
 unfolding spread
 spread_accounts w owner place e = refl
 
+module _ (logic : Logic) (w after : Whole) (s : Step) (step : whole_step logic w s ≡ Some after) (tenant : List ℕ) where
+  -- the owner's account is changed, and another's stays
+  changed_account : (owner : List ℕ) (is : owner_of s ≡ Some owner) → map.get after.accounts tenant ≡ map.get (change_at w.accounts owner (did logic w after s owner is step).what.account) tenant
+  changed_account owner is =
+      let d = did logic w after s owner is step in
+      ap (λ (x : Whole). map.get x.accounts tenant) (sym d.leaves) ∙ ap (λ accounts. map.get accounts tenant) (spread_accounts w owner (place_in w owner s) d.what)
+
+  pub account_stays : (owner : List ℕ) → owner_of s ≡ Some owner → eq_by_cmp text_cmp tenant owner ≡ false → map.get after.accounts tenant ≡ map.get w.accounts tenant
+  account_stays owner is apart =
+      changed_account owner is ∙ get-change_other text_cmp_total text_cmp_exact w.accounts owner tenant (did logic w after s owner is step).what.account apart
+
 -- of the owner's account nothing is sent that wasn't; another's stays
-sends_stay : (logic : Logic) (w after : Whole) (s : Step) (g : Grain) (o : Option (List ℕ)) → owner_of s ≡ o → whole_step logic w s ≡ Some after → is_among (sender_by s) g ≡ false
-    → has_sent g (sends_of (map.get after.accounts g.tenant)) ≡ true → has_sent g (sends_of (map.get w.accounts g.tenant)) ≡ true
-sends_stay logic w after s g None is step apart h = ap (λ accounts. has_sent g (sends_of (map.get accounts g.tenant))) (sym (shared_accounts w after s (sym (shared_by logic w s is) ∙ step))) ∙ h
-sends_stay logic w after s g (Some owner) is step apart h = by_tenant (eq_by_cmp text_cmp g.tenant owner) refl
+pub sends_stay : (logic : Logic) (w after : Whole) (s : Step) (g : Grain) (tenant : List ℕ) (o : Option (List ℕ)) → owner_of s ≡ o → whole_step logic w s ≡ Some after → is_among (sender_by s) g ≡ false
+    → has_sent g (sends_of (map.get after.accounts tenant)) ≡ true → has_sent g (sends_of (map.get w.accounts tenant)) ≡ true
+sends_stay logic w after s g tenant None is step apart h = ap (λ accounts. has_sent g (sends_of (map.get accounts tenant))) (sym (shared_accounts w after s (sym (shared_by logic w s is) ∙ step))) ∙ h
+sends_stay logic w after s g tenant (Some owner) is step apart h = by_tenant (eq_by_cmp text_cmp tenant owner) refl
   where
     d : Did logic w s owner after
     d = did logic w after s owner is step
-
-    changed : map.get after.accounts g.tenant ≡ map.get (change_at w.accounts owner d.what.account) g.tenant
-    changed = ap (λ (x : Whole). map.get x.accounts g.tenant) (sym d.leaves) ∙ ap (λ accounts. map.get accounts g.tenant) (spread_accounts w owner (place_in w owner s) d.what)
 
     fewer : has_sent g (sends_of (change_option (map.get w.accounts owner) d.what.account)) ≡ true → has_sent g (sends_of (map.get w.accounts owner)) ≡ true
     fewer = subst (λ account. has_sent g (sends_of (change_option account d.what.account)) ≡ true → has_sent g (sends_of account) ≡ true) (seen_account w owner (place_in w owner s))
         (effect_less logic (context_at (shown_to owner w) (place_in w owner s)) g d.what s apart d.does)
 
-    by_tenant : (b : Bool) → eq_by_cmp text_cmp g.tenant owner ≡ b → has_sent g (sends_of (map.get w.accounts g.tenant)) ≡ true
+    by_tenant : (b : Bool) → eq_by_cmp text_cmp tenant owner ≡ b → has_sent g (sends_of (map.get w.accounts tenant)) ≡ true
     by_tenant true tied =
-        let own : g.tenant ≡ owner = text_cmp_exact g.tenant owner ((Equal-is (text_cmp g.tenant owner)).0 tied) in
-        let there : map.get after.accounts g.tenant ≡ change_option (map.get w.accounts owner) d.what.account = changed
+        let own : tenant ≡ owner = text_cmp_exact tenant owner ((Equal-is (text_cmp tenant owner)).0 tied) in
+        let there : map.get after.accounts tenant ≡ change_option (map.get w.accounts owner) d.what.account = changed_account logic w after s step tenant owner is
         ∙ ap (map.get (change_at w.accounts owner d.what.account)) own
         ∙ get-change_same text_cmp_total text_cmp_exact w.accounts owner d.what.account in
         ap (λ t. has_sent g (sends_of (map.get w.accounts t))) own ∙ fewer (ap (λ o. has_sent g (sends_of o)) (sym there) ∙ h)
-    by_tenant false apart_too = ap (λ o. has_sent g (sends_of o)) (sym (changed ∙ get-change_other text_cmp_total text_cmp_exact w.accounts owner g.tenant d.what.account apart_too)) ∙ h
+    by_tenant false other = ap (λ o. has_sent g (sends_of o)) (sym (account_stays logic w after s step tenant owner is other)) ∙ h
 
 -- ---- the law
 
-or_by : (a b : Bool) → (b ≡ false → a ≡ true) → (a || b) ≡ true
+pub or_by : (a b : Bool) → (b ≡ false → a ≡ true) → (a || b) ≡ true
 or_by true b h = refl
 or_by false true h = refl
 or_by false false h = h refl
@@ -119,12 +127,12 @@ covers_grow logic w after s candidates step covers = record {
   senders = λ g h.
       list_any-append (λ x. grain_eq x g) candidates.senders (sender_by s)
       ∙ or_by (is_among candidates.senders g) (is_among (sender_by s) g)
-      (λ apart. covers.senders g (delivers g (map.get w.accounts g.tenant) ∙ sends_stay logic w after s g (owner_of s) refl step apart (sym (delivers g (map.get after.accounts g.tenant)) ∙ h)));
+      (λ apart. covers.senders g (delivers g (map.get w.accounts g.tenant) ∙ sends_stay logic w after s g g.tenant (owner_of s) refl step apart (sym (delivers g (map.get after.accounts g.tenant)) ∙ h)));
 }
 
 -- ---- where a silo opens
 
-none_there : (g : Grain) (o : Option Account) (limits : Option Limits) → o ≡ option_map fresh_account limits → is_some (delivery_of g o) ≡ true → false ≡ true
+pub none_there : (g : Grain) (o : Option Account) (limits : Option Limits) → o ≡ option_map fresh_account limits → is_some (delivery_of g o) ≡ true → false ≡ true
 none_there g o None is h = ap (λ x. is_some (delivery_of g x)) (sym is) ∙ h
 none_there g o (Some l) is h = ap (λ x. is_some (delivery_of g x)) (sym is) ∙ h
 
@@ -137,7 +145,7 @@ covers_begin logic setup = record {
 
 -- ---- a candidate at which nothing is to do is left out
 
-other_than : (P : Grain → Bool) (g h : Grain) (among : Bool) → P g ≡ false → P h ≡ true → (grain_eq g h || among) ≡ true → among ≡ true
+pub other_than : (P : Grain → Bool) (g h : Grain) (among : Bool) → P g ≡ false → P h ≡ true → (grain_eq g h || among) ≡ true → among ≡ true
 other_than P g h among none some listed = by_same (grain_eq g h) refl listed
   where
     by_same : (b : Bool) → grain_eq g h ≡ b → (b || among) ≡ true → among ≡ true

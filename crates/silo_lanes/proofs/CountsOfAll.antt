@@ -13,7 +13,10 @@ use Rattle.silo_event.specs.declared.step.Step.{Step}
 use Rattle.silo_model.specs.Machine.{Machine, Account, Entry, Entries, Request}
 use Rattle.silo_model.specs.Whole.{Whole, is_of, shown_to}
 use Rattle.silo_model.specs.Run.{concerns, restricted_to}
-use Rattle.silo_model.specs.Opening.{start_of}
+use Rattle.grain_kinds.specs.Logic.{Logic}
+use Rattle.grain_kinds.specs.Laws.{ReadersAskNothing}
+use Rattle.silo_model.specs.Opening.{Setup, start_of}
+use Rattle.silo_model.specs.Journal.{LeadsTo}
 use Rattle.silo_model.specs.Settled.{pending_at, all_pending}
 use Rattle.silo_model.proofs.Contexts.{get-own}
 use Rattle.grain_id.proofs.ByGrain.{get-part}
@@ -52,24 +55,41 @@ ids_struck client (s ∷ steps) = by_concern (concerns client.tenant s) refl (id
     by_concern true is rest = ap (λ ids. id_asked client (asking_of s) ++ ids) rest
     by_concern false is rest = rest ∙ ap (λ ids. ids ++ ids_asked client steps) (sym (apart_asks_nothing client s is))
 
+module _ (logic : Logic) (law : ReadersAskNothing logic) (setup : Setup) (journal : List Step) (w : Whole) (client : Client) (leads : LeadsTo logic setup journal w) where
+  abbrev one : Party → ℕ
+  one = weigh client (λ x. 1)
+
+  abbrev part : Machine
+  part = shown_to client.tenant w
+
+  -- what the client was told, and what of it waits or is open, are as much as it asked
+  client_balance : length (ids_told client w.replies) + pend (sent one) part.entries ≡ length (ids_asked client journal)
+  client_balance =
+      let start : Machine = start_of setup client.tenant in
+      let struck : List Step = restricted_to client.tenant journal in
+      let balance : replied one part.replies + pend (sent one) part.entries ≡ sum_by (asked_by one) struck = subst (λ (x : Machine). replied one x.replies + pend (sent one) x.entries ≡ sum_by (asked_by one) struck) (part_is_run logic setup journal w client.tenant leads)
+      (omega (arith, run_balance logic law one (weigh_quiet client (λ x. 1)) start struck (start_fair logic setup client.tenant), start_balance setup client.tenant one)) in
+      let asked : sum_by (asked_by one) struck ≡ length (ids_asked client journal) = sum_alike (asked_by one) (λ s. sum_by (λ x. 1) (id_asked client (asking_of s))) struck (asked_weight client (λ x. 1))
+      ∙ sym (sum_flat (λ x. 1) (λ s. id_asked client (asking_of s)) struck)
+      ∙ ap (sum_by (λ x. 1)) (ids_struck client journal)
+      ∙ sum_one (ids_asked client journal) in
+      let told : replied one part.replies ≡ length (ids_told client w.replies) = told_weight client (λ x. 1) part.replies
+      ∙ ap (λ replies. sum_by (λ x. 1) (ids_told client replies)) (shown_replies client.tenant w)
+      ∙ ap (sum_by (λ x. 1)) (told_shown client w.replies)
+      ∙ sum_one (ids_told client w.replies) in
+      omega (arith, balance, asked, told)
+
+  -- it was told no more often than it asked
+  pub told_within : length (ids_told client w.replies) ≤ length (ids_asked client journal)
+  told_within = omega (arith, client_balance)
+
 pub pending_by_counts : PendingByCounts
 pending_by_counts logic law setup journal w client leads =
     let f : Party → ℕ = weigh client (λ x. 1) in
     let m : Machine = shown_to client.tenant w in
-    let start : Machine = start_of setup client.tenant in
-    let struck : List Step = restricted_to client.tenant journal in
-    let balance : replied f m.replies + pend (sent f) m.entries ≡ sum_by (asked_by f) struck = subst (λ (x : Machine). replied f x.replies + pend (sent f) x.entries ≡ sum_by (asked_by f) struck) (part_is_run logic setup journal w client.tenant leads)
-    (omega (arith, run_balance logic law f (weigh_quiet client (λ x. 1)) start struck (start_fair logic setup client.tenant), start_balance setup client.tenant f)) in
-    let asked : sum_by (asked_by f) struck ≡ length (ids_asked client journal) = sum_alike (asked_by f) (λ s. sum_by (λ x. 1) (id_asked client (asking_of s))) struck (asked_weight client (λ x. 1))
-    ∙ sym (sum_flat (λ x. 1) (λ s. id_asked client (asking_of s)) struck)
-    ∙ ap (sum_by (λ x. 1)) (ids_struck client journal)
-    ∙ sum_one (ids_asked client journal) in
-    let told : replied f m.replies ≡ length (ids_told client w.replies) = told_weight client (λ x. 1) m.replies
-    ∙ ap (λ replies. sum_by (λ x. 1) (ids_told client replies)) (shown_replies client.tenant w)
-    ∙ ap (sum_by (λ x. 1)) (told_shown client w.replies)
-    ∙ sum_one (ids_told client w.replies) in (
-      λ none. omega (arith, balance, asked, told, none_pending client (λ x. 1) m none),
-      λ same. light_none client (all_pending m) (omega (arith, balance, asked, told, same, pending_weight (sent f) m)),
+    let balance = client_balance logic law setup journal w client leads in (
+      λ none. omega (arith, balance, none_pending client (λ x. 1) m none),
+      λ same. light_none client (all_pending m) (omega (arith, balance, same, pending_weight (sent f) m)),
     )
 
 -- ---- a silo that is quiet
@@ -81,13 +101,13 @@ no_items (x ∷ xs) e = absurd (omega (arith, e))
 all_weigh : (m : Machine) → pend (λ q. 1) m.entries ≡ length (all_pending m)
 all_weigh m = sym (pending_weight (λ q. 1) m) ∙ sum_one (all_pending m)
 
-one_weighs : (e : Entry) → length (pending_at e) ≡ held (λ q. 1) e
+pub one_weighs : (e : Entry) → length (pending_at e) ≡ held (λ q. 1) e
 one_weighs e = sym (sum_one (pending_at e)) ∙ sum_by-append (λ (q : Request). 1) e.queue (map.values e.turns)
 
-in_weighs : (w : Whole) → pending_in w ≡ pend (λ q. 1) w.entries
+pub in_weighs : (w : Whole) → pending_in w ≡ pend (λ q. 1) w.entries
 in_weighs w = sum_alike (λ e. length (pending_at e)) (held (λ q. 1)) (map.values w.entries) one_weighs
 
-zero_entries : (f : Entry → ℕ) (entries : Entries) → ((g : Grain) (e : Entry) → map.get entries g ≡ Some e → f e ≡ 0) → total f entries ≡ 0
+pub zero_entries : (f : Entry → ℕ) (entries : Entries) → ((g : Grain) (e : Entry) → map.get entries g ≡ Some e → f e ≡ 0) → total f entries ≡ 0
 zero_entries f entries none = total_alike grain_cmp_total f (λ e. 0) entries none ∙ sum_zero (map.values entries)
 
 shown_entry : (w : Whole) (g : Grain) (e : Entry) → map.get w.entries g ≡ Some e → map.get (shown_to g.tenant w).entries g ≡ Some e

@@ -26,7 +26,7 @@ pub one_on : {A : Type 0} (xs : List A) (x : A) (ys : List A) → (xs ++ x ∷ [
 one_on [] x ys = refl
 one_on (first ∷ xs) x ys = ap (λ rest. first ∷ rest) (one_on xs x ys)
 
-paced_more : (logic : Logic) (setup : Setup) (before journal : List Step) (s : Step)
+pub paced_more : (logic : Logic) (setup : Setup) (before journal : List Step) (s : Step)
     → paced_from logic setup before (journal ++ s ∷ []) ≡ (paced_from logic setup before journal && may_ask (machine_of logic setup (before ++ journal)) (asker_of s))
 paced_more logic setup before [] s = and_true _ ∙ ap (λ b. may_ask (machine_of logic setup b) (asker_of s)) (sym (append-nil before))
 paced_more logic setup before (r ∷ journal) s =

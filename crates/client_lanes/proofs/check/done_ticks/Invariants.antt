@@ -1,0 +1,10 @@
+use Rattle.std.proofs.Common.{◌≡◌, ◌++◌, length}
+use Rattle.std.specs.Prelude.{map as map_list}
+use Rattle.silo_lanes.specs.Lanes.{without_ticks_below}
+use Rattle.client_lanes.proofs.check.done_ticks.Given as goal
+
+abbrev pub invariant-steps : goal.invariant-steps
+invariant-steps l = map_list (λ s. s.now) l.done.items ++ without_ticks_below l.clock l.rest ≡ without_ticks_below 0 l.fn.steps
+
+abbrev pub decreases-steps : goal.decreases-steps
+decreases-steps l = length l.rest
