@@ -23,7 +23,7 @@ abbrev pub Gives : {Y : Type 0} → Result Y IdFault → Result Y IdFault → Ty
 Gives (Ok x) read = read ≡ Ok x
 Gives (Err e) read = Fails e read
 
--- What is true where a fault of the text is answered: want of memory says nothing of the text.
+-- What is true if a fault of the text is answered: that memory was refused says nothing of the text.
 abbrev pub IfFaulty : {Y : Type 0} → Result Y IdFault → Type 0 → Type 0
 IfFaulty (Ok x) said = Unit {0}
 IfFaulty (Err faults.Memory) said = Unit {0}

@@ -5,7 +5,7 @@ ghost use Rattle.grain_id.specs.declared.fault.IdFault.TheVariants as faults;
 
 use std::alloc::AllocError;
 
-/// The first part from the left that isn't well formed, or want of memory.
+/// The first part from the left that isn't well formed, or that memory was refused.
 #[derive(Clone, Copy, Debug, PartialEq, Eq)]
 pub enum IdFault {
     Kind,

@@ -23,6 +23,3 @@ pub use grain::GrainId;
 pub use kind::Kind;
 pub use lately::LatelyRead;
 pub use tenant::Tenant;
-
-#[cfg(test)]
-mod tests;

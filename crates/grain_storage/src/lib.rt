@@ -18,6 +18,3 @@ pub use fused::FusedStorage;
 pub use memory::MemoryStorage;
 pub use row::Row;
 pub use storage::GrainStorage;
-
-#[cfg(test)]
-mod tests;

@@ -11,6 +11,3 @@
 mod collector;
 
 pub use collector::Collector;
-
-#[cfg(test)]
-mod tests;

@@ -15,8 +15,6 @@ mod moment;
 mod refusal;
 mod reply;
 mod step;
-#[cfg(test)]
-mod tests;
 
 pub use copies::{copy_of_fault, copy_of_party, copy_of_reply, copy_of_step};
 pub use fault::Fault;

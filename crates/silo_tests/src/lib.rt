@@ -7,7 +7,13 @@
 #[cfg(test)]
 mod codec;
 #[cfg(test)]
+mod collector;
+#[cfg(test)]
 mod directory;
+#[cfg(test)]
+mod events;
+#[cfg(test)]
+mod gate;
 #[cfg(test)]
 mod journal_changes;
 #[cfg(test)]
@@ -18,5 +24,9 @@ mod journals;
 mod kinds;
 #[cfg(test)]
 mod mailbox;
+#[cfg(test)]
+mod names;
+#[cfg(test)]
+mod storage;
 #[cfg(test)]
 mod values;

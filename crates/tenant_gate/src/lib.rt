@@ -15,6 +15,3 @@ pub use age::{Age, MAX_AGE_MILLISECONDS, MIN_AGE_MILLISECONDS};
 pub use fault::{GateFault, TableFault};
 pub use limits::{Limits, MAX_ACTIVATIONS, MAX_MAILBOX, MAX_TENANTS};
 pub use table::TenantTable;
-
-#[cfg(test)]
-mod tests;

@@ -1,7 +1,7 @@
 //! Notes that are replaced and dropped, and the grains that are due between.
 
-use crate::Collector;
 use grain_id::GrainId;
+use idle_collector::Collector;
 use std::alloc::Global;
 use std::test::Fail;
 

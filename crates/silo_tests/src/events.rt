@@ -1,9 +1,11 @@
-use crate::{
+//! Steps, replies and faults: copies, owners, moments, and each code and text.
+
+use grain_id::{Caller, GrainId, Kind, Tenant};
+use request_codec::{Datum, SharedState, encode, encode_state};
+use silo_event::{
     Fault, Moment, Party, Refusal, Reply, Step, copy_of_fault, copy_of_party, copy_of_reply,
     copy_of_step,
 };
-use grain_id::{Caller, GrainId, Kind, Tenant};
-use request_codec::{Datum, SharedState, encode, encode_state};
 use std::alloc::Global;
 use std::process::Abort;
 use std::test::Fail;

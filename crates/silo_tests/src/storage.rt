@@ -1,7 +1,7 @@
 //! The versions of a row through writes, clearings and pokes, and the call that a fused storage fails.
 
-use crate::{FusedStorage, GrainStorage, MemoryStorage, Row, StoreFault};
 use grain_id::GrainId;
+use grain_storage::{FusedStorage, GrainStorage, MemoryStorage, Row, StoreFault};
 use request_codec::{CodecFault, StateBytes};
 use std::alloc::Global;
 use std::test::Fail;

@@ -1,9 +1,9 @@
 //! Tables of tenants, the order of their faults, and who may call whom.
 
-use crate::{Age, GateFault, Limits, TableFault, TenantTable};
 use grain_id::{GrainId, Tenant};
 use std::alloc::Global;
 use std::test::Fail;
+use tenant_gate::{Age, GateFault, Limits, TableFault, TenantTable};
 
 const LIMITS: Limits = Limits {
     activations: 2,

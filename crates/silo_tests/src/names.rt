@@ -1,10 +1,6 @@
-use crate::caller::Caller;
-use crate::fault::IdFault;
-use crate::grain::GrainId;
-use crate::kind::Kind;
-use crate::lately::LatelyRead;
-use crate::laws;
-use crate::tenant::Tenant;
+//! Names of kinds, tenants, clients and grains: their faults and lengths, as keys, and names read before.
+
+use grain_id::{Caller, GrainId, IdFault, Kind, LatelyRead, Tenant, laws};
 use std::alloc::{AllocError, Global};
 use std::cmp::Ordering;
 use std::collections::{BTreeMap, HashMap};
