@@ -22,7 +22,7 @@ pub fn is_null(argument: Node<'_>) -> bool
 }
 
 /// The whole number that a value is.
-fn integer_value(value: Node<'_>) -> Option<i64>
+pub fn integer_value(value: Node<'_>) -> Option<i64>
     ensures { result ≡ shared.integer_value (node_value value.entry) }
 {
     match value {
@@ -60,7 +60,7 @@ fn named<'a>(field: &Field<'a>, name: &str) -> Option<Node<'a>>
 }
 
 /// The value of the only field, if it has this name.
-fn only_field<'a>(argument: Node<'a>, name: &str) -> Option<Node<'a>>
+pub fn only_field<'a>(argument: Node<'a>, name: &str) -> Option<Node<'a>>
     ensures { option_map node_value result ≡ shared.only_field name.now (node_value argument.entry) }
 {
     let Node::Map(fields) = argument else {

@@ -6,7 +6,7 @@
 //! page of each.
 //!
 //! For a logic of one's own: `arguments` takes an argument apart, `shared` has the methods of every
-//! kind, and `length` says whether a value is too long for a state.
+//! kind, `length` says whether a value is too long for a state, and `state_of` writes a state.
 #![tactic(auto)]
 
 pub mod arguments;
@@ -29,3 +29,4 @@ pub use kinds::Kinds;
 pub use logic::GrainLogic;
 pub use plan::{Plan, Send, StoreCall};
 pub use turn::{FinishedTurn, OpenedTurn, run_turn};
+pub use writing::state_of;

@@ -18,8 +18,12 @@ use std::alloc::{AllocError, Global};
 use turn_arena::{Node, encode_call, encode_node};
 
 /// The state of a value that keeps the limits of one.
+///
+/// # Errors
+///
+/// Out of memory.
 #[tactic(auto, using(crate::proofs::Fits::formed_ascends))]
-pub(crate) fn state_of(alloc: Global, node: Node<'_>) -> Result<StateBytes, AllocError>
+pub fn state_of(alloc: Global, node: Node<'_>) -> Result<StateBytes, AllocError>
     requires { FitsState (node_value node) }
     ensures { IfOk result (λ state. state ≡ node_value node.entry) }
 {

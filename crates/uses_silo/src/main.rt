@@ -3,14 +3,14 @@
 
 use bumpalo::Bump;
 use grain_id::{Caller, GrainId, Tenant};
-use grain_kinds::{GrainLogic, MethodFault, Plan, StoreCall, run_turn};
+use grain_kinds::{GrainLogic, MethodFault, Plan, StoreCall, run_turn, state_of};
 use grain_storage::{GrainStorage, Row, StoreFault};
 use request_codec::{Datum, StateBytes, decode_state, encode, to_json};
 use silo_core::{Setup, Silo};
 use std::alloc::{AllocError, Global};
 use std::test::Fail;
 use tenant_gate::{Age, Limits, TenantTable};
-use turn_arena::{Node, encode_node};
+use turn_arena::Node;
 
 type NoteSilo = Silo<FullDisk, Notes>;
 
@@ -37,7 +37,7 @@ impl GrainLogic for Notes {
     }
 
     fn empty(&self, alloc: Global, _: &str) -> Result<StateBytes, AllocError> {
-        encode_node(alloc, Node::Null).map_err(|_| AllocError)
+        state_of(alloc, Node::Null)
     }
 
     fn plan<'a>(
