@@ -6,3 +6,4 @@ pub mod Argument
 pub mod Fields
 pub mod Slots
 pub mod Step
+pub mod Unread

@@ -1,6 +1,8 @@
 //! Why the quick reader has no step.
 
 ghost use Rattle.std.specs.Prelude.{◌≡◌};
+ghost use Rattle.line_parser.specs.Unread.{unread_of};
+ghost use Rattle.line_parser.specs.declared.unread.Unread.TheVariants as unread;
 
 use json::Invalid;
 use request_codec::CodecFault;
@@ -14,18 +16,24 @@ pub(crate) enum Unread {
 }
 
 impl From<AllocError> for Unread {
+    ghost from_gives = { λ _ why. why ≡ unread.Memory };
+
     fn from(_refused: AllocError) -> Unread {
         Unread::Memory
     }
 }
 
 impl From<Invalid> for Unread {
+    ghost from_gives = { λ _ why. why ≡ unread.Unusual };
+
     fn from(_invalid: Invalid) -> Unread {
         Unread::Unusual
     }
 }
 
 impl From<CodecFault> for Unread {
+    ghost from_gives = { λ fault why. why ≡ unread_of fault };
+
     fn from(fault: CodecFault) -> Unread {
         match fault {
             CodecFault::Memory => Unread::Memory,
