@@ -18,3 +18,4 @@ pub mod Stores
 pub mod AtRows
 pub mod Versions
 pub mod OpenTurns
+pub mod Works

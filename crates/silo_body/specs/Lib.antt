@@ -21,3 +21,4 @@ pub mod Versions
 pub mod Storing
 pub mod Status
 pub mod Undelivered
+pub mod Work

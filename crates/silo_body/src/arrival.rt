@@ -21,16 +21,11 @@ pub fn arrive(activation: &mut Activation, request: Request, clock: u64) -> Resu
     Ok(())
 }
 
-/// An activation that waits to be activated, with one request.
-pub fn first(
-    alloc: Global,
-    capacity: usize,
-    request: Request,
-    clock: u64,
-) -> Result<Activation, AllocError>
+/// An activation that waits to be activated, with one request. Its mailbox grows as more wait.
+pub fn first(alloc: Global, request: Request, clock: u64) -> Result<Activation, AllocError>
     ensures { IfOk result (λ a. IsFirst request clock a) }
 {
-    let mut mailbox = Mailbox::new(alloc, capacity)?;
+    let mut mailbox = Mailbox::new(alloc, 1)?;
     mailbox.make_room()?;
     match mailbox.push(request) {
         Ok(()) => {}

@@ -21,6 +21,7 @@ mod send;
 mod step;
 mod store;
 mod turn;
+mod work;
 
 /// All tenants' accounts, activations and rows, and the replies in the order in which they were made.
 /// The collector has notes of exactly the activations that are idle.

@@ -5,12 +5,41 @@ ghost use Rattle.silo_body.specs.Changes.{Starts, turn_at, mail_begun, open_at, 
 ghost use Rattle.silo_body.specs.Shown.{phase_of, entry_of};
 ghost use Rattle.silo_body.specs.Notes.{may_rest, is_idle};
 ghost use Rattle.silo_body.specs.Reads.{is_loading, is_quiet};
+ghost use Rattle.silo_body.specs.Work.{work_at};
 
 use activation_directory::{Activation, Phase};
 use grain_id::GrainId;
 use grain_kinds::OpenedTurn;
 use silo_event::{Answer, Party};
 use std::alloc::AllocError;
+
+/// What is to do with a grain's activation.
+#[derive(Clone, Copy, Debug, PartialEq, Eq)]
+pub enum Work {
+    /// It begins to load.
+    Activate,
+    /// It gets its state.
+    Load,
+    /// Its first waiting request becomes an open turn.
+    Begin,
+}
+
+/// What is to do with it, if anything is: at most one of the three is possible.
+pub fn possible_work(activation: &Activation) -> Option<Work>
+    ensures { result ≡ work_at activation.now.mailbox activation.now.phase }
+{
+    match activation.phase {
+        Phase::Waiting => Some(Work::Activate),
+        Phase::Loading => Some(Work::Load),
+        Phase::Ready { .. } => {
+            if activation.mailbox.may_begin() {
+                Some(Work::Begin)
+            } else {
+                None
+            }
+        }
+    }
+}
 
 /// It begins to load, if it waits.
 pub fn start(activation: &mut Activation) -> Answer

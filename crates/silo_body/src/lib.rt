@@ -24,3 +24,4 @@ mod values;
 mod version;
 
 pub use body::Body;
+pub use change::Work;

@@ -26,7 +26,7 @@ impl<L: GrainLogic> Activations<L> {
     }
 
     /// One request more waits at the grain, from this moment on. A grain that has no activation gets
-    /// one, whose mailbox has memory for `capacity` requests.
+    /// one, whose mailbox has memory for this request alone.
     ///
     /// # Errors
     ///
@@ -35,7 +35,6 @@ impl<L: GrainLogic> Activations<L> {
         &mut self,
         alloc: Global,
         grain: &GrainId,
-        capacity: usize,
         request: Request,
         clock: u64,
     ) -> Result<(), AllocError>
@@ -47,7 +46,7 @@ impl<L: GrainLogic> Activations<L> {
         if let Some(activation) = self.directory.get_mut(grain) {
             return arrival::arrive(activation, request, clock);
         }
-        let activation = arrival::first(alloc, capacity, request, clock)?;
+        let activation = arrival::first(alloc, request, clock)?;
         let Ok(()) = self.directory.insert(alloc, grain.clone()?, activation) else {
             return Err(AllocError);
         };

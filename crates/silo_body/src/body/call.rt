@@ -129,7 +129,6 @@ impl<S: GrainStorage, L: GrainLogic> Body<S, L> {
         let Some(account) = self.accounts.get(grain.tenant()) else {
             unreachable!()
         };
-        let capacity = account.limits().mailbox as usize;
         let request = Request {
             number: account.count() + 1,
             reading: self.logic.is_read(grain.kind(), message.method()),
@@ -137,7 +136,7 @@ impl<S: GrainStorage, L: GrainLogic> Body<S, L> {
             message,
         };
         self.activations
-            .wait(alloc, grain, capacity, request, self.clock.get())?;
+            .wait(alloc, grain, request, self.clock.get())?;
         self.collector.forget(grain);
         self.accounts.count_one(grain.tenant());
         Ok(())
