@@ -13,5 +13,7 @@ mod rows;
 mod setup;
 mod silo;
 
+pub use rows::stored_of;
 pub use setup::Setup;
 pub use silo::{RunReport, Silo};
+pub use silo_body::Work;

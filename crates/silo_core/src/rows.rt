@@ -8,6 +8,10 @@ use grain_storage::Row;
 use std::alloc::{AllocError, Global};
 
 /// The rows whose grains are the tenant's, in order.
+///
+/// # Errors
+///
+/// Out of memory.
 pub fn stored_of(
     alloc: Global,
     rows: Vec<(GrainId, Row)>,

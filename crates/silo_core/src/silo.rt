@@ -24,6 +24,7 @@ use tenant_gate::{Age, TenantTable};
 
 mod run;
 mod steps;
+mod work;
 
 pub use run::RunReport;
 

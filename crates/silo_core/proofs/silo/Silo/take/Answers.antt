@@ -1,4 +1,4 @@
-use Rattle.std.proofs.Common.{◌≡◌, List, [], ◌++◌, ap, ◌∙◌}
+use Rattle.std.proofs.Common.{◌≡◌, List, ◌++◌, ap, ◌∙◌}
 use Rattle.silo_event.specs.declared.step.Step.{Step}
 use Rattle.silo_core.specs.Shown.{setup_of}
 use Rattle.silo_core.specs.Runs.{noted}
