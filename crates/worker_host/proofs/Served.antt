@@ -1,0 +1,42 @@
+-- What serving promises, from what is looked at once the workers have ended.
+use Rattle.std.proofs.Common.{◌≡◌, ℕ, List, Some, sym, ◌∙◌}
+use Rattle.std.specs.FinMap as map
+use Rattle.std.proofs.lemmas.List.Elements.{All-weaker}
+use Rattle.grain_id.specs.Names.{Client}
+use Rattle.grain_kinds.specs.Logic.{Logic}
+use Rattle.grain_kinds.specs.Laws.{ReadersAskNothing}
+use Rattle.grain_storage.specs.Rows.{Rows}
+use Rattle.silo_event.specs.declared.reply.Reply.{Reply}
+use Rattle.silo_event.specs.declared.step.Step.{Step}
+use Rattle.silo_model.specs.Opening.{Setup, start_of}
+use Rattle.silo_model.specs.Run.{machine_run, restricted_to}
+use Rattle.silo_model.specs.Whole.{Whole, shown_to}
+use Rattle.silo_lanes.specs.Lanes.{Lane, LaneStands}
+use Rattle.silo_lanes.specs.Serving.{AreServed, IsAnswered}
+use Rattle.silo_lanes.proofs.LaneAnswers.{lanes_answered}
+use Rattle.silo_lanes.proofs.PacedGrowth.{part_is_run}
+use Rattle.silo_core.specs.History.{History}
+use Rattle.tenant_gate.specs.Table.{Table}
+use Rattle.worker_host.specs.Opened.{AreAnswered, AreCopies, IsOpenedSo}
+use Rattle.worker_host.specs.declared.report.Opened.{Opened}
+
+-- copies of what a silo was opened with, and of the setup: so the silo was opened with the setup
+module _ (opened : Opened) (h : History) (tenants : Table) (age : ℕ) (rows : Rows) (failures : ℕ) (so : IsOpenedSo opened h) (copies : AreCopies opened tenants age rows failures) where
+  pub setup_is : h.setup ≡ record { tenants = tenants; age = age; rows = rows }
+  setup_is =
+      let same_tenants = sym so.tenants_are ∙ copies.tenants_are in
+      let same_age = sym so.age_is ∙ copies.age_is in
+      let same_rows = map.same_entries_map h.setup.rows rows (sym so.rows_are ∙ copies.rows_are) in
+      λ i. record { tenants = same_tenants i; age = same_age i; rows = same_rows i }
+
+  pub failures_were : h.failures.at_opening ≡ failures
+  failures_were = sym so.failures_are ∙ copies.failures_are
+
+module _ (logic : Logic) (setup : Setup) (lanes : List Lane) (journal : List Step) (w : Whole) (failures : ℕ) (answers : List (List Reply)) (served : AreServed logic setup lanes journal w failures answers) where
+  pub all_answered : ReadersAskNothing logic → AreAnswered lanes w.replies
+  all_answered law =
+      All-weaker (λ (lane : Lane). LaneStands lane journal) (λ (lane : Lane). (client : Client) → lane.from ≡ Some client → IsAnswered lane client w.replies)
+      (λ lane stands client from. lanes_answered logic law setup lanes journal w failures answers served lane client stands from) lanes served.stand.each
+
+  pub parts_are_runs : (tenant : List ℕ) → shown_to tenant w ≡ machine_run logic (start_of setup tenant) (restricted_to tenant journal)
+  parts_are_runs tenant = sym (part_is_run logic setup journal w tenant served.leads)

@@ -1,0 +1,205 @@
+//! What stands under the lock: the silo, and the places in the lanes. The places are hints: what was
+//! served is looked at once, when the workers have ended.
+
+use crate::paced::PacedSilo;
+use client_lanes::Lane;
+use grain_id::{Caller, GrainId};
+use grain_kinds::{FinishedTurn, GrainLogic, OpenedTurn, StoreCall};
+use grain_storage::GrainStorage;
+use silo_event::{Answer, Party, Reply, Step, StepFault};
+use std::alloc::{AllocError, Global};
+use std::collections::{BTreeMap, VecDeque};
+
+/// What a worker does next.
+#[derive(Drop)]
+pub enum Task {
+    /// It runs the turn.
+    Turn(OpenedTurn),
+    /// It took a step, and looks on.
+    Again,
+    /// It waits until another worker changed something.
+    Wait,
+    /// It ends.
+    Over,
+}
+
+/// The silo with the places in the lanes.
+#[derive(Drop)]
+pub struct Board<S: GrainStorage, L: GrainLogic> {
+    silo: PacedSilo<S, L>,
+    /// How many steps of each lane were given.
+    places: Vec<usize>,
+    /// Which lane is a client's.
+    seats: BTreeMap<Caller, usize>,
+    /// The lanes that may give their next step.
+    ready: VecDeque<usize>,
+    /// How many replies were looked at.
+    seen: usize,
+    stopped: bool,
+}
+
+/// Puts the lanes behind the ready ones whose client was told something.
+fn note_told(
+    replies: &[Reply],
+    seats: &BTreeMap<Caller, usize>,
+    ready: &mut VecDeque<usize>,
+    seen: usize,
+) -> Result<usize, AllocError> {
+    let Some(new) = replies.get(seen..) else {
+        return Ok(replies.len());
+    };
+    for reply in new {
+        if let Party::Client(caller, _) = &reply.recipient {
+            if let Some(seat) = seats.get(caller) {
+                ready.push_back(*seat)?;
+            }
+        }
+    }
+    Ok(replies.len())
+}
+
+impl<S: GrainStorage + Drop, L: GrainLogic + Drop> Board<S, L> {
+    /// All lanes may give their first step.
+    ///
+    /// # Errors
+    ///
+    /// Out of memory.
+    pub fn new(
+        alloc: Global,
+        silo: PacedSilo<S, L>,
+        lanes: &[Lane],
+    ) -> Result<Board<S, L>, AllocError> {
+        let mut places = Vec::new(alloc);
+        let mut seats = BTreeMap::new(alloc);
+        let mut ready = VecDeque::new(alloc);
+        for (index, lane) in lanes.iter().enumerate() {
+            places.push(0)?;
+            ready.push_back(index)?;
+            if let Some(caller) = lane.from() {
+                seats.insert(caller.clone()?, index)?;
+            }
+        }
+        Ok(Board {
+            silo,
+            places,
+            seats,
+            ready,
+            seen: 0,
+            stopped: false,
+        })
+    }
+
+    /// The silo, or none if all was given up.
+    pub fn into_silo(self) -> Option<PacedSilo<S, L>> {
+        let Board { silo, stopped, .. } = self;
+        if stopped { None } else { Some(silo) }
+    }
+}
+
+impl<S: GrainStorage, L: GrainLogic> Board<S, L> {
+    /// Closes a turn by what it came to. If that fails, or there is nothing, the turn is abandoned; if
+    /// that fails too, all is given up.
+    pub fn close(&mut self, alloc: Global, finished: &Result<FinishedTurn<L>, OpenedTurn>) {
+        let closed = match finished {
+            Ok(finished) => self.close_by(alloc, finished).is_ok(),
+            Err(_) => false,
+        };
+        if closed {
+            return;
+        }
+        let opened = match finished {
+            Ok(finished) => finished.input(),
+            Err(opened) => opened,
+        };
+        if self.abandon(alloc, &opened.grain, opened.number).is_err() {
+            self.stopped = true;
+        }
+    }
+
+    /// Closes a turn by its plan.
+    fn close_by(&mut self, alloc: Global, finished: &FinishedTurn<L>) -> Result<Answer, StepFault> {
+        match finished.store_call() {
+            StoreCall::None => self.silo.end(alloc, finished),
+            _ => self.silo.store(alloc, finished),
+        }
+    }
+
+    /// Closes a turn that ran out of memory.
+    fn abandon(&mut self, alloc: Global, grain: &GrainId, turn: u64) -> Result<Answer, StepFault> {
+        let grain = grain.clone()?;
+        self.silo.take(alloc, Step::Abandon { grain, turn })
+    }
+
+    /// Whether another worker could do something now.
+    pub fn has_more(&self) -> bool {
+        self.stopped
+            || !self.ready.is_empty()
+            || self.seen < self.silo.replies().len()
+            || self.silo.may_have_todo()
+    }
+
+    /// Takes at most one step, and says what the worker does next. If memory is refused, all is given
+    /// up.
+    pub fn next(&mut self, alloc: Global, lanes: &[Lane]) -> Task {
+        if self.stopped {
+            return Task::Over;
+        }
+        match self.advance(alloc, lanes) {
+            Ok(task) => task,
+            Err(_) => {
+                self.stopped = true;
+                Task::Over
+            }
+        }
+    }
+
+    /// Takes at most one step: what is to do comes first, and then a lane's next step.
+    fn advance(&mut self, alloc: Global, lanes: &[Lane]) -> Result<Task, StepFault> {
+        match self.silo.todo()? {
+            Some(Step::Begin { grain }) => match self.silo.begin(alloc, grain)? {
+                Some(turn) => Ok(Task::Turn(turn)),
+                None => Ok(Task::Again),
+            },
+            Some(step) => {
+                self.silo.take(alloc, step)?;
+                Ok(Task::Again)
+            }
+            None => {
+                self.seen = note_told(
+                    self.silo.replies(),
+                    &self.seats,
+                    &mut self.ready,
+                    self.seen,
+                )?;
+                self.ask_next(alloc, lanes)
+            }
+        }
+    }
+
+    /// Gives a step of the lane that has been ready for longest.
+    fn ask_next(&mut self, alloc: Global, lanes: &[Lane]) -> Result<Task, StepFault> {
+        let Some(index) = self.ready.pop_front() else {
+            return Ok(if self.silo.is_quiet() {
+                Task::Over
+            } else {
+                Task::Wait
+            });
+        };
+        let (Some(lane), Some(place)) = (lanes.get(index), self.places.get(index).copied()) else {
+            return Ok(Task::Again);
+        };
+        let Some(step) = lane.steps().get(place) else {
+            return Ok(Task::Again);
+        };
+        self.silo.take(alloc, step.clone()?)?;
+        if let Some(at) = self.places.get_mut(index) {
+            *at = place.saturating_add(1);
+        }
+        if lane.from().is_none() {
+            let Ok(()) = self.ready.push_back(index) else {
+                return Err(StepFault::Memory);
+            };
+        }
+        Ok(Task::Again)
+    }
+}

@@ -1,0 +1,189 @@
+//! What serving answers, and what is looked at once the workers have ended.
+
+ghost use Rattle.std.specs.Prelude.{◌≡◌, ◌-◌, IfOk, IsTrue, OnOk, map as map_list};
+ghost use Rattle.silo_lanes.specs.Lanes.{AreDistinct};
+ghost use Rattle.silo_lanes.specs.Serving.{AreServed};
+ghost use Rattle.worker_host.specs.Opened.{AreAnswered, AreCopies, HasFailed, IsOpenedSo};
+
+use crate::board::Board;
+use client_lanes::{Lane, answers, failed_in, lanes_stand};
+use grain_id::{GrainId, Tenant};
+use grain_kinds::GrainLogic;
+use grain_storage::{GrainStorage, Row};
+use silo_core::{Setup, Silo};
+use silo_event::Reply;
+use std::alloc::{AllocError, Global};
+use tenant_gate::{Age, Limits};
+
+/// Why lanes weren't served.
+#[derive(Clone, Copy, Debug, PartialEq, Eq)]
+pub enum ServeFault {
+    /// Memory was refused.
+    Memory,
+    /// No thread could be started.
+    NoWorker,
+    /// What the workers left isn't what serving the lanes leaves.
+    Strayed,
+}
+
+impl From<AllocError> for ServeFault {
+    fn from(_refused: AllocError) -> ServeFault {
+        ServeFault::Memory
+    }
+}
+
+/// The silo after the last step, and for each lane the replies to its client, in order.
+#[derive(Drop)]
+pub struct ServeReport<S: GrainStorage, L: GrainLogic> {
+    pub silo: Silo<S, L>,
+    pub answers: Vec<Vec<Reply>>,
+}
+
+/// What a silo was opened with: copies that were made before the workers began.
+#[derive(Drop)]
+pub struct Opened {
+    pub tenants: Vec<(Tenant, Limits)>,
+    pub age: u64,
+    pub rows: Vec<(GrainId, Row)>,
+    pub failures: u64,
+}
+
+impl Opened {
+    /// What a silo is opened with, of this setup.
+    ///
+    /// # Errors
+    ///
+    /// Out of memory.
+    pub fn copied<S: GrainStorage, L: GrainLogic>(
+        alloc: Global,
+        setup: &Setup<S, L>,
+    ) -> Result<Opened, AllocError>
+        ensures { IfOk result (λ opened. AreCopies opened setup.now.tenants setup.now.age (S.rows setup.now.storage) (S.failed setup.now.storage)) }
+    {
+        let mut tenants = Vec::new(alloc);
+        let list = setup.tenants.list();
+        for (tenant, limits) in list {
+            tenants.push((tenant.clone()?, *limits))?;
+        }
+        Ok(Opened {
+            tenants,
+            age: setup.age.millis(),
+            rows: setup.storage.list(alloc)?,
+            failures: setup.storage.failures(),
+        })
+    }
+}
+
+/// Whether two lists have the same tenants with the same limits.
+fn same_tenants(list: &[(Tenant, Limits)], others: &[(Tenant, Limits)]) -> bool
+    ensures { IsTrue result → list.now ≡ others.now }
+{
+    let mut rest = list;
+    let mut left = others;
+    'tenants: while let Some((one, more)) = rest.split_first() {
+        let Some((other, fewer)) = left.split_first() else {
+            return false;
+        };
+        if one.0 != other.0 || one.1 != other.1 {
+            return false;
+        }
+        rest = more;
+        left = fewer;
+    }
+    left.is_empty()
+}
+
+/// Whether two rows are the same.
+fn same_row(row: &Row, other: &Row) -> bool
+    ensures { IsTrue result → row.now ≡ other.now }
+{
+    if row.version != other.version {
+        return false;
+    }
+    match (&row.content, &other.content) {
+        (Some(content), Some(another)) => *content == *another,
+        (None, None) => true,
+        _ => false,
+    }
+}
+
+/// Whether two lists have the same rows of the same grains.
+fn same_rows(rows: &[(GrainId, Row)], others: &[(GrainId, Row)]) -> bool
+    ensures { IsTrue result → rows.now ≡ others.now }
+{
+    let mut rest = rows;
+    let mut left = others;
+    'rows: while let Some((one, more)) = rest.split_first() {
+        let Some((other, fewer)) = left.split_first() else {
+            return false;
+        };
+        if one.0 != other.0 || !same_row(&one.1, &other.1) {
+            return false;
+        }
+        rest = more;
+        left = fewer;
+    }
+    left.is_empty()
+}
+
+/// Whether the silo was opened so.
+fn is_opened_so<S: GrainStorage, L: GrainLogic>(silo: &Silo<S, L>, opened: &Opened) -> bool
+    ensures { IsTrue result → IsOpenedSo opened.now silo.now }
+{
+    if silo.age() != opened.age {
+        return false;
+    }
+    if silo.opening_failures() != opened.failures {
+        return false;
+    }
+    if !same_tenants(opened.tenants.as_slice(), silo.tenants().list()) {
+        return false;
+    }
+    same_rows(opened.rows.as_slice(), silo.opening())
+}
+
+/// Whether as many of the journal's steps failed as calls of the storage did.
+fn failures_count<S: GrainStorage, L: GrainLogic>(silo: &Silo<S, L>) -> bool
+    ensures { IsTrue result → HasFailed silo.now }
+{
+    let failed = failed_in(silo.journal()) as u64;
+    let Some(sum) = silo.opening_failures().checked_add(failed) else {
+        return false;
+    };
+    sum == silo.failures()
+}
+
+/// Strayed, unless this holds.
+fn must_hold(holds: bool) -> Result<(), ServeFault>
+    ensures { OnOk result (IsTrue holds) }
+{
+    if holds {
+        Ok(())
+    } else {
+        Err(ServeFault::Strayed)
+    }
+}
+
+/// Looks once at what the workers left.
+pub fn settle<S: GrainStorage + Drop, L: GrainLogic + Drop>(
+    alloc: Global,
+    board: Board<S, L>,
+    opened: &Opened,
+    lanes: &[Lane],
+) -> Result<ServeReport<S, L>, ServeFault>
+    requires { AreDistinct lanes.now }
+    ensures opened { IfOk result (λ report. IsOpenedSo opened.now report.silo) }
+    ensures served { IfOk result (λ report. AreServed L.logic report.silo.setup lanes.now report.silo.journal report.silo.whole (report.silo.failures.now - report.silo.failures.at_opening) (map_list (λ v. v.items) report.answers.items)) }
+    ensures answered { IfOk result (λ report. AreAnswered lanes.now report.silo.whole.replies) }
+{
+    let Some(mut paced) = board.into_silo() else {
+        return Err(ServeFault::Memory);
+    };
+    must_hold(paced.is_quiet())?;
+    let silo = paced.into_silo();
+    must_hold(lanes_stand(alloc, lanes, silo.journal())?)?;
+    must_hold(is_opened_so(&silo, opened))?;
+    must_hold(failures_count(&silo))?;
+    let answers = answers(alloc, lanes, silo.replies())?;
+    Ok(ServeReport { silo, answers })
+}

@@ -1,0 +1,162 @@
+//! Serving lanes by threads.
+
+ghost use Rattle.std.specs.Prelude.{◌≡◌, ◌≤◌, ◌-◌, ℕ, List, IfOk, map as map_list};
+ghost use Rattle.silo_model.specs.Opening.{start_of};
+ghost use Rattle.silo_model.specs.Run.{machine_run, restricted_to};
+ghost use Rattle.silo_model.specs.Whole.{shown_to};
+ghost use Rattle.silo_lanes.specs.Lanes.{AreDistinct};
+ghost use Rattle.silo_lanes.specs.Serving.{AreServed};
+ghost use Rattle.worker_host.specs.Opened.{AreAnswered};
+
+use crate::board::{Board, Task};
+use crate::gate::TurnGate;
+use crate::paced::PacedSilo;
+use crate::report::{Opened, ServeFault, ServeReport, settle};
+use bumpalo::Bump;
+use client_lanes::Lane;
+use grain_kinds::{FinishedTurn, GrainLogic, OpenedTurn, run_turn};
+use grain_storage::GrainStorage;
+use silo_core::Setup;
+use silo_work::WatchedSilo;
+use std::alloc::Global;
+use std::sync::{Condvar, Mutex, Wait};
+use std::thread;
+use std::thread::Threads;
+
+/// Takes the lock, closes the worker's last turn, and holds the lock until there is another turn to run
+/// or nothing that can be done now. None if all is over.
+fn next_turn<'b, S: GrainStorage, L: GrainLogic, R: Wait>(
+    rt: &R,
+    alloc: Global,
+    board: &'b Mutex<Board<S, L>>,
+    changed: &Condvar,
+    lanes: &[Lane],
+    finished: &Option<Result<FinishedTurn<L>, OpenedTurn>>,
+) -> Option<OpenedTurn> {
+    let mut held = board.lock(rt);
+    if let Some(finished) = finished {
+        held.close(alloc, finished);
+    }
+    for _ in rt.forever() {
+        match held.next(alloc, lanes) {
+            Task::Turn(turn) => {
+                let wakes = held.has_more();
+                drop(held);
+                if wakes {
+                    changed.notify_one();
+                }
+                return Some(turn);
+            }
+            Task::Again => {}
+            Task::Wait => held = changed.wait(rt, held),
+            Task::Over => {
+                drop(held);
+                changed.notify_all();
+                return None;
+            }
+        }
+    }
+    unreachable!()
+}
+
+/// One worker, with an arena of its own.
+fn work<S: GrainStorage, L: GrainLogic + Drop, G: TurnGate, R: Wait>(
+    rt: &R,
+    alloc: Global,
+    board: &Mutex<Board<S, L>>,
+    changed: &Condvar,
+    lanes: &[Lane],
+    gate: &G,
+    logic: L,
+) {
+    let mut arena = Bump::new(alloc);
+    let mut finished = None;
+    for _ in rt.forever() {
+        let Some(turn) = next_turn(rt, alloc, board, changed, lanes, &finished) else {
+            break;
+        };
+        gate.entered(&turn.grain, turn.number);
+        finished = Some(run_turn(alloc, &arena, &logic, turn));
+        if arena.reset().is_err() {
+            arena = Bump::new(alloc);
+        }
+    }
+}
+
+/// Runs the workers in threads of a scope, and says whether one was started.
+fn run_workers<
+    'x,
+    S: GrainStorage + Send,
+    L: GrainLogic + Copy + Send,
+    G: TurnGate + Sync,
+    R: Threads + Wait + Sync,
+>(
+    rt: &'x R,
+    alloc: Global,
+    board: &'x Mutex<Board<S, L>>,
+    changed: &'x Condvar,
+    lanes: &'x [Lane],
+    workers: usize,
+    gate: &'x G,
+    logic: L,
+) -> bool {
+    thread::scope(thread::scope_env(), rt, |scope| {
+        let mut started = false;
+        for _ in 0..workers {
+            if scope
+                .spawn(move || work(rt, alloc, board, changed, lanes, gate, logic))
+                .is_ok()
+            {
+                started = true;
+            }
+        }
+        started
+    })
+}
+
+/// Serves the lanes by so many threads, 1 to 64, over one silo of the setup. A lane gives its next step
+/// when its last has its reply; a tick or a sweep, when it was applied.
+///
+/// # Errors
+///
+/// `Memory`; `NoWorker`, if no thread could be started; `Strayed`, if what the workers left isn't what
+/// serving the lanes leaves. The silo is then given up.
+pub fn serve<
+    S: GrainStorage + Drop + Send,
+    L: GrainLogic + Copy + Send,
+    G: TurnGate + Sync,
+    R: Threads + Wait + Sync,
+>(
+    rt: &R,
+    alloc: Global,
+    setup: Setup<S, L>,
+    lanes: &[Lane],
+    workers: usize,
+    gate: &G,
+) -> Result<ServeReport<S, L>, ServeFault>
+    requires workers { (1 ≤ workers) × (workers ≤ 64) }
+    requires distinct { AreDistinct lanes.now }
+
+    // The silo was opened with the setup's tenants, age and rows, as the storage was then.
+    ensures setup { IfOk result (λ report. report.silo.setup ≡ record { tenants = setup.tenants; age = setup.age; rows = S.rows setup.storage }) }
+    ensures failures { IfOk result (λ report. report.silo.failures.at_opening ≡ S.failed setup.storage) }
+
+    // The lanes were served.
+    ensures served { IfOk result (λ report. AreServed L.logic report.silo.setup lanes.now report.silo.journal report.silo.whole (report.silo.failures.now - report.silo.failures.at_opening) (map_list (λ v. v.items) report.answers.items)) }
+
+    // Each client was told as often as its lane asks, in the lane's order.
+    ensures answered { IfOk result (λ report. AreAnswered lanes.now report.silo.whole.replies) }
+
+    // Each tenant's part is the run of its own machine over the journal.
+    ensures parts { IfOk result (λ report. (tenant : List ℕ) → shown_to tenant report.silo.whole ≡ machine_run L.logic (start_of report.silo.setup tenant) (restricted_to tenant report.silo.journal)) }
+{
+    let opened = Opened::copied(alloc, &setup)?;
+    let logic = setup.logic;
+    let silo = PacedSilo::new(WatchedSilo::new(alloc, setup)?);
+    let board = Mutex::new(Board::new(alloc, silo, lanes)?);
+    let changed = Condvar::new();
+    if !run_workers(rt, alloc, &board, &changed, lanes, workers, gate, logic) {
+        return Err(ServeFault::NoWorker);
+    }
+    settle(alloc, board.into_inner(), &opened, lanes)
+}
