@@ -11,3 +11,6 @@ mod FirstDifference
 mod Tables
 mod Lines
 mod Reports
+mod Strided
+mod PartsMerged
+mod PartsGiven

@@ -1,10 +1,14 @@
 -- Reports of tenants, one after another.
 use Rattle.std.proofs.Common.{◌≡◌, ℕ, List, [], ◌∷◌, ◌++◌, All, map, ap, sym, ◌∙◌, subst}
+use mathlib.Core.List.{map-map}
 use Rattle.std.proofs.lemmas.List.{map-append}
-use Rattle.std.proofs.lemmas.List.Elements.{All-push}
+use Rattle.std.proofs.lemmas.List.Elements.{All-push, All-map}
+use Rattle.grain_kinds.specs.Kinds.{kinds}
 use Rattle.grain_kinds.specs.Logic.{Logic}
 use Rattle.tenant_audit.specs.Text.{History}
-use Rattle.silo_report.specs.Report.{TenantReport, IsTenantReport}
+use Rattle.silo_report.specs.Parts.{tenants_in}
+use Rattle.silo_report.specs.Report.{TenantReport, IsTenantReport, IsReport}
+use Rattle.journal_audit.specs.Parts.{AreReports}
 use Rattle.journal_audit.specs.Reported.{tenant_report_of}
 use Rattle.journal_audit.specs.declared.report.TenantReport.{TenantReport as Reported}
 
@@ -22,3 +26,7 @@ module _ (reports more : List Reported) (r : Reported) (pushed : more ≡ report
   pub each_more : (logic : Logic) (journal : History) → All (IsTenantReport logic journal) (map tenant_report_of reports) → IsTenantReport logic journal (tenant_report_of r) → All (IsTenantReport logic journal) (map tenant_report_of more)
   each_more logic journal each one =
       subst (All (IsTenantReport logic journal)) (sym seen_more) (All-push (IsTenantReport logic journal) (map tenant_report_of reports) (tenant_report_of r) each one)
+
+-- reports of a journal's tenants, in order, are the report of the journal
+pub report_of_each : (journal : History) (reports : List Reported) → map (λ (r : Reported). r.tenant) reports ≡ tenants_in journal → AreReports journal reports → IsReport kinds journal (map tenant_report_of reports)
+report_of_each journal reports names each = record { tenants = map-map (λ (s : TenantReport). s.tenant) tenant_report_of reports ∙ names; each = All-map (IsTenantReport kinds journal) tenant_report_of reports each }

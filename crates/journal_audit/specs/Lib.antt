@@ -5,3 +5,4 @@ pub mod Compared
 pub mod Reported
 pub mod Owners
 pub mod ReportText
+pub mod Parts

@@ -10,6 +10,7 @@ mod auditing;
 mod comparison;
 mod difference;
 mod machine;
+mod parts;
 mod replies;
 mod report;
 mod rows;
@@ -17,13 +18,13 @@ mod silo_journal;
 mod table;
 mod telling;
 mod tenants;
+mod threads;
 
 pub use auditing::audit;
 pub use difference::Difference;
 pub use machine::TenantMachine;
+pub use parts::AuditGate;
 pub use report::TenantReport;
 pub use silo_journal::write_journal;
 pub use telling::{has_difference, report_text};
-
-#[cfg(test)]
-mod tests;
+pub use threads::{AuditFault, MAX_WORKERS, audit_with};

@@ -1,11 +1,10 @@
 //! The machine of one tenant.
 
-ghost use Rattle.std.specs.Prelude.{◌≡◌, IfOk, IfSome, IsTrue, filter};
+ghost use Rattle.std.specs.Prelude.{◌≡◌, IfOk, IfSome, IsTrue};
 ghost use Rattle.std.specs.FinMap.{empty, entries};
 ghost use Rattle.tenant_gate.specs.Table.{are_in_range};
 ghost use Rattle.silo_model.specs.Opening.{start_of};
 ghost use Rattle.silo_model.specs.Run.{concerns};
-ghost use Rattle.silo_model.specs.Whole.{is_of};
 ghost use Rattle.journal_audit.specs.Machines.{start_with, StepAnswers, CanAnswer, Tells};
 
 use crate::table::table_for;
@@ -13,6 +12,7 @@ use grain_id::{GrainId, Tenant};
 use grain_kinds::GrainLogic;
 use grain_storage::{GrainStorage, MemoryStorage, Row};
 use silo_body::Body;
+use silo_core::stored_of;
 use silo_event::{Answer, Reply, Step, StepFault};
 use std::alloc::{AllocError, Global};
 use std::marker::Model;
@@ -117,7 +117,7 @@ impl<L: GrainLogic> TenantMachine<L> {
         ensures { IfOk result (λ list. list.items ≡ entries self.now.rows) }
     {
         let all = self.body.storage().list(alloc)?;
-        rows_of(alloc, all, &self.tenant)
+        stored_of(alloc, all, &self.tenant)
     }
 }
 
@@ -133,21 +133,4 @@ fn was_done(answer: Result<Answer, StepFault>) -> Result<bool, AllocError>
         Err(StepFault::Memory) => Err(AllocError),
         Err(StepFault::Stranger) => unreachable!(),
     }
-}
-
-/// The rows whose grains are the tenant's, in order.
-fn rows_of(
-    alloc: Global,
-    rows: Vec<(GrainId, Row)>,
-    tenant: &Tenant,
-) -> Result<Vec<(GrainId, Row)>, AllocError>
-    ensures { IfOk result (λ found. found.items ≡ filter (λ entry. is_of tenant.now entry.0) rows.items) }
-{
-    let mut found = Vec::new(alloc);
-    for entry in rows {
-        if entry.0.tenant() == tenant.text() {
-            found.push(entry)?;
-        }
-    }
-    Ok(found)
 }

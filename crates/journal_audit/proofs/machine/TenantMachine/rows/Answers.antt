@@ -11,10 +11,10 @@ pub returns : goal.returns
 unfolding shown_to
 returns g c =
     let tenant = c.self.inside.tenant in
-    IfOk-weaker c.rows_of.result _ _
+    IfOk-weaker c.stored_of.result _ _
     (λ found h.
     h
     ∙ ap (filter (λ entry. is_of tenant entry.0)) (c.in_ok-all.ensures ∙ ap map.entries c.storage.ensures.rows)
     ∙ sym (entries-retained c.self.inside.body.whole.rows (is_of tenant))
     ∙ ap (λ (m : Machine). map.entries m.rows) c.self.view_is)
-    c.rows_of.ensures
+    c.stored_of.ensures
