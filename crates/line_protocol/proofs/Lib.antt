@@ -9,3 +9,4 @@ pub mod OwnLines
 pub mod Unfailed
 pub mod Run
 pub mod ValueTexts
+pub mod Gathering

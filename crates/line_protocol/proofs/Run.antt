@@ -12,12 +12,13 @@ use Rattle.silo_model.specs.Run.{run_by, whole_run}
 use Rattle.silo_core.specs.History.{History}
 use Rattle.silo_core.specs.Runs.{Takes}
 use Rattle.silo_core.proofs.Runs.{taken_none, taken_one, taken_on}
-use Rattle.line_protocol.specs.Calls.{HasCause}
+use Rattle.line_protocol.specs.Calls.{HasCause, StopsReading}
 use Rattle.line_protocol.specs.Lines.{lines_of, onto, lines_limit}
 use Rattle.line_parser.specs.Meaning.{line_limit, meaning_of}
 use Rattle.line_protocol.specs.LineTexts.{whole_stepper, said_lines, steps_said, as_taken, lines_text}
 use Rattle.line_protocol.specs.LineRuns.{AnswersLine, AnswersSaid, AnswersLines, AnswersNext, LinesTaken, AnswersAll, StopsBefore, StopsAt, WrittenInPart, StopsAfter, StopsBy, MayTake, LineStopsBy}
 use Rattle.line_protocol.specs.declared.calls.ReaderCalls.{ReaderCalls}
+use Rattle.line_protocol.specs.declared.written.WriterCalls.{WriterCalls}
 use Rattle.line_protocol.specs.declared.fault.LineFault.{LineFault}
 use Rattle.line_protocol.specs.declared.fault.LineFault.TheVariants as fault
 use Rattle.line_parser.specs.declared.line.Line.{Line}
@@ -159,7 +160,7 @@ lines_answered logic count from left old new before after p = lines_own logic ol
 
 -- ---- the end of the input
 
-all_taken_here : (input ahead : List ℕ) (rest : Option (List ℕ)) (done : List (List ℕ)) → ahead ≡ [] → IsAtEnd rest → LinesTaken (Some input) (prepend_known ahead rest) done → (rest ≡ Some []) × (lines_of input ≡ done)
+pub all_taken_here : (input ahead : List ℕ) (rest : Option (List ℕ)) (done : List (List ℕ)) → ahead ≡ [] → IsAtEnd rest → LinesTaken (Some input) (prepend_known ahead rest) done → (rest ≡ Some []) × (lines_of input ≡ done)
 all_taken_here input ahead None done none end h = absurd h
 all_taken_here input ahead (Some bytes) done none end h = (ap Some end, h ∙ ap (λ l. done ++ lines_of l) (ap₂ (λ a b. a ++ b) none end) ∙ append-nil done)
 
@@ -240,12 +241,26 @@ stops_flushing logic count (Some input) (Some bytes) old new before after p =
     }
 
 -- while the next line is read, or memory is refused before
-pub stops_reading : (logic : Logic) (e : LineFault) (calls : ReaderCalls) (count : ℕ) (from left : Option (List ℕ)) (old new : History) (before after : Option (List ℕ)) → HasCause e calls
-    → LinesDone logic count from left old new before after → IfSome from (λ input. StopsBy logic e (lines_of input) calls old new before after)
-stops_reading logic fault.Read calls count from left old new before after cause p = for_reason from _ _ (λ input stops. (stops, cause)) (stops_before logic count from left old new before after p)
-stops_reading logic fault.TooMuch calls count from left old new before after cause p = for_reason from _ _ (λ input stops. (stops, inr cause)) (stops_before logic count from left old new before after p)
-stops_reading logic fault.Memory calls count from left old new before after cause p = stops_at logic count from left old new before after p
-stops_reading logic fault.Write calls count from left old new before after cause p = stops_flushing logic count from left old new before after p
+pub stops_reading : (logic : Logic) (e : LineFault) (calls : ReaderCalls) (writing : WriterCalls) (count : ℕ) (from left : Option (List ℕ)) (old new : History) (before after : Option (List ℕ)) → HasCause e calls writing
+    → LinesDone logic count from left old new before after → IfSome from (λ input. StopsBy logic e (lines_of input) calls writing old new before after)
+stops_reading logic fault.Read calls writing count from left old new before after cause p = for_reason from _ _ (λ input stops. (stops, cause)) (stops_before logic count from left old new before after p)
+stops_reading logic fault.TooMuch calls writing count from left old new before after cause p = for_reason from _ _ (λ input stops. (stops, inr cause)) (stops_before logic count from left old new before after p)
+stops_reading logic fault.Memory calls writing count from left old new before after cause p = stops_at logic count from left old new before after p
+stops_reading logic fault.Write calls writing count from left old new before after cause p = for_reason from _ _ (λ input stops. (stops, cause)) (stops_flushing logic count from left old new before after p)
+
+-- what ends reading has its cause
+pub cause_of_reading : (e : LineFault) (calls : ReaderCalls) (writing : WriterCalls) → StopsReading e calls → HasCause e calls writing
+cause_of_reading fault.Read calls writing cause = cause
+cause_of_reading fault.TooMuch calls writing cause = cause
+cause_of_reading fault.Memory calls writing cause = tt
+cause_of_reading fault.Write calls writing cause = absurd cause
+
+-- what failed to let out what was written has its cause
+pub cause_of_flushing : {T : Type 0} (e : LineFault) (calls : ReaderCalls) (writing : WriterCalls) → ◌≡◌ {A = Result T LineFault} (Err e) (Err fault.Write) → writing.failed ≡ true → HasCause e calls writing
+cause_of_flushing fault.Read calls writing is failed = absurd cc
+cause_of_flushing fault.TooMuch calls writing is failed = absurd cc
+cause_of_flushing fault.Memory calls writing is failed = tt
+cause_of_flushing fault.Write calls writing is failed = failed
 
 -- bytes that are there are some line
 onto_some : (b : ℕ) (lines : List (List ℕ)) → onto b lines ≢ []
@@ -256,16 +271,16 @@ first_some : (t : Bool) (b : ℕ) (lines : List (List ℕ)) → cond t ([] ∷ l
 first_some true b lines h = absurd cc
 first_some false b lines h = onto_some b lines h
 
-lines_some : (bytes : List ℕ) → 0 < length bytes → lines_of bytes ≢ []
+pub lines_some : (bytes : List ℕ) → 0 < length bytes → lines_of bytes ≢ []
 lines_some [] some h = absurd (omega arith)
 lines_some (b ∷ bytes) some h = first_some (b == 10) b (lines_of bytes) h
 
 -- there are more lines than an input may have
-pub stops_full : (logic : Logic) (calls : ReaderCalls) (count : ℕ) (from : Option (List ℕ)) (ahead : List ℕ) (rest : Option (List ℕ)) (old new : History) (before after : Option (List ℕ)) → count ≡ lines_limit → 0 < length ahead
-    → LinesDone logic count from (prepend_known ahead rest) old new before after → IfSome from (λ input. StopsBy logic fault.TooMuch (lines_of input) calls old new before after)
-stops_full logic calls count None ahead rest old new before after full some p = tt
-stops_full logic calls count (Some input) ahead None old new before after full some p = absurd p.taken
-stops_full logic calls count (Some input) ahead (Some bytes) old new before after full some p = (
+pub stops_full : (logic : Logic) (calls : ReaderCalls) (writing : WriterCalls) (count : ℕ) (from : Option (List ℕ)) (ahead : List ℕ) (rest : Option (List ℕ)) (old new : History) (before after : Option (List ℕ)) → count ≡ lines_limit → 0 < length ahead
+    → LinesDone logic count from (prepend_known ahead rest) old new before after → IfSome from (λ input. StopsBy logic fault.TooMuch (lines_of input) calls writing old new before after)
+stops_full logic calls writing count None ahead rest old new before after full some p = tt
+stops_full logic calls writing count (Some input) ahead None old new before after full some p = absurd p.taken
+stops_full logic calls writing count (Some input) ahead (Some bytes) old new before after full some p = (
   record {
     done = p.done;
     rest = lines_of (ahead ++ bytes);
@@ -327,15 +342,15 @@ stops_for_memory logic count (Some input) (Some bytes) (Some others) old mid new
         let all = line_more logic old mid new p.done l p.given p.text took_it.0 p.answers took_it.1 in
         (all.0, took_it.0, lines_own logic old new (p.done ++ l ∷ []) (p.given ++ all.0) (p.text ++ took_it.0) p.leads all.1)
 
-pub stops_answering : (logic : Logic) (e : LineFault) (calls : ReaderCalls) (count : ℕ) (from left next : Option (List ℕ)) (old mid new : History) (before during after : Option (List ℕ)) (l : List ℕ) (said : Line)
-    → LinesDone logic count from left old mid before during → LinesTaken left next (l ∷ []) → said ≡ meaning_of l → LineStopsBy logic e said mid new during after
-    → IfSome from (λ input. StopsBy logic e (lines_of input) calls old new before after)
-stops_answering logic fault.Read calls count from left next old mid new before during after l said p took e h = absurd h
-stops_answering logic fault.TooMuch calls count from left next old mid new before during after l said p took e h = absurd h
-stops_answering logic fault.Memory calls count from left next old mid new before during after l said p took e h =
+pub stops_answering : (logic : Logic) (e : LineFault) (calls : ReaderCalls) (writing : WriterCalls) (count : ℕ) (from left next : Option (List ℕ)) (old mid new : History) (before during after : Option (List ℕ)) (l : List ℕ) (said : Line)
+    → LinesDone logic count from left old mid before during → LinesTaken left next (l ∷ []) → said ≡ meaning_of l → LineStopsBy logic e said writing mid new during after
+    → IfSome from (λ input. StopsBy logic e (lines_of input) calls writing old new before after)
+stops_answering logic fault.Read calls writing count from left next old mid new before during after l said p took e h = absurd h
+stops_answering logic fault.TooMuch calls writing count from left next old mid new before during after l said p took e h = absurd h
+stops_answering logic fault.Memory calls writing count from left next old mid new before during after l said p took e h =
     stops_for_memory logic count from left next old mid new before after l (LinesDone-flushed logic count from left old mid before during after p h.1) took (subst (λ (s : Line). MayTake logic mid s new) e h.0)
-stops_answering logic fault.Write calls count from left next old mid new before during after l said p took e h =
-    stops_in_writing logic count from left next old mid new before during after l h.0 p took (subst (λ (s : Line). AnswersLine logic mid s new h.0) e h.1) h.2
+stops_answering logic fault.Write calls writing count from left next old mid new before during after l said p took e h =
+    for_reason from _ _ (λ input stops. (stops, h.1)) (stops_in_writing logic count from left next old mid new before during after l h.0.0 p took (subst (λ (s : Line). AnswersLine logic mid s new h.0.0) e h.0.1) h.0.2)
 
 -- what a `?` hands on
 pub handed_on : {T E : Type 0} (r : Result T E) (P : E → Type 0) (e : E) → r ≡ Err e → P e → IfErr r P

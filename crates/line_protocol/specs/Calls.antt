@@ -1,9 +1,10 @@
--- What a call of a reader comes to, and why reading ends with a fault.
+-- What a call of a reader comes to, and why reading ends with a fault, its writer's too.
 use Rattle.std.specs.Prelude.{◌≡◌, ◌≤◌, ℕ, Bool, true, false, List, length, take, Option}
 use Rattle.std.specs.Io.KnownBytes.{Keeps, Consumes, IsAtEnd}
 use Rattle.line_protocol.specs.declared.calls.Call.{Call}
 use Rattle.line_protocol.specs.declared.calls.Call.TheVariants.{Gave, Interrupted, Failed}
 use Rattle.line_protocol.specs.declared.calls.ReaderCalls.{ReaderCalls}
+use Rattle.line_protocol.specs.declared.written.WriterCalls.{WriterCalls}
 use Rattle.line_protocol.specs.declared.fault.LineFault.{LineFault}
 use Rattle.line_protocol.specs.declared.fault.LineFault.TheVariants as fault
 
@@ -22,9 +23,16 @@ Called old new buffer Failed = Keeps old new
 abbrev pub calls_limit : ℕ
 calls_limit = 1073741824
 
--- Reading fails only if the last call of the reader failed, and gives up only if all calls were made.
-abbrev pub HasCause : LineFault → ReaderCalls → Type 0
-HasCause fault.Read calls = calls.failed ≡ true
-HasCause fault.TooMuch calls = calls.made ≡ 1073741824
-HasCause fault.Memory calls = Unit {0}
-HasCause fault.Write calls = Unit {0}
+-- Reading fails only if the last call of the reader failed, and gives up only if all calls were made. No call of a writer is made.
+abbrev pub StopsReading : LineFault → ReaderCalls → Type 0
+StopsReading fault.Read calls = calls.failed ≡ true
+StopsReading fault.TooMuch calls = calls.made ≡ 1073741824
+StopsReading fault.Memory calls = Unit {0}
+StopsReading fault.Write calls = ⊥
+
+-- The same, and letting out what was written fails only if a call of the writer failed.
+abbrev pub HasCause : LineFault → ReaderCalls → WriterCalls → Type 0
+HasCause fault.Read calls writing = calls.failed ≡ true
+HasCause fault.TooMuch calls writing = calls.made ≡ 1073741824
+HasCause fault.Memory calls writing = Unit {0}
+HasCause fault.Write calls writing = writing.failed ≡ true

@@ -16,6 +16,7 @@ use Rattle.line_protocol.specs.LineTexts.{whole_stepper, machine_stepper, said_l
 use Rattle.line_parser.specs.declared.line.Line.{Line}
 use Rattle.line_parser.specs.declared.line.Line.TheVariants as line
 use Rattle.line_protocol.specs.declared.calls.ReaderCalls.{ReaderCalls}
+use Rattle.line_protocol.specs.declared.written.WriterCalls.{WriterCalls}
 use Rattle.line_protocol.specs.declared.fault.LineFault.{LineFault}
 use Rattle.line_protocol.specs.declared.fault.LineFault.TheVariants as fault
 
@@ -125,12 +126,12 @@ pub record StopsAfter (logic : Logic) (lines : List (List ℕ)) (old new : Histo
 abbrev pub IsFull : List (List ℕ) → List (List ℕ) → Type 0
 IsFull done rest = (length done ≡ lines_limit) × (rest ≢ [])
 
--- Why a run stops, by its fault: the last call of the reader failed; there were too many lines, or all calls of the reader were made; memory was refused; or the writer failed.
-abbrev pub StopsBy : Logic → LineFault → List (List ℕ) → ReaderCalls → History → History → Option (List ℕ) → Option (List ℕ) → Type 0
-StopsBy logic fault.Read lines calls old new before after = StopsBefore logic lines old new before after × (calls.failed ≡ true)
-StopsBy logic fault.TooMuch lines calls old new before after = (p : StopsBefore logic lines old new before after) × (IsFull p.done p.rest ⊎ (calls.made ≡ calls_limit))
-StopsBy logic fault.Memory lines calls old new before after = StopsAt logic lines old new before after
-StopsBy logic fault.Write lines calls old new before after = StopsAfter logic lines old new before after
+-- Why a run stops, by its fault: the last call of the reader failed; there were too many lines, or all calls of the reader were made; memory was refused; or a call of the writer failed.
+abbrev pub StopsBy : Logic → LineFault → List (List ℕ) → ReaderCalls → WriterCalls → History → History → Option (List ℕ) → Option (List ℕ) → Type 0
+StopsBy logic fault.Read lines calls writing old new before after = StopsBefore logic lines old new before after × (calls.failed ≡ true)
+StopsBy logic fault.TooMuch lines calls writing old new before after = (p : StopsBefore logic lines old new before after) × (IsFull p.done p.rest ⊎ (calls.made ≡ calls_limit))
+StopsBy logic fault.Memory lines calls writing old new before after = StopsAt logic lines old new before after
+StopsBy logic fault.Write lines calls writing old new before after = StopsAfter logic lines old new before after × (writing.failed ≡ true)
 
 -- ---- one line of a run
 
@@ -139,8 +140,8 @@ abbrev pub MayTake : Logic → History → Line → History → Type 0
 MayTake logic old said new = (new ≡ old) ⊎ ((text : List ℕ) × AnswersLine logic old said new text)
 
 -- by the fault that stopped one line
-abbrev pub LineStopsBy : Logic → LineFault → Line → History → History → Option (List ℕ) → Option (List ℕ) → Type 0
-LineStopsBy logic fault.Read said old new before after = ⊥
-LineStopsBy logic fault.TooMuch said old new before after = ⊥
-LineStopsBy logic fault.Memory said old new before after = MayTake logic old said new × Keeps before after
-LineStopsBy logic fault.Write said old new before after = (text : List ℕ) × AnswersLine logic old said new text × WrittenInPart before after text
+abbrev pub LineStopsBy : Logic → LineFault → Line → WriterCalls → History → History → Option (List ℕ) → Option (List ℕ) → Type 0
+LineStopsBy logic fault.Read said writing old new before after = ⊥
+LineStopsBy logic fault.TooMuch said writing old new before after = ⊥
+LineStopsBy logic fault.Memory said writing old new before after = MayTake logic old said new × Keeps before after
+LineStopsBy logic fault.Write said writing old new before after = ((text : List ℕ) × AnswersLine logic old said new text × WrittenInPart before after text) × (writing.failed ≡ true)

@@ -9,6 +9,7 @@
 mod answers;
 mod calls;
 mod fault;
+mod gather;
 mod line_reader;
 mod replies;
 mod runner;
@@ -18,7 +19,8 @@ mod written;
 
 pub use calls::ReaderCalls;
 pub use fault::LineFault;
+pub use gather::read_all;
 pub use line_reader::LineReader;
-pub use replies::reply_text;
+pub use replies::{refusal_text, reply_text};
 pub use runner::run_lines;
-pub use written::write_whole;
+pub use written::WriterCalls;

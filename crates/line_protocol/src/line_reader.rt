@@ -3,11 +3,12 @@
 ghost use Rattle.std.specs.Prelude.{◌≡◌, ◌≢◌, ℕ, List, ◌+◌, ◌-◌, ◌<◌, ◌≤◌, ◌⊎◌, [], ◌∷◌, ◌++◌, Ok, Err, None, Option, IfSome, IfOk, IfErr, OnOk, OnErr, length, take, slice_index, slice_range, vec_len, true, false};
 ghost use Rattle.std.specs.Io.KnownBytes.{Keeps, Consumes, IsAtEnd};
 ghost use Rattle.line_protocol.specs.LineRuns.{left_of, LinesTaken, HasNoBreak};
-ghost use Rattle.line_protocol.specs.Calls.{HasCause};
+ghost use Rattle.line_protocol.specs.Calls.{HasCause, StopsReading};
 ghost use Rattle.line_protocol.specs.Place.{IsInside, bytes_at};
 
 use crate::calls::{Call, ReaderCalls};
 use crate::fault::LineFault;
+use crate::written::WriterCalls;
 use line_parser::LINE_LIMIT;
 use memchr::memchr;
 use std::alloc::{AllocError, Global};
@@ -56,28 +57,18 @@ impl LineReader {
     }
 
     /// Whether there is a byte to take. Reads until there is one or the input ends; a read that is
-    /// interrupted is made again, and each counts. What was written goes out before, since a read may
-    /// wait.
-    pub(crate) fn fill<R: Read, W: Write>(
-        &mut self,
-        reader: &mut R,
-        writer: &mut W,
-    ) -> Result<bool, LineFault>
+    /// interrupted is made again, and each counts.
+    pub(crate) fn fill<R: Read>(&mut self, reader: &mut R) -> Result<bool, LineFault>
         ensures bytes { Keeps (left_of self.old.bytes.items self.old.start self.old.end (R.remaining reader.old))
             (left_of self.new.bytes.items self.new.start self.new.end (R.remaining reader.new)) }
-        ensures written { Keeps (W.contents writer.old) (W.contents writer.new) }
         ensures some { result ≡ Ok true → self.new.start < self.new.end }
         ensures none { result ≡ Ok false → (self.new.end ≤ self.new.start) × IsAtEnd (R.remaining reader.new) }
         ensures kept { self.old.start < self.old.end → self.new.calls.made ≡ self.old.calls.made }
         ensures counts { result ≡ Ok true → self.old.end ≤ self.old.start → self.old.calls.made < self.new.calls.made }
-        ensures fault { IfErr result (λ e. e ≢ LineFault.Memory) }
-        ensures cause { IfErr result (λ e. HasCause e self.new.calls) }
+        ensures cause { IfErr result (λ e. (e ≢ LineFault.Memory) × StopsReading e self.new.calls) }
     {
         if self.start < self.end {
             return Ok(true);
-        }
-        if writer.flush().is_err() {
-            return Err(LineFault::Write);
         }
         self.start = 0;
         self.end = 0;
@@ -121,12 +112,7 @@ impl LineReader {
     }
 
     /// Moves the next line, cut to one byte more than a line may have; `false` at the end.
-    fn move_line<R: Read, W: Write>(
-        &mut self,
-        reader: &mut R,
-        writer: &mut W,
-        line: &mut Vec<u8>,
-    ) -> Result<bool, LineFault>
+    fn move_line<R: Read>(&mut self, reader: &mut R, line: &mut Vec<u8>) -> Result<bool, LineFault>
         ensures line { result ≡ Ok true → (l : List ℕ) × (line.new.items ≡ take 65537 l)
             × LinesTaken (left_of self.old.bytes.items self.old.start self.old.end (R.remaining reader.old))
             (left_of self.new.bytes.items self.new.start self.new.end (R.remaining reader.new)) (l ∷ []) }
@@ -134,11 +120,10 @@ impl LineReader {
             → LinesTaken (left_of self.old.bytes.items self.old.start self.old.end (R.remaining reader.old))
             (left_of self.new.bytes.items self.new.start self.new.end (R.remaining reader.new)) []
             × (self.new.end ≤ self.new.start) × IsAtEnd (R.remaining reader.new) }
-        ensures written { Keeps (W.contents writer.old) (W.contents writer.new) }
-        ensures cause { IfErr result (λ e. HasCause e self.new.calls) }
+        ensures cause { IfErr result (λ e. StopsReading e self.new.calls) }
     {
         line.clear();
-        'pieces: while self.fill(reader, writer)? {
+        'pieces: while self.fill(reader)? {
             if self.take_ready(line)? {
                 return Ok(true);
             }
@@ -163,11 +148,38 @@ impl LineReader {
         Some((from, from + at))
     }
 
-    /// Takes the next line, where it lies if it can be; `None` at the end. What was written goes out
-    /// before a read that may wait.
-    pub(crate) fn next_line<R: Read, W: Write>(
+    /// Takes the next line, where it lies if it can be; `None` at the end.
+    pub(crate) fn next_line<R: Read>(
         &mut self,
         reader: &mut R,
+        line: &mut Vec<u8>,
+    ) -> Result<Option<Place>, LineFault>
+        ensures inside { IfOk result (λ found. IfSome found (λ place. IsInside place (vec_len self.new.bytes))) }
+        ensures line { IfOk result (λ found. IfSome found (λ place. (l : List ℕ)
+            × (take 65537 (bytes_at place self.new.bytes.items line.new.items) ≡ take 65537 l)
+            × LinesTaken (left_of self.old.bytes.items self.old.start self.old.end (R.remaining reader.old))
+            (left_of self.new.bytes.items self.new.start self.new.end (R.remaining reader.new)) (l ∷ []))) }
+        ensures end { result ≡ Ok None
+            → LinesTaken (left_of self.old.bytes.items self.old.start self.old.end (R.remaining reader.old))
+            (left_of self.new.bytes.items self.new.start self.new.end (R.remaining reader.new)) []
+            × (self.new.end ≤ self.new.start) × IsAtEnd (R.remaining reader.new) }
+        ensures cause { IfErr result (λ e. StopsReading e self.new.calls) }
+    {
+        if let Some((from, to)) = self.take_whole() {
+            return Ok(Some(Place::InBuffer(from, to)));
+        }
+        if self.move_line(reader, line)? {
+            Ok(Some(Place::Moved))
+        } else {
+            Ok(None)
+        }
+    }
+
+    /// Takes the next line. If that takes a read, which may wait, what was written goes out before.
+    pub(crate) fn next_flushed<R: Read, W: Write>(
+        &mut self,
+        reader: &mut R,
+        calls: &mut WriterCalls,
         writer: &mut W,
         line: &mut Vec<u8>,
     ) -> Result<Option<Place>, LineFault>
@@ -181,16 +193,14 @@ impl LineReader {
             (left_of self.new.bytes.items self.new.start self.new.end (R.remaining reader.new)) []
             × (self.new.end ≤ self.new.start) × IsAtEnd (R.remaining reader.new) }
         ensures written { Keeps (W.contents writer.old) (W.contents writer.new) }
-        ensures cause { IfErr result (λ e. HasCause e self.new.calls) }
+        ensures cause { IfErr result (λ e. HasCause e self.new.calls calls.new) }
+        ensures unfailed { OnOk result (calls.new.failed ≡ calls.old.failed) }
     {
         if let Some((from, to)) = self.take_whole() {
             return Ok(Some(Place::InBuffer(from, to)));
         }
-        if self.move_line(reader, writer, line)? {
-            Ok(Some(Place::Moved))
-        } else {
-            Ok(None)
-        }
+        calls.flush(writer)?;
+        self.next_line(reader, line)
     }
 
     /// The bytes of the line that was taken last.

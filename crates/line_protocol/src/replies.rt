@@ -169,6 +169,15 @@ pub fn reply_text(alloc: Global, reply: &Reply) -> Result<String, AllocError>
     Ok(text)
 }
 
+/// The line of a refusal, without its LF.
+pub fn refusal_text(alloc: Global, refusal: LineRefusal) -> Result<String, AllocError>
+    ensures { IfOk result (λ text. string_bytes text ≡ refusal_line refusal) }
+{
+    let mut text = String::new(alloc);
+    push_refusal(&mut text, refusal)?;
+    Ok(text)
+}
+
 /// Adds the line of a refusal, without its LF.
 pub(crate) fn push_refusal(text: &mut String, refusal: LineRefusal) -> Result<(), AllocError>
     ensures { OnOk result (string_bytes text.new ≡ string_bytes text.old ++ refusal_line refusal) }

@@ -1,44 +1,91 @@
-//! Text that is written whole, or in part.
+//! Calls of a writer: bytes that are written whole, or in part.
 
-ghost use Rattle.std.specs.Prelude.{◌≡◌, ◌≤◌, ◌++◌, ℕ, List, Err, IfOk, OnOk, OnErr, take, length};
+ghost use Rattle.std.specs.Prelude.{◌≡◌, ◌≤◌, ◌<◌, ◌+◌, ◌++◌, ℕ, List, Err, IfOk, OnOk, OnErr, take, length, true, false};
 ghost use Rattle.std.specs.Io.KnownBytes.{Appends, Keeps};
-ghost use Rattle.line_protocol.specs.LineRuns.{WrittenInPart};
 ghost use Rattle.line_protocol.specs.declared.fault.LineFault.TheVariants as fault;
 
 use crate::fault::LineFault;
 use std::io::{ErrorKind, Write};
 
-/// Writes bytes, of which there are some, and answers how many: none if the write was interrupted.
-/// One that takes none fails.
-fn write_some<W: Write>(writer: &mut W, bytes: &[u8]) -> Result<usize, LineFault>
-    ensures some { IfOk result (λ n. (n ≤ length bytes.now) × Appends (W.contents writer.old) (W.contents writer.new) (take n bytes.now)) }
-    ensures none { OnErr result (Keeps (W.contents writer.old) (W.contents writer.new)) }
-    ensures fault { OnErr result (result ≡ Err fault.Write) }
-{
-    match writer.write(bytes) {
-        Ok(0) => Err(LineFault::Write),
-        Ok(n) => Ok(n),
-        Err(e) => {
-            if e.kind() != ErrorKind::Interrupted {
-                return Err(LineFault::Write);
-            }
-            Ok(0)
-        }
-    }
+/// Whether a call of a writer failed, and how many were interrupted. Nothing else is a failure.
+#[derive(Drop)]
+pub struct WriterCalls {
+    failed: bool,
+    interrupted: u64,
+    ghost counted: { interrupted ≤ 18446744073709551615 },
 }
 
-/// Writes all of the bytes. A write that is interrupted is made again.
-pub fn write_whole<W: Write>(writer: &mut W, bytes: &[u8]) -> Result<(), LineFault>
-    ensures whole { OnOk result (Appends (W.contents writer.old) (W.contents writer.new) bytes.now) }
-    ensures part { OnErr result (WrittenInPart (W.contents writer.old) (W.contents writer.new) bytes.now) }
-    ensures fault { OnErr result (result ≡ Err fault.Write) }
-{
-    let mut rest = bytes;
-    for _ in 0..u64::MAX {
-        if rest.is_empty() {
+impl WriterCalls {
+    ghost use Rattle.line_protocol.specs.LineRuns.{WrittenInPart};
+
+    /// No call was made yet.
+    pub fn none() -> WriterCalls
+        ensures failed { result.failed ≡ false }
+        ensures interrupted { result.interrupted ≡ 0 }
+    {
+        WriterCalls {
+            failed: false,
+            interrupted: 0,
+        }
+    }
+
+    /// Writes bytes, of which there are some, and answers how many: none if the write was interrupted.
+    /// One that takes none fails, and so does an interrupted one after `u64::MAX` of them.
+    fn write_some<W: Write>(&mut self, writer: &mut W, bytes: &[u8]) -> Result<usize, LineFault>
+        ensures some { IfOk result (λ n. (n ≤ length bytes.now) × Appends (W.contents writer.old) (W.contents writer.new) (take n bytes.now)) }
+        ensures none { OnErr result (Keeps (W.contents writer.old) (W.contents writer.new)) }
+        ensures unfailed { OnOk result (self.new.failed ≡ self.old.failed) }
+        ensures fault { OnErr result ((result ≡ Err fault.Write) × (self.new.failed ≡ true)) }
+
+        // A write that isn't interrupted takes some bytes.
+        ensures onward { IfOk result (λ n. self.old.interrupted < self.new.interrupted + n) }
+    {
+        match writer.write(bytes) {
+            Ok(0) => {}
+            Ok(n) => return Ok(n),
+            Err(e) => {
+                if e.kind() == ErrorKind::Interrupted && self.interrupted < u64::MAX {
+                    self.interrupted += 1;
+                    return Ok(0);
+                }
+            }
+        }
+        self.failed = true;
+        Err(LineFault::Write)
+    }
+
+    /// Writes all of the bytes. A write that is interrupted is made again.
+    ///
+    /// # Errors
+    ///
+    /// `Write` if a write failed or took none, and only then. Of the bytes a beginning was written.
+    pub fn write_whole<W: Write>(&mut self, writer: &mut W, bytes: &[u8]) -> Result<(), LineFault>
+        ensures whole { OnOk result (Appends (W.contents writer.old) (W.contents writer.new) bytes.now) }
+        ensures part { OnErr result (WrittenInPart (W.contents writer.old) (W.contents writer.new) bytes.now) }
+        ensures unfailed { OnOk result (self.new.failed ≡ self.old.failed) }
+        ensures fault { OnErr result ((result ≡ Err fault.Write) × (self.new.failed ≡ true)) }
+    {
+        let mut rest = bytes;
+        'writes: while !rest.is_empty() {
+            rest = &rest[self.write_some(writer, rest)?..];
+        }
+        Ok(())
+    }
+
+    /// Lets out what was written.
+    ///
+    /// # Errors
+    ///
+    /// `Write` if the flush failed, and only then.
+    pub fn flush<W: Write>(&mut self, writer: &mut W) -> Result<(), LineFault>
+        ensures kept { Keeps (W.contents writer.old) (W.contents writer.new) }
+        ensures unfailed { OnOk result (self.new.failed ≡ self.old.failed) }
+        ensures fault { OnErr result ((result ≡ Err fault.Write) × (self.new.failed ≡ true)) }
+    {
+        if writer.flush().is_ok() {
             return Ok(());
         }
-        rest = &rest[write_some(writer, rest)?..];
+        self.failed = true;
+        Err(LineFault::Write)
     }
-    Err(LineFault::Write)
 }

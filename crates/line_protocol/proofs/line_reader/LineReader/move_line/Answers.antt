@@ -1,7 +1,7 @@
 use Rattle.std.proofs.Common.{◌≡◌, ◌<◌, ◌++◌, [], Ok, length, take, slice_range, ap, subst, ◌∙◌, arith, length-take, vec_len}
 use Rattle.std.proofs.lemmas.List.{nil_from_length}
 use Rattle.std.specs.Io.KnownBytes.{Consumes}
-use Rattle.std.proofs.KnownBytes.{Consumes-kept, Keeps-trans}
+use Rattle.std.proofs.KnownBytes.{Consumes-kept}
 use Rattle.line_protocol.proofs.Pieces.{some_unless, take_again, slice_range_empty}
 use Rattle.line_protocol.proofs.LinesOfBytes.{HasNoBreak-append, IsAtEnd-left, LinesTaken-last, LinesTaken-none, step_broken, step_whole}
 use Rattle.line_protocol.proofs.line_reader.LineReader.move_line.Goals as goal
@@ -29,7 +29,6 @@ pieces-preserved g c =
       HasNoBreak-append inv.0 whole inv.1 w.1,
       w.2 ∙ ap (λ l. take 65537 (l ++ whole)) inv.2 ∙ take_again 65537 inv.0 whole,
       step_whole _ _ inv.0 _ whole _ inv.3 c.in_ok-fill.ensures.bytes (slice_range_empty n.bytes.items n.start n.end w.0),
-      Keeps-trans _ _ _ inv.4 c.in_ok-fill.ensures.written,
     )
 
 pub returns-clause-line : goal.returns-clause-line
@@ -57,20 +56,3 @@ returns-then-is_empty-clause-end g c ok =
       e.0,
       e.1,
     )
-
--- what was written is kept
-
-pub returns-in_err-fill-clause-written : goal.returns-in_err-fill-clause-written
-returns-in_err-fill-clause-written g c = Keeps-trans _ _ _ c.pieces.invariant.4 c.in_err-fill.ensures.written
-
-pub returns-in_err-take_ready-clause-written : goal.returns-in_err-take_ready-clause-written
-returns-in_err-take_ready-clause-written g c = Keeps-trans _ _ _ c.pieces.invariant.4 c.in_ok-fill.ensures.written
-
-pub returns-then-branch-2-clause-written : goal.returns-then-branch-2-clause-written
-returns-then-branch-2-clause-written g c = Keeps-trans _ _ _ c.pieces.invariant.4 c.in_ok-fill.ensures.written
-
-pub returns-then-is_empty-clause-written : goal.returns-then-is_empty-clause-written
-returns-then-is_empty-clause-written g c = Keeps-trans _ _ _ c.pieces.invariant.4 c.in_ok-fill.ensures.written
-
-pub returns-clause-written : goal.returns-clause-written
-returns-clause-written g c = Keeps-trans _ _ _ c.pieces.invariant.4 c.in_ok-fill.ensures.written

@@ -1,5 +1,5 @@
 use Rattle.std.proofs.Common.{◌≡◌, ◌+◌, ◌-◌, ◌*◌, min, ℕ, List, take}
-use Rattle.std.specs.Io.KnownBytes.{Consumes, Keeps}
+use Rattle.std.specs.Io.KnownBytes.{Consumes}
 use Rattle.line_protocol.specs.LineRuns.{left_of, HasNoBreak}
 use Rattle.line_protocol.proofs.line_reader.LineReader.move_line.Given as goal
 
@@ -7,7 +7,6 @@ abbrev pub invariant-pieces : goal.invariant-pieces
 invariant-pieces g l =
     (seen : List ℕ) × HasNoBreak seen × (l.line.items ≡ take 65537 seen)
     × Consumes (left_of l.initial.self.bytes.items l.initial.self.start l.initial.self.end (g.R.Read.remaining l.initial.reader)) (left_of l.self.bytes.items l.self.start l.self.end (g.R.Read.remaining l.reader)) seen
-    × Keeps (g.W.Write.contents l.initial.writer) (g.W.Write.contents l.writer)
 
 abbrev pub decreases-pieces : goal.decreases-pieces
 decreases-pieces g l = 2 * (1073741824 - l.self.calls.made) + min 1 (l.self.end - l.self.start)
