@@ -1,0 +1,4 @@
+pub mod Givers
+pub mod Lanes
+pub mod Added
+pub mod Places
