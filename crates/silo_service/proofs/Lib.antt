@@ -1,0 +1,4 @@
+mod Collected
+mod Ordered
+mod NoRows
+pub mod Stops

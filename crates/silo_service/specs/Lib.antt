@@ -1,0 +1,3 @@
+pub mod ServedText
+pub mod Told
+pub mod Serving
