@@ -1,0 +1,250 @@
+use Rattle.std.proofs.Common.{◌≡◌, ◌∷◌, [], List, Option, Some, None, refl, sym, ap, subst, inl, rules, arith, codes}
+use Rattle.std.specs.Option.{option_map_or}
+use Rattle.clap.specs.Words.{IsAmong, Row, Text, all_of, fault_of, first_of, one_of}
+use Rattle.clap.specs.declared.error.kind.ErrorKind.{ErrorKind}
+use Rattle.clap.specs.declared.error.kind.ErrorKind.TheVariants.{DisplayHelp, DisplayVersion, MissingSubcommand, MissingRequiredArgument, ValueValidation}
+use Rattle.clap.proofs.OnLiterals.{clap_on_literals}
+use Rattle.std.specs.Prelude.{unwrap_or}
+use Rattle.silo_words.specs.Words.{IsAge, IsWorkers, after_silo, found_in, silo_app}
+use Rattle.silo_words.proofs.laws.words_are_told_apart.Goals as goal
+
+abbrev rows_in : List Text → List Row
+rows_in words = option_map_or (λ p. p.1) (found_in words) []
+
+-- ---- steps
+
+abbrev steps_words : List Text
+steps_words = after_silo (codes "steps" ∷ codes "red:2:4" ∷ [])
+
+abbrev aged_words : List Text
+aged_words = after_silo (codes "steps" ∷ codes "--age" ∷ codes "5" ∷ codes "red:2:4" ∷ [])
+
+steps_taken : fault_of silo_app steps_words ≡ []
+unfolding clap_on_literals
+steps_taken = refl
+
+steps_is : found_in steps_words ≡ Some (codes "steps", rows_in steps_words)
+unfolding clap_on_literals
+steps_is = refl
+
+steps_age : one_of (codes "age") (rows_in steps_words) ≡ None
+unfolding clap_on_literals
+steps_age = refl
+
+steps_named : all_of (codes "tenants") (rows_in steps_words) ≡ Some (codes "red:2:4" ∷ [])
+unfolding clap_on_literals
+steps_named = refl
+
+aged_taken : fault_of silo_app aged_words ≡ []
+unfolding clap_on_literals
+aged_taken = refl
+
+aged_is : found_in aged_words ≡ Some (codes "steps", rows_in aged_words)
+unfolding clap_on_literals
+aged_is = refl
+
+aged_age : one_of (codes "age") (rows_in aged_words) ≡ Some (codes "5")
+unfolding clap_on_literals
+aged_age = refl
+
+aged_named : all_of (codes "tenants") (rows_in aged_words) ≡ Some (codes "red:2:4" ∷ [])
+unfolding clap_on_literals
+aged_named = refl
+
+five : IsAge (Some (codes "5")) 5
+five = search (rules, arith)
+
+-- ---- serving
+
+abbrev serving_words : List Text
+serving_words = after_silo (codes "serve" ∷ codes "red:2:4" ∷ [])
+
+abbrev journaled_words : List Text
+journaled_words = after_silo (codes "serve" ∷ codes "--workers" ∷ codes "8" ∷ codes "--age" ∷ codes "5" ∷ codes "--journal" ∷ codes "day" ∷ codes "red:2:4" ∷ [])
+
+serving_taken : fault_of silo_app serving_words ≡ []
+unfolding clap_on_literals
+serving_taken = refl
+
+serving_is : found_in serving_words ≡ Some (codes "serve", rows_in serving_words)
+unfolding clap_on_literals
+serving_is = refl
+
+serving_workers : one_of (codes "workers") (rows_in serving_words) ≡ None
+unfolding clap_on_literals
+serving_workers = refl
+
+serving_age : one_of (codes "age") (rows_in serving_words) ≡ None
+unfolding clap_on_literals
+serving_age = refl
+
+serving_journal : first_of (codes "journal") (rows_in serving_words) ≡ None
+unfolding clap_on_literals
+serving_journal = refl
+
+serving_named : all_of (codes "tenants") (rows_in serving_words) ≡ Some (codes "red:2:4" ∷ [])
+unfolding clap_on_literals
+serving_named = refl
+
+journaled_taken : fault_of silo_app journaled_words ≡ []
+unfolding clap_on_literals
+journaled_taken = refl
+
+journaled_is : found_in journaled_words ≡ Some (codes "serve", rows_in journaled_words)
+unfolding clap_on_literals
+journaled_is = refl
+
+journaled_workers : one_of (codes "workers") (rows_in journaled_words) ≡ Some (codes "8")
+unfolding clap_on_literals
+journaled_workers = refl
+
+journaled_age : one_of (codes "age") (rows_in journaled_words) ≡ Some (codes "5")
+unfolding clap_on_literals
+journaled_age = refl
+
+journaled_journal : first_of (codes "journal") (rows_in journaled_words) ≡ Some (codes "day")
+unfolding clap_on_literals
+journaled_journal = refl
+
+journaled_named : all_of (codes "tenants") (rows_in journaled_words) ≡ Some (codes "red:2:4" ∷ [])
+unfolding clap_on_literals
+journaled_named = refl
+
+eight : IsWorkers (Some (codes "8")) 8
+eight = search (rules, arith)
+
+-- ---- an audit
+
+abbrev audit_words : List Text
+audit_words = after_silo (codes "audit" ∷ codes "day" ∷ [])
+
+audit_taken : fault_of silo_app audit_words ≡ []
+unfolding clap_on_literals
+audit_taken = refl
+
+audit_is : found_in audit_words ≡ Some (codes "audit", rows_in audit_words)
+unfolding clap_on_literals
+audit_is = refl
+
+audit_path : first_of (codes "path") (rows_in audit_words) ≡ Some (codes "day")
+unfolding clap_on_literals
+audit_path = refl
+
+-- ---- no task
+
+help_asked : fault_of silo_app (after_silo (codes "--help" ∷ [])) ≡ DisplayHelp ∷ []
+unfolding clap_on_literals
+help_asked = refl
+
+help_of_steps_asked : fault_of silo_app (after_silo (codes "steps" ∷ codes "-h" ∷ [])) ≡ DisplayHelp ∷ []
+unfolding clap_on_literals
+help_of_steps_asked = refl
+
+help_of_serve_asked : fault_of silo_app (after_silo (codes "serve" ∷ codes "-h" ∷ [])) ≡ DisplayHelp ∷ []
+unfolding clap_on_literals
+help_of_serve_asked = refl
+
+version_asked : fault_of silo_app (after_silo (codes "--version" ∷ [])) ≡ DisplayVersion ∷ []
+unfolding clap_on_literals
+version_asked = refl
+
+nothing_given : fault_of silo_app (after_silo []) ≡ MissingSubcommand ∷ []
+unfolding clap_on_literals
+nothing_given = refl
+
+age_of_0 : fault_of silo_app (after_silo (codes "steps" ∷ codes "--age" ∷ codes "0" ∷ codes "red:2:4" ∷ [])) ≡ ValueValidation ∷ []
+unfolding clap_on_literals
+age_of_0 = refl
+
+no_tenant_given : fault_of silo_app (after_silo (codes "steps" ∷ [])) ≡ MissingRequiredArgument ∷ []
+unfolding clap_on_literals
+no_tenant_given = refl
+
+workers_of_0 : fault_of silo_app (after_silo (codes "serve" ∷ codes "--workers" ∷ codes "0" ∷ codes "red:2:4" ∷ [])) ≡ ValueValidation ∷ []
+unfolding clap_on_literals
+workers_of_0 = refl
+
+workers_of_65 : fault_of silo_app (after_silo (codes "serve" ∷ codes "--workers" ∷ codes "65" ∷ codes "red:2:4" ∷ [])) ≡ ValueValidation ∷ []
+unfolding clap_on_literals
+workers_of_65 = refl
+
+none_to_serve : fault_of silo_app (after_silo (codes "serve" ∷ [])) ≡ MissingRequiredArgument ∷ []
+unfolding clap_on_literals
+none_to_serve = refl
+
+no_path_given : fault_of silo_app (after_silo (codes "audit" ∷ [])) ≡ MissingRequiredArgument ∷ []
+unfolding clap_on_literals
+no_path_given = refl
+
+only : (kind : ErrorKind) (kinds : List ErrorKind) → kinds ≡ kind ∷ [] → IsAmong kind kinds
+only kind kinds is = subst (IsAmong kind) (sym is) (inl refl)
+
+pub returns : goal.returns
+returns c = record {
+  steps = record {
+    taken = steps_taken;
+    name = codes "steps";
+    rows = rows_in steps_words;
+    is = steps_is;
+    found = record {
+      command = refl;
+      within = subst (λ (o : Option Text). IsAge o 900000) (sym steps_age) refl;
+      named = sym (ap (λ o. unwrap_or o []) steps_named);
+    };
+  };
+  aged = record {
+    taken = aged_taken;
+    name = codes "steps";
+    rows = rows_in aged_words;
+    is = aged_is;
+    found = record {
+      command = refl;
+      within = subst (λ (o : Option Text). IsAge o 5) (sym aged_age) five;
+      named = sym (ap (λ o. unwrap_or o []) aged_named);
+    };
+  };
+  serving = record {
+    taken = serving_taken;
+    name = codes "serve";
+    rows = rows_in serving_words;
+    is = serving_is;
+    found = record {
+      command = refl;
+      shared = subst (λ (o : Option Text). IsWorkers o 4) (sym serving_workers) refl;
+      within = subst (λ (o : Option Text). IsAge o 900000) (sym serving_age) refl;
+      kept = sym serving_journal;
+      named = sym (ap (λ o. unwrap_or o []) serving_named);
+    };
+  };
+  journaled = record {
+    taken = journaled_taken;
+    name = codes "serve";
+    rows = rows_in journaled_words;
+    is = journaled_is;
+    found = record {
+      command = refl;
+      shared = subst (λ (o : Option Text). IsWorkers o 8) (sym journaled_workers) eight;
+      within = subst (λ (o : Option Text). IsAge o 5) (sym journaled_age) five;
+      kept = sym journaled_journal;
+      named = sym (ap (λ o. unwrap_or o []) journaled_named);
+    };
+  };
+  audit = record {
+    taken = audit_taken;
+    name = codes "audit";
+    rows = rows_in audit_words;
+    is = audit_is;
+    found = record { command = refl; given = sym audit_path };
+  };
+  help = only DisplayHelp _ help_asked;
+  help_of_steps = only DisplayHelp _ help_of_steps_asked;
+  help_of_serve = only DisplayHelp _ help_of_serve_asked;
+  version = only DisplayVersion _ version_asked;
+  nothing = (MissingSubcommand, (λ e. absurd cc), (λ e. absurd cc), only MissingSubcommand _ nothing_given);
+  no_age = (ValueValidation, (λ e. absurd cc), (λ e. absurd cc), only ValueValidation _ age_of_0);
+  no_tenant = (MissingRequiredArgument, (λ e. absurd cc), (λ e. absurd cc), only MissingRequiredArgument _ no_tenant_given);
+  no_worker = (ValueValidation, (λ e. absurd cc), (λ e. absurd cc), only ValueValidation _ workers_of_0);
+  too_many_workers = (ValueValidation, (λ e. absurd cc), (λ e. absurd cc), only ValueValidation _ workers_of_65);
+  no_tenant_to_serve = (MissingRequiredArgument, (λ e. absurd cc), (λ e. absurd cc), only MissingRequiredArgument _ none_to_serve);
+  no_path = (MissingRequiredArgument, (λ e. absurd cc), (λ e. absurd cc), only MissingRequiredArgument _ no_path_given);
+}

@@ -1,0 +1,245 @@
+-- What the words of a command line ask for, by clap's own account of what it makes of words.
+use Rattle.std.specs.Prelude.{◌≡◌, ◌≢◌, ◌≤◌, ◌⊎◌, ◌++◌, ◌∷◌, ⊤, ℕ, List, [], Option, Some, None, true, codes, map, String, string_bytes, unwrap_or}
+use Rattle.std.specs.Option.{option_map}
+use Rattle.std.specs.Str.Parse.{IsNumeral, digits_value, without_leading_plus}
+use Rattle.clap.specs.Lexer.{usize_max}
+use Rattle.clap.specs.Words.{App, IsAmong, Row, Rule, Shape, Text, all_of, fault_of, first_of, new_app, new_rule, one_of, subcommand_of, with_rule, with_subcommand}
+use Rattle.clap.specs.declared.builder.action.ArgAction.TheVariants.{Append}
+use Rattle.clap.specs.declared.builder.value_parser.ValueParser.TheVariants.{Unsigned}
+use Rattle.clap.specs.declared.error.kind.ErrorKind.{ErrorKind}
+use Rattle.clap.specs.declared.error.kind.ErrorKind.TheVariants.{DisplayHelp, DisplayVersion, OutOfMemory}
+use Rattle.silo_words.specs.declared.fault.TheConstants.{EXAMPLE}
+use Rattle.silo_words.specs.declared.fault.WordsFault.{WordsFault}
+use Rattle.silo_words.specs.declared.fault.WordsFault.TheVariants as fault
+use Rattle.silo_words.specs.declared.task.Task.{Task}
+use Rattle.silo_words.specs.declared.task.Task.TheVariants as task
+
+-- ---- the command line
+
+-- `--age MS`, a number from 1 to 86,400,000
+abbrev pub age_rule : Rule
+age_rule = record (new_rule (codes "age")) { long = Some (codes "age"); value_names = 1; parser = Some (Unsigned 1 86400000) }
+
+-- `--workers N`, a number from 1 to 64
+abbrev pub workers_rule : Rule
+workers_rule = record (new_rule (codes "workers")) { long = Some (codes "workers"); value_names = 1; parser = Some (Unsigned 1 64) }
+
+-- `--journal PATH`, a text
+abbrev pub journal_rule : Rule
+journal_rule = record (new_rule (codes "journal")) { long = Some (codes "journal"); value_names = 1 }
+
+-- `TENANT:ACT:MAIL..`, one text or more
+abbrev pub tenants_rule : Rule
+tenants_rule = record (new_rule (codes "tenants")) { action = Some Append; range = Some (record { start_inclusive = 1; end_inclusive = usize_max }); value_names = 1; required = true }
+
+-- `PATH`, one text
+abbrev pub path_rule : Rule
+path_rule = record (new_rule (codes "path")) { value_names = 1; required = true }
+
+-- `steps`, with the option for the age and the tenant arguments
+abbrev pub steps_app : App
+steps_app = with_rule (with_rule (new_app (codes "steps")) age_rule) tenants_rule
+
+-- `serve`, with these and two options more
+abbrev pub serve_app : App
+serve_app = with_rule (with_rule (with_rule (with_rule (new_app (codes "serve")) workers_rule) age_rule) journal_rule) tenants_rule
+
+-- `audit`, with a path
+abbrev pub audit_app : App
+audit_app = with_rule (new_app (codes "audit")) path_rule
+
+-- `silo`, which has a version and wants one of the three
+abbrev pub silo_shape : Shape
+silo_shape = record (new_app (codes "silo")).top { has_version = true; subcommand_required = true }
+
+-- `silo` with the first, with the first two, and with all
+abbrev pub stepping_app : App
+stepping_app = with_subcommand (record (new_app (codes "silo")) { top = silo_shape }) steps_app.top
+
+abbrev pub serving_app : App
+serving_app = with_subcommand stepping_app serve_app.top
+
+abbrev pub silo_app : App
+silo_app = with_subcommand serving_app audit_app.top
+
+-- ---- the words
+
+module _ {Z : Type 0} where
+  -- the texts of the words
+  abbrev pub texts_of : List (String Z) → List Text
+  texts_of = map (λ word. string_bytes word)
+
+-- clap takes the words
+abbrev pub AreTaken : List Text → Type 0
+AreTaken words = fault_of silo_app words ≡ []
+
+-- the words ask for help
+abbrev pub AskForHelp : List Text → Type 0
+AskForHelp words = IsAmong DisplayHelp (fault_of silo_app words)
+
+-- the words ask for the version
+abbrev pub AskForVersion : List Text → Type 0
+AskForVersion words = IsAmong DisplayVersion (fault_of silo_app words)
+
+-- clap refuses the words: they ask for no text, and something is wrong with them
+abbrev pub AreRefused : List Text → Type 0
+AreRefused words = (kind : ErrorKind) × (kind ≢ DisplayHelp) × (kind ≢ DisplayVersion) × IsAmong kind (fault_of silo_app words)
+
+-- ---- numbers
+
+-- the text writes the number, in decimal digits with or without a `+` before them
+abbrev pub Writes : Text → ℕ → Type 0
+Writes text number = IsNumeral 10 (without_leading_plus text) × (digits_value 10 (without_leading_plus text) ≡ number)
+
+-- the usual number if none is given, and otherwise the one that is written, if it is from 1 to the most
+abbrev pub IsNumber : ℕ → ℕ → Option Text → ℕ → Type 0
+IsNumber usual most None number = number ≡ usual
+IsNumber usual most (Some text) number = Writes text number × (1 ≤ number) × (number ≤ most)
+
+-- the milliseconds of an age, 900,000 if none are given
+abbrev pub IsAge : Option Text → ℕ → Type 0
+IsAge given age = IsNumber 900000 86400000 given age
+
+-- how many workers, 4 if no number is given
+abbrev pub IsWorkers : Option Text → ℕ → Type 0
+IsWorkers given workers = IsNumber 4 64 given workers
+
+-- the age that was found is none
+abbrev pub IsNoAge : List Row → Type 0
+IsNoAge rows = (age : ℕ) → ¬ IsAge (one_of (codes "age") rows) age
+
+-- the number of workers that was found is none
+abbrev pub IsNoWorkers : List Row → Type 0
+IsNoWorkers rows = (workers : ℕ) → ¬ IsWorkers (one_of (codes "workers") rows) workers
+
+-- ---- what is asked of what clap found: a subcommand's name, and the rows of its options and arguments
+
+-- the tenant arguments that were found
+abbrev pub tenants_in : List Row → List Text
+tenants_in rows = unwrap_or (all_of (codes "tenants") rows) []
+
+-- `steps`, with the age and the tenant arguments that were found
+pub record FindSteps (name : Text) (rows : List Row) (age : ℕ) (tenants : List Text) : Type 0 where
+  pub command : name ≡ codes "steps"
+  pub within : IsAge (one_of (codes "age") rows) age
+  pub named : tenants ≡ tenants_in rows
+
+-- `serve`, with the workers, the age, the journal's path and the tenant arguments that were found
+pub record FindServing (name : Text) (rows : List Row) (workers age : ℕ) (journal : Option Text) (tenants : List Text) : Type 0 where
+  pub command : name ≡ codes "serve"
+  pub shared : IsWorkers (one_of (codes "workers") rows) workers
+  pub within : IsAge (one_of (codes "age") rows) age
+  pub kept : journal ≡ first_of (codes "journal") rows
+  pub named : tenants ≡ tenants_in rows
+
+-- `audit`, with the path that was found
+pub record FindAudit (name : Text) (rows : List Row) (path : Text) : Type 0 where
+  pub command : name ≡ codes "audit"
+  pub given : Some path ≡ first_of (codes "path") rows
+
+-- ---- what the words ask for
+
+-- what clap finds in the words: the subcommand's name and rows
+abbrev pub found_in : List Text → Option (Text × List Row)
+found_in words = subcommand_of silo_app words
+
+-- The words ask to take steps under this age, for these tenant arguments.
+pub record AskForSteps (words : List Text) (age : ℕ) (tenants : List Text) : Type 0 where
+  pub taken : AreTaken words
+  pub name : Text
+  pub rows : List Row
+  pub is : found_in words ≡ Some (name, rows)
+  pub found : FindSteps name rows age tenants
+
+-- The words ask so many workers to serve under this age, for these tenant arguments, and to keep the journal at a path if there is one.
+pub record AskForServing (words : List Text) (workers age : ℕ) (journal : Option Text) (tenants : List Text) : Type 0 where
+  pub taken : AreTaken words
+  pub name : Text
+  pub rows : List Row
+  pub is : found_in words ≡ Some (name, rows)
+  pub found : FindServing name rows workers age journal tenants
+
+-- The words ask to audit the journal at the path.
+pub record AskForAudit (words : List Text) (path : Text) : Type 0 where
+  pub taken : AreTaken words
+  pub name : Text
+  pub rows : List Row
+  pub is : found_in words ≡ Some (name, rows)
+  pub found : FindAudit name rows path
+
+-- what was found makes no task
+pub record MakesNoTask (name : Text) (rows : List Row) : Type 0 where
+  pub steps : (age : ℕ) (tenants : List Text) → ¬ FindSteps name rows age tenants
+  pub serving : (workers age : ℕ) (journal : Option Text) (tenants : List Text) → ¬ FindServing name rows workers age journal tenants
+  pub audit : (path : Text) → ¬ FindAudit name rows path
+
+-- What was found in the words makes no task: a number is out of its range, or something that a task wants is not there.
+pub record IsOutOfRange (words : List Text) : Type 0 where
+  pub name : Text
+  pub rows : List Row
+  pub is : found_in words ≡ Some (name, rows)
+  pub none : MakesNoTask name rows
+
+-- ---- what was read
+
+-- the task has what was found
+abbrev pub IsTaskOf : Text → List Row → Task → Type 0
+IsTaskOf name rows (task.Steps age tenants) = FindSteps name rows age (map (λ t. t.now) tenants.items)
+IsTaskOf name rows (task.Serve workers age journal tenants) = FindServing name rows workers age (option_map (λ path. path.now) journal) (map (λ t. t.now) tenants.items)
+IsTaskOf name rows (task.Audit path) = FindAudit name rows path.now
+
+-- why what was found is no task
+abbrev pub IsNoTaskFor : Text → List Row → WordsFault → Type 0
+IsNoTaskFor name rows fault.Memory = ⊤
+IsNoTaskFor name rows (fault.Help text) = ⊥
+IsNoTaskFor name rows fault.Version = ⊥
+IsNoTaskFor name rows (fault.Wrong text) = MakesNoTask name rows
+
+-- the words ask for the task
+abbrev pub AskFor : List Text → Task → Type 0
+AskFor words (task.Steps age tenants) = AskForSteps words age (map (λ t. t.now) tenants.items)
+AskFor words (task.Serve workers age journal tenants) = AskForServing words workers age (option_map (λ path. path.now) journal) (map (λ t. t.now) tenants.items)
+AskFor words (task.Audit path) = AskForAudit words path.now
+
+-- the text ends with the example
+abbrev pub EndsWithExample : Text → Type 0
+EndsWithExample text = (front : Text) × (text ≡ front ++ EXAMPLE.now)
+
+-- Why the words ask for nothing, unless memory was refused: for help or the version, whose text is shown, or clap refuses them, or what it found makes no task.
+abbrev pub IsWhy : List Text → WordsFault → Type 0
+IsWhy words fault.Memory = ⊤
+IsWhy words (fault.Help text) = AskForHelp words × EndsWithExample (string_bytes text)
+IsWhy words fault.Version = AskForVersion words
+IsWhy words (fault.Wrong text) = AreRefused words ⊎ (AreTaken words × IsOutOfRange words)
+
+-- what an error of clap's becomes
+abbrev pub IsFaultBy : ErrorKind → WordsFault → Type 0
+IsFaultBy kind fault.Memory = ⊤
+IsFaultBy kind (fault.Help text) = (kind ≡ DisplayHelp) × EndsWithExample (string_bytes text)
+IsFaultBy kind fault.Version = kind ≡ DisplayVersion
+IsFaultBy kind (fault.Wrong text) = (kind ≢ OutOfMemory) × (kind ≢ DisplayHelp) × (kind ≢ DisplayVersion)
+
+-- ---- words that are written out
+
+-- `silo`, and then these words
+abbrev pub after_silo : List Text → List Text
+after_silo words = codes "silo" ∷ words
+
+-- The account tells words apart: each subcommand with and without its options, help, the version, no words, numbers out of their range, and a word too few.
+pub record TellsWordsApart : Type 0 where
+  pub steps : AskForSteps (after_silo (codes "steps" ∷ codes "red:2:4" ∷ [])) 900000 (codes "red:2:4" ∷ [])
+  pub aged : AskForSteps (after_silo (codes "steps" ∷ codes "--age" ∷ codes "5" ∷ codes "red:2:4" ∷ [])) 5 (codes "red:2:4" ∷ [])
+  pub serving : AskForServing (after_silo (codes "serve" ∷ codes "red:2:4" ∷ [])) 4 900000 None (codes "red:2:4" ∷ [])
+  pub journaled : AskForServing (after_silo (codes "serve" ∷ codes "--workers" ∷ codes "8" ∷ codes "--age" ∷ codes "5" ∷ codes "--journal" ∷ codes "day" ∷ codes "red:2:4" ∷ [])) 8 5 (Some (codes "day")) (codes "red:2:4" ∷ [])
+  pub audit : AskForAudit (after_silo (codes "audit" ∷ codes "day" ∷ [])) (codes "day")
+  pub help : AskForHelp (after_silo (codes "--help" ∷ []))
+  pub help_of_steps : AskForHelp (after_silo (codes "steps" ∷ codes "-h" ∷ []))
+  pub help_of_serve : AskForHelp (after_silo (codes "serve" ∷ codes "-h" ∷ []))
+  pub version : AskForVersion (after_silo (codes "--version" ∷ []))
+  pub nothing : AreRefused (after_silo [])
+  pub no_age : AreRefused (after_silo (codes "steps" ∷ codes "--age" ∷ codes "0" ∷ codes "red:2:4" ∷ []))
+  pub no_tenant : AreRefused (after_silo (codes "steps" ∷ []))
+  pub no_worker : AreRefused (after_silo (codes "serve" ∷ codes "--workers" ∷ codes "0" ∷ codes "red:2:4" ∷ []))
+  pub too_many_workers : AreRefused (after_silo (codes "serve" ∷ codes "--workers" ∷ codes "65" ∷ codes "red:2:4" ∷ []))
+  pub no_tenant_to_serve : AreRefused (after_silo (codes "serve" ∷ []))
+  pub no_path : AreRefused (after_silo (codes "audit" ∷ []))

@@ -1,0 +1,132 @@
+//! The subcommands with their options and arguments, as `clap` is told of them.
+
+ghost use Rattle.std.specs.Prelude.{◌≡◌, IfOk, false, true};
+ghost use Rattle.clap.specs.Words.{app_of, rule_of};
+ghost use Rattle.clap.specs.declared.builder.command.Command.TheViews.{out-Command as fields_of};
+ghost use Rattle.silo_words.specs.Words.{age_rule, audit_app, journal_rule, path_rule, serve_app, serving_app, silo_app, stepping_app, steps_app, tenants_rule, workers_rule};
+
+use clap::{Arg, ArgAction, Command, value_parser};
+use std::alloc::{AllocError, Global};
+
+/// What the program calls itself, whatever its file is called.
+const PROGRAM: &str = "silo";
+
+/// The version of the program.
+const VERSION: &str = "0.1.0";
+
+fn age_option<'a>(alloc: Global) -> Arg<'a>
+    ensures rule { rule_of result ≡ age_rule }
+    ensures local { result.global ≡ false }
+{
+    Arg::new(alloc, "age")
+        .long("age")
+        .value_name("MS")
+        .help("Milliseconds after which an idle activation goes, 1 to 86400000 [default: 900000]")
+        .value_parser(value_parser!(u64).range(1..=86_400_000))
+}
+
+fn workers_option<'a>(alloc: Global) -> Arg<'a>
+    ensures rule { rule_of result ≡ workers_rule }
+    ensures local { result.global ≡ false }
+{
+    Arg::new(alloc, "workers")
+        .long("workers")
+        .value_name("N")
+        .help("How many workers serve at once, 1 to 64 [default: 4]")
+        .value_parser(value_parser!(u64).range(1..=64))
+}
+
+fn journal_option<'a>(alloc: Global) -> Arg<'a>
+    ensures rule { rule_of result ≡ journal_rule }
+    ensures local { result.global ≡ false }
+{
+    Arg::new(alloc, "journal")
+        .long("journal")
+        .value_name("PATH")
+        .help("The file that the journal goes to, for `silo audit`")
+}
+
+fn tenant_arguments<'a>(alloc: Global) -> Arg<'a>
+    ensures rule { rule_of result ≡ tenants_rule }
+    ensures local { result.global ≡ false }
+{
+    Arg::new(alloc, "tenants")
+        .value_name("TENANT:ACT:MAIL")
+        .help("A tenant, its activations (1 to 10000) and the places of a mailbox (1 to 1000)")
+        .action(ArgAction::Append)
+        .num_args(1..)
+        .required(true)
+}
+
+fn path_argument<'a>(alloc: Global) -> Arg<'a>
+    ensures rule { rule_of result ≡ path_rule }
+    ensures local { result.global ≡ false }
+{
+    Arg::new(alloc, "path")
+        .value_name("PATH")
+        .help("The file of a journal that `silo serve` wrote")
+        .required(true)
+}
+
+fn steps_command<'a>(alloc: Global) -> Result<Command<'a>, AllocError>
+    ensures app { IfOk result (λ c. app_of c ≡ steps_app) }
+    ensures local { IfOk result (λ c. (fields_of c).has_globals ≡ false) }
+{
+    Command::new(alloc, "steps")
+        .about("Reads every step from standard input")
+        .arg(age_option(alloc))?
+        .arg(tenant_arguments(alloc))
+}
+
+fn serve_command<'a>(alloc: Global) -> Result<Command<'a>, AllocError>
+    ensures app { IfOk result (λ c. app_of c ≡ serve_app) }
+    ensures local { IfOk result (λ c. (fields_of c).has_globals ≡ false) }
+{
+    Command::new(alloc, "serve")
+        .about("Serves the clients on standard input by workers")
+        .arg(workers_option(alloc))?
+        .arg(age_option(alloc))?
+        .arg(journal_option(alloc))?
+        .arg(tenant_arguments(alloc))
+}
+
+fn audit_command<'a>(alloc: Global) -> Result<Command<'a>, AllocError>
+    ensures app { IfOk result (λ c. app_of c ≡ audit_app) }
+    ensures local { IfOk result (λ c. (fields_of c).has_globals ≡ false) }
+{
+    Command::new(alloc, "audit")
+        .about("Tells of each tenant in a journal whether it went as for this tenant alone")
+        .arg(path_argument(alloc))
+}
+
+/// The command line with `steps` alone.
+fn stepping_command<'a>(alloc: Global) -> Result<Command<'a>, AllocError>
+    ensures app { IfOk result (λ c. app_of c ≡ stepping_app) }
+    ensures local { IfOk result (λ c. (fields_of c).has_globals ≡ false) }
+    ensures wanted { IfOk result (λ c. (fields_of c).subcommand_required ≡ true) }
+{
+    Command::new(alloc, PROGRAM)
+        .bin_name(PROGRAM)?
+        .version(VERSION)
+        .about("A silo of grains that tenants share")
+        .subcommand_required(true)
+        .subcommand(steps_command(alloc)?)
+}
+
+/// The command line with `steps` and `serve`.
+fn serving_command<'a>(alloc: Global) -> Result<Command<'a>, AllocError>
+    ensures app { IfOk result (λ c. app_of c ≡ serving_app) }
+    ensures local { IfOk result (λ c. (fields_of c).has_globals ≡ false) }
+    ensures wanted { IfOk result (λ c. (fields_of c).subcommand_required ≡ true) }
+{
+    stepping_command(alloc)?.subcommand(serve_command(alloc)?)
+}
+
+/// The whole command line.
+pub fn silo_command<'a>(alloc: Global) -> Result<Command<'a>, AllocError>
+    ensures app { IfOk result (λ c. app_of c ≡ silo_app) }
+    ensures local { IfOk result (λ c. (fields_of c).has_globals ≡ false) }
+    ensures wanted { IfOk result (λ c. (fields_of c).subcommand_required ≡ true) }
+{
+    serving_command(alloc)?.subcommand(audit_command(alloc)?)
+}

@@ -1,0 +1,22 @@
+//! The words of the command line: what they ask the program to do.
+//!
+//! A layer above may rely on this: `read_words` gives a task exactly as the words ask for it, and
+//! otherwise tells why they ask for none; `read_tenants` gives the table that a task's tenant arguments
+//! name, or the number of the first that is refused. `clap` is known here alone. Its own account of what
+//! it makes of words says what they ask for, in `specs/Words.antt`; what a tenant argument is stands in
+//! `specs/Tenants.antt`. `command` has what `clap` is told of the subcommands, `task` reads what it found,
+//! `fault` what it says instead, and `tenants` the tenant arguments.
+#![tactic(auto)]
+
+mod command;
+mod fault;
+mod laws;
+mod reading;
+mod task;
+mod tenants;
+
+pub use fault::{EXAMPLE, WordsFault};
+pub use laws::words_are_told_apart;
+pub use reading::read_words;
+pub use task::Task;
+pub use tenants::{TenantsFault, read_tenants};

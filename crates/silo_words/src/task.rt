@@ -1,0 +1,160 @@
+//! What the words ask for, from what `clap` found of a subcommand.
+
+ghost use Rattle.std.specs.Prelude.{◌≡◌, ℕ, List, IfOk, IfErr, IfSome, IfNone, codes, map, option_map};
+ghost use Rattle.clap.specs.Words.{Row, Text, first_of, found_of, one_of, rows_of};
+ghost use Rattle.silo_words.specs.Words.{IsAge, IsNoAge, IsNoTaskFor, IsNoWorkers, IsNumber, IsTaskOf, IsWorkers, MakesNoTask, tenants_in};
+
+use crate::fault::WordsFault;
+use clap::ArgMatches;
+use std::alloc::{AllocError, Global};
+use tenant_gate::MAX_AGE_MILLISECONDS;
+
+/// The age when `--age` is left out.
+const DEFAULT_AGE_MILLISECONDS: u64 = 900_000;
+
+/// The workers when `--workers` is left out.
+const DEFAULT_WORKERS: u64 = 4;
+
+/// The most workers that may be asked for.
+const MAX_WORKERS: u64 = 64;
+
+/// What the words ask for. Tenant arguments and paths are as they are written.
+#[derive(Drop)]
+pub enum Task<'a> {
+    /// Read every step from standard input, with the age in milliseconds (1 to 86,400,000).
+    Steps {
+        age: u64,
+        tenants: Vec<&'a str>,
+    },
+
+    /// Serve the clients on standard input by workers (1 to 64), with the age in milliseconds (1 to
+    /// 86,400,000), and write the journal if it has a path.
+    Serve {
+        workers: usize,
+        age: u64,
+        journal: Option<&'a str>,
+        tenants: Vec<&'a str>,
+    },
+
+    /// Audit the journal at the path.
+    Audit {
+        path: &'a str,
+    },
+}
+
+/// The number of an option, if what was found is one within its range, and the usual one if nothing was.
+fn number_of(found: &ArgMatches<'_>, option: &str, usual: u64, most: u64) -> Option<u64>
+    ensures some { IfSome result (λ number. IsNumber usual most (one_of option.now (rows_of (found_of found.now))) number) }
+    ensures none { IfNone result ((number : ℕ) → ¬ IsNumber usual most (one_of option.now (rows_of (found_of found.now))) number) }
+{
+    match found.try_get_one::<u64>(option) {
+        Ok(None) => Some(usual),
+        Ok(Some(number)) if 1 <= number && number <= most => Some(number),
+        Ok(Some(_)) => None,
+        Err(_) => None,
+    }
+}
+
+/// The age in milliseconds.
+fn age_of(found: &ArgMatches<'_>) -> Option<u64>
+    ensures some { IfSome result (λ age. IsAge (one_of (codes "age") (rows_of (found_of found.now))) age) }
+    ensures none { IfNone result (IsNoAge (rows_of (found_of found.now))) }
+{
+    number_of(found, "age", DEFAULT_AGE_MILLISECONDS, MAX_AGE_MILLISECONDS)
+}
+
+/// How many workers.
+fn workers_of(found: &ArgMatches<'_>) -> Option<u64>
+    ensures some { IfSome result (λ workers. IsWorkers (one_of (codes "workers") (rows_of (found_of found.now))) workers) }
+    ensures none { IfNone result (IsNoWorkers (rows_of (found_of found.now))) }
+{
+    number_of(found, "workers", DEFAULT_WORKERS, MAX_WORKERS)
+}
+
+/// The tenant arguments that were found, as they are written.
+fn tenants_of<'a>(alloc: Global, found: &ArgMatches<'a>) -> Result<Vec<&'a str>, AllocError>
+    ensures { IfOk result (λ tenants. map (λ t. t.now) tenants.items ≡ tenants_in (rows_of (found_of found.now))) }
+{
+    match found.get_strs("tenants") {
+        Some(texts) => Vec::from_slice(alloc, texts),
+        None => Ok(Vec::new(alloc)),
+    }
+}
+
+/// The text that was found of an option or an argument.
+fn text_of<'a>(found: &ArgMatches<'a>, id: &str) -> Option<&'a str>
+    ensures { option_map (λ text. text.now) result ≡ first_of id.now (rows_of (found_of found.now)) }
+{
+    found.get_str(id)
+}
+
+/// `clap` refuses what makes no task before this does.
+fn no_task(alloc: Global) -> WordsFault
+    ensures { (name : Text) (rows : List Row) → MakesNoTask name rows → IsNoTaskFor name rows result }
+{
+    match String::from_str(alloc, "error: the words are out of range\n") {
+        Ok(text) => WordsFault::Wrong(text),
+        Err(_) => WordsFault::Memory,
+    }
+}
+
+fn steps_task<'a>(alloc: Global, found: &ArgMatches<'a>) -> Result<Task<'a>, WordsFault>
+    ensures task { IfOk result (λ task. IsTaskOf (codes "steps") (rows_of (found_of found.now)) task) }
+    ensures fault { IfErr result (λ fault. IsNoTaskFor (codes "steps") (rows_of (found_of found.now)) fault) }
+{
+    let Some(age) = age_of(found) else {
+        return Err(no_task(alloc));
+    };
+    match tenants_of(alloc, found) {
+        Ok(tenants) => Ok(Task::Steps { age, tenants }),
+        Err(_) => Err(WordsFault::Memory),
+    }
+}
+
+fn serve_task<'a>(alloc: Global, found: &ArgMatches<'a>) -> Result<Task<'a>, WordsFault>
+    ensures task { IfOk result (λ task. IsTaskOf (codes "serve") (rows_of (found_of found.now)) task) }
+    ensures fault { IfErr result (λ fault. IsNoTaskFor (codes "serve") (rows_of (found_of found.now)) fault) }
+{
+    let Some(workers) = workers_of(found) else {
+        return Err(no_task(alloc));
+    };
+    let Some(age) = age_of(found) else {
+        return Err(no_task(alloc));
+    };
+    let Ok(tenants) = tenants_of(alloc, found) else {
+        return Err(WordsFault::Memory);
+    };
+    Ok(Task::Serve {
+        workers: workers as usize,
+        age,
+        journal: text_of(found, "journal"),
+        tenants,
+    })
+}
+
+fn audit_task<'a>(alloc: Global, found: &ArgMatches<'a>) -> Result<Task<'a>, WordsFault>
+    ensures task { IfOk result (λ task. IsTaskOf (codes "audit") (rows_of (found_of found.now)) task) }
+    ensures fault { IfErr result (λ fault. IsNoTaskFor (codes "audit") (rows_of (found_of found.now)) fault) }
+{
+    match text_of(found, "path") {
+        Some(path) => Ok(Task::Audit { path }),
+        None => Err(no_task(alloc)),
+    }
+}
+
+/// The task of a subcommand, by its name and what was found of it.
+pub fn task_of<'a>(
+    alloc: Global,
+    name: &str,
+    found: &ArgMatches<'a>,
+) -> Result<Task<'a>, WordsFault>
+    ensures task { IfOk result (λ task. IsTaskOf name.now (rows_of (found_of found.now)) task) }
+    ensures fault { IfErr result (λ fault. IsNoTaskFor name.now (rows_of (found_of found.now)) fault) }
+{
+    match name {
+        "steps" => steps_task(alloc, found),
+        "serve" => serve_task(alloc, found),
+        "audit" => audit_task(alloc, found),
+        _ => Err(no_task(alloc)),
+    }
+}
