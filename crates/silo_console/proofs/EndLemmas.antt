@@ -14,6 +14,7 @@ use Rattle.line_protocol.specs.Lines.{lines_of}
 use Rattle.line_protocol.specs.LineTexts.{whole_stepper, machine_stepper, said_lines, steps_said, line_texts, lines_text, lines_to, texts_to}
 use Rattle.line_protocol.specs.LineRuns.{AnswersLines, AnswersNext, AnswersAll, StopsBefore, StopsAt, StopsAfter, StopsBy}
 use Rattle.line_protocol.specs.declared.calls.ReaderCalls.{ReaderCalls}
+use Rattle.line_protocol.specs.declared.written.WriterCalls.{WriterCalls}
 use Rattle.line_protocol.specs.declared.fault.LineFault.{LineFault}
 use Rattle.line_protocol.specs.declared.fault.LineFault.TheVariants as line
 use Rattle.line_parser.specs.declared.line.Line.{Line}
@@ -100,21 +101,21 @@ module _ (setup : Setup) (old : History) (opens : old.whole ≡ opening setup) w
         part = h.part;
       }
 
-  by_fault : (why : LineFault) (calls : ReaderCalls) (input : List ℕ) (new : History) (before after : Option (List ℕ)) → new.failures.now ≡ 0 → StopsBy kinds why (lines_of input) calls old new before after
+  by_fault : (why : LineFault) (calls : ReaderCalls) (writing : WriterCalls) (input : List ℕ) (new : History) (before after : Option (List ℕ)) → new.failures.now ≡ 0 → StopsBy kinds why (lines_of input) calls writing old new before after
       → StopsSteps setup why input before after
-  by_fault line.Read calls input new before after zero h = before_text input new before after zero h.0
-  by_fault line.TooMuch calls input new before after zero h = before_text input new before after zero h.0
-  by_fault line.Memory calls input new before after zero h = at_text input new before after zero h
-  by_fault line.Write calls input new before after zero h = after_text input new before after zero h
+  by_fault line.Read calls writing input new before after zero h = before_text input new before after zero h.0
+  by_fault line.TooMuch calls writing input new before after zero h = before_text input new before after zero h.0
+  by_fault line.Memory calls writing input new before after zero h = at_text input new before after zero h
+  by_fault line.Write calls writing input new before after zero h = after_text input new before after zero h.0
 
-  fault_text : (why : LineFault) (calls : ReaderCalls) (new : History) (from before after : Option (List ℕ)) → new.failures.now ≡ 0
-      → IfSome from (λ input. StopsBy kinds why (lines_of input) calls old new before after) → IfSome from (λ input. StopsSteps setup why input before after)
-  fault_text why calls new None before after zero h = tt
-  fault_text why calls new (Some input) before after zero h = by_fault why calls input new before after zero h
+  fault_text : (why : LineFault) (calls : ReaderCalls) (writing : WriterCalls) (new : History) (from before after : Option (List ℕ)) → new.failures.now ≡ 0
+      → IfSome from (λ input. StopsBy kinds why (lines_of input) calls writing old new before after) → IfSome from (λ input. StopsSteps setup why input before after)
+  fault_text why calls writing new None before after zero h = tt
+  fault_text why calls writing new (Some input) before after zero h = by_fault why calls writing input new before after zero h
 
-  pub steps_stopped : (why : LineFault) (calls : ReaderCalls) (new : History) (ahead from before after : Option (List ℕ)) → ahead ≡ from → new.failures.now ≡ 0
-      → IfSome ahead (λ input. StopsBy kinds why (lines_of input) calls old new before after) → IfSome from (λ input. StopsSteps setup why input before after)
-  steps_stopped why calls new ahead from before after same zero h = subst (λ (o : Option (List ℕ)). IfSome o (λ input. StopsSteps setup why input before after)) same (fault_text why calls new ahead before after zero h)
+  pub steps_stopped : (why : LineFault) (calls : ReaderCalls) (writing : WriterCalls) (new : History) (ahead from before after : Option (List ℕ)) → ahead ≡ from → new.failures.now ≡ 0
+      → IfSome ahead (λ input. StopsBy kinds why (lines_of input) calls writing old new before after) → IfSome from (λ input. StopsSteps setup why input before after)
+  steps_stopped why calls writing new ahead from before after same zero h = subst (λ (o : Option (List ℕ)). IfSome o (λ input. StopsSteps setup why input before after)) same (fault_text why calls writing new ahead before after zero h)
 
 -- ---- all was answered, and then writing failed
 

@@ -1,4 +1,5 @@
-pub mod TenantLemmas
-pub mod WordLemmas
-pub mod TableLemmas
 pub mod EndLemmas
+pub mod ReportLemmas
+pub mod AuditLemmas
+pub mod FaultLemmas
+pub mod ServingLemmas

@@ -1,4 +1,5 @@
-pub mod Tenants
-pub mod Words
 pub mod Status
 pub mod Steps
+pub mod Serving
+pub mod Auditing
+pub mod Ends

@@ -1,44 +1,89 @@
-//! Why the program fails, what it then says, and the status that it ends with.
+//! How the program ends: what it says if it fails, and its status.
 
 ghost use Rattle.std.specs.Prelude.{◌≡◌, IsTrue};
 ghost use Rattle.std.specs.Io.KnownBytes.{Appends};
 ghost use Rattle.line_protocol.specs.LineRuns.{WrittenInPart};
-ghost use Rattle.silo_console.specs.Status.{failure_text, status_of, told_text};
+ghost use Rattle.silo_console.specs.Status.{cause_of, end_status, failure_text, status_of, told_text};
 
-use line_protocol::{LineFault, write_whole};
+use line_protocol::{LineFault, WriterCalls};
 use std::io::Write;
 
-/// Why the program doesn't end with status 0.
-#[derive(Drop)]
-pub enum ProgramFault {
-    /// Reading, writing or memory failed, or the input was too much.
-    Failed(LineFault),
-    /// The arguments are refused, with what is said of them.
-    Refused(String),
+/// How the program ends if it does what it is asked for.
+#[derive(Clone, Copy, Debug, PartialEq, Eq)]
+pub enum End {
+    Well,
+    /// An audit found that a tenant differs.
+    Differs,
 }
 
-/// The status after a fault of reading, of writing or of memory, or after too much input.
+/// Why the program fails.
+#[derive(Clone, Copy, Debug, PartialEq, Eq)]
+pub enum Cause {
+    Read,
+    Write,
+    Memory,
+    /// The input has too many lines, or needs too many calls of the reader.
+    TooMuch,
+    /// No thread could be started.
+    NoWorker,
+    /// What the threads left isn't what serving the lanes leaves.
+    Strayed,
+}
+
+/// Why the program doesn't do what it is asked for.
+#[derive(Drop)]
+pub enum ProgramFault {
+    /// It failed.
+    Failed(Cause),
+    /// The arguments are refused, with what is said of them.
+    Refused(String),
+    /// The file has no journal, with what is said of it.
+    NoJournal(String),
+}
+
+/// The status if a tenant differs.
+const DIFFERS_STATUS: u8 = 3;
+
+/// The status after a fault of reading, of writing, of memory or of threads, or after too much input.
 const FAILED_STATUS: u8 = 1;
 
 /// The status after a fault of the arguments.
 pub const ARGUMENTS_STATUS: u8 = 2;
+
+/// The status if the file has no journal.
+const NO_JOURNAL_STATUS: u8 = 4;
+
+/// What a fault of the lines is to the program.
+pub fn cause_of(fault: LineFault) -> Cause
+    ensures { result ≡ cause_of fault }
+{
+    match fault {
+        LineFault::Read => Cause::Read,
+        LineFault::Write => Cause::Write,
+        LineFault::Memory => Cause::Memory,
+        LineFault::TooMuch => Cause::TooMuch,
+    }
+}
 
 /// Writes a text whole, and says whether that was done. If it wasn't, a part of the text was written: its beginning.
 pub fn say<W: Write>(to: &mut W, text: &str) -> bool
     ensures whole { IsTrue result → Appends (W.contents to.old) (W.contents to.new) text.now }
     ensures part { WrittenInPart (W.contents to.old) (W.contents to.new) text.now }
 {
-    write_whole(to, text.as_bytes()).is_ok() && to.flush().is_ok()
+    let mut calls = WriterCalls::none();
+    calls.write_whole(to, text.as_bytes()).is_ok() && calls.flush(to).is_ok()
 }
 
-fn failure_line(fault: LineFault) -> &'static str
-    ensures { result.now ≡ failure_text fault }
+fn failure_line(cause: Cause) -> &'static str
+    ensures { result.now ≡ failure_text cause }
 {
-    match fault {
-        LineFault::Read => "silo: reading failed\n",
-        LineFault::Write => "silo: writing failed\n",
-        LineFault::Memory => "silo: out of memory\n",
-        LineFault::TooMuch => "silo: too much input\n",
+    match cause {
+        Cause::Read => "silo: reading failed\n",
+        Cause::Write => "silo: writing failed\n",
+        Cause::Memory => "silo: out of memory\n",
+        Cause::TooMuch => "silo: too much input\n",
+        Cause::NoWorker => "silo: no worker\n",
+        Cause::Strayed => "silo: lanes strayed\n",
     }
 }
 
@@ -56,5 +101,19 @@ pub fn tell<E: Write>(errors: &mut E, fault: &ProgramFault) -> u8
             say(errors, text.as_str());
             ARGUMENTS_STATUS
         }
+        ProgramFault::NoJournal(text) => {
+            say(errors, text.as_str());
+            NO_JOURNAL_STATUS
+        }
+    }
+}
+
+/// The status of a program that did what it was asked for.
+pub fn status_of_end(end: End) -> u8
+    ensures { result ≡ end_status end }
+{
+    match end {
+        End::Well => 0,
+        End::Differs => DIFFERS_STATUS,
     }
 }

@@ -1,10 +1,10 @@
 //! The program `silo`: its words, its files and its streams.
 //!
 //! `main` hands the real ones to `run_program`, which is generic over them all and says by its answer
-//! what the exit status is. `command_line` reads the words by `clap` and is alone in knowing it,
-//! `tenants` reads the tenant arguments, and `files` is what the program knows of files. What a
-//! tenant argument is stands in `specs/Tenants.antt`, what the words ask for in `specs/Words.antt`, and
-//! how the program then ends in `specs/Steps.antt`.
+//! what the exit status is. The crate `silo_words` reads the words, the tenant arguments among them. Here
+//! `stepping` takes the steps of an input, `serving` serves its lines by threads, `auditing` audits a
+//! journal, and `files` is what the program knows of files. How the program ends stands in
+//! `specs/Ends.antt`.
 #![tactic(auto)]
 
 ghost use Rattle.std.specs.Prelude.{◌≡◌, ◌≢◌};
@@ -12,17 +12,16 @@ ghost use Rattle.std.specs.IoError.{error_kind};
 ghost use Rattle.line_protocol.specs.LineRuns.{WrittenInPart};
 ghost use Rattle.silo_console.specs.Status.{failure_text};
 
-mod command_line;
+mod auditing;
 mod failure;
 mod files;
-mod laws;
 mod program;
-mod tenants;
+mod serving;
+mod stepping;
 
-use crate::failure::{ARGUMENTS_STATUS, ProgramFault, say, tell};
+use crate::failure::{ARGUMENTS_STATUS, Cause, ProgramFault, say, tell};
 use crate::files::HostFiles;
 use crate::program::run_program;
-use line_protocol::LineFault;
 use std::io::{BufWriter, ErrorKind, Write};
 use std::process::ExitCode;
 use std::rt::Env;
@@ -45,12 +44,12 @@ const NOT_UTF8: &str = "error: an argument is not UTF-8\n";
 /// Tells why the words were not had, and answers the status.
 fn refuse_words<E: Write>(fault: &io::Error, errors: &mut E) -> u8
     ensures memory { error_kind fault.now ≡ ErrorKind.OutOfMemory
-        → (result ≡ 1) × WrittenInPart (E.contents errors.old) (E.contents errors.new) (failure_text LineFault.Memory) }
+        → (result ≡ 1) × WrittenInPart (E.contents errors.old) (E.contents errors.new) (failure_text Cause.Memory) }
     ensures other { error_kind fault.now ≢ ErrorKind.OutOfMemory
         → (result ≡ 2) × WrittenInPart (E.contents errors.old) (E.contents errors.new) NOT_UTF8.now }
 {
     if fault.kind() == ErrorKind::OutOfMemory {
-        return tell(errors, &ProgramFault::Failed(LineFault::Memory));
+        return tell(errors, &ProgramFault::Failed(Cause::Memory));
     }
     say(errors, NOT_UTF8);
     ARGUMENTS_STATUS
@@ -66,7 +65,7 @@ fn main(rt: HostRuntime) -> ExitCode {
     };
     let Ok(mut writer) = BufWriter::with_capacity(rt.alloc(), OUTPUT_BUFFER_BYTES, rt.stdout())
     else {
-        let fault = ProgramFault::Failed(LineFault::Memory);
+        let fault = ProgramFault::Failed(Cause::Memory);
         return ExitCode::from(tell(&mut errors, &fault));
     };
     ExitCode::from(run_program(

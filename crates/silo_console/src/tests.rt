@@ -1,9 +1,14 @@
+mod auditing;
+mod serving;
+
 use crate::files::{FileFault, MemoryFile, WholeFiles};
 use crate::program::run_program;
 use std::alloc::{AllocError, Global};
 use std::io;
 use std::io::{ErrorKind, Read, Write};
+use std::sync::Wait;
 use std::test::Fail;
+use std::thread::Threads;
 
 /// A writer that takes nothing.
 #[derive(Drop)]
@@ -56,6 +61,14 @@ struct Outcome<W> {
     errors: Vec<u8>,
 }
 
+/// A file at the path `j` that has this text.
+fn file_of(alloc: Global, text: &str) -> Result<MemoryFile, AllocError> {
+    Ok(MemoryFile {
+        path: String::from_str(alloc, "j")?,
+        bytes: Vec::from_slice(alloc, text.as_bytes())?,
+    })
+}
+
 fn no_file(alloc: Global) -> MemoryFile {
     MemoryFile {
         path: String::new(alloc),
@@ -80,17 +93,17 @@ fn room(alloc: Global) -> Result<Vec<u8>, AllocError> {
     Vec::with_capacity(alloc, ROOM)
 }
 
-/// A run that had too little memory is an error, as it is where a call answers so.
-fn run<H: AllocGlobal, R: Read, W: Write + Drop>(
+/// A run over a file. That it had too little memory is an error, as it is where a call answers so.
+fn run_over<H: AllocGlobal + Threads + Wait + Sync, R: Read, W: Write + Drop>(
     rt: &H,
     arguments: &[&str],
+    file: &mut MemoryFile,
     reader: &mut R,
     mut output: W,
 ) -> Result<Outcome<W>, AllocError> {
     let words = words_of(rt.alloc(), arguments)?;
-    let mut files = no_file(rt.alloc());
     let mut errors = room(rt.alloc())?;
-    let status = run_program(rt, &words, &mut files, reader, &mut output, &mut errors);
+    let status = run_program(rt, &words, file, reader, &mut output, &mut errors);
     if errors.as_slice() == b"silo: out of memory\n".as_slice() {
         return Err(AllocError);
     }
@@ -99,6 +112,17 @@ fn run<H: AllocGlobal, R: Read, W: Write + Drop>(
         output,
         errors,
     })
+}
+
+/// A run over no file.
+fn run<H: AllocGlobal + Threads + Wait + Sync, R: Read, W: Write + Drop>(
+    rt: &H,
+    arguments: &[&str],
+    reader: &mut R,
+    output: W,
+) -> Result<Outcome<W>, AllocError> {
+    let mut file = no_file(rt.alloc());
+    run_over(rt, arguments, &mut file, reader, output)
 }
 
 const RED: &[&str] = &["steps", "red:2:4"];
@@ -290,15 +314,20 @@ fn takes_limits_to_their_ends(rt: HostRuntime) -> Result<(), Fail> {
 
 #[test]
 fn explains_words(rt: HostRuntime) -> Result<(), Fail> {
-    let rows: [&[&str]; 8] = [
+    let rows: [&[&str]; 13] = [
         &[],
         &["steps"],
-        &["serve", "red:2:4"],
+        &["server", "red:2:4"],
         &["steps", "--workers", "4", "red:2:4"],
         &["steps", "--age", "0", "red:2:4"],
         &["steps", "--age", "86400001", "red:2:4"],
         &["steps", "--age", "x", "red:2:4"],
         &["steps", "--age"],
+        &["serve"],
+        &["serve", "--workers", "0", "red:2:4"],
+        &["serve", "--workers", "65", "red:2:4"],
+        &["audit"],
+        &["audit", "j", "k"],
     ];
     for arguments in rows {
         let outcome = run(&rt, arguments, &mut [].as_slice(), room(rt.alloc())?)?;

@@ -1,8 +1,0 @@
-//! That what is said of words isn't said of none.
-
-ghost use Rattle.silo_console.specs.Words.{TellsWordsApart};
-
-/// Words that are written out ask for what a reader expects: steps, help or the version, or they are refused.
-pub fn words_are_told_apart()
-    ensures { TellsWordsApart }
-{}
