@@ -15,6 +15,3 @@ pub use asking::{asker_of, has_failed};
 pub use check::{failed_in, lanes_stand};
 pub use lane::{Lane, LaneFault, distinct};
 pub use told::answers;
-
-#[cfg(test)]
-mod tests;

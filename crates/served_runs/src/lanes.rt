@@ -1,4 +1,6 @@
-use super::*;
+//! Lanes of clients, and what is looked at once they were served.
+
+use client_lanes::{Lane, LaneFault, answers, asker_of, distinct, failed_in, lanes_stand};
 use grain_id::{Caller, GrainId};
 use silo_event::{Moment, Party, Refusal, Reply, Step};
 use std::alloc::Global;

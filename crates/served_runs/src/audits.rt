@@ -1,0 +1,199 @@
+//! Journals and their audit.
+
+ghost use Rattle.std.specs.Prelude.{◌≤◌};
+
+use grain_id::Tenant;
+use grain_kinds::Kinds;
+use grain_storage::MemoryStorage;
+use journal_audit::{AuditGate, audit, audit_with, has_difference, report_text, write_journal};
+use silo_core::{Setup, Silo};
+use std::alloc::Global;
+use std::sync::Wait;
+use std::sync::atomic::{AtomicBool, AtomicU64, Ordering};
+use std::test::Fail;
+use std::thread;
+use std::thread::Threads;
+use tenant_audit::read_journal;
+use tenant_gate::{Age, Limits, TenantTable};
+
+/// The journal of one tenant whose counter is asked to add 3.
+const WORKED: &str =
+    "silo-journal 1\nage 900000\ntenant red 2 4\ncall red/c1 1 counter/red:a 01000000036164640600000001000000026279030000000000000003\nactivate counter/red:a\nload counter/red:a ok\nbegin counter/red:a\nend counter/red:a 1\nreply red/c1 1 ok 030000000000000003\nclose 5\n";
+
+fn audited(alloc: Global, text: &str) -> Result<String, Fail> {
+    let journal = read_journal(alloc, text.as_bytes())?;
+    let reports = audit(alloc, &journal, Kinds)?;
+    Ok(report_text(alloc, reports.as_slice())?)
+}
+
+#[test]
+fn a_true_journal_has_no_difference(rt: HostRuntime) -> Result<(), Fail> {
+    let alloc = rt.alloc();
+    assert_eq!(rt;
+        audited(alloc, WORKED)?.as_str(),
+        "tenant red: 5 steps, 1 replies, 0 rows\n"
+    );
+    Ok(())
+}
+
+/// A journal of three tenants, of whom the table has one, and its report.
+const OTHERS: &str =
+    "silo-journal 1\nage 1\ntenant red 1 1\nstatus blue/c1 1\ntick 5\nreply blue/c1 1 no 21 tenant blue is unknown\nrow counter/amber:a 7 -\nclose 2\n";
+
+const OTHERS_REPORT: &str =
+    "tenant red: 1 steps, 0 replies, 0 rows\ntenant amber: row counter/amber:a differs\ntenant blue: 2 steps, 1 replies, 0 rows\n";
+
+#[test]
+fn others_are_reported_behind_the_table(rt: HostRuntime) -> Result<(), Fail> {
+    let alloc = rt.alloc();
+    assert_eq!(rt; audited(alloc, OTHERS)?.as_str(), OTHERS_REPORT);
+    Ok(())
+}
+
+/// A gate that counts the tenants that it is told of.
+#[derive(Drop)]
+struct Counting {
+    told: AtomicU64,
+}
+
+impl AuditGate for Counting {
+    fn entered(&self, _tenant: &Tenant) {
+        self.told.fetch_add(1, Ordering::SeqCst);
+    }
+}
+
+/// The report of three tenants by so many workers, and how many tenants the gate was told of.
+fn audited_by<R: Threads + Wait + Sync>(
+    rt: &R,
+    alloc: Global,
+    workers: usize,
+) -> Result<(String, u64), Fail>
+    requires { (1 ≤ workers) × (workers ≤ 64) }
+{
+    let gate = Counting {
+        told: AtomicU64::new(0),
+    };
+    let journal = read_journal(alloc, OTHERS.as_bytes())?;
+    let Ok(reports) = audit_with(rt, alloc, &journal, workers, &gate) else {
+        return Err(Fail::from("no report: no memory, or no thread"));
+    };
+    Ok((
+        report_text(alloc, reports.as_slice())?,
+        gate.told.load(Ordering::SeqCst),
+    ))
+}
+
+#[test]
+fn the_report_is_the_same_for_every_number_of_workers(rt: HostRuntime) -> Result<(), Fail> {
+    let alloc = rt.alloc();
+    let one = audited_by(&rt, alloc, 1)?;
+    let two = audited_by(&rt, alloc, 2)?;
+    let three = audited_by(&rt, alloc, 3)?;
+    let most = audited_by(&rt, alloc, 64)?;
+    for (text, told) in [one, two, three, most] {
+        assert_eq!(rt; text.as_str(), OTHERS_REPORT);
+        assert_eq!(rt; told, 3);
+    }
+    Ok(())
+}
+
+/// Two tenants that did nothing.
+const QUIET: &str = "silo-journal 1\nage 1\ntenant red 1 1\ntenant blue 1 1\nclose 0\n";
+
+const POLLS: u32 = 10_000_000;
+
+/// A gate at which each tenant waits until the other is there, and a miss is noted.
+#[derive(Drop)]
+struct Meeting {
+    come: AtomicU64,
+    missed: AtomicBool,
+}
+
+impl AuditGate for Meeting {
+    fn entered(&self, _tenant: &Tenant) {
+        self.come.fetch_add(1, Ordering::SeqCst);
+        for _ in 0..POLLS {
+            if self.come.load(Ordering::SeqCst) >= 2 {
+                return;
+            }
+            thread::yield_now();
+        }
+        self.missed.store(true, Ordering::SeqCst);
+    }
+}
+
+#[test]
+fn two_tenants_are_audited_at_once(rt: HostRuntime) -> Result<(), Fail> {
+    let alloc = rt.alloc();
+    let gate = Meeting {
+        come: AtomicU64::new(0),
+        missed: AtomicBool::new(false),
+    };
+    let journal = read_journal(alloc, QUIET.as_bytes())?;
+    let Ok(reports) = audit_with(&rt, alloc, &journal, 2, &gate) else {
+        return Err(Fail::from("no report: no memory, or no thread"));
+    };
+    assert_eq!(rt; reports.len(), 2);
+    assert!(rt;
+        !gate.missed.load(Ordering::SeqCst),
+        "a tenant waited alone"
+    );
+    Ok(())
+}
+
+#[test]
+fn the_first_step_that_is_not_done_is_told(rt: HostRuntime) -> Result<(), Fail> {
+    let alloc = rt.alloc();
+    let text =
+        "silo-journal 1\nage 1\ntenant red 1 1\ntick 5\ntick 4\nbegin counter/red:a\nclose 3\n";
+    assert_eq!(rt;
+        audited(alloc, text)?.as_str(),
+        "tenant red: step 2 differs\n"
+    );
+    Ok(())
+}
+
+#[test]
+fn a_changed_reply_is_told(rt: HostRuntime) -> Result<(), Fail> {
+    let alloc = rt.alloc();
+    let text =
+        "silo-journal 1\nage 1\ntenant red 1 1\nstatus blue/c1 1\nreply blue/c1 1 no 22 tenant blue is unknown\nclose 1\n";
+    assert_eq!(rt;
+        audited(alloc, text)?.as_str(),
+        "tenant red: 0 steps, 0 replies, 0 rows\ntenant blue: reply 1 differs\n"
+    );
+    Ok(())
+}
+
+/// A silo whose counter is asked to add 3, and gives it the turn in which it does.
+fn stepped(alloc: Global) -> Result<Silo<MemoryStorage, Kinds>, Fail> {
+    let limits = Limits {
+        activations: 2,
+        mailbox: 4,
+    };
+    let red = Tenant::read(alloc, "red")?;
+    let setup = Setup {
+        tenants: TenantTable::new(alloc, vec![in alloc; (red, limits)]?)?,
+        age: Age::new(900_000).ok_or("no age")?,
+        storage: MemoryStorage::new(alloc),
+        logic: Kinds,
+    };
+    let mut silo = Silo::new(alloc, setup)?;
+    let journal = read_journal(alloc, WORKED.as_bytes())?;
+    for step in journal.steps() {
+        drop(silo.apply(alloc, step.clone()?)?);
+    }
+    Ok(silo)
+}
+
+#[test]
+fn a_silo_writes_the_worked_journal(rt: HostRuntime) -> Result<(), Fail> {
+    let alloc = rt.alloc();
+    let silo = stepped(alloc)?;
+    assert!(rt; silo.opening().is_empty());
+    let text = write_journal(alloc, &silo)?;
+    assert!(rt; text.as_slice() == WORKED.as_bytes());
+    let reports = audit(alloc, &read_journal(alloc, text.as_slice())?, Kinds)?;
+    assert!(rt; !has_difference(reports.as_slice()));
+    Ok(())
+}

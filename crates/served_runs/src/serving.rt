@@ -1,0 +1,346 @@
+//! Lanes that are served by threads: turns that are open at once, and answers in order.
+
+use bumpalo::Bump;
+use grain_id::{Caller, GrainId, Tenant};
+use grain_kinds::{GrainLogic, Kinds, Plan};
+use grain_storage::MemoryStorage;
+use request_codec::{Datum, StateBytes, decode_state, encode};
+use silo_core::Setup;
+use silo_event::{Party, Reply, Step};
+use std::alloc::{AllocError, Global};
+use std::collections::BTreeMap;
+use std::sync::Wait;
+use std::sync::atomic::{AtomicBool, AtomicU64, Ordering};
+use std::test::Fail;
+use std::thread;
+use std::thread::Threads;
+use tenant_gate::{Age, Limits, TenantTable};
+use turn_arena::Node;
+use worker_host::{FreeGate, Lane, ServeFault, ServeReport, TurnGate, distinct, serve};
+
+const POLLS: u32 = 10_000_000;
+
+/// The code of a turn that was abandoned.
+const ABANDONED: u8 = 70;
+
+/// Waits until so many have come, and notes a miss.
+#[derive(Drop)]
+struct Meeting {
+    wanted: u64,
+    come: AtomicU64,
+    missed: AtomicBool,
+}
+
+impl Meeting {
+    fn new(wanted: u64) -> Meeting {
+        Meeting {
+            wanted,
+            come: AtomicU64::new(0),
+            missed: AtomicBool::new(false),
+        }
+    }
+
+    fn meet(&self) {
+        self.come.fetch_add(1, Ordering::SeqCst);
+        for _ in 0..POLLS {
+            if self.come.load(Ordering::SeqCst) >= self.wanted {
+                return;
+            }
+            thread::yield_now();
+        }
+        self.missed.store(true, Ordering::SeqCst);
+    }
+
+    fn was_missed(&self) -> bool {
+        self.missed.load(Ordering::SeqCst)
+    }
+}
+
+impl TurnGate for Meeting {
+    fn entered(&self, _grain: &GrainId, _turn: u64) {
+        self.meet();
+    }
+}
+
+/// Asks a counter for a value, or to add to it.
+fn call(alloc: Global, caller: &str, id: u64, grain: &str, by: Option<i64>) -> Result<Step, Fail> {
+    let message = match by {
+        Some(by) => {
+            let mut fields = BTreeMap::new(alloc);
+            drop(fields.insert(String::from_str(alloc, "by")?, Datum::Int(by))?);
+            encode(alloc, "add", &Datum::Map(fields))?
+        }
+        None => encode(alloc, "get", &Datum::Null)?,
+    };
+    Ok(Step::Call {
+        caller: Caller::read(alloc, caller)?,
+        id,
+        grain: GrainId::read(alloc, grain)?,
+        message,
+    })
+}
+
+fn lane(alloc: Global, caller: &str, steps: Vec<Step>) -> Result<Lane, Fail> {
+    Ok(Lane::new(Some(Caller::read(alloc, caller)?), steps).map_err(|_| "no lane")?)
+}
+
+fn get_lane(alloc: Global, caller: &str, grain: &str) -> Result<Lane, Fail> {
+    let steps = vec![in alloc; call(alloc, caller, 1, grain, None)?]?;
+    lane(alloc, caller, steps)
+}
+
+/// A logic whose plans wait for one another: counters, sheets and relays otherwise.
+#[derive(Clone, Copy)]
+struct Together<'m> {
+    meeting: &'m Meeting,
+}
+
+impl GrainLogic for Together<'_> {
+    ghost use Rattle.grain_kinds.specs.Kinds.{kinds};
+    ghost use Rattle.grain_kinds.specs.LawsOfKinds.{kinds_lawful};
+
+    ghost logic = { kinds };
+
+    fn knows(&self, kind: &str) -> bool {
+        Kinds.knows(kind)
+    }
+
+    fn is_read(&self, kind: &str, method: &str) -> bool {
+        Kinds.is_read(kind, method)
+    }
+
+    fn empty(&self, alloc: Global, kind: &str) -> Result<StateBytes, AllocError> {
+        Kinds.empty(alloc, kind)
+    }
+
+    fn plan<'a>(
+        &self,
+        alloc: Global,
+        bump: &'a Bump,
+        kind: &str,
+        method: &'a str,
+        state: Node<'a>,
+        args: Node<'a>,
+    ) -> Result<Plan<'a>, AllocError> {
+        self.meeting.meet();
+        Kinds.plan(alloc, bump, kind, method, state, args)
+    }
+
+    ghost lawful = { kinds_lawful };
+}
+
+/// A setup with this logic.
+fn setup_with<L: GrainLogic + Drop>(
+    alloc: Global,
+    names: &[&str],
+    logic: L,
+) -> Result<Setup<MemoryStorage, L>, Fail> {
+    let mut list = Vec::new(alloc);
+    for name in names {
+        let limits = Limits {
+            activations: 2,
+            mailbox: 4,
+        };
+        list.push((Tenant::read(alloc, name)?, limits))?;
+    }
+    Ok(Setup {
+        tenants: TenantTable::new(alloc, list)?,
+        age: Age::new(900_000).ok_or("no age")?,
+        storage: MemoryStorage::new(alloc),
+        logic,
+    })
+}
+
+/// The number that is told, or -1 if another value or a fault is.
+fn number_of(alloc: Global, reply: &Reply) -> Result<i64, Fail> {
+    let Ok(value) = &reply.outcome else {
+        return Ok(-1);
+    };
+    Ok(match decode_state(alloc, value)? {
+        Datum::Int(number) => number,
+        _ => -1,
+    })
+}
+
+/// The numbers that are told in each lane, all together, ascending.
+fn numbers_of(alloc: Global, answers: &[Vec<Reply>]) -> Result<Vec<i64>, Fail> {
+    let mut all = Vec::new(alloc);
+    for replies in answers {
+        for reply in replies {
+            all.push(number_of(alloc, reply)?)?;
+        }
+    }
+    all.sort()?;
+    Ok(all)
+}
+
+/// The numbers under which a client is told something.
+fn ids_of(alloc: Global, replies: &[Reply]) -> Result<Vec<u64>, Fail> {
+    let mut ids = Vec::new(alloc);
+    for reply in replies {
+        if let Party::Client(_, id) = &reply.recipient {
+            ids.push(*id)?;
+        }
+    }
+    Ok(ids)
+}
+
+/// Serves lanes, if they may be served.
+fn served<
+    R: AllocGlobal + Threads + Wait + Sync,
+    L: GrainLogic + Copy + Send + Drop,
+    G: TurnGate + Sync,
+>(
+    rt: &R,
+    setup: Setup<MemoryStorage, L>,
+    lanes: &[Lane],
+    workers: usize,
+    gate: &G,
+) -> Result<ServeReport<MemoryStorage, L>, Fail> {
+    if workers < 1 || workers > 64 || !distinct(lanes) {
+        return Err("these lanes can't be served".into());
+    }
+    match serve(rt, rt.alloc(), setup, lanes, workers, gate) {
+        Ok(report) => Ok(report),
+        Err(ServeFault::Memory) => Err(AllocError.into()),
+        Err(ServeFault::NoWorker) => Err("no thread, and so no memory".into()),
+        Err(ServeFault::Strayed) => Err("the lanes strayed".into()),
+    }
+}
+
+#[test]
+fn two_turns_are_open_at_once(rt: HostRuntime) -> Result<(), Fail> {
+    let alloc = rt.alloc();
+    let lanes = vec![in alloc;
+        get_lane(alloc, "red/c1", "counter/red:a")?,
+        get_lane(alloc, "blue/c1", "counter/blue:a")?,
+    ]?;
+    let gate = Meeting::new(2);
+    let setup = setup_with(alloc, &["red", "blue"], Kinds)?;
+    let report = served(&rt, setup, &lanes, 2, &gate)?;
+    assert!(rt; !gate.was_missed(), "a turn waited alone");
+    assert_eq!(rt; numbers_of(alloc, &report.answers)?, vec![in alloc; 0, 0]?);
+    Ok(())
+}
+
+#[test]
+fn one_thread_misses(rt: HostRuntime) -> Result<(), Fail> {
+    let alloc = rt.alloc();
+    let lanes = vec![in alloc;
+        get_lane(alloc, "red/c1", "counter/red:a")?,
+        get_lane(alloc, "blue/c1", "counter/blue:a")?,
+    ]?;
+    let gate = Meeting::new(2);
+    let setup = setup_with(alloc, &["red", "blue"], Kinds)?;
+    served(&rt, setup, &lanes, 1, &gate)?;
+    assert!(rt; gate.was_missed());
+    Ok(())
+}
+
+#[test]
+fn four_bodies_run_at_once(rt: HostRuntime) -> Result<(), Fail> {
+    let alloc = rt.alloc();
+    let lanes = vec![in alloc;
+        get_lane(alloc, "red/c1", "counter/red:a")?,
+        get_lane(alloc, "red/c2", "counter/red:a")?,
+        get_lane(alloc, "blue/c1", "counter/blue:a")?,
+        get_lane(alloc, "blue/c2", "counter/blue:a")?,
+    ]?;
+    let meeting = Meeting::new(4);
+    let setup = setup_with(alloc, &["red", "blue"], Together { meeting: &meeting })?;
+    let report = served(&rt, setup, &lanes, 4, &FreeGate)?;
+    assert!(rt; !meeting.was_missed(), "a body waited alone");
+    assert_eq!(rt;
+        numbers_of(alloc, &report.answers)?,
+        vec![in alloc; 0, 0, 0, 0]?
+    );
+    Ok(())
+}
+
+/// A lane of an `add` of 3, a `get`, and a status.
+fn three_steps(alloc: Global) -> Result<Lane, Fail> {
+    let mut steps = Vec::new(alloc);
+    steps.push(call(alloc, "red/c1", 1, "counter/red:a", Some(3))?)?;
+    steps.push(call(alloc, "red/c1", 2, "counter/red:a", None)?)?;
+    steps.push(Step::Status {
+        caller: Caller::read(alloc, "red/c1")?,
+        id: 3,
+    })?;
+    lane(alloc, "red/c1", steps)
+}
+
+/// The ids and the numbers that such a lane is answered by so many workers. The status is no number.
+fn three_answers<R: AllocGlobal + Threads + Wait + Sync>(
+    rt: &R,
+    workers: usize,
+) -> Result<(Vec<u64>, Vec<i64>), Fail> {
+    let alloc = rt.alloc();
+    let lanes = vec![in alloc; three_steps(alloc)?]?;
+    let setup = setup_with(alloc, &["red"], Kinds)?;
+    let report = served(rt, setup, &lanes, workers, &FreeGate)?;
+    let mut ids = Vec::new(alloc);
+    for replies in &report.answers {
+        ids.append(&mut ids_of(alloc, replies)?)?;
+    }
+    Ok((ids, numbers_of(alloc, &report.answers)?))
+}
+
+#[test]
+fn a_lane_is_answered_in_its_order(rt: HostRuntime) -> Result<(), Fail> {
+    let alloc = rt.alloc();
+    for workers in [1, 2, 4, 64] {
+        let (ids, numbers) = three_answers(&rt, workers)?;
+        assert_eq!(rt; ids, vec![in alloc; 1, 2, 3]?);
+        assert_eq!(rt; numbers, vec![in alloc; -1, 3, 3]?);
+    }
+    Ok(())
+}
+
+#[test]
+fn two_lanes_of_a_hundred_calls(rt: HostRuntime) -> Result<(), Fail> {
+    let alloc = rt.alloc();
+    let mut lanes = Vec::new(alloc);
+    for caller in ["red/c1", "red/c2"] {
+        let mut steps = Vec::new(alloc);
+        for id in 0..100 {
+            steps.push(call(alloc, caller, id, "counter/red:a", Some(1))?)?;
+        }
+        lanes.push(lane(alloc, caller, steps)?)?;
+    }
+    let setup = setup_with(alloc, &["red"], Kinds)?;
+    let report = served(&rt, setup, &lanes, 4, &FreeGate)?;
+    let numbers = numbers_of(alloc, &report.answers)?;
+    assert_eq!(rt; numbers.len(), 200);
+    let mut wanted = 1;
+    for number in &numbers {
+        assert_eq!(rt; *number, wanted);
+        wanted = wanted.wrapping_add(1);
+    }
+    Ok(())
+}
+
+/// Whether a `get` of a new counter was answered: by 0, or as a turn that was abandoned.
+fn is_right(alloc: Global, reply: &Reply) -> Result<bool, Fail> {
+    match &reply.outcome {
+        Ok(_) => Ok(number_of(alloc, reply)? == 0),
+        Err(fault) => Ok(fault.code() == ABANDONED),
+    }
+}
+
+#[test]
+fn served_with_little_memory(rt: HostRuntime) -> Result<(), Fail> {
+    let alloc = rt.alloc();
+    let lanes = vec![in alloc;
+        get_lane(alloc, "red/c1", "counter/red:a")?,
+        get_lane(alloc, "blue/c1", "counter/blue:a")?,
+    ]?;
+    let setup = setup_with(alloc, &["red", "blue"], Kinds)?;
+    let report = served(&rt, setup, &lanes, 2, &FreeGate)?;
+    for replies in &report.answers {
+        assert_eq!(rt; replies.len(), 1);
+        for reply in replies {
+            assert!(rt; is_right(alloc, reply)?);
+        }
+    }
+    Ok(())
+}
