@@ -1,16 +1,18 @@
 #!/usr/bin/env python3
 """Runs a built program beside the slow silo, and compares what they write, byte for byte.
 
-    tools/compare.py [--everything] random PROGRAM [--seed N] [--count N] [--keep FOLDER]
-    tools/compare.py [--everything] rows PROGRAM
+    tools/compare.py random PROGRAM [--seed N] [--count N] [--keep FOLDER]
+    tools/compare.py rows PROGRAM
+    tools/compare.py serve PROGRAM [--seed N] [--count N]
     tools/compare.py limits PROGRAM
-    tools/compare.py [--everything] examples PROGRAM [FOLDER]
+    tools/compare.py examples PROGRAM [FOLDER]
 
-`random` makes so many inputs from the seed, `rows` takes the worked rows, and `limits` those inputs that are at a limit
-and too large to keep. `examples` takes the folders of examples/: the files `args` (one word a line), `stdin`, `stdout`,
-`status`, and `stderr` if it is fixed. The program `oracle` is the slow silo itself. The slow silo does what the program
-does today, and with --everything what it is to do. Each prints what differs, and last 'N passed, M failed'; `random`
-keeps an input that differs, as a folder of that form.
+`random` makes so many inputs from the seed, `rows` takes the worked rows, and `limits` those inputs that are at a
+limit and too large to keep. `serve` makes inputs whose output is the same whatever the workers do, and has each served
+by 1, 2, 4 and 64 workers; the slow silo looks at the journals, by their bytes if they are certain too. `examples`
+takes the folders of examples/: the files `args` (one word a line), `stdin`, `stdout`, `status`, and `stderr` if it is
+fixed. The program `oracle` is the slow silo itself. Each prints what differs, and last 'N passed, M failed'; `random`
+and `serve` keep an input that differs, as a folder of that form.
 """
 
 from __future__ import annotations
@@ -23,23 +25,25 @@ import sys
 import tempfile
 from typing import Optional
 
+import certain_input
 import random_input
+from certain_input import Certain
 from random_input import Input
 from slow_silo import row_checks
-from slow_silo.built import EVERYTHING, TODAY, Built
 from slow_silo.lines import MAX_LINE, MAX_LINES
 from slow_silo.program import Run, run_program
 from slow_silo.rows import ROWS
 
 ROOT = pathlib.Path(__file__).resolve().parent.parent
 SECONDS = 120
+WORKERS = ["1", "2", "4", "64"]
 MOST_SHOWN = 10
 
 
-def run_it(program: str, given: Input, built: Built) -> Run:
+def run_it(program: str, given: Input) -> Run:
     """The program's run, in a folder with the input's files."""
     if program == "oracle":
-        return run_program(given.words, given.data, given.files, built)
+        return run_program(given.words, given.data, given.files)
     with tempfile.TemporaryDirectory() as place:
         folder = pathlib.Path(place)
         for path, content in given.files.items():
@@ -101,12 +105,12 @@ def keep(folder: pathlib.Path, given: Input, wanted: Run) -> None:
         (folder / path).write_bytes(content)
 
 
-def compare_random(options: argparse.Namespace, built: Built) -> int:
+def compare_random(options: argparse.Namespace) -> int:
     count, lines = Count(), 0
     for place in range(options.count):
-        given = random_input.make_input(random.Random(f"{options.seed}/{place}"), built)
-        wanted = run_program(given.words, given.data, given.files, built)
-        what = difference(run_it(options.program, given, built), wanted)
+        given = random_input.make_input(random.Random(f"{options.seed}/{place}"))
+        wanted = run_it("oracle", given)
+        what = difference(run_it(options.program, given), wanted)
         count.add(f"input {place} of seed {options.seed}", what)
         lines += given.data.count(b"\n")
         if what is not None:
@@ -116,20 +120,44 @@ def compare_random(options: argparse.Namespace, built: Built) -> int:
     return count.end()
 
 
-def compare_rows(options: argparse.Namespace, built: Built) -> int:
-    """Those rows that a program does which does what is built."""
-    count, others = Count(), 0
+def compare_rows(options: argparse.Namespace) -> int:
+    count = Count()
     for row in ROWS:
-        if row_checks.difference(row, built) is not None:
-            others += 1
-            continue
         given = Input(row.words, row_checks.input_of(row), {path: text.encode() for path, text in row.files.items()})
-        count.add(row.name, difference(run_it(options.program, given, built), run_it("oracle", given, built)))
-    print(f"{others} rows ask for what isn't built")
+        count.add(row.name, difference(run_it(options.program, given), run_it("oracle", given)))
     return count.end()
 
 
-def compare_limits(options: argparse.Namespace, built: Built) -> int:
+def serve_difference(program: str, given: Certain, workers: str) -> Optional[str]:
+    """What differs in a run by so many workers: what it writes, and its journal or that journal's audit."""
+    words = ["serve", "--workers", workers, "--journal", "j", *given.words]
+    wanted = run_program(words, given.data)
+    try:
+        found = run_it(program, Input(words, given.data))
+    except subprocess.TimeoutExpired:
+        return f"time\n  program: more than {SECONDS} seconds"
+    if given.journal or found.files.keys() != {"j"}:
+        return difference(found, wanted)
+    audit = run_program(["audit", "j"], files=found.files)
+    if audit.status != 0:
+        return f"its journal\n  the slow silo's audit: {shortened((audit.out, audit.errors))}"
+    return difference(found._replace(files=None), wanted)
+
+
+def compare_serve(options: argparse.Namespace) -> int:
+    count = Count()
+    for place in range(options.count):
+        given = certain_input.make_input(random.Random(f"{options.seed}/serve/{place}"))
+        for workers in WORKERS:
+            what = serve_difference(options.program, given, workers)
+            count.add(f"input {place} of seed {options.seed}, {workers} workers", what)
+            if what is not None:
+                made = Input(["serve", "--workers", workers, *given.words], given.data)
+                keep(options.keep / f"serve-{options.seed}-{place}", made, run_it("oracle", made))
+    return count.end()
+
+
+def compare_limits(options: argparse.Namespace) -> int:
     asked = b'{"op":"begin","grain":"counter/red:a"}'
     inputs = {
         "as many lines as there may be": b"\n" * MAX_LINES,
@@ -143,7 +171,7 @@ def compare_limits(options: argparse.Namespace, built: Built) -> int:
     count = Count()
     for name, data in inputs.items():
         given = Input(["steps", "red:2:4"], data)
-        count.add(name, difference(run_it(options.program, given, built), run_it("oracle", given, built)))
+        count.add(name, difference(run_it(options.program, given), run_it("oracle", given)))
     return count.end()
 
 
@@ -156,31 +184,30 @@ def read_example(folder: pathlib.Path) -> tuple[Input, Run]:
     return Input(words, given("stdin")), Run(given("stdout"), errors, int(given("status") or b"0"), {})
 
 
-def compare_examples(options: argparse.Namespace, built: Built) -> int:
+def compare_examples(options: argparse.Namespace) -> int:
     count = Count()
     for folder in sorted(path for path in options.folder.iterdir() if path.is_dir()):
         given, wanted = read_example(folder)
-        count.add(folder.name, difference(run_it(options.program, given, built), wanted))
+        count.add(folder.name, difference(run_it(options.program, given), wanted))
     return count.end()
 
 
 def main() -> int:
     reader = argparse.ArgumentParser(description=__doc__, formatter_class=argparse.RawDescriptionHelpFormatter)
-    reader.add_argument("--everything", action="store_true")
     modes = reader.add_subparsers(required=True)
-    for name, run in (("random", compare_random), ("rows", compare_rows), ("limits", compare_limits),
-                      ("examples", compare_examples)):
+    for name, run in (("random", compare_random), ("rows", compare_rows), ("serve", compare_serve),
+                      ("limits", compare_limits), ("examples", compare_examples)):
         mode = modes.add_parser(name)
         mode.add_argument("program")
         mode.set_defaults(run=run)
-        if name == "random":
+        if name in ("random", "serve"):
             mode.add_argument("--seed", default="1")
-            mode.add_argument("--count", type=int, default=1000)
+            mode.add_argument("--count", type=int, default=1000 if name == "random" else 40)
             mode.add_argument("--keep", type=pathlib.Path, default=pathlib.Path("differences"))
         if name == "examples":
             mode.add_argument("folder", type=pathlib.Path, nargs="?", default=ROOT / "examples")
     options = reader.parse_args()
-    return options.run(options, EVERYTHING if options.everything else TODAY)
+    return options.run(options)
 
 
 if __name__ == "__main__":

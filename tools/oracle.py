@@ -1,14 +1,14 @@
 #!/usr/bin/env python3
 """A plain and slow silo: what the program is to write.
 
-    tools/oracle.py [--today] steps [--age MS] TENANT:ACT:MAIL.. < LINES
-    tools/oracle.py [--today] serve [--workers N] [--age MS] [--journal PATH] TENANT:ACT:MAIL.. < LINES
-    tools/oracle.py [--today] audit PATH
+    tools/oracle.py steps [--age MS] TENANT:ACT:MAIL.. < LINES
+    tools/oracle.py serve [--workers N] [--age MS] [--journal PATH] TENANT:ACT:MAIL.. < LINES
+    tools/oracle.py audit PATH
     tools/oracle.py --rows
 
 It is the package slow_silo, written from the definitions and sharing no code with the program. It writes what the
-program is to write, and ends with the program's status; what an argument reader prints isn't modelled. With --today it
-does what the program does today, and without it what the program is to do. `serve` does the steps in one order of many.
+program is to write, and ends with the program's status; what an argument reader prints isn't modelled. `serve` does the
+steps in one order of many.
 --rows runs the worked rows, prints those that differ, and last 'N passed, M failed'.
 """
 
@@ -16,7 +16,6 @@ import pathlib
 import sys
 
 from slow_silo import row_checks
-from slow_silo.built import EVERYTHING, TODAY
 from slow_silo.program import run_program
 
 
@@ -24,11 +23,9 @@ def main():
     words = sys.argv[1:]
     if words == ["--rows"]:
         return row_checks.main()
-    built = TODAY if words[:1] == ["--today"] else EVERYTHING
-    words = words[1:] if built is TODAY else words
     data = b"" if words[:1] == ["audit"] else sys.stdin.buffer.read()
     given = {path: pathlib.Path(path).read_bytes() for path in words[1:] if pathlib.Path(path).is_file()}
-    run = run_program(words, data, given, built)
+    run = run_program(words, data, given)
     for path, content in run.files.items():
         if given.get(path) != content:
             pathlib.Path(path).write_bytes(content)

@@ -13,9 +13,10 @@ from random_lines import (BAD_CALLERS, BAD_GRAINS, NUMBERS, ODD_ARGUMENTS, OTHER
                           asked_line, damaged, dumped, grain_line, long_line, object_line, odd_argument, raw_line,
                           some_value, with_extra)
 from slow_silo import lines, program
-from slow_silo.built import STORED, Built
 from slow_silo.journal import journal_of, journal_text
+from slow_silo.kinds import METHODS, STORING
 from slow_silo.machine import LOADING, WAITING, Limits
+from slow_silo.serve import lanes_of, serve
 from slow_silo.silo import Setup, Silo
 
 TENANTS = ["red", "blue", "reddish", "r"]
@@ -51,7 +52,6 @@ class World:
         self.random = random
         self.tenants = tenants
         self.silo = silo
-        self.built = silo.setup.built
         # how often a grain that the silo holds is asked for again
         self.again = 0.3 if crowded else 0.7
         # many grains, so that the limit of activations is met
@@ -68,7 +68,7 @@ class World:
         held = [grain.text() for grain in self.silo.machine(tenant).entries]
         if held and self.random.random() < self.again:
             return self.random.choice(held)
-        kind = self.random.choice(sorted(self.built.methods))
+        kind = self.random.choice(sorted(METHODS))
         return f"{kind}/{tenant}:{self.random.choice(self.names)}"
 
     def any_grain(self) -> str:
@@ -80,8 +80,8 @@ class World:
     def method_and_argument(self, kind: str) -> tuple[str, str]:
         """A method of the kind as a rule, with an argument that fits it as a rule."""
         random = self.random
-        known = sorted(self.built.methods.get(kind, ["get"]))
-        own = [method for method in known if method not in STORED]
+        known = sorted(METHODS.get(kind, ["get"]))
+        own = [method for method in known if method not in STORING]
         chance = random.random()
         method = random.choice(ODD_METHODS if chance < 0.15 else own if chance < 0.8 else known)
         if random.random() < 0.12:
@@ -139,11 +139,11 @@ class World:
                 found += [(closing[0], grain.text(), {"turn": str(number), **closing[1]})] * 2
         for machine in self.silo.machines.values():
             found += [("deliver", source.text(), {}) for source, _sent in machine.sends]
-        return [step for step in found if step[0] in self.built.ops]
+        return found
 
     def failed(self, chance: float) -> dict:
         """The member `failed`, now and then."""
-        if not self.built.failures or self.random.random() > 2 * chance:
+        if self.random.random() > 2 * chance:
             return {}
         return {"failed": self.random.choice(["true", "false"])}
 
@@ -174,7 +174,7 @@ class World:
     def likely_step(self) -> str:
         possible = self.possible()
         kind = self.random.random()
-        if kind < 0.07 and "poke" in self.built.ops:
+        if kind < 0.07:
             return self.asked()
         if kind < 0.35 or not possible:
             return self.good_call()
@@ -255,16 +255,15 @@ def tenant_words(random: Random, tenants: list[str]) -> list[str]:
     return [f"{tenant}:{random.choice(ACTIVATIONS)}:{random.choice(MAILBOXES)}" for tenant in tenants]
 
 
-def steps_input(random: Random, built: Built) -> Input:
+def steps_input(random: Random) -> Input:
     """An input of `steps`."""
-    count = 1 if built.tenants == 1 else random.choice([1, 1, 2, 2, 3, 4])
-    tenants = TENANTS[:count]
+    tenants = TENANTS[: random.choice([1, 1, 2, 2, 3, 4])]
     if random.random() < 0.05:
         return Input(random.choice(ODD_WORDS), b"")
     crowded = random.random() < 0.3
     words = tenant_words(random, tenants)
     age = random.choice(AGES)
-    silo = Silo(Setup(program.tenants_of(words, built), int(age), built=built))
+    silo = Silo(Setup(program.tenants_of(words), int(age)))
     world = World(random, tenants, silo, crowded)
     made = []
     for _ in range(random.choice(LENGTHS)):
@@ -276,10 +275,10 @@ def steps_input(random: Random, built: Built) -> Input:
     return Input(["steps", "--age", age, *words], data)
 
 
-def serve_input(random: Random, built: Built) -> Input:
+def serve_input(random: Random) -> Input:
     """An input of `serve` whose output is the same in every order: no two lanes ask for one grain, or for a status."""
     tenants = TENANTS[: random.choice([1, 2, 3])]
-    silo = Silo(Setup(tuple((tenant, Limits(10_000, 1_000)) for tenant in tenants), built=built))
+    silo = Silo(Setup(tuple((tenant, Limits(10_000, 1_000)) for tenant in tenants)))
     world = World(random, tenants, silo, False)
     made = []
     for _ in range(random.choice(LENGTHS)):
@@ -298,15 +297,34 @@ def serve_input(random: Random, built: Built) -> Input:
     return Input(words + [f"{tenant}:10000:1000" for tenant in tenants], b"".join(made))
 
 
-def audit_input(random: Random, built: Built) -> Input:
-    """A journal of a silo, as it is or with something changed."""
-    made = steps_input(random, built)
+def set_up_input(random: Random) -> tuple[Input, Setup]:
+    """An input of `steps` whose words are taken, and what they set up."""
+    made = steps_input(random)
     while len(made.words) < 4 or made.words[1] != "--age":
-        made = steps_input(random, built)
-    silo = Silo(Setup(program.tenants_of(made.words[3:], built), int(made.words[2]), built=built))
+        made = steps_input(random)
+    return made, Setup(program.tenants_of(made.words[3:]), int(made.words[2]))
+
+
+def steps_journal(random: Random) -> bytes:
+    """The journal of a silo that took the lines of an input of `steps`."""
+    made, setup = set_up_input(random)
+    silo = Silo(setup)
     for line in made.data.split(b"\n"):
         lines.answer(silo, line)
-    text = journal_text(journal_of(silo))
+    return journal_text(journal_of(silo))
+
+
+def served_journal(random: Random) -> bytes:
+    """The journal of a silo that served the lanes of an input of `steps`, each step at any time that it may come."""
+    made, setup = set_up_input(random)
+    read = [lines.read_line(line) for line in lines.lines_of([made.data])]
+    _refused, steps = program.sort_lines(read)
+    return journal_text(journal_of(serve(setup, lanes_of(steps), random)))
+
+
+def audit_input(random: Random) -> Input:
+    """A journal of a silo, as it is or with something changed."""
+    text = steps_journal(random)
     kind = random.random()
     if kind < 0.3:
         text = damaged(random, text)
@@ -338,7 +356,7 @@ def with_lines_changed(random: Random, text: bytes) -> bytes:
 MAKERS = {"steps": steps_input, "serve": serve_input, "audit": audit_input}
 
 
-def make_input(random: Random, built: Built) -> Input:
-    """An input of one of the subcommands that are built."""
-    command = random.choice(["steps"] * 8 + sorted(built.commands))
-    return MAKERS[command](random, built)
+def make_input(random: Random) -> Input:
+    """An input of one of the subcommands, most often of `steps`."""
+    command = random.choice(["steps"] * 8 + sorted(MAKERS))
+    return MAKERS[command](random)

@@ -5,6 +5,6 @@ It shares no code with the program. To read it beside the definitions, begin wit
 `machine` (one tenant's silo, one function for each kind of step). `silo` holds the machines of all tenants beside one
 another. `lines` reads and writes the lines, `serve` runs the lanes of several clients, `journal` reads and writes a
 journal's text, `audit` compares a journal with the machines, `laws` looks at what is promised of every run, and
-`program` reads the program's words. `built` says what of all this the program does today. `rows` has worked examples
-in the words of `short_lines`, `call_rows` those that no line makes, and `row_checks` runs both.
+`program` reads the program's words. `rows` has worked examples in the words of `short_lines`, `call_rows` those that no
+line makes, and `row_checks` runs both.
 """

@@ -5,9 +5,7 @@ from __future__ import annotations
 from itertools import zip_longest
 from typing import NamedTuple, Optional
 
-from .built import EVERYTHING
 from .journal import Journal
-from .kinds import Logic
 from .machine import Machine
 from .names import Grain
 from .steps import Reply, concerns, owner
@@ -58,7 +56,7 @@ def report(journal: Journal, tenant: str) -> Report:
     steps = [step for step in journal.steps if concerns(step, tenant)]
     replies = [reply for reply in journal.replies if reply.tenant() == tenant]
     rows = {grain: row for grain, row in journal.rows if grain.tenant == tenant}
-    machine = Machine(tenant, dict(journal.tenants).get(tenant), journal.age, Logic(EVERYTHING), Storage([], Fuse()))
+    machine = Machine(tenant, dict(journal.tenants).get(tenant), journal.age, Storage([], Fuse()))
     difference = first_difference(machine, steps, replies, rows)
     return Report(tenant, len(steps), len(replies), len(rows), difference)
 

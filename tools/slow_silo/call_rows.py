@@ -15,7 +15,6 @@ from .lines import ReaderFailed, WriterFailed, read_line, run_lines
 from .machine import Limits
 from .names import read_caller, read_grain
 from .program import DEFAULT_AGE, run_program, tenants_of
-from .built import EVERYTHING
 from .rows import FIRST_CALL, LANES, ROWS, Row
 from .serve import Lane, are_distinct, lanes_of, serve
 from .short_lines import A, BLUE, RED, at, begin, call, no, ok, run, save, text, up
@@ -211,7 +210,7 @@ def a_writer_that_fails() -> bool:
 def a_lane_has_its_own_steps() -> bool:
     """A tick is no step of a client's lane, and a client's lane has one client."""
     red = read_caller(RED)
-    own = Lane(red, (read_line(FIRST_CALL[0].encode(), EVERYTHING),))
+    own = Lane(red, (read_line(FIRST_CALL[0].encode()),))
     failed = Poke(red, 2, COUNTER_A, 1, failed=True)
     return (Lane(red, (Tick(1),)).foreign() == 0 and Lane(None, (Tick(1), *own.steps)).foreign() == 1
             and Lane(red, (*own.steps, failed)).foreign() == 1 and own.foreign() is None
@@ -221,7 +220,7 @@ def a_lane_has_its_own_steps() -> bool:
 def two_hundred_calls_of_two_clients() -> bool:
     """Each of the numbers from 1 to 200 is answered once."""
     lines = [one for number in range(1, 101) for by in (RED, "red/c2") for one in call(number, A, "add", {"by": 1}, by)]
-    silo = serve(Setup(ONE_TENANT), lanes_of([read_line(line.encode(), EVERYTHING) for line in lines]))
+    silo = serve(Setup(ONE_TENANT), lanes_of([read_line(line.encode()) for line in lines]))
     return sorted(reply.value for reply in silo.replies) == list(range(1, 201)) and silo.is_quiet()
 
 
@@ -236,9 +235,9 @@ def any_order_answers_the_lanes_alike() -> bool:
 def setup_and_steps(row: Row) -> tuple[Setup, list[Step]]:
     age = int(row.words[row.words.index("--age") + 1]) if "--age" in row.words else DEFAULT_AGE
     tenants = [word for word in row.words[1:] if ":" in word]
-    said = [read_line(line.encode(), EVERYTHING) for line in row.lines]
+    said = [read_line(line.encode()) for line in row.lines]
     steps = [step for step in said if step is not None and not isinstance(step, int)]
-    return Setup(tenants_of(tenants, EVERYTHING), age), steps
+    return Setup(tenants_of(tenants), age), steps
 
 
 def journal_agrees(row: Row) -> bool:

@@ -9,7 +9,6 @@ from __future__ import annotations
 from typing import Callable, NamedTuple, Optional
 
 from . import codes
-from .built import Built
 from .names import Grain, read_grain
 from .values import MAX_STATE, is_whole, spelled_length
 
@@ -158,23 +157,13 @@ READ_METHODS = {"counter": ["get"], "sheet": ["get", "list"], "relay": []}
 EMPTY_STATES = {"counter": 0, "sheet": {}, "relay": []}
 
 
-class Logic:
-    """The kinds and the methods that are built."""
+def is_read(kind: str, method: str) -> bool:
+    """The method never changes the state, asks nothing of the storage and sends nothing."""
+    return method in READ_METHODS[kind]
 
-    def __init__(self, built: Built):
-        self.built = built
 
-    def knows(self, kind: str) -> bool:
-        return kind in self.built.methods
-
-    def is_read(self, kind: str, method: str) -> bool:
-        """The method never changes the state, asks nothing of the storage and sends nothing."""
-        return self.built.reads_together and method in self.built.methods[kind] and method in READ_METHODS[kind]
-
-    def empty(self, kind: str) -> object:
-        return EMPTY_STATES[kind]
-
-    def plan(self, kind: str, method: str, state: object, args: object) -> Plan:
-        if method not in self.built.methods[kind]:
-            return refuses(state, codes.UNKNOWN_METHOD)
-        return METHODS[kind][method](state, args)
+def plan_of(kind: str, method: str, state: object, args: object) -> Plan:
+    """What a turn of a kind that is known comes to."""
+    if method not in METHODS[kind]:
+        return refuses(state, codes.UNKNOWN_METHOD)
+    return METHODS[kind][method](state, args)

@@ -8,6 +8,7 @@ from __future__ import annotations
 from collections import Counter
 from typing import Iterable, Optional
 
+from .kinds import is_read
 from .machine import Request
 from .names import Grain
 from .silo import NOT_NOW, Setup, Silo
@@ -32,7 +33,7 @@ def note_turn(turns: OpenTurns, step: Step, first: Optional[Request]) -> None:
 
 def writes_alone(silo: Silo, turns: OpenTurns) -> bool:
     """An open turn that doesn't only read is the only one of its grain."""
-    return all(len(of_grain) < 2 or silo.logic.is_read(grain.kind, method)
+    return all(len(of_grain) < 2 or is_read(grain.kind, method)
                for grain, of_grain in turns.items() for method in of_grain.values())
 
 

@@ -6,7 +6,6 @@ import json
 from typing import Callable, Iterable, Optional, Union
 
 from . import codes, plain_json
-from .built import Built
 from .names import read_caller, read_grain
 from .silo import NOT_NOW, Silo
 from .steps import (Abandon, Activate, Begin, Call, Client, Deliver, End, Load, Poke, Refuse, Reply, Status,
@@ -62,21 +61,13 @@ def of_type(kind: type, value: object) -> object:
     return value
 
 
-def whether_failed(value: object, built: Built) -> bool:
-    """The member `failed`."""
-    failed = of_type(bool, value)
-    if failed and not built.failures:
-        raise NotARequest
-    return failed
-
-
-def members_of(line: bytes, built: Built) -> dict:
+def members_of(line: bytes) -> dict:
     """The members that a line's form has."""
     try:
         said = plain_json.read(line)
     except plain_json.NotJson as error:
         raise NotARequest from error
-    if not isinstance(said, dict) or not isinstance(said.get("op"), str) or said["op"] not in built.ops:
+    if not isinstance(said, dict) or not isinstance(said.get("op"), str) or said["op"] not in FORMS:
         raise NotARequest
     needed, left_out = FORMS[said["op"]]
     names = set(said) - {"op"}
@@ -85,10 +76,10 @@ def members_of(line: bytes, built: Built) -> dict:
     return {**left_out, **said}
 
 
-def step_said(said: dict, built: Built) -> Step:
+def step_said(said: dict) -> Step:
     op = said["op"]
     if op in ("call", "poke"):
-        return asked_step(said, built)
+        return asked_step(said)
     if op == "status":
         return Status(read_with(read_caller, said["from"]), natural(said["id"]))
     if op == "tick":
@@ -99,28 +90,26 @@ def step_said(said: dict, built: Built) -> Step:
     if op in ON_A_GRAIN:
         return ON_A_GRAIN[op](grain)
     if op == "load":
-        return Load(grain, whether_failed(said["failed"], built))
+        return Load(grain, of_type(bool, said["failed"]))
     turn = natural(said["turn"])
     if op in ON_A_TURN:
         return ON_A_TURN[op](grain, turn)
-    return Store(grain, turn, whether_failed(said["failed"], built))
+    return Store(grain, turn, of_type(bool, said["failed"]))
 
 
-def asked_step(said: dict, built: Built) -> Step:
+def asked_step(said: dict) -> Step:
     """A call or a poke; one whose value or grain is refused is the step that says so."""
     caller, number = read_with(read_caller, said["from"]), natural(said["id"])
     text = of_type(str, said["grain"])
     if said["op"] == "call":
         of_type(str, said["method"])
     code = refusal(said)
-    if code is None:
-        grain = read_grain(text)
-        if said["op"] == "call":
-            return Call(caller, number, grain, said["method"], said["args"])
-        return Poke(caller, number, grain, said["state"])
-    if not built.refusals_are_steps:
-        raise NotARequest
-    return Refuse(caller, number, code)
+    if code is not None:
+        return Refuse(caller, number, code)
+    grain = read_grain(text)
+    if said["op"] == "call":
+        return Call(caller, number, grain, said["method"], said["args"])
+    return Poke(caller, number, grain, said["state"])
 
 
 def refusal(said: dict) -> Optional[int]:
@@ -137,14 +126,14 @@ def refusal(said: dict) -> Optional[int]:
     return codes.BAD_GRAIN if read_grain(said["grain"]) is None else None
 
 
-def read_line(line: bytes, built: Built) -> Union[Step, int, None]:
+def read_line(line: bytes) -> Union[Step, int, None]:
     """A step, the code of a refusal that is no step, or nothing."""
     if line == b"":
         return None
     if len(line) > MAX_LINE:
         return codes.TOO_LONG
     try:
-        return step_said(members_of(line, built), built)
+        return step_said(members_of(line))
     except NotARequest:
         return codes.NOT_A_REQUEST
 
@@ -205,7 +194,7 @@ def lines_of(pieces: Iterable[bytes]) -> Iterable[bytes]:
 
 def answer(silo: Silo, line: bytes) -> list[str]:
     """The lines that are written for a line."""
-    said = read_line(line, silo.setup.built)
+    said = read_line(line)
     if said is None:
         return []
     if isinstance(said, int):

@@ -8,7 +8,7 @@ from __future__ import annotations
 from typing import NamedTuple, Optional, Union
 
 from . import codes
-from .kinds import CLEAR, READ, Logic, Plan, Send
+from .kinds import CLEAR, EMPTY_STATES, METHODS, READ, Plan, Send, is_read, plan_of
 from .names import Grain
 from .steps import (MAX_NUMBER, Abandon, Activate, Begin, Call, Client, Deliver, End, Load, Poke, Refuse, Reply, Status,
                     Step, Store, Sweep, Tick, fault, ok)
@@ -78,11 +78,10 @@ def version_value(version: Optional[int]) -> Optional[str]:
 class Machine:
     """One tenant's part. `limits` is None for a tenant that the silo doesn't know."""
 
-    def __init__(self, tenant: str, limits: Optional[Limits], age: int, logic: Logic, storage: Storage):
+    def __init__(self, tenant: str, limits: Optional[Limits], age: int, storage: Storage):
         self.tenant = tenant
         self.limits = limits
         self.age = age
-        self.logic = logic
         self.storage = storage
         self.clock = 0
         self.count = 0
@@ -129,7 +128,7 @@ class Machine:
             raise Refused(codes.UNKNOWN_TENANT, self.tenant)
         if grain.tenant != self.tenant:
             raise Refused(codes.ACROSS_TENANTS, self.tenant, grain.tenant)
-        if not self.logic.knows(grain.kind):
+        if grain.kind not in METHODS:
             raise Refused(codes.UNKNOWN_KIND, grain.kind)
 
     def check_room(self, grain: Grain) -> None:
@@ -188,7 +187,7 @@ class Machine:
 
     def take_row(self, grain: Grain, entry: Entry, row: Optional[Row]) -> None:
         has_content = row is not None and row.content is not CLEARED
-        entry.state = row.content if has_content else self.logic.empty(grain.kind)
+        entry.state = row.content if has_content else EMPTY_STATES[grain.kind]
         entry.version = None if row is None else row.version
 
     # ---- turns
@@ -209,7 +208,7 @@ class Machine:
         return not entry.turns
 
     def reads(self, grain: Grain, request: Request) -> bool:
-        return self.logic.is_read(grain.kind, request.method)
+        return is_read(grain.kind, request.method)
 
     def turn(self, grain: Grain, number: int) -> Union[tuple[Entry, Request, Plan], None]:
         """An open turn: its entry, its request, and what it comes to."""
@@ -217,7 +216,7 @@ class Machine:
         if entry is None or number not in entry.turns:
             return None
         request = entry.turns[number]
-        return entry, request, self.logic.plan(grain.kind, request.method, entry.state, request.args)
+        return entry, request, plan_of(grain.kind, request.method, entry.state, request.args)
 
     def close(self, entry: Entry, request: Request) -> None:
         del entry.turns[request.number]
@@ -264,7 +263,7 @@ class Machine:
             self.take_row(grain, entry, self.storage.read(grain))
         elif plan.asks == CLEAR:
             entry.version = self.storage.clear(grain, entry.version)
-            entry.state = self.logic.empty(grain.kind)
+            entry.state = EMPTY_STATES[grain.kind]
         else:
             entry.version = self.storage.write(grain, entry.version, entry.state)
 

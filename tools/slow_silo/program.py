@@ -7,8 +7,8 @@ from typing import Iterable, NamedTuple, Optional
 
 from . import codes, lines
 from .audit import audit
-from .built import EVERYTHING, Built
-from .journal import (MAX_ACTIVATIONS, MAX_AGE, MAX_MAILBOX, RefusedAt, journal_of, journal_text, read_journal)
+from .journal import (MAX_ACTIVATIONS, MAX_AGE, MAX_MAILBOX, MAX_TENANTS, RefusedAt, journal_of, journal_text,
+                      read_journal)
 from .machine import Limits
 from .names import is_word
 from .serve import answers_of, lanes_of, replies_to_grains, serve
@@ -67,12 +67,12 @@ def tenant_of(word: str) -> Optional[tuple[str, Limits]]:
     return parts[0], Limits(int(parts[1]), int(parts[2]))
 
 
-def tenants_of(words: list[str], built: Built) -> tuple[tuple[str, Limits], ...]:
+def tenants_of(words: list[str]) -> tuple[tuple[str, Limits], ...]:
     """The table; the first word that is malformed, out of range, repeated or one too many is refused."""
     found: dict[str, Limits] = {}
     for place, word in enumerate(words, 1):
         read = tenant_of(word)
-        if read is None or read[0] in found or place > built.tenants:
+        if read is None or read[0] in found or place > MAX_TENANTS:
             raise Ended(BAD_WORDS, f"silo: tenant argument {place} is refused")
         found[read[0]] = read[1]
     return tuple(found.items())
@@ -107,18 +107,18 @@ def split_words(words: list[str], options: dict) -> tuple[dict, list[str]]:
     return given, others
 
 
-def asks_for_help(words: list[str], built: Built) -> bool:
+def asks_for_help(words: list[str]) -> bool:
     """The words ask for a text that isn't modelled."""
-    of_commands = [asked for name in built.commands for asked in ([name, "--help"], [name, "-h"], ["help", name])]
+    of_commands = [asked for name in OPTIONS for asked in ([name, "--help"], [name, "-h"], ["help", name])]
     return words in [["--help"], ["-h"], ["help"], *of_commands]
 
 
 # ---- the three commands
 
-def run_steps(given: dict, words: list[str], data: bytes, built: Built, written: list[bytes]) -> None:
+def run_steps(given: dict, words: list[str], data: bytes, written: list[bytes]) -> None:
     if not words:
         raise Ended(BAD_WORDS)
-    setup = Setup(tenants_of(words, built), int(given.get("--age", DEFAULT_AGE)), built=built)
+    setup = Setup(tenants_of(words), int(given.get("--age", DEFAULT_AGE)))
     try:
         lines.run_lines(Silo(setup), [data], written.append)
     except lines.TooMuchInput as error:
@@ -129,13 +129,12 @@ def written_lines(texts: Iterable[str]) -> bytes:
     return "".join(text + "\n" for text in texts).encode()
 
 
-def run_serve(given: dict, words: list[str], data: bytes, built: Built, files: dict,
-              chance: Optional[Random]) -> bytes:
+def run_serve(given: dict, words: list[str], data: bytes, files: dict, chance: Optional[Random]) -> bytes:
     if not words:
         raise Ended(BAD_WORDS)
-    setup = Setup(tenants_of(words, built), int(given.get("--age", DEFAULT_AGE)), built=built)
+    setup = Setup(tenants_of(words), int(given.get("--age", DEFAULT_AGE)))
     try:
-        read = [lines.read_line(line, built) for line in lines.lines_of([data])]
+        read = [lines.read_line(line) for line in lines.lines_of([data])]
     except lines.TooMuchInput as error:
         raise Ended(BROKEN, "silo: too much input") from error
     refusals, steps = sort_lines(read)
@@ -176,27 +175,27 @@ def run_audit(words: list[str], files: dict) -> tuple[bytes, int]:
 
 # ---- one run
 
-def run_program(words: list[str], data: bytes = b"", files: Optional[dict] = None, built: Built = EVERYTHING,
+def run_program(words: list[str], data: bytes = b"", files: Optional[dict] = None,
                 chance: Optional[Random] = None) -> Run:
     """A run on this standard input; `files` are the contents of the files that there are, by their paths.
 
     With a chance, `serve` does its steps in any order.
     """
     files = dict(files or {})
-    if asks_for_help(words, built):
+    if asks_for_help(words):
         return Run(None, b"", FINE, files)
     if words in [["--version"], ["-V"]]:
         return Run(VERSION, b"", FINE, files)
     written: list[bytes] = []
     status, errors = FINE, b""
     try:
-        if not words or words[0] not in built.commands:
+        if not words or words[0] not in OPTIONS:
             raise Ended(BAD_WORDS)
         given, others = split_words(words[1:], OPTIONS[words[0]])
         if words[0] == "steps":
-            run_steps(given, others, data, built, written)
+            run_steps(given, others, data, written)
         elif words[0] == "serve":
-            written.append(run_serve(given, others, data, built, files, chance))
+            written.append(run_serve(given, others, data, files, chance))
         else:
             out, status = run_audit(others, files)
             written.append(out)

@@ -4,7 +4,6 @@ from __future__ import annotations
 
 from typing import Optional
 
-from .built import EVERYTHING, Built
 from .call_rows import CALL_ROWS
 from .program import run_program
 from .rows import ROWS, Row
@@ -22,10 +21,10 @@ def errors_of(row: Row) -> bytes:
     return row.errors.encode() + b"\n" if row.errors else b""
 
 
-def difference(row: Row, built: Built = EVERYTHING) -> Optional[str]:
+def difference(row: Row) -> Optional[str]:
     """What of a row differs."""
     files = {path: content.encode() for path, content in row.files.items()}
-    run = run_program(row.words, input_of(row), files, built)
+    run = run_program(row.words, input_of(row), files)
     if run.out != output_of(row):
         return f"standard output is {run.out[:300]!r}"
     if run.errors is not None and run.errors != errors_of(row):

@@ -4,8 +4,6 @@ from __future__ import annotations
 
 from typing import Iterable, NamedTuple, Optional
 
-from .built import EVERYTHING, Built
-from .kinds import Logic
 from .machine import LOADING, WAITING, Limits, Machine
 from .names import Caller, Grain
 from .steps import (Activate, Begin, Client, Deliver, Load, Poke, Reply, Step, Store, Tick, owner)
@@ -23,13 +21,11 @@ class Setup(NamedTuple):
     rows: tuple[tuple[Grain, Row], ...] = ()
     # which of the storage's calls fail, by their numbers from 1
     failing: tuple[int, ...] = ()
-    built: Built = EVERYTHING
 
 
 class Silo:
     def __init__(self, setup: Setup):
         self.setup = setup
-        self.logic = Logic(setup.built)
         self.fuse = Fuse(setup.failing)
         self.limits = dict(setup.tenants)
         self.clock = 0
@@ -46,7 +42,7 @@ class Silo:
         if tenant not in self.machines:
             rows = [(grain, row) for grain, row in self.setup.rows if grain.tenant == tenant]
             storage = Storage(rows, self.fuse)
-            made = Machine(tenant, self.limits.get(tenant), self.setup.age, self.logic, storage)
+            made = Machine(tenant, self.limits.get(tenant), self.setup.age, storage)
             made.clock = self.clock
             self.machines[tenant] = made
         return self.machines[tenant]
