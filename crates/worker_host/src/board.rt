@@ -38,6 +38,39 @@ pub struct Board<S: GrainStorage, L: GrainLogic> {
     stopped: bool,
 }
 
+/// The places in the lanes before any step was given.
+#[derive(Drop)]
+pub struct Seats {
+    places: Vec<usize>,
+    seats: BTreeMap<Caller, usize>,
+    ready: VecDeque<usize>,
+}
+
+impl Seats {
+    /// All lanes may give their first step.
+    ///
+    /// # Errors
+    ///
+    /// Out of memory.
+    pub fn new(alloc: Global, lanes: &[Lane]) -> Result<Seats, AllocError> {
+        let mut places = Vec::new(alloc);
+        let mut seats = BTreeMap::new(alloc);
+        let mut ready = VecDeque::new(alloc);
+        for (index, lane) in lanes.iter().enumerate() {
+            places.push(0)?;
+            ready.push_back(index)?;
+            if let Some(caller) = lane.from() {
+                seats.insert(caller.clone()?, index)?;
+            }
+        }
+        Ok(Seats {
+            places,
+            seats,
+            ready,
+        })
+    }
+}
+
 /// Puts the lanes behind the ready ones whose client was told something.
 fn note_told(
     replies: &[Reply],
@@ -59,34 +92,21 @@ fn note_told(
 }
 
 impl<S: GrainStorage + Drop, L: GrainLogic + Drop> Board<S, L> {
-    /// All lanes may give their first step.
-    ///
-    /// # Errors
-    ///
-    /// Out of memory.
-    pub fn new(
-        alloc: Global,
-        silo: PacedSilo<S, L>,
-        lanes: &[Lane],
-    ) -> Result<Board<S, L>, AllocError> {
-        let mut places = Vec::new(alloc);
-        let mut seats = BTreeMap::new(alloc);
-        let mut ready = VecDeque::new(alloc);
-        for (index, lane) in lanes.iter().enumerate() {
-            places.push(0)?;
-            ready.push_back(index)?;
-            if let Some(caller) = lane.from() {
-                seats.insert(caller.clone()?, index)?;
-            }
-        }
-        Ok(Board {
+    /// The silo with the places before any step was given.
+    pub fn new(silo: PacedSilo<S, L>, seats: Seats) -> Board<S, L> {
+        let Seats {
+            places,
+            seats,
+            ready,
+        } = seats;
+        Board {
             silo,
             places,
             seats,
             ready,
             seen: 0,
             stopped: false,
-        })
+        }
     }
 
     /// The silo, or none if all was given up.

@@ -1,7 +1,9 @@
 //! What serving answers, and what is looked at once the workers have ended.
 
-ghost use Rattle.std.specs.Prelude.{◌≡◌, ◌-◌, IfOk, IsTrue, OnOk, map as map_list};
+ghost use Rattle.std.specs.Prelude.{◌≡◌, ◌-◌, IfOk, IsTrue, OnOk, map as map_list, true};
+ghost use Rattle.silo_lanes.specs.Asking.{AllQuiet};
 ghost use Rattle.silo_lanes.specs.Lanes.{AreDistinct};
+ghost use Rattle.silo_lanes.specs.Pacing.{is_paced};
 ghost use Rattle.silo_lanes.specs.Serving.{AreServed};
 ghost use Rattle.worker_host.specs.Opened.{AreAnswered, AreCopies, HasFailed, IsOpenedSo};
 
@@ -164,6 +166,25 @@ fn must_hold(holds: bool) -> Result<(), ServeFault>
     }
 }
 
+/// What each lane is answered, if what the silo holds is what serving the lanes leaves.
+fn served_answers<S: GrainStorage, L: GrainLogic>(
+    alloc: Global,
+    silo: &Silo<S, L>,
+    opened: &Opened,
+    lanes: &[Lane],
+) -> Result<Vec<Vec<Reply>>, ServeFault>
+    requires distinct { AreDistinct lanes.now }
+    requires paced { is_paced L.logic silo.now.setup silo.now.journal ≡ true }
+    requires quiet { AllQuiet silo.now.whole }
+    ensures opened { OnOk result (IsOpenedSo opened.now silo.now) }
+    ensures served { IfOk result (λ answers. AreServed L.logic silo.now.setup lanes.now silo.now.journal silo.now.whole (silo.now.failures.now - silo.now.failures.at_opening) (map_list (λ v. v.items) answers.items)) }
+{
+    must_hold(lanes_stand(alloc, lanes, silo.journal())?)?;
+    must_hold(is_opened_so(silo, opened))?;
+    must_hold(failures_count(silo))?;
+    Ok(answers(alloc, lanes, silo.replies())?)
+}
+
 /// Looks once at what the workers left.
 pub fn settle<S: GrainStorage + Drop, L: GrainLogic + Drop>(
     alloc: Global,
@@ -181,9 +202,6 @@ pub fn settle<S: GrainStorage + Drop, L: GrainLogic + Drop>(
     };
     must_hold(paced.is_quiet())?;
     let silo = paced.into_silo();
-    must_hold(lanes_stand(alloc, lanes, silo.journal())?)?;
-    must_hold(is_opened_so(&silo, opened))?;
-    must_hold(failures_count(&silo))?;
-    let answers = answers(alloc, lanes, silo.replies())?;
+    let answers = served_answers(alloc, &silo, opened, lanes)?;
     Ok(ServeReport { silo, answers })
 }

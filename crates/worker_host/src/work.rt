@@ -8,7 +8,7 @@ ghost use Rattle.silo_lanes.specs.Lanes.{AreDistinct};
 ghost use Rattle.silo_lanes.specs.Serving.{AreServed};
 ghost use Rattle.worker_host.specs.Opened.{AreAnswered};
 
-use crate::board::{Board, Task};
+use crate::board::{Board, Seats, Task};
 use crate::gate::TurnGate;
 use crate::paced::PacedSilo;
 use crate::report::{Opened, ServeFault, ServeReport, settle};
@@ -151,9 +151,10 @@ pub fn serve<
     ensures parts { IfOk result (λ report. (tenant : List ℕ) → shown_to tenant report.silo.whole ≡ machine_run L.logic (start_of report.silo.setup tenant) (restricted_to tenant report.silo.journal)) }
 {
     let opened = Opened::copied(alloc, &setup)?;
+    let seats = Seats::new(alloc, lanes)?;
     let logic = setup.logic;
     let silo = PacedSilo::new(WatchedSilo::new(alloc, setup)?);
-    let board = Mutex::new(Board::new(alloc, silo, lanes)?);
+    let board = Mutex::new(Board::new(silo, seats));
     let changed = Condvar::new();
     if !run_workers(rt, alloc, &board, &changed, lanes, workers, gate, logic) {
         return Err(ServeFault::NoWorker);
