@@ -22,13 +22,18 @@ fn done(alloc: Global, silo: &mut TestedSilo, steps: Vec<Step>) -> Option<usize>
     }
 }
 
+/// What the silo shows after these steps.
+fn shown_by(alloc: Global, silo: &mut TestedSilo, steps: Vec<Step>) -> Result<String, Fail> {
+    drop(run(alloc, silo, steps));
+    shown(alloc, silo)
+}
+
 /// What a silo shows that took the first so many of the lines.
 fn shown_after(alloc: Global, lines: &str, first: usize) -> Result<String, Fail> {
     let mut steps = steps_of(alloc, lines)?;
     steps.truncate(first);
     let mut silo = new_silo(alloc)?;
-    drop(run(alloc, &mut silo, steps));
-    shown(alloc, &silo)
+    shown_by(alloc, &mut silo, steps)
 }
 
 /// Whether the silo is where the first so many of the row's lines lead, and told a beginning of what is to be told.
@@ -54,21 +59,26 @@ fn is_ended(alloc: Global, silo: &mut TestedSilo, lines: &str, first: usize) -> 
 
 /// Whether a run of the row's lines gives the row. A run that is stopped is at the lines that were answered, and the
 /// others are run after it.
-fn is_worked(alloc: Global, row: &Worked) -> Result<bool, Fail> {
-    let mut silo = new_silo(alloc)?;
+fn is_worked_by(alloc: Global, silo: &mut TestedSilo, row: &Worked) -> Result<bool, Fail> {
     let steps = steps_of(alloc, row.lines)?;
     let all = steps.len();
-    let Some(first) = done(alloc, &mut silo, steps) else {
+    let Some(first) = done(alloc, silo, steps) else {
         return Ok(false);
     };
     if first < all {
-        let same = is_at(alloc, &silo, row, first)?;
-        let ended = is_ended(alloc, &mut silo, row.lines, first)?;
+        let same = is_at(alloc, silo, row, first)?;
+        let ended = is_ended(alloc, silo, row.lines, first)?;
         if !same || !ended {
             return Ok(false);
         }
     }
-    is_shown(alloc, &silo, row)
+    is_shown(alloc, silo, row)
+}
+
+/// The same of a new silo.
+fn is_worked(alloc: Global, row: &Worked) -> Result<bool, Fail> {
+    let mut silo = new_silo(alloc)?;
+    is_worked_by(alloc, &mut silo, row)
 }
 
 #[test]

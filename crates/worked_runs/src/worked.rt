@@ -79,35 +79,45 @@ fn counts_of(alloc: Global, silo: &TestedSilo, name: &str) -> Result<(usize, usi
 }
 
 /// How many replies and rows red and blue have after the lines of `overwritten`, which are red's.
-fn counts(alloc: Global) -> Result<((usize, usize), (usize, usize)), Fail> {
-    let mut silo = new_silo(alloc)?;
+fn counts(alloc: Global, silo: &mut TestedSilo) -> Result<((usize, usize), (usize, usize)), Fail> {
     let steps = steps_of(alloc, overwritten().lines)?;
-    drop(answers(alloc, &mut silo, steps)?);
+    drop(answers(alloc, silo, steps)?);
     Ok((
-        counts_of(alloc, &silo, "red")?,
-        counts_of(alloc, &silo, "blue")?,
+        counts_of(alloc, silo, "red")?,
+        counts_of(alloc, silo, "blue")?,
     ))
+}
+
+/// The same of a new silo.
+fn counts_anew(alloc: Global) -> Result<((usize, usize), (usize, usize)), Fail> {
+    let mut silo = new_silo(alloc)?;
+    counts(alloc, &mut silo)
 }
 
 #[test]
 fn each_tenant_has_its_own_replies_and_rows(rt: HostRuntime) -> Result<(), Fail> {
-    assert!(rt; counts(rt.alloc())? == ((5, 1), (0, 0)));
+    assert!(rt; counts_anew(rt.alloc())? == ((5, 1), (0, 0)));
     Ok(())
 }
 
 /// Whether the lines of `cleared` tell what they are to tell if that call of the storage fails, and it is counted. They
 /// make four calls.
-fn is_worked_but(alloc: Global, number: u64) -> Result<bool, Fail> {
-    let mut silo = silo_over(alloc, MemoryStorage::new(alloc), number)?;
-    let said = told_by(alloc, &mut silo, cleared().lines)?;
-    let failed = failures(&silo) == u64::from(number < 5);
+fn is_worked_but(alloc: Global, silo: &mut TestedSilo, number: u64) -> Result<bool, Fail> {
+    let said = told_by(alloc, silo, cleared().lines)?;
+    let failed = failures(silo) == u64::from(number < 5);
     Ok(failed && said.as_str() == cleared_but(number))
+}
+
+/// The same of a new silo.
+fn is_worked_anew_but(alloc: Global, number: u64) -> Result<bool, Fail> {
+    let mut silo = silo_over(alloc, MemoryStorage::new(alloc), number)?;
+    is_worked_but(alloc, &mut silo, number)
 }
 
 #[test]
 fn each_call_of_the_storage_may_fail(rt: HostRuntime) -> Result<(), Fail> {
     for number in 1..6 {
-        assert!(rt; is_worked_but(rt.alloc(), number)?);
+        assert!(rt; is_worked_anew_but(rt.alloc(), number)?);
     }
     Ok(())
 }
@@ -121,14 +131,19 @@ fn is_failed_load(answer: Option<&Answer>, noted: Option<&Step>) -> bool {
     answer == Some(&Answer::Failed) && matches!(noted, Some(Step::Load { failed: true, .. }))
 }
 
+/// Whether the first load of `loaded_twice` fails and is noted so, and the lines tell what they are to tell.
+fn fails_to_load(alloc: Global, silo: &mut TestedSilo) -> Result<bool, Fail> {
+    let steps = steps_of(alloc, loaded_twice().lines)?;
+    let answered = answers(alloc, silo, steps)?;
+    let noted = is_failed_load(answered.get(2), journal(silo).get(2));
+    Ok(noted && is_told(alloc, silo, loaded_twice().told)?)
+}
+
 #[test]
 fn a_load_that_fails_is_noted_so(rt: HostRuntime) -> Result<(), Fail> {
     let alloc = rt.alloc();
     let mut silo = silo_over(alloc, MemoryStorage::new(alloc), 1)?;
-    let steps = steps_of(alloc, loaded_twice().lines)?;
-    let answered = answers(alloc, &mut silo, steps)?;
-    assert!(rt; is_failed_load(answered.get(2), journal(&silo).get(2)));
-    assert!(rt; is_told(alloc, &silo, loaded_twice().told)?);
+    assert!(rt; fails_to_load(alloc, &mut silo)?);
     Ok(())
 }
 
@@ -142,12 +157,18 @@ fn last_version(alloc: Global) -> Result<MemoryStorage, Fail> {
     Ok(MemoryStorage::with_rows(alloc, vec![in alloc; (grain, row)]?)?)
 }
 
+/// Whether the silo gives the row of `spent`, and was opened with what it stores.
+fn is_spent(alloc: Global, silo: &mut TestedSilo) -> Result<bool, Fail> {
+    let worked = is_worked(alloc, silo, &spent())?;
+    let opened = stored(alloc, opening(silo))?;
+    Ok(worked && opened.as_str() == spent().stored)
+}
+
 #[test]
 fn a_row_of_the_last_version_stays(rt: HostRuntime) -> Result<(), Fail> {
     let alloc = rt.alloc();
     let mut silo = silo_over(alloc, last_version(alloc)?, 0)?;
-    assert!(rt; is_worked(alloc, &mut silo, &spent())?);
-    assert_eq!(rt; stored(alloc, opening(&silo))?.as_str(), spent().stored);
+    assert!(rt; is_spent(alloc, &mut silo)?);
     Ok(())
 }
 
