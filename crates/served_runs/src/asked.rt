@@ -34,48 +34,73 @@ fn is_of(alloc: Global, lane: &Lane, caller: &str) -> Result<bool, Fail> {
     Ok(*lane.from() == Some(caller))
 }
 
+/// Lines of two clients and of nobody.
+fn mixed(alloc: Global) -> Result<Vec<Line>, Fail> {
+    let mut lines = Vec::new(alloc);
+    lines.push(status(alloc, "red/c2", 1)?)?;
+    lines.push(tick(5)?)?;
+    lines.push(status(alloc, "red/c1", 2)?)?;
+    lines.push(status(alloc, "red/c2", 3)?)?;
+    lines.push(Line::Step(Step::Sweep))?;
+    Ok(lines)
+}
+
+/// Whether the lanes are of the clients and of nobody, in the order of their first lines.
+fn are_in_order(alloc: Global, lanes: &[Lane]) -> Result<bool, Fail> {
+    let [first, second, third] = lanes else {
+        return Ok(false);
+    };
+    let last = is_of(alloc, third, "red/c1")?;
+    Ok(last && second.from().is_none() && is_of(alloc, first, "red/c2")?)
+}
+
+/// Whether each lane has its lines, in order.
+fn have_their_lines(lanes: &[Lane]) -> bool {
+    let [first, second, third] = lanes else {
+        return false;
+    };
+    matches!(
+        first.steps(),
+        [Step::Status { id: 1, .. }, Step::Status { id: 3, .. }]
+    ) && matches!(second.steps(), [Step::Tick { .. }, Step::Sweep])
+        && third.steps().len() == 1
+}
+
 #[test]
 fn lanes_stand_in_the_order_of_their_first_lines(rt: HostRuntime) -> Result<(), Fail> {
     let alloc = rt.alloc();
-    let lines = vec![in alloc;
-        status(alloc, "red/c2", 1)?,
-        tick(5)?,
-        status(alloc, "red/c1", 2)?,
-        status(alloc, "red/c2", 3)?,
-        Line::Step(Step::Sweep),
-    ]?;
-    let asked = asked_by(alloc, lines)?;
-    assert_eq!(rt; asked.refusals.len(), 0);
-    assert_eq!(rt; asked.lanes.len(), 3);
-    assert!(rt; is_of(alloc, &asked.lanes[0], "red/c2")?);
-    assert!(rt; asked.lanes[1].from().is_none());
-    assert!(rt; is_of(alloc, &asked.lanes[2], "red/c1")?);
-    assert!(rt;
-        matches!(
-            asked.lanes[0].steps(),
-            [Step::Status { id: 1, .. }, Step::Status { id: 3, .. }]
-        )
-    );
-    assert!(rt; matches!(asked.lanes[1].steps(), [Step::Tick { .. }, Step::Sweep]));
-    assert_eq!(rt; asked.lanes[2].steps().len(), 1);
+    let asked = asked_by(alloc, mixed(alloc)?)?;
+    assert!(rt; asked.refusals.is_empty());
+    assert!(rt; are_in_order(alloc, &asked.lanes)?);
+    assert!(rt; have_their_lines(&asked.lanes));
     Ok(())
+}
+
+/// Lines of which all but the tick are refused or say nothing.
+fn refused(alloc: Global) -> Result<Vec<Line>, Fail> {
+    let mut lines = Vec::new(alloc);
+    lines.push(Line::Refusal(LineRefusal::TooLong))?;
+    lines.push(Line::Nothing)?;
+    lines.push(activate(alloc)?)?;
+    lines.push(tick(1)?)?;
+    lines.push(Line::Refusal(LineRefusal::TooLong))?;
+    Ok(lines)
 }
 
 #[test]
 fn what_no_lane_gives_is_refused_in_order(rt: HostRuntime) -> Result<(), Fail> {
     let alloc = rt.alloc();
-    let lines = vec![in alloc;
-        Line::Refusal(LineRefusal::TooLong),
-        Line::Nothing,
-        activate(alloc)?,
-        tick(1)?,
-        Line::Refusal(LineRefusal::TooLong),
-    ]?;
-    let asked = asked_by(alloc, lines)?;
+    let asked = asked_by(alloc, refused(alloc)?)?;
     assert_eq!(rt; asked.lanes.len(), 1);
-    assert_eq!(rt; asked.refusals.len(), 3);
-    assert_eq!(rt; asked.refusals[0], LineRefusal::TooLong);
-    assert_eq!(rt; asked.refusals[1], LineRefusal::NotARequest);
-    assert_eq!(rt; asked.refusals[2], LineRefusal::TooLong);
+    assert!(rt;
+        matches!(
+            asked.refusals.as_slice(),
+            [
+                LineRefusal::TooLong,
+                LineRefusal::NotARequest,
+                LineRefusal::TooLong
+            ]
+        )
+    );
     Ok(())
 }

@@ -165,8 +165,8 @@ fn a_changed_reply_is_told(rt: HostRuntime) -> Result<(), Fail> {
     Ok(())
 }
 
-/// A silo whose counter is asked to add 3, and gives it the turn in which it does.
-fn stepped(alloc: Global) -> Result<Silo<MemoryStorage, Kinds>, Fail> {
+/// A silo of red alone, over no rows.
+fn new_silo(alloc: Global) -> Result<Silo<MemoryStorage, Kinds>, Fail> {
     let limits = Limits {
         activations: 2,
         mailbox: 4,
@@ -178,20 +178,31 @@ fn stepped(alloc: Global) -> Result<Silo<MemoryStorage, Kinds>, Fail> {
         storage: MemoryStorage::new(alloc),
         logic: Kinds,
     };
-    let mut silo = Silo::new(alloc, setup)?;
+    Ok(Silo::new(alloc, setup)?)
+}
+
+/// The journal of the silo after the worked journal's steps.
+fn written(alloc: Global, silo: &mut Silo<MemoryStorage, Kinds>) -> Result<Vec<u8>, Fail> {
     let journal = read_journal(alloc, WORKED.as_bytes())?;
     for step in journal.steps() {
         drop(silo.apply(alloc, step.clone()?)?);
     }
-    Ok(silo)
+    if !silo.opening().is_empty() {
+        return Err("it opened with rows".into());
+    }
+    Ok(write_journal(alloc, silo)?)
+}
+
+/// The same of a new silo.
+fn written_anew(alloc: Global) -> Result<Vec<u8>, Fail> {
+    let mut silo = new_silo(alloc)?;
+    written(alloc, &mut silo)
 }
 
 #[test]
 fn a_silo_writes_the_worked_journal(rt: HostRuntime) -> Result<(), Fail> {
     let alloc = rt.alloc();
-    let silo = stepped(alloc)?;
-    assert!(rt; silo.opening().is_empty());
-    let text = write_journal(alloc, &silo)?;
+    let text = written_anew(alloc)?;
     assert!(rt; text.as_slice() == WORKED.as_bytes());
     let reports = audit(alloc, &read_journal(alloc, text.as_slice())?, Kinds)?;
     assert!(rt; !has_difference(reports.as_slice()));

@@ -185,7 +185,7 @@ fn ids_of(alloc: Global, replies: &[Reply]) -> Result<Vec<u64>, Fail> {
     Ok(ids)
 }
 
-/// Serves lanes, if they may be served.
+/// Serves lanes, if they may be served: what each is answered.
 fn served<
     R: AllocGlobal + Threads + Wait + Sync,
     L: GrainLogic + Copy + Send + Drop,
@@ -196,12 +196,12 @@ fn served<
     lanes: &[Lane],
     workers: usize,
     gate: &G,
-) -> Result<ServeReport<MemoryStorage, L>, Fail> {
+) -> Result<Vec<Vec<Reply>>, Fail> {
     if workers < 1 || workers > 64 || !distinct(lanes) {
         return Err("these lanes can't be served".into());
     }
     match serve(rt, rt.alloc(), setup, lanes, workers, gate) {
-        Ok(report) => Ok(report),
+        Ok(ServeReport { answers, .. }) => Ok(answers),
         Err(ServeFault::Memory) => Err(AllocError.into()),
         Err(ServeFault::NoWorker) => Err("no thread, and so no memory".into()),
         Err(ServeFault::Strayed) => Err("the lanes strayed".into()),
@@ -217,9 +217,9 @@ fn two_turns_are_open_at_once(rt: HostRuntime) -> Result<(), Fail> {
     ]?;
     let gate = Meeting::new(2);
     let setup = setup_with(alloc, &["red", "blue"], Kinds)?;
-    let report = served(&rt, setup, &lanes, 2, &gate)?;
+    let answers = served(&rt, setup, &lanes, 2, &gate)?;
     assert!(rt; !gate.was_missed(), "a turn waited alone");
-    assert_eq!(rt; numbers_of(alloc, &report.answers)?, vec![in alloc; 0, 0]?);
+    assert_eq!(rt; numbers_of(alloc, &answers)?, vec![in alloc; 0, 0]?);
     Ok(())
 }
 
@@ -248,12 +248,9 @@ fn four_bodies_run_at_once(rt: HostRuntime) -> Result<(), Fail> {
     ]?;
     let meeting = Meeting::new(4);
     let setup = setup_with(alloc, &["red", "blue"], Together { meeting: &meeting })?;
-    let report = served(&rt, setup, &lanes, 4, &FreeGate)?;
+    let answers = served(&rt, setup, &lanes, 4, &FreeGate)?;
     assert!(rt; !meeting.was_missed(), "a body waited alone");
-    assert_eq!(rt;
-        numbers_of(alloc, &report.answers)?,
-        vec![in alloc; 0, 0, 0, 0]?
-    );
+    assert_eq!(rt; numbers_of(alloc, &answers)?, vec![in alloc; 0, 0, 0, 0]?);
     Ok(())
 }
 
@@ -277,12 +274,12 @@ fn three_answers<R: AllocGlobal + Threads + Wait + Sync>(
     let alloc = rt.alloc();
     let lanes = vec![in alloc; three_steps(alloc)?]?;
     let setup = setup_with(alloc, &["red"], Kinds)?;
-    let report = served(rt, setup, &lanes, workers, &FreeGate)?;
+    let answers = served(rt, setup, &lanes, workers, &FreeGate)?;
     let mut ids = Vec::new(alloc);
-    for replies in &report.answers {
+    for replies in &answers {
         ids.append(&mut ids_of(alloc, replies)?)?;
     }
-    Ok((ids, numbers_of(alloc, &report.answers)?))
+    Ok((ids, numbers_of(alloc, &answers)?))
 }
 
 #[test]
@@ -308,8 +305,8 @@ fn two_lanes_of_a_hundred_calls(rt: HostRuntime) -> Result<(), Fail> {
         lanes.push(lane(alloc, caller, steps)?)?;
     }
     let setup = setup_with(alloc, &["red"], Kinds)?;
-    let report = served(&rt, setup, &lanes, 4, &FreeGate)?;
-    let numbers = numbers_of(alloc, &report.answers)?;
+    let answers = served(&rt, setup, &lanes, 4, &FreeGate)?;
+    let numbers = numbers_of(alloc, &answers)?;
     assert_eq!(rt; numbers.len(), 200);
     let mut wanted = 1;
     for number in &numbers {
@@ -335,8 +332,8 @@ fn served_with_little_memory(rt: HostRuntime) -> Result<(), Fail> {
         get_lane(alloc, "blue/c1", "counter/blue:a")?,
     ]?;
     let setup = setup_with(alloc, &["red", "blue"], Kinds)?;
-    let report = served(&rt, setup, &lanes, 2, &FreeGate)?;
-    for replies in &report.answers {
+    let answers = served(&rt, setup, &lanes, 2, &FreeGate)?;
+    for replies in &answers {
         assert_eq!(rt; replies.len(), 1);
         for reply in replies {
             assert!(rt; is_right(alloc, reply)?);
