@@ -29,6 +29,10 @@ pub enum ServeFault {
 }
 
 impl From<AllocError> for ServeFault {
+    ghost use Rattle.worker_host.specs.declared.report.ServeFault.TheVariants as faults;
+
+    ghost from_gives = { λ _ e. e ≡ faults.Memory };
+
     fn from(_refused: AllocError) -> ServeFault {
         ServeFault::Memory
     }
