@@ -18,6 +18,7 @@ pub fn is_too_large(value: Node<'_>) -> bool
 
 /// What the value's spelling leaves of the room, in bytes. It looks no further than the room goes.
 #[cycle(counting)]
+#[inline(always)]
 fn after_node(node: Node<'_>, room: usize) -> Option<usize>
     ensures { Leaves result room (spelled_length (node_value node.entry)) }
 {

@@ -8,31 +8,23 @@ ghost use Rattle.grain_kinds.specs.Laws.{FitsState, FitsMessage};
 use bumpalo::Bump;
 use request_codec::{Message, StateBytes};
 use std::alloc::AllocError;
-use turn_arena::{ArenaFault, Node, decode_in, node_in};
+use turn_arena::{Node, formed_call_in, formed_in};
 
-/// The method and the argument of a message.
+/// The method and the argument of a message, whose texts are lent from its bytes.
 pub(crate) fn asked_in<'a>(
     bump: &'a Bump,
-    message: &Message,
+    message: &'a Message,
 ) -> Result<(&'a str, Node<'a>), AllocError>
     ensures same { IfOk result (λ found. asks found.0.now (node_value found.1) ≡ message.now) }
     ensures fits { IfOk result (λ found. FitsMessage (asks found.0.now (node_value found.1))) }
 {
-    match decode_in(bump, message.bytes()) {
-        Ok(found) => Ok(found),
-        Err(ArenaFault::Memory) => Err(AllocError),
-        Err(ArenaFault::NotAMessage) => unreachable!(),
-    }
+    formed_call_in(bump, message.bytes())
 }
 
-/// The value of a state.
-pub(crate) fn state_in<'a>(bump: &'a Bump, state: &StateBytes) -> Result<Node<'a>, AllocError>
+/// The value of a state, whose texts are lent from its bytes.
+pub(crate) fn state_in<'a>(bump: &'a Bump, state: &'a StateBytes) -> Result<Node<'a>, AllocError>
     ensures same { IfOk result (λ node. node_value node ≡ state.now) }
     ensures fits { IfOk result (λ node. FitsState (node_value node)) }
 {
-    match node_in(bump, state.bytes()) {
-        Ok(node) => Ok(node),
-        Err(ArenaFault::Memory) => Err(AllocError),
-        Err(ArenaFault::NotAMessage) => unreachable!(),
-    }
+    formed_in(bump, state.bytes())
 }

@@ -60,6 +60,12 @@ impl<L: GrainLogic> Model for FinishedTurn<L> {
     ghost invariant = { λ f. planned_shown f.opened.state f.planned ≡ turn_plan L.logic f.opened };
 }
 
+/// How many bytes the state after the turn has about: what a message adds to it is mostly no longer than the message.
+fn room_for(opened: &OpenedTurn) -> usize {
+    let state = opened.state.bytes().len();
+    state.saturating_add(opened.message.bytes().len())
+}
+
 /// The plan of a turn, in bytes of its own.
 fn planned_by<L: GrainLogic>(
     alloc: Global,
@@ -72,7 +78,7 @@ fn planned_by<L: GrainLogic>(
     let (method, argument) = asked_in(bump, &opened.message)?;
     let state = state_in(bump, &opened.state)?;
     let plan = logic.plan(alloc, bump, opened.grain.kind(), method, state, argument)?;
-    written(alloc, plan)
+    written(alloc, room_for(opened), plan)
 }
 
 /// Makes the plan of a turn. If memory is refused, the opened turn comes back.

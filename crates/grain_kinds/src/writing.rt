@@ -13,28 +13,21 @@ use crate::fault::MethodFault;
 use crate::plan::{Plan, Send};
 use crate::turn::Planned;
 use grain_id::GrainId;
+use request_codec::limits::STATE_ROOM;
 use request_codec::{CodecFault, Message, StateBytes};
 use std::alloc::{AllocError, Global};
-use turn_arena::{Node, encode_call, encode_node};
+use turn_arena::{Node, encode_call, encode_formed};
 
 /// The state of a value that keeps the limits of one.
 ///
 /// # Errors
 ///
 /// Out of memory.
-#[tactic(auto, using(crate::proofs::Fits::formed_ascends))]
 pub fn state_of(alloc: Global, node: Node<'_>) -> Result<StateBytes, AllocError>
     requires { FitsState (node_value node) }
     ensures { IfOk result (λ state. state ≡ node_value node.entry) }
 {
-    match encode_node(alloc, node) {
-        Ok(state) => Ok(state),
-        Err(CodecFault::Memory) => Err(AllocError),
-        Err(CodecFault::TooDeep) => unreachable!(),
-        Err(CodecFault::TooLong) => unreachable!(),
-        Err(CodecFault::NotWhole) => unreachable!(),
-        Err(CodecFault::NotAMessage) => unreachable!(),
-    }
+    encode_formed(alloc, STATE_ROOM, node)
 }
 
 /// The message of a call that keeps the limits of one.
@@ -53,13 +46,17 @@ fn message_of(alloc: Global, method: &str, argument: Node<'_>) -> Result<Message
     }
 }
 
-/// The new state, if there is one.
-fn next_of(alloc: Global, state: Option<Node<'_>>) -> Result<Option<StateBytes>, AllocError>
+/// The new state, if there is one, written into room for that many bytes at first.
+fn next_of(
+    alloc: Global,
+    room: usize,
+    state: Option<Node<'_>>,
+) -> Result<Option<StateBytes>, AllocError>
     requires { IfSome state (λ node. FitsState (node_value node)) }
     ensures { IfOk result (λ next. next ≡ option_map node_value state.entry) }
 {
     match state {
-        Some(node) => Ok(Some(state_of(alloc, node)?)),
+        Some(node) => Ok(Some(encode_formed(alloc, room, node)?)),
         None => Ok(None),
     }
 }
@@ -94,13 +91,13 @@ fn sends_of(alloc: Global, sends: Vec<Send<'_>>) -> Result<Vec<(GrainId, Message
     Ok(written)
 }
 
-/// All that a plan holds.
-pub(crate) fn written(alloc: Global, plan: Plan<'_>) -> Result<Planned, AllocError>
+/// All that a plan holds. The new state is written into room for that many bytes at first.
+pub(crate) fn written(alloc: Global, room: usize, plan: Plan<'_>) -> Result<Planned, AllocError>
     requires { NodesFit plan }
     ensures { IfOk result (λ planned. (state : Tree) → planned_shown state planned ≡ plan_shown state plan.entry) }
 {
     Ok(Planned {
-        state: next_of(alloc, plan.state)?,
+        state: next_of(alloc, room, plan.state)?,
         outcome: outcome_of(alloc, plan.outcome)?,
         store: plan.store,
         sends: sends_of(alloc, plan.sends)?,

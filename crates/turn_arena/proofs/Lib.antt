@@ -2,3 +2,4 @@ pub mod PartAnswers
 pub mod Ascends
 pub mod Levels
 pub mod FieldPlaces
+pub mod Known

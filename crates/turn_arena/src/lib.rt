@@ -9,6 +9,7 @@
 mod depth;
 mod fault;
 mod fields;
+mod formed;
 mod node;
 mod node_builder;
 mod node_reader;
@@ -19,10 +20,11 @@ mod writing;
 
 pub use fault::ArenaFault;
 pub use fields::{drop_in, put_in};
+pub use formed::{formed_call_in, formed_in};
 pub use node::{Field, Node};
 pub use reading::{decode_in, node_in};
 pub use trees::{list_in, map_in, text_in};
-pub use writing::{encode_call, encode_node};
+pub use writing::{encode_call, encode_formed, encode_node};
 
 #[cfg(test)]
 mod tests;

@@ -23,14 +23,14 @@ fn b_and_d<'a>(bump: &'a Bump) -> Result<&'a [Field<'a>], AllocError>
     put_in(bump, alone(bump, "b", Node::Int(1))?, "d", Node::Int(2))
 }
 
-fn is_int(node: Node<'_>, number: i64) -> bool {
+pub(crate) fn is_int(node: Node<'_>, number: i64) -> bool {
     match node {
         Node::Int(n) => n == number,
         _ => false,
     }
 }
 
-fn is_text(node: Node<'_>, text: &str) -> bool {
+pub(crate) fn is_text(node: Node<'_>, text: &str) -> bool {
     match node {
         Node::Text(s) => s == text,
         _ => false,

@@ -1,9 +1,11 @@
 //! Writing a tree as a message or a state.
 
-ghost use Rattle.std.specs.Prelude.{◌∷◌, ◌++◌};
+ghost use Rattle.std.specs.Prelude.{◌≡◌, ◌≤◌, ◌∷◌, ◌++◌, IfOk};
 ghost use Rattle.request_codec.specs.Answers.{Writes, spelled_length, message_length};
 ghost use Rattle.request_codec.specs.Call.{asks};
-ghost use Rattle.request_codec.specs.Limits.{message_limit, state_limit};
+ghost use Rattle.request_codec.specs.Formed.{IsFormed};
+ghost use Rattle.request_codec.specs.Limits.{depth_limit, message_limit, state_limit};
+ghost use Rattle.request_codec.specs.Tree.{depth};
 ghost use Rattle.request_codec.specs.Written.{WritesAll, text_spelling, spelling};
 ghost use Rattle.turn_arena.specs.Ascending.{MapsAscend};
 ghost use Rattle.turn_arena.specs.NodeValue.{node_value};
@@ -16,7 +18,7 @@ use request_codec::limits::{
     MAX_DEPTH, MAX_MESSAGE_BYTES, MAX_STATE_BYTES, MESSAGE_ROOM, STATE_ROOM,
 };
 use request_codec::{CodecFault, Message, StateBytes};
-use std::alloc::Global;
+use std::alloc::{AllocError, Global};
 
 /// The bytes of a message of the method and its argument.
 fn message_bytes(alloc: Global, method: &str, argument: Node<'_>) -> Result<Vec<u8>, CodecFault>
@@ -29,11 +31,11 @@ fn message_bytes(alloc: Global, method: &str, argument: Node<'_>) -> Result<Vec<
     Ok(out)
 }
 
-/// The bytes of a state of the value.
-fn state_bytes(alloc: Global, value: Node<'_>) -> Result<Vec<u8>, CodecFault>
+/// The bytes of a state of the value. There is room for `room` bytes at once, and for more when they come.
+fn state_bytes(alloc: Global, room: usize, value: Node<'_>) -> Result<Vec<u8>, CodecFault>
     ensures { WritesAll state_limit result (spelling (node_value value.entry)) }
 {
-    let mut out = Vec::with_capacity(alloc, STATE_ROOM)?;
+    let mut out = Vec::with_capacity(alloc, room)?;
     put_node(&mut out, MAX_STATE_BYTES, value)?;
     Ok(out)
 }
@@ -58,5 +60,24 @@ pub fn encode_node(alloc: Global, node: Node<'_>) -> Result<StateBytes, CodecFau
     if !is_within(node, MAX_DEPTH) {
         return Err(CodecFault::TooDeep);
     }
-    Ok(StateBytes::from_spelling(state_bytes(alloc, node)?)?)
+    Ok(StateBytes::from_spelling(state_bytes(alloc, STATE_ROOM, node)?)?)
+}
+
+/// The state of a value that is known to fit one, which is not tested again: `encode_node`'s, and the only error is
+/// that memory was refused. It is written into room for `room` bytes, which grows if they are more: whoever knows about
+/// how long the state gets spares its writing to grow.
+pub fn encode_formed(alloc: Global, room: usize, node: Node<'_>) -> Result<StateBytes, AllocError>
+    requires formed { IsFormed (node_value node) }
+    requires shallow { depth (node_value node) ≤ depth_limit }
+    requires short { spelled_length (node_value node) ≤ state_limit }
+    ensures { IfOk result (λ state. state ≡ node_value node.entry) }
+{
+    match state_bytes(alloc, room, node) {
+        Ok(bytes) => Ok(StateBytes::from_spelling(bytes)?),
+        Err(CodecFault::Memory) => Err(AllocError),
+        Err(CodecFault::TooLong) => unreachable!(),
+        Err(CodecFault::TooDeep) => unreachable!(),
+        Err(CodecFault::NotWhole) => unreachable!(),
+        Err(CodecFault::NotAMessage) => unreachable!(),
+    }
 }

@@ -5,8 +5,9 @@ ghost use Rattle.turn_arena.specs.Ascending.{MapsAscend};
 ghost use Rattle.turn_arena.specs.NodeValue.{node_value};
 
 use super::*;
+use crate::trees_tests::{is_int, is_text};
 use bumpalo::Bump;
-use request_codec::CodecFault;
+use request_codec::{CodecFault, Message, StateBytes};
 use std::alloc::{AllocError, Global};
 use std::test::Fail;
 
@@ -54,6 +55,57 @@ fn writes_a_map(rt: HostRuntime) -> Result<(), Fail> {
     assert_eq!(rt;
         state.bytes(),
         [6, 0, 0, 0, 1, 0, 0, 0, 1, 0x61, 0].as_slice()
+    );
+    Ok(())
+}
+
+#[test]
+fn writes_a_truth_that_is_known_to_fit(rt: HostRuntime) -> Result<(), Fail> {
+    let state = encode_formed(rt.alloc(), 0, Node::Bool(true))?;
+    assert_eq!(rt; state.bytes(), [2].as_slice());
+    Ok(())
+}
+
+/// The value of a state, which is known to be one.
+fn node_of<'a>(bump: &'a Bump, state: &'a StateBytes) -> Result<Node<'a>, AllocError> {
+    formed_in(bump, state.bytes())
+}
+
+/// The method and the argument of a message, which is known to be one.
+fn asked_of<'a>(bump: &'a Bump, message: &'a Message) -> Result<(&'a str, Node<'a>), AllocError> {
+    formed_call_in(bump, message.bytes())
+}
+
+#[test]
+fn reads_what_is_known_to_be_a_message(rt: HostRuntime) -> Result<(), Fail> {
+    let bump = Bump::new(rt.alloc());
+    let message = encode_call(rt.alloc(), "add", Node::Int(2))?;
+    assert!(rt;
+        match asked_of(&bump, &message)? {
+            (method, Node::Int(2)) => method == "add",
+            _ => false,
+        }
+    );
+    Ok(())
+}
+
+#[test]
+fn reads_what_is_known_to_be_a_state(rt: HostRuntime) -> Result<(), Fail> {
+    let bump = Bump::new(rt.alloc());
+    let nodes = [Node::Int(-1), Node::Text("x")];
+    let list = encode_node(rt.alloc(), Node::List(&nodes))?;
+    assert!(rt;
+        match node_of(&bump, &list)? {
+            Node::List([first, second]) => is_int(*first, -1) && is_text(*second, "x"),
+            _ => false,
+        }
+    );
+    let map = encode_node(rt.alloc(), null_named_a(&bump)?)?;
+    assert!(rt;
+        match node_of(&bump, &map)? {
+            Node::Map([field]) => field.name == "a" && matches!(field.node, Node::Null),
+            _ => false,
+        }
     );
     Ok(())
 }

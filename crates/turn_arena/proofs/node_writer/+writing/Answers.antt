@@ -21,21 +21,21 @@ put_node-returns-in_err-count-in-List t c =
     let is : node_value c.args.node ≡ tree.list (node_values ns) = ap node_value c.in-List.is ∙ node_value-List c.in-List.nodes in
     rw (p.1, p.2, is) (list_uncounted node_value c.in_err-count-in-List.field-0.0 c.args.limit old old ns c.in_err-count-in-List.ensures.0 c.in_err-count-in-List.ensures.1)
 
-pub put_node-returns-in_err-put_start-in-List : goal.put_node-returns-in_err-put_start-in-List
-put_node-returns-in_err-put_start-in-List t c =
-    let q = c.from_residual-in_err-put_start-in-List in
+pub put_node-returns-in_err-put_counted-in-List : goal.put_node-returns-in_err-put_counted-in-List
+put_node-returns-in_err-put_counted-in-List t c =
+    let q = c.from_residual-in_err-put_counted-in-List in
     let p = err_from_is_err_and q.result q.ensures.1 in
     let ns = c.in-List.nodes.now in
     let n = c.in_ok-count-in-List.count in
     let is : node_value c.args.node ≡ tree.list (node_values ns) = ap node_value c.in-List.is ∙ node_value-List c.in-List.nodes in
-    rw (p.1, p.2, is, list_parts node_value ns n c.in_ok-count-in-List.ensures) (Puts-front c.args.limit c.args.out.now.items c.put_start-in-List.new.out.items c.put_start-in-List.new.out.items (5 ∷ to_be_bytes w32 n) (members_spelling (node_values ns)) c.in_err-put_start-in-List.field-0.0 c.in_err-put_start-in-List.ensures)
+    rw (p.1, p.2, is, list_parts node_value ns n c.in_ok-count-in-List.ensures) (Puts-front c.args.limit c.args.out.now.items c.put_counted.new.out.items c.put_counted.new.out.items (5 ∷ to_be_bytes w32 n) (members_spelling (node_values ns)) c.in_err-put_counted-in-List.field-0.0 c.in_err-put_counted-in-List.ensures)
 
-pub put_node-returns-in_ok-put_start-in-List : goal.put_node-returns-in_ok-put_start-in-List
-put_node-returns-in_ok-put_start-in-List t c =
+pub put_node-returns-in_ok-put_counted-in-List : goal.put_node-returns-in_ok-put_counted-in-List
+put_node-returns-in_ok-put_counted-in-List t c =
     let ns = c.in-List.nodes.now in
     let n = c.in_ok-count-in-List.count in
     let is : node_value c.args.node ≡ tree.list (node_values ns) = ap node_value c.in-List.is ∙ node_value-List c.in-List.nodes in
-    rw (is, list_parts node_value ns n c.in_ok-count-in-List.ensures) (Puts-then c.args.limit c.args.out.now.items (5 ∷ to_be_bytes w32 n) c.put_start-in-List.new.out.items c.put_nodes.new.out.items (members_spelling (node_values ns)) c.put_nodes.result c.in_ok-put_start-in-List.ensures.0 c.put_nodes.ensures)
+    rw (is, list_parts node_value ns n c.in_ok-count-in-List.ensures) (Puts-then c.args.limit c.args.out.now.items (5 ∷ to_be_bytes w32 n) c.put_counted.new.out.items c.put_nodes.new.out.items (members_spelling (node_values ns)) c.put_nodes.result c.in_ok-put_counted-in-List.ensures.0 c.put_nodes.ensures)
 
 pub put_nodes-returns-in_err-put_node : goal.put_nodes-returns-in_err-put_node
 put_nodes-returns-in_err-put_node t c =
@@ -70,21 +70,21 @@ put_node-returns-in_err-count-in-Map t c =
     let is : node_value c.args.node ≡ tree.map (field_values fs) = ap node_value c.in-Map.is ∙ node_value-Map c.in-Map.fields in
     rw (p.1, p.2, is) (map_uncounted field_value c.in_err-count-in-Map.field-0.0 c.args.limit old old fs c.in_err-count-in-Map.ensures.0 c.in_err-count-in-Map.ensures.1)
 
-pub put_node-returns-in_err-put_start-in-Map : goal.put_node-returns-in_err-put_start-in-Map
-put_node-returns-in_err-put_start-in-Map t c =
-    let q = c.from_residual-in_err-put_start-in-Map in
+pub put_node-returns-in_err-put_counted-in-Map : goal.put_node-returns-in_err-put_counted-in-Map
+put_node-returns-in_err-put_counted-in-Map t c =
+    let q = c.from_residual-in_err-put_counted-in-Map in
     let p = err_from_is_err_and q.result q.ensures.1 in
     let fs = c.in-Map.fields.now in
     let n = c.in_ok-count-in-Map.count in
     let is : node_value c.args.node ≡ tree.map (field_values fs) = ap node_value c.in-Map.is ∙ node_value-Map c.in-Map.fields in
-    rw (p.1, p.2, is, map_parts field_value fs n c.in_ok-count-in-Map.ensures) (Puts-front c.args.limit c.args.out.now.items c.put_start-in-Map.new.out.items c.put_start-in-Map.new.out.items (6 ∷ to_be_bytes w32 n) (fields_spelling (field_values fs)) c.in_err-put_start-in-Map.field-0.0 c.in_err-put_start-in-Map.ensures)
+    rw (p.1, p.2, is, map_parts field_value fs n c.in_ok-count-in-Map.ensures) (Puts-front c.args.limit c.args.out.now.items c.put_counted-in-Map.new.out.items c.put_counted-in-Map.new.out.items (6 ∷ to_be_bytes w32 n) (fields_spelling (field_values fs)) c.in_err-put_counted-in-Map.field-0.0 c.in_err-put_counted-in-Map.ensures)
 
-pub put_node-returns-in_ok-put_start-in-Map : goal.put_node-returns-in_ok-put_start-in-Map
-put_node-returns-in_ok-put_start-in-Map t c =
+pub put_node-returns-in_ok-put_counted-in-Map : goal.put_node-returns-in_ok-put_counted-in-Map
+put_node-returns-in_ok-put_counted-in-Map t c =
     let fs = c.in-Map.fields.now in
     let n = c.in_ok-count-in-Map.count in
     let is : node_value c.args.node ≡ tree.map (field_values fs) = ap node_value c.in-Map.is ∙ node_value-Map c.in-Map.fields in
-    rw (is, map_parts field_value fs n c.in_ok-count-in-Map.ensures) (Puts-then c.args.limit c.args.out.now.items (6 ∷ to_be_bytes w32 n) c.put_start-in-Map.new.out.items c.put_fields.new.out.items (fields_spelling (field_values fs)) c.put_fields.result c.in_ok-put_start-in-Map.ensures.0 c.put_fields.ensures)
+    rw (is, map_parts field_value fs n c.in_ok-count-in-Map.ensures) (Puts-then c.args.limit c.args.out.now.items (6 ∷ to_be_bytes w32 n) c.put_counted-in-Map.new.out.items c.put_fields.new.out.items (fields_spelling (field_values fs)) c.put_fields.result c.in_ok-put_counted-in-Map.ensures.0 c.put_fields.ensures)
 
 pub put_fields-returns-in_err-put_text : goal.put_fields-returns-in_err-put_text
 put_fields-returns-in_err-put_text t c =

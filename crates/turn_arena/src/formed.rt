@@ -1,0 +1,167 @@
+//! Reading bytes that are known to be a state's or a message's: nothing of that is tested again, and texts are lent.
+
+ghost use Rattle.std.specs.Prelude.{◌≡◌, Some, None, IsSome, IfOk, option_map};
+ghost use Rattle.std.specs.Int.{w32};
+ghost use Rattle.request_codec.specs.Call.{message_call, state_value, asks};
+ghost use Rattle.request_codec.specs.Reading.{number_at, text_at, value_at, members_at, fields_at};
+ghost use Rattle.request_codec.specs.Start.{begun, start_at};
+ghost use Rattle.turn_arena.specs.NodeValue.{node_value, node_values, field_values};
+
+use crate::node::{Field, Node};
+use bumpalo::Bump;
+use bumpalo::collections::into_bump_slice;
+use request_codec::bytes::{Start, start_of};
+use request_codec::limits::MAX_DEPTH;
+use std::alloc::AllocError;
+use std::str;
+
+/// The number of four bytes at the front, high first, and the bytes after it.
+#[tactic(auto, unfolding(request_codec::specs::Reading::number_at))]
+#[inline(always)]
+fn u32_of(bytes: &[u8]) -> Option<(u32, &[u8])>
+    ensures { option_map (λ x. (x.0, x.1.now)) result ≡ number_at w32 bytes.now }
+{
+    if bytes.len() < 4 {
+        return None;
+    }
+    let (front, rest) = bytes.split_at(4);
+    let number = u32::from_be_bytes([front[0], front[1], front[2], front[3]]);
+    Some((number, rest))
+}
+
+/// The text that is known to stand at the front, and the bytes after it. That it is UTF-8 is known too.
+#[tactic(auto, unfolding(request_codec::specs::Reading::text_at))]
+#[inline(always)]
+fn known_text(bytes: &[u8]) -> Option<(&str, &[u8])>
+    requires { IsSome (text_at bytes.now) }
+    ensures { option_map (λ x. (x.0.now, x.1.now)) result ≡ text_at bytes.now }
+{
+    let (count, rest) = u32_of(bytes)?;
+    let count = count as usize;
+    if rest.len() < count {
+        return None;
+    }
+    let (front, rest) = rest.split_at(count);
+    Some((unsafe { str::from_utf8_unchecked(front) }, rest))
+}
+
+/// The start of a value that is known to stand at the front, and the bytes after it.
+#[tactic(auto, unfolding(request_codec::specs::Start::start_at))]
+#[inline(always)]
+fn known_start(bytes: &[u8]) -> Option<(Start<'_>, &[u8])>
+    requires { IsSome (start_at bytes.now) }
+    ensures { option_map (λ x. (begun x.0, x.1.now)) result ≡ start_at bytes.now }
+{
+    match bytes {
+        [4, rest @ ..] => {
+            let (text, rest) = known_text(rest)?;
+            Some((Start::Text(text), rest))
+        }
+        _ => start_of(bytes),
+    }
+}
+
+/// The value that is known to stand at the front, no deeper than the limit, and the bytes after it.
+#[cycle(lending)]
+#[inline(always)]
+fn formed_node<'a>(
+    bump: &'a Bump,
+    bytes: &'a [u8],
+    limit: u8,
+) -> Result<(Node<'a>, &'a [u8]), AllocError>
+    requires { IsSome (value_at limit bytes.now) }
+    ensures { IfOk result (λ x. value_at limit bytes.now ≡ Some (node_value x.0, x.1.now)) }
+{
+    if limit == 0 {
+        unreachable!();
+    }
+    let Some((start, rest)) = known_start(bytes) else {
+        unreachable!();
+    };
+    match start {
+        Start::Null => Ok((Node::Null, rest)),
+        Start::Bool(truth) => Ok((Node::Bool(truth), rest)),
+        Start::Int(number) => Ok((Node::Int(number), rest)),
+        Start::Text(text) => Ok((Node::Text(text), rest)),
+        Start::List(count) => {
+            let (nodes, rest) = formed_nodes(bump, rest, count, limit - 1)?;
+            Ok((Node::List(nodes), rest))
+        }
+        Start::Map(count) => {
+            let (fields, rest) = formed_fields(bump, rest, count, limit - 1)?;
+            Ok((Node::Map(fields), rest))
+        }
+    }
+}
+
+#[cycle(lending)]
+fn formed_nodes<'a>(
+    bump: &'a Bump,
+    bytes: &'a [u8],
+    count: u32,
+    limit: u8,
+) -> Result<(&'a [Node<'a>], &'a [u8]), AllocError>
+    requires { IsSome (members_at (value_at limit) count bytes.now) }
+    ensures { IfOk result (λ x. members_at (value_at limit) count bytes.now ≡ Some (node_values x.0.now, x.1.now)) }
+{
+    let mut nodes = Vec::with_capacity(bump, count as usize)?;
+    let mut rest = bytes;
+    'nodes: for _ in 0..count {
+        let (node, after) = formed_node(bump, rest, limit)?;
+        nodes.push(node)?;
+        rest = after;
+    }
+    Ok((into_bump_slice(nodes), rest))
+}
+
+#[cycle(lending)]
+fn formed_fields<'a>(
+    bump: &'a Bump,
+    bytes: &'a [u8],
+    count: u32,
+    limit: u8,
+) -> Result<(&'a [Field<'a>], &'a [u8]), AllocError>
+    requires { IsSome (fields_at (value_at limit) count None bytes.now) }
+    ensures { IfOk result (λ x. fields_at (value_at limit) count None bytes.now ≡ Some (field_values x.0.now, x.1.now)) }
+{
+    let mut fields = Vec::with_capacity(bump, count as usize)?;
+    let mut rest = bytes;
+    'fields: for _ in 0..count {
+        let Some((name, behind)) = known_text(rest) else {
+            unreachable!();
+        };
+        let (node, after) = formed_node(bump, behind, limit)?;
+        fields.push(Field { name, node })?;
+        rest = after;
+    }
+    Ok((into_bump_slice(fields), rest))
+}
+
+/// The value of bytes that are known to be a state's. Its texts and names are lent from the bytes, and its
+/// lists and maps lie in the arena. The only error: the arena can't grow.
+pub fn formed_in<'a>(bump: &'a Bump, bytes: &'a [u8]) -> Result<Node<'a>, AllocError>
+    requires { IsSome (state_value bytes.now) }
+    ensures { IfOk result (λ node. state_value bytes.now ≡ Some (node_value node)) }
+{
+    let (node, _) = formed_node(bump, bytes, MAX_DEPTH)?;
+    Ok(node)
+}
+
+/// The method and the argument of bytes that are known to be a message's. The method, texts and names are lent from
+/// the bytes, and lists and maps lie in the arena. The only error: the arena can't grow.
+pub fn formed_call_in<'a>(
+    bump: &'a Bump,
+    bytes: &'a [u8],
+) -> Result<(&'a str, Node<'a>), AllocError>
+    requires { IsSome (message_call bytes.now) }
+    ensures { IfOk result (λ found. message_call bytes.now ≡ Some (asks found.0.now (node_value found.1))) }
+{
+    let [_, behind @ ..] = bytes else {
+        unreachable!();
+    };
+    let Some((method, rest)) = known_text(behind) else {
+        unreachable!();
+    };
+    let (argument, _) = formed_node(bump, rest, MAX_DEPTH)?;
+    Ok((method, argument))
+}
