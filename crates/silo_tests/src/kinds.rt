@@ -343,7 +343,13 @@ fn given_back(alloc: Global, opened: OpenedTurn) -> u64 {
 #[test]
 fn a_turn_comes_back_if_memory_is_refused(rt: HostRuntime) -> Result<(), Fail> {
     let alloc = rt.alloc();
-    let opened = opened(alloc, "counter", state(alloc, "2")?, "get", "null")?;
+    let opened = opened(
+        alloc,
+        "sheet",
+        state(alloc, "{}")?,
+        "put",
+        "{\"name\":\"b\",\"value\":true}",
+    )?;
     assert_eq!(rt; given_back(alloc, opened), 7);
     Ok(())
 }
