@@ -1,5 +1,9 @@
 pub mod Meaning
 pub mod GrammarLoops
+pub mod PlainLexemes
+pub mod PlainTokens
+pub mod PlainRuns
+pub mod PlainNaturals
 pub mod ItemsRead
 pub mod Ordered
 pub mod FieldsRead

@@ -7,3 +7,4 @@ pub mod Fields
 pub mod Slots
 pub mod Step
 pub mod Unread
+pub mod Plain

@@ -6,8 +6,9 @@ ghost use Rattle.line_parser.specs.Argument.{PutsValue, PutsItems, PutsFields};
 
 use crate::fields::Fields;
 use crate::number::whole_number;
+use crate::tokens::Tokens;
 use crate::unread::Unread;
-use json::{Reader, Token};
+use json::Token;
 use request_codec::bytes::{Start, put_start, put_text};
 
 /// An argument's levels are counted down from `MEMBER_DEPTH`; here it would have more than 32.
@@ -40,7 +41,7 @@ fn set_count(out: &mut Vec<u8>, at: usize, count: u32)
 pub(crate) fn put_value(
     out: &mut Vec<u8>,
     limit: usize,
-    reader: &mut Reader<'_>,
+    reader: &mut Tokens<'_>,
     depth: usize,
 ) -> Result<(), Unread>
     requires room { length out.old.items ≤ limit }
@@ -51,7 +52,7 @@ pub(crate) fn put_value(
     if depth <= TOO_DEEP {
         return Err(Unread::Unusual);
     }
-    let token = reader.next().ok_or(Unread::Unusual)?;
+    let token = reader.next()?;
     match token {
         Token::Null => put_start(out, limit, Start::Null)?,
         Token::Bool(b) => put_start(out, limit, Start::Bool(b))?,
@@ -77,7 +78,7 @@ pub(crate) fn put_value(
 fn put_items(
     out: &mut Vec<u8>,
     limit: usize,
-    reader: &mut Reader<'_>,
+    reader: &mut Tokens<'_>,
     depth: usize,
 ) -> Result<(), Unread>
     requires room { length out.old.items ≤ limit }
@@ -89,7 +90,7 @@ fn put_items(
     put_start(out, limit, Start::List(0))?;
     let at = out.len() - 4;
     let mut count = 0usize;
-    'items: while !reader.take_end_array() {
+    'items: while !reader.take_end_array()? {
         put_value(out, limit, reader, depth)?;
         count += 1;
     }
@@ -103,7 +104,7 @@ fn put_items(
 fn put_fields(
     out: &mut Vec<u8>,
     limit: usize,
-    reader: &mut Reader<'_>,
+    reader: &mut Tokens<'_>,
     depth: usize,
 ) -> Result<(), Unread>
     requires room { length out.old.items ≤ limit }

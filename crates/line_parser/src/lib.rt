@@ -5,6 +5,7 @@
 #![tactic(auto)]
 
 mod argument;
+mod ascii;
 mod asked;
 mod fields;
 mod forms;
@@ -12,10 +13,13 @@ mod line;
 mod members;
 mod named;
 mod number;
+mod plain;
 mod reading;
 mod request;
+mod scan;
 mod slots;
 mod step;
+mod tokens;
 mod unread;
 
 pub use line::{Line, LineRefusal};

@@ -1,13 +1,36 @@
 //! Whole numbers of 64 bits in JSON.
 
-ghost use Rattle.std.specs.Prelude.{◌≡◌, ◌<◌, ◌==◌, length, slice_index, IsTrue, IfSome, Some, true, false, FitsSigned};
+ghost use Rattle.std.specs.Prelude.{◌≡◌, ◌<◌, ◌==◌, ◌^◌, length, slice_index, IsTrue, IfSome, Some, true, false, FitsSigned};
 ghost use Rattle.std.specs.Int.{w64};
 ghost use Rattle.serde_json.specs.Data.{unsigned};
 ghost use Rattle.serde_json.specs.Find.{of_integer};
-ghost use Rattle.serde_json.specs.Read.{number_from};
+ghost use Rattle.serde_json.specs.Read.{number_of, number_from};
 ghost use Rattle.line_parser.specs.Number.{IsWhole};
 
 use fast_float::Numeral;
+
+/// The digits of a number that is surely below 2^63.
+const MOST_DIGITS: usize = 18;
+
+/// The number that a text spells, if it is digits alone, and not too many.
+#[inline(always)]
+fn natural_of(text: &str) -> Option<u64>
+    ensures read { IfSome result (λ n. number_of text.now ≡ Some (unsigned n)) }
+    ensures within { IfSome result (λ n. n < 2 ^ 63) }
+{
+    let bytes = text.as_bytes();
+    if bytes.is_empty() || bytes.len() > MOST_DIGITS {
+        return None;
+    }
+    let mut n = 0u64;
+    for byte in bytes {
+        if !byte.is_ascii_digit() {
+            return None;
+        }
+        n = n * 10 + u64::from(*byte - b'0');
+    }
+    Some(n)
+}
 
 /// Whether the text of a number begins with a minus.
 fn has_minus(bytes: &[u8]) -> bool
@@ -37,6 +60,9 @@ fn negative_of(numeral: &Numeral<'_>) -> Option<i64>
 pub(crate) fn whole_number(text: &str) -> Option<i64>
     ensures { IfSome result (λ n. IsWhole text.now n) }
 {
+    if let Some(n) = natural_of(text) {
+        return Some(n as i64);
+    }
     let bytes = text.as_bytes();
     if has_minus(bytes) {
         let number = negative_of(&Numeral::scan(&bytes[1..]))?;

@@ -1,18 +1,20 @@
 //! What a line says.
 
-ghost use Rattle.std.specs.Prelude.{◌≡◌, IfOk, Some, option_map, option_and_then};
+ghost use Rattle.std.specs.Prelude.{◌≡◌, IsUtf8, IfSome, IfOk, Some, option_map, option_and_then};
 ghost use Rattle.serde_json.specs.Read.{read};
 ghost use Rattle.serde_json.specs.View.{view};
 ghost use Rattle.line_parser.specs.Form.{step_of_json};
 ghost use Rattle.line_parser.specs.Meaning.{json_of_line, meaning_of};
 
+use crate::ascii::is_ascii;
 use crate::forms::read_step;
 use crate::line::{Line, LineRefusal};
 use crate::slots::read_slots;
 use crate::step::step_from;
+use crate::tokens::Tokens;
 use crate::unread::Unread;
 use grain_id::LatelyRead;
-use json::{Reader, Scratch};
+use json::Scratch;
 use serde_json::Value;
 use silo_event::Step;
 use simdutf8::compat::from_utf8;
@@ -86,12 +88,22 @@ pub fn read_any_line(alloc: Global, room: &mut LineRoom, line: &[u8]) -> Result<
     }
 }
 
+/// The text that the bytes are, if they are UTF-8.
+fn text_of(line: &[u8]) -> Option<&str>
+    ensures { IfSome result (λ text. (text.now ≡ line.now) × IsUtf8 line.now) }
+{
+    if is_ascii(line) {
+        return Some(unsafe { std::str::from_utf8_unchecked(line) });
+    }
+    from_utf8(line).ok()
+}
+
 /// The step of a line in the usual form, in one pass over its tokens.
 fn read_text_step(alloc: Global, room: &mut LineRoom, text: &str) -> Result<Step, Unread>
     ensures { IfOk result (λ step. option_and_then step_of_json (read text.now) ≡ Some step) }
 {
-    let mut reader = Reader::new(text, &mut room.scratch)?;
-    let slots = read_slots(&mut reader, &mut room.args)?;
+    let mut tokens = Tokens::new(text, &mut room.scratch);
+    let slots = read_slots(&mut tokens, &mut room.args)?;
     step_from(
         alloc,
         &mut room.names,
@@ -109,7 +121,7 @@ pub fn read_line(alloc: Global, room: &mut LineRoom, line: &[u8]) -> Result<Line
     if line.is_empty() || line.len() > LINE_LIMIT {
         return read_any_line(alloc, room, line);
     }
-    let Ok(text) = from_utf8(line) else {
+    let Some(text) = text_of(line) else {
         return read_any_line(alloc, room, line);
     };
     match read_text_step(alloc, room, text) {

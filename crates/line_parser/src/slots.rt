@@ -7,8 +7,9 @@ ghost use Rattle.line_parser.specs.Slots.{name_text, TakesMember, HasSlots, IsNa
 
 use crate::argument::put_value;
 use crate::number::whole_number;
+use crate::tokens::Tokens;
 use crate::unread::Unread;
-use json::{Reader, Token};
+use json::Token;
 use request_codec::limits::{MAX_MESSAGE_BYTES, MAX_STATE_BYTES};
 
 /// The members that a step may have.
@@ -47,7 +48,7 @@ pub(crate) struct Slots<'a> {
 const MEMBER_DEPTH: usize = 126;
 
 /// The member of that name. Only names of its length are compared.
-fn name_of(key: &str) -> Option<Name>
+pub(crate) fn name_of(key: &str) -> Option<Name>
     ensures { IfSome result (λ name. key.now ≡ name_text name) }
 {
     match key.len() {
@@ -81,30 +82,26 @@ fn name_of(key: &str) -> Option<Name>
 }
 
 /// The next token, which has to be a text, for a slot that has none.
-fn take_text<'a>(slot: Option<&str>, reader: &mut Reader<'a>) -> Result<&'a str, Unread>
+fn take_text<'a>(slot: Option<&str>, reader: &mut Tokens<'a>) -> Result<&'a str, Unread>
     ensures empty { OnOk result (slot.entry ≡ None) }
     ensures token { IfOk result (λ s. reader.old ≡ string s.now ∷ reader.new) }
 {
     if slot.is_some() {
         return Err(Unread::Unusual);
     }
-    match reader.next() {
-        Some(Token::String(text)) => Ok(text),
-        _ => Err(Unread::Unusual),
-    }
+    let text = reader.next_text()?;
+    Ok(text)
 }
 
 /// The next token, which has to be a whole number, 0 or above, for a slot that has none.
-fn take_natural(slot: Option<u64>, reader: &mut Reader<'_>) -> Result<u64, Unread>
+fn take_natural(slot: Option<u64>, reader: &mut Tokens<'_>) -> Result<u64, Unread>
     ensures empty { OnOk result (slot ≡ None) }
     ensures token { IfOk result (λ n. IsNatural reader.old n reader.new) }
 {
     if slot.is_some() {
         return Err(Unread::Unusual);
     }
-    let Some(Token::Number(text)) = reader.next() else {
-        return Err(Unread::Unusual);
-    };
+    let text = reader.next_number()?;
     let Some(n) = whole_number(text) else {
         return Err(Unread::Unusual);
     };
@@ -115,15 +112,15 @@ fn take_natural(slot: Option<u64>, reader: &mut Reader<'_>) -> Result<u64, Unrea
 }
 
 /// The next token, which has to be a truth value, for a slot that has none.
-fn take_truth(slot: Option<bool>, reader: &mut Reader<'_>) -> Result<bool, Unread>
+fn take_truth(slot: Option<bool>, reader: &mut Tokens<'_>) -> Result<bool, Unread>
     ensures empty { OnOk result (slot ≡ None) }
     ensures token { IfOk result (λ b. reader.old ≡ boolean b ∷ reader.new) }
 {
     if slot.is_some() {
         return Err(Unread::Unusual);
     }
-    match reader.next() {
-        Some(Token::Bool(b)) => Ok(b),
+    match reader.next()? {
+        Token::Bool(truth) => Ok(truth),
         _ => Err(Unread::Unusual),
     }
 }
@@ -140,7 +137,7 @@ fn take_value(
     taken: bool,
     bytes: &mut Vec<u8>,
     limit: usize,
-    reader: &mut Reader<'_>,
+    reader: &mut Tokens<'_>,
 ) -> Result<(), Unread>
     requires { limit < 2 ^ 32 }
     ensures empty { OnOk result (taken ≡ false) }
@@ -158,7 +155,7 @@ fn take_value(
 fn take_member<'a>(
     slots: &mut Slots<'a>,
     bytes: &mut Vec<u8>,
-    reader: &mut Reader<'a>,
+    reader: &mut Tokens<'a>,
     name: Name,
 ) -> Result<(), Unread>
     ensures { OnOk result (TakesMember name reader.old reader.new slots.old bytes.old.items slots.new bytes.new.items) }
@@ -188,14 +185,12 @@ fn take_member<'a>(
 
 /// The members of the object that the tokens are, if each is known and stands once.
 pub(crate) fn read_slots<'a>(
-    reader: &mut Reader<'a>,
+    reader: &mut Tokens<'a>,
     bytes: &mut Vec<u8>,
 ) -> Result<Slots<'a>, Unread>
     ensures { IfOk result (λ slots. HasSlots reader.old slots bytes.new.items) }
 {
-    let Some(Token::BeginObject) = reader.next() else {
-        return Err(Unread::Unusual);
-    };
+    reader.begin_map()?;
     let mut slots = Slots {
         op: None,
         from: None,
@@ -209,14 +204,13 @@ pub(crate) fn read_slots<'a>(
         state: false,
         count: 0,
     };
-    'members: while let Some(key) = reader.next_key()? {
-        let Some(name) = name_of(key) else {
-            return Err(Unread::Unusual);
-        };
+    'members: while let Some(name) = reader.next_name()? {
         take_member(&mut slots, bytes, reader, name)?;
     }
-    match reader.next() {
-        None => Ok(slots),
-        Some(_) => Err(Unread::Unusual),
+    let over = reader.ends()?;
+    if over {
+        Ok(slots)
+    } else {
+        Err(Unread::Unusual)
     }
 }

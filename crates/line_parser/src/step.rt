@@ -8,6 +8,7 @@ ghost use Rattle.line_parser.specs.Step.{form_text, FindsIn, Finds, HasMembers};
 
 use crate::named::{failed_of, grain_of, now_of, turn_of};
 use crate::request::{call_from, poke_from, status_from};
+use crate::scan::same_text;
 use crate::slots::Slots;
 use crate::unread::Unread;
 use grain_id::{GrainId, LatelyRead};
@@ -31,41 +32,63 @@ pub(crate) enum Form {
     Sweep,
 }
 
-/// The form that `op` names. Only names of its length are compared.
+/// The word that names a form.
+#[inline(always)]
+fn word_of(form: Form) -> &'static str
+    ensures { result.now ≡ form_text form }
+{
+    match form {
+        Form::Call => "call",
+        Form::Poke => "poke",
+        Form::Status => "status",
+        Form::Deliver => "deliver",
+        Form::Activate => "activate",
+        Form::Load => "load",
+        Form::Begin => "begin",
+        Form::Store => "store",
+        Form::End => "end",
+        Form::Abandon => "abandon",
+        Form::Tick => "tick",
+        Form::Sweep => "sweep",
+    }
+}
+
+/// The form, if `op` names it.
+#[inline(always)]
+fn if_named(op: &str, form: Form) -> Option<Form>
+    ensures { IfSome result (λ found. op.now ≡ form_text found) }
+{
+    if same_text(op, word_of(form)) {
+        Some(form)
+    } else {
+        None
+    }
+}
+
+/// The form that `op` names. By its length and a byte, one word alone is compared.
 fn form_of(op: &str) -> Option<Form>
     ensures { IfSome result (λ form. op.now ≡ form_text form) }
 {
-    match op.len() {
-        3 => match op {
-            "end" => Some(Form::End),
-            _ => None,
+    let bytes = op.as_bytes();
+    match bytes.len() {
+        3 => if_named(op, Form::End),
+        4 => match bytes[0] {
+            b'c' => if_named(op, Form::Call),
+            b'l' => if_named(op, Form::Load),
+            b'p' => if_named(op, Form::Poke),
+            _ => if_named(op, Form::Tick),
         },
-        4 => match op {
-            "call" => Some(Form::Call),
-            "load" => Some(Form::Load),
-            "poke" => Some(Form::Poke),
-            "tick" => Some(Form::Tick),
-            _ => None,
+        5 => match bytes[1] {
+            b'e' => if_named(op, Form::Begin),
+            b't' => if_named(op, Form::Store),
+            _ => if_named(op, Form::Sweep),
         },
-        5 => match op {
-            "begin" => Some(Form::Begin),
-            "store" => Some(Form::Store),
-            "sweep" => Some(Form::Sweep),
-            _ => None,
+        6 => if_named(op, Form::Status),
+        7 => match bytes[0] {
+            b'd' => if_named(op, Form::Deliver),
+            _ => if_named(op, Form::Abandon),
         },
-        6 => match op {
-            "status" => Some(Form::Status),
-            _ => None,
-        },
-        7 => match op {
-            "deliver" => Some(Form::Deliver),
-            "abandon" => Some(Form::Abandon),
-            _ => None,
-        },
-        8 => match op {
-            "activate" => Some(Form::Activate),
-            _ => None,
-        },
+        8 => if_named(op, Form::Activate),
         _ => None,
     }
 }

@@ -7,11 +7,11 @@ use Rattle.line_parser.specs.Meaning.{meaning_by}
 use Rattle.line_parser.proofs.Meaning.{said_of_asked}
 use Rattle.line_parser.proofs.reading.read_line.Goals as goal
 
-pub returns-in-Ok-read_text_step : goal.returns-in-Ok-read_text_step
-returns-in-Ok-read_text_step c =
+pub returns-in-Ok : goal.returns-in-Ok
+returns-in-Ok c =
     let line = c.args.line.now in
-    let same : c.in-Ok.text.now ≡ line = c.in-Ok.ensures.cases.0 in
-    let valid : IsUtf8 line = c.in-Ok.ensures.cases.1 in
+    let same : c.in-Some.text.now ≡ line = c.in-Some.ensures.0 in
+    let valid : IsUtf8 line = c.in-Some.ensures.1 in
     let json = ap (λ b. cond b (read line) None) (is_utf8-from_IsUtf8 line valid) in
-    let said = ap (option_and_then step_of_json) (json ∙ ap read (sym same)) ∙ c.in-Ok-read_text_step.ensures in
+    let said = ap (option_and_then step_of_json) (json ∙ ap read (sym same)) ∙ c.in-Ok.ensures in
     ap meaning_by (sym said) ∙ sym (said_of_asked line c.is_empty.ensures c.if-is_empty.false c.if-line-gt-LINE_LIMIT.false)

@@ -1,0 +1,33 @@
+-- What is known of bytes that begin or end a token, and of what follows a value.
+use Rattle.std.specs.Prelude.{◌≡◌, ℕ, List, [], ◌∷◌, ◌++◌, Bool, false, ◌||◌, ◌==◌, nat_le, Option, Some, None}
+use Rattle.std.specs.Char.{is_ascii_digit}
+use Rattle.json.specs.Token.{Token}
+use Rattle.line_parser.specs.Slots.{name_text}
+use Rattle.line_parser.specs.declared.slots.Name.{Name}
+use Rattle.json.specs.Lex.{between, lex, after_value, begins_colon, punctuate, tokens}
+
+-- a member's name with its quotes and its colon
+abbrev pub name_spelling : Name → List ℕ
+name_spelling name = 34 ∷ (name_text name ++ (34 ∷ 58 ∷ []))
+
+-- a text, digits, a list or a map begin with it
+abbrev pub is_opener : ℕ → Bool
+is_opener x = (x == 34) || (x == 123) || (x == 91) || is_ascii_digit x
+
+-- a comma or a closing bracket
+abbrev pub is_number_end : ℕ → Bool
+is_number_end x = (x == 44) || (x == 125) || (x == 93)
+
+-- Behind a value, `old` gives the tokens that `new` gives: a comma was passed, or there is none.
+pub record PassesValue (old new : List ℕ) : Type 0 where
+  pub no_colon : begins_colon (lex between old) ≡ false
+  pub same : punctuate after_value (lex between old) ≡ tokens new
+
+-- what json's reader has left, or what a text gives as long as there is no reader
+abbrev pub tokens_left : Option (List Token) → List ℕ → List Token
+tokens_left None text = tokens text
+tokens_left (Some ts) text = ts
+
+-- a byte that is no ASCII
+abbrev pub is_high : ℕ → Bool
+is_high x = nat_le 128 x

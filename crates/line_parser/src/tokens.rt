@@ -1,0 +1,261 @@
+//! The tokens of a line. While they are spelled plainly they are read straight from the text; from the first that isn't
+//! on, by json's reader.
+
+ghost use Rattle.std.specs.Prelude.{◌≡◌, ◌∷◌, [], Some, None, IsTrue, IfOk, OnOk, option_map};
+ghost use Rattle.std.specs.Bool.{MatchBool};
+ghost use Rattle.json.specs.Token.{string, number, begin_object};
+ghost use Rattle.json.specs.Lex.{tokens};
+ghost use Rattle.json.specs.Json.{read_key, after_end_array};
+ghost use Rattle.json.specs.Reads.{token_of};
+ghost use Rattle.line_parser.specs.Slots.{name_text};
+
+use crate::plain::{
+    has_item, list_end, map_end, map_start, plain_key, plain_name, plain_number, plain_text,
+    plain_token,
+};
+use crate::slots::{Name, name_of};
+use crate::unread::Unread;
+use json::{Reader, Scratch, Token};
+use std::marker::Model;
+
+/// A clause sees the tokens that are still to come.
+#[derive(Drop)]
+pub(crate) struct Tokens<'a> {
+    /// The text that is left, while it is read without `reader`.
+    rest: &'a str,
+    /// What `reader` will need.
+    scratch: Option<&'a mut Scratch>,
+    reader: Option<Reader<'a>>,
+}
+
+impl<'a> Model for Tokens<'a> {
+    ghost use Rattle.std.specs.Prelude.{List};
+    ghost use Rattle.json.specs.Token.{Token as SpecToken, tokens_code};
+    ghost use Rattle.line_parser.specs.Plain.{tokens_left};
+
+    ghost Value = { List SpecToken };
+
+    ghost coded = { tokens_code };
+
+    ghost view = { λ a. tokens_left a.reader a.rest.now };
+}
+
+impl<'a> Tokens<'a> {
+    /// All tokens of a text. What `scratch` holds doesn't matter.
+    pub(crate) fn new(text: &'a str, scratch: &'a mut Scratch) -> Tokens<'a>
+        ensures { result ≡ tokens text.now }
+    {
+        Tokens {
+            rest: text,
+            scratch: Some(scratch),
+            reader: None,
+        }
+    }
+
+    /// Goes on with json's reader.
+    #[cold]
+    #[inline(never)]
+    fn leave_plain(&mut self) -> Result<(), Unread>
+        ensures { OnOk result (self.new ≡ self.old) }
+    {
+        if self.reader.is_some() {
+            return Ok(());
+        }
+        let Some(scratch) = self.scratch.take() else {
+            return Err(Unread::Unusual);
+        };
+        self.reader = Some(Reader::new(self.rest, scratch)?);
+        Ok(())
+    }
+
+    /// The next token, by json's reader.
+    #[inline(never)]
+    fn next_of_any(&mut self) -> Result<Token<'a>, Unread>
+        ensures { IfOk result (λ t. self.old ≡ token_of t ∷ self.new) }
+    {
+        self.leave_plain()?;
+        let Some(reader) = &mut self.reader else {
+            return Err(Unread::Unusual);
+        };
+        match reader.next() {
+            Some(token) => Ok(token),
+            None => Err(Unread::Unusual),
+        }
+    }
+
+    /// The next token.
+    #[inline(always)]
+    pub(crate) fn next(&mut self) -> Result<Token<'a>, Unread>
+        ensures { IfOk result (λ t. self.old ≡ token_of t ∷ self.new) }
+    {
+        if self.reader.is_none() {
+            if let Some((token, rest)) = plain_token(self.rest) {
+                self.rest = rest;
+                return Ok(token);
+            }
+        }
+        self.next_of_any()
+    }
+
+    /// Takes the next token, which has to begin a map.
+    #[inline(always)]
+    pub(crate) fn begin_map(&mut self) -> Result<(), Unread>
+        ensures { OnOk result (self.old ≡ begin_object ∷ self.new) }
+    {
+        if self.reader.is_none() {
+            if let Some(rest) = map_start(self.rest) {
+                self.rest = rest;
+                return Ok(());
+            }
+        }
+        match self.next_of_any()? {
+            Token::BeginObject => Ok(()),
+            _ => Err(Unread::Unusual),
+        }
+    }
+
+    /// The next name, by json's reader; none at the end of the map.
+    #[inline(never)]
+    fn key_of_any(&mut self) -> Result<Option<&'a str>, Unread>
+        ensures { IfOk result (λ k. read_key self.old ≡ Some (option_map (λ s. s.now) k, self.new)) }
+    {
+        self.leave_plain()?;
+        let Some(reader) = &mut self.reader else {
+            return Err(Unread::Unusual);
+        };
+        let key = reader.next_key()?;
+        Ok(key)
+    }
+
+    /// The next name, or none at the end of the map.
+    #[inline(always)]
+    pub(crate) fn next_key(&mut self) -> Result<Option<&'a str>, Unread>
+        ensures { IfOk result (λ k. read_key self.old ≡ Some (option_map (λ s. s.now) k, self.new)) }
+    {
+        if self.reader.is_none() {
+            if let Some((name, rest)) = plain_key(self.rest) {
+                self.rest = rest;
+                return Ok(Some(name));
+            }
+            if let Some(rest) = map_end(self.rest) {
+                self.rest = rest;
+                return Ok(None);
+            }
+        }
+        self.key_of_any()
+    }
+
+    /// The next name, which has to be a member's, or none at the end of the map.
+    #[inline(always)]
+    pub(crate) fn next_name(&mut self) -> Result<Option<Name>, Unread>
+        ensures { IfOk result (λ n. read_key self.old ≡ Some (option_map name_text n, self.new)) }
+    {
+        if self.reader.is_none() {
+            if let Some((name, rest)) = plain_name(self.rest) {
+                self.rest = rest;
+                return Ok(Some(name));
+            }
+            if let Some(rest) = map_end(self.rest) {
+                self.rest = rest;
+                return Ok(None);
+            }
+        }
+        match self.key_of_any()? {
+            Some(key) => match name_of(key) {
+                Some(name) => Ok(Some(name)),
+                None => Err(Unread::Unusual),
+            },
+            None => Ok(None),
+        }
+    }
+
+    /// The next token, which has to be a text.
+    #[inline(always)]
+    pub(crate) fn next_text(&mut self) -> Result<&'a str, Unread>
+        ensures { IfOk result (λ s. self.old ≡ string s.now ∷ self.new) }
+    {
+        if self.reader.is_none() {
+            if let Some((text, rest)) = plain_text(self.rest) {
+                self.rest = rest;
+                return Ok(text);
+            }
+        }
+        match self.next_of_any()? {
+            Token::String(text) => Ok(text),
+            _ => Err(Unread::Unusual),
+        }
+    }
+
+    /// The text of the next token, which has to be a number.
+    #[inline(always)]
+    pub(crate) fn next_number(&mut self) -> Result<&'a str, Unread>
+        ensures { IfOk result (λ s. self.old ≡ number s.now ∷ self.new) }
+    {
+        if self.reader.is_none() {
+            if let Some((digits, rest)) = plain_number(self.rest) {
+                self.rest = rest;
+                return Ok(digits);
+            }
+        }
+        match self.next_of_any()? {
+            Token::Number(text) => Ok(text),
+            _ => Err(Unread::Unusual),
+        }
+    }
+
+    /// Takes the end of a list, if it is next, by json's reader.
+    #[inline(never)]
+    fn take_end_of_any(&mut self) -> Result<bool, Unread>
+        ensures { IfOk result (λ taken. MatchBool taken (after_end_array self.old ≡ Some self.new) ((after_end_array self.old ≡ None) × (self.new ≡ self.old))) }
+    {
+        self.leave_plain()?;
+        let Some(reader) = &mut self.reader else {
+            return Err(Unread::Unusual);
+        };
+        let taken = reader.take_end_array();
+        Ok(taken)
+    }
+
+    /// Takes the end of a list, if it is next.
+    #[inline(always)]
+    pub(crate) fn take_end_array(&mut self) -> Result<bool, Unread>
+        ensures { IfOk result (λ taken. MatchBool taken (after_end_array self.old ≡ Some self.new) ((after_end_array self.old ≡ None) × (self.new ≡ self.old))) }
+    {
+        if self.reader.is_none() {
+            if has_item(self.rest) {
+                return Ok(false);
+            }
+            if let Some(rest) = list_end(self.rest) {
+                self.rest = rest;
+                return Ok(true);
+            }
+        }
+        self.take_end_of_any()
+    }
+
+    /// Whether no token is left, by json's reader.
+    #[inline(never)]
+    fn ends_of_any(&mut self) -> Result<bool, Unread>
+        ensures { IfOk result (λ over. IsTrue over → self.old ≡ []) }
+    {
+        self.leave_plain()?;
+        let Some(reader) = &mut self.reader else {
+            return Err(Unread::Unusual);
+        };
+        let over = reader.next().is_none();
+        Ok(over)
+    }
+
+    /// Whether no token is left. No more may be read then.
+    #[inline(always)]
+    pub(crate) fn ends(&mut self) -> Result<bool, Unread>
+        ensures { IfOk result (λ over. IsTrue over → self.old ≡ []) }
+    {
+        if self.reader.is_none() {
+            if self.rest.is_empty() {
+                return Ok(true);
+            }
+        }
+        self.ends_of_any()
+    }
+}
