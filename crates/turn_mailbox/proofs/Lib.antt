@@ -1,4 +1,4 @@
 pub mod Values
-pub mod Places
-pub mod Turns
+pub mod Rule
+pub mod Beside
 pub mod Mapped

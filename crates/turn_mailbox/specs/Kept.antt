@@ -1,23 +1,20 @@
 -- How the parts of a mailbox stay together.
-use Rattle.std.specs.Prelude.{◌≡◌, ℕ, ◌==◌, ◌≤◌, List, Option, Some, None}
+use Rattle.std.specs.Prelude.{◌≡◌, ℕ, ◌≤◌, Option, Some, None}
 use Rattle.std.specs.Ordering.{nat_cmp}
 use Rattle.std.specs.Coded.{Coded, coded_ℕ}
 use Rattle.std.specs.FinMap as map
-use Rattle.std.specs.FinMap.{FinMap, from_entries}
-use Rattle.slab.specs.Slab.{Slab}
+use Rattle.std.specs.FinMap.{FinMap}
 use Rattle.turn_mailbox.specs.declared.request.Request.{Request}
-use Rattle.turn_mailbox.specs.Places.{placed, ArePlaced}
 use Rattle.turn_mailbox.specs.Contents.{KeepsRule}
 
 abbrev pub by_number_code : {X : Type 0} → Coded X → Coded (FinMap nat_cmp X)
 by_number_code c = map.code coded_ℕ c
 
--- The places of those that may wait are reserved; the numbers lead to the open turns, one each; and the turn rule is kept.
-pub record IsMailbox (len reserved : ℕ) (places : List (ℕ × ℕ)) (turns : Slab Request) (capacity : ℕ) : Type 0 where
+-- The places of those that may wait are reserved, and the turn rule is kept.
+pub record IsMailbox (len reserved : ℕ) (opened : FinMap nat_cmp Request) (capacity : ℕ) : Type 0 where
   pub within : len ≤ capacity
   pub reserved_all : capacity ≤ reserved
-  pub placed_all : ArePlaced ◌==◌ places turns
-  pub rule : KeepsRule (from_entries (placed turns places))
+  pub rule : KeepsRule opened
 
 -- one of the open turns, or none if none is open
 abbrev pub IsSomeTurn : FinMap nat_cmp Request → Option Request → Type 0

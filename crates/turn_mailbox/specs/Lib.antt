@@ -1,4 +1,4 @@
-pub mod Places
 pub mod Contents
+pub mod Beside
 pub mod Kept
 pub mod Mapped

@@ -4,15 +4,13 @@ ghost use Rattle.std.specs.Prelude.{◌≡◌, ◌↔◌, ◌<◌, ◌≤◌, �
 ghost use Rattle.std.specs.Option.{option_copied};
 ghost use Rattle.std.specs.List.{list_any};
 ghost use Rattle.std.specs.FinMap as map;
-ghost use Rattle.slab.specs.Slab.{Updates, HasRoomFor};
 ghost use Rattle.turn_mailbox.specs.Contents.{may_begin, begun, turn_of, is_idle, has_from, is_from, Finishes};
 
 use crate::request::Request;
+use crate::turns::Turns;
 use grain_id::{Caller, GrainId};
 use grain_kinds::OpenedTurn;
-use indexmap::IndexMap;
 use request_codec::StateBytes;
-use slab::Slab;
 use std::alloc::{AllocError, Global};
 use std::collections::VecDeque;
 use std::marker::Model;
@@ -21,21 +19,18 @@ use std::marker::Model;
 #[derive(Clone, Copy, Debug, PartialEq, Eq)]
 pub struct NoTurn;
 
-/// The requests of one grain. An open turn stands at a place of a slab, and its number leads there.
+/// The requests of one grain.
 #[derive(Drop)]
 pub struct Mailbox {
     waiting: VecDeque<Request>,
-    places: IndexMap<u64, usize>,
-    turns: Slab<Request>,
+    turns: Turns,
     capacity: usize,
 }
 
 impl Model for Mailbox {
     ghost use Rattle.std.specs.Coded.{codes};
     ghost use Rattle.std.specs.VecDeque.{deque_len, deque_capacity};
-    ghost use Rattle.std.specs.FinMap.{from_entries};
     ghost use Rattle.request_codec.specs.Code.{coded_tree};
-    ghost use Rattle.turn_mailbox.specs.Places.{placed};
     ghost use Rattle.turn_mailbox.specs.Kept.{by_number_code, IsMailbox};
     ghost use Rattle.turn_mailbox.specs.Contents.{Contents};
 
@@ -43,9 +38,9 @@ impl Model for Mailbox {
 
     ghost coded = { Prim.hlevel (codes, by_number_code, coded_tree) };
 
-    ghost view = { λ m. record { waiting = m.waiting.items; opened = from_entries (placed m.turns m.places.entries); capacity = m.capacity } };
+    ghost view = { λ m. record { waiting = m.waiting.items; opened = m.turns; capacity = m.capacity } };
 
-    ghost invariant = { λ m. IsMailbox (deque_len m.waiting) (deque_capacity m.waiting) m.places.entries m.turns m.capacity };
+    ghost invariant = { λ m. IsMailbox (deque_len m.waiting) (deque_capacity m.waiting) m.turns m.capacity };
 }
 
 impl Mailbox {
@@ -56,8 +51,7 @@ impl Mailbox {
     {
         Ok(Mailbox {
             waiting: VecDeque::with_capacity(alloc, capacity)?,
-            places: IndexMap::new(alloc),
-            turns: Slab::new(alloc),
+            turns: Turns::new(alloc),
             capacity,
         })
     }
@@ -81,8 +75,7 @@ impl Mailbox {
     pub fn opened(&self, number: u64) -> Option<&Request>
         ensures { option_copied result ≡ map.get self.now.opened number }
     {
-        let place = *self.places.get(&number)?;
-        self.turns.get(place)
+        self.turns.get(number)
     }
 
     /// Makes room for one more request to wait. Takes memory only if the mailbox is full.
@@ -123,7 +116,7 @@ impl Mailbox {
     pub fn is_idle(&self) -> bool
         ensures { result ≡ is_idle self.now }
     {
-        self.waiting.is_empty() && self.places.is_empty()
+        self.waiting.is_empty() && self.turns.is_empty()
     }
 
     /// Whether the first waiting request may begin: one that only reads, if each open turn only reads,
@@ -134,20 +127,10 @@ impl Mailbox {
         let Some(front) = self.waiting.front() else {
             return false;
         };
-        match self.some_turn() {
+        match self.turns.some() {
             Some(turn) => front.reading && turn.reading,
             None => true,
         }
-    }
-
-    ghost use Rattle.turn_mailbox.specs.Kept.{IsSomeTurn};
-
-    /// One of the open turns.
-    fn some_turn(&self) -> Option<&Request>
-        ensures { IsSomeTurn self.now.opened (option_copied result) }
-    {
-        let (_, place) = self.places.get_index(0)?;
-        self.turns.get(*place)
     }
 
     /// Opens a turn of the first waiting request, if it may begin: for this grain, in this state. If
@@ -188,26 +171,23 @@ impl Mailbox {
         ensures begun { OnOk result (self.new ≡ begun self.old self.old.waiting) }
         ensures unchanged { OnErr result (self.new ≡ self.old) }
     {
-        room_for_one(&mut self.turns)?;
-        self.places.reserve(1)?;
         let Some(request) = self.waiting.pop_front() else {
             return Ok(());
         };
-        let number = request.number;
-        let place = self.turns.insert_reserved(request);
-        match self.places.insert(number, place) {
-            Ok(None) => {}
-            Ok(Some(earlier)) => free(&mut self.turns, earlier),
-            Err(_) => unreachable!(),
+        match self.turns.insert(request) {
+            Ok(()) => Ok(()),
+            Err(request) => {
+                self.waiting.push_front_reserved(request);
+                Err(AllocError)
+            }
         }
-        Ok(())
     }
 
     /// Whether a request of this client waits or is open. Looks at every request.
     pub fn has_from(&self, client: &Caller) -> bool
         ensures { result ≡ has_from self.now client.now }
     {
-        self.has_waiting_from(client) || self.has_turn_from(client)
+        self.has_waiting_from(client) || self.turns.has_from(client)
     }
 
     /// Whether a request that waits came from this client.
@@ -217,27 +197,12 @@ impl Mailbox {
         self.waiting.iter().any(|request| request.is_from(client))
     }
 
-    /// Whether an open turn's request came from this client.
-    fn has_turn_from(&self, client: &Caller) -> bool
-        ensures { result ≡ list_any (is_from client.now) (map.values self.now.opened) }
-    {
-        for (_, place) in self.places.iter() {
-            if let Some(turn) = self.turns.get(*place) {
-                if turn.is_from(client) {
-                    return true;
-                }
-            }
-        }
-        false
-    }
-
     /// The requests that wait, out of a mailbox that goes. Takes no memory.
     pub fn into_waiting(self) -> VecDeque<Request>
         ensures { result.items ≡ self.waiting }
     {
         let Mailbox {
             waiting,
-            places: _,
             turns: _,
             capacity: _,
         } = self;
@@ -248,30 +213,9 @@ impl Mailbox {
     pub fn finish(&mut self, number: u64) -> Result<Request, NoTurn>
         ensures { Finishes self.old number result self.new }
     {
-        let Some(place) = self.places.swap_remove(&number) else {
+        let Some(request) = self.turns.remove(number) else {
             return Err(NoTurn);
         };
-        match self.turns.try_remove(place) {
-            Some(request) => Ok(request),
-            None => unreachable!(),
-        }
+        Ok(request)
     }
-}
-
-/// Drops what stands at a place.
-fn free(turns: &mut Slab<Request>, place: usize)
-    ensures { Updates turns.old turns.new place None }
-{
-    turns.try_remove(place);
-}
-
-/// Makes room for one more turn. The first takes room for itself alone, since mostly one is open.
-fn room_for_one(turns: &mut Slab<Request>) -> Result<(), AllocError>
-    ensures room { OnOk result (HasRoomFor turns.new 1) }
-    ensures rest_kept { turns.new ≡ record turns.old { capacity = turns.new.capacity } }
-{
-    if turns.capacity() == 0 {
-        return turns.reserve_exact(1);
-    }
-    turns.reserve(1)
 }

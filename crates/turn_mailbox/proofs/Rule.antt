@@ -1,23 +1,15 @@
 -- Open turns by number, and the turn rule.
-use Rattle.std.proofs.Common.{◌≡◌, ℕ, ◌<◌, ◌≤◌, Bool, true, false, ◌&&◌, ◌||◌, ◌==◌, cond, List, [], ◌∷◌, length, slice_index_or, arith, Option, Some, None, refl, ap, sym, ◌∙◌, subst, true≢false}
+use Rattle.std.proofs.Common.{◌≡◌, ℕ, ◌<◌, Bool, true, false, ◌&&◌, ◌==◌, cond, List, [], ◌∷◌, length, slice_index_or, arith, Option, Some, None, refl, ap, sym, ◌∙◌, true≢false}
 use Rattle.std.specs.Ordering.{nat_cmp, eq_by_cmp}
 use Rattle.std.specs.Cmp.{nat_cmp_total}
-use Rattle.std.specs.List.{list_all, list_any, IsDistinct}
+use Rattle.std.specs.List.{list_all}
 use Rattle.std.specs.FinMap as map
 use Rattle.std.specs.FinMap.{FinMap, nat_cmp-IsAntisymmetric}
 use Rattle.std.proofs.lemmas.Bool.Decides.{Decides-eqb}
 use Rattle.turn_mailbox.specs.declared.request.Request.{Request}
 use Rattle.turn_mailbox.specs.Contents.{may_open, front_may_open, KeepsRule}
 use Rattle.grain_id.proofs.Order.{eq_by_cmp-Decides}
-use Rattle.std.specs.Map.{lookup, keys_of, values_of}
-use Rattle.slab.specs.Slab.{Slab, get, Updates}
-use Rattle.turn_mailbox.specs.Places.{placed, with_value_at, ArePlaced}
-use Rattle.turn_mailbox.specs.Kept.{IsMailbox}
-use Rattle.turn_mailbox.proofs.Places.{AreKeys, placed-regrown, slots-regrown, placed-inserted, map-inserted, earlier-free, map-freed, placed-freed}
 use Rattle.turn_mailbox.proofs.Values.{all-values, of-all-values}
-
-pub numbers : AreKeys ◌==◌ nat_cmp
-numbers = record { total = nat_cmp_total; exact = nat_cmp-IsAntisymmetric; decides = Decides-eqb }
 
 abbrev pub Turns : Type 0
 Turns = FinMap nat_cmp Request
@@ -110,65 +102,5 @@ pub front_of : (opened : Turns) (waiting : List Request) (first : Request) → 0
 front_of opened [] first some e = absurd (omega (arith, some))
 front_of opened (w ∷ waiting) first some e = ap (may_open opened) e
 
--- ---- a mailbox after a growth, and after a request began
-
-pub mailbox-regrown : (len cap : ℕ) (es fs : List (ℕ × ℕ)) (s r : Slab Request) (capacity : ℕ) → r ≡ record s { capacity = r.capacity } → fs ≡ es → IsMailbox len cap es s capacity → IsMailbox len cap fs r capacity
-mailbox-regrown len cap es fs s r capacity e f ok = subst (λ gs. IsMailbox len cap gs r capacity) (sym f) (record {
-  within = ok.within;
-  reserved_all = ok.reserved_all;
-  placed_all = placed-regrown ◌==◌ s r es e ok.placed_all;
-  rule = subst (λ ps. KeepsRule (map.from_entries ps)) (sym (slots-regrown s r es e)) ok.rule;
-})
-
 pub allowed : (opened : Turns) (waiting rest : List Request) (first : Request) → waiting ≡ first ∷ rest → front_may_open opened waiting ≡ true → may_open opened first ≡ true
 allowed opened waiting rest first e may = sym (ap (front_may_open opened) e) ∙ may
-
--- the open turns of an index and a slab
-abbrev pub turns_at : List (ℕ × ℕ) → Slab Request → Turns
-turns_at es s = map.from_entries (placed s es)
-
--- the request has a place of the grown slab, and its number leads there
-module _ (len cap : ℕ) (es fs : List (ℕ × ℕ)) (s r t : Slab Request) (capacity : ℕ) (ok : IsMailbox len cap es s capacity) (grown : r ≡ record s { capacity = r.capacity })
-    (unique : IsDistinct ◌==◌ (keys_of fs)) (request : Request) (place : ℕ) (l : (q : ℕ) → lookup (λ x. q == x) fs ≡ cond (request.number == q) (Some place) (lookup (λ x. q == x) es))
-    (vacant : get r place ≡ None) (u : Updates r t place (Some request)) where
-  grown_placed : ArePlaced ◌==◌ es r
-  grown_placed = placed-regrown ◌==◌ s r es grown ok.placed_all
-
-  begun_placed : ArePlaced ◌==◌ fs t
-  begun_placed = placed-inserted numbers es fs r t grown_placed unique request.number place request l vacant u
-
-  pub opened-begun : turns_at fs t ≡ map.insert (turns_at es s) request.number request
-  opened-begun = map-inserted numbers es fs r t grown_placed unique request.number place request l vacant u ∙ ap (λ (ps : List (ℕ × Request)). map.insert (map.from_entries ps) request.number request) (slots-regrown s r es grown)
-
-  pub mailbox-begun : (after reserved : ℕ) → after ≤ capacity → capacity ≤ reserved → may_open (turns_at es s) request ≡ true → IsMailbox after reserved fs t capacity
-  mailbox-begun after reserved within all may = record {
-    within = within;
-    reserved_all = all;
-    placed_all = begun_placed;
-    rule = subst KeepsRule (sym opened-begun) (rule-begun (turns_at es s) request may);
-  }
-
-  -- and what that number led to before goes
-  module _ (earlier : ℕ) (before : lookup (λ x. request.number == x) es ≡ Some earlier) (left : Slab Request) (v : Updates t left earlier None) where
-    free : (q : ℕ) → lookup (λ x. q == x) fs ≡ Some earlier → ⊥
-    free = earlier-free numbers es fs r t grown_placed unique request.number place request l vacant u earlier before
-
-    pub opened-replaced : turns_at fs left ≡ map.insert (turns_at es s) request.number request
-    opened-replaced = map-freed numbers fs t left begun_placed earlier free v ∙ opened-begun
-
-    pub mailbox-replaced : (after reserved : ℕ) → after ≤ capacity → capacity ≤ reserved → may_open (turns_at es s) request ≡ true → IsMailbox after reserved fs left capacity
-    mailbox-replaced after reserved within all may = record {
-      within = within;
-      reserved_all = all;
-      placed_all = placed-freed numbers fs t left begun_placed earlier free v;
-      rule = subst KeepsRule (sym opened-replaced) (rule-begun (turns_at es s) request may);
-    }
-
--- ---- a walk over the open turns
-
-module _ (p : Request → Bool) (k : ℕ) (rest : List (ℕ × Request)) where
-  pub any-here : (o : Option Request) (turn : Request) → o ≡ Some turn → p turn ≡ true → list_any p (values_of (with_value_at k o rest)) ≡ true
-  any-here o turn e h = ap (λ o. list_any p (values_of (with_value_at k o rest))) e ∙ ap (λ b. b || list_any p (values_of rest)) h
-
-  pub any-none : (o : Option Request) → o ≡ None → list_any p (values_of (with_value_at k o rest)) ≡ list_any p (values_of rest)
-  any-none o e = ap (λ o. list_any p (values_of (with_value_at k o rest))) e
