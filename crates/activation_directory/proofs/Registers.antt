@@ -11,8 +11,8 @@ use Rattle.std.specs.declared.alloc.Global.{Global}
 use Rattle.std.specs.Option.{unwrap_or}
 use Rattle.slab.specs.Slab.{Slab, get, Updates, with_value}
 use Rattle.grain_id.specs.Names.{Grain, grain_cmp, grain_eq}
-use Rattle.turn_mailbox.specs.Places.{placed, at_place, ArePlaced}
-use Rattle.turn_mailbox.proofs.Places.{get-placed, map-written, placed-none, placed-regrown, slots-regrown, map-inserted, placed-inserted, map-removed, placed-removed, some_of}
+use Rattle.activation_directory.specs.Places.{placed, at_place, ArePlaced}
+use Rattle.activation_directory.proofs.Places.{get-placed, map-written, placed-none, placed-regrown, slots-regrown, map-inserted, placed-inserted, map-removed, placed-removed, some_of}
 use Rattle.activation_directory.specs.declared.activation.Activation.{Activation}
 use Rattle.activation_directory.specs.Register.{Register}
 use Rattle.activation_directory.specs.Counts.{Numbers, kept, count_in, NumbersTo}
@@ -28,13 +28,14 @@ pub shown-written : (s : Slab Activation) (es : List (Grain × ℕ)) → ArePlac
 shown-written s es ok id place at w = λ i. record { activations = map-written grains es s ok id place at w i; order = keys_of es }
 
 -- nothing is there at first
-pub opening : (es : List (Grain × ℕ)) (s : Slab Activation) (numbers : Numbers) → es ≡ [] → numbers.entries ≡ [] → IsDirectory es s numbers
+pub opening : (es : List (Grain × ℕ)) (s : Slab Activation) (numbers : Numbers) → es ≡ [] → numbers.entries ≡ [] → IsDirectory es s numbers None
 opening es s numbers e f = record {
   placed_all = placed-none grains es s e;
   counted = λ tenant.
       ap (λ (ns : List (String Global × ℕ)). unwrap_or (lookup (λ k. is_eq (slice_cmp nat_cmp tenant (string_bytes k))) ns) 0) f
       ∙ sym (count_in-empty Activation tenant)
       ∙ ap (λ fs. count_in (shown fs s).activations tenant) (sym e);
+  latest_leads = tt;
 }
 
 -- an activation has a place of the grown slab, and its grain leads there
@@ -47,10 +48,11 @@ module _ (es fs : List (Grain × ℕ)) (s r t : Slab Activation) (ok : ArePlaced
   pub activations-inserted : (shown fs t).activations ≡ map.insert (shown es s).activations id a
   activations-inserted = map-inserted grains es fs r t grown_placed unique id place a l vacant u ∙ ap (λ (ps : List (Grain × Activation)). map.insert (map.from_entries ps) id a) (slots-regrown s r es grown)
 
-  pub directory-inserted : (old new : Numbers) → ((tenant : List ℕ) → kept old tenant ≡ count_in (shown es s).activations tenant) → map.get (shown es s).activations id ≡ None → NumbersTo old new id.tenant (kept old id.tenant + 1) → IsDirectory fs t new
+  pub directory-inserted : (old new : Numbers) → ((tenant : List ℕ) → kept old tenant ≡ count_in (shown es s).activations tenant) → map.get (shown es s).activations id ≡ None → NumbersTo old new id.tenant (kept old id.tenant + 1) → IsDirectory fs t new None
   directory-inserted old new counted absent n = record {
     placed_all = placed-inserted grains es fs r t grown_placed unique id place a l vacant u;
     counted = λ tenant. counted-inserted old new (shown es s).activations id a counted absent n tenant ∙ ap (λ m. count_in m tenant) (sym activations-inserted);
+    latest_leads = tt;
   }
 
 -- an activation leaves its place
@@ -59,7 +61,7 @@ module _ (es fs : List (Grain × ℕ)) (s t : Slab Activation) (ok : ArePlaced g
   pub activations-removed : (shown fs t).activations ≡ map.remove (shown es s).activations id
   activations-removed = map-removed grains es fs s t ok unique id place l at u
 
-  pub directory-removed : (old new : Numbers) → ((tenant : List ℕ) → kept old tenant ≡ count_in (shown es s).activations tenant) → NumbersTo old new id.tenant (kept old id.tenant - 1) → IsDirectory fs t new
+  pub directory-removed : (old new : Numbers) → ((tenant : List ℕ) → kept old tenant ≡ count_in (shown es s).activations tenant) → NumbersTo old new id.tenant (kept old id.tenant - 1) → IsDirectory fs t new None
   directory-removed old new counted n =
       let there = some_of (get s place) (ok.filled id place at) in
       record {
@@ -67,4 +69,5 @@ module _ (es fs : List (Grain × ℕ)) (s t : Slab Activation) (ok : ArePlaced g
         counted = λ tenant.
             counted-removed old new (shown es s).activations id there.0 counted (get-shown s es ok id ∙ ap (at_place s) at ∙ there.1) n tenant
             ∙ ap (λ m. count_in m tenant) (sym activations-removed);
+        latest_leads = tt;
       }

@@ -7,8 +7,8 @@ use Rattle.slab.specs.Slab.{Slab, get}
 use Rattle.grain_id.specs.Names.{Grain, grain_cmp, grain_eq, same_text}
 use Rattle.grain_id.proofs.Order.{grain_cmp_total, grain_cmp_exact, grain_eq_decides, same_text_decides}
 use Rattle.grain_id.proofs.Maps as maps
-use Rattle.turn_mailbox.specs.Places.{placed, with_value_at}
-use Rattle.turn_mailbox.proofs.Places.{AreKeys}
+use Rattle.activation_directory.specs.Places.{placed, with_value_at}
+use Rattle.activation_directory.proofs.Places.{AreKeys}
 use Rattle.activation_directory.specs.Counts.{Numbers, is_of, count_in, kept, NumbersTo}
 
 pub grains : AreKeys grain_eq grain_cmp

@@ -7,7 +7,8 @@ ghost use Rattle.std.specs.Borrow.{sem};
 ghost use Rattle.activation_directory.specs.Counts.{count_in};
 
 use crate::activation::Activation;
-use crate::counts;
+use crate::latest::Latest;
+use crate::{counts, latest};
 use grain_id::GrainId;
 use indexmap::IndexMap;
 use slab::Slab;
@@ -16,12 +17,14 @@ use std::collections::BTreeMap;
 use std::marker::Model;
 
 /// The activations of all grains. Each stands at a place of a slab, and its grain leads there; a place
-/// that was left is used again. Beside them stands the number of each tenant's grains.
+/// that was left is used again. Beside them stands the number of each tenant's grains, and the grain
+/// that was looked up last.
 #[derive(Drop)]
 pub struct Directory {
     places: IndexMap<GrainId, usize>,
     activations: Slab<Activation>,
     numbers: BTreeMap<String, usize>,
+    latest: Option<Latest>,
 }
 
 impl Model for Directory {
@@ -37,7 +40,7 @@ impl Model for Directory {
 
     ghost view = { λ d. shown d.places.entries d.activations };
 
-    ghost invariant = { λ d. IsDirectory d.places.entries d.activations d.numbers };
+    ghost invariant = { λ d. IsDirectory d.places.entries d.activations d.numbers d.latest };
 }
 
 impl Directory {
@@ -51,6 +54,7 @@ impl Directory {
             places: IndexMap::new(alloc),
             activations: Slab::new(alloc),
             numbers: BTreeMap::new(alloc),
+            latest: None,
         }
     }
 
@@ -58,7 +62,7 @@ impl Directory {
     pub fn get(&self, id: &GrainId) -> Option<&Activation>
         ensures { option_copied result ≡ map.get self.now.activations id.now }
     {
-        let place = *self.places.get(id)?;
+        let place = latest::place_of(&self.latest, &self.places, id)?;
         self.activations.get(place)
     }
 
@@ -67,7 +71,8 @@ impl Directory {
         ensures* writes_back { sem 𝓛 (LendsActivation self.entry id.now result) }
         ensures value { option_copied_mut result ≡ map.get self.old.activations id.now }
     {
-        let place = *self.places.get(id)?;
+        let place = latest::place_of(&self.latest, &self.places, id)?;
+        latest::remember(&mut self.latest, id, place);
         self.activations.get_mut(place)
     }
 
@@ -99,6 +104,7 @@ impl Directory {
         let before = self.places.len();
         prove!(before < usize::MAX);
         counts::add_one(&mut self.numbers, id.tenant());
+        self.latest = None;
         let place = self.activations.insert_reserved(activation);
         match self.places.insert(id, place) {
             Ok(_) => Ok(()),
@@ -113,6 +119,7 @@ impl Directory {
         ensures unchanged { IfNone result (self.new ≡ self.old) }
     {
         let place = self.places.swap_remove(id)?;
+        self.latest = None;
         counts::take_one(&mut self.numbers, id.tenant());
         self.activations.try_remove(place)
     }

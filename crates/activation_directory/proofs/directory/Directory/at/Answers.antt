@@ -1,8 +1,8 @@
 use Rattle.std.proofs.Common.{◌≡◌, ap, sym, ◌∙◌, None, Some}
 use Rattle.std.proofs.lemmas.Option.{slice_get-map}
 use Rattle.std.specs.Option.{option_map}
-use Rattle.turn_mailbox.specs.Places.{at_place}
-use Rattle.turn_mailbox.proofs.Places.{not_none}
+use Rattle.activation_directory.specs.Places.{at_place}
+use Rattle.activation_directory.proofs.Places.{not_none}
 use Rattle.activation_directory.specs.Register.{Register}
 use Rattle.activation_directory.proofs.Registers.{get-shown}
 use Rattle.activation_directory.proofs.directory.Directory.at.Goals as goal

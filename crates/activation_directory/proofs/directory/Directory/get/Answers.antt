@@ -1,11 +1,11 @@
 use Rattle.std.proofs.Common.{◌≡◌, ap, sym, ◌∙◌}
-use Rattle.turn_mailbox.specs.Places.{at_place}
+use Rattle.activation_directory.specs.Places.{at_place}
 use Rattle.activation_directory.specs.Register.{Register}
 use Rattle.activation_directory.proofs.Registers.{get-shown}
 use Rattle.activation_directory.proofs.directory.Directory.get.Goals as goal
 
 pub returns-in_err-place : goal.returns-in_err-place
-returns-in_err-place c = rw (c.from_residual.ensures, ← c.self.view_is) (sym (get-shown c.self.inside.activations _ c.self.invariant.placed_all _ ∙ ap (at_place c.self.inside.activations) (sym c.in_err-place.ensures.value)))
+returns-in_err-place c = rw (c.from_residual.ensures, ← c.self.view_is) (sym (get-shown c.self.inside.activations _ c.self.invariant.placed_all _ ∙ ap (at_place c.self.inside.activations) (sym c.in_err-place.ensures)))
 
 pub returns : goal.returns
-returns c = rw (← c.self.view_is) (c.get-2.ensures ∙ sym (get-shown c.self.inside.activations _ c.self.invariant.placed_all _ ∙ ap (at_place c.self.inside.activations) (sym c.in_ok-place.ensures.value)))
+returns c = rw (← c.self.view_is) (c.get.ensures ∙ sym (get-shown c.self.inside.activations _ c.self.invariant.placed_all _ ∙ ap (at_place c.self.inside.activations) (sym c.in_ok-place.ensures)))

@@ -3,8 +3,8 @@ use Rattle.std.specs.Option.{ghost_name_of, option_copied_mut}
 use mathlib.Core.Logic.{inr}
 use borrow.Follows.Closed.{read_of}
 use Rattle.slab.specs.Slab as slab
-use Rattle.turn_mailbox.specs.Places.{at_place}
-use Rattle.turn_mailbox.proofs.Places.{some_of, placed-written}
+use Rattle.activation_directory.specs.Places.{at_place}
+use Rattle.activation_directory.proofs.Places.{some_of, placed-written}
 use Rattle.activation_directory.specs.declared.activation.Activation.{Activation}
 use Rattle.activation_directory.specs.Register.{Register}
 use Rattle.activation_directory.specs.Counts.{count_in}
@@ -19,17 +19,17 @@ returns-in_err-place c = (
   ap inr c.self.view_is ∙ sym (ap (λ r. read_of (ghost_name_of r) (with_activation c.args.self.now c.args.id.now) c.args.self.now) c.from_residual.ensures),
   record {
     writes_back = tt;
-    value = rw (c.from_residual.ensures, ← c.self.view_is) (sym (get-shown c.self.inside.activations _ c.self.invariant.placed_all _ ∙ ap (at_place c.self.inside.activations) (sym c.in_err-place.ensures.value)));
+    value = rw (c.from_residual.ensures, ← c.self.view_is) (sym (get-shown c.self.inside.activations _ c.self.invariant.placed_all _ ∙ ap (at_place c.self.inside.activations) (sym c.in_err-place.ensures)));
   },
 )
 
 pub returns : goal.returns
 returns c =
-    let written = λ (w : Activation). shown-written c.self.inside.activations c.self.inside.places.entries c.self.invariant.placed_all c.args.id.now c.in_ok-place.field-0.now (sym c.in_ok-place.ensures.value) w ∙ ap (λ d. with_activation d c.args.id.now w) c.self.view_is in (
+    let written = λ (w : Activation). shown-written c.self.inside.activations c.self.inside.places.entries c.self.invariant.placed_all c.args.id.now c.in_ok-place.place (sym c.in_ok-place.ensures) w ∙ ap (λ d. with_activation d c.args.id.now w) c.self.view_is in (
       λ i. read_of (ghost_name_of c.get_mut.result) (λ w. written w i) (c.self.view_is i),
       record {
         writes_back = tt;
-        value = rw (← c.self.view_is) (c.get_mut.ensures.value ∙ sym (get-shown c.self.inside.activations _ c.self.invariant.placed_all _ ∙ ap (at_place c.self.inside.activations) (sym c.in_ok-place.ensures.value)));
+        value = rw (← c.self.view_is) (c.get_mut.ensures.value ∙ sym (get-shown c.self.inside.activations _ c.self.invariant.placed_all _ ∙ ap (at_place c.self.inside.activations) (sym c.in_ok-place.ensures)));
       },
     )
 
@@ -37,8 +37,9 @@ pub invariant_of-self-lent : goal.invariant_of-self-lent
 invariant_of-self-lent c o =
     let s = c.self.inside.activations in
     let es = c.self.inside.places.entries in
-    let at = sym c.in_ok-place.ensures.value in
-    let place = c.in_ok-place.field-0.now in
+    let at = sym c.in_ok-place.ensures in
+    let place = c.in_ok-place.place in
+    let leads = c.remember.ensures es c.self.invariant.latest_leads at in
     let there = some_of (slab.get s place) (c.self.invariant.placed_all.filled c.args.id.now place at) in (
       λ w. record {
         placed_all = placed-written grains es s c.self.invariant.placed_all c.args.id.now place at w;
@@ -46,6 +47,7 @@ invariant_of-self-lent c o =
             c.self.invariant.counted tenant
             ∙ sym (count_in-written (shown es s).activations c.args.id.now w there.0 tenant (get-shown s es c.self.invariant.placed_all c.args.id.now ∙ ap (at_place s) at ∙ there.1))
             ∙ ap (λ d. count_in d.activations tenant) (sym (shown-written s es c.self.invariant.placed_all c.args.id.now place at w));
+        latest_leads = leads;
       },
-      c.self.invariant,
+      record { placed_all = c.self.invariant.placed_all; counted = c.self.invariant.counted; latest_leads = leads },
     )

@@ -1,6 +1,6 @@
 use Rattle.std.proofs.Common.{◌≡◌, ap, sym, ◌∙◌}
 use Rattle.std.specs.FinMap as map
-use Rattle.turn_mailbox.proofs.Places.{len-placed}
+use Rattle.activation_directory.proofs.Places.{len-placed}
 use Rattle.activation_directory.specs.Register.{Register}
 use Rattle.activation_directory.proofs.Sizes.{grains}
 use Rattle.activation_directory.proofs.directory.Directory.len.Goals as goal

@@ -3,8 +3,8 @@ use Rattle.std.specs.FinMap as map
 use Rattle.slab.specs.Slab as slab
 use Rattle.grain_id.specs.Names.{Grain, grain_cmp, grain_eq}
 use Rattle.grain_id.proofs.ByGrain.{remove-absent}
-use Rattle.turn_mailbox.specs.Places.{placed, at_place}
-use Rattle.turn_mailbox.proofs.Places.{some_of}
+use Rattle.activation_directory.specs.Places.{placed, at_place}
+use Rattle.activation_directory.proofs.Places.{some_of}
 use Rattle.activation_directory.specs.declared.activation.Activation.{Activation}
 use Rattle.activation_directory.specs.Register.{Register}
 use Rattle.activation_directory.specs.Counts.{kept, count_in, NumbersTo}

@@ -1,0 +1,57 @@
+//! The grain that was looked up last, and the place to which it leads.
+
+ghost use Rattle.std.specs.Prelude.{◌≡◌, ℕ, List, Some};
+ghost use Rattle.std.specs.Map.{lookup};
+ghost use Rattle.grain_id.specs.Names.{Grain, grain_eq};
+ghost use Rattle.activation_directory.specs.Latest.{place_in, LeadsTo};
+
+use grain_id::GrainId;
+use indexmap::IndexMap;
+
+/// A grain, and the place to which it leads.
+#[derive(Drop)]
+pub struct Latest {
+    pub id: GrainId,
+    pub place: usize,
+}
+
+/// The place, if the grain is the one that was looked up last.
+fn place_in(latest: &Option<Latest>, id: &GrainId) -> Option<usize>
+    ensures { result ≡ place_in id.now latest.now }
+{
+    let Some(found) = latest else {
+        return None;
+    };
+    if found.id == *id {
+        return Some(found.place);
+    }
+    None
+}
+
+/// The place to which the grain leads, with no look-up by hash if it was looked up last.
+pub fn place_of(
+    latest: &Option<Latest>,
+    places: &IndexMap<GrainId, usize>,
+    id: &GrainId,
+) -> Option<usize>
+    requires { LeadsTo latest.now places.now.entries }
+    ensures { result ≡ lookup (grain_eq id.now) places.now.entries }
+{
+    if let Some(place) = place_in(latest, id) {
+        return Some(place);
+    }
+    places.get(id).copied()
+}
+
+/// The grain was looked up, and leads to this place. If no clone of its name can be made, another
+/// grain stays the one that was looked up last.
+pub fn remember(latest: &mut Option<Latest>, id: &GrainId, place: usize)
+    ensures { (index : List (Grain × ℕ)) → LeadsTo latest.old index → lookup (grain_eq id.now) index ≡ Some place → LeadsTo latest.new index }
+{
+    if place_in(latest, id).is_some() {
+        return;
+    }
+    if let Ok(id) = id.clone() {
+        *latest = Some(Latest { id, place });
+    }
+}
