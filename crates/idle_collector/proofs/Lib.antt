@@ -2,3 +2,4 @@ pub mod Lasts
 pub mod Ties
 pub mod Prefix
 pub mod Due
+pub mod Aside

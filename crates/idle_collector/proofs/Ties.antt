@@ -131,14 +131,14 @@ module _ {note_of later_note : Grain → Option (ℕ × ℕ)} {grain_at later_gr
 
 -- ---- a noted grain gets another moment: it's forgotten, and noted at the place that it had
 
-same_choice : {X : Type 0} (b : Bool) (x y z : X) → cond b x (cond b y z) ≡ cond b x z
+pub same_choice : {X : Type 0} (b : Bool) (x y z : X) → cond b x (cond b y z) ≡ cond b x z
 same_choice true x y z = refl
 same_choice false x y z = refl
 
-choices_apart : (b c s : Bool) → (b ≡ true → c ≡ true → ⊥) → cond b false (cond c true s) ≡ cond c true (cond b false s)
-choices_apart true true s h = absurd (h refl refl)
-choices_apart true false s h = refl
-choices_apart false c s h = refl
+pub choices_apart : {X : Type 0} (b c : Bool) (x y z : X) → (b ≡ true → c ≡ true → ⊥) → cond b x (cond c y z) ≡ cond c y (cond b x z)
+choices_apart true true x y z h = absurd (h refl refl)
+choices_apart true false x y z h = refl
+choices_apart false c x y z h = refl
 
 -- the grains by place, but for that of one place
 module _ (grain_at : ℕ → Option Grain) (place : ℕ) where
@@ -162,5 +162,5 @@ module _ {note_of later_note : Grain → Option (ℕ × ℕ)} {grain_at : ℕ �
       tied-first gone id last place (at_true _ None (note_of id) (itself id)) (without-place grain_at place)
       (λ g. a g ∙ sym (same_choice (grain_eq id g) (Some (last, place)) None (note_of g)))
       (tied.placed id (before, place) was) (λ n other. sym (without-other grain_at place n other))
-      (λ p. l p ∙ choices_apart (is_eq (time_cmp (before, place) p)) (is_eq (time_cmp (last, place) p)) (stands p)
+      (λ p. l p ∙ choices_apart (is_eq (time_cmp (before, place) p)) (is_eq (time_cmp (last, place) p)) false true (stands p)
       (λ e f. moves (ap (λ q. q.0) ((same_note (before, place) p).0 e ∙ sym ((same_note (last, place) p).0 f)))))

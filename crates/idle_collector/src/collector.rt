@@ -1,78 +1,36 @@
-//! When grains were last used, by grain and in the order of time.
+//! When grains were last used.
 
-ghost use Rattle.std.specs.Prelude.{◌≡◌, None, Some, true, false, OnOk, OnErr, IfOk};
+ghost use Rattle.std.specs.Prelude.{◌≡◌, OnOk, OnErr, IfOk};
 ghost use Rattle.std.specs.FinMap.{empty};
-ghost use Rattle.std.specs.BTreeSet as set;
-ghost use Rattle.slab.specs.Slab.{get, Updates, SameValues};
-ghost use Rattle.idle_collector.specs.Notes.{noted, forgotten, due, HoldsDue};
-ghost use Rattle.idle_collector.specs.Ties.{time_cmp};
+ghost use Rattle.idle_collector.specs.Notes.{noted, forgotten, due};
 
+use crate::filed::Filed;
+use crate::latest;
+use crate::latest::Latest;
 use grain_id::GrainId;
-use indexmap::IndexMap;
-use indexmap::map::Entry;
-use slab::Slab;
 use std::alloc::{AllocError, Global};
-use std::collections::BTreeSet;
 use std::marker::Model;
 
-/// The grains that are idle, and when each of them was last used. Each has a place of a slab for as
-/// long as it is noted, and stands in the order of time by its moment and its place.
+/// The grains that are idle, and when each of them was last used. The note that came last is held
+/// aside, and filed when another grain is noted: mostly it is forgotten before.
 #[derive(Drop)]
 pub struct Collector {
-    age: u64,
-    lasts: IndexMap<GrainId, (u64, usize)>,
-    grains: Slab<GrainId>,
-    by_last: BTreeSet<(u64, usize)>,
+    latest: Option<Latest>,
+    filed: Filed,
 }
 
 impl Model for Collector {
-    ghost use Rattle.std.specs.FinMap.{from_entries};
-    ghost use Rattle.std.specs.Map.{lookup};
-    ghost use Rattle.std.specs.BTreeSet.{contains};
-    ghost use Rattle.slab.specs.Slab.{get};
-    ghost use Rattle.grain_id.specs.Names.{grain_eq};
     ghost use Rattle.idle_collector.specs.Notes.{Notes, coded_notes};
-    ghost use Rattle.idle_collector.specs.Ties.{moments, time_cmp, AreTied};
 
     ghost Value = { Notes };
 
     ghost coded = { coded_notes };
 
-    ghost view = { λ c. record { age = c.age; lasts = from_entries (moments c.lasts.entries) } };
+    ghost use Rattle.idle_collector.specs.Aside.{with_latest, IsApart};
 
-    ghost invariant = { λ c. AreTied (λ grain. lookup (grain_eq grain) c.lasts.entries) (get c.grains) (contains time_cmp c.by_last) };
-}
+    ghost view = { λ c. with_latest c.latest c.filed };
 
-/// Takes a place for a grain, and enters the place in the order of time.
-fn enter(
-    grains: &mut Slab<GrainId>,
-    by_last: &mut BTreeSet<(u64, usize)>,
-    id: &GrainId,
-    last: u64,
-) -> Result<usize, AllocError>
-    ensures vacant { IfOk result (λ place. get grains.old place ≡ None) }
-    ensures placed { IfOk result (λ place. Updates grains.old grains.new place (Some id.now)) }
-    ensures entered { IfOk result (λ place. set.Updates time_cmp by_last.old by_last.new (last, place) true) }
-    ensures same_grains { OnErr result (SameValues grains.old grains.new) }
-    ensures same_order { OnErr result (set.IsUnchanged by_last.old by_last.new) }
-{
-    let place = grains.insert(id.clone()?)?;
-    match by_last.insert((last, place)) {
-        Ok(_) => Ok(place),
-        Err(_) => {
-            grains.try_remove(place);
-            Err(AllocError)
-        }
-    }
-}
-
-/// Takes a place out of the order of time, and its grain away. Takes no memory.
-fn leave(grains: &mut Slab<GrainId>, by_last: &mut BTreeSet<(u64, usize)>, last: u64, place: usize)
-    ensures vacated { Updates grains.old grains.new place None }
-    ensures left { set.Updates time_cmp by_last.old by_last.new (last, place) false }
-{
-    by_last.remove(&(last, place));
-    grains.try_remove(place);
+    ghost invariant = { λ c. IsApart c.latest c.filed };
 }
 
 impl Collector {
@@ -81,10 +39,8 @@ impl Collector {
         ensures { result ≡ record { age = age; lasts = empty } }
     {
         Collector {
-            age,
-            lasts: IndexMap::new(alloc),
-            grains: Slab::new(alloc),
-            by_last: BTreeSet::new(alloc),
+            latest: None,
+            filed: Filed::new(alloc, age),
         }
     }
 
@@ -92,7 +48,7 @@ impl Collector {
     pub fn age(&self) -> u64
         ensures { result ≡ self.now.age }
     {
-        self.age
+        self.filed.age()
     }
 
     /// Notes when a grain was last used, in place of its earlier note.
@@ -104,42 +60,29 @@ impl Collector {
         ensures noted { OnOk result (self.new ≡ noted self.old id last) }
         ensures unchanged { OnErr result (self.new ≡ self.old) }
     {
-        match self.lasts.entry(id)? {
-            Entry::Occupied(entry) => {
-                let noted = entry.into_mut();
-                let (before, place) = *noted;
-                if before != last {
-                    self.by_last.insert((last, place))?;
-                    self.by_last.remove(&(before, place));
-                    *noted = (last, place);
-                }
-                Ok(())
-            }
-            Entry::Vacant(entry) => {
-                let place = match enter(&mut self.grains, &mut self.by_last, entry.key(), last) {
-                    Ok(place) => place,
-                    Err(refused) => {
-                        entry.into_key();
-                        return Err(refused);
-                    }
-                };
-                entry.insert((last, place));
-                Ok(())
-            }
+        if latest::is_of(&self.latest, &id) {
+            self.latest = Some(Latest { id, last });
+            return Ok(());
         }
+        latest::file(&mut self.latest, &mut self.filed)?;
+        self.filed.forget(&id);
+        self.latest = Some(Latest { id, last });
+        Ok(())
     }
 
     /// Drops the note of a grain, if there is one. Takes no memory.
     pub fn forget(&mut self, id: &GrainId)
         ensures { self.new ≡ forgotten self.old id.now }
     {
-        if let Some((last, place)) = self.lasts.swap_remove(id) {
-            leave(&mut self.grains, &mut self.by_last, last, place);
+        if latest::is_of(&self.latest, id) {
+            self.latest = None;
+            return;
         }
+        self.filed.forget(id);
     }
 
     /// The grains that have been unused for the age, ascending. One that was used after `now` counts
-    /// as used at `now`. Looks at the grains that are due and at one more.
+    /// as used at `now`. Looks at the grains that are due, and at two more.
     ///
     /// # Errors
     ///
@@ -147,25 +90,9 @@ impl Collector {
     pub fn due(&self, alloc: Global, now: u64) -> Result<Vec<GrainId>, AllocError>
         ensures { IfOk result (λ grains. grains.items ≡ due self.now now) }
     {
-        let mut grains = self.first_due(alloc, now)?;
+        let mut grains = self.filed.first_due(alloc, now)?;
+        latest::add_due(&self.latest, self.filed.age(), now, &mut grains)?;
         grains.sort_unstable();
-        Ok(grains)
-    }
-
-    /// The grains that are due, the one that has been unused for longest first.
-    fn first_due(&self, alloc: Global, now: u64) -> Result<Vec<GrainId>, AllocError>
-        ensures { IfOk result (λ grains. HoldsDue self.now now grains.items) }
-    {
-        let mut grains = Vec::new(alloc);
-        for (last, place) in self.by_last.iter() {
-            let unused = now.saturating_sub(*last);
-            if unused < self.age {
-                break;
-            }
-            if let Some(id) = self.grains.get(*place) {
-                grains.push(id.clone()?)?;
-            }
-        }
         Ok(grains)
     }
 }

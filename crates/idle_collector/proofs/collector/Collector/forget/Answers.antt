@@ -1,15 +1,18 @@
-use Rattle.std.proofs.Common.{sym}
-use Rattle.idle_collector.proofs.Lasts.{shown-forgotten}
-use Rattle.idle_collector.proofs.Ties.{tied-gone}
+use Rattle.std.proofs.Common.{ap, sym, ◌∙◌, subst}
+use Rattle.idle_collector.specs.Aside.{with_latest, IsApart}
+use Rattle.idle_collector.specs.Notes.{forgotten}
+use Rattle.idle_collector.proofs.Aside.{latest-forgotten, apart-forgotten, others-forgotten}
 use Rattle.idle_collector.proofs.collector.Collector.forget.Goals as goal
 
-pub invariant_of-self : goal.invariant_of-self
-invariant_of-self c =
-    tied-gone c.self.invariant c.args.id.now (c.in-Some.last, c.in-Some.place) (sym c.in-Some.ensures.value) c.swap_remove.ensures.updates.0
-    c.leave.ensures.vacated.changed c.leave.ensures.vacated.others c.leave.ensures.left.0
+pub returns-then-is_of : goal.returns-then-is_of
+returns-then-is_of c =
+    let inside = c.self.inside in
+    latest-forgotten inside.latest inside.filed c.args.id.now c.self.invariant (sym c.is_of.ensures ∙ c.if-is_of.true) ∙ ap (λ n. forgotten n c.args.id.now) c.self.view_is
 
-pub returns-in-Some : goal.returns-in-Some
-returns-in-Some c = rw (← c.self.view_is) (shown-forgotten c.self.inside.age c.self.inside.lasts.entries c.swap_remove.new.self.entries c.args.id.now c.swap_remove.ensures.updates.0)
+pub invariant_of-self-2 : goal.invariant_of-self-2
+invariant_of-self-2 c = subst (IsApart c.self.inside.latest) (sym c.forget.ensures) (apart-forgotten c.self.inside.latest c.self.inside.filed c.args.id.now c.self.invariant)
 
-pub returns-in_default : goal.returns-in_default
-returns-in_default c = rw (← c.self.view_is) (shown-forgotten c.self.inside.age c.self.inside.lasts.entries c.swap_remove.new.self.entries c.args.id.now c.swap_remove.ensures.updates.0)
+pub returns : goal.returns
+returns c =
+    let inside = c.self.inside in
+    ap (with_latest inside.latest) c.forget.ensures ∙ others-forgotten inside.latest inside.filed c.args.id.now (sym c.is_of.ensures ∙ c.if-is_of.false) ∙ ap (λ n. forgotten n c.args.id.now) c.self.view_is
