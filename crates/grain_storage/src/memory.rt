@@ -1,26 +1,25 @@
 //! Rows in memory.
 
-ghost use Rattle.std.specs.Prelude.{◌≡◌, IfOk, OnOk};
-ghost use Rattle.std.specs.BTreeMap.{insert_entry};
-ghost use Rattle.grain_id.specs.Names.{grain_cmp};
+ghost use Rattle.std.specs.Prelude.{◌≡◌, None, IfOk, OnOk};
 ghost use Rattle.std.specs.Option.{option_copied};
 ghost use Rattle.std.specs.FinMap.{empty, get};
-ghost use Rattle.grain_storage.specs.Rows.{version_of};
-ghost use Rattle.grain_storage.specs.Memory.{IsAscending, AreVersioned, rows_of, PutAnswers};
+ghost use Rattle.grain_id.specs.Names.{grain_eq};
+ghost use Rattle.indexmap.specs.IndexMap.{insert_entry};
+ghost use Rattle.grain_storage.specs.Memory.{IsAscending, AreVersioned, rows_of, PutAnswers, RowAnswers};
 
 use crate::fault::StoreFault;
 use crate::row::Row;
 use crate::storage::GrainStorage;
 use grain_id::GrainId;
+use indexmap::IndexMap;
 use request_codec::StateBytes;
 use std::alloc::{AllocError, Global};
-use std::collections::BTreeMap;
 use std::marker::Model;
 
-/// Rows in memory, which never fail.
+/// Rows in memory, which never fail. A grain leads to its row by its hash.
 #[derive(Drop)]
 pub struct MemoryStorage {
-    rows: BTreeMap<GrainId, Row>,
+    rows: IndexMap<GrainId, Row>,
 }
 
 impl Model for MemoryStorage {
@@ -40,7 +39,7 @@ impl MemoryStorage {
         ensures { result ≡ empty }
     {
         MemoryStorage {
-            rows: BTreeMap::new(alloc),
+            rows: IndexMap::new(alloc),
         }
     }
 
@@ -50,7 +49,7 @@ impl MemoryStorage {
         requires versioned { AreVersioned rows.items }
         ensures { IfOk result (λ storage. storage ≡ rows_of rows.items) }
     {
-        let mut kept = BTreeMap::new(alloc);
+        let mut kept = IndexMap::new(alloc);
         for (grain, row) in rows {
             place(&mut kept, grain, row)?;
         }
@@ -64,30 +63,7 @@ impl MemoryStorage {
         self.rows.get(grain)
     }
 
-    /// The version of the grain's row, none where there is no row.
-    fn version_at(&self, grain: &GrainId) -> Option<u64>
-        ensures { result ≡ version_of (get self.now grain.now) }
-    {
-        self.row_at(grain).map(|row| row.version)
-    }
-
-    /// Gives the grain's row the next version and this content. The key is copied only where there
-    /// is no row yet.
-    fn put(&mut self, grain: &GrainId, content: Option<StateBytes>) -> Result<u64, StoreFault>
-        ensures { PutAnswers self.old grain.now content result self.new }
-    {
-        if let Some(row) = self.rows.get_mut(grain) {
-            if row.version == u64::MAX {
-                return Err(StoreFault::Spent);
-            }
-            row.version += 1;
-            row.content = content;
-            return Ok(row.version);
-        }
-        self.insert_first(grain, content)
-    }
-
-    /// Makes the grain's first row.
+    /// Makes the grain's first row. The key is copied here alone.
     fn insert_first(
         &mut self,
         grain: &GrainId,
@@ -108,6 +84,26 @@ impl MemoryStorage {
             Err(_) => Err(StoreFault::Memory),
         }
     }
+}
+
+/// Gives a row the next version and this content, if it has the expected version.
+fn change(
+    row: &mut Row,
+    expected: Option<u64>,
+    content: Option<StateBytes>,
+) -> Result<u64, StoreFault>
+    ensures { RowAnswers expected row.old content result row.new }
+{
+    let found = Some(row.version);
+    if expected != found {
+        return Err(StoreFault::Stale(found));
+    }
+    if row.version == u64::MAX {
+        return Err(StoreFault::Spent);
+    }
+    row.version += 1;
+    row.content = content;
+    Ok(row.version)
 }
 
 impl GrainStorage for MemoryStorage {
@@ -135,11 +131,13 @@ impl GrainStorage for MemoryStorage {
         expected: Option<u64>,
         content: StateBytes,
     ) -> Result<u64, StoreFault> {
-        let found = self.version_at(grain);
-        if expected != found {
-            return Err(StoreFault::Stale(found));
+        if let Some(row) = self.rows.get_mut(grain) {
+            return change(row, expected, Some(content));
         }
-        self.put(grain, Some(content))
+        if expected.is_some() {
+            return Err(StoreFault::Stale(None));
+        }
+        self.insert_first(grain, Some(content))
     }
 
     fn clear(
@@ -148,14 +146,13 @@ impl GrainStorage for MemoryStorage {
         grain: &GrainId,
         expected: Option<u64>,
     ) -> Result<Option<u64>, StoreFault> {
-        let version = self.version_at(grain);
-        if expected != version {
-            return Err(StoreFault::Stale(version));
+        if let Some(row) = self.rows.get_mut(grain) {
+            return Ok(Some(change(row, expected, None)?));
         }
-        if version.is_none() {
-            return Ok(None);
+        if expected.is_some() {
+            return Err(StoreFault::Stale(None));
         }
-        Ok(Some(self.put(grain, None)?))
+        Ok(None)
     }
 
     fn poke(
@@ -164,21 +161,23 @@ impl GrainStorage for MemoryStorage {
         grain: &GrainId,
         content: StateBytes,
     ) -> Result<u64, StoreFault> {
-        self.put(grain, Some(content))
+        if let Some(row) = self.rows.get_mut(grain) {
+            let found = Some(row.version);
+            return change(row, found, Some(content));
+        }
+        self.insert_first(grain, Some(content))
     }
 
     fn list(&self, alloc: Global) -> Result<Vec<(GrainId, Row)>, AllocError> {
-        let mut list = Vec::with_capacity(alloc, self.rows.len())?;
-        for (grain, row) in self.rows.iter() {
-            list.push((grain.clone()?, row.clone()?))?;
-        }
-        Ok(list)
+        let mut ordered = self.rows.clone()?;
+        ordered.sort_unstable_keys()?;
+        Vec::from_iter(alloc, ordered)
     }
 }
 
-/// Puts a row in its place.
-fn place(kept: &mut BTreeMap<GrainId, Row>, grain: GrainId, row: Row) -> Result<(), AllocError>
-    ensures { OnOk result (kept.new.entries ≡ insert_entry grain_cmp kept.old.entries grain row) }
+/// Puts a row behind those that are there, or in the place of the grain's earlier one.
+fn place(kept: &mut IndexMap<GrainId, Row>, grain: GrainId, row: Row) -> Result<(), AllocError>
+    ensures { OnOk result (kept.new.entries ≡ insert_entry grain_eq kept.old.entries grain row) }
 {
     kept.insert(grain, row)?;
     Ok(())

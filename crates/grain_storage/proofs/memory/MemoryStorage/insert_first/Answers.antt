@@ -6,6 +6,6 @@ use Rattle.grain_storage.proofs.memory.MemoryStorage.insert_first.Goals as goal
 
 pub returns-in-Ok : goal.returns-in-Ok
 returns-in-Ok c =
-    first_put c.args.self.now c.args.grain.now c.args.content _ c.requires
+    first_put c.args.self.now c.args.grain.now c.requires c.args.content _
     (rows_of-updated c.self.inside.rows.entries c.args.self.now c.self.view_is c.in_ok-key.key c.insert.new.self.entries (record { version = 1; content = c.args.content }) c.in-Ok.ensures.updates.0
     ∙ ap (λ key. insert c.args.self.now key (record { version = 1; content = c.args.content })) c.in_ok-key.ensures.cases)

@@ -1,34 +1,36 @@
-use Rattle.std.proofs.Common.{Err, ap, sym, subst, ◌∙◌, refl, is_some}
-use Rattle.std.specs.FinMap.{get}
+use Rattle.std.proofs.Common.{Some, None, Ok, ap, sym, ◌∙◌, refl}
 use Rattle.std.proofs.lemmas.Result.{err_from_is_err_and}
-use Rattle.grain_storage.specs.Rows.{cleared}
-use Rattle.grain_storage.specs.Answers.{ChangeAnswers}
-use Rattle.grain_storage.proofs.Changes.{changed_where_stale, fresh_from, put_done, put_refused, cleared_there, cleared_none}
+use Rattle.grain_storage.specs.Memory.{rows_of}
+use Rattle.grain_storage.proofs.Entries.{get-found, rows_of-updated}
+use Rattle.grain_storage.proofs.Changes.{cleared_done, cleared_refused, cleared_absent, cleared_none}
 use Rattle.grain_storage.proofs.memory.MemoryStorageGrainStorage.clear.Goals as goal
 
-pub returns-then-ne : goal.returns-then-ne
-unfolding cleared
-returns-then-ne c = record { answers = (changed_where_stale c.args.expected (get c.args.self.now c.args.grain.now) _ c.version_at-version.result c.version_at-version.ensures (sym c.if-ne.ensures), refl, refl) }
-
-pub returns-then-is_none : goal.returns-then-is_none
-returns-then-is_none c =
-    let fresh = fresh_from c.args.expected (get c.args.self.now c.args.grain.now) c.version_at-version.result c.version_at-version.ensures (sym c.if-ne.ensures) in
-    record { answers = (cleared_none c.args.self.now c.args.grain.now c.args.expected fresh (ap is_some (sym c.version_at-version.ensures) ∙ c.if-is_none.ensures), refl) }
-
-pub returns-in_err-put : goal.returns-in_err-put
-returns-in_err-put c =
+pub returns-in_err-change : goal.returns-in_err-change
+returns-in_err-change c =
     let p = err_from_is_err_and c.from_residual.result c.from_residual.ensures.1 in
-    let fresh = fresh_from c.args.expected (get c.args.self.now c.args.grain.now) c.version_at-version.result c.version_at-version.ensures (sym c.if-ne.ensures) in
-    let there = ap is_some (sym c.version_at-version.ensures) ∙ c.if-is_none.ensures in
-    let rows = c.args.self.now in
-    record {
-      answers = rw (p.1, p.2)
-          (subst (λ planned. ChangeAnswers (λ version. version) planned rows 0 (Err c.in_err-put.field-0.0) c.put.new.self 0) (sym (cleared_there rows c.args.grain.now c.args.expected there))
-          (put_refused c.args.expected rows c.args.grain.now _ c.put.new.self fresh (λ version. version) c.in_err-put.field-0.0 c.in_err-put.ensures));
-    }
+    let es = c.self.inside.rows.entries in
+    let row = c.in-Some.row.now in
+    let found = get-found es c.args.self.now c.self.view_is c.args.grain.now (Some row) c.in-Some.ensures.value in
+    let updated = rows_of-updated es c.args.self.now c.self.view_is c.args.grain.now _ c.change.new.row (((c.get_mut.follows.holds c.change.new.row).3 (rw (sym c.in-Some.ensures.value) refl)).0) in
+    record { answers = rw (p.1, p.2) (cleared_refused c.args.self.now c.args.grain.now row c.change.new.row _ found updated c.args.expected c.in_err-change.field-0.0 c.in_err-change.ensures) }
+
+pub returns-in-Some : goal.returns-in-Some
+returns-in-Some c =
+    let es = c.self.inside.rows.entries in
+    let row = c.in-Some.row.now in
+    let found = get-found es c.args.self.now c.self.view_is c.args.grain.now (Some row) c.in-Some.ensures.value in
+    let updated = rows_of-updated es c.args.self.now c.self.view_is c.args.grain.now _ c.change.new.row (((c.get_mut.follows.holds c.change.new.row).3 (rw (sym c.in-Some.ensures.value) refl)).0) in
+    record { answers = (cleared_done c.args.self.now c.args.grain.now row c.change.new.row _ found updated c.args.expected c.in_ok-change.field-0 c.in_ok-change.ensures, refl) }
+
+pub returns-then-is_some : goal.returns-then-is_some
+returns-then-is_some c =
+    let es = c.self.inside.rows.entries in
+    let absent = get-found es c.args.self.now c.self.view_is c.args.grain.now _ c.in_default.ensures.value in
+    record { answers = (cleared_absent c.args.self.now c.args.grain.now absent c.args.expected (sym c.is_some.ensures ∙ c.if-is_some.true), ap (λ rows. rows_of rows.entries) c.get_mut.follows.holds-at-none ∙ c.self.view_is, refl) }
 
 pub returns : goal.returns
 returns c =
-    let fresh = fresh_from c.args.expected (get c.args.self.now c.args.grain.now) c.version_at-version.result c.version_at-version.ensures (sym c.if-ne.ensures) in
-    let there = ap is_some (sym c.version_at-version.ensures) ∙ c.if-is_none.ensures in
-    record { answers = (cleared_there c.args.self.now c.args.grain.now c.args.expected there ∙ put_done c.args.expected c.args.self.now c.args.grain.now _ c.put.new.self fresh c.in_ok-put.field-0 c.in_ok-put.ensures, refl) }
+    let es = c.self.inside.rows.entries in
+    let absent = get-found es c.args.self.now c.self.view_is c.args.grain.now _ c.in_default.ensures.value in
+    let same = ap (λ rows. rows_of rows.entries) c.get_mut.follows.holds-at-none ∙ c.self.view_is in
+    record { answers = (cleared_none c.args.self.now c.args.grain.now absent c.args.expected (sym c.is_some.ensures ∙ c.if-is_some.false) ∙ ap (λ rows. Ok (None, rows)) (sym same), refl) }
