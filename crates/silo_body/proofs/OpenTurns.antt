@@ -1,6 +1,6 @@
--- The turn that a mailbox has open is the one that the entry has, or none is open.
+-- The turn that a mailbox has open is the one that the entry has.
 use Rattle.std.proofs.Common.{◌≡◌, ℕ, Option, Some, None, refl, ap, sym, ◌∙◌}
-use Rattle.std.specs.Prelude.{option_map, option_and_then}
+use Rattle.std.specs.Prelude.{option_map}
 use Rattle.std.specs.FinMap as map
 use Rattle.grain_id.specs.Names.{Grain}
 use Rattle.request_codec.specs.Tree.{Tree}
@@ -9,14 +9,12 @@ use Rattle.turn_mailbox.specs.declared.request.Request as mailbox
 use Rattle.activation_directory.specs.declared.activation.Activation.{Activation}
 use Rattle.activation_directory.specs.declared.activation.Phase.{Phase}
 use Rattle.activation_directory.specs.declared.activation.Phase.TheVariants.{Waiting, Loading, Ready}
-use Rattle.silo_model.specs.Machine as model
-use Rattle.silo_model.specs.Machine.{Entry, Request, waiting, loading, ready}
+use Rattle.silo_model.specs.Machine.{Entry, Request, ready}
 use Rattle.silo_model.specs.Turns.{reads}
 use Rattle.silo_body.specs.Shown.{phase_of, entry_of}
 use Rattle.silo_body.specs.Marks.{AreMarked}
 use Rattle.silo_body.specs.Changes.{open_at}
 use Rattle.silo_body.specs.Entries.{open_as, open_turn}
-use Rattle.silo_body.specs.Finds.{open_in}
 use Rattle.silo_body.proofs.Shows.{get-turns}
 
 -- ---- the turn that a mailbox has open is the one that the entry has
@@ -41,20 +39,3 @@ module _ (logic : Logic) (g : Grain) (turn : ℕ) (a : Activation) (marked : Are
 
   pub open-shown : (found : Option Entry) → found ≡ Some (entry_of a) → open_at g turn a.mailbox a.phase ≡ open_turn logic g turn found
   open-shown found is = open-same a.phase ∙ ap (open_turn logic g turn) (sym is)
-
--- ---- or none is
-
-module _ (logic : Logic) (g : Grain) (turn : ℕ) where
-  mapped_none : {X Y : Type 0} (f : X → Y) (o : Option X) → option_map f o ≡ None → o ≡ None
-  mapped_none f None e = refl
-  mapped_none f (Some x) e = absurd cc
-
-  none_in : (e : Entry) (phase : model.Phase) → open_as logic g turn e phase ≡ None → open_in e turn phase ≡ None
-  none_in e waiting none = refl
-  none_in e loading none = refl
-  none_in e (ready state version) none = mapped_none _ (map.get e.turns turn) none
-
-  -- no such turn is open
-  pub none_open : (found : Option Entry) → open_turn logic g turn found ≡ None → option_and_then (λ e. open_in e turn e.phase) found ≡ None
-  none_open None none = refl
-  none_open (Some e) none = none_in e e.phase none

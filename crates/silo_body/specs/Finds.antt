@@ -8,6 +8,7 @@ use Rattle.grain_kinds.specs.Logic.{StorageCall, asks_nothing, reads_row, writes
 use Rattle.grain_kinds.specs.declared.turn.OpenedTurn.{OpenedTurn}
 use Rattle.silo_model.specs.Machine.{Entry, Request, Phase, waiting, loading, ready}
 use Rattle.silo_body.specs.Notes.{may_rest}
+use Rattle.silo_body.specs.declared.finding.Standing.{Standing}
 use Rattle.silo_body.specs.declared.finding.Found.{Found}
 use Rattle.silo_body.specs.declared.finding.Found.TheVariants.{NotOpen, Stranger, Own}
 
@@ -51,6 +52,11 @@ abbrev pub Finds : Grain → Option Entry → ℕ → OpenedTurn → Found → T
 Finds grain found turn input NotOpen = option_and_then (λ e. open_in e turn e.phase) found ≡ None
 Finds grain found turn input Stranger = IsStranger grain found turn input
 Finds grain found turn input (Own version rests) = IsOwn grain found turn version rests input
+
+-- An open turn, or what it came to, and how its grain stands; or that turn isn't open.
+abbrev pub IsOwnIfOpen : Grain → Option Entry → ℕ → Option (OpenedTurn × Standing) → Type 0
+IsOwnIfOpen grain found turn None = option_and_then (λ e. open_in e turn e.phase) found ≡ None
+IsOwnIfOpen grain found turn (Some own) = IsOwn grain found turn own.1.version own.1.rests own.0
 
 -- the plan asks for the storage
 abbrev pub asks : StorageCall → Bool

@@ -1,7 +1,7 @@
 //! What becomes of one activation.
 
 ghost use Rattle.std.specs.Prelude.{◌≡◌, IfOk, OnOk, OnErr};
-ghost use Rattle.silo_body.specs.Changes.{Starts, turn_at, mail_begun, open_at, EndsTurn};
+ghost use Rattle.silo_body.specs.Changes.{Starts, turn_at, mail_begun, EndsTurn};
 ghost use Rattle.silo_body.specs.Shown.{phase_of, entry_of};
 ghost use Rattle.silo_body.specs.Notes.{may_rest, is_idle};
 ghost use Rattle.silo_body.specs.Reads.{is_loading, is_quiet};
@@ -65,29 +65,6 @@ pub fn begin(grain: &GrainId, activation: &mut Activation) -> Result<Option<Open
         Phase::Loading => Ok(None),
         Phase::Ready { state, .. } => activation.mailbox.begin(grain, state),
     }
-}
-
-/// Its open turn of that number, if it is ready and the turn is open.
-pub fn open_turn(
-    grain: &GrainId,
-    activation: &Activation,
-    turn: u64,
-) -> Result<Option<OpenedTurn>, AllocError>
-    ensures { IfOk result (λ found. found ≡ open_at grain.now turn activation.now.mailbox activation.now.phase) }
-{
-    let Phase::Ready { state, .. } = &activation.phase else {
-        return Ok(None);
-    };
-    let Some(request) = activation.mailbox.opened(turn) else {
-        return Ok(None);
-    };
-    Ok(Some(OpenedTurn {
-        grain: grain.clone()?,
-        number: turn,
-        reading: request.reading,
-        state: state.clone()?,
-        message: request.message.clone()?,
-    }))
 }
 
 /// Closes its turn of that number: who asked for it, if it is open. The activation is then in this

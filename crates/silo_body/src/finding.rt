@@ -1,8 +1,9 @@
-//! What is found of a turn that is to be closed.
+//! What is found of a turn that is to be run, or closed.
 
-ghost use Rattle.std.specs.Prelude.{◌≡◌, Some, true, false};
+ghost use Rattle.std.specs.Prelude.{◌≡◌, Some, true, false, IfOk, option_map};
+ghost use Rattle.silo_body.specs.Changes.{open_at};
 ghost use Rattle.silo_body.specs.Shown.{entry_of};
-ghost use Rattle.silo_body.specs.Finds.{IsOf, Finds, asks};
+ghost use Rattle.silo_body.specs.Finds.{IsOf, Finds, IsOwnIfOpen, asks};
 ghost use Rattle.grain_kinds.specs.Planned.{storage_call};
 
 use crate::change;
@@ -10,6 +11,7 @@ use activation_directory::{Activation, Phase};
 use grain_id::GrainId;
 use grain_kinds::{OpenedTurn, StoreCall};
 use request_codec::{Message, StateBytes};
+use std::alloc::AllocError;
 
 /// What is found of a turn that is to be closed.
 #[derive(Clone, Copy, Debug)]
@@ -21,6 +23,15 @@ pub enum Found {
     /// It is the turn's own. The grain's state stands on this version, and the grain is idle after the
     /// turn if it rests and no other turn is open.
     Own { version: Option<u64>, rests: bool },
+}
+
+/// How a grain stands whose turn is open.
+#[derive(Clone, Copy, Debug)]
+pub struct Standing {
+    /// The version that its state stands on.
+    pub version: Option<u64>,
+    /// Whether it is idle after the turn, if no other turn is open.
+    pub rests: bool,
 }
 
 /// Whether a finished turn was made of this kind of grain, this state and this message.
@@ -68,4 +79,38 @@ pub fn find(grain: &GrainId, activation: &Activation, turn: u64, input: &OpenedT
         };
     }
     Found::Stranger
+}
+
+/// The activation's open turn of that number, as it was handed out when it began, and how its grain
+/// stands. None if the activation isn't ready, or no such turn is open.
+///
+/// # Errors
+///
+/// Out of memory.
+pub fn open_turn(
+    grain: &GrainId,
+    activation: &Activation,
+    turn: u64,
+) -> Result<Option<(OpenedTurn, Standing)>, AllocError>
+    ensures turn { IfOk result (λ found. option_map (λ own. own.0) found ≡ open_at grain.now turn activation.now.mailbox activation.now.phase) }
+    ensures own { IfOk result (λ found. IsOwnIfOpen grain.now (Some (entry_of activation.now)) turn found) }
+{
+    let Phase::Ready { state, version } = &activation.phase else {
+        return Ok(None);
+    };
+    let Some(request) = activation.mailbox.opened(turn) else {
+        return Ok(None);
+    };
+    let opened = OpenedTurn {
+        grain: grain.clone()?,
+        number: turn,
+        reading: request.reading,
+        state: state.clone()?,
+        message: request.message.clone()?,
+    };
+    let standing = Standing {
+        version: *version,
+        rests: change::may_rest(activation),
+    };
+    Ok(Some((opened, standing)))
 }

@@ -79,6 +79,7 @@ pub fn write_served<W: Write>(
     ensures written { OnOk result (Appends (W.contents writer.old) (W.contents writer.new) (served_text served.now.refusals.items (map_list (λ v. v.items) served.now.report.answers.items) served.now.report.silo.whole.replies)) }
     ensures stopped { IfErr result (λ why. StopsWriting why (served_text served.now.refusals.items (map_list (λ v. v.items) served.now.report.answers.items) served.now.report.silo.whole.replies) (W.contents writer.old) (W.contents writer.new)) }
     ensures cause { IfErr result (λ why. why ≡ line.Write → calls.new.failed ≡ true) }
+    ensures unfailed { OnOk result (calls.new.failed ≡ calls.old.failed) }
 {
     let text = text_of(alloc, served)?;
     calls.write_whole(writer, text.as_str().as_bytes())?;

@@ -1,16 +1,17 @@
 //! Any step.
 
-ghost use Rattle.std.specs.Prelude.{◌≡◌, IfOk};
+ghost use Rattle.std.specs.Prelude.{IfOk};
 ghost use Rattle.std.specs.FinMap as map;
 ghost use Rattle.silo_event.specs.declared.step.Step.TheVariants as step;
-ghost use Rattle.silo_body.specs.Entries.{open_turn};
+ghost use Rattle.silo_body.specs.Finds.{IsOwnIfOpen};
 ghost use Rattle.silo_body.specs.Moves.{Moves};
 
 use crate::body::Body;
-use crate::change;
+use crate::finding;
+use crate::finding::Standing;
 use bumpalo::Bump;
 use grain_id::GrainId;
-use grain_kinds::{FinishedTurn, GrainLogic, OpenedTurn, run_turn};
+use grain_kinds::{FinishedTurn, GrainLogic, run_turn};
 use grain_storage::GrainStorage;
 use silo_event::{Answer, Step, StepFault};
 use std::alloc::{AllocError, Global};
@@ -67,21 +68,24 @@ impl<S: GrainStorage, L: GrainLogic> Body<S, L> {
         }
     }
 
-    /// The open turn of that number, run in an arena of its own.
+    /// The open turn of that number, run in an arena of its own, and how its grain stands.
     fn run(
         &self,
         alloc: Global,
         grain: &GrainId,
         turn: u64,
-    ) -> Result<Option<FinishedTurn<L>>, AllocError>
-        ensures { IfOk result (λ found. found ≡ open_turn L.logic grain.now turn (map.get self.now.whole.entries grain.now)) }
+    ) -> Result<Option<(FinishedTurn<L>, Standing)>, AllocError>
+        ensures { IfOk result (λ found. IsOwnIfOpen grain.now (map.get self.now.whole.entries grain.now) turn found) }
     {
-        let Some(opened) = self.open_turn(grain, turn)? else {
+        let Some(activation) = self.activations.get(grain) else {
+            return Ok(None);
+        };
+        let Some((opened, standing)) = finding::open_turn(grain, activation, turn)? else {
             return Ok(None);
         };
         let bump = Bump::new(alloc);
         match run_turn(alloc, &bump, &self.logic, opened) {
-            Ok(finished) => Ok(Some(finished)),
+            Ok(finished) => Ok(Some((finished, standing))),
             Err(_opened) => Err(AllocError),
         }
     }
@@ -90,10 +94,11 @@ impl<S: GrainStorage, L: GrainLogic> Body<S, L> {
     fn run_end(&mut self, alloc: Global, grain: &GrainId, turn: u64) -> Result<Answer, StepFault>
         ensures { Moves L.logic self.old (step.End grain.now turn) result self.new }
     {
-        let Some(finished) = self.run(alloc, grain, turn)? else {
+        let Some((finished, standing)) = self.run(alloc, grain, turn)? else {
             return Ok(Answer::NotNow);
         };
-        self.end(alloc, grain, turn, &finished)
+        let Standing { version, rests } = standing;
+        self.end_own(alloc, grain, turn, version, rests, &finished)
     }
 
     /// An open turn that asks for the storage runs and is closed.
@@ -106,9 +111,10 @@ impl<S: GrainStorage, L: GrainLogic> Body<S, L> {
     ) -> Result<Answer, StepFault>
         ensures { Moves L.logic self.old (step.Store grain.now turn failed) result self.new }
     {
-        let Some(finished) = self.run(alloc, grain, turn)? else {
+        let Some((finished, standing)) = self.run(alloc, grain, turn)? else {
             return Ok(Answer::NotNow);
         };
-        self.store(alloc, grain, turn, &finished, failed)
+        let Standing { version, rests } = standing;
+        self.store_own(alloc, grain, turn, version, rests, &finished, failed)
     }
 }

@@ -48,7 +48,7 @@ impl<S: GrainStorage, L: GrainLogic> Body<S, L> {
     }
 
     /// Closes an open turn by what the storage answers to its own plan.
-    fn store_own(
+    pub(super) fn store_own(
         &mut self,
         alloc: Global,
         grain: &GrainId,

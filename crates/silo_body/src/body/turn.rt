@@ -48,7 +48,10 @@ impl<S: GrainStorage, L: GrainLogic> Body<S, L> {
         let Some(activation) = self.activations.get(grain) else {
             return Ok(None);
         };
-        change::open_turn(grain, activation, turn)
+        let Some((opened, _)) = finding::open_turn(grain, activation, turn)? else {
+            return Ok(None);
+        };
+        Ok(Some(opened))
     }
 
     /// What is found of a turn that is to be closed by what a turn of this input came to.
@@ -88,7 +91,7 @@ impl<S: GrainStorage, L: GrainLogic> Body<S, L> {
     }
 
     /// Closes an open turn by its own plan.
-    fn end_own(
+    pub(super) fn end_own(
         &mut self,
         alloc: Global,
         grain: &GrainId,
