@@ -1,5 +1,6 @@
 -- How the steps of an input end, by what its lines answer over a storage that never fails.
-use Rattle.std.proofs.Common.{◌≡◌, ◌∙◌, ℕ, List, [], ◌∷◌, ◌++◌, append-nil, Option, None, Some, IfSome, refl, sym, ap, subst, arith, ⊎_elim}
+use Rattle.std.proofs.Common.{◌≡◌, ◌∙◌, ℕ, List, [], ◌∷◌, ◌++◌, append-nil, Option, None, Some, IfSome, Result, Ok, Err, IfErr, true, refl, sym, ap, subst, arith, ⊎_elim}
+use Rattle.std.specs.Prelude.{OnErr}
 use Rattle.std.specs.Io.KnownBytes.{Keeps}
 use Rattle.std.proofs.KnownBytes.{Appends-kept, Appends-nil}
 use Rattle.silo_event.specs.declared.step.Answer.{Answer}
@@ -19,7 +20,7 @@ use Rattle.line_protocol.specs.declared.fault.LineFault.{LineFault}
 use Rattle.line_protocol.specs.declared.fault.LineFault.TheVariants as line
 use Rattle.line_parser.specs.declared.line.Line.{Line}
 use Rattle.line_protocol.proofs.Unfailed.{none_failed, none_failed_before, unmarked, own_unmarked}
-use Rattle.silo_console.specs.Steps.{IsTextOf, AnswersSteps, StopsBetween, StopsInside, StopsSteps}
+use Rattle.silo_console.specs.Steps.{IsTextOf, AnswersSteps, StopsBetween, StopsFrom, StopsInside, StopsSteps}
 
 -- ---- the text of lines
 
@@ -102,27 +103,26 @@ module _ (setup : Setup) (old : History) (opens : old.whole ≡ opening setup) w
       }
 
   by_fault : (why : LineFault) (calls : ReaderCalls) (writing : WriterCalls) (input : List ℕ) (new : History) (before after : Option (List ℕ)) → new.failures.now ≡ 0 → StopsBy kinds why (lines_of input) calls writing old new before after
-      → StopsSteps setup why input before after
-  by_fault line.Read calls writing input new before after zero h = before_text input new before after zero h.0
-  by_fault line.TooMuch calls writing input new before after zero h = before_text input new before after zero h.0
+      → StopsSteps setup why input calls before after writing
+  unfolding before_text
+  by_fault line.Read calls writing input new before after zero h = (before_text input new before after zero h.0, h.1)
+  by_fault line.TooMuch calls writing input new before after zero h = (before_text input new before after zero h.0, h.1)
   by_fault line.Memory calls writing input new before after zero h = at_text input new before after zero h
-  by_fault line.Write calls writing input new before after zero h = after_text input new before after zero h.0
+  by_fault line.Write calls writing input new before after zero h = (after_text input new before after zero h.0, h.1)
 
   fault_text : (why : LineFault) (calls : ReaderCalls) (writing : WriterCalls) (new : History) (from before after : Option (List ℕ)) → new.failures.now ≡ 0
-      → IfSome from (λ input. StopsBy kinds why (lines_of input) calls writing old new before after) → IfSome from (λ input. StopsSteps setup why input before after)
+      → IfSome from (λ input. StopsBy kinds why (lines_of input) calls writing old new before after) → IfSome from (λ input. StopsSteps setup why input calls before after writing)
   fault_text why calls writing new None before after zero h = tt
   fault_text why calls writing new (Some input) before after zero h = by_fault why calls writing input new before after zero h
 
   pub steps_stopped : (why : LineFault) (calls : ReaderCalls) (writing : WriterCalls) (new : History) (ahead from before after : Option (List ℕ)) → ahead ≡ from → new.failures.now ≡ 0
-      → IfSome ahead (λ input. StopsBy kinds why (lines_of input) calls writing old new before after) → IfSome from (λ input. StopsSteps setup why input before after)
-  steps_stopped why calls writing new ahead from before after same zero h = subst (λ (o : Option (List ℕ)). IfSome o (λ input. StopsSteps setup why input before after)) same (fault_text why calls writing new ahead before after zero h)
+      → IfSome ahead (λ input. StopsBy kinds why (lines_of input) calls writing old new before after) → IfSome from (λ input. StopsSteps setup why input calls before after writing)
+  steps_stopped why calls writing new ahead from before after same zero h = subst (λ (o : Option (List ℕ)). IfSome o (λ input. StopsSteps setup why input calls before after writing)) same (fault_text why calls writing new ahead before after zero h)
 
 -- ---- all was answered, and then writing failed
 
-pub StopsSteps-answered : (setup : Setup) (from left before during after : Option (List ℕ)) → Keeps during after
-    → IfSome from (λ input. AnswersSteps setup input left before during) → IfSome from (λ input. StopsSteps setup line.Write input before after)
-StopsSteps-answered setup None left before during after kept h = tt
-StopsSteps-answered setup (Some input) left before during after kept h = record {
+all_but_out : (setup : Setup) (input : List ℕ) (left before during after : Option (List ℕ)) → Keeps during after → AnswersSteps setup input left before during → StopsInside setup (lines_of input) before after
+all_but_out setup input left before during after kept h = record {
   done = lines_of input;
   last = [];
   rest = [];
@@ -137,3 +137,50 @@ StopsSteps-answered setup (Some input) left before during after kept h = record 
   written = Appends-kept before during after _ h.written kept;
   part = record { front = []; back = []; parts = refl; written = Appends-nil after };
 }
+
+StopsSteps-answered : (setup : Setup) (calls : ReaderCalls) (writing : WriterCalls) (from left before during after : Option (List ℕ)) → writing.failed ≡ true → Keeps during after
+    → IfSome from (λ input. AnswersSteps setup input left before during) → IfSome from (λ input. StopsSteps setup line.Write input calls before after writing)
+StopsSteps-answered setup calls writing None left before during after failed kept h = tt
+StopsSteps-answered setup calls writing (Some input) left before during after failed kept h = (all_but_out setup input left before during after kept h, failed)
+
+pub steps_not_out : {T : Type 0} (setup : Setup) (calls : ReaderCalls) (writing : WriterCalls) (from left before during after : Option (List ℕ)) (out : Result T LineFault) → OnErr out ((out ≡ Err line.Write) × (writing.failed ≡ true)) → Keeps during after
+    → IfSome from (λ input. AnswersSteps setup input left before during) → IfErr out (λ why. StopsFrom setup why from calls before after writing)
+steps_not_out setup calls writing from left before during after (Ok none) fault kept h = tt
+steps_not_out setup calls writing from left before during after (Err why) fault kept h =
+    let is : why ≡ line.Write = cc (fault.0) in
+    subst (λ (w : LineFault). StopsFrom setup w from calls before after writing) (sym is) (StopsSteps-answered setup calls writing from left before during after fault.1 kept h)
+
+-- ---- the steps ended with a fault, and then what was written went out
+
+module _ (setup : Setup) (lines : List (List ℕ)) (before during after : Option (List ℕ)) (kept : Keeps during after) where
+  StopsBetween-kept : StopsBetween setup lines before during → StopsBetween setup lines before after
+  StopsBetween-kept h = record { done = h.done; rest = h.rest; parts = h.parts; text = h.text; answers = h.answers; written = Appends-kept before during after h.text h.written kept }
+
+  StopsInside-kept : StopsInside setup lines before during → StopsInside setup lines before after
+  StopsInside-kept h = record {
+    done = h.done;
+    last = h.last;
+    rest = h.rest;
+    at_most_one = h.at_most_one;
+    parts = h.parts;
+    text = h.text;
+    last_text = h.last_text;
+    before_it = h.before_it;
+    answers = h.answers;
+    during = h.during;
+    written = h.written;
+    part = record { front = h.part.front; back = h.part.back; parts = h.part.parts; written = Appends-kept h.during during after h.part.front h.part.written kept };
+  }
+
+StopsSteps-kept : (setup : Setup) (why : LineFault) (input : List ℕ) (calls : ReaderCalls) (writing : WriterCalls) (before during after : Option (List ℕ)) → Keeps during after
+    → StopsSteps setup why input calls before during writing → StopsSteps setup why input calls before after writing
+unfolding StopsBetween-kept
+StopsSteps-kept setup line.Read input calls writing before during after kept h = (StopsBetween-kept setup (lines_of input) before during after kept h.0, h.1)
+StopsSteps-kept setup line.TooMuch input calls writing before during after kept h = (StopsBetween-kept setup (lines_of input) before during after kept h.0, h.1)
+StopsSteps-kept setup line.Memory input calls writing before during after kept h = StopsBetween-kept setup (lines_of input) before during after kept h
+StopsSteps-kept setup line.Write input calls writing before during after kept h = (StopsInside-kept setup (lines_of input) before during after kept h.0, h.1)
+
+pub StopsFrom-kept : (setup : Setup) (why : LineFault) (from : Option (List ℕ)) (calls : ReaderCalls) (writing : WriterCalls) (before during after : Option (List ℕ)) → Keeps during after
+    → StopsFrom setup why from calls before during writing → StopsFrom setup why from calls before after writing
+StopsFrom-kept setup why None calls writing before during after kept h = tt
+StopsFrom-kept setup why (Some input) calls writing before during after kept h = StopsSteps-kept setup why input calls writing before during after kept h

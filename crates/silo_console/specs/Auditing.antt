@@ -4,19 +4,22 @@ use Rattle.std.specs.List.{list_any}
 use Rattle.std.specs.Option.{is_some}
 use Rattle.std.specs.Io.KnownBytes.{Appends, Keeps}
 use Rattle.grain_kinds.specs.Kinds.{kinds}
-use Rattle.line_protocol.specs.LineRuns.{WrittenInPart}
+use Rattle.line_protocol.specs.declared.written.WriterCalls.{WriterCalls}
 use Rattle.tenant_audit.specs.FirstFault.{IsFirstFault}
 use Rattle.tenant_audit.specs.Rules.{KeepsRules}
 use Rattle.tenant_audit.specs.Text.{History, journal_text}
 use Rattle.silo_report.specs.Report.{IsReport, TenantReport}
 use Rattle.journal_audit.specs.ReportText.{report_line}
 use Rattle.silo_console.specs.Status.{no_journal_text}
+use Rattle.silo_console.specs.Streams.{BreaksOff}
 use Rattle.silo_console.specs.declared.failure.Cause.{Cause}
 use Rattle.silo_console.specs.declared.failure.Cause.TheVariants as cause
 use Rattle.silo_console.specs.declared.failure.End.{End}
 use Rattle.silo_console.specs.declared.failure.End.TheVariants as end
 use Rattle.silo_console.specs.declared.failure.ProgramFault.{ProgramFault}
 use Rattle.silo_console.specs.declared.failure.ProgramFault.TheVariants as fault
+use Rattle.silo_console.specs.declared.files.FileFault.{FileFault}
+use Rattle.silo_console.specs.declared.files.FileFault.TheVariants as file
 
 -- ---- what is reported
 
@@ -61,20 +64,20 @@ pub record AuditsFile (may_hold : List ℕ → Type 0) (how : End) (before after
   pub found : IsEndOf how reports
   pub written : Appends before after (reports_text reports)
 
--- The file's journal was audited, and a part of what is reported was written.
-pub record WritesReportsInPart (may_hold : List ℕ → Type 0) (before after : Option (List ℕ)) : Type 0 where
+-- The file's journal was audited, and what is reported breaks off: a call of the writer failed.
+pub record WritesReportsInPart (may_hold : List ℕ → Type 0) (before after : Option (List ℕ)) (writing : WriterCalls) : Type 0 where
   pub reports : List TenantReport
   pub audited : AreReportsOf may_hold reports
-  pub part : WrittenInPart before after (reports_text reports)
+  pub part : BreaksOff before after writing (reports_text reports)
 
--- By what an audit fails: but for a fault of writing nothing was written. If there is no thread, the file may have a journal.
-abbrev pub AuditFailsBy : (List ℕ → Type 0) → Cause → Option (List ℕ) → Option (List ℕ) → Type 0
-AuditFailsBy may_hold cause.Read before after = Keeps before after
-AuditFailsBy may_hold cause.Write before after = WritesReportsInPart may_hold before after
-AuditFailsBy may_hold cause.Memory before after = Keeps before after
-AuditFailsBy may_hold cause.TooMuch before after = ⊥
-AuditFailsBy may_hold cause.NoWorker before after = ((journal : History) × MayHoldJournal may_hold journal) × Keeps before after
-AuditFailsBy may_hold cause.Strayed before after = ⊥
+-- By what an audit fails: reading only if a call at the file may fail, and writing only if a call of the writer failed. But for a fault of writing nothing was written. If there is no thread, the file may have a journal.
+abbrev pub AuditFailsBy : (List ℕ → Type 0) → Type 0 → Cause → Option (List ℕ) → Option (List ℕ) → WriterCalls → Type 0
+AuditFailsBy may_hold may_fail cause.Read before after writing = may_fail × Keeps before after
+AuditFailsBy may_hold may_fail cause.Write before after writing = WritesReportsInPart may_hold before after writing
+AuditFailsBy may_hold may_fail cause.Memory before after writing = Keeps before after
+AuditFailsBy may_hold may_fail cause.TooMuch before after writing = ⊥
+AuditFailsBy may_hold may_fail cause.NoWorker before after writing = ((journal : History) × MayHoldJournal may_hold journal) × Keeps before after
+AuditFailsBy may_hold may_fail cause.Strayed before after writing = ⊥
 
 -- What is said of a file that has no journal, and nothing was written.
 pub record RefusesFile (may_hold : List ℕ → Type 0) (text : List ℕ) (before after : Option (List ℕ)) : Type 0 where
@@ -85,9 +88,10 @@ pub record RefusesFile (may_hold : List ℕ → Type 0) (text : List ℕ) (befor
 
 -- ---- its parts
 
--- what a file fails by
-abbrev pub IsFileCause : Cause → Type 0
-IsFileCause why = (why ≡ cause.Memory) ⊎ (why ≡ cause.Read)
+-- what a fault of a file that is read becomes
+abbrev pub file_cause : FileFault → Cause
+file_cause file.Memory = cause.Memory
+file_cause file.Failed = cause.Read
 
 -- what an audit fails by
 abbrev pub IsAuditCause : Cause → Type 0
@@ -103,14 +107,14 @@ IsRefusalOf number (fault.NoJournal text) = string_bytes text ≡ no_journal_tex
 abbrev pub IsReadingFault : List ℕ → ProgramFault → Type 0
 IsReadingFault bytes why = ((number : ℕ) × IsFirstFault bytes number × IsRefusalOf number why) ⊎ (why ≡ fault.Failed cause.Memory)
 
--- the text was written in part, or nothing was written for want of memory
-abbrev pub IsWritingCause : Cause → Option (List ℕ) → Option (List ℕ) → List ℕ → Type 0
-IsWritingCause cause.Write before after text = WrittenInPart before after text
-IsWritingCause cause.Memory before after text = Keeps before after
-IsWritingCause why before after text = ⊥
+-- the text breaks off, or nothing was written for want of memory
+abbrev pub IsWritingCause : Cause → Option (List ℕ) → Option (List ℕ) → WriterCalls → List ℕ → Type 0
+IsWritingCause cause.Write before after writing text = BreaksOff before after writing text
+IsWritingCause cause.Memory before after writing text = Keeps before after
+IsWritingCause why before after writing text = ⊥
 
 -- why the audit of a file doesn't end
-abbrev pub IsAuditFault : (List ℕ → Type 0) → ProgramFault → Option (List ℕ) → Option (List ℕ) → Type 0
-IsAuditFault may_hold (fault.Failed why) before after = AuditFailsBy may_hold why before after
-IsAuditFault may_hold (fault.Refused text) before after = ⊥
-IsAuditFault may_hold (fault.NoJournal text) before after = RefusesFile may_hold (string_bytes text) before after
+abbrev pub IsAuditFault : (List ℕ → Type 0) → Type 0 → ProgramFault → Option (List ℕ) → Option (List ℕ) → WriterCalls → Type 0
+IsAuditFault may_hold may_fail (fault.Failed why) before after writing = AuditFailsBy may_hold may_fail why before after writing
+IsAuditFault may_hold may_fail (fault.Refused text) before after writing = ⊥
+IsAuditFault may_hold may_fail (fault.NoJournal text) before after writing = RefusesFile may_hold (string_bytes text) before after

@@ -3,11 +3,13 @@ use Rattle.std.specs.Prelude.{◌≡◌, ◌⊎◌, ℕ, List, Option, Some, str
 use Rattle.std.specs.Io.KnownBytes.{Appends, Keeps}
 use Rattle.clap.specs.Words.{Text}
 use Rattle.tenant_gate.specs.Table.{Table}
-use Rattle.line_protocol.specs.LineRuns.{WrittenInPart}
+use Rattle.line_protocol.specs.declared.calls.ReaderCalls.{ReaderCalls}
+use Rattle.line_protocol.specs.declared.written.WriterCalls.{WriterCalls}
 use Rattle.line_protocol.specs.declared.fault.LineFault.{LineFault}
 use Rattle.silo_service.specs.Serving.{setup_of}
 use Rattle.silo_words.specs.Words.{AreRefused, AreTaken, AskForAudit, AskForHelp, AskForServing, AskForSteps, AskForVersion, EndsWithExample, IsOutOfRange}
 use Rattle.silo_console.specs.Status.{cause_of, refused_text, version_text}
+use Rattle.silo_console.specs.Streams.{BreaksOff}
 use Rattle.silo_words.specs.Tenants.{IsFirstRefused, NameTenants}
 use Rattle.silo_console.specs.Steps.{AnswersFrom, StopsFrom}
 use Rattle.silo_console.specs.Serving.{ServesLanes, ServingFailsBy}
@@ -64,21 +66,21 @@ pub record ShowsText (words : List Text) (from left before after : Option (List 
   pub kept : Keeps from left
   pub written : Appends before after text
 
--- A part of the text that the words ask for was written, and nothing was read.
-pub record StopsText (words : List Text) (from left before after : Option (List ℕ)) : Type 0 where
+-- The text that the words ask for breaks off: a call of the writer failed. Nothing was read.
+pub record StopsText (words : List Text) (from left before after : Option (List ℕ)) (writing : WriterCalls) : Type 0 where
   pub text : Text
   pub asked : AskForText words text
   pub kept : Keeps from left
-  pub part : WrittenInPart before after text
+  pub part : BreaksOff before after writing text
 
 -- Before a task is done memory may be refused, or writing a text may fail.
-abbrev pub FailsEarly : List Text → Cause → Option (List ℕ) → Option (List ℕ) → Option (List ℕ) → Option (List ℕ) → Type 0
-FailsEarly words cause.Read from left before after = ⊥
-FailsEarly words cause.Write from left before after = StopsText words from left before after
-FailsEarly words cause.Memory from left before after = Keeps from left × Keeps before after
-FailsEarly words cause.TooMuch from left before after = ⊥
-FailsEarly words cause.NoWorker from left before after = ⊥
-FailsEarly words cause.Strayed from left before after = ⊥
+abbrev pub FailsEarly : List Text → Cause → Option (List ℕ) → Option (List ℕ) → Option (List ℕ) → Option (List ℕ) → WriterCalls → Type 0
+FailsEarly words cause.Read from left before after writing = ⊥
+FailsEarly words cause.Write from left before after writing = StopsText words from left before after writing
+FailsEarly words cause.Memory from left before after writing = Keeps from left × Keeps before after
+FailsEarly words cause.TooMuch from left before after writing = ⊥
+FailsEarly words cause.NoWorker from left before after writing = ⊥
+FailsEarly words cause.Strayed from left before after writing = ⊥
 
 -- ---- steps are taken
 
@@ -90,13 +92,13 @@ pub record ServesSteps (words : List Text) (from left before after : Option (Lis
   pub answered : AnswersFrom (setup_of tenants age) from left before after
 
 -- The words name tenants, and the steps of the input were answered for them up to this fault.
-pub record FailsInSteps (words : List Text) (why : Cause) (from before after : Option (List ℕ)) : Type 0 where
+pub record FailsInSteps (words : List Text) (why : Cause) (from : Option (List ℕ)) (reading : ReaderCalls) (before after : Option (List ℕ)) (writing : WriterCalls) : Type 0 where
   pub tenants : Table
   pub age : ℕ
   pub asked : AskForTenants words tenants age
   pub fault : LineFault
   pub is : why ≡ cause_of fault
-  pub stopped : StopsFrom (setup_of tenants age) fault from before after
+  pub stopped : StopsFrom (setup_of tenants age) fault from reading before after writing
 
 -- ---- lines are served
 
@@ -110,13 +112,13 @@ pub record ServesInput (words : List Text) (may_hold : Text → List ℕ → Typ
   pub served : ServesLanes (setup_of tenants age) may_hold journal from left before after
 
 -- The words name tenants, and serving the lines of the input for them failed.
-pub record FailsInServing (words : List Text) (may_hold : Text → List ℕ → Type 0) (why : Cause) (from left before after : Option (List ℕ)) : Type 0 where
+pub record FailsInServing (words : List Text) (may_hold : Text → List ℕ → Type 0) (may_fail : Text → Type 0) (why : Cause) (from left : Option (List ℕ)) (reading : ReaderCalls) (before after : Option (List ℕ)) (writing : WriterCalls) : Type 0 where
   pub workers : ℕ
   pub tenants : Table
   pub age : ℕ
   pub journal : Option Text
   pub asked : AskForThreads words workers tenants age journal
-  pub failed : ServingFailsBy (setup_of tenants age) may_hold journal why from left before after
+  pub failed : ServingFailsBy (setup_of tenants age) may_hold may_fail journal why from left reading before after writing
 
 -- ---- a journal is audited
 
@@ -128,11 +130,11 @@ pub record Audits (words : List Text) (may_hold : Text → List ℕ → Type 0) 
   pub audited : AuditsFile (may_hold path) how before after
 
 -- The words name a file, and its audit failed. Nothing was read from the input.
-pub record FailsInAudit (words : List Text) (may_hold : Text → List ℕ → Type 0) (why : Cause) (from left before after : Option (List ℕ)) : Type 0 where
+pub record FailsInAudit (words : List Text) (may_hold : Text → List ℕ → Type 0) (may_fail : Text → Type 0) (why : Cause) (from left before after : Option (List ℕ)) (writing : WriterCalls) : Type 0 where
   pub path : Text
   pub asked : AskForAudit words path
   pub kept : Keeps from left
-  pub failed : AuditFailsBy (may_hold path) why before after
+  pub failed : AuditFailsBy (may_hold path) (may_fail path) why before after writing
 
 -- The words name a file that has no journal, and that was said. Nothing was read from the input.
 pub record RefusesJournal (words : List Text) (may_hold : Text → List ℕ → Type 0) (text : Text) (from left before after : Option (List ℕ)) : Type 0 where
@@ -150,24 +152,24 @@ EndsAs end.Well words may_hold from left before after =
 EndsAs end.Differs words may_hold from left before after = Audits words may_hold end.Differs from left before after
 
 -- What was done before the program failed by this: nothing yet, or a part of what the words ask for.
-abbrev pub FailsBy : List Text → (Text → List ℕ → Type 0) → Cause → Option (List ℕ) → Option (List ℕ) → Option (List ℕ) → Option (List ℕ) → Type 0
-FailsBy words may_hold why from left before after =
-    FailsEarly words why from left before after ⊎ (FailsInSteps words why from before after ⊎ (FailsInServing words may_hold why from left before after ⊎ FailsInAudit words may_hold why from left before after))
+abbrev pub FailsBy : List Text → (Text → List ℕ → Type 0) → (Text → Type 0) → Cause → Option (List ℕ) → Option (List ℕ) → ReaderCalls → Option (List ℕ) → Option (List ℕ) → WriterCalls → Type 0
+FailsBy words may_hold may_fail why from left reading before after writing =
+    FailsEarly words why from left before after writing ⊎ (FailsInSteps words why from reading before after writing ⊎ (FailsInServing words may_hold may_fail why from left reading before after writing ⊎ FailsInAudit words may_hold may_fail why from left before after writing))
 
 -- Why a text isn't shown, or steps aren't taken.
-abbrev pub IsStreamFault : List Text → ProgramFault → Option (List ℕ) → Option (List ℕ) → Option (List ℕ) → Option (List ℕ) → Type 0
-IsStreamFault words (fault.Failed why) from left before after = FailsEarly words why from left before after ⊎ FailsInSteps words why from before after
-IsStreamFault words (fault.Refused text) from left before after = AreRefusedBy words (string_bytes text) × Keeps from left × Keeps before after
-IsStreamFault words (fault.NoJournal text) from left before after = ⊥
+abbrev pub IsStreamFault : List Text → ProgramFault → Option (List ℕ) → Option (List ℕ) → ReaderCalls → Option (List ℕ) → Option (List ℕ) → WriterCalls → Type 0
+IsStreamFault words (fault.Failed why) from left reading before after writing = FailsEarly words why from left before after writing ⊎ FailsInSteps words why from reading before after writing
+IsStreamFault words (fault.Refused text) from left reading before after writing = AreRefusedBy words (string_bytes text) × Keeps from left × Keeps before after
+IsStreamFault words (fault.NoJournal text) from left reading before after writing = ⊥
 
 -- Why lines aren't served.
-abbrev pub IsServingFault : List Text → (Text → List ℕ → Type 0) → ProgramFault → Option (List ℕ) → Option (List ℕ) → Option (List ℕ) → Option (List ℕ) → Type 0
-IsServingFault words may_hold (fault.Failed why) from left before after = FailsEarly words why from left before after ⊎ FailsInServing words may_hold why from left before after
-IsServingFault words may_hold (fault.Refused text) from left before after = AreRefusedBy words (string_bytes text) × Keeps from left × Keeps before after
-IsServingFault words may_hold (fault.NoJournal text) from left before after = ⊥
+abbrev pub IsServingFault : List Text → (Text → List ℕ → Type 0) → (Text → Type 0) → ProgramFault → Option (List ℕ) → Option (List ℕ) → ReaderCalls → Option (List ℕ) → Option (List ℕ) → WriterCalls → Type 0
+IsServingFault words may_hold may_fail (fault.Failed why) from left reading before after writing = FailsEarly words why from left before after writing ⊎ FailsInServing words may_hold may_fail why from left reading before after writing
+IsServingFault words may_hold may_fail (fault.Refused text) from left reading before after writing = AreRefusedBy words (string_bytes text) × Keeps from left × Keeps before after
+IsServingFault words may_hold may_fail (fault.NoJournal text) from left reading before after writing = ⊥
 
 -- Why the program doesn't do what the words ask for. If the words are refused, nothing was read and nothing written.
-abbrev pub IsFaultOf : List Text → (Text → List ℕ → Type 0) → ProgramFault → Option (List ℕ) → Option (List ℕ) → Option (List ℕ) → Option (List ℕ) → Type 0
-IsFaultOf words may_hold (fault.Failed why) from left before after = FailsBy words may_hold why from left before after
-IsFaultOf words may_hold (fault.Refused text) from left before after = AreRefusedBy words (string_bytes text) × Keeps from left × Keeps before after
-IsFaultOf words may_hold (fault.NoJournal text) from left before after = RefusesJournal words may_hold (string_bytes text) from left before after
+abbrev pub IsFaultOf : List Text → (Text → List ℕ → Type 0) → (Text → Type 0) → ProgramFault → Option (List ℕ) → Option (List ℕ) → ReaderCalls → Option (List ℕ) → Option (List ℕ) → WriterCalls → Type 0
+IsFaultOf words may_hold may_fail (fault.Failed why) from left reading before after writing = FailsBy words may_hold may_fail why from left reading before after writing
+IsFaultOf words may_hold may_fail (fault.Refused text) from left reading before after writing = AreRefusedBy words (string_bytes text) × Keeps from left × Keeps before after
+IsFaultOf words may_hold may_fail (fault.NoJournal text) from left reading before after writing = RefusesJournal words may_hold (string_bytes text) from left before after

@@ -1,4 +1,5 @@
 pub mod Status
+pub mod Streams
 pub mod Steps
 pub mod Serving
 pub mod Auditing

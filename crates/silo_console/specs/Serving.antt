@@ -1,12 +1,15 @@
 -- What `silo serve` does with the lines of an input.
-use Rattle.std.specs.Prelude.{◌≡◌, ◌≢◌, ◌⊎◌, ℕ, List, Option, None, IfSome}
+use Rattle.std.specs.Prelude.{◌≡◌, ◌≢◌, ◌⊎◌, ℕ, List, Option, None, Some, IfSome, true}
 use Rattle.std.specs.Io.KnownBytes.{Appends, Keeps}
 use Rattle.silo_event.specs.declared.reply.Reply.{Reply}
 use Rattle.grain_kinds.specs.Kinds.{kinds}
 use Rattle.silo_model.specs.Opening.{Setup}
 use Rattle.silo_core.specs.History.{History}
 use Rattle.line_parser.specs.declared.line.LineRefusal.{LineRefusal}
-use Rattle.line_protocol.specs.LineRuns.{WrittenInPart}
+use Rattle.line_protocol.specs.Calls.{calls_limit}
+use Rattle.line_protocol.specs.Gathered.{HasTooMany}
+use Rattle.line_protocol.specs.declared.calls.ReaderCalls.{ReaderCalls}
+use Rattle.line_protocol.specs.declared.written.WriterCalls.{WriterCalls}
 use Rattle.tenant_audit.specs.Text.{journal_text}
 use Rattle.silo_report.specs.Report.{IsFirstDifference}
 use Rattle.journal_audit.specs.SiloJournal.{journal_of}
@@ -15,6 +18,7 @@ use Rattle.silo_service.specs.ServedText.{served_text}
 use Rattle.silo_service.specs.declared.fault.ServiceFault.{ServiceFault}
 use Rattle.silo_service.specs.declared.fault.ServiceFault.TheVariants as service
 use Rattle.silo_console.specs.Status.{cause_of}
+use Rattle.silo_console.specs.Streams.{BreaksOff}
 use Rattle.silo_console.specs.declared.failure.Cause.{Cause}
 use Rattle.silo_console.specs.declared.failure.Cause.TheVariants as cause
 
@@ -41,6 +45,11 @@ pub record HoldsJournal (may_hold : List ℕ → Type 0) (silo : History) : Type
 abbrev pub KeepsJournal : (List ℕ → List ℕ → Type 0) → Option (List ℕ) → History → Type 0
 KeepsJournal may_hold journal silo = IfSome journal (λ path. HoldsJournal (may_hold path) silo)
 
+-- A path is given, and a call at it may fail.
+abbrev pub MayFailAt : (List ℕ → Type 0) → Option (List ℕ) → Type 0
+MayFailAt may_fail None = ⊥
+MayFailAt may_fail (Some path) = may_fail path
+
 -- ---- how serving ends
 
 -- The lines of the input were served; their journal was written, if a path is given; and then what became of them.
@@ -50,24 +59,26 @@ pub record ServesLanes (setup : Setup) (may_hold : List ℕ → List ℕ → Typ
   pub kept : KeepsJournal may_hold journal outcome.silo
   pub written : Appends before after (outcome_text outcome)
 
--- The same, but a part of what became of them was written.
-pub record WritesOutcomeInPart (setup : Setup) (may_hold : List ℕ → List ℕ → Type 0) (journal : Option (List ℕ)) (from left before after : Option (List ℕ)) : Type 0 where
+-- The same, but the text of what became of them breaks off: a call of the writer failed.
+pub record WritesOutcomeInPart (setup : Setup) (may_hold : List ℕ → List ℕ → Type 0) (journal : Option (List ℕ)) (from left before after : Option (List ℕ)) (writing : WriterCalls) : Type 0 where
   pub outcome : Outcome
   pub served : LeavesOutcome setup from left outcome
   pub kept : KeepsJournal may_hold journal outcome.silo
-  pub part : WrittenInPart before after (outcome_text outcome)
+  pub part : BreaksOff before after writing (outcome_text outcome)
 
--- The lines of the input were served, but their journal wasn't written, though a path is given, and so nothing was.
-pub record LosesJournal (setup : Setup) (journal : Option (List ℕ)) (from left before after : Option (List ℕ)) : Type 0 where
-  pub wanted : journal ≢ None
+-- The lines of the input were served, but their journal wasn't written to the path that is given, where a call may fail, and so nothing was.
+pub record LosesJournal (setup : Setup) (may_fail : List ℕ → Type 0) (journal : Option (List ℕ)) (from left before after : Option (List ℕ)) : Type 0 where
+  pub fails : MayFailAt may_fail journal
   pub outcome : Outcome
   pub served : LeavesOutcome setup from left outcome
   pub kept : Keeps before after
 
--- By what serving fails: but for a fault of writing nothing was written.
-abbrev pub ServingFailsBy : Setup → (List ℕ → List ℕ → Type 0) → Option (List ℕ) → Cause → Option (List ℕ) → Option (List ℕ) → Option (List ℕ) → Option (List ℕ) → Type 0
-ServingFailsBy setup may_hold journal cause.Write from left before after = LosesJournal setup journal from left before after ⊎ WritesOutcomeInPart setup may_hold journal from left before after
-ServingFailsBy setup may_hold journal why from left before after = Keeps before after
+-- By what serving fails: reading only if the last call of the reader failed; too much only if there are too many lines, or all calls of the reader were made; writing as above. But for a fault of writing nothing was written.
+abbrev pub ServingFailsBy : Setup → (List ℕ → List ℕ → Type 0) → (List ℕ → Type 0) → Option (List ℕ) → Cause → Option (List ℕ) → Option (List ℕ) → ReaderCalls → Option (List ℕ) → Option (List ℕ) → WriterCalls → Type 0
+ServingFailsBy setup may_hold may_fail journal cause.Read from left reading before after writing = (reading.failed ≡ true) × Keeps before after
+ServingFailsBy setup may_hold may_fail journal cause.TooMuch from left reading before after writing = (HasTooMany from ⊎ (reading.made ≡ calls_limit)) × Keeps before after
+ServingFailsBy setup may_hold may_fail journal cause.Write from left reading before after writing = LosesJournal setup may_fail journal from left before after ⊎ WritesOutcomeInPart setup may_hold journal from left before after writing
+ServingFailsBy setup may_hold may_fail journal why from left reading before after writing = Keeps before after
 
 -- ---- its parts
 
@@ -77,6 +88,8 @@ service_cause (service.Failed why) = cause_of why
 service_cause service.NoWorker = cause.NoWorker
 service_cause service.Strayed = cause.Strayed
 
--- a journal is wanted, and memory was refused or writing it failed
-abbrev pub IsKeepingCause : Option (List ℕ) → Cause → Type 0
-IsKeepingCause journal why = (journal ≢ None) × ((why ≡ cause.Memory) ⊎ (why ≡ cause.Write))
+-- a path is given, and memory was refused, or a call at the path may fail
+abbrev pub IsKeepingCause : (List ℕ → Type 0) → Option (List ℕ) → Cause → Type 0
+IsKeepingCause may_fail journal cause.Memory = journal ≢ None
+IsKeepingCause may_fail journal cause.Write = MayFailAt may_fail journal
+IsKeepingCause may_fail journal why = ⊥

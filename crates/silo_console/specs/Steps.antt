@@ -1,11 +1,14 @@
 -- What `silo steps` answers to the lines of an input.
-use Rattle.std.specs.Prelude.{◌≡◌, ◌≤◌, ◌++◌, ℕ, List, [], length, Option, Some, IfSome}
+use Rattle.std.specs.Prelude.{◌≡◌, ◌≤◌, ◌⊎◌, ◌++◌, ℕ, List, [], length, Option, Some, IfSome, true}
 use Rattle.std.specs.Io.KnownBytes.{Appends}
 use Rattle.grain_kinds.specs.Kinds.{kinds}
 use Rattle.silo_model.specs.Opening.{Setup, opening, start_of}
+use Rattle.line_protocol.specs.Calls.{calls_limit}
 use Rattle.line_protocol.specs.Lines.{lines_of}
 use Rattle.line_protocol.specs.LineTexts.{whole_stepper, machine_stepper, said_lines, line_texts, lines_text, lines_to, texts_to}
-use Rattle.line_protocol.specs.LineRuns.{WrittenInPart}
+use Rattle.line_protocol.specs.LineRuns.{IsFull, WrittenInPart}
+use Rattle.line_protocol.specs.declared.calls.ReaderCalls.{ReaderCalls}
+use Rattle.line_protocol.specs.declared.written.WriterCalls.{WriterCalls}
 use Rattle.line_protocol.specs.declared.fault.LineFault.{LineFault}
 use Rattle.line_protocol.specs.declared.fault.LineFault.TheVariants as line
 
@@ -46,14 +49,16 @@ pub record StopsInside (setup : Setup) (lines : List (List ℕ)) (before after :
   pub written : Appends before during text
   pub part : WrittenInPart during after last_text
 
--- what was written before the steps ended with a fault
-abbrev pub StopsSteps : Setup → LineFault → List ℕ → Option (List ℕ) → Option (List ℕ) → Type 0
-StopsSteps setup line.Write input before after = StopsInside setup (lines_of input) before after
-StopsSteps setup why input before after = StopsBetween setup (lines_of input) before after
+-- What was written before the steps ended with a fault, and when it comes: the last call of the reader failed; a call of the writer failed; there were too many lines, or all calls of the reader were made; or memory was refused.
+abbrev pub StopsSteps : Setup → LineFault → List ℕ → ReaderCalls → Option (List ℕ) → Option (List ℕ) → WriterCalls → Type 0
+StopsSteps setup line.Read input reading before after writing = StopsBetween setup (lines_of input) before after × (reading.failed ≡ true)
+StopsSteps setup line.Write input reading before after writing = StopsInside setup (lines_of input) before after × (writing.failed ≡ true)
+StopsSteps setup line.TooMuch input reading before after writing = (p : StopsBetween setup (lines_of input) before after) × (IsFull p.done p.rest ⊎ (reading.made ≡ calls_limit))
+StopsSteps setup line.Memory input reading before after writing = StopsBetween setup (lines_of input) before after
 
 -- the same of a reader, whose input may be unknown
 abbrev pub AnswersFrom : Setup → Option (List ℕ) → Option (List ℕ) → Option (List ℕ) → Option (List ℕ) → Type 0
 AnswersFrom setup from left before after = IfSome from (λ input. AnswersSteps setup input left before after)
 
-abbrev pub StopsFrom : Setup → LineFault → Option (List ℕ) → Option (List ℕ) → Option (List ℕ) → Type 0
-StopsFrom setup why from before after = IfSome from (λ input. StopsSteps setup why input before after)
+abbrev pub StopsFrom : Setup → LineFault → Option (List ℕ) → ReaderCalls → Option (List ℕ) → Option (List ℕ) → WriterCalls → Type 0
+StopsFrom setup why from reading before after writing = IfSome from (λ input. StopsSteps setup why input reading before after writing)

@@ -1,16 +1,18 @@
 //! Auditing the journal of a file.
 
-ghost use Rattle.std.specs.Prelude.{◌≡◌, ℕ, List, Option, map, IfOk, IfErr};
+ghost use Rattle.std.specs.Prelude.{◌≡◌, ℕ, List, Option, map, IfOk, IfErr, OnOk};
 ghost use Rattle.std.specs.Io.KnownBytes.{Appends};
 ghost use Rattle.grain_kinds.specs.Kinds.{kinds};
+ghost use Rattle.line_protocol.specs.declared.written.WriterCalls.{WriterCalls};
 ghost use Rattle.tenant_audit.specs.Rules.{KeepsRules};
 ghost use Rattle.tenant_audit.specs.Text.{journal_text};
 ghost use Rattle.silo_report.specs.Report.{IsReport};
 ghost use Rattle.journal_audit.specs.Reported.{tenant_report_of};
-ghost use Rattle.silo_console.specs.Auditing.{AuditsFile, IsAuditCause, IsAuditFault, IsEndOf, IsFileCause, IsReadingFault, IsRefusalOf, IsWritingCause, MayHoldJournal, reports_text};
+ghost use Rattle.silo_console.specs.Auditing.{AuditsFile, IsAuditCause, IsAuditFault, IsEndOf, IsReadingFault, IsRefusalOf, IsWritingCause, MayHoldJournal, file_cause, reports_text};
 
 use crate::failure::{Cause, End, ProgramFault, say};
 use crate::files::{FileFault, WholeFiles};
+use crate::streams::Output;
 use grain_id::Tenant;
 use journal_audit::{AuditFault, AuditGate, TenantReport, audit_with, has_difference, report_text};
 use std::alloc::Global;
@@ -29,9 +31,9 @@ impl AuditGate for FreeGate {
     fn entered(&self, _tenant: &Tenant) {}
 }
 
-/// What a file fails by.
+/// What a fault of a file that is read is to the program.
 fn cause_of_file(fault: FileFault) -> Cause
-    ensures { IsFileCause result }
+    ensures { result ≡ file_cause fault }
 {
     match fault {
         FileFault::Memory => Cause::Memory,
@@ -64,7 +66,7 @@ fn journal_in(alloc: Global, bytes: &[u8]) -> Result<Journal, ProgramFault>
 /// The journal that the file at the path has.
 fn journal_at<F: WholeFiles>(alloc: Global, files: &F, path: &str) -> Result<Journal, ProgramFault>
     ensures journal { IfOk result (λ journal. MayHoldJournal (F.may_hold files.now path.now) journal) }
-    ensures fault { (before : Option (List ℕ)) → IfErr result (λ fault. IsAuditFault (F.may_hold files.now path.now) fault before before) }
+    ensures fault { (before : Option (List ℕ)) (writing : WriterCalls) → IfErr result (λ fault. IsAuditFault (F.may_hold files.now path.now) (F.may_fail files.now path.now) fault before before writing) }
 {
     match files.read_whole(alloc, path) {
         Ok(bytes) => journal_in(alloc, bytes.as_slice()),
@@ -102,15 +104,16 @@ fn end_of(reports: &[TenantReport]) -> End
 fn write_reports<W: Write>(
     alloc: Global,
     reports: &[TenantReport],
-    writer: &mut W,
+    output: &mut Output<W>,
 ) -> Result<End, Cause>
-    ensures written { IfOk result (λ how. IsEndOf how (map tenant_report_of reports.now) × Appends (W.contents writer.old) (W.contents writer.new) (reports_text (map tenant_report_of reports.now))) }
-    ensures fault { IfErr result (λ cause. IsWritingCause cause (W.contents writer.old) (W.contents writer.new) (reports_text (map tenant_report_of reports.now))) }
+    ensures written { IfOk result (λ how. IsEndOf how (map tenant_report_of reports.now) × Appends (W.contents output.old.writer) (W.contents output.new.writer) (reports_text (map tenant_report_of reports.now))) }
+    ensures unfailed { OnOk result (output.new.calls.failed ≡ output.old.calls.failed) }
+    ensures fault { IfErr result (λ cause. IsWritingCause cause (W.contents output.old.writer) (W.contents output.new.writer) output.new.calls (reports_text (map tenant_report_of reports.now))) }
 {
     let Ok(text) = report_text(alloc, reports) else {
         return Err(Cause::Memory);
     };
-    if say(writer, text.as_str()) {
+    if say(output, text.as_str()) {
         return Ok(end_of(reports));
     }
     Err(Cause::Write)
@@ -121,16 +124,17 @@ fn write_reports<W: Write>(
 /// # Errors
 ///
 /// `Failed` with `Read` if the file isn't read, and then `NoJournal` if it has no journal. `Failed` with
-/// `NoWorker` if a thread couldn't be started, with `Write` if the lines weren't all written, and with
+/// `NoWorker` if a thread couldn't be started, with `Write` if a call of the writer failed, and with
 /// `Memory` if memory was refused. But for `Write` nothing was written.
 pub fn audit_file<H: AllocGlobal + Threads + Wait + Sync, F: WholeFiles, W: Write>(
     rt: &H,
     path: &str,
     files: &F,
-    writer: &mut W,
+    output: &mut Output<W>,
 ) -> Result<End, ProgramFault>
-    ensures audited { IfOk result (λ how. AuditsFile (F.may_hold files.now path.now) how (W.contents writer.old) (W.contents writer.new)) }
-    ensures fault { IfErr result (λ fault. IsAuditFault (F.may_hold files.now path.now) fault (W.contents writer.old) (W.contents writer.new)) }
+    ensures audited { IfOk result (λ how. AuditsFile (F.may_hold files.now path.now) how (W.contents output.old.writer) (W.contents output.new.writer)) }
+    ensures unfailed { OnOk result (output.new.calls.failed ≡ output.old.calls.failed) }
+    ensures fault { IfErr result (λ fault. IsAuditFault (F.may_hold files.now path.now) (F.may_fail files.now path.now) fault (W.contents output.old.writer) (W.contents output.new.writer) output.new.calls) }
 {
     let alloc = rt.alloc();
     let journal = journal_at(alloc, files, path)?;
@@ -138,7 +142,7 @@ pub fn audit_file<H: AllocGlobal + Threads + Wait + Sync, F: WholeFiles, W: Writ
         Ok(reports) => reports,
         Err(cause) => return Err(ProgramFault::Failed(cause)),
     };
-    match write_reports(alloc, reports.as_slice(), writer) {
+    match write_reports(alloc, reports.as_slice(), output) {
         Ok(how) => Ok(how),
         Err(cause) => Err(ProgramFault::Failed(cause)),
     }

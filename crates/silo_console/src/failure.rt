@@ -1,11 +1,12 @@
 //! How the program ends: what it says if it fails, and its status.
 
-ghost use Rattle.std.specs.Prelude.{◌≡◌, IsTrue};
+ghost use Rattle.std.specs.Prelude.{◌≡◌, true, false};
 ghost use Rattle.std.specs.Io.KnownBytes.{Appends};
-ghost use Rattle.line_protocol.specs.LineRuns.{WrittenInPart};
 ghost use Rattle.silo_console.specs.Status.{cause_of, end_status, failure_text, status_of, told_text};
+ghost use Rattle.silo_console.specs.Streams.{BreaksOff, Tells};
 
-use line_protocol::{LineFault, WriterCalls};
+use crate::streams::Output;
+use line_protocol::LineFault;
 use std::io::Write;
 
 /// How the program ends if it does what it is asked for.
@@ -65,13 +66,15 @@ pub fn cause_of(fault: LineFault) -> Cause
     }
 }
 
-/// Writes a text whole, and says whether that was done. If it wasn't, a part of the text was written: its beginning.
-pub fn say<W: Write>(to: &mut W, text: &str) -> bool
-    ensures whole { IsTrue result → Appends (W.contents to.old) (W.contents to.new) text.now }
-    ensures part { WrittenInPart (W.contents to.old) (W.contents to.new) text.now }
+/// Writes a text whole, and says whether that was done. If it wasn't, a call of the writer failed, and a part of the
+/// text was written: its beginning.
+pub fn say<W: Write>(to: &mut Output<W>, text: &str) -> bool
+    ensures whole { result ≡ true → Appends (W.contents to.old.writer) (W.contents to.new.writer) text.now }
+    ensures unfailed { result ≡ true → to.new.calls.failed ≡ to.old.calls.failed }
+    ensures part { result ≡ false → BreaksOff (W.contents to.old.writer) (W.contents to.new.writer) to.new.calls text.now }
 {
-    let mut calls = WriterCalls::none();
-    calls.write_whole(to, text.as_bytes()).is_ok() && calls.flush(to).is_ok()
+    let whole = to.calls.write_whole(&mut to.writer, text.as_bytes());
+    whole.is_ok() && to.calls.flush(&mut to.writer).is_ok()
 }
 
 fn failure_line(cause: Cause) -> &'static str
@@ -88,9 +91,9 @@ fn failure_line(cause: Cause) -> &'static str
 }
 
 /// Tells the errors why the program fails, as far as they take it, and answers the status.
-pub fn tell<E: Write>(errors: &mut E, fault: &ProgramFault) -> u8
+pub fn tell<E: Write>(errors: &mut Output<E>, fault: &ProgramFault) -> u8
     ensures status { result ≡ status_of fault.now }
-    ensures told { WrittenInPart (E.contents errors.old) (E.contents errors.new) (told_text fault.now) }
+    ensures told { Tells (E.contents errors.old.writer) (E.contents errors.new.writer) errors.new.calls (told_text fault.now) }
 {
     match fault {
         ProgramFault::Failed(why) => {

@@ -1,6 +1,6 @@
 //! Files that are read whole and written whole: the host's, and one in memory.
 
-ghost use Rattle.std.specs.Prelude.{◌≡◌, ◌≢◌, ◌↔◌, ⊤, ℕ, List, IfOk, OnOk, OnErr, IsErrOf, string_bytes};
+ghost use Rattle.std.specs.Prelude.{◌≡◌, ◌≢◌, ◌↔◌, ⊤, ℕ, List, IfOk, IfErr, OnOk, OnErr, IsErrOf, string_bytes};
 
 use std::alloc::Global;
 use std::fs;
@@ -19,11 +19,16 @@ pub trait WholeFiles {
     // The file at a path may have these bytes. What claims nothing leaves it out.
     ghost may_hold: { Self → List ℕ → List ℕ → Type 0 } = { λ _ _ _. ⊤ };
 
+    // A call at a path may fail. What claims nothing leaves it out.
+    ghost may_fail: { Self → List ℕ → Type 0 } = { λ _ _. ⊤ };
+
     fn read_whole(&self, alloc: Global, path: &str) -> Result<Vec<u8>, FileFault>
-        ensures { IfOk result (λ bytes. may_hold self.now path.now bytes.items) };
+        ensures held { IfOk result (λ bytes. may_hold self.now path.now bytes.items) }
+        ensures fault { IfErr result (λ why. why ≡ FileFault.Failed → may_fail self.now path.now) };
 
     fn write_whole(&mut self, alloc: Global, path: &str, bytes: &[u8]) -> Result<(), FileFault>
-        ensures { OnOk result (may_hold self.new path.now bytes.now) };
+        ensures held { OnOk result (may_hold self.new path.now bytes.now) }
+        ensures fault { IfErr result (λ why. why ≡ FileFault.Failed → may_fail self.old path.now) };
 }
 
 /// The files of the host.
@@ -57,6 +62,8 @@ pub struct MemoryFile {
 
 impl WholeFiles for MemoryFile {
     ghost may_hold = { λ file path bytes. (path ≡ string_bytes file.path) × (bytes ≡ file.bytes.items) };
+
+    ghost may_fail = { λ file path. path ≢ string_bytes file.path };
 
     fn read_whole(&self, alloc: Global, path: &str) -> Result<Vec<u8>, FileFault>
         ensures read { IfOk result (λ bytes. (path.now ≡ string_bytes self.now.path) × (bytes.items ≡ self.now.bytes.items)) }

@@ -9,8 +9,8 @@
 
 ghost use Rattle.std.specs.Prelude.{◌≡◌, ◌≢◌};
 ghost use Rattle.std.specs.IoError.{error_kind};
-ghost use Rattle.line_protocol.specs.LineRuns.{WrittenInPart};
 ghost use Rattle.silo_console.specs.Status.{failure_text};
+ghost use Rattle.silo_console.specs.Streams.{Tells};
 
 mod auditing;
 mod failure;
@@ -18,10 +18,12 @@ mod files;
 mod program;
 mod serving;
 mod stepping;
+mod streams;
 
 use crate::failure::{ARGUMENTS_STATUS, Cause, ProgramFault, say, tell};
 use crate::files::HostFiles;
 use crate::program::run_program;
+use crate::streams::{Input, Output};
 use std::io::{BufWriter, ErrorKind, Write};
 use std::process::ExitCode;
 use std::rt::Env;
@@ -42,11 +44,11 @@ fn words_of<H: Env + AllocGlobal>(rt: &H) -> io::Result<Vec<String>> {
 const NOT_UTF8: &str = "error: an argument is not UTF-8\n";
 
 /// Tells why the words were not had, and answers the status.
-fn refuse_words<E: Write>(fault: &io::Error, errors: &mut E) -> u8
+fn refuse_words<E: Write>(fault: &io::Error, errors: &mut Output<E>) -> u8
     ensures memory { error_kind fault.now ≡ ErrorKind.OutOfMemory
-        → (result ≡ 1) × WrittenInPart (E.contents errors.old) (E.contents errors.new) (failure_text Cause.Memory) }
+        → (result ≡ 1) × Tells (E.contents errors.old.writer) (E.contents errors.new.writer) errors.new.calls (failure_text Cause.Memory) }
     ensures other { error_kind fault.now ≢ ErrorKind.OutOfMemory
-        → (result ≡ 2) × WrittenInPart (E.contents errors.old) (E.contents errors.new) NOT_UTF8.now }
+        → (result ≡ 2) × Tells (E.contents errors.old.writer) (E.contents errors.new.writer) errors.new.calls NOT_UTF8.now }
 {
     if fault.kind() == ErrorKind::OutOfMemory {
         return tell(errors, &ProgramFault::Failed(Cause::Memory));
@@ -56,24 +58,26 @@ fn refuse_words<E: Write>(fault: &io::Error, errors: &mut E) -> u8
 }
 
 fn main(rt: HostRuntime) -> ExitCode {
-    let mut reader = rt.stdin();
-    let mut errors = rt.stderr();
+    let mut errors = Output::new(rt.stderr());
     let mut files = HostFiles { rt: &rt };
     let words = match words_of(&rt) {
         Ok(words) => words,
         Err(fault) => return ExitCode::from(refuse_words(&fault, &mut errors)),
     };
-    let Ok(mut writer) = BufWriter::with_capacity(rt.alloc(), OUTPUT_BUFFER_BYTES, rt.stdout())
-    else {
-        let fault = ProgramFault::Failed(Cause::Memory);
+    let fault = ProgramFault::Failed(Cause::Memory);
+    let Ok(mut input) = Input::new(rt.alloc(), rt.stdin()) else {
         return ExitCode::from(tell(&mut errors, &fault));
     };
+    let Ok(writer) = BufWriter::with_capacity(rt.alloc(), OUTPUT_BUFFER_BYTES, rt.stdout()) else {
+        return ExitCode::from(tell(&mut errors, &fault));
+    };
+    let mut output = Output::new(writer);
     ExitCode::from(run_program(
         &rt,
         &words,
         &mut files,
-        &mut reader,
-        &mut writer,
+        &mut input,
+        &mut output,
         &mut errors,
     ))
 }

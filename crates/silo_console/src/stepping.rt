@@ -5,10 +5,12 @@ ghost use Rattle.tenant_gate.specs.Age.{IsAge};
 ghost use Rattle.silo_model.specs.Opening.{opening};
 ghost use Rattle.silo_service.specs.Serving.{setup_of};
 ghost use Rattle.silo_console.specs.Steps.{AnswersFrom, StopsFrom};
+ghost use Rattle.silo_console.specs.Streams.{IsFresh};
 
+use crate::streams::{Input, Output};
 use grain_kinds::Kinds;
 use grain_storage::MemoryStorage;
-use line_protocol::{LineFault, LineReader, WriterCalls, run_lines};
+use line_protocol::{LineFault, run_lines};
 use silo_core::{Setup, Silo};
 use std::alloc::{AllocError, Global};
 use std::io::{Read, Write};
@@ -40,12 +42,14 @@ fn answer_lines<R: Read, W: Write>(
     alloc: Global,
     tenants: TenantTable,
     age: u64,
-    reader: &mut R,
-    writer: &mut W,
+    input: &mut Input<R>,
+    output: &mut Output<W>,
 ) -> Result<(), LineFault>
-    requires { IsAge age }
-    ensures answered { OnOk result (AnswersFrom (setup_of tenants age) (R.remaining reader.old) (R.remaining reader.new) (W.contents writer.old) (W.contents writer.new)) }
-    ensures stopped { IfErr result (λ why. StopsFrom (setup_of tenants age) why (R.remaining reader.old) (W.contents writer.old) (W.contents writer.new)) }
+    requires age { IsAge age }
+    requires fresh { IsFresh input.old.lines }
+    ensures answered { OnOk result (AnswersFrom (setup_of tenants age) (R.remaining input.old.reader) (R.remaining input.new.reader) (W.contents output.old.writer) (W.contents output.new.writer)) }
+    ensures unfailed { OnOk result (output.new.calls.failed ≡ output.old.calls.failed) }
+    ensures stopped { IfErr result (λ why. StopsFrom (setup_of tenants age) why (R.remaining input.old.reader) input.new.lines.calls (W.contents output.old.writer) (W.contents output.new.writer) output.new.calls) }
 {
     let Some(age) = Age::new(age) else {
         unreachable!();
@@ -53,11 +57,14 @@ fn answer_lines<R: Read, W: Write>(
     let Ok(mut silo) = new_silo(alloc, tenants, age) else {
         return Err(LineFault::Memory);
     };
-    let Ok(mut lines) = LineReader::new(alloc) else {
-        return Err(LineFault::Memory);
-    };
-    let mut calls = WriterCalls::none();
-    let done = run_lines(alloc, &mut lines, reader, &mut calls, writer, &mut silo);
+    let done = run_lines(
+        alloc,
+        &mut input.lines,
+        &mut input.reader,
+        &mut output.calls,
+        &mut output.writer,
+        &mut silo,
+    );
     let _ = silo.storage();
 
     // The process ends soon, and gives all of its memory back at once.
@@ -73,20 +80,20 @@ pub fn answer_steps<R: Read, W: Write>(
     alloc: Global,
     tenants: TenantTable,
     age: u64,
-    reader: &mut R,
-    writer: &mut W,
+    input: &mut Input<R>,
+    output: &mut Output<W>,
 ) -> Result<(), LineFault>
-    requires { IsAge age }
-    ensures answered { OnOk result (AnswersFrom (setup_of tenants age) (R.remaining reader.old) (R.remaining reader.new) (W.contents writer.old) (W.contents writer.new)) }
-    ensures stopped { IfErr result (λ why. StopsFrom (setup_of tenants age) why (R.remaining reader.old) (W.contents writer.old) (W.contents writer.new)) }
+    requires age { IsAge age }
+    requires fresh { IsFresh input.old.lines }
+    ensures answered { OnOk result (AnswersFrom (setup_of tenants age) (R.remaining input.old.reader) (R.remaining input.new.reader) (W.contents output.old.writer) (W.contents output.new.writer)) }
+    ensures unfailed { OnOk result (output.new.calls.failed ≡ output.old.calls.failed) }
+    ensures stopped { IfErr result (λ why. StopsFrom (setup_of tenants age) why (R.remaining input.old.reader) input.new.lines.calls (W.contents output.old.writer) (W.contents output.new.writer) output.new.calls) }
 {
-    let done = answer_lines(alloc, tenants, age, reader, writer);
-    let flushed = writer.flush();
-    match done {
-        Err(why) => Err(why),
-        Ok(()) => match flushed {
-            Ok(()) => Ok(()),
-            Err(_) => Err(LineFault::Write),
-        },
+    match answer_lines(alloc, tenants, age, input, output) {
+        Ok(()) => output.calls.flush(&mut output.writer),
+        Err(why) => {
+            let _ = output.writer.flush();
+            Err(why)
+        }
     }
 }

@@ -3,6 +3,7 @@ mod serving;
 
 use crate::files::{FileFault, MemoryFile, WholeFiles};
 use crate::program::run_program;
+use crate::streams::{Input, Output};
 use std::alloc::{AllocError, Global};
 use std::io;
 use std::io::{ErrorKind, Read, Write};
@@ -38,20 +39,18 @@ impl Write for LosingWriter {
     }
 }
 
-/// A reader that gives what it has, and then fails.
+/// A reader that fails.
 #[derive(Drop)]
-struct BrokenReader<'a> {
-    bytes: &'a [u8],
-}
+struct FailingReader;
 
-impl Read for BrokenReader<'_> {
-    fn read(&mut self, buffer: &mut [u8]) -> io::Result<usize> {
-        if self.bytes.is_empty() {
-            return Err(io::Error::from(ErrorKind::ConnectionReset));
-        }
-        self.bytes.read(buffer)
+impl Read for FailingReader {
+    fn read(&mut self, _buffer: &mut [u8]) -> io::Result<usize> {
+        Err(io::Error::from(ErrorKind::ConnectionReset))
     }
 }
+
+/// An input with no bytes.
+const NOTHING: &[u8] = &[];
 
 /// What a run of the program gave.
 #[derive(Drop)]
@@ -94,36 +93,104 @@ fn room(alloc: Global) -> Result<Vec<u8>, AllocError> {
 }
 
 /// A run over a file. That it had too little memory is an error, as it is where a call answers so.
-fn run_over<H: AllocGlobal + Threads + Wait + Sync, R: Read, W: Write + Drop>(
+fn run_over<H: AllocGlobal + Threads + Wait + Sync, R: Read + Drop, W: Write + Drop>(
     rt: &H,
     arguments: &[&str],
     file: &mut MemoryFile,
-    reader: &mut R,
-    mut output: W,
+    reader: R,
+    writer: W,
 ) -> Result<Outcome<W>, AllocError> {
     let words = words_of(rt.alloc(), arguments)?;
-    let mut errors = room(rt.alloc())?;
-    let status = run_program(rt, &words, file, reader, &mut output, &mut errors);
-    if errors.as_slice() == b"silo: out of memory\n".as_slice() {
+    let mut errors = Output::new(room(rt.alloc())?);
+    let mut input = Input::new(rt.alloc(), reader)?;
+    let mut output = Output::new(writer);
+    let status = run_program(rt, &words, file, &mut input, &mut output, &mut errors);
+    if errors.writer.as_slice() == b"silo: out of memory\n".as_slice() {
         return Err(AllocError);
     }
     Ok(Outcome {
         status,
-        output,
-        errors,
+        output: output.writer,
+        errors: errors.writer,
     })
 }
 
-/// A run over no file.
-fn run<H: AllocGlobal + Threads + Wait + Sync, R: Read, W: Write + Drop>(
+/// What a run is to give.
+#[derive(Clone, Copy)]
+struct Wanted<'a> {
+    status: u8,
+    output: &'a str,
+    errors: &'a str,
+}
+
+fn answers(output: &str) -> Wanted<'_> {
+    Wanted {
+        status: 0,
+        output,
+        errors: "",
+    }
+}
+
+fn tells(status: u8, errors: &str) -> Wanted<'_> {
+    Wanted {
+        status,
+        output: "",
+        errors,
+    }
+}
+
+/// What of an outcome isn't as it is wanted: no word if all is.
+fn difference(outcome: &Outcome<Vec<u8>>, wanted: Wanted<'_>) -> &'static str {
+    if outcome.output.as_slice() != wanted.output.as_bytes() {
+        return "output";
+    }
+    if outcome.errors.as_slice() != wanted.errors.as_bytes() {
+        return "errors";
+    }
+    if outcome.status != wanted.status {
+        return "status";
+    }
+    ""
+}
+
+/// What a run over a file gives that isn't wanted.
+fn look_over<H: AllocGlobal + Threads + Wait + Sync, R: Read + Drop>(
     rt: &H,
     arguments: &[&str],
-    reader: &mut R,
-    output: W,
-) -> Result<Outcome<W>, AllocError> {
-    let mut file = no_file(rt.alloc());
-    run_over(rt, arguments, &mut file, reader, output)
+    file: &mut MemoryFile,
+    reader: R,
+    wanted: Wanted<'_>,
+) -> Result<&'static str, AllocError> {
+    let outcome = run_over(rt, arguments, file, reader, room(rt.alloc())?)?;
+    Ok(difference(&outcome, wanted))
 }
+
+/// What a run over no file gives that isn't wanted.
+fn look<H: AllocGlobal + Threads + Wait + Sync, R: Read + Drop>(
+    rt: &H,
+    arguments: &[&str],
+    reader: R,
+    wanted: Wanted<'_>,
+) -> Result<&'static str, AllocError> {
+    let mut file = no_file(rt.alloc());
+    look_over(rt, arguments, &mut file, reader, wanted)
+}
+
+/// Whether a run over a file fails by its writer, and tells that.
+fn fails_by_writing<H: AllocGlobal + Threads + Wait + Sync, W: Write + Drop>(
+    rt: &H,
+    arguments: &[&str],
+    file: &mut MemoryFile,
+    input: &str,
+    writer: W,
+) -> Result<bool, AllocError> {
+    let outcome = run_over(rt, arguments, file, input.as_bytes(), writer)?;
+    Ok(outcome.errors.as_slice() == WRITING_FAILED.as_bytes() && outcome.status == 1)
+}
+
+const READING_FAILED: &str = "silo: reading failed\n";
+
+const WRITING_FAILED: &str = "silo: writing failed\n";
 
 const RED: &[&str] = &["steps", "red:2:4"];
 
@@ -200,14 +267,8 @@ fn answers_lines(rt: HostRuntime) -> Result<(), Fail> {
         (NO_ENTRY, NOT_NOW),
     ];
     for (input, output) in rows {
-        let mut reader = input.as_bytes();
-        let outcome = run(&rt, RED, &mut reader, room(rt.alloc())?)?;
-        assert!(rt;
-            outcome.output.as_slice() == output.as_bytes(),
-            "at {input}"
-        );
-        assert!(rt; outcome.errors.is_empty(), "at {input}");
-        assert_eq!(rt; outcome.status, 0, "at {input}");
+        let found = look(&rt, RED, input.as_bytes(), answers(output))?;
+        assert_eq!(rt; found, "", "at {input}");
     }
     Ok(())
 }
@@ -253,11 +314,8 @@ const MIXED_REPLIES: &str = concat!(
 
 #[test]
 fn serves_two_tenants(rt: HostRuntime) -> Result<(), Fail> {
-    let mut reader = MIXED.as_bytes();
-    let outcome = run(&rt, TWO, &mut reader, room(rt.alloc())?)?;
-    assert!(rt; outcome.output.as_slice() == MIXED_REPLIES.as_bytes());
-    assert!(rt; outcome.errors.is_empty());
-    assert_eq!(rt; outcome.status, 0);
+    let found = look(&rt, TWO, MIXED.as_bytes(), answers(MIXED_REPLIES))?;
+    assert_eq!(rt; found, "");
     Ok(())
 }
 
@@ -284,14 +342,8 @@ fn refuses_tenants(rt: HostRuntime) -> Result<(), Fail> {
         (&["steps", ""], FIRST),
     ];
     for (arguments, errors) in rows {
-        let mut reader = FIRST_RUN.as_bytes();
-        let outcome = run(&rt, arguments, &mut reader, room(rt.alloc())?)?;
-        assert!(rt;
-            outcome.errors.as_slice() == errors.as_bytes(),
-            "at {arguments:?}"
-        );
-        assert!(rt; outcome.output.is_empty(), "at {arguments:?}");
-        assert_eq!(rt; outcome.status, 2, "at {arguments:?}");
+        let found = look(&rt, arguments, FIRST_RUN.as_bytes(), tells(2, errors))?;
+        assert_eq!(rt; found, "", "at {arguments:?}");
     }
     Ok(())
 }
@@ -304,12 +356,36 @@ fn takes_limits_to_their_ends(rt: HostRuntime) -> Result<(), Fail> {
         &["steps", "red:2:4", "--age", "900000"],
     ];
     for arguments in rows {
-        let outcome = run(&rt, arguments, &mut [].as_slice(), room(rt.alloc())?)?;
-        assert!(rt; outcome.errors.is_empty(), "at {arguments:?}");
-        assert!(rt; outcome.output.is_empty(), "at {arguments:?}");
-        assert_eq!(rt; outcome.status, 0, "at {arguments:?}");
+        let found = look(&rt, arguments, NOTHING, answers(""))?;
+        assert_eq!(rt; found, "", "at {arguments:?}");
     }
     Ok(())
+}
+
+/// Whether the words are refused, and the errors say why.
+fn is_refused<H: AllocGlobal + Threads + Wait + Sync>(
+    rt: &H,
+    arguments: &[&str],
+) -> Result<bool, AllocError> {
+    let mut file = no_file(rt.alloc());
+    let outcome = run_over(rt, arguments, &mut file, NOTHING, room(rt.alloc())?)?;
+    Ok(outcome.errors.starts_with(b"error: ") && outcome.output.is_empty() && outcome.status == 2)
+}
+
+/// Whether the words are answered with help.
+fn is_helped<H: AllocGlobal + Threads + Wait + Sync>(
+    rt: &H,
+    arguments: &[&str],
+) -> Result<bool, AllocError> {
+    let mut file = no_file(rt.alloc());
+    let outcome = run_over(rt, arguments, &mut file, NOTHING, room(rt.alloc())?)?;
+    Ok(
+        outcome
+            .output
+            .starts_with(b"A silo of grains that tenants share\n")
+            && outcome.errors.is_empty()
+            && outcome.status == 0,
+    )
 }
 
 #[test]
@@ -330,54 +406,37 @@ fn explains_words(rt: HostRuntime) -> Result<(), Fail> {
         &["audit", "j", "k"],
     ];
     for arguments in rows {
-        let outcome = run(&rt, arguments, &mut [].as_slice(), room(rt.alloc())?)?;
-        assert!(rt; outcome.errors.starts_with(b"error: "), "at {arguments:?}");
-        assert!(rt; outcome.output.is_empty(), "at {arguments:?}");
-        assert_eq!(rt; outcome.status, 2, "at {arguments:?}");
+        assert!(rt; is_refused(&rt, arguments)?, "at {arguments:?}");
     }
-    let outcome = run(&rt, &["--help"], &mut [].as_slice(), room(rt.alloc())?)?;
-    assert!(rt; outcome.errors.is_empty());
-    assert!(rt;
-        outcome
-            .output
-            .starts_with(b"A silo of grains that tenants share\n")
-    );
-    assert_eq!(rt; outcome.status, 0);
+    assert!(rt; is_helped(&rt, &["--help"])?);
     Ok(())
 }
 
 #[test]
 fn shows_its_version(rt: HostRuntime) -> Result<(), Fail> {
     for word in ["--version", "-V"] {
-        let outcome = run(&rt, &[word], &mut FIRST_RUN.as_bytes(), room(rt.alloc())?)?;
-        assert!(rt;
-            outcome.output.as_slice() == b"silo 0.1.0\n".as_slice(),
-            "at {word}"
-        );
-        assert!(rt; outcome.errors.is_empty(), "at {word}");
-        assert_eq!(rt; outcome.status, 0, "at {word}");
+        let found = look(&rt, &[word], FIRST_RUN.as_bytes(), answers("silo 0.1.0\n"))?;
+        assert_eq!(rt; found, "", "at {word}");
     }
     Ok(())
 }
 
 #[test]
 fn fails_with_its_streams(rt: HostRuntime) -> Result<(), Fail> {
-    let mut reader = BrokenReader {
-        bytes: NO_ENTRY.as_bytes(),
+    let reader = NO_ENTRY.as_bytes().chain(FailingReader);
+    let wanted = Wanted {
+        status: 1,
+        output: NOT_NOW,
+        errors: READING_FAILED,
     };
-    let outcome = run(&rt, RED, &mut reader, room(rt.alloc())?)?;
-    assert!(rt; outcome.output.as_slice() == NOT_NOW.as_bytes());
-    assert!(rt; outcome.errors.as_slice() == b"silo: reading failed\n".as_slice());
-    assert_eq!(rt; outcome.status, 1);
-    let outcome = run(&rt, RED, &mut NO_ENTRY.as_bytes(), FullWriter)?;
-    assert!(rt; outcome.errors.as_slice() == b"silo: writing failed\n".as_slice());
-    assert_eq!(rt; outcome.status, 1);
-    let outcome = run(&rt, RED, &mut NO_ENTRY.as_bytes(), LosingWriter)?;
-    assert!(rt; outcome.errors.as_slice() == b"silo: writing failed\n".as_slice());
-    assert_eq!(rt; outcome.status, 1);
-    let outcome = run(&rt, &["--help"], &mut [].as_slice(), FullWriter)?;
-    assert!(rt; outcome.errors.as_slice() == b"silo: writing failed\n".as_slice());
-    assert_eq!(rt; outcome.status, 1);
+    assert_eq!(rt; look(&rt, RED, reader, wanted)?, "");
+    let mut file = no_file(rt.alloc());
+    let rows: [&[&str]; 3] = [RED, &["--help"], &["serve", "red:2:4"]];
+    for arguments in rows {
+        let full = fails_by_writing(&rt, arguments, &mut file, NO_ENTRY, FullWriter)?;
+        let losing = fails_by_writing(&rt, arguments, &mut file, NO_ENTRY, LosingWriter)?;
+        assert!(rt; full && losing, "at {arguments:?}");
+    }
     Ok(())
 }
 

@@ -1,12 +1,38 @@
 //! `silo audit`, of a file in memory.
 
-use super::{FullWriter, file_of, room, run_over};
+use super::{
+    FullWriter, LosingWriter, NOTHING, READING_FAILED, Wanted, fails_by_writing, file_of,
+    look_over, tells,
+};
+use std::alloc::AllocError;
+use std::sync::Wait;
 use std::test::Fail;
+use std::thread::Threads;
 
 const AUDIT: &[&str] = &["audit", "j"];
 
 /// A journal of one tenant, up to its steps.
 const START: &str = "silo-journal 1\nage 1\ntenant red 1 1\n";
+
+/// What an audit of a file with this text gives that isn't wanted.
+fn look_at_audit<H: AllocGlobal + Threads + Wait + Sync>(
+    rt: &H,
+    text: &str,
+    wanted: Wanted<'_>,
+) -> Result<&'static str, AllocError> {
+    let mut file = file_of(rt.alloc(), text)?;
+    look_over(rt, AUDIT, &mut file, NOTHING, wanted)
+}
+
+/// The same of a journal that goes on after its start.
+fn look_at_rest<H: AllocGlobal + Threads + Wait + Sync>(
+    rt: &H,
+    rest: &str,
+    wanted: Wanted<'_>,
+) -> Result<&'static str, AllocError> {
+    let text = format!(in rt.alloc(); "{START}{rest}")?;
+    look_at_audit(rt, text.as_str(), wanted)
+}
 
 #[test]
 fn tells_how_tenants_differ(rt: HostRuntime) -> Result<(), Fail> {
@@ -33,12 +59,12 @@ fn tells_how_tenants_differ(rt: HostRuntime) -> Result<(), Fail> {
         ),
     ];
     for (rest, output, status) in rows {
-        let text = format!(in rt.alloc(); "{START}{rest}")?;
-        let mut file = file_of(rt.alloc(), text.as_str())?;
-        let outcome = run_over(&rt, AUDIT, &mut file, &mut [].as_slice(), room(rt.alloc())?)?;
-        assert!(rt; outcome.output.as_slice() == output.as_bytes(), "at {rest}");
-        assert!(rt; outcome.errors.is_empty(), "at {rest}");
-        assert_eq!(rt; outcome.status, status, "at {rest}");
+        let wanted = Wanted {
+            status,
+            output,
+            errors: "",
+        };
+        assert_eq!(rt; look_at_rest(&rt, rest, wanted)?, "", "at {rest}");
     }
     Ok(())
 }
@@ -59,28 +85,29 @@ fn refuses_what_is_no_journal(rt: HostRuntime) -> Result<(), Fail> {
         ),
     ];
     for (text, errors) in rows {
-        let mut file = file_of(rt.alloc(), text)?;
-        let outcome = run_over(&rt, AUDIT, &mut file, &mut [].as_slice(), room(rt.alloc())?)?;
-        assert!(rt; outcome.errors.as_slice() == errors.as_bytes(), "at {text}");
-        assert!(rt; outcome.output.is_empty(), "at {text}");
-        assert_eq!(rt; outcome.status, 4, "at {text}");
+        assert_eq!(rt;
+            look_at_audit(&rt, text, tells(4, errors))?,
+            "",
+            "at {text}"
+        );
     }
     Ok(())
 }
 
 #[test]
 fn fails_with_its_files(rt: HostRuntime) -> Result<(), Fail> {
-    let mut file = file_of(
-        rt.alloc(),
-        "silo-journal 1\nage 1\ntenant red 1 1\nclose 0\n",
+    const EMPTY: &str = "silo-journal 1\nage 1\ntenant red 1 1\nclose 0\n";
+    let mut file = file_of(rt.alloc(), EMPTY)?;
+    let lost = look_over(
+        &rt,
+        &["audit", "k"],
+        &mut file,
+        NOTHING,
+        tells(1, READING_FAILED),
     )?;
-    let other = &["audit", "k"];
-    let outcome = run_over(&rt, other, &mut file, &mut [].as_slice(), room(rt.alloc())?)?;
-    assert!(rt; outcome.output.is_empty());
-    assert!(rt; outcome.errors.as_slice() == b"silo: reading failed\n".as_slice());
-    assert_eq!(rt; outcome.status, 1);
-    let outcome = run_over(&rt, AUDIT, &mut file, &mut [].as_slice(), FullWriter)?;
-    assert!(rt; outcome.errors.as_slice() == b"silo: writing failed\n".as_slice());
-    assert_eq!(rt; outcome.status, 1);
+    let full = fails_by_writing(&rt, AUDIT, &mut file, "", FullWriter)?;
+    let losing = fails_by_writing(&rt, AUDIT, &mut file, "", LosingWriter)?;
+    assert_eq!(rt; lost, "");
+    assert!(rt; full && losing);
     Ok(())
 }

@@ -1,10 +1,12 @@
 //! `silo serve`, and the audit of the journals that it writes to a file in memory.
 
-use super::{BrokenReader, FullWriter, file_of, room, run, run_over};
+use super::{
+    FailingReader, FullWriter, NOTHING, READING_FAILED, WRITING_FAILED, Wanted, answers,
+    fails_by_writing, file_of, look, look_over, tells,
+};
 use crate::files::MemoryFile;
-use std::sync::Wait;
+use std::io::Read;
 use std::test::Fail;
-use std::thread::Threads;
 
 const CALL: &str = concat!(
     r#"{"from":"red/c1","id":1,"op":"call","grain":"counter/red:a","method":"add","args":{"by":3}}"#,
@@ -18,52 +20,30 @@ const KEPT: &[&str] = &["serve", "--workers", "1", "--journal", "j", "red:2:4"];
 const JOURNAL: &str =
     "silo-journal 1\nage 900000\ntenant red 2 4\ncall red/c1 1 counter/red:a 01000000036164640600000001000000026279030000000000000003\nactivate counter/red:a\nload counter/red:a ok\nbegin counter/red:a\nend counter/red:a 1\nreply red/c1 1 ok 030000000000000003\nclose 5\n";
 
+/// Whether the file has the journal.
+fn is_kept(file: &MemoryFile) -> bool {
+    file.bytes.as_slice() == JOURNAL.as_bytes()
+}
+
 #[test]
 fn keeps_a_journal(rt: HostRuntime) -> Result<(), Fail> {
     let mut file = file_of(rt.alloc(), "")?;
-    let outcome = run_over(
-        &rt,
-        KEPT,
-        &mut file,
-        &mut CALL.as_bytes(),
-        room(rt.alloc())?,
-    )?;
-    assert!(rt; outcome.output.as_slice() == REPLY.as_bytes());
-    assert!(rt; outcome.errors.is_empty());
-    assert_eq!(rt; outcome.status, 0);
-    assert!(rt; file.bytes.as_slice() == JOURNAL.as_bytes());
+    let found = look_over(&rt, KEPT, &mut file, CALL.as_bytes(), answers(REPLY))?;
+    let kept = is_kept(&file);
+    assert_eq!(rt; found, "");
+    assert!(rt; kept);
     Ok(())
 }
 
-/// Looks at what an audit of the file says.
-fn look_at_audit<H: AllocGlobal + Threads + Wait + Sync>(
-    rt: &H,
-    file: &mut MemoryFile,
-    output: &str,
-    errors: &str,
-    status: u8,
-) -> Result<bool, Fail> {
-    let words = &["audit", "j"];
-    let outcome = run_over(rt, words, file, &mut [].as_slice(), room(rt.alloc())?)?;
-    Ok(
-        outcome.output.as_slice() == output.as_bytes()
-            && outcome.errors.as_slice() == errors.as_bytes()
-            && outcome.status == status,
-    )
-}
+const AUDIT: &[&str] = &["audit", "j"];
 
 #[test]
 fn its_journal_has_no_difference(rt: HostRuntime) -> Result<(), Fail> {
     let mut file = file_of(rt.alloc(), "")?;
-    run_over(
-        &rt,
-        KEPT,
-        &mut file,
-        &mut CALL.as_bytes(),
-        room(rt.alloc())?,
-    )?;
+    look_over(&rt, KEPT, &mut file, CALL.as_bytes(), answers(REPLY))?;
     let told = "tenant red: 5 steps, 1 replies, 0 rows\n";
-    assert!(rt; look_at_audit(&rt, &mut file, told, "", 0)?);
+    let found = look_over(&rt, AUDIT, &mut file, NOTHING, answers(told))?;
+    assert_eq!(rt; found, "");
     Ok(())
 }
 
@@ -72,11 +52,23 @@ fn a_changed_journal_differs(rt: HostRuntime) -> Result<(), Fail> {
     let (start, close) = JOURNAL.split_once("3\nclose").ok_or("no reply")?;
     let changed = format!(in rt.alloc(); "{start}4\nclose{close}")?;
     let mut file = file_of(rt.alloc(), changed.as_str())?;
-    assert!(rt; look_at_audit(&rt, &mut file, "tenant red: reply 1 differs\n", "", 3)?);
+    let differs = Wanted {
+        status: 3,
+        output: "tenant red: reply 1 differs\n",
+        errors: "",
+    };
+    let found = look_over(&rt, AUDIT, &mut file, NOTHING, differs)?;
+    assert_eq!(rt; found, "");
+    Ok(())
+}
+
+#[test]
+fn a_journal_that_breaks_off_is_refused(rt: HostRuntime) -> Result<(), Fail> {
     let (start, _) = JOURNAL.split_once("close").ok_or("no close")?;
     let mut file = file_of(rt.alloc(), start)?;
-    let told = "silo: journal line 10 is refused\n";
-    assert!(rt; look_at_audit(&rt, &mut file, "", told, 4)?);
+    let refused = tells(4, "silo: journal line 10 is refused\n");
+    let found = look_over(&rt, AUDIT, &mut file, NOTHING, refused)?;
+    assert_eq!(rt; found, "");
     Ok(())
 }
 
@@ -127,21 +119,16 @@ fn answers_lanes_in_order(rt: HostRuntime) -> Result<(), Fail> {
         &["serve", "--workers", "64", "--age", "1", "red:2:4"],
         &["serve", "--journal", "j", "red:2:4"],
     ];
+    let mut file = file_of(rt.alloc(), "")?;
     for arguments in rows {
-        let mut file = file_of(rt.alloc(), "")?;
-        let outcome = run_over(
+        let found = look_over(
             &rt,
             arguments,
             &mut file,
-            &mut LINES.as_bytes(),
-            room(rt.alloc())?,
+            LINES.as_bytes(),
+            answers(REPLIES),
         )?;
-        assert!(rt;
-            outcome.output.as_slice() == REPLIES.as_bytes(),
-            "at {arguments:?}"
-        );
-        assert!(rt; outcome.errors.is_empty(), "at {arguments:?}");
-        assert_eq!(rt; outcome.status, 0, "at {arguments:?}");
+        assert_eq!(rt; found, "", "at {arguments:?}");
     }
     Ok(())
 }
@@ -150,38 +137,25 @@ fn answers_lanes_in_order(rt: HostRuntime) -> Result<(), Fail> {
 fn refuses_its_tenants(rt: HostRuntime) -> Result<(), Fail> {
     let arguments = &["serve", "--journal", "j", "red:2:4", "red:2:4"];
     let mut file = file_of(rt.alloc(), "")?;
-    let outcome = run_over(
-        &rt,
-        arguments,
-        &mut file,
-        &mut CALL.as_bytes(),
-        room(rt.alloc())?,
-    )?;
-    assert!(rt; outcome.errors.as_slice() == b"silo: tenant argument 2 is refused\n".as_slice());
-    assert!(rt; outcome.output.is_empty());
-    assert!(rt; file.bytes.is_empty());
-    assert_eq!(rt; outcome.status, 2);
+    let refused = tells(2, "silo: tenant argument 2 is refused\n");
+    let found = look_over(&rt, arguments, &mut file, CALL.as_bytes(), refused)?;
+    let untouched = file.bytes.is_empty();
+    assert_eq!(rt; found, "");
+    assert!(rt; untouched);
     Ok(())
 }
 
 #[test]
 fn fails_in_order(rt: HostRuntime) -> Result<(), Fail> {
     let lost = &["serve", "--journal", "k", "red:2:4"];
-    let mut reader = BrokenReader {
-        bytes: CALL.as_bytes(),
-    };
-    let outcome = run(&rt, lost, &mut reader, room(rt.alloc())?)?;
-    assert!(rt; outcome.output.is_empty());
-    assert!(rt; outcome.errors.as_slice() == b"silo: reading failed\n".as_slice());
-    assert_eq!(rt; outcome.status, 1);
-    let outcome = run(&rt, lost, &mut CALL.as_bytes(), room(rt.alloc())?)?;
-    assert!(rt; outcome.output.is_empty());
-    assert!(rt; outcome.errors.as_slice() == b"silo: writing failed\n".as_slice());
-    assert_eq!(rt; outcome.status, 1);
+    let broken = CALL.as_bytes().chain(FailingReader);
+    let unread = look(&rt, lost, broken, tells(1, READING_FAILED))?;
+    let unkept = look(&rt, lost, CALL.as_bytes(), tells(1, WRITING_FAILED))?;
     let mut file = file_of(rt.alloc(), "")?;
-    let outcome = run_over(&rt, KEPT, &mut file, &mut CALL.as_bytes(), FullWriter)?;
-    assert!(rt; outcome.errors.as_slice() == b"silo: writing failed\n".as_slice());
-    assert!(rt; file.bytes.as_slice() == JOURNAL.as_bytes());
-    assert_eq!(rt; outcome.status, 1);
+    let full = fails_by_writing(&rt, KEPT, &mut file, CALL, FullWriter)?;
+    let kept = is_kept(&file);
+    assert_eq!(rt; unread, "");
+    assert_eq!(rt; unkept, "");
+    assert!(rt; full && kept);
     Ok(())
 }

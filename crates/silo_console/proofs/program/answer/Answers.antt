@@ -14,4 +14,4 @@ pub returns-in-Err-clause-ended : goal.returns-in-Err-clause-ended
 returns-in-Err-clause-ended g c = ends_shown _ _ _ _ _ _ c.explain_words.result (c.explain_words.ensures.shown _ _ c.in-Err.ensures.fault)
 
 pub returns-in-Err-clause-fault : goal.returns-in-Err-clause-fault
-returns-in-Err-clause-fault g c = stream_faults _ _ _ _ _ _ c.explain_words.result (c.explain_words.ensures.fault _ _ c.in-Err.ensures.fault)
+returns-in-Err-clause-fault g c = stream_faults _ _ _ _ _ _ _ _ _ c.explain_words.result (c.explain_words.ensures.fault _ _ _ c.in-Err.ensures.fault)

@@ -8,10 +8,10 @@ pub returns-in-Ok-done-clause-answered : goal.returns-in-Ok-done-clause-answered
 returns-in-Ok-done-clause-answered g c =
     let same_age : c.in-Some.age ≡ c.args.age = c.in-Some.ensures.1 in
     let opens = c.in-Ok.ensures.opening ∙ ap (λ (age : ℕ). opening (setup_of c.args.tenants age)) same_age in
-    steps_answered (setup_of c.args.tenants c.args.age) _ opens _ _ _ _ _ _ _ (c.in-Ok-new.ensures.left _) (sym c.storage.ensures.failures) c.in-Ok-done.ensures.ok
+    steps_answered (setup_of c.args.tenants c.args.age) _ opens _ _ _ _ _ _ _ (c.requires.fresh _) (sym c.storage.ensures.failures) c.in-Ok-done.ensures.ok
 
-pub returns-clause-stopped : goal.returns-clause-stopped
-returns-clause-stopped g c =
+pub returns-in-Err-clause-stopped : goal.returns-in-Err-clause-stopped
+returns-in-Err-clause-stopped g c =
     let same_age : c.in-Some.age ≡ c.args.age = c.in-Some.ensures.1 in
     let opens = c.in-Ok.ensures.opening ∙ ap (λ (age : ℕ). opening (setup_of c.args.tenants age)) same_age in
-    steps_stopped (setup_of c.args.tenants c.args.age) _ opens _ _ _ _ _ _ _ _ (c.in-Ok-new.ensures.left _) (sym c.storage.ensures.failures) c.in-Err.ensures.err
+    steps_stopped (setup_of c.args.tenants c.args.age) _ opens _ _ _ _ _ _ _ _ (c.requires.fresh _) (sym c.storage.ensures.failures) c.in-Err.ensures.err
