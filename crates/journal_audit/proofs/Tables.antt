@@ -11,21 +11,5 @@ pub any_mapped : {X Y : Type 0} (p : Y → Bool) (f : X → Y) (xs : List X) →
 any_mapped p f [] = refl
 any_mapped p f (x ∷ xs) = ap (λ b. p (f x) || b) (any_mapped p f xs)
 
-pub found_limits : (t : List ℕ) (table : Table) → option_map (λ (e : List ℕ × Limits). e.1) (find (λ e. same_text t e.0) table) ≡ limits_of table t
-found_limits t [] = refl
-found_limits t (e ∷ table) = by_test (same_text t e.0) (found_limits t table)
-  where
-    by_test : (b : Bool) → option_map (λ (e : List ℕ × Limits). e.1) (find (λ e. same_text t e.0) table) ≡ limits_of table t
-        → option_map (λ (e : List ℕ × Limits). e.1) (cond b (Some e) (find (λ e. same_text t e.0) table)) ≡ cond b (Some e.1) (limits_of table t)
-    by_test true rest = refl
-    by_test false rest = rest
-
--- what a search through a table's entries found, as limits
-abbrev pub limits_seen : Option (Bor (List ℕ × Limits)) → Option Limits
-limits_seen entry = option_map (λ (e : List ℕ × Limits). e.1) (option_map (λ (x : Bor (List ℕ × Limits)). x.now) entry)
-
-pub seen_limits : (t : List ℕ) (table : Table) (found entry : Option (Bor (List ℕ × Limits))) → option_map (λ (x : Bor (List ℕ × Limits)). x.now) found ≡ find (λ e. same_text t e.0) table → found ≡ entry → limits_seen entry ≡ limits_of table t
-seen_limits t table found entry searched is = ap limits_seen (sym is) ∙ ap (option_map (λ (e : List ℕ × Limits). e.1)) searched ∙ found_limits t table
-
 pub limits_there : (t : List ℕ) (table others : Table) (limits : Option Limits) → limits ≡ limits_of table t → table ≡ others → limits ≡ limits_of others t
 limits_there t table others limits is same = is ∙ ap (λ (list : Table). limits_of list t) same

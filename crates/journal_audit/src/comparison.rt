@@ -24,8 +24,12 @@ use tenant_gate::{Age, Limits};
 fn limits_in(table: &[(Tenant, Limits)], tenant: &Tenant) -> Option<Limits>
     ensures { result ≡ limits_of table.now tenant.now }
 {
-    let entry = table.iter().find(|entry| tenant.text() == entry.0.text())?;
-    Some(entry.1)
+    'entries: for entry in table {
+        if tenant.text() == entry.0.text() {
+            return Some(entry.1);
+        }
+    }
+    None
 }
 
 /// The tenant's machine before any step, with the journal's limits and age.

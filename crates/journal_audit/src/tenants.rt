@@ -1,6 +1,6 @@
 //! Of whom an audit reports.
 
-ghost use Rattle.std.specs.Prelude.{◌≡◌, ◌∷◌, [], IfOk, OnOk};
+ghost use Rattle.std.specs.Prelude.{◌≡◌, ◌∷◌, [], IfOk, OnOk, Some};
 ghost use Rattle.std.specs.List.Sorted.{IsStrictlySortedBy};
 ghost use Rattle.grain_id.specs.Names.{text_cmp};
 ghost use Rattle.journal_audit.specs.Owners.{Gains, step_owners, reply_owners, row_owners};
@@ -8,7 +8,7 @@ ghost use Rattle.silo_event.specs.Owner.{owner_of, tenant_of};
 ghost use Rattle.silo_report.specs.Parts.{tenants_in, is_listed, ascending, owners_in};
 ghost use Rattle.tenant_gate.specs.Table.{names_of};
 
-use grain_id::{GrainId, Tenant};
+use grain_id::{Caller, GrainId, Tenant};
 use grain_storage::Row;
 use silo_event::{Party, Step};
 use std::alloc::{AllocError, Global};
@@ -16,22 +16,36 @@ use std::collections::BTreeSet;
 use tenant_audit::{Journal, RecordedReply};
 use tenant_gate::Limits;
 
+/// The tenant of the caller, who owns a step.
+fn tenant_of_caller(alloc: Global, caller: &Caller) -> Result<Option<Tenant>, AllocError>
+    ensures { IfOk result (λ owner. owner ≡ Some caller.now.tenant) }
+{
+    Ok(Some(caller.to_tenant(alloc)?))
+}
+
+/// The tenant of the grain, who owns a step.
+fn tenant_of_grain(alloc: Global, grain: &GrainId) -> Result<Option<Tenant>, AllocError>
+    ensures { IfOk result (λ owner. owner ≡ Some grain.now.tenant) }
+{
+    Ok(Some(grain.to_tenant(alloc)?))
+}
+
 /// Whose the step is, if it is anybody's.
 fn owner_in(alloc: Global, step: &Step) -> Result<Option<Tenant>, AllocError>
     ensures { IfOk result (λ owner. owner ≡ owner_of step.now) }
 {
     match step {
-        Step::Refuse { caller, .. } => Ok(Some(caller.to_tenant(alloc)?)),
-        Step::Call { caller, .. } => Ok(Some(caller.to_tenant(alloc)?)),
-        Step::Poke { caller, .. } => Ok(Some(caller.to_tenant(alloc)?)),
-        Step::Status { caller, .. } => Ok(Some(caller.to_tenant(alloc)?)),
-        Step::Deliver { grain } => Ok(Some(grain.to_tenant(alloc)?)),
-        Step::Activate { grain } => Ok(Some(grain.to_tenant(alloc)?)),
-        Step::Load { grain, .. } => Ok(Some(grain.to_tenant(alloc)?)),
-        Step::Begin { grain } => Ok(Some(grain.to_tenant(alloc)?)),
-        Step::Store { grain, .. } => Ok(Some(grain.to_tenant(alloc)?)),
-        Step::End { grain, .. } => Ok(Some(grain.to_tenant(alloc)?)),
-        Step::Abandon { grain, .. } => Ok(Some(grain.to_tenant(alloc)?)),
+        Step::Refuse { caller, .. } => tenant_of_caller(alloc, caller),
+        Step::Call { caller, .. } => tenant_of_caller(alloc, caller),
+        Step::Poke { caller, .. } => tenant_of_caller(alloc, caller),
+        Step::Status { caller, .. } => tenant_of_caller(alloc, caller),
+        Step::Deliver { grain } => tenant_of_grain(alloc, grain),
+        Step::Activate { grain } => tenant_of_grain(alloc, grain),
+        Step::Load { grain, .. } => tenant_of_grain(alloc, grain),
+        Step::Begin { grain } => tenant_of_grain(alloc, grain),
+        Step::Store { grain, .. } => tenant_of_grain(alloc, grain),
+        Step::End { grain, .. } => tenant_of_grain(alloc, grain),
+        Step::Abandon { grain, .. } => tenant_of_grain(alloc, grain),
         Step::Tick { .. } => Ok(None),
         Step::Sweep => Ok(None),
     }
