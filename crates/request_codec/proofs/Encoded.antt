@@ -1,9 +1,10 @@
 -- What was written as a message or a state is read as what it was written for.
 use Rattle.std.proofs.Common.{◌≡◌, ℕ, ◌≤◌, List, ◌∷◌, ◌++◌, length, Option, Some, sym, ap, ◌∙◌, arith}
-use Rattle.std.specs.Prelude.{IsUtf8}
+use Rattle.std.specs.Prelude.{ℤ, FitsSigned, IsUtf8}
+use Rattle.std.specs.Int.{w64}
 use Rattle.std.proofs.lemmas.Option.{same_Some}
 use Rattle.request_codec.specs.Limits.{depth_limit, message_limit, state_limit}
-use Rattle.request_codec.specs.Tree.{Tree, text, depth}
+use Rattle.request_codec.specs.Tree.{Tree, integer, text, depth}
 use Rattle.request_codec.specs.Written.{text_spelling, spelling}
 use Rattle.request_codec.specs.Formed.{IsFormed}
 use Rattle.request_codec.specs.Answers.{spelled_length, message_length}
@@ -31,3 +32,9 @@ unfolding spelling
 encoded_text items s valid few is =
     let size = length-spelling (text s) in
     encoded_state items (text s) (omega arith, valid) (is, omega (arith, few, size))
+
+-- a whole number is a state
+pub encoded_integer : (items : List ℕ) (i : ℤ) → FitsSigned w64 i → items ≡ spelling (integer i) → state_value items ≡ Some (integer i)
+encoded_integer items i fits is =
+    let size = length-spelling (integer i) in
+    encoded_state items (integer i) (omega arith, fits) (is, omega (arith, size))

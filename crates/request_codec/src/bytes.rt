@@ -3,5 +3,6 @@
 mod draft;
 mod start;
 
+pub use crate::value_end::value_end;
 pub use draft::{counted, put, put_start, put_text};
-pub use start::{Start, may_follow, start_of, text_of};
+pub use start::{Start, may_follow, start_of, text_of, u32_of};

@@ -2,7 +2,8 @@
 
 ghost use Rattle.std.specs.Prelude.{◌≡◌, ◌≤◌, ◌∷◌, length, IfOk};
 ghost use Rattle.request_codec.specs.Held.{held_bytes};
-ghost use Rattle.request_codec.specs.Written.{text_spelling};
+ghost use Rattle.request_codec.specs.Tree.{integer};
+ghost use Rattle.request_codec.specs.Written.{text_spelling, spelling};
 
 use std::alloc::{AllocError, Global};
 use std::sync::ArcSlice;
@@ -62,6 +63,16 @@ pub(crate) fn hold_text(alloc: Global, text: &[u8]) -> Result<Held, AllocError>
     spelled[1..5].copy_from_slice(&(count as u32).to_be_bytes());
     spelled[5..5 + count].copy_from_slice(text);
     hold_copy(alloc, &spelled[..5 + count])
+}
+
+/// The spelling of a whole number, held in place.
+#[tactic(auto, unfolding(crate::specs::Written::spelling))]
+pub(crate) fn hold_integer(number: i64) -> Held
+    ensures { held_bytes result ≡ spelling (integer number) }
+{
+    let mut spelled = [3; 9];
+    spelled[1..].copy_from_slice(&number.to_be_bytes());
+    hold_short(&spelled)
 }
 
 /// The bytes that are held.

@@ -1,7 +1,7 @@
 //! States.
 
 ghost use Rattle.std.specs.Prelude.{◌≡◌, Some, Err, IfOk, IsSome, decimal};
-ghost use Rattle.request_codec.specs.Tree.{Tree, text};
+ghost use Rattle.request_codec.specs.Tree.{Tree, integer, text};
 ghost use Rattle.request_codec.specs.Call.{state_value, value_of_state};
 ghost use Rattle.request_codec.specs.Spelling.{SpellsState};
 ghost use Rattle.std.specs.Prelude.{◌↔◌, IsTrue, bytes_eq};
@@ -12,7 +12,7 @@ ghost use Rattle.request_codec.specs.Answers.{Reads};
 ghost use Rattle.request_codec.specs.declared.fault.CodecFault.TheVariants as faults;
 
 use crate::fault::CodecFault;
-use crate::held::{Held, copy_held, hold, hold_copy, hold_text, show};
+use crate::held::{Held, copy_held, hold, hold_copy, hold_integer, hold_text, show};
 use crate::value_end::is_state;
 use itoa::Buffer;
 use std::alloc::{AllocError, Global};
@@ -74,6 +74,15 @@ impl StateBytes {
         Ok(StateBytes {
             held: hold_copy(alloc, bytes)?,
         })
+    }
+
+    /// The state that is a whole number, which takes no memory.
+    pub fn integer(number: i64) -> StateBytes
+        ensures { result ≡ integer number }
+    {
+        StateBytes {
+            held: hold_integer(number),
+        }
     }
 
     /// The state that is the decimal text of a number. Up to 17 digits take no memory.

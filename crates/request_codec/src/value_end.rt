@@ -11,7 +11,7 @@ use crate::limits::{MAX_DEPTH, MAX_MESSAGE_BYTES, MAX_STATE_BYTES};
 
 /// The bytes behind the value at the front, which is no deeper than the limit.
 #[cycle(ends)]
-fn value_end(bytes: &[u8], limit: u8) -> Option<&[u8]>
+pub fn value_end(bytes: &[u8], limit: u8) -> Option<&[u8]>
     ensures { option_map (λ rest. rest.now) result ≡ end_of (value_at limit bytes.now) }
 {
     if limit == 0 {

@@ -18,9 +18,10 @@ pub enum Start<'a> {
     Map(u32),
 }
 
+/// The number of four bytes at the front, high first, and the bytes after it.
 #[tactic(auto, unfolding(crate::specs::Reading::number_at))]
 #[inline(always)]
-fn u32_of(bytes: &[u8]) -> Option<(u32, &[u8])>
+pub fn u32_of(bytes: &[u8]) -> Option<(u32, &[u8])>
     ensures { option_map (λ x. (x.0, x.1.now)) result ≡ number_at w32 bytes.now }
 {
     if bytes.len() < 4 {
