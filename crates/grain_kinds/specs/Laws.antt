@@ -20,6 +20,11 @@ pub record FitsState (v : Tree) : Type 0 where
   pub depth_within : depth v ≤ depth_limit
   pub length_within : spelled_length v ≤ state_limit
 
+-- A value that keeps the form of a state, and is one level less deep than a state may be: the value of a field fits so.
+pub record FitsField (v : Tree) : Type 0 where
+  pub formed : IsFormed v
+  pub depth_within : depth v ≤ 31
+
 -- A call that keeps the limits of a message.
 pub record FitsMessage (call : Call) : Type 0 where
   pub method_formed : IsUtf8 call.method

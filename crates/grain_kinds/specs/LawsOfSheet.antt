@@ -13,18 +13,18 @@ use Rattle.request_codec.proofs.Spelled.{some_length}
 use Rattle.request_codec.specs.Answers.{spelled_length, members_length, fields_length}
 use Rattle.request_codec.specs.Call.{Call, asks}
 use Rattle.request_codec.specs.Formed.{IsFormed, AreFormed, FieldsFormed}
-use Rattle.request_codec.specs.Limits.{state_limit}
+use Rattle.request_codec.specs.Limits.{depth_limit, state_limit}
 use Rattle.request_codec.specs.Spelling.{IsBelowFirst}
 use Rattle.request_codec.specs.Tree as tree
 use Rattle.request_codec.specs.Tree.{Tree, null, truth, depth, members_depth, fields_depth, Members, Fields, no_fields, field}
-use Rattle.turn_arena.specs.Fields.{by_order, field_put, field_dropped}
+use Rattle.turn_arena.specs.Fields.{by_order, fields_in, field_put, field_dropped, value_put}
 use Rattle.grain_kinds.specs.declared.fault.MethodFault.{MethodFault}
 use Rattle.grain_kinds.specs.declared.fault.MethodFault.TheVariants.{TooLarge}
-use Rattle.grain_kinds.specs.Laws.{FitsState, ChangesNothing}
+use Rattle.grain_kinds.specs.Laws.{FitsState, FitsField, ChangesNothing}
 use Rattle.grain_kinds.specs.LawsOfForms.{ObeysLaws, null_fits, truth_fits, if_holds, keeps_obeys, keeps_changes_nothing, fault_obeys, becomes_obeys, for_null_obeys, for_null_changes_nothing, for_shape_obeys, shared_obeys}
 use Rattle.grain_kinds.specs.Held.{HoldsTwo, two_fields, two_fit, text_first}
 use Rattle.grain_kinds.specs.Shared.{keeps, for_shape, only_fields, text_value, text_field}
-use Rattle.grain_kinds.specs.Sheet.{fields_in, value_in, names_in, put_plan, get_plan, drop_plan, list_plan, put_argument, sheet_plan}
+use Rattle.grain_kinds.specs.Sheet.{value_in, names_in, put_plan, get_plan, drop_plan, list_plan, put_argument, sheet_plan}
 
 -- ---- the order of names
 
@@ -115,22 +115,22 @@ put_if argument (Some p) n v is e =
     let parts = text_first p.0 p.1 n v e in
     subst (λ (x : Tree). HoldsTwo x v argument) parts.0 (subst (λ (y : Tree). HoldsTwo p.0 y argument) parts.1 (two_fields (codes "name") (codes "value") argument p.0 p.1 is))
 
+-- the state with a field set keeps the form and the depth of a state, where the field's value is one level less deep
+pub put_fits : (state : Tree) (n : List ℕ) (v : Tree) → FitsState state → IsUtf8 n → FitsField v → IsFormed (value_put n v state) × (depth (value_put n v state) ≤ depth_limit)
+put_fits state n v fits named value =
+    let fields = fields_fit state fits in
+    (put_formed n v (fields_in state) named value.formed fields.formed, omega (arith, put_depth n v (fields_in state), value.depth_within, fields.depth_within))
+
 put_obeys : (state argument : Tree) (method n : List ℕ) (v : Tree) → put_argument argument ≡ Some (n, v) → ObeysLaws state (asks method argument) (put_plan state (n, v))
 put_obeys state argument method n v held =
     let two = put_if argument _ n v refl held in
-    let sheet = tree.map (field_put n v (fields_in state)) in
+    let sheet = value_put n v state in
     if_holds (ObeysLaws state (asks method argument)) (nat_lt state_limit (spelled_length sheet)) _ _
     (λ large. fault_obeys state (asks method argument) TooLarge)
     (λ small. becomes_obeys state (asks method argument) sheet null (λ s m.
-    let fits = two_fit method (tree.text n) v argument two m in
-    let fields = fields_fit state s in (
-      record {
-        formed = put_formed n v (fields_in state) fits.first_formed fits.second_formed fields.formed;
-        depth_within = omega (arith, put_depth n v (fields_in state), fits.second_depth, fields.depth_within);
-        length_within = ltb-false state_limit (spelled_length sheet) small;
-      },
-      null_fits,
-    )))
+    let two = two_fit method (tree.text n) v argument two m in
+    let fits = put_fits state n v s two.first_formed (record { formed = two.second_formed; depth_within = two.second_depth }) in
+    (record { formed = fits.0; depth_within = fits.1; length_within = ltb-false state_limit (spelled_length sheet) small }, null_fits)))
 
 -- ---- get, drop and list
 

@@ -12,15 +12,10 @@ use Rattle.request_codec.specs.Answers.{spelled_length}
 use Rattle.request_codec.specs.Limits.{state_limit}
 use Rattle.request_codec.specs.Tree as tree
 use Rattle.request_codec.specs.Tree.{Tree, null, truth, text, list, Members, no_members, member, Fields, no_fields, field}
-use Rattle.turn_arena.specs.Fields.{field_put, field_dropped}
+use Rattle.turn_arena.specs.Fields.{fields_in, field_dropped, value_put}
 use Rattle.grain_kinds.specs.declared.fault.MethodFault.TheVariants.{TooLarge}
 use Rattle.grain_kinds.specs.Logic.{Plan}
 use Rattle.grain_kinds.specs.Shared.{keeps, becomes, for_shape, for_null, text_value, text_field, only_fields, shared_plan}
-
--- the fields of a sheet
-abbrev pub fields_in : Tree → Fields
-fields_in (tree.map fs) = fs
-fields_in _ = no_fields
 
 -- the value of this name, where there is one
 abbrev pub value_in : List ℕ → Fields → Option Tree
@@ -37,7 +32,7 @@ abbrev pub set_to : Tree → Tree → Plan
 set_to state sheet = if nat_lt state_limit (spelled_length sheet) then keeps state (Err TooLarge) else becomes sheet null
 
 abbrev pub put_plan : Tree → List ℕ × Tree → Plan
-put_plan state put = set_to state (tree.map (field_put put.0 put.1 (fields_in state)))
+put_plan state put = set_to state (value_put put.0 put.1 state)
 
 abbrev pub get_plan : Tree → List ℕ → Plan
 get_plan state name = keeps state (Ok (unwrap_or (value_in name (fields_in state)) null))

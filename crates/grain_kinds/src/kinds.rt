@@ -128,4 +128,12 @@ impl GrainLogic for Kinds {
     ) -> Result<Plan<'a>, AllocError> {
         plan_by(alloc, bump, kind, method, state, args)
     }
+
+    #[tactic(auto, unfolding(crate::specs::Kinds::kinds))]
+    fn sets<'a>(&self, kind: &str, method: &str, args: Node<'a>) -> Option<(&'a str, Node<'a>)> {
+        if kind == "sheet" {
+            return sheet::sets(method, args);
+        }
+        None
+    }
 }

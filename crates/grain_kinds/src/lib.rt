@@ -19,6 +19,7 @@ mod logic;
 mod plan;
 mod reading;
 mod relay;
+mod setting;
 pub mod shared;
 mod sheet;
 mod turn;

@@ -8,11 +8,13 @@ use turn_arena::Node;
 
 /// What grains do with their messages. The functions belong to the type: two values of one type plan alike.
 pub trait GrainLogic {
-    ghost use Rattle.std.specs.Prelude.{◌≡◌, true, IfOk};
+    ghost use Rattle.std.specs.Prelude.{◌≡◌, true, IfOk, IfSome};
     ghost use Rattle.request_codec.specs.Call.{asks};
     ghost use Rattle.turn_arena.specs.NodeValue.{node_value};
     ghost use Rattle.grain_kinds.specs.Logic.{Logic};
-    ghost use Rattle.grain_kinds.specs.Laws.{IsLawful, FitsState, FitsMessage};
+    ghost use Rattle.request_codec.specs.Tree.{Tree};
+    ghost use Rattle.grain_kinds.specs.Laws.{IsLawful, FitsState, FitsMessage, FitsField};
+    ghost use Rattle.grain_kinds.specs.Sheet.{put_plan};
     ghost use Rattle.grain_kinds.specs.Planned.{plan_shown};
 
     ghost logic: { Logic };
@@ -43,6 +45,17 @@ pub trait GrainLogic {
         requires state_fits { FitsState (node_value state) }
         requires call_fits { FitsMessage (asks method.now (node_value args)) }
         ensures { IfOk result (λ plan. plan_shown (node_value state.entry) plan ≡ logic.plan kind.now method.now (node_value state.entry) (node_value args.entry)) };
+
+    /// The name and the value, if setting that field of the state is all that a turn of the method does: its plan is
+    /// that of a sheet's `put`, whatever the state. A turn that is told so writes the field's bytes among the others',
+    /// which are neither read nor written again. A logic needn't say so.
+    fn sets<'a>(&self, _kind: &str, _method: &str, _args: Node<'a>) -> Option<(&'a str, Node<'a>)>
+        requires { FitsMessage (asks _method.now (node_value _args)) }
+        ensures sets { IfSome result (λ put. (state : Tree) → logic.plan _kind.now _method.now state (node_value _args.entry) ≡ put_plan state (put.0.now, node_value put.1)) }
+        ensures fits { IfSome result (λ put. FitsField (node_value put.1)) }
+    {
+        None
+    }
 
     // The laws of a logic.
     ghost lawful: { IsLawful logic };

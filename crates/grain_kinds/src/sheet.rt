@@ -1,14 +1,17 @@
 //! The kind `sheet`.
 
-ghost use Rattle.std.specs.Prelude.{◌≡◌, option_map, IfOk};
+ghost use Rattle.std.specs.Prelude.{◌≡◌, option_map, IfOk, IfSome};
 ghost use Rattle.request_codec.specs.Tree as tree;
 ghost use Rattle.request_codec.specs.Tree.{Tree};
 ghost use Rattle.turn_arena.specs.Ascending.{NamesAscend, MapsAscend};
+ghost use Rattle.turn_arena.specs.Fields.{fields_in};
 ghost use Rattle.turn_arena.specs.NodeValue.{node_value, field_values};
+ghost use Rattle.request_codec.specs.Call.{asks};
+ghost use Rattle.grain_kinds.specs.Laws.{FitsMessage, FitsField};
 ghost use Rattle.grain_kinds.specs.Planned.{plan_shown};
 ghost use Rattle.grain_kinds.specs.Shared.{for_null, for_shape, text_field};
 ghost use Rattle.grain_kinds.specs.Sheet as sheet;
-ghost use Rattle.grain_kinds.specs.Sheet.{fields_in, value_in, names_in, sheet_plan};
+ghost use Rattle.grain_kinds.specs.Sheet.{value_in, names_in, put_plan, sheet_plan};
 
 use crate::arguments::{is_null, only_fields, text_field, text_value};
 use crate::fault::MethodFault;
@@ -46,6 +49,19 @@ pub(crate) fn plan_of<'a>(
         return list_names(alloc, bump, fields, args);
     }
     Ok(shared_plan(alloc, method, args))
+}
+
+/// The name and the value that a turn of the method sets, if it does that alone: `put` does, if its argument has the shape.
+#[tactic(auto, unfolding(crate::specs::Sheet::sheet_plan))]
+pub(crate) fn sets<'a>(method: &str, args: Node<'a>) -> Option<(&'a str, Node<'a>)>
+    requires { FitsMessage (asks method.now (node_value args)) }
+    ensures sets { IfSome result (λ put. (state : Tree) → sheet_plan method.now state (node_value args.entry) ≡ put_plan state (put.0.now, node_value put.1)) }
+    ensures fits { IfSome result (λ put. FitsField (node_value put.1)) }
+{
+    if method == "put" {
+        return put_argument(args);
+    }
+    None
 }
 
 /// The fields of a sheet. A state that is no map counts as the empty one.

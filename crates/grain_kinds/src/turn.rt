@@ -2,12 +2,14 @@
 
 ghost use Rattle.std.specs.Prelude.{◌≡◌, map, IfOk, MatchResult};
 ghost use Rattle.grain_kinds.specs.Finished.{planned_shown, sent, turn_plan};
+ghost use Rattle.grain_kinds.specs.Laws.{FitsState};
 ghost use Rattle.grain_kinds.specs.Planned.{storage_call};
 
 use crate::fault::MethodFault;
 use crate::logic::GrainLogic;
 use crate::plan::StoreCall;
 use crate::reading::{asked_in, state_in};
+use crate::setting::set_planned;
 use crate::writing::written;
 use bumpalo::Bump;
 use grain_id::GrainId;
@@ -61,7 +63,9 @@ impl<L: GrainLogic> Model for FinishedTurn<L> {
 }
 
 /// How many bytes the state after the turn has about: what a message adds to it is mostly no longer than the message.
-fn room_for(opened: &OpenedTurn) -> usize {
+fn room_for(opened: &OpenedTurn) -> usize
+    ensures { FitsState opened.now.state }
+{
     let state = opened.state.bytes().len();
     state.saturating_add(opened.message.bytes().len())
 }
@@ -75,10 +79,15 @@ fn planned_by<L: GrainLogic>(
 ) -> Result<Planned, AllocError>
     ensures { IfOk result (λ planned. planned_shown opened.now.state planned ≡ turn_plan L.logic opened.now) }
 {
+    let room = room_for(opened);
+    let kind = opened.grain.kind();
     let (method, argument) = asked_in(bump, &opened.message)?;
+    if let Some((name, value)) = logic.sets(kind, method, argument) {
+        return set_planned(alloc, room, &opened.state, name, value);
+    }
     let state = state_in(bump, &opened.state)?;
-    let plan = logic.plan(alloc, bump, opened.grain.kind(), method, state, argument)?;
-    written(alloc, room_for(opened), plan)
+    let plan = logic.plan(alloc, bump, kind, method, state, argument)?;
+    written(alloc, room, plan)
 }
 
 /// Makes the plan of a turn. If memory is refused, the opened turn comes back.

@@ -330,6 +330,17 @@ fn a_number_has_its_text_as_a_state(rt: HostRuntime) -> Result<(), Fail> {
 }
 
 #[test]
+fn a_whole_number_is_a_state(rt: HostRuntime) -> Result<(), Fail> {
+    assert_eq!(rt;
+        StateBytes::integer(-2).bytes(),
+        b"\x03\xff\xff\xff\xff\xff\xff\xff\xfe".as_slice()
+    );
+    let least = value_of(rt.alloc(), &StateBytes::integer(i64::MIN))?;
+    assert_eq!(rt; least.as_str(), "-9223372036854775808");
+    Ok(())
+}
+
+#[test]
 fn a_shared_state_is_the_same(rt: HostRuntime) -> Result<(), Fail> {
     let alloc = rt.alloc();
     let shared = SharedState::new(alloc, state(alloc, "{\"a\":[1,2]}")?)?;

@@ -15,7 +15,7 @@ use std::test::Fail;
 const FOUR: &str = "[\"counter/red:b\",\"counter/red:c\",\"counter/red:d\",\"counter/red:e\"]";
 
 /// A kind, a state, a method and its argument; the answer, and the state after it.
-const ANSWERS: [(&str, &str, &str, &str, &str, &str); 15] = [
+const ANSWERS: [(&str, &str, &str, &str, &str, &str); 18] = [
     ("counter", "2", "add", "{\"by\":3}", "5", "5"),
     ("counter", "null", "add", "{\"by\":3}", "3", "3"),
     ("counter", "2", "get", "null", "2", "2"),
@@ -26,6 +26,30 @@ const ANSWERS: [(&str, &str, &str, &str, &str, &str); 15] = [
         "{\"name\":\"b\",\"value\":true}",
         "null",
         "{\"b\":true}",
+    ),
+    (
+        "sheet",
+        "{\"b\":true,\"d\":[1]}",
+        "put",
+        "{\"name\":\"c\",\"value\":{\"x\":2}}",
+        "null",
+        "{\"b\":true,\"c\":{\"x\":2},\"d\":[1]}",
+    ),
+    (
+        "sheet",
+        "{\"b\":true,\"c\":{\"x\":2},\"d\":[1]}",
+        "put",
+        "{\"name\":\"c\",\"value\":\"y\"}",
+        "null",
+        "{\"b\":true,\"c\":\"y\",\"d\":[1]}",
+    ),
+    (
+        "sheet",
+        "{\"b\":true}",
+        "put",
+        "{\"name\":\"bb\",\"value\":-7}",
+        "null",
+        "{\"b\":true,\"bb\":-7}",
     ),
     (
         "sheet",

@@ -2,4 +2,6 @@ pub mod PartAnswers
 pub mod Ascends
 pub mod Levels
 pub mod FieldPlaces
+pub mod MapBytes
+pub mod NamePlaces
 pub mod Known

@@ -5,8 +5,14 @@ use Rattle.std.specs.List.{AllWithin, HoldsAt}
 use Rattle.std.specs.Ordering.{nat_cmp}
 use Rattle.std.specs.declared.cmp.Ordering.{Ordering}
 use Rattle.std.specs.declared.cmp.Ordering.TheVariants.{Less, Equal, Greater}
+use Rattle.request_codec.specs.Tree as tree
 use Rattle.request_codec.specs.Tree.{Tree, Fields, no_fields, field}
 use Rattle.turn_arena.specs.declared.node.Field.{Field}
+
+-- the fields of a value; one that is no map has none
+abbrev pub fields_in : Tree → Fields
+fields_in (tree.map fs) = fs
+fields_in _ = no_fields
 
 -- where a name goes by its order to the next one: before it, in its place, or behind it
 abbrev pub by_order : {A : Type 0} → Ordering → A → A → A → A
@@ -18,6 +24,10 @@ by_order Greater before here behind = behind
 abbrev pub field_put : List ℕ → Tree → Fields → Fields
 field_put n v no_fields = field n v no_fields
 field_put n v (field m w fs) = by_order (slice_cmp nat_cmp n m) (field n v (field m w fs)) (field n v fs) (field m w (field_put n v fs))
+
+-- the map of a value's fields with this one set
+abbrev pub value_put : List ℕ → Tree → Tree → Tree
+value_put n v whole = tree.map (field_put n v (fields_in whole))
 
 -- the fields without the one of this name
 abbrev pub field_dropped : List ℕ → Fields → Fields

@@ -1,38 +1,23 @@
 //! Reading bytes that are known to be a state's or a message's: nothing of that is tested again, and texts are lent.
 
 ghost use Rattle.std.specs.Prelude.{◌≡◌, Some, None, IsSome, IfOk, option_map};
-ghost use Rattle.std.specs.Int.{w32};
 ghost use Rattle.request_codec.specs.Call.{message_call, state_value, asks};
-ghost use Rattle.request_codec.specs.Reading.{number_at, text_at, value_at, members_at, fields_at};
+ghost use Rattle.request_codec.specs.Reading.{text_at, value_at, members_at, fields_at};
 ghost use Rattle.request_codec.specs.Start.{begun, start_at};
 ghost use Rattle.turn_arena.specs.NodeValue.{node_value, node_values, field_values};
 
 use crate::node::{Field, Node};
 use bumpalo::Bump;
 use bumpalo::collections::into_bump_slice;
-use request_codec::bytes::{Start, start_of};
+use request_codec::bytes::{Start, start_of, u32_of};
 use request_codec::limits::MAX_DEPTH;
 use std::alloc::AllocError;
 use std::str;
 
-/// The number of four bytes at the front, high first, and the bytes after it.
-#[tactic(auto, unfolding(request_codec::specs::Reading::number_at))]
-#[inline(always)]
-fn u32_of(bytes: &[u8]) -> Option<(u32, &[u8])>
-    ensures { option_map (λ x. (x.0, x.1.now)) result ≡ number_at w32 bytes.now }
-{
-    if bytes.len() < 4 {
-        return None;
-    }
-    let (front, rest) = bytes.split_at(4);
-    let number = u32::from_be_bytes([front[0], front[1], front[2], front[3]]);
-    Some((number, rest))
-}
-
 /// The text that is known to stand at the front, and the bytes after it. That it is UTF-8 is known too.
 #[tactic(auto, unfolding(request_codec::specs::Reading::text_at))]
 #[inline(always)]
-fn known_text(bytes: &[u8]) -> Option<(&str, &[u8])>
+pub(crate) fn known_text(bytes: &[u8]) -> Option<(&str, &[u8])>
     requires { IsSome (text_at bytes.now) }
     ensures { option_map (λ x. (x.0.now, x.1.now)) result ≡ text_at bytes.now }
 {

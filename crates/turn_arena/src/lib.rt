@@ -15,6 +15,7 @@ mod node_builder;
 mod node_reader;
 mod node_writer;
 mod reading;
+mod setting;
 mod trees;
 mod writing;
 
@@ -23,6 +24,7 @@ pub use fields::{drop_in, put_in};
 pub use formed::{formed_call_in, formed_in};
 pub use node::{Field, Node};
 pub use reading::{decode_in, node_in};
+pub use setting::put_spelled;
 pub use trees::{list_in, map_in, text_in};
 pub use writing::{encode_call, encode_formed, encode_node};
 

@@ -12,7 +12,7 @@ use request_codec::bytes::{Start, counted, put, put_start, put_text};
 
 /// Puts the first byte of a value and a count at the end, in one go.
 #[inline(always)]
-fn put_counted(out: &mut Vec<u8>, limit: usize, first: u8, count: u32) -> Result<(), CodecFault>
+pub fn put_counted(out: &mut Vec<u8>, limit: usize, first: u8, count: u32) -> Result<(), CodecFault>
     requires { length out.old.items ≤ limit }
     ensures { Puts limit out.old.items out.new.items result (first ∷ to_be_bytes w32 count) }
 {

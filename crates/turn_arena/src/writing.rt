@@ -64,14 +64,17 @@ pub fn encode_node(alloc: Global, node: Node<'_>) -> Result<StateBytes, CodecFau
 }
 
 /// The state of a value that is known to fit one, which is not tested again: `encode_node`'s, and the only error is
-/// that memory was refused. It is written into room for `room` bytes, which grows if they are more: whoever knows about
-/// how long the state gets spares its writing to grow.
+/// that memory was refused. A whole number takes none. Any other value is written into room for `room` bytes, which grows
+/// if they are more: whoever knows about how long the state gets spares its writing to grow.
 pub fn encode_formed(alloc: Global, room: usize, node: Node<'_>) -> Result<StateBytes, AllocError>
     requires formed { IsFormed (node_value node) }
     requires shallow { depth (node_value node) ≤ depth_limit }
     requires short { spelled_length (node_value node) ≤ state_limit }
     ensures { IfOk result (λ state. state ≡ node_value node.entry) }
 {
+    if let Node::Int(number) = node {
+        return Ok(StateBytes::integer(number));
+    }
     match state_bytes(alloc, room, node) {
         Ok(bytes) => Ok(StateBytes::from_spelling(bytes)?),
         Err(CodecFault::Memory) => Err(AllocError),

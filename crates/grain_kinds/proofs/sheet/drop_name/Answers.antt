@@ -4,7 +4,8 @@ use Rattle.request_codec.specs.Tree as tree
 use Rattle.turn_arena.proofs.Levels.{node_value-Bool, node_value-Map}
 use Rattle.turn_arena.specs.Fields.{field_dropped}
 use Rattle.grain_kinds.specs.Shared.{becomes}
-use Rattle.grain_kinds.specs.Sheet.{fields_in, value_in}
+use Rattle.turn_arena.specs.Fields.{fields_in}
+use Rattle.grain_kinds.specs.Sheet.{value_in}
 use Rattle.grain_kinds.proofs.Fields.{is_some-node_value}
 use Rattle.grain_kinds.proofs.sheet.drop_name.Goals as goal
 
