@@ -23,7 +23,7 @@ use Rattle.turn_arena.specs.declared.setting.Place.{Place}
 put_spelling_by : (o : Ordering) (n m : List ℕ) (v w : Tree) (fs : Fields)
     → fields_spelling (field_put n v fs) ≡ fields_spelling (fields_front n fs) ++ (text_spelling n ++ (spelling v ++ fields_spelling (fields_behind n fs)))
     → fields_spelling (by_order o (field n v (field m w fs)) (field n v fs) (field m w (field_put n v fs)))
-      ≡ fields_spelling (by_order o no_fields no_fields (field m w (fields_front n fs))) ++ (text_spelling n ++ (spelling v ++ fields_spelling (by_order o (field m w fs) fs (fields_behind n fs))))
+    ≡ fields_spelling (by_order o no_fields no_fields (field m w (fields_front n fs))) ++ (text_spelling n ++ (spelling v ++ fields_spelling (by_order o (field m w fs) fs (fields_behind n fs))))
 unfolding spelling
 put_spelling_by Less n m v w fs h = refl
 put_spelling_by Equal n m v w fs h = refl

@@ -41,9 +41,11 @@ returns-in-Equal c =
 
 pub fields-preserved : goal.fields-preserved
 fields-preserved c =
-    let l = c.fields in
-    (_, pass_next c.args.name.now (fields_in c.args.state.now) c.fields_of-count.result.1.now l.counter l.left.now l.invariant.0 l.invariant.1 (omega (arith, c.fields-test.true, c.fields_of-count.ensures.count)) c.in-Some.other.now c.in-Some.value.now (sym c.in-Some.ensures)
-    c.in-Some-value_end.after.now c.in-Some-value_end.ensures (sym c.in-Greater.ensures))
+    let l = c.fields in (
+      _,
+      pass_next c.args.name.now (fields_in c.args.state.now) c.fields_of-count.result.1.now l.counter l.left.now l.invariant.0 l.invariant.1 (omega (arith, c.fields-test.true, c.fields_of-count.ensures.count)) c.in-Some.other.now c.in-Some.value.now (sym c.in-Some.ensures)
+          c.in-Some-value_end.after.now c.in-Some-value_end.ensures (sym c.in-Greater.ensures),
+    )
 
 pub returns : goal.returns
 returns c =
