@@ -8,14 +8,14 @@ use Rattle.std.specs.Prelude.{string_bytes, bytes_eq, map as map_list}
 use Rattle.std.specs.Ordering.{eq_by_cmp, is_eq, nat_cmp}
 use Rattle.std.specs.Cmp.{eq_by_cmp_equiv}
 use Rattle.std.specs.Cmp.Lexicographic.{slice_cmp}
-use Rattle.std.specs.String.{string_cmp}
+use Rattle.std.specs.String.{string_eq}
 use Rattle.std.specs.FinMap as map
 use Rattle.std.specs.FinMap.{find}
 use Rattle.std.specs.Map.{lookup}
-use Rattle.std.specs.BTreeMap.{BTreeMap, get_by_text, UpdatesBy}
+use Rattle.indexmap.specs.IndexMap.{IndexMap, get_by_text, UpdatesBy}
 use Rattle.std.specs.declared.string.String.{String}
 use Rattle.std.specs.declared.alloc.Global.{Global}
-use Rattle.std.proofs.lemmas.Map.Text.{btree_map_updates_text}
+use Rattle.std.proofs.lemmas.Map.Text.{hash_map_updates_text, is_eq-slice_cmp}
 use Rattle.grain_id.specs.Names.{text_cmp, same_text}
 use Rattle.grain_id.proofs.Order.{text_cmp_total, text_cmp_exact, same_text_decides, ties_from_Decides}
 use Rattle.grain_id.proofs.ByGrain.{text_alike}
@@ -25,20 +25,22 @@ use Rattle.silo_body.specs.Accounts.{by_bytes}
 name_ties : (t q : List ℕ) → bytes_eq t q ≡ eq_by_cmp text_cmp q t
 name_ties t q = ties_from_Decides same_text text_cmp_total text_cmp_exact same_text_decides t q ∙ (eq_by_cmp_equiv text_cmp_total).symm t q
 
-module _ {X : Type 0} where
-  find-lookup : (t : List ℕ) (es : List (String Global × X)) → find text_cmp t (map_list (λ e. (string_bytes e.0, e.1)) es) ≡ lookup (λ k. is_eq (slice_cmp nat_cmp t (string_bytes k))) es
+module _ {X S : Type 0} where
+  find-lookup : (t : List ℕ) (es : List (String Global × X)) → find text_cmp t (map_list (λ e. (string_bytes e.0, e.1)) es) ≡ lookup (λ k. bytes_eq t (string_bytes k)) es
   find-lookup t [] = refl
-  find-lookup t (e ∷ es) = ap (cond (is_eq (slice_cmp nat_cmp t (string_bytes e.0))) (Some e.1)) (find-lookup t es)
+  find-lookup t (e ∷ es) =
+      ap (cond (is_eq (slice_cmp nat_cmp t (string_bytes e.0))) (Some e.1)) (find-lookup t es)
+      ∙ ap (λ b. cond b (Some e.1) (lookup (λ k. bytes_eq t (string_bytes k)) es)) (is_eq-slice_cmp t (string_bytes e.0))
 
   -- what is found by a name
-  pub get-by_bytes : (m : BTreeMap (String Global) X) (t : List ℕ) → map.get (by_bytes m) t ≡ get_by_text m t
+  pub get-by_bytes : (m : IndexMap (String Global) X S) (t : List ℕ) → map.get (by_bytes m) t ≡ get_by_text m t
   get-by_bytes m t = map.get-from_entries text_cmp_total (map_list (λ e. (string_bytes e.0, e.1)) m.entries) t ∙ find-lookup t m.entries
 
   -- a map with another value at a name
-  pub by_bytes-updated : (m n : BTreeMap (String Global) X) (t : List ℕ) (v : X) → UpdatesBy string_cmp (λ k. slice_cmp nat_cmp t (string_bytes k)) m n (Some v) → by_bytes n ≡ map.insert (by_bytes m) t v
+  pub by_bytes-updated : (m n : IndexMap (String Global) X S) (t : List ℕ) (v : X) → UpdatesBy string_eq (λ k. bytes_eq t (string_bytes k)) m n (Some v) → by_bytes n ≡ map.insert (by_bytes m) t v
   by_bytes-updated m n t v u = text_alike _ _ (λ q.
       get-by_bytes n q
-      ∙ btree_map_updates_text t m n (Some v) u q
+      ∙ hash_map_updates_text t m n (Some v) u q
       ∙ ap (λ b. cond b (Some v) (get_by_text m q)) (name_ties t q)
       ∙ ap (cond (eq_by_cmp text_cmp q t) (Some v)) (sym (get-by_bytes m q))
       ∙ sym (map.get-insert text_cmp_total (by_bytes m) t v q))

@@ -4,7 +4,7 @@ ghost use Rattle.std.specs.Prelude.{◌≡◌, IfOk, OnOk, OnErr, map as map_lis
 ghost use Rattle.std.specs.Option.{option_copied, option_copied_mut};
 ghost use Rattle.std.specs.Borrow.{sem};
 ghost use Rattle.std.specs.FinMap as map;
-ghost use Rattle.std.specs.BTreeMap.{get_by_text};
+ghost use Rattle.indexmap.specs.IndexMap.{get_by_text};
 ghost use Rattle.grain_id.specs.Names.{same_text};
 ghost use Rattle.silo_model.specs.Effect.{change_at};
 ghost use Rattle.silo_model.specs.Opening.{fresh_account, fresh_accounts};
@@ -12,17 +12,18 @@ ghost use Rattle.silo_body.specs.Sends.{send_of, with_more};
 
 use crate::account::{Account, Sent};
 use grain_id::Tenant;
+use indexmap::IndexMap;
 use std::alloc::{AllocError, Global};
-use std::collections::{BTreeMap, VecDeque};
+use std::collections::VecDeque;
 use std::marker::Model;
 use tenant_gate::{Limits, TenantTable};
 
 mod changes;
 
-/// The accounts of the known tenants, by the tenants' names.
+/// The accounts of the known tenants, found by the hash of the tenant's name.
 #[derive(Drop)]
 pub struct Accounts {
-    by_name: BTreeMap<String, Account>,
+    by_name: IndexMap<String, Account>,
 }
 
 impl Model for Accounts {
@@ -48,7 +49,7 @@ impl Accounts {
     pub fn new(alloc: Global, table: &TenantTable) -> Result<Accounts, AllocError>
         ensures { IfOk result (λ a. a ≡ fresh_accounts table.now) }
     {
-        let mut by_name = BTreeMap::new(alloc);
+        let mut by_name = IndexMap::new(alloc);
         for (tenant, limits) in table.list() {
             if !by_name.contains_key(tenant.text()) {
                 add(alloc, &mut by_name, tenant, *limits)?;
@@ -99,7 +100,7 @@ impl Accounts {
 /// Adds the account of a tenant that has none.
 fn add(
     alloc: Global,
-    by_name: &mut BTreeMap<String, Account>,
+    by_name: &mut IndexMap<String, Account>,
     tenant: &Tenant,
     limits: Limits,
 ) -> Result<(), AllocError>

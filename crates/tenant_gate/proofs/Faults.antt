@@ -9,7 +9,7 @@ use Rattle.tenant_gate.specs.declared.fault.TableFault.{TableFault}
 use Rattle.tenant_gate.specs.declared.fault.TableFault.TheVariants as faults
 use Rattle.tenant_gate.specs.Table.{Table, table_fault, first_repeat, first_out_of_range, names_of, most_tenants, are_in_range, limits_of}
 use Rattle.tenant_gate.specs.Answers.{TableAnswers}
-use Rattle.tenant_gate.specs.Index.{IndexAnswers}
+use Rattle.tenant_gate.specs.Index.{IndexRefused}
 
 module _ (list : Table) where
   abbrev by_name : Option TableFault
@@ -39,7 +39,7 @@ module _ (list : Table) where
     fault_later e found is = fault_within ∙ ap (λ o. option_or (option_map faults.Twice o) (option_map faults.Range (first_out_of_range list))) e ∙ ap (option_map faults.Range) (sym is)
 
     -- what making the index refuses, the list refuses
-    pub TableAnswers-index : (fault : TableFault) → IndexAnswers list (Err fault) → TableAnswers list (Err fault)
+    pub TableAnswers-index : (fault : TableFault) → IndexRefused list fault → TableAnswers list (Err fault)
     TableAnswers-index faults.Empty a = absurd a
     TableAnswers-index faults.TooMany a = absurd a
     TableAnswers-index (faults.Twice tenant) a = fault_twice tenant a

@@ -4,7 +4,7 @@ use Rattle.std.specs.Prelude.{String}
 use Rattle.std.specs.declared.alloc.Global.{Global}
 use Rattle.std.specs.List.{list_any}
 use Rattle.std.specs.Option.{option_or}
-use Rattle.std.specs.BTreeMap.{BTreeMap, get_by_text}
+use Rattle.indexmap.specs.IndexMap.{IndexMap, get_by_text}
 use Rattle.std.proofs.lemmas.List.{take_more, map-append}
 use Rattle.std.proofs.Math.Seq.{drop-cons}
 use Rattle.grain_id.specs.Names.{same_text}
@@ -48,12 +48,12 @@ same_from a b e = (same_text_decides a b).0 e
 same_back : (a b : List ℕ) → same_text a b ≡ true → same_text b a ≡ true
 same_back a b e = (same_text_decides b a).1 (sym (same_from a b e))
 
-module _ (table : Table) (index : BTreeMap (String Global) Limits) (has : HasLimits table index) (name : List ℕ) where
+module _ {S : Type 0} (table : Table) (index : IndexMap (String Global) Limits S) (has : HasLimits table index) (name : List ℕ) where
   pub is_some-get : is_some (get_by_text index name) ≡ list_any (same_text name) (names_of table)
   is_some-get = ap is_some (has name) ∙ is_some-limits_of table name
 
   -- the index of one more tenant
-  pub HasLimits-push : (limits : Limits) (more : BTreeMap (String Global) Limits) → is_some (get_by_text index name) ≡ false
+  pub HasLimits-push : (limits : Limits) (more : IndexMap (String Global) Limits S) → is_some (get_by_text index name) ≡ false
       → ((q : List ℕ) → get_by_text more q ≡ (if same_text name q then Some limits else get_by_text index q)) → HasLimits (table ++ (name, limits) ∷ []) more
   HasLimits-push limits more absent put q = put q ∙ at (same_text name q) refl (same_text q name) refl ∙ sym (limits_of-push table name limits q)
     where

@@ -3,7 +3,7 @@
 ghost use Rattle.std.specs.Prelude.{◌≡◌, ℕ, List, [], OnOk, IfSome, IsTrue, None, Some, if◌then◌else◌};
 ghost use Rattle.grain_id.specs.Names.{same_text};
 ghost use Rattle.std.specs.Option.{option_map};
-ghost use Rattle.std.specs.BTreeMap.{get_by_text};
+ghost use Rattle.indexmap.specs.IndexMap.{get_by_text};
 ghost use Rattle.tenant_gate.specs.Table.{table_fault, limits_of, call_fault, are_in_range, first_out_of_range};
 ghost use Rattle.tenant_gate.specs.Answers.{TableAnswers, CallAnswers};
 ghost use Rattle.tenant_gate.specs.Index.{IndexAnswers};
@@ -11,8 +11,8 @@ ghost use Rattle.tenant_gate.specs.Index.{IndexAnswers};
 use crate::fault::{GateFault, TableFault};
 use crate::limits::{Limits, MAX_TENANTS};
 use grain_id::{GrainId, Tenant};
+use indexmap::IndexMap;
 use std::alloc::{AllocError, Global};
-use std::collections::BTreeMap;
 use std::marker::Model;
 
 /// The tenants that a silo serves, 1 to 1,000 of them, each with its limits. It doesn't change.
@@ -20,7 +20,7 @@ use std::marker::Model;
 pub struct TenantTable {
     list: Vec<(Tenant, Limits)>,
     /// The same limits, by the tenants' names.
-    index: BTreeMap<String, Limits>,
+    index: IndexMap<String, Limits>,
 }
 
 impl Model for TenantTable {
@@ -70,8 +70,8 @@ impl TenantTable {
         self.list.as_slice()
     }
 
-    /// The limits of the tenant of that name, or none where the table hasn't the tenant. Takes no
-    /// memory, and time that grows with the logarithm of the number of tenants.
+    /// The limits of the tenant of that name, or none where the table hasn't the tenant. They are found by the
+    /// name's hash, which takes no memory.
     pub fn limits(&self, tenant: &str) -> Option<Limits>
         ensures limits { result ≡ limits_of self.now tenant.now }
         ensures in_range { IfSome result (λ limits. IsTrue (are_in_range limits)) }
@@ -117,10 +117,10 @@ fn out_of_range(list: &[(Tenant, Limits)]) -> Option<&Tenant>
 fn index_of(
     alloc: Global,
     list: &[(Tenant, Limits)],
-) -> Result<BTreeMap<String, Limits>, TableFault>
+) -> Result<IndexMap<String, Limits>, TableFault>
     ensures { IndexAnswers list.now result }
 {
-    let mut index = BTreeMap::new(alloc);
+    let mut index = IndexMap::new(alloc);
     for (tenant, limits) in list {
         if index.contains_key(tenant.text()) {
             return Err(TableFault::Twice(tenant.clone()?));
@@ -133,7 +133,7 @@ fn index_of(
 /// Adds the limits of a tenant that isn't there.
 fn add(
     alloc: Global,
-    index: &mut BTreeMap<String, Limits>,
+    index: &mut IndexMap<String, Limits>,
     tenant: &Tenant,
     limits: Limits,
 ) -> Result<(), AllocError>

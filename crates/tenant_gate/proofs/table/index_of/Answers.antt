@@ -1,6 +1,6 @@
 use Rattle.std.proofs.Common.{◌≡◌, true, false, Some, is_some, take, get_or, ap, sym, ◌∙◌, ◌∷◌, [], ◌++◌, subst, ◌+◌}
 use Rattle.std.specs.List.{list_any}
-use Rattle.std.specs.BTreeMap.{get_by_text}
+use Rattle.indexmap.specs.IndexMap.{get_by_text}
 use Rattle.std.proofs.lemmas.List.{take_more}
 use Rattle.grain_id.specs.Names.{same_text}
 use Rattle.tenant_gate.specs.Table.{names_of}

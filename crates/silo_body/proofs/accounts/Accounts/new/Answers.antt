@@ -1,6 +1,6 @@
 use Rattle.std.proofs.Common.{◌≡◌, [], ◌∷◌, ◌++◌, ◌+◌, false, true, Some, is_some, take, if◌then◌else◌, ap, sym, ◌∙◌}
 use Rattle.std.specs.Prelude.{option_map}
-use Rattle.std.specs.BTreeMap.{get_by_text}
+use Rattle.indexmap.specs.IndexMap.{get_by_text}
 use Rattle.std.proofs.lemmas.List.{take_more, take_all}
 use Rattle.grain_id.specs.Names.{same_text}
 use Rattle.grain_id.proofs.ByGrain.{text_alike}

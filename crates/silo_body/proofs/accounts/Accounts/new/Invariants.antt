@@ -1,6 +1,6 @@
 use Rattle.std.proofs.Common.{◌≡◌, ℕ, List, take}
 use Rattle.std.specs.Prelude.{option_map}
-use Rattle.std.specs.BTreeMap.{get_by_text}
+use Rattle.indexmap.specs.IndexMap.{get_by_text}
 use Rattle.tenant_gate.specs.Table.{limits_of}
 use Rattle.silo_model.specs.Opening.{fresh_account}
 use Rattle.silo_body.proofs.accounts.Accounts.new.Given as goal
