@@ -25,13 +25,14 @@ use Rattle.silo_body.specs.Accounts.{by_bytes}
 name_ties : (t q : List ℕ) → bytes_eq t q ≡ eq_by_cmp text_cmp q t
 name_ties t q = ties_from_Decides same_text text_cmp_total text_cmp_exact same_text_decides t q ∙ (eq_by_cmp_equiv text_cmp_total).symm t q
 
-module _ {X S : Type 0} where
+module _ {X : Type 0} where
   find-lookup : (t : List ℕ) (es : List (String Global × X)) → find text_cmp t (map_list (λ e. (string_bytes e.0, e.1)) es) ≡ lookup (λ k. bytes_eq t (string_bytes k)) es
   find-lookup t [] = refl
   find-lookup t (e ∷ es) =
       ap (cond (is_eq (slice_cmp nat_cmp t (string_bytes e.0))) (Some e.1)) (find-lookup t es)
       ∙ ap (λ b. cond b (Some e.1) (lookup (λ k. bytes_eq t (string_bytes k)) es)) (is_eq-slice_cmp t (string_bytes e.0))
 
+module _ {X S : Type 0} where
   -- what is found by a name
   pub get-by_bytes : (m : IndexMap (String Global) X S) (t : List ℕ) → map.get (by_bytes m) t ≡ get_by_text m t
   get-by_bytes m t = map.get-from_entries text_cmp_total (map_list (λ e. (string_bytes e.0, e.1)) m.entries) t ∙ find-lookup t m.entries

@@ -1,5 +1,5 @@
 -- What the calls of the activations leave, seen as entries.
-use Rattle.std.proofs.Common.{◌≡◌, ℕ, Bool, true, false, ◌==◌, ◌&&◌, Option, Some, None, refl, ap, sym, ◌∙◌, subst}
+use Rattle.std.proofs.Common.{◌≡◌, ℕ, Bool, true, false, ◌==◌, ◌&&◌, Option, Some, None, is_some, refl, ap, sym, ◌∙◌, subst}
 use Rattle.std.specs.Prelude.{Result, Ok, Err, IfOk, OnOk, OnErr, if◌then◌else◌, option_and_then, option_map, unwrap_or}
 use Rattle.std.specs.FinMap as map
 use Rattle.std.specs.FinMap.{FinMap, nat_cmp-IsAntisymmetric}
@@ -28,10 +28,10 @@ use Rattle.silo_body.specs.Shown.{request_of, phase_of, entry_of, entries_of}
 use Rattle.silo_body.specs.Notes.{is_idle}
 use Rattle.silo_model.specs.Idle.{is_ready}
 use Rattle.silo_body.specs.Marks.{AreMarked, AllMarked}
-use Rattle.silo_body.specs.Changes.{Starts, turn_at, mail_begun, ClosesTurn}
+use Rattle.silo_body.specs.Changes.{Starts, turn_at, opens_at, mail_begun, ClosesTurn}
 use Rattle.silo_body.specs.Entries.{Activates, Begins, opened_turn, closed_entry, ClosesEntry, Closes}
 use Rattle.silo_body.proofs.Requests.{marked-put, marked-begun, marked-closed}
-use Rattle.silo_body.proofs.Turns.{turn-opened, begins}
+use Rattle.silo_body.proofs.Turns.{turn-opened, begins, is_some-turn_at}
 
 -- the entry of a grain, by its activation
 pub get-entries : (m : FinMap grain_cmp Activation) (g : Grain) (found : Option Activation) → map.get m g ≡ found → map.get (entries_of m) g ≡ option_map entry_of found
@@ -70,17 +70,26 @@ module _ (logic : Logic) (m : FinMap grain_cmp Activation) (g : Grain) (a after 
         by true = marked-begun logic g a.mailbox a.mailbox.waiting (all g a found).waiting (all g a found)
         by false = all g a found
 
+    begun_shows : after ≡ record a { mailbox = mail_begun a.mailbox a.phase } → (opened : Bool) → opened ≡ opens_at a.mailbox a.phase → Begins logic (entries_of m) g opened (entries_of (map.insert m g after))
+    begun_shows done opened is =
+        subst (λ (b : Bool). Begins logic (entries_of m) g b (entries_of (map.insert m g after))) (sym is)
+        (subst (λ (new : Entries). Begins logic (entries_of m) g (opens_at a.mailbox a.phase) new) (sym (entries-put m g after ∙ ap (λ x. map.insert (entries_of m) g (entry_of x)) done))
+        (begins logic g a (all g a found) (entries_of m) entry_found))
+
     module _ {E : Type 0} where
-      pub begin_marked : (result : Result (Option OpenedTurn) E) → OnOk result (after ≡ record a { mailbox = mail_begun a.mailbox a.phase }) → OnErr result (after ≡ a) → AllMarked logic (map.insert m g after)
-      begin_marked (Ok turn) done kept = marked-put logic m g after all (subst (λ (x : Activation). AreMarked logic g x.mailbox) (sym done) (mail_marked a.phase))
+      pub begin_marked : {A : Type 0} (result : Result A E) → OnOk result (after ≡ record a { mailbox = mail_begun a.mailbox a.phase }) → OnErr result (after ≡ a) → AllMarked logic (map.insert m g after)
+      begin_marked (Ok opened) done kept = marked-put logic m g after all (subst (λ (x : Activation). AreMarked logic g x.mailbox) (sym done) (mail_marked a.phase))
       begin_marked (Err e) done kept = same_mail (ap (λ (x : Activation). x.mailbox) kept)
 
       pub begin_shows : (result : Result (Option OpenedTurn) E) → IfOk result (λ turn. turn ≡ turn_at g a.mailbox a.phase) → OnOk result (after ≡ record a { mailbox = mail_begun a.mailbox a.phase })
-          → IfOk result (λ turn. Begins logic (entries_of m) g turn (entries_of (map.insert m g after)))
-      begin_shows (Ok turn) is done =
-          subst (λ (new : Entries). Begins logic (entries_of m) g turn new) (sym (entries-put m g after ∙ ap (λ x. map.insert (entries_of m) g (entry_of x)) done))
-          (begins logic g a (all g a found) (entries_of m) entry_found turn is)
+          → IfOk result (λ turn. Begins logic (entries_of m) g (is_some turn) (entries_of (map.insert m g after)))
+      begin_shows (Ok turn) is done = begun_shows done (is_some turn) (ap is_some is ∙ is_some-turn_at g a.mailbox a.phase)
       begin_shows (Err e) is done = tt
+
+      pub open_shows : (result : Result Bool E) → IfOk result (λ opened. opened ≡ opens_at a.mailbox a.phase) → OnOk result (after ≡ record a { mailbox = mail_begun a.mailbox a.phase })
+          → IfOk result (λ opened. Begins logic (entries_of m) g opened (entries_of (map.insert m g after)))
+      open_shows (Ok opened) is done = begun_shows done opened is
+      open_shows (Err e) is done = tt
 
       pub begin_turn : (result : Result (Option OpenedTurn) E) → IfOk result (λ turn. turn ≡ turn_at g a.mailbox a.phase) → IfOk result (λ turn. turn ≡ opened_turn logic g (map.get (entries_of m) g))
       begin_turn (Ok turn) is = is ∙ turn-opened logic g a (all g a found) (entries_of m) entry_found

@@ -1,5 +1,5 @@
 -- What the body's calls come to, as steps of the whole.
-use Rattle.std.proofs.Common.{◌≡◌, ℕ, Option, Some, None, Bool, List, ◌++◌, refl, ap, sym, ◌∙◌, subst}
+use Rattle.std.proofs.Common.{◌≡◌, ℕ, Option, Some, None, is_some, Bool, true, false, List, ◌++◌, refl, ap, sym, ◌∙◌, subst}
 use Rattle.std.specs.Prelude.{Result, Ok, Err, IfOk, OnErr, option_and_then}
 use Rattle.std.specs.FinMap as map
 use Rattle.std.specs.FinMap.{FinMap}
@@ -50,12 +50,15 @@ module _ (logic : Logic) (h : Held) (g : Grain) where
   activate_moves Failed new d = absurd d
   activate_moves NotNow new d = (activate_none d.0, ap (with_entries h) d.1)
 
-  pub begin_moves : (turn : Option OpenedTurn) (new : Entries) → Begins logic h.whole.entries g turn new → Moves logic h (Begin g) (Ok (done_if turn)) (with_entries h new)
-  begin_moves None new d = (begin_none d.0, ap (with_entries h) d.1)
-  begin_moves (Some turn) new d = (begin_does logic h.whole g d.before d.found d.after d.does ∙ ap (λ es. Some (record h.whole { entries = es })) (sym d.put), refl)
+  pub begin_moves : (new : Entries) → Begins logic h.whole.entries g true new → Moves logic h (Begin g) (Ok Done) (with_entries h new)
+  begin_moves new d = (begin_does logic h.whole g d.before d.found d.after d.does ∙ ap (λ es. Some (record h.whole { entries = es })) (sym d.put), refl)
 
-  pub begins_move : {E : Type 0} (result : Result (Option OpenedTurn) E) (new : Entries) → IfOk result (λ turn. Begins logic h.whole.entries g turn new) → IfOk result (λ turn. Moves logic h (Begin g) (Ok (done_if turn)) (with_entries h new))
-  begins_move (Ok turn) new d = begin_moves turn new d
+  pub begin_stays : (new : Entries) → Begins logic h.whole.entries g false new → Moves logic h (Begin g) (Ok NotNow) (with_entries h new)
+  begin_stays new d = (begin_none d.0, ap (with_entries h) d.1)
+
+  pub begins_move : {E : Type 0} (result : Result (Option OpenedTurn) E) (new : Entries) → IfOk result (λ turn. Begins logic h.whole.entries g (is_some turn) new) → IfOk result (λ turn. Moves logic h (Begin g) (Ok (done_if turn)) (with_entries h new))
+  begins_move (Ok None) new d = begin_stays new d
+  begins_move (Ok (Some turn)) new d = begin_moves new d
   begins_move (Err e) new d = tt
 
 -- ---- the notes
@@ -69,13 +72,13 @@ module _ (entries : Entries) (lasts : FinMap grain_cmp ℕ) (noted : AreNoted en
   activate_noted Failed new d = absurd d
   activate_noted NotNow new d = moved entries new noted d.1
 
-  pub begin_noted : (logic : Logic) (turn : Option OpenedTurn) (new : Entries) → Begins logic entries g turn new → AreNoted new lasts
-  begin_noted logic None new d = moved entries new noted d.1
-  begin_noted logic (Some turn) new d = moved _ new (noted-same entries lasts noted g d.after (d.in_use ∙ sym (ap idle_since d.found ∙ d.used))) d.put
+  pub begin_noted : (logic : Logic) (opened : Bool) (new : Entries) → Begins logic entries g opened new → AreNoted new lasts
+  begin_noted logic false new d = moved entries new noted d.1
+  begin_noted logic true new d = moved _ new (noted-same entries lasts noted g d.after (d.in_use ∙ sym (ap idle_since d.found ∙ d.used))) d.put
 
-  pub begins_noted : {E : Type 0} (logic : Logic) (result : Result (Option OpenedTurn) E) (new : Entries) → IfOk result (λ turn. Begins logic entries g turn new) → OnErr result (new ≡ entries) → AreNoted new lasts
-  begins_noted logic (Ok turn) new d same = begin_noted logic turn new d
-  begins_noted logic (Err e) new d same = moved entries new noted same
+  pub begins_noted : {A E : Type 0} (logic : Logic) (shown : A → Bool) (result : Result A E) (new : Entries) → IfOk result (λ x. Begins logic entries g (shown x) new) → OnErr result (new ≡ entries) → AreNoted new lasts
+  begins_noted logic shown (Ok x) new d same = begin_noted logic (shown x) new d
+  begins_noted logic shown (Err e) new d same = moved entries new noted same
 
 -- ---- closing a turn
 

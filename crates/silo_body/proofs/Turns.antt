@@ -1,5 +1,5 @@
 -- A turn that the mailbox opens is the one that the entry opens.
-use Rattle.std.proofs.Common.{◌≡◌, ℕ, Bool, true, false, ◌==◌, ◌&&◌, List, [], ◌∷◌, Option, Some, None, refl, ap, sym, ◌∙◌, true≢false, arith}
+use Rattle.std.proofs.Common.{◌≡◌, ℕ, Bool, true, false, ◌==◌, ◌&&◌, List, [], ◌∷◌, Option, Some, None, is_some, refl, ap, sym, ◌∙◌, true≢false, arith}
 use Rattle.std.specs.Prelude.{length, option_and_then, if◌then◌else◌, map as map_list}
 use Rattle.std.specs.Ordering.{nat_cmp}
 use Rattle.std.specs.Cmp.{nat_cmp_total}
@@ -10,7 +10,6 @@ use Rattle.grain_id.specs.Names.{Grain}
 use Rattle.grain_id.proofs.ByGrain.{insert-again}
 use Rattle.request_codec.specs.Tree.{Tree}
 use Rattle.grain_kinds.specs.Logic.{Logic}
-use Rattle.grain_kinds.specs.declared.turn.OpenedTurn.{OpenedTurn}
 use Rattle.turn_mailbox.specs.declared.request.Request.{Request}
 use Rattle.turn_mailbox.specs.Contents.{Contents, begun, front_may_open, turn_of}
 use Rattle.turn_mailbox.proofs.Mapped.{mapped-insert}
@@ -24,16 +23,10 @@ use Rattle.silo_model.specs.Turns as model
 use Rattle.silo_body.specs.Shown.{request_of, phase_of, entry_of}
 use Rattle.silo_body.specs.Marks.{IsMarked, AreMarked}
 use Rattle.silo_body.specs.Notes.{idle_since}
-use Rattle.silo_body.specs.Changes.{turn_at, mail_begun}
+use Rattle.silo_body.specs.Changes.{turn_at, opens_at, mail_begun}
 use Rattle.silo_body.specs.Entries.{front_turn, turn_in, opened_turn, Begins}
 use Rattle.silo_body.proofs.Requests.{may_open-marked}
 use Rattle.silo_body.proofs.Idle.{and_false, some_open, some_waits}
-
-no_turn : (turn : OpenedTurn) → Some turn ≡ None → ⊥
-no_turn turn e = cc (e)
-
-no_none : (turn : OpenedTurn) → None ≡ Some turn → ⊥
-no_none turn e = cc (e)
 
 module _ (logic : Logic) (g : Grain) (a : Activation) (marked : AreMarked logic g a.mailbox) where
   -- ---- the turn
@@ -72,7 +65,7 @@ module _ (logic : Logic) (g : Grain) (a : Activation) (marked : AreMarked logic 
       else None
 
   module _ (entries : Entries) (found : map.get entries g ≡ Some (entry_of a)) where
-    stays : (after : Entry) → after ≡ entry_of a → model.opened_if_ready logic g (entry_of a) (phase_of a.phase) ≡ None → Begins logic entries g None (map.insert entries g after)
+    stays : (after : Entry) → after ≡ entry_of a → model.opened_if_ready logic g (entry_of a) (phase_of a.phase) ≡ None → Begins logic entries g false (map.insert entries g after)
     stays after same none =
         (ap (option_and_then (λ e. model.opened_if_ready logic g e e.phase)) found ∙ none, ap (map.insert entries g) same ∙ insert-again entries g (entry_of a) found)
 
@@ -92,14 +85,11 @@ module _ (logic : Logic) (g : Grain) (a : Activation) (marked : AreMarked logic 
         ∙ ap (λ b. if b then Some a.last else None) (and_false (is_ready (phase_of a.phase) && (length (map_list request_of others) == 0)))
 
     by_front : (state : Tree) (version : Option ℕ) → a.phase ≡ Ready state version → (waiting : List Request) → a.mailbox.waiting ≡ waiting → AllByRecursion (IsMarked logic g) waiting
-        → (may : Bool) → front_may_open a.mailbox.opened waiting ≡ may → (turn : Option OpenedTurn) → turn ≡ (if may then turn_of g state waiting else None)
-        → Begins logic entries g turn (map.insert entries g (with_mail (if may then begun a.mailbox waiting else a.mailbox)))
-    by_front state version is waiting queue all false may None e =
+        → (may : Bool) → front_may_open a.mailbox.opened waiting ≡ may → Begins logic entries g may (map.insert entries g (with_mail (if may then begun a.mailbox waiting else a.mailbox)))
+    by_front state version is waiting queue all false may =
         stays (entry_of a) refl (ap (λ p. model.opened_if_ready logic g (entry_of a) (phase_of p)) is ∙ ap (λ ws. model.opened logic g (entry_of a) (map_list request_of ws)) queue ∙ opens-not waiting all may)
-    by_front state version is waiting queue all false may (Some turn) e = absurd (no_turn turn e)
-    by_front state version is [] queue all true may turn e = absurd (true≢false (sym may))
-    by_front state version is (first ∷ others) queue all true may None e = absurd (no_none _ e)
-    by_front state version is (first ∷ others) queue all true may (Some turn) e = record {
+    by_front state version is [] queue all true may = absurd (true≢false (sym may))
+    by_front state version is (first ∷ others) queue all true may = record {
       before = entry_of a;
       after = with_mail (begun a.mailbox (first ∷ others));
       found = found;
@@ -109,13 +99,22 @@ module _ (logic : Logic) (g : Grain) (a : Activation) (marked : AreMarked logic 
       put = refl;
     }
 
-    by_phase : (phase : Phase) → a.phase ≡ phase → (turn : Option OpenedTurn) → turn ≡ turn_at g a.mailbox phase → Begins logic entries g turn (map.insert entries g (with_mail (mail_begun a.mailbox phase)))
-    by_phase Waiting is None e = stays (entry_of a) refl (ap (λ p. model.opened_if_ready logic g (entry_of a) (phase_of p)) is)
-    by_phase Waiting is (Some turn) e = absurd (no_turn turn e)
-    by_phase Loading is None e = stays (entry_of a) refl (ap (λ p. model.opened_if_ready logic g (entry_of a) (phase_of p)) is)
-    by_phase Loading is (Some turn) e = absurd (no_turn turn e)
-    by_phase (Ready state version) is turn e = by_front state version is a.mailbox.waiting refl marked.waiting (front_may_open a.mailbox.opened a.mailbox.waiting) refl turn e
+    by_phase : (phase : Phase) → a.phase ≡ phase → Begins logic entries g (opens_at a.mailbox phase) (map.insert entries g (with_mail (mail_begun a.mailbox phase)))
+    by_phase Waiting is = stays (entry_of a) refl (ap (λ p. model.opened_if_ready logic g (entry_of a) (phase_of p)) is)
+    by_phase Loading is = stays (entry_of a) refl (ap (λ p. model.opened_if_ready logic g (entry_of a) (phase_of p)) is)
+    by_phase (Ready state version) is = by_front state version is a.mailbox.waiting refl marked.waiting (front_may_open a.mailbox.opened a.mailbox.waiting) refl
 
     -- what a begin leaves
-    pub begins : (turn : Option OpenedTurn) → turn ≡ turn_at g a.mailbox a.phase → Begins logic entries g turn (map.insert entries g (with_mail (mail_begun a.mailbox a.phase)))
+    pub begins : Begins logic entries g (opens_at a.mailbox a.phase) (map.insert entries g (with_mail (mail_begun a.mailbox a.phase)))
     begins = by_phase a.phase refl
+
+-- there is a turn exactly if one may be opened
+turn_by : (g : Grain) (mail : Contents) (state : Tree) (waiting : List Request) (may : Bool) → front_may_open mail.opened waiting ≡ may → is_some (if may then turn_of g state waiting else None) ≡ may
+turn_by g mail state waiting false is = refl
+turn_by g mail state [] true is = absurd (true≢false (sym is))
+turn_by g mail state (first ∷ others) true is = refl
+
+pub is_some-turn_at : (g : Grain) (mail : Contents) (phase : Phase) → is_some (turn_at g mail phase) ≡ opens_at mail phase
+is_some-turn_at g mail Waiting = refl
+is_some-turn_at g mail Loading = refl
+is_some-turn_at g mail (Ready state version) = turn_by g mail state mail.waiting (front_may_open mail.opened mail.waiting) refl

@@ -1,5 +1,5 @@
 -- What becomes of one activation.
-use Rattle.std.specs.Prelude.{◌≡◌, ℕ, Option, Some, None, option_map, if◌then◌else◌, unwrap_or}
+use Rattle.std.specs.Prelude.{◌≡◌, ℕ, Bool, false, Option, Some, None, option_map, if◌then◌else◌, unwrap_or}
 use Rattle.std.specs.FinMap as map
 use Rattle.grain_id.specs.Names.{Grain}
 use Rattle.grain_kinds.specs.declared.turn.OpenedTurn.{OpenedTurn}
@@ -26,6 +26,12 @@ abbrev pub turn_at : Grain → Contents → Phase → Option OpenedTurn
 turn_at grain mail Waiting = None
 turn_at grain mail Loading = None
 turn_at grain mail (Ready state version) = if may_begin mail then turn_of grain state mail.waiting else None
+
+-- whether that turn may be opened
+abbrev pub opens_at : Contents → Phase → Bool
+opens_at mail Waiting = false
+opens_at mail Loading = false
+opens_at mail (Ready state version) = may_begin mail
 
 -- its mailbox once that turn is open
 abbrev pub mail_begun : Contents → Phase → Contents

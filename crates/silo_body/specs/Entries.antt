@@ -1,5 +1,5 @@
 -- What the calls of the activations answer and leave, in the words of entries.
-use Rattle.std.specs.Prelude.{◌≡◌, ℕ, Bool, unwrap_or, List, [], ◌∷◌, Option, Some, None, option_and_then, option_map, if◌then◌else◌}
+use Rattle.std.specs.Prelude.{◌≡◌, ℕ, Bool, true, false, unwrap_or, List, [], ◌∷◌, Option, Some, None, option_and_then, option_map, if◌then◌else◌}
 use Rattle.std.specs.FinMap as map
 use Rattle.grain_id.specs.Names.{Grain}
 use Rattle.request_codec.specs.Tree.{Tree}
@@ -57,9 +57,9 @@ pub record Opens (logic : Logic) (old : Entries) (grain : Grain) (new : Entries)
   pub in_use : idle_since (Some after) ≡ None
   pub put : new ≡ map.insert old grain after
 
-abbrev pub Begins : Logic → Entries → Grain → Option OpenedTurn → Entries → Type 0
-Begins logic old grain None new = (option_and_then (λ e. opened_if_ready logic grain e e.phase) (map.get old grain) ≡ None) × (new ≡ old)
-Begins logic old grain (Some turn) new = Opens logic old grain new
+abbrev pub Begins : Logic → Entries → Grain → Bool → Entries → Type 0
+Begins logic old grain false new = (option_and_then (λ e. opened_if_ready logic grain e e.phase) (map.get old grain) ≡ None) × (new ≡ old)
+Begins logic old grain true new = Opens logic old grain new
 
 -- ---- an open turn, again
 

@@ -1,7 +1,7 @@
 //! The activations of all grains, as entries.
 
 ghost use Rattle.std.specs.Prelude.{◌≡◌, ◌<◌, ◌^◌, IfOk, OnOk, OnErr, IfSome, None};
-ghost use Rattle.std.specs.Option.{option_copied, option_map};
+ghost use Rattle.std.specs.Option.{is_some, option_copied, option_map};
 ghost use Rattle.std.specs.FinMap as map;
 ghost use Rattle.silo_model.specs.Contexts.{active_in};
 ghost use Rattle.silo_body.specs.Shown.{entry_of};
@@ -87,7 +87,7 @@ impl<L: GrainLogic> Activations<L> {
     ///
     /// Out of memory: nothing changed.
     pub fn begin(&mut self, grain: &GrainId) -> Result<Option<OpenedTurn>, AllocError>
-        ensures begins { IfOk result (λ turn. Begins L.logic self.old grain.now turn self.new) }
+        ensures begins { IfOk result (λ turn. Begins L.logic self.old grain.now (is_some turn) self.new) }
         ensures turn { IfOk result (λ turn. turn ≡ opened_turn L.logic grain.now (map.get self.old grain.now)) }
         ensures unchanged { OnErr result (self.new ≡ self.old) }
     {
@@ -95,5 +95,20 @@ impl<L: GrainLogic> Activations<L> {
             return Ok(None);
         };
         change::begin(grain, activation)
+    }
+
+    /// The same, with no turn handed out: whether one was opened.
+    ///
+    /// # Errors
+    ///
+    /// Out of memory: nothing changed.
+    pub fn open(&mut self, grain: &GrainId) -> Result<bool, AllocError>
+        ensures begins { IfOk result (λ opened. Begins L.logic self.old grain.now opened self.new) }
+        ensures unchanged { OnErr result (self.new ≡ self.old) }
+    {
+        let Some(activation) = self.directory.get_mut(grain) else {
+            return Ok(false);
+        };
+        change::open(activation)
     }
 }

@@ -1,7 +1,7 @@
 //! What becomes of one activation.
 
 ghost use Rattle.std.specs.Prelude.{◌≡◌, IfOk, OnOk, OnErr};
-ghost use Rattle.silo_body.specs.Changes.{Starts, turn_at, mail_begun, EndsTurn};
+ghost use Rattle.silo_body.specs.Changes.{Starts, turn_at, opens_at, mail_begun, EndsTurn};
 ghost use Rattle.silo_body.specs.Shown.{phase_of, entry_of};
 ghost use Rattle.silo_body.specs.Notes.{may_rest, is_idle};
 ghost use Rattle.silo_body.specs.Reads.{is_loading, is_quiet};
@@ -64,6 +64,19 @@ pub fn begin(grain: &GrainId, activation: &mut Activation) -> Result<Option<Open
         Phase::Waiting => Ok(None),
         Phase::Loading => Ok(None),
         Phase::Ready { state, .. } => activation.mailbox.begin(grain, state),
+    }
+}
+
+/// The same, with no turn handed out: whether one was opened.
+pub fn open(activation: &mut Activation) -> Result<bool, AllocError>
+    ensures opened { IfOk result (λ opened. opened ≡ opens_at activation.old.mailbox activation.old.phase) }
+    ensures begun { OnOk result (activation.new ≡ record activation.old { mailbox = mail_begun activation.old.mailbox activation.old.phase }) }
+    ensures unchanged { OnErr result (activation.new ≡ activation.old) }
+{
+    match activation.phase {
+        Phase::Waiting => Ok(false),
+        Phase::Loading => Ok(false),
+        Phase::Ready { .. } => activation.mailbox.open(),
     }
 }
 

@@ -165,6 +165,24 @@ impl Mailbox {
         Ok(Some(turn))
     }
 
+    /// Makes the first waiting request an open turn, if it may begin, and says whether it did: as
+    /// `begin`, with no turn handed out.
+    ///
+    /// # Errors
+    ///
+    /// Out of memory: the mailbox is as before.
+    pub fn open(&mut self) -> Result<bool, AllocError>
+        ensures opened { IfOk result (λ opened. opened ≡ may_begin self.old) }
+        ensures begun { OnOk result (self.new ≡ (if may_begin self.old then begun self.old self.old.waiting else self.old)) }
+        ensures unchanged { OnErr result (self.new ≡ self.old) }
+    {
+        let may = self.may_begin();
+        if may {
+            self.open_front()?;
+        }
+        Ok(may)
+    }
+
     /// Makes the first waiting request an open turn.
     fn open_front(&mut self) -> Result<(), AllocError>
         requires { may_begin self.old ≡ true }

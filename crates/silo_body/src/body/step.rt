@@ -62,9 +62,10 @@ impl<S: GrainStorage, L: GrainLogic> Body<S, L> {
     fn open(&mut self, grain: &GrainId) -> Result<Answer, StepFault>
         ensures { Moves L.logic self.old (step.Begin grain.now) result self.new }
     {
-        match self.begin(grain)? {
-            Some(_turn) => Ok(Answer::Done),
-            None => Ok(Answer::NotNow),
+        if self.activations.open(grain)? {
+            Ok(Answer::Done)
+        } else {
+            Ok(Answer::NotNow)
         }
     }
 

@@ -1,4 +1,4 @@
-use Rattle.std.proofs.Common.{◌≡◌, None, refl, ap, sym, ◌∙◌, subst}
+use Rattle.std.proofs.Common.{◌≡◌, false, None, is_some, refl, ap, sym, ◌∙◌, subst}
 use Rattle.std.specs.Prelude.{IfOk, option_and_then}
 use Rattle.std.specs.FinMap as map
 use Rattle.std.proofs.lemmas.Result.{on_err_weaker}
@@ -13,7 +13,7 @@ pub returns-in_default-clause-begins : goal.returns-in_default-clause-begins
 returns-in_default-clause-begins g c =
     let m = c.self.inside.directory.activations in
     let grain = c.args.grain.now in
-    subst (λ (old : Entries). Begins g.L.GrainLogic.logic old grain None (entries_of m)) c.self.view_is
+    subst (λ (old : Entries). Begins g.L.GrainLogic.logic old grain false (entries_of m)) c.self.view_is
     (ap (option_and_then (λ e. opened_if_ready g.L.GrainLogic.logic grain e e.phase)) (get-entries m grain None (sym c.in_default.ensures.value)), refl)
 
 pub returns-in_default-clause-turn : goal.returns-in_default-clause-turn
@@ -27,7 +27,7 @@ returns-clause-begins g c =
     let m = c.self.inside.directory.activations in
     let grain = c.args.grain.now in
     let after = c.begin.new.activation in
-    subst (λ (old : Entries). IfOk c.begin.result (λ turn. Begins g.L.GrainLogic.logic old grain turn (entries_of (map.insert m grain after)))) c.self.view_is
+    subst (λ (old : Entries). IfOk c.begin.result (λ turn. Begins g.L.GrainLogic.logic old grain (is_some turn) (entries_of (map.insert m grain after)))) c.self.view_is
     (begin_shows g.L.GrainLogic.logic m grain c.in-Some.activation.now after (sym c.in-Some.ensures.value) c.self.invariant c.begin.result c.begin.ensures.turn c.begin.ensures.begun)
 
 pub returns-clause-turn : goal.returns-clause-turn
