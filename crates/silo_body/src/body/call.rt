@@ -126,7 +126,7 @@ impl<S: GrainStorage, L: GrainLogic> Body<S, L> {
         ensures accepted { OnOk result (self.new ≡ with_accepted self.old sender grain.now message (map.get self.old.whole.accounts (tenant_of sender))) }
         ensures unchanged { OnErr result (self.new ≡ self.old) }
     {
-        let Some(account) = self.accounts.get(grain.tenant()) else {
+        let Some(account) = self.accounts.get_mut(grain.tenant()) else {
             unreachable!()
         };
         let request = Request {
@@ -137,8 +137,8 @@ impl<S: GrainStorage, L: GrainLogic> Body<S, L> {
         };
         self.activations
             .wait(alloc, grain, request, self.clock.get())?;
+        account.count_one();
         self.collector.forget(grain);
-        self.accounts.count_one(grain.tenant());
         Ok(())
     }
 }
