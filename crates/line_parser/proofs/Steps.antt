@@ -1,6 +1,7 @@
 -- The step that an object asks for, once it is known where its members are.
-use Rattle.std.proofs.Common.{false, ◌≡◌, ℕ, suc, ◌≤◌, true, ◌==◌, List, [], ◌∷◌, ◌++◌, length, Bool, Option, Some, Ok, pos, codes, refl, sym, ap, subst, ◌∙◌, arith, lt-ltb, le-leb}
+use Rattle.std.proofs.Common.{false, ◌≡◌, ℕ, suc, ◌+◌, ◌<◌, ◌≤◌, true, ◌==◌, List, [], ◌∷◌, ◌++◌, length, Bool, Option, Some, Result, Ok, Err, pos, codes, refl, sym, ap, subst, ◌∙◌, arith, lt-ltb, le-leb}
 use Rattle.std.specs.Prelude.{option_and_then, IsUtf8}
+use Rattle.std.proofs.lemmas.Bool.{lt-leb}
 use Rattle.std.proofs.lemmas.Bool.Decides.{nat_tests}
 use Rattle.serde_json.specs.Data.{Data, null, unsigned, Members, object}
 use Rattle.serde_json.specs.Find.{get, get_member, as_bool, as_str, as_i64, as_number}
@@ -15,9 +16,11 @@ use Rattle.request_codec.specs.Written.{text_spelling, spelling}
 use Rattle.request_codec.proofs.Encoded.{encoded_message, encoded_state, same_found}
 use Rattle.request_codec.proofs.JsonDepths.{within_depth}
 use Rattle.request_codec.proofs.Spelled.{length-message, length-spelling}
+use Rattle.silo_event.specs.declared.refusal.Refusal.{Refusal}
+use Rattle.silo_event.specs.declared.refusal.Refusal.TheVariants as refusal
 use Rattle.silo_event.specs.declared.step.Step.{Step}
 use Rattle.silo_event.specs.declared.step.Step.TheVariants as step
-use Rattle.line_parser.specs.Form.{if_ok, natural, text_at, natural_at, truth_at, grain_at, caller_at, has_members, argument_at, failed_at, step_or_refusal, message_asked, state_asked, call_with, poke_with, call_of, poke_of, status_of, grain_form, load_of, store_of, turn_form, tick_of, sweep_of, form_of, step_of_json}
+use Rattle.line_parser.specs.Form.{if_ok, natural, text_at, natural_at, truth_at, grain_at, caller_at, has_members, argument_at, failed_at, step_or_refusal, unless_refused, message_asked, state_asked, call_with, poke_with, call_of, poke_of, status_of, grain_form, load_of, store_of, turn_form, tick_of, sweep_of, form_of, step_of_json}
 use Rattle.line_parser.specs.Step.{form_text}
 use Rattle.line_parser.specs.declared.step.Form.{Form}
 use Rattle.line_parser.specs.declared.step.Form.TheVariants as form
@@ -94,17 +97,29 @@ state_fits l state json is short read =
     let asked : state_asked json ≡ Ok v = rw (le-leb _ _ is.deep, is.whole.0, le-leb _ _ fits) refl in
     asked ∙ ap (λ x. Ok x) (sym same)
 
+pub message_too_long : (method argument : List ℕ) (json : Data) → IsArgument json argument → message_limit < 5 + length method + length argument → message_asked method json ≡ Err refusal.TooLong
+message_too_long method argument json is long =
+    let v = lenient_value json in
+    let above : message_limit < message_length method v = omega (arith, long, ap length is.spelled, length-spelling v) in
+    rw (le-leb _ _ is.deep, is.whole.0, lt-leb _ _ above) refl
+
+pub state_too_large : (l : List ℕ) (json : Data) → IsArgument json l → state_limit < length l → state_asked json ≡ Err refusal.TooLarge
+state_too_large l json is large =
+    let v = lenient_value json in
+    let above : state_limit < spelled_length v = omega (arith, large, ap length is.spelled, length-spelling v) in
+    rw (le-leb _ _ is.deep, is.whole.0, lt-leb _ _ above) refl
+
 -- ---- the forms
 
-pub call_is : (d argument : Data) (caller : Client) (id : ℕ) (grain method : List ℕ) (m : Call) → argument_at d ≡ Some argument → caller_at d ≡ Some caller → natural_at (codes "id") d ≡ Some id → text_at (codes "grain") d ≡ Some grain
-    → text_at (codes "method") d ≡ Some method → message_asked method argument ≡ Ok m → call_of d ≡ Some (step_or_refusal caller id (call_with caller id grain m))
+pub call_is : (d argument : Data) (caller : Client) (id : ℕ) (grain method : List ℕ) (asked : Result Call Refusal) → argument_at d ≡ Some argument → caller_at d ≡ Some caller → natural_at (codes "id") d ≡ Some id → text_at (codes "grain") d ≡ Some grain
+    → text_at (codes "method") d ≡ Some method → message_asked method argument ≡ asked → call_of d ≡ Some (step_or_refusal caller id (unless_refused asked (call_with caller id grain)))
 unfolding call_of
-call_is d argument caller id grain method m a c i g t is = rw (a, c, i, g, t, is) refl
+call_is d argument caller id grain method asked a c i g t is = rw (a, c, i, g, t, is) refl
 
-pub poke_is : (d value : Data) (caller : Client) (id : ℕ) (grain : List ℕ) (state : Tree) → has_members 5 d ≡ true → caller_at d ≡ Some caller → natural_at (codes "id") d ≡ Some id → text_at (codes "grain") d ≡ Some grain
-    → get (codes "state") d ≡ Some value → state_asked value ≡ Ok state → poke_of d ≡ Some (step_or_refusal caller id (poke_with caller id grain state))
+pub poke_is : (d value : Data) (caller : Client) (id : ℕ) (grain : List ℕ) (asked : Result Tree Refusal) → has_members 5 d ≡ true → caller_at d ≡ Some caller → natural_at (codes "id") d ≡ Some id → text_at (codes "grain") d ≡ Some grain
+    → get (codes "state") d ≡ Some value → state_asked value ≡ asked → poke_of d ≡ Some (step_or_refusal caller id (unless_refused asked (poke_with caller id grain)))
 unfolding poke_of
-poke_is d value caller id grain state h c i g v is = rw (h, c, i, g, v, is) refl
+poke_is d value caller id grain asked h c i g v is = rw (h, c, i, g, v, is) refl
 
 pub status_is : (d : Data) (caller : Client) (id : ℕ) → has_members 3 d ≡ true → caller_at d ≡ Some caller → natural_at (codes "id") d ≡ Some id → status_of d ≡ Some (step.Status caller id)
 unfolding status_of

@@ -17,8 +17,11 @@ use grain_id::LatelyRead;
 use request_codec::bytes::{put, put_text};
 use request_codec::limits::{MAX_MESSAGE_BYTES, MAX_STATE_BYTES};
 use request_codec::{Message, StateBytes};
-use silo_event::Step;
+use silo_event::{Refusal, Step};
 use std::alloc::Global;
+
+/// The bytes of a message beside its method and its argument: its version, and how long the method is.
+const MESSAGE_HEAD_BYTES: usize = 5;
 
 /// Writes a message's bytes: those of a method, and those of its argument.
 fn write_message(out: &mut Vec<u8>, method: &str, argument: &[u8]) -> Result<(), Unread>
@@ -39,29 +42,33 @@ fn keep_message(alloc: Global, out: &Vec<u8>) -> Result<Message, Unread>
     Ok(Message::copy_spelling(alloc, out.as_slice())?)
 }
 
-/// The message of a method and the bytes of its argument.
+/// The message of a method and the bytes of its argument, unless it would be too long.
 fn read_message(
     alloc: Global,
     out: &mut Vec<u8>,
     method: &str,
     argument: &[u8],
-) -> Result<Message, Unread>
+) -> Result<Result<Message, Refusal>, Unread>
     requires { (json : Data) × IsArgument json argument.now }
-    ensures { IfOk result (λ m. (json : Data) → IsArgument json argument.now → message_asked method.now json ≡ Ok m) }
+    ensures { IfOk result (λ asked. (json : Data) → IsArgument json argument.now → message_asked method.now json ≡ asked) }
 {
+    if method.len() + argument.len() > MAX_MESSAGE_BYTES - MESSAGE_HEAD_BYTES {
+        return Ok(Err(Refusal::TooLong));
+    }
     write_message(out, method, argument)?;
-    keep_message(alloc, out)
+    let message = keep_message(alloc, out)?;
+    Ok(Ok(message))
 }
 
-/// The state that the bytes spell.
-fn read_state(alloc: Global, bytes: &[u8]) -> Result<StateBytes, Unread>
-    ensures { IfOk result (λ s. (json : Data) → IsArgument json bytes.now → state_asked json ≡ Ok s) }
+/// The state that the bytes spell, unless they are too many.
+fn read_state(alloc: Global, bytes: &[u8]) -> Result<Result<StateBytes, Refusal>, Unread>
+    ensures { IfOk result (λ asked. (json : Data) → IsArgument json bytes.now → state_asked json ≡ asked) }
 {
     if bytes.len() > MAX_STATE_BYTES {
-        return Err(Unread::Unusual);
+        return Ok(Err(Refusal::TooLarge));
     }
     let state = StateBytes::read(alloc, bytes)?;
-    Ok(state)
+    Ok(Ok(state))
 }
 
 /// The bytes of a call's argument: null where it is left out.
@@ -82,8 +89,8 @@ fn argument_of<'t>(slots: &Slots<'_>, bytes: &'t [u8]) -> Result<&'t [u8], Unrea
     }
 }
 
-/// The call, if the members are those of a call and its message keeps the limits; it is refused if
-/// its grain isn't well formed.
+/// The call, if the members are those of a call; it is refused if its message is too long, or its
+/// grain isn't well formed.
 pub(crate) fn call_from(
     alloc: Global,
     names: &mut LatelyRead,
@@ -103,13 +110,17 @@ pub(crate) fn call_from(
     let Some(method) = slots.method else {
         return Err(Unread::Unusual);
     };
-    let message = read_message(alloc, out, method, argument)?;
-    let step = call_with(alloc, names, caller, id, grain, message)?;
-    Ok(step)
+    match read_message(alloc, out, method, argument)? {
+        Ok(message) => {
+            let step = call_with(alloc, names, caller, id, grain, message)?;
+            Ok(step)
+        }
+        Err(code) => Ok(Step::Refuse { caller, id, code }),
+    }
 }
 
-/// The poke, if the members are those of a poke and its state keeps the limits; it is refused if its
-/// grain isn't well formed.
+/// The poke, if the members are those of a poke; it is refused if its state is too large, or its grain
+/// isn't well formed.
 pub(crate) fn poke_from(
     alloc: Global,
     names: &mut LatelyRead,
@@ -129,9 +140,13 @@ pub(crate) fn poke_from(
     let Some(grain) = slots.grain else {
         return Err(Unread::Unusual);
     };
-    let state = read_state(alloc, bytes)?;
-    let step = poke_with(alloc, names, caller, id, grain, state)?;
-    Ok(step)
+    match read_state(alloc, bytes)? {
+        Ok(state) => {
+            let step = poke_with(alloc, names, caller, id, grain, state)?;
+            Ok(step)
+        }
+        Err(code) => Ok(Step::Refuse { caller, id, code }),
+    }
 }
 
 /// The question for a tenant's status, if the members are those of one.

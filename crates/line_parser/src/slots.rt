@@ -10,7 +10,6 @@ use crate::number::whole_number;
 use crate::tokens::Tokens;
 use crate::unread::Unread;
 use json::Token;
-use request_codec::limits::{MAX_MESSAGE_BYTES, MAX_STATE_BYTES};
 
 /// The members that a step may have.
 #[derive(Clone, Copy)]
@@ -46,6 +45,10 @@ pub(crate) struct Slots<'a> {
 
 /// The levels that a member's value may have: what is left of 127 behind the line's object.
 const MEMBER_DEPTH: usize = 126;
+
+/// The bytes that are put for a value, at most: more than any line spells, of which two bytes stand for nine at most.
+/// Whether a message or a state is too long is asked once they are known.
+const MAX_VALUE_BYTES: usize = 1_048_576;
 
 /// The member of that name. Only names of its length are compared.
 pub(crate) fn name_of(key: &str) -> Option<Name>
@@ -133,13 +136,7 @@ fn has_value(slots: &Slots<'_>) -> bool
 }
 
 /// Puts the next value's bytes in place of others, unless a value was put there before.
-fn take_value(
-    taken: bool,
-    bytes: &mut Vec<u8>,
-    limit: usize,
-    reader: &mut Tokens<'_>,
-) -> Result<(), Unread>
-    requires { limit < 2 ^ 32 }
+fn take_value(taken: bool, bytes: &mut Vec<u8>, reader: &mut Tokens<'_>) -> Result<(), Unread>
     ensures empty { OnOk result (taken ≡ false) }
     ensures value { OnOk result (PutsValue 126 reader.old reader.new [] bytes.new.items) }
 {
@@ -147,7 +144,7 @@ fn take_value(
         return Err(Unread::Unusual);
     }
     bytes.clear();
-    put_value(bytes, limit, reader, MEMBER_DEPTH)
+    put_value(bytes, MAX_VALUE_BYTES, reader, MEMBER_DEPTH)
 }
 
 /// Takes a member that wasn't there yet.
@@ -172,11 +169,11 @@ fn take_member<'a>(
         Name::Now => slots.moment = Some(take_natural(slots.moment, reader)?),
         Name::Failed => slots.failed = Some(take_truth(slots.failed, reader)?),
         Name::Args => {
-            take_value(has_value(slots), bytes, MAX_MESSAGE_BYTES, reader)?;
+            take_value(has_value(slots), bytes, reader)?;
             slots.args = true;
         }
         Name::State => {
-            take_value(has_value(slots), bytes, MAX_STATE_BYTES, reader)?;
+            take_value(has_value(slots), bytes, reader)?;
             slots.state = true;
         }
     }
