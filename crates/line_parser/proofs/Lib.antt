@@ -1,5 +1,6 @@
 pub mod Meaning
 pub mod GrammarLoops
+pub mod NoObject
 pub mod PlainLexemes
 pub mod PlainTokens
 pub mod PlainRuns

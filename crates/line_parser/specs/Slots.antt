@@ -1,6 +1,6 @@
 -- What is known of the members of a line: an object as serde_json reads it, and where each of its members went.
 use Rattle.std.specs.Prelude.{◌≡◌, ℕ, ◌<◌, ◌≤◌, ◌^◌, Bool, true, false, List, ◌∷◌, length, Option, Some, None, option_map, option_and_then, codes}
-use Rattle.json.specs.Token.{Token, number as number_token}
+use Rattle.json.specs.Token.{Token, begin_object, number as number_token}
 use Rattle.json.specs.Json.{value, if_last}
 use Rattle.serde_json.specs.Data.{Data, object, string, number, boolean, unsigned, Members, put}
 use Rattle.serde_json.specs.Events.{members_len}
@@ -8,6 +8,8 @@ use Rattle.serde_json.specs.Find.{get_member}
 use Rattle.serde_json.specs.Read.{of_json, converted, number_of}
 use Rattle.request_codec.specs.Limits.{depth_limit}
 use Rattle.request_codec.specs.Json.{json_depth}
+use Rattle.silo_event.specs.declared.step.Step.{Step}
+use Rattle.line_parser.specs.Form.{step_of_json}
 use Rattle.line_parser.specs.Lenient.{lenient_value, HasValue}
 use Rattle.request_codec.specs.Written.{spelling}
 use Rattle.line_parser.specs.declared.slots.Name.{Name}
@@ -88,6 +90,15 @@ pub record TakesMember (name : Name) (old new : List Token) (slots_old : Slots) 
   pub read : converted of_json (value 126 old) ≡ Some (json, new)
   pub holds : (found : Members) → HoldsSlots found slots_old bytes_old → HoldsSlots (put (name_text name) json found) slots_new bytes_new
   pub shorter : length new < length old
+
+-- the first token begins an object
+abbrev pub begins_object : List Token → Bool
+begins_object (begin_object ∷ ts) = true
+begins_object _ = false
+
+-- the step that tokens ask for
+abbrev pub asked_by : List Token → Option Step
+asked_by ts = option_and_then step_of_json (option_and_then of_json (option_and_then (λ p. if_last p.0 p.1) (value 127 ts)))
 
 -- the tokens are one object, whose members are known
 pub record HasSlots (ts : List Token) (slots : Slots) (bytes : List ℕ) : Type 0 where

@@ -1,9 +1,9 @@
 //! The members of a line, each by its name.
 
-ghost use Rattle.std.specs.Prelude.{◌≡◌, ◌<◌, ◌^◌, ◌||◌, [], ◌∷◌, false, None, IfSome, IfOk, OnOk, option_map};
+ghost use Rattle.std.specs.Prelude.{◌≡◌, ◌<◌, ◌^◌, ◌||◌, [], ◌∷◌, false, None, IfSome, IfOk, OnOk, MatchOption, option_map};
 ghost use Rattle.json.specs.Token.{string, boolean};
 ghost use Rattle.line_parser.specs.Argument.{PutsValue};
-ghost use Rattle.line_parser.specs.Slots.{name_text, TakesMember, HasSlots, IsNatural};
+ghost use Rattle.line_parser.specs.Slots.{name_text, TakesMember, asked_by, HasSlots, IsNatural};
 
 use crate::argument::put_value;
 use crate::number::whole_number;
@@ -180,14 +180,18 @@ fn take_member<'a>(
     Ok(())
 }
 
-/// The members of the object that the tokens are, if each is known and stands once.
+/// The members of the object that the tokens are, if each is known and stands once; none if the tokens are surely no
+/// request.
 pub(crate) fn read_slots<'a>(
     reader: &mut Tokens<'a>,
     bytes: &mut Vec<u8>,
-) -> Result<Slots<'a>, Unread>
-    ensures { IfOk result (λ slots. HasSlots reader.old slots bytes.new.items) }
+) -> Result<Option<Slots<'a>>, Unread>
+    ensures { IfOk result (λ slots. MatchOption slots (asked_by reader.old ≡ None) (λ s. HasSlots reader.old s bytes.new.items)) }
 {
-    reader.begin_map()?;
+    let begins = reader.take_begin_map()?;
+    if !begins {
+        return Ok(None);
+    }
     let mut slots = Slots {
         op: None,
         from: None,
@@ -206,7 +210,7 @@ pub(crate) fn read_slots<'a>(
     }
     let over = reader.ends()?;
     if over {
-        Ok(slots)
+        Ok(Some(slots))
     } else {
         Err(Unread::Unusual)
     }

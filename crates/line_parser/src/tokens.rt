@@ -1,13 +1,13 @@
 //! The tokens of a line. While they are spelled plainly they are read straight from the text; from the first that isn't
 //! on, by json's reader.
 
-ghost use Rattle.std.specs.Prelude.{◌≡◌, ◌∷◌, [], Some, None, IsTrue, IfOk, OnOk, option_map};
+ghost use Rattle.std.specs.Prelude.{◌≡◌, ◌∷◌, [], Some, None, false, IsTrue, IfOk, OnOk, option_map};
 ghost use Rattle.std.specs.Bool.{MatchBool};
 ghost use Rattle.json.specs.Token.{string, number, begin_object};
 ghost use Rattle.json.specs.Lex.{tokens};
 ghost use Rattle.json.specs.Json.{read_key, after_end_array};
 ghost use Rattle.json.specs.Reads.{token_of};
-ghost use Rattle.line_parser.specs.Slots.{name_text};
+ghost use Rattle.line_parser.specs.Slots.{name_text, begins_object};
 
 use crate::plain::{
     has_item, list_end, map_end, map_start, plain_key, plain_name, plain_number, plain_text,
@@ -97,21 +97,33 @@ impl<'a> Tokens<'a> {
         self.next_of_any()
     }
 
-    /// Takes the next token, which has to begin a map.
+    /// Takes the start of a map, if it is next, by json's reader.
+    #[inline(never)]
+    fn take_start_of_any(&mut self) -> Result<bool, Unread>
+        ensures { IfOk result (λ taken. MatchBool taken (self.old ≡ begin_object ∷ self.new) (begins_object self.old ≡ false)) }
+    {
+        self.leave_plain()?;
+        let Some(reader) = &mut self.reader else {
+            return Err(Unread::Unusual);
+        };
+        match reader.next() {
+            Some(Token::BeginObject) => Ok(true),
+            _ => Ok(false),
+        }
+    }
+
+    /// Takes the start of a map, if it is next.
     #[inline(always)]
-    pub(crate) fn begin_map(&mut self) -> Result<(), Unread>
-        ensures { OnOk result (self.old ≡ begin_object ∷ self.new) }
+    pub(crate) fn take_begin_map(&mut self) -> Result<bool, Unread>
+        ensures { IfOk result (λ taken. MatchBool taken (self.old ≡ begin_object ∷ self.new) (begins_object self.old ≡ false)) }
     {
         if self.reader.is_none() {
             if let Some(rest) = map_start(self.rest) {
                 self.rest = rest;
-                return Ok(());
+                return Ok(true);
             }
         }
-        match self.next_of_any()? {
-            Token::BeginObject => Ok(()),
-            _ => Err(Unread::Unusual),
-        }
+        self.take_start_of_any()
     }
 
     /// The next name, by json's reader; none at the end of the map.
