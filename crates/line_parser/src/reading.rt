@@ -114,14 +114,13 @@ fn read_text_step(alloc: Global, room: &mut LineRoom, text: &str) -> Result<Opti
     let Some(slots) = read_slots(&mut tokens, &mut room.args)? else {
         return Ok(None);
     };
-    let step = step_from(
+    step_from(
         alloc,
         &mut room.names,
         &mut room.message,
         &slots,
         room.args.as_slice(),
-    )?;
-    Ok(Some(step))
+    )
 }
 
 /// What a line says, without its LF. A line in the usual form is read without a tree; every other

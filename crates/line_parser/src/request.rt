@@ -1,6 +1,6 @@
 //! What the members of a line ask of a silo for a client.
 
-ghost use Rattle.std.specs.Prelude.{◌≡◌, ◌≤◌, ◌∷◌, ◌++◌, length, IfOk, OnOk, IsSome, Some, Ok};
+ghost use Rattle.std.specs.Prelude.{◌≡◌, ◌≤◌, ◌∷◌, ◌++◌, length, IfOk, OnOk, MatchOption, IsSome, None, Some, Ok};
 ghost use Rattle.serde_json.specs.Data.{Data, Members, object};
 ghost use Rattle.request_codec.specs.Call.{message_call, state_value};
 ghost use Rattle.request_codec.specs.Limits.{message_limit};
@@ -10,7 +10,7 @@ ghost use Rattle.line_parser.specs.Slots.{IsArgument, HoldsSlots};
 ghost use Rattle.line_parser.specs.Step.{FindsIn, Finds};
 
 use crate::asked::{call_with, poke_with};
-use crate::named::{caller_of, id_of};
+use crate::named::caller_of;
 use crate::slots::Slots;
 use crate::unread::Unread;
 use grain_id::LatelyRead;
@@ -18,7 +18,7 @@ use request_codec::bytes::{put, put_text};
 use request_codec::limits::{MAX_MESSAGE_BYTES, MAX_STATE_BYTES};
 use request_codec::{Message, StateBytes};
 use silo_event::{Refusal, Step};
-use std::alloc::Global;
+use std::alloc::{AllocError, Global};
 
 /// The bytes of a message beside its method and its argument: its version, and how long the method is.
 const MESSAGE_HEAD_BYTES: usize = 5;
@@ -71,22 +71,18 @@ fn read_state(alloc: Global, bytes: &[u8]) -> Result<Result<StateBytes, Refusal>
     Ok(Ok(state))
 }
 
-/// The bytes of a call's argument: null where it is left out.
-fn argument_of<'t>(slots: &Slots<'_>, bytes: &'t [u8]) -> Result<&'t [u8], Unread>
-    ensures { IfOk result (λ argument. (found : Members) → HoldsSlots found slots.now bytes.now
+/// The bytes of a call's argument: null where it is left out; none if the members are none of a call.
+fn argument_of<'t>(slots: &Slots<'_>, bytes: &'t [u8]) -> Option<&'t [u8]>
+    ensures { MatchOption result (FindsIn slots.now bytes.now argument_at None) (λ argument. (found : Members) → HoldsSlots found slots.now bytes.now
         → (json : Data) × (argument_at (object found) ≡ Some json) × IsArgument json argument.now) }
 {
-    if slots.args {
-        if slots.count == 6 {
-            Ok(bytes)
-        } else {
-            Err(Unread::Unusual)
-        }
-    } else if slots.count == 5 {
-        Ok(&[0])
-    } else {
-        Err(Unread::Unusual)
+    if slots.count == 5 {
+        return Some(&[0]);
     }
+    if slots.count == 6 && slots.args {
+        return Some(bytes);
+    }
+    None
 }
 
 /// The call, if the members are those of a call; it is refused if its message is too long, or its
@@ -97,25 +93,31 @@ pub(crate) fn call_from(
     out: &mut Vec<u8>,
     slots: &Slots<'_>,
     bytes: &[u8],
-) -> Result<Step, Unread>
+) -> Result<Option<Step>, Unread>
     requires { (found : Members) × HoldsSlots found slots.now bytes.now }
     ensures { IfOk result (λ step. FindsIn slots.now bytes.now call_of step) }
 {
-    let argument = argument_of(slots, bytes)?;
-    let caller = caller_of(alloc, names, slots)?;
-    let id = id_of(slots)?;
+    let Some(argument) = argument_of(slots, bytes) else {
+        return Ok(None);
+    };
+    let Some(caller) = caller_of(alloc, names, slots)? else {
+        return Ok(None);
+    };
+    let Some(id) = slots.id else {
+        return Ok(None);
+    };
     let Some(grain) = slots.grain else {
-        return Err(Unread::Unusual);
+        return Ok(None);
     };
     let Some(method) = slots.method else {
-        return Err(Unread::Unusual);
+        return Ok(None);
     };
     match read_message(alloc, out, method, argument)? {
         Ok(message) => {
             let step = call_with(alloc, names, caller, id, grain, message)?;
-            Ok(step)
+            Ok(Some(step))
         }
-        Err(code) => Ok(Step::Refuse { caller, id, code }),
+        Err(code) => Ok(Some(Step::Refuse { caller, id, code })),
     }
 }
 
@@ -126,26 +128,30 @@ pub(crate) fn poke_from(
     names: &mut LatelyRead,
     slots: &Slots<'_>,
     bytes: &[u8],
-) -> Result<Step, Unread>
+) -> Result<Option<Step>, Unread>
     ensures { IfOk result (λ step. FindsIn slots.now bytes.now poke_of step) }
 {
-    if !slots.state {
-        return Err(Unread::Unusual);
-    }
     if slots.count != 5 {
-        return Err(Unread::Unusual);
+        return Ok(None);
     }
-    let caller = caller_of(alloc, names, slots)?;
-    let id = id_of(slots)?;
-    let Some(grain) = slots.grain else {
-        return Err(Unread::Unusual);
+    let Some(caller) = caller_of(alloc, names, slots)? else {
+        return Ok(None);
     };
+    let Some(id) = slots.id else {
+        return Ok(None);
+    };
+    let Some(grain) = slots.grain else {
+        return Ok(None);
+    };
+    if !slots.state {
+        return Ok(None);
+    }
     match read_state(alloc, bytes)? {
         Ok(state) => {
             let step = poke_with(alloc, names, caller, id, grain, state)?;
-            Ok(step)
+            Ok(Some(step))
         }
-        Err(code) => Ok(Step::Refuse { caller, id, code }),
+        Err(code) => Ok(Some(Step::Refuse { caller, id, code })),
     }
 }
 
@@ -154,13 +160,17 @@ pub(crate) fn status_from(
     alloc: Global,
     names: &mut LatelyRead,
     slots: &Slots<'_>,
-) -> Result<Step, Unread>
+) -> Result<Option<Step>, AllocError>
     ensures { IfOk result (λ step. Finds slots.now status_of step) }
 {
     if slots.count != 3 {
-        return Err(Unread::Unusual);
+        return Ok(None);
     }
-    let caller = caller_of(alloc, names, slots)?;
-    let id = id_of(slots)?;
-    Ok(Step::Status { caller, id })
+    let Some(caller) = caller_of(alloc, names, slots)? else {
+        return Ok(None);
+    };
+    let Some(id) = slots.id else {
+        return Ok(None);
+    };
+    Ok(Some(Step::Status { caller, id }))
 }
