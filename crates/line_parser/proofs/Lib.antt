@@ -6,6 +6,7 @@ pub mod PlainTokens
 pub mod PlainRuns
 pub mod PlainNaturals
 pub mod ItemsRead
+pub mod Broken
 pub mod Ordered
 pub mod FieldsRead
 pub mod Numbers

@@ -25,7 +25,7 @@ if_read : {A : Type 0} (f : A → Data) → ((a : A) → as_object (f a) ≡ Non
 if_read f none None = refl
 if_read f none (Some a) = no_form (f a) (none a)
 
-abbrev asked : Option (json.Json × List Token) → Option Step
+abbrev pub asked : Option (json.Json × List Token) → Option Step
 asked o = option_and_then step_of_json (whole o)
 
 if_alone : (j : json.Json) (ts : List Token) → option_and_then step_of_json (of_json j) ≡ None → asked (Some (j, ts)) ≡ None

@@ -1,7 +1,7 @@
 -- What is known of the members of a line: an object as serde_json reads it, and where each of its members went.
 use Rattle.std.specs.Prelude.{◌≡◌, ℕ, ◌<◌, ◌≤◌, ◌^◌, Bool, true, false, List, ◌∷◌, length, Option, Some, None, option_map, option_and_then, codes}
 use Rattle.json.specs.Token.{Token, begin_object, number as number_token}
-use Rattle.json.specs.Json.{value, if_last}
+use Rattle.json.specs.Json.{value, if_last, read_key}
 use Rattle.serde_json.specs.Data.{Data, object, string, number, boolean, unsigned, Members, put}
 use Rattle.serde_json.specs.Events.{members_len}
 use Rattle.serde_json.specs.Find.{get_member}
@@ -14,6 +14,8 @@ use Rattle.line_parser.specs.Lenient.{lenient_value, HasValue}
 use Rattle.request_codec.specs.Written.{spelling}
 use Rattle.line_parser.specs.declared.slots.Name.{Name}
 use Rattle.line_parser.specs.declared.slots.Name.TheVariants.{Op, From, Id, Grain, Method, Turn, Now, Failed, Args, State}
+use Rattle.line_parser.specs.declared.slots.Next.{Next}
+use Rattle.line_parser.specs.declared.slots.Next.TheVariants.{Member, End, Broken}
 use Rattle.line_parser.specs.declared.slots.Slots.{Slots}
 
 -- the name of a member
@@ -28,6 +30,12 @@ name_text Now = codes "now"
 name_text Failed = codes "failed"
 name_text Args = codes "args"
 name_text State = codes "state"
+
+-- what the tokens of an object go on with
+abbrev pub IsNext : List Token → Next → List Token → Type 0
+IsNext old (Member name) new = read_key old ≡ Some (Some (name_text name), new)
+IsNext old End new = read_key old ≡ Some (None, new)
+IsNext old Broken new = read_key old ≡ None
 
 -- the first token is a number that is not below 0
 pub record IsNatural (old : List Token) (n : ℕ) (new : List Token) : Type 0 where

@@ -26,6 +26,14 @@ pub(crate) enum Name {
     State,
 }
 
+/// What a line's object goes on with: a member, its end, or what no object has there.
+#[derive(Clone, Copy)]
+pub(crate) enum Next {
+    Member(Name),
+    End,
+    Broken,
+}
+
 /// What the members of a line were, each at most once. `args` and `state` say whether they were
 /// there, which is at most one of them; its bytes are kept elsewhere.
 #[derive(Drop)]
@@ -205,13 +213,13 @@ pub(crate) fn read_slots<'a>(
         state: false,
         count: 0,
     };
-    'members: while let Some(name) = reader.next_name()? {
-        take_member(&mut slots, bytes, reader, name)?;
+    'members: loop {
+        match reader.next_member()? {
+            Next::Member(name) => take_member(&mut slots, bytes, reader, name)?,
+            Next::End => break,
+            Next::Broken => return Ok(None),
+        }
     }
     let over = reader.ends()?;
-    if over {
-        Ok(Some(slots))
-    } else {
-        Err(Unread::Unusual)
-    }
+    if over { Ok(Some(slots)) } else { Ok(None) }
 }

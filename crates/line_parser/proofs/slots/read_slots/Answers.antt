@@ -1,8 +1,8 @@
 use Rattle.std.proofs.Common.{◌≡◌, [], Some, None, refl, ap, ◌∙◌, arith}
-use Rattle.json.specs.Json.{read_key}
 use Rattle.line_parser.specs.Slots.{name_text}
 use Rattle.line_parser.proofs.MembersTaken.{nothing_held}
 use Rattle.line_parser.proofs.ItemsRead.{members_start, members_next, members_stop}
+use Rattle.line_parser.proofs.Broken.{members_broken, text_behind}
 use Rattle.line_parser.proofs.NoObject.{asked_by-no_object}
 use Rattle.line_parser.proofs.slots.read_slots.Goals as goal
 
@@ -18,17 +18,24 @@ members-init c = record {
 pub members-preserved : goal.members-preserved
 members-preserved c =
     let l = c.members in
-    let name = c.in-Some.name in
-    let k = name_text name in
-    let named : read_key l.reader ≡ Some (Some k, c.next_name.new.self) = grind arith in
+    let name = c.in-Member.name in
     record {
-      so_far = members_next c.take_begin_map.new.self l.reader c.next_name.new.self c.take_member.new.reader l.slots c.take_member.new.slots l.bytes.items c.take_member.new.bytes.items name k l.invariant.so_far named refl c.in_ok-take_member.ensures;
+      so_far = members_next c.take_begin_map.new.self l.reader c.next_member.new.self c.take_member.new.reader l.slots c.take_member.new.slots l.bytes.items c.take_member.new.bytes.items name (name_text name) l.invariant.so_far (rw c.in-Member.is at c.in_ok-name.ensures) refl c.in_ok-take_member-in-Member.ensures;
       first = l.invariant.first;
     }
+
+pub returns-in-Broken : goal.returns-in-Broken
+returns-in-Broken c =
+    let l = c.members in
+    members_broken c.take_begin_map.new.self l.reader l.slots l.bytes.items c.args.reader.now l.invariant.first l.invariant.so_far (rw c.in-Broken.is at c.in_ok-name.ensures)
 
 pub returns-then-over : goal.returns-then-over
 returns-then-over c =
     let l = c.members in
-    let last : c.next_name.new.self ≡ [] = c.in_ok-over.ensures c.if-over.true in
-    let over : read_key l.reader ≡ Some (None, c.next_name.new.self) = grind arith in
-    members_stop c.take_begin_map.new.self l.reader l.slots l.bytes.items c.args.reader.now l.invariant.first l.invariant.so_far (over ∙ ap (λ ts. Some (None, ts)) last)
+    let last = rw c.if-over.true at c.in_ok-over.ensures in
+    members_stop c.take_begin_map.new.self l.reader l.slots l.bytes.items c.args.reader.now l.invariant.first l.invariant.so_far ((rw c.in-End.is at c.in_ok-name.ensures) ∙ ap (λ ts. Some (None, ts)) last)
+
+pub returns-else-over : goal.returns-else-over
+returns-else-over c =
+    let l = c.members in
+    text_behind c.take_begin_map.new.self l.reader l.slots l.bytes.items c.args.reader.now l.invariant.first l.invariant.so_far _ (rw c.in-End.is at c.in_ok-name.ensures) (rw c.if-over.false at c.in_ok-over.ensures)
