@@ -1,5 +1,5 @@
 -- What is known of the members of a line: an object as serde_json reads it, and where each of its members went.
-use Rattle.std.specs.Prelude.{◌≡◌, ℕ, ◌<◌, ◌≤◌, ◌^◌, Bool, true, false, List, ◌∷◌, length, Option, Some, None, option_map, option_and_then, codes}
+use Rattle.std.specs.Prelude.{◌≡◌, ℕ, ◌<◌, ◌≤◌, ◌^◌, Bool, true, false, List, ◌∷◌, length, Option, Some, None, option_map, option_and_then, if◌then◌else◌, bytes_eq, codes}
 use Rattle.json.specs.Token.{Token, begin_object, number as number_token}
 use Rattle.json.specs.Json.{value, if_last, read_key}
 use Rattle.serde_json.specs.Data.{Data, object, string, number, boolean, unsigned, Members, put}
@@ -15,7 +15,7 @@ use Rattle.request_codec.specs.Written.{spelling}
 use Rattle.line_parser.specs.declared.slots.Name.{Name}
 use Rattle.line_parser.specs.declared.slots.Name.TheVariants.{Op, From, Id, Grain, Method, Turn, Now, Failed, Args, State}
 use Rattle.line_parser.specs.declared.slots.Next.{Next}
-use Rattle.line_parser.specs.declared.slots.Next.TheVariants.{Member, End, Broken}
+use Rattle.line_parser.specs.declared.slots.Next.TheVariants.{Member, Other, End, Broken}
 use Rattle.line_parser.specs.declared.slots.Slots.{Slots}
 
 -- the name of a member
@@ -31,9 +31,25 @@ name_text Failed = codes "failed"
 name_text Args = codes "args"
 name_text State = codes "state"
 
+-- the member that has the name
+unfoldable pub named : List ℕ → Option Name
+named k =
+    if bytes_eq k (codes "op") then Some Op
+    else if bytes_eq k (codes "from") then Some From
+    else if bytes_eq k (codes "grain") then Some Grain
+    else if bytes_eq k (codes "method") then Some Method
+    else if bytes_eq k (codes "id") then Some Id
+    else if bytes_eq k (codes "turn") then Some Turn
+    else if bytes_eq k (codes "now") then Some Now
+    else if bytes_eq k (codes "failed") then Some Failed
+    else if bytes_eq k (codes "args") then Some Args
+    else if bytes_eq k (codes "state") then Some State
+    else None
+
 -- what the tokens of an object go on with
 abbrev pub IsNext : List Token → Next → List Token → Type 0
 IsNext old (Member name) new = read_key old ≡ Some (Some (name_text name), new)
+IsNext old Other new = (k : List ℕ) × (read_key old ≡ Some (Some k, new)) × (named k ≡ None)
 IsNext old End new = read_key old ≡ Some (None, new)
 IsNext old Broken new = read_key old ≡ None
 

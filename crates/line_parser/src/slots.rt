@@ -3,7 +3,7 @@
 ghost use Rattle.std.specs.Prelude.{◌≡◌, ◌<◌, ◌^◌, ◌||◌, [], ◌∷◌, false, None, IfSome, IfOk, OnOk, MatchOption, option_map};
 ghost use Rattle.json.specs.Token.{string, boolean};
 ghost use Rattle.line_parser.specs.Argument.{PutsValue};
-ghost use Rattle.line_parser.specs.Slots.{name_text, TakesMember, asked_by, HasSlots, IsNatural};
+ghost use Rattle.line_parser.specs.Slots.{name_text, named, TakesMember, asked_by, HasSlots, IsNatural};
 
 use crate::argument::put_value;
 use crate::number::whole_number;
@@ -26,10 +26,11 @@ pub(crate) enum Name {
     State,
 }
 
-/// What a line's object goes on with: a member, its end, or what no object has there.
+/// What a line's object goes on with: a member, one that no form has, its end, or what no object has there.
 #[derive(Clone, Copy)]
 pub(crate) enum Next {
     Member(Name),
+    Other,
     End,
     Broken,
 }
@@ -58,36 +59,23 @@ const MEMBER_DEPTH: usize = 126;
 /// Whether a message or a state is too long is asked once they are known.
 const MAX_VALUE_BYTES: usize = 1_048_576;
 
-/// The member of that name. Only names of its length are compared.
+#[tactic(auto, unfolding(crate::specs::Slots::named))]
+/// The member of that name.
 pub(crate) fn name_of(key: &str) -> Option<Name>
-    ensures { IfSome result (λ name. key.now ≡ name_text name) }
+    ensures known { IfSome result (λ name. key.now ≡ name_text name) }
+    ensures other { result ≡ named key.now }
 {
-    match key.len() {
-        2 => match key {
-            "op" => Some(Name::Op),
-            "id" => Some(Name::Id),
-            _ => None,
-        },
-        3 => match key {
-            "now" => Some(Name::Now),
-            _ => None,
-        },
-        4 => match key {
-            "turn" => Some(Name::Turn),
-            "from" => Some(Name::From),
-            "args" => Some(Name::Args),
-            _ => None,
-        },
-        5 => match key {
-            "grain" => Some(Name::Grain),
-            "state" => Some(Name::State),
-            _ => None,
-        },
-        6 => match key {
-            "method" => Some(Name::Method),
-            "failed" => Some(Name::Failed),
-            _ => None,
-        },
+    match key {
+        "op" => Some(Name::Op),
+        "from" => Some(Name::From),
+        "grain" => Some(Name::Grain),
+        "method" => Some(Name::Method),
+        "id" => Some(Name::Id),
+        "turn" => Some(Name::Turn),
+        "now" => Some(Name::Now),
+        "failed" => Some(Name::Failed),
+        "args" => Some(Name::Args),
+        "state" => Some(Name::State),
         _ => None,
     }
 }
@@ -217,7 +205,7 @@ pub(crate) fn read_slots<'a>(
         match reader.next_member()? {
             Next::Member(name) => take_member(&mut slots, bytes, reader, name)?,
             Next::End => break,
-            Next::Broken => return Ok(None),
+            Next::Other | Next::Broken => return Ok(None),
         }
     }
     let over = reader.ends()?;

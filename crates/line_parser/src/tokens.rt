@@ -169,7 +169,7 @@ impl<'a> Tokens<'a> {
         match reader.next_key() {
             Ok(Some(key)) => match name_of(key) {
                 Some(name) => Ok(Next::Member(name)),
-                None => Err(Unread::Unusual),
+                None => Ok(Next::Other),
             },
             Ok(None) => Ok(Next::End),
             Err(_) => Ok(Next::Broken),

@@ -1,8 +1,8 @@
-use Rattle.std.proofs.Common.{◌≡◌, [], Some, None, refl, ap, ◌∙◌, arith}
+use Rattle.std.proofs.Common.{inl, inr, Some, None, refl, ap, ◌∙◌, arith}
 use Rattle.line_parser.specs.Slots.{name_text}
 use Rattle.line_parser.proofs.MembersTaken.{nothing_held}
 use Rattle.line_parser.proofs.ItemsRead.{members_start, members_next, members_stop}
-use Rattle.line_parser.proofs.Broken.{members_broken, text_behind}
+use Rattle.line_parser.proofs.NoRequest.{members_broken, other_member, text_behind}
 use Rattle.line_parser.proofs.NoObject.{asked_by-no_object}
 use Rattle.line_parser.proofs.slots.read_slots.Goals as goal
 
@@ -24,10 +24,14 @@ members-preserved c =
       first = l.invariant.first;
     }
 
-pub returns-in-Broken : goal.returns-in-Broken
-returns-in-Broken c =
+pub returns-in-Other : goal.returns-in-Other
+returns-in-Other c =
     let l = c.members in
-    members_broken c.take_begin_map.new.self l.reader l.slots l.bytes.items c.args.reader.now l.invariant.first l.invariant.so_far (rw c.in-Broken.is at c.in_ok-name.ensures)
+    let begun = c.take_begin_map.new.self in
+    elim c.in-Other.is [
+      | inl is ↦ (let other = rw is at c.in_ok-name.ensures in other_member begun l.reader l.slots l.bytes.items c.args.reader.now l.invariant.first l.invariant.so_far other.0 _ other.1 other.2)
+      | inr is ↦ members_broken begun l.reader l.slots l.bytes.items c.args.reader.now l.invariant.first l.invariant.so_far (rw is at c.in_ok-name.ensures)
+    ]
 
 pub returns-then-over : goal.returns-then-over
 returns-then-over c =

@@ -1,16 +1,17 @@
--- A text whose object breaks off, or that goes on behind it, is no request.
-use Rattle.std.proofs.Common.{◌≡◌, ◌≢◌, List, [], ◌∷◌, length, ℕ, Option, Some, None, option_map, option_and_then, refl, sym, ap, ◌∙◌, arith}
+-- A text whose object breaks off, has a member that no form has, or is followed by anything, is no request.
+use Rattle.std.proofs.Common.{◌≡◌, ◌≢◌, ◌<◌, List, [], ◌∷◌, length, ℕ, Option, Some, None, option_map, option_and_then, refl, sym, ap, ◌∙◌, arith}
 use Rattle.json.specs.Token.{Token, begin_object}
 use Rattle.json.specs.Json as json
 use Rattle.json.specs.Json.{value, members, parse_map, read_key}
-use Rattle.json.proofs.Grammar.{value-begin_object, members_no_key}
-use Rattle.serde_json.specs.Data.{Data, Members, no_members, object}
+use Rattle.json.proofs.Grammar.{read_key-shorter, value-begin_object, members_no_key}
+use Rattle.serde_json.specs.Data.{Members, no_members, object}
 use Rattle.serde_json.specs.Read.{of_members, converted}
 use Rattle.line_parser.specs.Form.{step_of_json}
-use Rattle.line_parser.specs.Slots.{asked_by}
+use Rattle.line_parser.specs.Slots.{named, asked_by}
 use Rattle.line_parser.specs.declared.slots.Slots.{Slots}
 use Rattle.line_parser.proofs.ItemsRead.{MembersRead}
 use Rattle.line_parser.proofs.GrammarLoops.{members_over}
+use Rattle.line_parser.proofs.OtherMembers.{other_stays, no_step}
 use Rattle.line_parser.proofs.NoObject.{asked}
 
 abbrev rest_of : Option (Members × List Token) → List Token
@@ -43,6 +44,11 @@ module _ (initial ts : List Token) (slots : Slots) (bytes : List ℕ) (all : Lis
   members_broken broken =
       let none : left ≡ None = ap (converted (λ ms. of_members ms m.found)) (members_no_key (value 126) m.turns ts broken) in
       none_asked (λ found e. absurd (cc))
+
+  pub other_member : (k : List ℕ) (rest : List Token) → read_key ts ≡ Some (Some k, rest) → named k ≡ None → asked_by all ≡ None
+  other_member k rest key other =
+      let some : 0 < m.turns = omega (arith, m.enough, read_key-shorter ts (Some k) rest key) in
+      none_asked (λ found e. no_step k found other (other_stays (value 126) m.turns k ts rest some key m.found found [] e))
 
   pub text_behind : (rest : List Token) → read_key ts ≡ Some (None, rest) → rest ≢ [] → asked_by all ≡ None
   text_behind rest over some = none_asked (λ found e. absurd (some (ap rest_of (sym (members_over (value 126) m.found m.turns ts rest m.enough over) ∙ e))))
