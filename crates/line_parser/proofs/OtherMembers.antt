@@ -10,11 +10,11 @@ use Rattle.json.specs.Json.{Parse, parse_map, read_key, members}
 use Rattle.json.proofs.Grammar.{members_fail, members_more}
 use Rattle.serde_json.specs.Data.{Data, null, Members, put, object}
 use Rattle.serde_json.specs.Events.{members_len}
-use Rattle.serde_json.specs.Find.{get_member}
+use Rattle.serde_json.specs.Find.{get_member, as_str}
 use Rattle.serde_json.specs.Read.{of_json, of_members, converted}
 use Rattle.silo_event.specs.declared.step.Step.{Step}
 use Rattle.silo_event.specs.declared.step.Step.TheVariants as step
-use Rattle.grain_id.specs.Names.{Grain, Client}
+use Rattle.grain_id.specs.Names.{Grain}
 use Rattle.line_parser.specs.Form.{where_so, text_at, natural_at, truth_at, grain_at, caller_at, has_members, argument_at, failed_at, call_of, poke_of, status_of, grain_form, load_of, store_of, turn_alone, turn_form, tick_of, sweep_of, form_of, step_of_json}
 use Rattle.line_parser.specs.Slots.{named}
 use Rattle.line_parser.specs.declared.slots.Name.{Name}
@@ -87,20 +87,12 @@ module _ (k : List ℕ) (ms : Members) (other : named k ≡ None) (has : Has ms 
   full : (ns : List Name) (n : ℕ) → length ns ≡ n → are_apart ns ≡ true → HasAll ms ns → has_members n (object ms) ≡ true → ⊥
   full ns n e apart all count = omega (arith, one_more k ns ms other has apart all, eqb-true (members_len ms) n count, e)
 
-  text : (name s : List ℕ) → text_at name (object ms) ≡ Some s → Has ms name
-  text name s e = let b = bound _ (get_member name ms) s e in (b.0, b.1)
+  there : {A : Type 0} (f : Data → Option A) (name : List ℕ) (a : A) → option_and_then f (get_member name ms) ≡ Some a → Has ms name
+  there f name a e = let b = bound f (get_member name ms) a e in (b.0, b.1)
 
-  natural : (name : List ℕ) (n : ℕ) → natural_at name (object ms) ≡ Some n → Has ms name
-  natural name n e = let b = bound _ (get_member name ms) n e in (b.0, b.1)
-
-  truth : (name : List ℕ) (b : Bool) → truth_at name (object ms) ≡ Some b → Has ms name
-  truth name b e = let v = bound _ (get_member name ms) b e in (v.0, v.1)
-
-  grain : (g : Grain) → grain_at (object ms) ≡ Some g → Has ms (codes "grain")
-  grain g e = let b = bound _ (text_at (codes "grain") (object ms)) g e in text (codes "grain") b.0 b.1
-
-  caller : (c : Client) → caller_at (object ms) ≡ Some c → Has ms (codes "from")
-  caller c e = let b = bound _ (text_at (codes "from") (object ms)) c e in text (codes "from") b.0 b.1
+  -- of which a text is read
+  read_there : {A : Type 0} (f : List ℕ → Option A) (name : List ℕ) (a : A) → option_and_then f (text_at name (object ms)) ≡ Some a → Has ms name
+  read_there f name a e = let b = bound f (text_at name (object ms)) a e in there as_str name b.0 b.1
 
   module _ (op : Has ms (codes "op")) where
     no_sweep : (x : Step) → sweep_of (object ms) ≡ Some x → ⊥
@@ -112,13 +104,13 @@ module _ (k : List ℕ) (ms : Members) (other : named k ≡ None) (has : Has ms 
     no_tick x e =
         let u = under (has_members 2 (object ms)) _ x e in
         let now = mapped _ (natural_at (codes "now") (object ms)) x u.1 in
-        full (Op ∷ Now ∷ []) 2 refl refl (op, (natural (codes "now") now.0 now.1, tt)) u.0
+        full (Op ∷ Now ∷ []) 2 refl refl (op, (there _ (codes "now") now.0 now.1, tt)) u.0
 
     no_grain : (make : Grain → Step) (x : Step) → grain_form make (object ms) ≡ Some x → ⊥
     no_grain make x e =
         let u = under (has_members 2 (object ms)) _ x e in
         let g = mapped make (grain_at (object ms)) x u.1 in
-        full (Op ∷ name.Grain ∷ []) 2 refl refl (op, (grain g.0 g.1, tt)) u.0
+        full (Op ∷ name.Grain ∷ []) 2 refl refl (op, (read_there _ (codes "grain") g.0 g.1, tt)) u.0
 
     no_turn : (make : Grain → ℕ → Step) (x : Step) → turn_form make (object ms) ≡ Some x → ⊥
     no_turn make x e =
@@ -126,7 +118,7 @@ module _ (k : List ℕ) (ms : Members) (other : named k ≡ None) (has : Has ms 
         let u = under (has_members 3 (object ms)) _ m.0 m.1 in
         let g = bound _ (grain_at (object ms)) m.0 u.1 in
         let t = mapped _ (natural_at (codes "turn") (object ms)) m.0 g.2 in
-        full (Op ∷ name.Grain ∷ Turn ∷ []) 3 refl refl (op, (grain g.0 g.1, (natural (codes "turn") t.0 t.1, tt))) u.0
+        full (Op ∷ name.Grain ∷ Turn ∷ []) 3 refl refl (op, (read_there _ (codes "grain") g.0 g.1, (there _ (codes "turn") t.0 t.1, tt))) u.0
 
     no_status : (x : Step) → status_of (object ms) ≡ Some x → ⊥
     unfolding status_of
@@ -134,7 +126,7 @@ module _ (k : List ℕ) (ms : Members) (other : named k ≡ None) (has : Has ms 
         let u = under (has_members 3 (object ms)) _ x e in
         let c = bound _ (caller_at (object ms)) x u.1 in
         let i = mapped _ (natural_at (codes "id") (object ms)) x c.2 in
-        full (Op ∷ From ∷ Id ∷ []) 3 refl refl (op, (caller c.0 c.1, (natural (codes "id") i.0 i.1, tt))) u.0
+        full (Op ∷ From ∷ Id ∷ []) 3 refl refl (op, (read_there _ (codes "from") c.0 c.1, (there _ (codes "id") i.0 i.1, tt))) u.0
 
     no_poke : (x : Step) → poke_of (object ms) ≡ Some x → ⊥
     unfolding poke_of
@@ -144,7 +136,7 @@ module _ (k : List ℕ) (ms : Members) (other : named k ≡ None) (has : Has ms 
         let i = bound _ (natural_at (codes "id") (object ms)) x c.2 in
         let g = bound _ (text_at (codes "grain") (object ms)) x i.2 in
         let v = mapped _ (get_member (codes "state") ms) x g.2 in
-        full (Op ∷ From ∷ Id ∷ name.Grain ∷ State ∷ []) 5 refl refl (op, (caller c.0 c.1, (natural (codes "id") i.0 i.1, (text (codes "grain") g.0 g.1, ((v.0, v.1), tt))))) u.0
+        full (Op ∷ From ∷ Id ∷ name.Grain ∷ State ∷ []) 5 refl refl (op, (read_there _ (codes "from") c.0 c.1, (there _ (codes "id") i.0 i.1, (there _ (codes "grain") g.0 g.1, ((v.0, v.1), tt))))) u.0
 
     no_load : (x : Step) → load_of (object ms) ≡ Some x → ⊥
     unfolding load_of
@@ -152,8 +144,8 @@ module _ (k : List ℕ) (ms : Members) (other : named k ≡ None) (has : Has ms 
         let f = bound _ (failed_at 2 (object ms)) x e in
         let g = mapped _ (grain_at (object ms)) x f.2 in
         elim (either (has_members 2 (object ms)) (has_members 3 (object ms)) (truth_at (codes "failed") (object ms)) false f.0 f.1) [
-          | inl two ↦ full (Op ∷ name.Grain ∷ []) 2 refl refl (op, (grain g.0 g.1, tt)) two
-          | inr three ↦ full (Op ∷ name.Grain ∷ Failed ∷ []) 3 refl refl (op, (grain g.0 g.1, (truth (codes "failed") f.0 three.1, tt))) three.0
+          | inl two ↦ full (Op ∷ name.Grain ∷ []) 2 refl refl (op, (read_there _ (codes "grain") g.0 g.1, tt)) two
+          | inr three ↦ full (Op ∷ name.Grain ∷ Failed ∷ []) 3 refl refl (op, (read_there _ (codes "grain") g.0 g.1, (there _ (codes "failed") f.0 three.1, tt))) three.0
         ]
 
     no_store : (x : Step) → store_of (object ms) ≡ Some x → ⊥
@@ -163,8 +155,8 @@ module _ (k : List ℕ) (ms : Members) (other : named k ≡ None) (has : Has ms 
         let g = bound _ (grain_at (object ms)) x f.2 in
         let t = mapped _ (natural_at (codes "turn") (object ms)) x g.2 in
         elim (either (has_members 3 (object ms)) (has_members 4 (object ms)) (truth_at (codes "failed") (object ms)) false f.0 f.1) [
-          | inl three ↦ full (Op ∷ name.Grain ∷ Turn ∷ []) 3 refl refl (op, (grain g.0 g.1, (natural (codes "turn") t.0 t.1, tt))) three
-          | inr four ↦ full (Op ∷ name.Grain ∷ Turn ∷ Failed ∷ []) 4 refl refl (op, (grain g.0 g.1, (natural (codes "turn") t.0 t.1, (truth (codes "failed") f.0 four.1, tt)))) four.0
+          | inl three ↦ full (Op ∷ name.Grain ∷ Turn ∷ []) 3 refl refl (op, (read_there _ (codes "grain") g.0 g.1, (there _ (codes "turn") t.0 t.1, tt))) three
+          | inr four ↦ full (Op ∷ name.Grain ∷ Turn ∷ Failed ∷ []) 4 refl refl (op, (read_there _ (codes "grain") g.0 g.1, (there _ (codes "turn") t.0 t.1, (there _ (codes "failed") f.0 four.1, tt)))) four.0
         ]
 
     no_call : (x : Step) → call_of (object ms) ≡ Some x → ⊥
@@ -175,10 +167,10 @@ module _ (k : List ℕ) (ms : Members) (other : named k ≡ None) (has : Has ms 
         let i = bound _ (natural_at (codes "id") (object ms)) x c.2 in
         let g = bound _ (text_at (codes "grain") (object ms)) x i.2 in
         let m = mapped _ (text_at (codes "method") (object ms)) x g.2 in
-        let from = caller c.0 c.1 in
-        let id = natural (codes "id") i.0 i.1 in
-        let grain_text = text (codes "grain") g.0 g.1 in
-        let method = text (codes "method") m.0 m.1 in
+        let from = read_there _ (codes "from") c.0 c.1 in
+        let id = there _ (codes "id") i.0 i.1 in
+        let grain_text = there _ (codes "grain") g.0 g.1 in
+        let method = there _ (codes "method") m.0 m.1 in
         elim (either (has_members 5 (object ms)) (has_members 6 (object ms)) (get_member (codes "args") ms) null a.0 a.1) [
           | inl five ↦ full (Op ∷ From ∷ Id ∷ name.Grain ∷ Method ∷ []) 5 refl refl (op, (from, (id, (grain_text, (method, tt))))) five
           | inr six ↦ full (Op ∷ From ∷ Id ∷ name.Grain ∷ Method ∷ Args ∷ []) 6 refl refl (op, (from, (id, (grain_text, (method, ((a.0, six.1), tt)))))) six.0
@@ -190,7 +182,7 @@ module _ (k : List ℕ) (ms : Members) (other : named k ≡ None) (has : Has ms 
 
   by_op : (o : Option (List ℕ)) → text_at (codes "op") (object ms) ≡ o → option_and_then (λ word. form_of word (object ms)) o ≡ None
   by_op None is = refl
-  by_op (Some word) is = no_form (text (codes "op") word is) word
+  by_op (Some word) is = no_form (there as_str (codes "op") word is) word
 
   pub no_step : step_of_json (object ms) ≡ None
   unfolding step_of_json

@@ -50,6 +50,7 @@ fn read_request(
 }
 
 /// What a line says, by the step that it asks for.
+#[inline(always)]
 fn line_of(step: Option<Step>) -> Line
     ensures { result ≡ meaning_by step }
 {
