@@ -11,4 +11,8 @@ pub mod Numbers
 pub mod Counts
 pub mod PutValues
 pub mod MembersTaken
+pub mod OtherNames
+pub mod OtherMembers
+pub mod NoObject
+pub mod NoRequest
 pub mod Steps

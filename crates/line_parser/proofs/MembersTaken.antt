@@ -18,7 +18,7 @@ use Rattle.line_parser.specs.declared.slots.Name.{Name}
 use Rattle.line_parser.specs.declared.slots.Name.TheVariants.{Op, From, Grain, Method, Id, Turn, Now, Failed, Args, State}
 use Rattle.line_parser.specs.declared.slots.Slots.{Slots}
 
-abbrev order : List ℕ → List ℕ → Ordering
+abbrev pub order : List ℕ → List ℕ → Ordering
 order = slice_cmp nat_cmp
 
 level : (o : Ordering) → o ≡ ordering_reverse o → o ≡ Equal
@@ -29,7 +29,7 @@ level Greater e = absurd (cc)
 order-same : (k : List ℕ) → order k k ≡ Equal
 order-same k = level (order k k) (nat_list_cmp_total.antisymm k k)
 
-apart : {A : Type 0} (o : Ordering) (a b : A) → is_eq o ≡ false → match_ordering o a b a ≡ a
+pub apart : {A : Type 0} (o : Ordering) (a b : A) → is_eq o ≡ false → match_ordering o a b a ≡ a
 apart Less a b e = refl
 apart Equal a b e = absurd (cc)
 apart Greater a b e = refl

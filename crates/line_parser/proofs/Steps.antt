@@ -1,72 +1,63 @@
 -- The step that an object asks for, once it is known where its members are.
-use Rattle.std.proofs.Common.{false, ◌≡◌, ℕ, suc, ◌≤◌, true, ◌==◌, List, [], ◌∷◌, ◌++◌, length, Bool, Option, Some, Ok, pos, codes, refl, sym, ap, subst, ◌∙◌, arith, lt-ltb, le-leb}
-use Rattle.std.specs.Prelude.{option_and_then, IsUtf8}
+use Rattle.std.proofs.Common.{false, ◌≡◌, ℕ, ◌+◌, ◌<◌, ◌≤◌, true, ◌==◌, List, [], ◌∷◌, ◌++◌, length, Bool, Option, Some, None, Ok, Err, pos, refl, sym, ap, subst, ◌∙◌, arith, lt-ltb, le-leb, ne_eqb}
+use Rattle.std.specs.Prelude.{◌≢◌, ◌^◌, option_map, option_and_then, IsUtf8}
+use Rattle.std.proofs.lemmas.Bool.{lt-leb}
 use Rattle.std.proofs.lemmas.Bool.Decides.{nat_tests}
 use Rattle.serde_json.specs.Data.{Data, null, unsigned, Members, object}
-use Rattle.serde_json.specs.Find.{get, get_member, as_bool, as_str, as_i64, as_number}
-use Rattle.grain_id.specs.Names.{Grain, Client}
-use Rattle.grain_id.specs.Reading.{grain_read, caller_read}
+use Rattle.serde_json.specs.Find.{get_member, as_bool, as_str, as_i64, as_number}
 use Rattle.request_codec.specs.Limits.{message_limit, state_limit}
 use Rattle.request_codec.specs.Tree.{Tree}
-use Rattle.request_codec.specs.Call.{Call, asks, message_call, state_value}
+use Rattle.request_codec.specs.Call.{asks, message_call, state_value}
 use Rattle.request_codec.specs.Answers.{message_length, spelled_length}
 use Rattle.line_parser.specs.Lenient.{lenient_value}
 use Rattle.request_codec.specs.Written.{text_spelling, spelling}
 use Rattle.request_codec.proofs.Encoded.{encoded_message, encoded_state, same_found}
 use Rattle.request_codec.proofs.JsonDepths.{within_depth}
 use Rattle.request_codec.proofs.Spelled.{length-message, length-spelling}
-use Rattle.silo_event.specs.declared.step.Step.{Step}
-use Rattle.silo_event.specs.declared.step.Step.TheVariants as step
-use Rattle.line_parser.specs.Form.{if_ok, natural, text_at, natural_at, truth_at, grain_at, caller_at, has_members, argument_at, failed_at, step_or_refusal, message_asked, state_asked, call_with, poke_with, call_of, poke_of, status_of, grain_form, load_of, store_of, turn_form, tick_of, sweep_of, form_of, step_of_json}
-use Rattle.line_parser.specs.Step.{form_text}
+use Rattle.silo_event.specs.declared.refusal.Refusal.TheVariants as refusal
+use Rattle.line_parser.specs.Form.{natural, where_so, text_at, natural_at, truth_at, message_asked, state_asked, form_of}
+use Rattle.line_parser.specs.Step.{form_text, of_form}
 use Rattle.line_parser.specs.declared.step.Form.{Form}
 use Rattle.line_parser.specs.declared.step.Form.TheVariants as form
-use Rattle.line_parser.specs.Slots.{Held, a_text, a_number, a_truth, a_value, Holds, IsArgument, slot_of, HoldsSlots}
-use Rattle.line_parser.specs.declared.slots.Name.TheVariants.{Op}
-use Rattle.line_parser.specs.declared.slots.Slots.{Slots}
+use Rattle.line_parser.specs.Slots.{a_text, a_number, a_truth, Holds, put_bytes, IsArgument}
 
 -- ---- members
 
-pub text_is : (name : List ℕ) (found : Members) (slot : Option Held) (s : List ℕ) → Holds slot (get_member name found) → slot ≡ Some (a_text s) → text_at name (object found) ≡ Some s
-text_is name found slot s h e =
-    let held : Holds (Some (a_text s)) (get_member name found) = subst (λ x. Holds x (get_member name found)) e h in
-    ap (option_and_then as_str) (held.1 ∙ ap (λ x. Some x) held.2)
+pub text_in : {A : Type 0} (o p : Option A) (f : A → List ℕ) (name : List ℕ) (found : Members) → Holds (option_map (λ t. a_text (f t)) o) (get_member name found) → o ≡ p → text_at name (object found) ≡ option_map f p
+text_in None p f name found h e = ap (option_and_then as_str) h ∙ ap (option_map f) e
+text_in (Some t) p f name found h e = ap (option_and_then as_str) (h.1 ∙ ap (λ x. Some x) h.2) ∙ ap (option_map f) e
 
-pub natural_is : (name : List ℕ) (found : Members) (slot : Option Held) (n : ℕ) → Holds slot (get_member name found) → slot ≡ Some (a_number n) → natural_at name (object found) ≡ Some n
-natural_is name found slot n h e =
-    let held : Holds (Some (a_number n)) (get_member name found) = subst (λ x. Holds x (get_member name found)) e h in
-    let fits : as_i64 (unsigned n) ≡ Some (pos n) = rw (lt-ltb _ _ held.2.1) refl in
-    ap (option_and_then (λ v. option_and_then (λ k. option_and_then natural (as_i64 k)) (as_number v))) (held.1 ∙ ap (λ x. Some x) held.2.0) ∙ ap (option_and_then natural) fits
+abbrev natural_of : Option Data → Option ℕ
+natural_of o = option_and_then (λ v. option_and_then (λ n. option_and_then natural (as_i64 n)) (as_number v)) o
 
-pub truth_is : (name : List ℕ) (found : Members) (slot : Option Held) (b : Bool) → Holds slot (get_member name found) → slot ≡ Some (a_truth b) → truth_at name (object found) ≡ Some b
-truth_is name found slot b h e =
-    let held : Holds (Some (a_truth b)) (get_member name found) = subst (λ x. Holds x (get_member name found)) e h in
-    ap (option_and_then as_bool) (held.1 ∙ ap (λ x. Some x) held.2)
+pub natural_in : (o p : Option ℕ) (name : List ℕ) (found : Members) → Holds (option_map a_number o) (get_member name found) → o ≡ p → natural_at name (object found) ≡ p
+natural_in None p name found h e = ap natural_of h ∙ e
+natural_in (Some n) p name found h e =
+    let fits : as_i64 (unsigned n) ≡ Some (pos n) = rw (lt-ltb _ _ h.2.1) refl in
+    ap natural_of (h.1 ∙ ap (λ x. Some x) h.2.0) ∙ ap (option_and_then natural) fits ∙ e
 
-pub value_is : (name : List ℕ) (found : Members) (slot : Option Held) (l : List ℕ) → Holds slot (get_member name found) → slot ≡ Some (a_value l) → (json : Data) × (get name (object found) ≡ Some json) × IsArgument json l
-value_is name found slot l h e = subst (λ x. Holds x (get_member name found)) e h
+pub natural_below : (o : Option ℕ) (n : ℕ) (m : Option Data) → Holds (option_map a_number o) m → o ≡ Some n → n < 2 ^ 63
+natural_below o n m h e = (subst (λ x. Holds (option_map a_number x) m) e h).2.1
 
-pub same_count : (m n : ℕ) → m ≡ n → (m == n) ≡ true
-same_count m n e = grind (arith, nat_tests)
+pub truth_in : (o : Option Bool) (name : List ℕ) (found : Members) → Holds (option_map a_truth o) (get_member name found) → truth_at name (object found) ≡ o
+truth_in None name found h = ap (option_and_then as_bool) h
+truth_in (Some b) name found h = ap (option_and_then as_bool) (h.1 ∙ ap (λ x. Some x) h.2)
 
-pub grain_is : (d : Data) (s : List ℕ) (grain : Grain) → text_at (codes "grain") d ≡ Some s → grain_read s ≡ Ok grain → grain_at d ≡ Some grain
-grain_is d s grain e r = ap (option_and_then (λ t. if_ok (grain_read t))) e ∙ ap if_ok r
+pub put_in : (a b : Bool) (l : List ℕ) (o : Option Data) → Holds (put_bytes a l) o → a ≡ b → Holds (put_bytes b l) o
+put_in a b l o h e = subst (λ x. Holds (put_bytes x l) o) e h
 
-pub caller_is : (d : Data) (s : List ℕ) (caller : Client) → text_at (codes "from") d ≡ Some s → caller_read s ≡ Ok caller → caller_at d ≡ Some caller
-caller_is d s caller e r = ap (option_and_then (λ t. if_ok (caller_read t))) e ∙ ap if_ok r
+same_count : (n : ℕ) → (n == n) ≡ true
+same_count n = grind (arith, nat_tests)
 
-pub left_out : (d : Data) → has_members 5 d ≡ true → argument_at d ≡ Some null
-left_out d h = rw h refl
+pub counted : (m k n : ℕ) → m ≡ k → k ≡ n → (m == n) ≡ true
+counted m k n e is = ap (λ i. i == n) (e ∙ is) ∙ same_count n
 
-pub put_in : (d json : Data) → has_members 5 d ≡ false → has_members 6 d ≡ true → get (codes "args") d ≡ Some json → argument_at d ≡ Some json
-put_in d json n h g = rw (n, h, g) refl
+pub not_counted : (m k n : ℕ) → m ≡ k → k ≢ n → (m == n) ≡ false
+not_counted m k n e not = ne_eqb m n (λ is. not (sym e ∙ is))
 
 pub null_argument : IsArgument null (0 ∷ [])
 unfolding spelling
 null_argument = record { whole = (refl, tt); deep = omega arith; spelled = refl }
-
-pub failed_is : (n : ℕ) (d : Data) (b : Bool) → has_members n d ≡ false → has_members (suc n) d ≡ true → truth_at (codes "failed") d ≡ Some b → failed_at n d ≡ Some b
-failed_is n d b h m t = rw (h, m, t) refl
 
 -- ---- the message and the state
 
@@ -94,59 +85,23 @@ state_fits l state json is short read =
     let asked : state_asked json ≡ Ok v = rw (le-leb _ _ is.deep, is.whole.0, le-leb _ _ fits) refl in
     asked ∙ ap (λ x. Ok x) (sym same)
 
--- ---- the forms
+pub message_too_long : (method argument : List ℕ) (json : Data) → IsArgument json argument → message_limit < 5 + length method + length argument → message_asked method json ≡ Err refusal.TooLong
+message_too_long method argument json is long =
+    let v = lenient_value json in
+    let above : message_limit < message_length method v = omega (arith, long, ap length is.spelled, length-spelling v) in
+    rw (le-leb _ _ is.deep, is.whole.0, lt-leb _ _ above) refl
 
-pub call_is : (d argument : Data) (caller : Client) (id : ℕ) (grain method : List ℕ) (m : Call) → argument_at d ≡ Some argument → caller_at d ≡ Some caller → natural_at (codes "id") d ≡ Some id → text_at (codes "grain") d ≡ Some grain
-    → text_at (codes "method") d ≡ Some method → message_asked method argument ≡ Ok m → call_of d ≡ Some (step_or_refusal caller id (call_with caller id grain m))
-unfolding call_of
-call_is d argument caller id grain method m a c i g t is = rw (a, c, i, g, t, is) refl
-
-pub poke_is : (d value : Data) (caller : Client) (id : ℕ) (grain : List ℕ) (state : Tree) → has_members 5 d ≡ true → caller_at d ≡ Some caller → natural_at (codes "id") d ≡ Some id → text_at (codes "grain") d ≡ Some grain
-    → get (codes "state") d ≡ Some value → state_asked value ≡ Ok state → poke_of d ≡ Some (step_or_refusal caller id (poke_with caller id grain state))
-unfolding poke_of
-poke_is d value caller id grain state h c i g v is = rw (h, c, i, g, v, is) refl
-
-pub status_is : (d : Data) (caller : Client) (id : ℕ) → has_members 3 d ≡ true → caller_at d ≡ Some caller → natural_at (codes "id") d ≡ Some id → status_of d ≡ Some (step.Status caller id)
-unfolding status_of
-status_is d caller id h c i = rw (h, c, i) refl
-
-pub load_is : (d : Data) (grain : Grain) (failed : Bool) → failed_at 2 d ≡ Some failed → grain_at d ≡ Some grain → load_of d ≡ Some (step.Load grain failed)
-unfolding load_of
-load_is d grain failed f g = rw (f, g) refl
-
-pub store_is : (d : Data) (grain : Grain) (turn : ℕ) (failed : Bool) → failed_at 3 d ≡ Some failed → grain_at d ≡ Some grain → natural_at (codes "turn") d ≡ Some turn → store_of d ≡ Some (step.Store grain turn failed)
-unfolding store_of
-store_is d grain turn failed f g t = rw (f, g, t) refl
-
-pub turn_is : (make : Grain → ℕ → Step) (d : Data) (grain : Grain) (turn : ℕ) → has_members 3 d ≡ true → grain_at d ≡ Some grain → natural_at (codes "turn") d ≡ Some turn → turn_form make d ≡ Some (make grain turn)
-turn_is make d grain turn h g t = rw (h, g, t) refl
-
-pub tick_is : (d : Data) (now : ℕ) → has_members 2 d ≡ true → natural_at (codes "now") d ≡ Some now → tick_of d ≡ Some (step.Tick now)
-unfolding tick_of
-tick_is d now h n = rw (h, n) refl
-
-pub sweep_is : (d : Data) → has_members 1 d ≡ true → sweep_of d ≡ Some step.Sweep
-unfolding sweep_of
-sweep_is d h = rw h refl
-
-pub alone_is : (make : Grain → Step) (d : Data) (grain : Grain) → has_members 2 d ≡ true → grain_at d ≡ Some grain → grain_form make d ≡ Some (make grain)
-alone_is make d grain h g = rw (h, g) refl
+pub state_too_large : (l : List ℕ) (json : Data) → IsArgument json l → state_limit < length l → state_asked json ≡ Err refusal.TooLarge
+state_too_large l json is large =
+    let v = lenient_value json in
+    let above : state_limit < spelled_length v = omega (arith, large, ap length is.spelled, length-spelling v) in
+    rw (le-leb _ _ is.deep, is.whole.0, lt-leb _ _ above) refl
 
 -- ---- by the text of `op`
 
-abbrev pub of_form : Form → Data → Option Step
-of_form form.Call d = call_of d
-of_form form.Poke d = poke_of d
-of_form form.Status d = status_of d
-of_form form.Deliver d = grain_form step.Deliver d
-of_form form.Activate d = grain_form step.Activate d
-of_form form.Load d = load_of d
-of_form form.Begin d = grain_form step.Begin d
-of_form form.Store d = store_of d
-of_form form.End d = turn_form step.End d
-of_form form.Abandon d = turn_form step.Abandon d
-of_form form.Tick d = tick_of d
-of_form form.Sweep d = sweep_of d
+pub where_map : {A B : Type 0} (make : A → B) (b : Bool) (o p : Option A) → where_so b o ≡ p → where_so b (option_map make o) ≡ option_map make p
+where_map make true o p e = ap (option_map make) e
+where_map make false o p e = ap (option_map make) e
 
 form_named : (form : Form) (d : Data) → form_of (form_text form) d ≡ of_form form d
 unfolding form_of
@@ -163,9 +118,5 @@ form_named form.Abandon d = refl
 form_named form.Tick d = refl
 form_named form.Sweep d = refl
 
--- the object of that `op` asks for what its form says
-pub form_is : (found : Members) (s : Slots) (l op : List ℕ) (given form : Form) (x : Step) → HoldsSlots found s l → slot_of Op s l ≡ Some (a_text op) → op ≡ form_text given → given ≡ form → of_form form (object found) ≡ Some x
-    → step_of_json (object found) ≡ Some x
-unfolding step_of_json
-form_is found s l op given form x h slot is same asked =
-    rw (text_is (codes "op") found (slot_of Op s l) op (h.each Op) slot) (ap (λ o. form_of o (object found)) (is ∙ ap form_text same) ∙ form_named form (object found) ∙ asked)
+pub form_is : (form : Form) (op : List ℕ) (d : Data) → op ≡ form_text form → form_of op d ≡ of_form form d
+form_is form op d is = ap (λ o. form_of o d) is ∙ form_named form d

@@ -1,17 +1,21 @@
 -- What is known of the members of a line: an object as serde_json reads it, and where each of its members went.
-use Rattle.std.specs.Prelude.{◌≡◌, ℕ, ◌<◌, ◌≤◌, ◌^◌, Bool, true, false, List, ◌∷◌, length, Option, Some, None, option_map, option_and_then, codes}
-use Rattle.json.specs.Token.{Token, number as number_token}
-use Rattle.json.specs.Json.{value, if_last}
+use Rattle.std.specs.Prelude.{◌≡◌, ℕ, ◌<◌, ◌≤◌, ◌^◌, Bool, true, false, List, ◌∷◌, length, Option, Some, None, option_map, option_and_then, if◌then◌else◌, bytes_eq, codes}
+use Rattle.json.specs.Token.{Token, begin_object, number as number_token}
+use Rattle.json.specs.Json.{value, if_last, read_key}
 use Rattle.serde_json.specs.Data.{Data, object, string, number, boolean, unsigned, Members, put}
 use Rattle.serde_json.specs.Events.{members_len}
 use Rattle.serde_json.specs.Find.{get_member}
 use Rattle.serde_json.specs.Read.{of_json, converted, number_of}
 use Rattle.request_codec.specs.Limits.{depth_limit}
 use Rattle.request_codec.specs.Json.{json_depth}
+use Rattle.silo_event.specs.declared.step.Step.{Step}
+use Rattle.line_parser.specs.Form.{step_of_json}
 use Rattle.line_parser.specs.Lenient.{lenient_value, HasValue}
 use Rattle.request_codec.specs.Written.{spelling}
 use Rattle.line_parser.specs.declared.slots.Name.{Name}
 use Rattle.line_parser.specs.declared.slots.Name.TheVariants.{Op, From, Id, Grain, Method, Turn, Now, Failed, Args, State}
+use Rattle.line_parser.specs.declared.slots.Next.{Next}
+use Rattle.line_parser.specs.declared.slots.Next.TheVariants.{Member, Other, End, Broken}
 use Rattle.line_parser.specs.declared.slots.Slots.{Slots}
 
 -- the name of a member
@@ -26,6 +30,28 @@ name_text Now = codes "now"
 name_text Failed = codes "failed"
 name_text Args = codes "args"
 name_text State = codes "state"
+
+-- the member that has the name
+unfoldable pub named : List ℕ → Option Name
+named k =
+    if bytes_eq k (codes "op") then Some Op
+    else if bytes_eq k (codes "from") then Some From
+    else if bytes_eq k (codes "grain") then Some Grain
+    else if bytes_eq k (codes "method") then Some Method
+    else if bytes_eq k (codes "id") then Some Id
+    else if bytes_eq k (codes "turn") then Some Turn
+    else if bytes_eq k (codes "now") then Some Now
+    else if bytes_eq k (codes "failed") then Some Failed
+    else if bytes_eq k (codes "args") then Some Args
+    else if bytes_eq k (codes "state") then Some State
+    else None
+
+-- what the tokens of an object go on with
+abbrev pub IsNext : List Token → Next → List Token → Type 0
+IsNext old (Member name) new = read_key old ≡ Some (Some (name_text name), new)
+IsNext old Other new = (k : List ℕ) × (read_key old ≡ Some (Some k, new)) × (named k ≡ None)
+IsNext old End new = read_key old ≡ Some (None, new)
+IsNext old Broken new = read_key old ≡ None
 
 -- the first token is a number that is not below 0
 pub record IsNatural (old : List Token) (n : ℕ) (new : List Token) : Type 0 where
@@ -88,6 +114,15 @@ pub record TakesMember (name : Name) (old new : List Token) (slots_old : Slots) 
   pub read : converted of_json (value 126 old) ≡ Some (json, new)
   pub holds : (found : Members) → HoldsSlots found slots_old bytes_old → HoldsSlots (put (name_text name) json found) slots_new bytes_new
   pub shorter : length new < length old
+
+-- the first token begins an object
+abbrev pub begins_object : List Token → Bool
+begins_object (begin_object ∷ ts) = true
+begins_object _ = false
+
+-- the step that tokens ask for
+abbrev pub asked_by : List Token → Option Step
+asked_by ts = option_and_then step_of_json (option_and_then of_json (option_and_then (λ p. if_last p.0 p.1) (value 127 ts)))
 
 -- the tokens are one object, whose members are known
 pub record HasSlots (ts : List Token) (slots : Slots) (bytes : List ℕ) : Type 0 where

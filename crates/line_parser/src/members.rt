@@ -4,7 +4,8 @@ ghost use Rattle.std.specs.Prelude.{◌≡◌, ◌<◌, ◌^◌, IfOk, IfSome, o
 ghost use Rattle.serde_json.specs.View.{view};
 ghost use Rattle.line_parser.specs.Form.{text_at, natural_at, truth_at, grain_at, caller_at, has_members};
 
-use grain_id::{Caller, GrainId, IdFault, LatelyRead};
+use crate::named::{read_caller, read_grain};
+use grain_id::{Caller, GrainId, LatelyRead};
 use serde_json::Value;
 use std::alloc::{AllocError, Global};
 
@@ -56,11 +57,7 @@ pub(crate) fn grain_at(
     let Some(text) = text_at(value, "grain") else {
         return Ok(None);
     };
-    match names.read_grain(alloc, text) {
-        Ok(grain) => Ok(Some(grain)),
-        Err(IdFault::Memory) => Err(AllocError),
-        Err(IdFault::Kind | IdFault::Tenant | IdFault::Name | IdFault::Client) => Ok(None),
-    }
+    read_grain(alloc, names, text)
 }
 
 /// The caller that `from` names.
@@ -74,9 +71,5 @@ pub(crate) fn caller_at(
     let Some(text) = text_at(value, "from") else {
         return Ok(None);
     };
-    match names.read_caller(alloc, text) {
-        Ok(caller) => Ok(Some(caller)),
-        Err(IdFault::Memory) => Err(AllocError),
-        Err(IdFault::Kind | IdFault::Tenant | IdFault::Name | IdFault::Client) => Ok(None),
-    }
+    read_caller(alloc, names, text)
 }

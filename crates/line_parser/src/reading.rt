@@ -4,7 +4,7 @@ ghost use Rattle.std.specs.Prelude.{◌≡◌, IsUtf8, IfSome, IfOk, Some, optio
 ghost use Rattle.serde_json.specs.Read.{read};
 ghost use Rattle.serde_json.specs.View.{view};
 ghost use Rattle.line_parser.specs.Form.{step_of_json};
-ghost use Rattle.line_parser.specs.Meaning.{json_of_line, meaning_of};
+ghost use Rattle.line_parser.specs.Meaning.{json_of_line, meaning_by, meaning_of};
 
 use crate::ascii::is_ascii;
 use crate::forms::read_step;
@@ -49,6 +49,17 @@ fn read_request(
     read_step(alloc, names, &value)
 }
 
+/// What a line says, by the step that it asks for.
+#[inline(always)]
+fn line_of(step: Option<Step>) -> Line
+    ensures { result ≡ meaning_by step }
+{
+    match step {
+        Some(step) => Line::Step(step),
+        None => Line::Refusal(LineRefusal::NotARequest),
+    }
+}
+
 /// What is used again from line to line: names that were read lately, and memory for the parts of a
 /// line. What a line says doesn't depend on it.
 #[derive(Drop)]
@@ -82,10 +93,8 @@ pub fn read_any_line(alloc: Global, room: &mut LineRoom, line: &[u8]) -> Result<
     if line.len() > LINE_LIMIT {
         return Ok(Line::Refusal(LineRefusal::TooLong));
     }
-    match read_request(alloc, &mut room.names, line)? {
-        Some(step) => Ok(Line::Step(step)),
-        None => Ok(Line::Refusal(LineRefusal::NotARequest)),
-    }
+    let step = read_request(alloc, &mut room.names, line)?;
+    Ok(line_of(step))
 }
 
 /// The text that the bytes are, if they are UTF-8.
@@ -98,12 +107,14 @@ fn text_of(line: &[u8]) -> Option<&str>
     from_utf8(line).ok()
 }
 
-/// The step of a line in the usual form, in one pass over its tokens.
-fn read_text_step(alloc: Global, room: &mut LineRoom, text: &str) -> Result<Step, Unread>
-    ensures { IfOk result (λ step. option_and_then step_of_json (read text.now) ≡ Some step) }
+/// The step of a line, if it asks for one, in one pass over its tokens.
+fn read_text_step(alloc: Global, room: &mut LineRoom, text: &str) -> Result<Option<Step>, Unread>
+    ensures { IfOk result (λ step. option_and_then step_of_json (read text.now) ≡ step) }
 {
     let mut tokens = Tokens::new(text, &mut room.scratch);
-    let slots = read_slots(&mut tokens, &mut room.args)?;
+    let Some(slots) = read_slots(&mut tokens, &mut room.args)? else {
+        return Ok(None);
+    };
     step_from(
         alloc,
         &mut room.names,
@@ -125,7 +136,7 @@ pub fn read_line(alloc: Global, room: &mut LineRoom, line: &[u8]) -> Result<Line
         return read_any_line(alloc, room, line);
     };
     match read_text_step(alloc, room, text) {
-        Ok(step) => Ok(Line::Step(step)),
+        Ok(step) => Ok(line_of(step)),
         Err(Unread::Memory) => Err(AllocError),
         Err(Unread::Unusual) => read_any_line(alloc, room, line),
     }

@@ -1,6 +1,6 @@
 //! What the members of a line ask of a silo for a client.
 
-ghost use Rattle.std.specs.Prelude.{◌≡◌, ◌≤◌, ◌∷◌, ◌++◌, length, IfOk, OnOk, IsSome, Some, Ok};
+ghost use Rattle.std.specs.Prelude.{◌≡◌, ◌≤◌, ◌∷◌, ◌++◌, length, IfOk, OnOk, MatchOption, IsSome, None, Some, Ok};
 ghost use Rattle.serde_json.specs.Data.{Data, Members, object};
 ghost use Rattle.request_codec.specs.Call.{message_call, state_value};
 ghost use Rattle.request_codec.specs.Limits.{message_limit};
@@ -10,15 +10,18 @@ ghost use Rattle.line_parser.specs.Slots.{IsArgument, HoldsSlots};
 ghost use Rattle.line_parser.specs.Step.{FindsIn, Finds};
 
 use crate::asked::{call_with, poke_with};
-use crate::named::{caller_of, id_of};
+use crate::named::caller_of;
 use crate::slots::Slots;
 use crate::unread::Unread;
 use grain_id::LatelyRead;
 use request_codec::bytes::{put, put_text};
 use request_codec::limits::{MAX_MESSAGE_BYTES, MAX_STATE_BYTES};
 use request_codec::{Message, StateBytes};
-use silo_event::Step;
-use std::alloc::Global;
+use silo_event::{Refusal, Step};
+use std::alloc::{AllocError, Global};
+
+/// The bytes of a message beside its method and its argument: its version, and how long the method is.
+const MESSAGE_HEAD_BYTES: usize = 5;
 
 /// Writes a message's bytes: those of a method, and those of its argument.
 fn write_message(out: &mut Vec<u8>, method: &str, argument: &[u8]) -> Result<(), Unread>
@@ -39,99 +42,117 @@ fn keep_message(alloc: Global, out: &Vec<u8>) -> Result<Message, Unread>
     Ok(Message::copy_spelling(alloc, out.as_slice())?)
 }
 
-/// The message of a method and the bytes of its argument.
+/// The message of a method and the bytes of its argument, unless it would be too long.
 fn read_message(
     alloc: Global,
     out: &mut Vec<u8>,
     method: &str,
     argument: &[u8],
-) -> Result<Message, Unread>
+) -> Result<Result<Message, Refusal>, Unread>
     requires { (json : Data) × IsArgument json argument.now }
-    ensures { IfOk result (λ m. (json : Data) → IsArgument json argument.now → message_asked method.now json ≡ Ok m) }
+    ensures { IfOk result (λ asked. (json : Data) → IsArgument json argument.now → message_asked method.now json ≡ asked) }
 {
+    if method.len() + argument.len() > MAX_MESSAGE_BYTES - MESSAGE_HEAD_BYTES {
+        return Ok(Err(Refusal::TooLong));
+    }
     write_message(out, method, argument)?;
-    keep_message(alloc, out)
+    let message = keep_message(alloc, out)?;
+    Ok(Ok(message))
 }
 
-/// The state that the bytes spell.
-fn read_state(alloc: Global, bytes: &[u8]) -> Result<StateBytes, Unread>
-    ensures { IfOk result (λ s. (json : Data) → IsArgument json bytes.now → state_asked json ≡ Ok s) }
+/// The state that the bytes spell, unless they are too many.
+fn read_state(alloc: Global, bytes: &[u8]) -> Result<Result<StateBytes, Refusal>, Unread>
+    ensures { IfOk result (λ asked. (json : Data) → IsArgument json bytes.now → state_asked json ≡ asked) }
 {
     if bytes.len() > MAX_STATE_BYTES {
-        return Err(Unread::Unusual);
+        return Ok(Err(Refusal::TooLarge));
     }
     let state = StateBytes::read(alloc, bytes)?;
-    Ok(state)
+    Ok(Ok(state))
 }
 
-/// The bytes of a call's argument: null where it is left out.
-fn argument_of<'t>(slots: &Slots<'_>, bytes: &'t [u8]) -> Result<&'t [u8], Unread>
-    ensures { IfOk result (λ argument. (found : Members) → HoldsSlots found slots.now bytes.now
+/// The bytes of a call's argument: null where it is left out; none if the members are none of a call.
+fn argument_of<'t>(slots: &Slots<'_>, bytes: &'t [u8]) -> Option<&'t [u8]>
+    ensures { MatchOption result (FindsIn slots.now bytes.now argument_at None) (λ argument. (found : Members) → HoldsSlots found slots.now bytes.now
         → (json : Data) × (argument_at (object found) ≡ Some json) × IsArgument json argument.now) }
 {
-    if slots.args {
-        if slots.count == 6 {
-            Ok(bytes)
-        } else {
-            Err(Unread::Unusual)
-        }
-    } else if slots.count == 5 {
-        Ok(&[0])
-    } else {
-        Err(Unread::Unusual)
+    if slots.count == 5 {
+        return Some(&[0]);
     }
+    if slots.count == 6 && slots.args {
+        return Some(bytes);
+    }
+    None
 }
 
-/// The call, if the members are those of a call and its message keeps the limits; it is refused if
-/// its grain isn't well formed.
+/// The call, if the members are those of a call; it is refused if its message is too long, or its
+/// grain isn't well formed.
 pub(crate) fn call_from(
     alloc: Global,
     names: &mut LatelyRead,
     out: &mut Vec<u8>,
     slots: &Slots<'_>,
     bytes: &[u8],
-) -> Result<Step, Unread>
+) -> Result<Option<Step>, Unread>
     requires { (found : Members) × HoldsSlots found slots.now bytes.now }
     ensures { IfOk result (λ step. FindsIn slots.now bytes.now call_of step) }
 {
-    let argument = argument_of(slots, bytes)?;
-    let caller = caller_of(alloc, names, slots)?;
-    let id = id_of(slots)?;
+    let Some(argument) = argument_of(slots, bytes) else {
+        return Ok(None);
+    };
+    let Some(caller) = caller_of(alloc, names, slots)? else {
+        return Ok(None);
+    };
+    let Some(id) = slots.id else {
+        return Ok(None);
+    };
     let Some(grain) = slots.grain else {
-        return Err(Unread::Unusual);
+        return Ok(None);
     };
     let Some(method) = slots.method else {
-        return Err(Unread::Unusual);
+        return Ok(None);
     };
-    let message = read_message(alloc, out, method, argument)?;
-    let step = call_with(alloc, names, caller, id, grain, message)?;
-    Ok(step)
+    match read_message(alloc, out, method, argument)? {
+        Ok(message) => {
+            let step = call_with(alloc, names, caller, id, grain, message)?;
+            Ok(Some(step))
+        }
+        Err(code) => Ok(Some(Step::Refuse { caller, id, code })),
+    }
 }
 
-/// The poke, if the members are those of a poke and its state keeps the limits; it is refused if its
-/// grain isn't well formed.
+/// The poke, if the members are those of a poke; it is refused if its state is too large, or its grain
+/// isn't well formed.
 pub(crate) fn poke_from(
     alloc: Global,
     names: &mut LatelyRead,
     slots: &Slots<'_>,
     bytes: &[u8],
-) -> Result<Step, Unread>
+) -> Result<Option<Step>, Unread>
     ensures { IfOk result (λ step. FindsIn slots.now bytes.now poke_of step) }
 {
-    if !slots.state {
-        return Err(Unread::Unusual);
-    }
     if slots.count != 5 {
-        return Err(Unread::Unusual);
+        return Ok(None);
     }
-    let caller = caller_of(alloc, names, slots)?;
-    let id = id_of(slots)?;
-    let Some(grain) = slots.grain else {
-        return Err(Unread::Unusual);
+    let Some(caller) = caller_of(alloc, names, slots)? else {
+        return Ok(None);
     };
-    let state = read_state(alloc, bytes)?;
-    let step = poke_with(alloc, names, caller, id, grain, state)?;
-    Ok(step)
+    let Some(id) = slots.id else {
+        return Ok(None);
+    };
+    let Some(grain) = slots.grain else {
+        return Ok(None);
+    };
+    if !slots.state {
+        return Ok(None);
+    }
+    match read_state(alloc, bytes)? {
+        Ok(state) => {
+            let step = poke_with(alloc, names, caller, id, grain, state)?;
+            Ok(Some(step))
+        }
+        Err(code) => Ok(Some(Step::Refuse { caller, id, code })),
+    }
 }
 
 /// The question for a tenant's status, if the members are those of one.
@@ -139,13 +160,17 @@ pub(crate) fn status_from(
     alloc: Global,
     names: &mut LatelyRead,
     slots: &Slots<'_>,
-) -> Result<Step, Unread>
+) -> Result<Option<Step>, AllocError>
     ensures { IfOk result (λ step. Finds slots.now status_of step) }
 {
     if slots.count != 3 {
-        return Err(Unread::Unusual);
+        return Ok(None);
     }
-    let caller = caller_of(alloc, names, slots)?;
-    let id = id_of(slots)?;
-    Ok(Step::Status { caller, id })
+    let Some(caller) = caller_of(alloc, names, slots)? else {
+        return Ok(None);
+    };
+    let Some(id) = slots.id else {
+        return Ok(None);
+    };
+    Ok(Some(Step::Status { caller, id }))
 }

@@ -1,16 +1,15 @@
 //! The members of a line, each by its name.
 
-ghost use Rattle.std.specs.Prelude.{◌≡◌, ◌<◌, ◌^◌, ◌||◌, [], ◌∷◌, false, None, IfSome, IfOk, OnOk, option_map};
+ghost use Rattle.std.specs.Prelude.{◌≡◌, ◌<◌, ◌^◌, ◌||◌, [], ◌∷◌, false, None, IfSome, IfOk, OnOk, MatchOption, option_map};
 ghost use Rattle.json.specs.Token.{string, boolean};
 ghost use Rattle.line_parser.specs.Argument.{PutsValue};
-ghost use Rattle.line_parser.specs.Slots.{name_text, TakesMember, HasSlots, IsNatural};
+ghost use Rattle.line_parser.specs.Slots.{name_text, named, TakesMember, asked_by, HasSlots, IsNatural};
 
 use crate::argument::put_value;
 use crate::number::whole_number;
 use crate::tokens::Tokens;
 use crate::unread::Unread;
 use json::Token;
-use request_codec::limits::{MAX_MESSAGE_BYTES, MAX_STATE_BYTES};
 
 /// The members that a step may have.
 #[derive(Clone, Copy)]
@@ -25,6 +24,15 @@ pub(crate) enum Name {
     Failed,
     Args,
     State,
+}
+
+/// What a line's object goes on with: a member, one that no form has, its end, or what no object has there.
+#[derive(Clone, Copy)]
+pub(crate) enum Next {
+    Member(Name),
+    Other,
+    End,
+    Broken,
 }
 
 /// What the members of a line were, each at most once. `args` and `state` say whether they were
@@ -47,36 +55,27 @@ pub(crate) struct Slots<'a> {
 /// The levels that a member's value may have: what is left of 127 behind the line's object.
 const MEMBER_DEPTH: usize = 126;
 
-/// The member of that name. Only names of its length are compared.
+/// The bytes that are put for a value, at most: more than any line spells, of which two bytes stand for nine at most.
+/// Whether a message or a state is too long is asked once they are known.
+const MAX_VALUE_BYTES: usize = 1_048_576;
+
+#[tactic(auto, unfolding(crate::specs::Slots::named))]
+/// The member of that name.
 pub(crate) fn name_of(key: &str) -> Option<Name>
-    ensures { IfSome result (λ name. key.now ≡ name_text name) }
+    ensures known { IfSome result (λ name. key.now ≡ name_text name) }
+    ensures other { result ≡ named key.now }
 {
-    match key.len() {
-        2 => match key {
-            "op" => Some(Name::Op),
-            "id" => Some(Name::Id),
-            _ => None,
-        },
-        3 => match key {
-            "now" => Some(Name::Now),
-            _ => None,
-        },
-        4 => match key {
-            "turn" => Some(Name::Turn),
-            "from" => Some(Name::From),
-            "args" => Some(Name::Args),
-            _ => None,
-        },
-        5 => match key {
-            "grain" => Some(Name::Grain),
-            "state" => Some(Name::State),
-            _ => None,
-        },
-        6 => match key {
-            "method" => Some(Name::Method),
-            "failed" => Some(Name::Failed),
-            _ => None,
-        },
+    match key {
+        "op" => Some(Name::Op),
+        "from" => Some(Name::From),
+        "grain" => Some(Name::Grain),
+        "method" => Some(Name::Method),
+        "id" => Some(Name::Id),
+        "turn" => Some(Name::Turn),
+        "now" => Some(Name::Now),
+        "failed" => Some(Name::Failed),
+        "args" => Some(Name::Args),
+        "state" => Some(Name::State),
         _ => None,
     }
 }
@@ -133,13 +132,7 @@ fn has_value(slots: &Slots<'_>) -> bool
 }
 
 /// Puts the next value's bytes in place of others, unless a value was put there before.
-fn take_value(
-    taken: bool,
-    bytes: &mut Vec<u8>,
-    limit: usize,
-    reader: &mut Tokens<'_>,
-) -> Result<(), Unread>
-    requires { limit < 2 ^ 32 }
+fn take_value(taken: bool, bytes: &mut Vec<u8>, reader: &mut Tokens<'_>) -> Result<(), Unread>
     ensures empty { OnOk result (taken ≡ false) }
     ensures value { OnOk result (PutsValue 126 reader.old reader.new [] bytes.new.items) }
 {
@@ -147,7 +140,7 @@ fn take_value(
         return Err(Unread::Unusual);
     }
     bytes.clear();
-    put_value(bytes, limit, reader, MEMBER_DEPTH)
+    put_value(bytes, MAX_VALUE_BYTES, reader, MEMBER_DEPTH)
 }
 
 /// Takes a member that wasn't there yet.
@@ -172,25 +165,29 @@ fn take_member<'a>(
         Name::Now => slots.moment = Some(take_natural(slots.moment, reader)?),
         Name::Failed => slots.failed = Some(take_truth(slots.failed, reader)?),
         Name::Args => {
-            take_value(has_value(slots), bytes, MAX_MESSAGE_BYTES, reader)?;
+            take_value(has_value(slots), bytes, reader)?;
             slots.args = true;
         }
         Name::State => {
-            take_value(has_value(slots), bytes, MAX_STATE_BYTES, reader)?;
+            take_value(has_value(slots), bytes, reader)?;
             slots.state = true;
         }
     }
     Ok(())
 }
 
-/// The members of the object that the tokens are, if each is known and stands once.
+/// The members of the object that the tokens are, if each is known and stands once; none if the tokens are surely no
+/// request.
 pub(crate) fn read_slots<'a>(
     reader: &mut Tokens<'a>,
     bytes: &mut Vec<u8>,
-) -> Result<Slots<'a>, Unread>
-    ensures { IfOk result (λ slots. HasSlots reader.old slots bytes.new.items) }
+) -> Result<Option<Slots<'a>>, Unread>
+    ensures { IfOk result (λ slots. MatchOption slots (asked_by reader.old ≡ None) (λ s. HasSlots reader.old s bytes.new.items)) }
 {
-    reader.begin_map()?;
+    let begins = reader.take_begin_map()?;
+    if !begins {
+        return Ok(None);
+    }
     let mut slots = Slots {
         op: None,
         from: None,
@@ -204,13 +201,13 @@ pub(crate) fn read_slots<'a>(
         state: false,
         count: 0,
     };
-    'members: while let Some(name) = reader.next_name()? {
-        take_member(&mut slots, bytes, reader, name)?;
+    'members: loop {
+        match reader.next_member()? {
+            Next::Member(name) => take_member(&mut slots, bytes, reader, name)?,
+            Next::End => break,
+            Next::Other | Next::Broken => return Ok(None),
+        }
     }
     let over = reader.ends()?;
-    if over {
-        Ok(slots)
-    } else {
-        Err(Unread::Unusual)
-    }
+    if over { Ok(Some(slots)) } else { Ok(None) }
 }

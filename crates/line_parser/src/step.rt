@@ -1,19 +1,19 @@
 //! The step that the members of a line ask for.
 
-ghost use Rattle.std.specs.Prelude.{◌≡◌, IfSome, IfOk, codes};
-ghost use Rattle.serde_json.specs.Data.{Members};
-ghost use Rattle.line_parser.specs.Form.{grain_at, natural_at, load_of, store_of, tick_of, sweep_of, step_of_json};
+ghost use Rattle.std.specs.Prelude.{◌≡◌, IfSome, IfOk};
+ghost use Rattle.serde_json.specs.Data.{Data, Members};
+ghost use Rattle.line_parser.specs.Form.{where_so, has_members, grain_at, turn_alone, load_of, store_of, tick_of, sweep_of, form_of, step_of_json};
 ghost use Rattle.line_parser.specs.Slots.{HoldsSlots};
-ghost use Rattle.line_parser.specs.Step.{form_text, FindsIn, Finds, HasMembers};
+ghost use Rattle.line_parser.specs.Step.{form_text, of_form, said_by, FindsIn, Finds};
 
-use crate::named::{failed_of, grain_of, now_of, turn_of};
+use crate::named::{failed_of, grain_of};
 use crate::request::{call_from, poke_from, status_from};
 use crate::scan::same_text;
 use crate::slots::Slots;
 use crate::unread::Unread;
 use grain_id::{GrainId, LatelyRead};
 use silo_event::{Moment, Step};
-use std::alloc::Global;
+use std::alloc::{AllocError, Global};
 
 /// The forms of a line.
 #[derive(Clone, Copy)]
@@ -65,8 +65,9 @@ fn if_named(op: &str, form: Form) -> Option<Form>
     }
 }
 
-/// The form that `op` names. By its length and a byte, one word alone is compared.
-fn form_of(op: &str) -> Option<Form>
+/// The form that `op` most likely names: by its length and a byte, one word alone is compared.
+#[inline(always)]
+fn likely_form(op: &str) -> Option<Form>
     ensures { IfSome result (λ form. op.now ≡ form_text form) }
 {
     let bytes = op.as_bytes();
@@ -93,39 +94,94 @@ fn form_of(op: &str) -> Option<Form>
     }
 }
 
+/// The form that `op` names, compared with each word.
+#[tactic(auto, unfolding(crate::specs::Form::form_of))]
+#[cold]
+#[inline(never)]
+fn form_of_any(op: &str) -> Option<Form>
+    ensures { (d : Data) → form_of op.now d ≡ said_by result d }
+{
+    match op {
+        "call" => Some(Form::Call),
+        "poke" => Some(Form::Poke),
+        "status" => Some(Form::Status),
+        "deliver" => Some(Form::Deliver),
+        "activate" => Some(Form::Activate),
+        "load" => Some(Form::Load),
+        "begin" => Some(Form::Begin),
+        "store" => Some(Form::Store),
+        "end" => Some(Form::End),
+        "abandon" => Some(Form::Abandon),
+        "tick" => Some(Form::Tick),
+        "sweep" => Some(Form::Sweep),
+        _ => None,
+    }
+}
+
+/// The form that `op` names.
+fn form_of(op: &str) -> Option<Form>
+    ensures { (d : Data) → form_of op.now d ≡ said_by result d }
+{
+    match likely_form(op) {
+        Some(form) => Some(form),
+        None => form_of_any(op),
+    }
+}
+
 /// The grain, if there is nothing else beside `op`.
-fn grain_from(alloc: Global, names: &mut LatelyRead, slots: &Slots<'_>) -> Result<GrainId, Unread>
-    ensures grain { IfOk result (λ grain. Finds slots.now grain_at grain) }
-    ensures alone { IfOk result (λ _. HasMembers slots.now 2) }
+fn grain_from(
+    alloc: Global,
+    names: &mut LatelyRead,
+    slots: &Slots<'_>,
+) -> Result<Option<GrainId>, AllocError>
+    ensures { IfOk result (λ grain. Finds slots.now (λ d. where_so (has_members 2 d) (grain_at d)) grain) }
 {
     if slots.count != 2 {
-        return Err(Unread::Unusual);
+        return Ok(None);
     }
     let grain = grain_of(alloc, names, slots)?;
     Ok(grain)
 }
 
 /// The load of a grain, if the members are those of a load.
-fn load_from(alloc: Global, names: &mut LatelyRead, slots: &Slots<'_>) -> Result<Step, Unread>
+fn load_from(
+    alloc: Global,
+    names: &mut LatelyRead,
+    slots: &Slots<'_>,
+) -> Result<Option<Step>, AllocError>
     ensures { IfOk result (λ step. Finds slots.now load_of step) }
 {
-    let failed = failed_of(slots, 2)?;
-    let grain = grain_of(alloc, names, slots)?;
-    Ok(Step::Load { grain, failed })
+    let Some(failed) = failed_of(slots, 2) else {
+        return Ok(None);
+    };
+    let Some(grain) = grain_of(alloc, names, slots)? else {
+        return Ok(None);
+    };
+    Ok(Some(Step::Load { grain, failed }))
 }
 
 /// The storage call of a turn, if the members are those of one.
-fn store_from(alloc: Global, names: &mut LatelyRead, slots: &Slots<'_>) -> Result<Step, Unread>
+fn store_from(
+    alloc: Global,
+    names: &mut LatelyRead,
+    slots: &Slots<'_>,
+) -> Result<Option<Step>, AllocError>
     ensures { IfOk result (λ step. Finds slots.now store_of step) }
 {
-    let failed = failed_of(slots, 3)?;
-    let grain = grain_of(alloc, names, slots)?;
-    let turn = turn_of(slots)?;
-    Ok(Step::Store {
+    let Some(failed) = failed_of(slots, 3) else {
+        return Ok(None);
+    };
+    let Some(grain) = grain_of(alloc, names, slots)? else {
+        return Ok(None);
+    };
+    let Some(turn) = slots.turn else {
+        return Ok(None);
+    };
+    Ok(Some(Step::Store {
         grain,
         turn,
         failed,
-    })
+    }))
 }
 
 /// The grain and the turn, if there is nothing else beside `op`.
@@ -133,40 +189,73 @@ fn turn_from(
     alloc: Global,
     names: &mut LatelyRead,
     slots: &Slots<'_>,
-) -> Result<(GrainId, u64), Unread>
-    ensures grain { IfOk result (λ found. Finds slots.now grain_at found.0) }
-    ensures turn { IfOk result (λ found. Finds slots.now (natural_at (codes "turn")) found.1) }
-    ensures alone { IfOk result (λ _. HasMembers slots.now 3) }
+) -> Result<Option<(GrainId, u64)>, AllocError>
+    ensures { IfOk result (λ found. Finds slots.now turn_alone found) }
 {
     if slots.count != 3 {
-        return Err(Unread::Unusual);
+        return Ok(None);
     }
-    let grain = grain_of(alloc, names, slots)?;
-    let turn = turn_of(slots)?;
-    Ok((grain, turn))
+    let Some(grain) = grain_of(alloc, names, slots)? else {
+        return Ok(None);
+    };
+    let Some(turn) = slots.turn else {
+        return Ok(None);
+    };
+    Ok(Some((grain, turn)))
 }
 
 /// The tick, if the members are those of a tick.
-fn tick_from(slots: &Slots<'_>) -> Result<Step, Unread>
-    ensures { IfOk result (λ step. Finds slots.now tick_of step) }
+fn tick_from(slots: &Slots<'_>) -> Option<Step>
+    ensures { Finds slots.now tick_of result }
 {
     if slots.count != 2 {
-        return Err(Unread::Unusual);
+        return None;
     }
-    let Some(now) = Moment::new(now_of(slots)?) else {
-        return Err(Unread::Unusual);
-    };
-    Ok(Step::Tick { now })
+    let now = Moment::new(slots.moment?)?;
+    Some(Step::Tick { now })
 }
 
 /// The sweep, if `op` is the only member.
-fn sweep_from(slots: &Slots<'_>) -> Result<Step, Unread>
-    ensures { IfOk result (λ step. Finds slots.now sweep_of step) }
+fn sweep_from(slots: &Slots<'_>) -> Option<Step>
+    ensures { Finds slots.now sweep_of result }
 {
     if slots.count != 1 {
-        return Err(Unread::Unusual);
+        return None;
     }
-    Ok(Step::Sweep)
+    Some(Step::Sweep)
+}
+
+/// The step that the members ask for, if they are those of the form.
+#[inline(always)]
+fn read_form(
+    alloc: Global,
+    names: &mut LatelyRead,
+    out: &mut Vec<u8>,
+    slots: &Slots<'_>,
+    bytes: &[u8],
+    form: Form,
+) -> Result<Option<Step>, Unread>
+    requires { (found : Members) × HoldsSlots found slots.now bytes.now }
+    ensures { IfOk result (λ step. FindsIn slots.now bytes.now (of_form form) step) }
+{
+    let step = match form {
+        Form::Call => call_from(alloc, names, out, slots, bytes)?,
+        Form::Poke => poke_from(alloc, names, slots, bytes)?,
+        Form::Status => status_from(alloc, names, slots)?,
+        Form::Deliver => grain_from(alloc, names, slots)?.map(|grain| Step::Deliver { grain }),
+        Form::Activate => grain_from(alloc, names, slots)?.map(|grain| Step::Activate { grain }),
+        Form::Load => load_from(alloc, names, slots)?,
+        Form::Begin => grain_from(alloc, names, slots)?.map(|grain| Step::Begin { grain }),
+        Form::Store => store_from(alloc, names, slots)?,
+        Form::End => turn_from(alloc, names, slots)?.map(|(grain, turn)| Step::End { grain, turn }),
+        Form::Abandon => turn_from(alloc, names, slots)?.map(|(grain, turn)| Step::Abandon {
+            grain,
+            turn,
+        }),
+        Form::Tick => tick_from(slots),
+        Form::Sweep => sweep_from(slots),
+    };
+    Ok(step)
 }
 
 /// The step that the members ask for.
@@ -176,64 +265,16 @@ pub(crate) fn step_from(
     out: &mut Vec<u8>,
     slots: &Slots<'_>,
     bytes: &[u8],
-) -> Result<Step, Unread>
+) -> Result<Option<Step>, Unread>
     requires { (found : Members) × HoldsSlots found slots.now bytes.now }
     ensures { IfOk result (λ step. FindsIn slots.now bytes.now step_of_json step) }
 {
     let Some(op) = slots.op else {
-        return Err(Unread::Unusual);
+        return Ok(None);
     };
     let Some(form) = form_of(op) else {
-        return Err(Unread::Unusual);
+        return Ok(None);
     };
-    match form {
-        Form::Call => {
-            let step = call_from(alloc, names, out, slots, bytes)?;
-            Ok(step)
-        }
-        Form::Poke => {
-            let step = poke_from(alloc, names, slots, bytes)?;
-            Ok(step)
-        }
-        Form::Status => {
-            let step = status_from(alloc, names, slots)?;
-            Ok(step)
-        }
-        Form::Deliver => {
-            let grain = grain_from(alloc, names, slots)?;
-            Ok(Step::Deliver { grain })
-        }
-        Form::Activate => {
-            let grain = grain_from(alloc, names, slots)?;
-            Ok(Step::Activate { grain })
-        }
-        Form::Load => {
-            let step = load_from(alloc, names, slots)?;
-            Ok(step)
-        }
-        Form::Begin => {
-            let grain = grain_from(alloc, names, slots)?;
-            Ok(Step::Begin { grain })
-        }
-        Form::Store => {
-            let step = store_from(alloc, names, slots)?;
-            Ok(step)
-        }
-        Form::End => {
-            let (grain, turn) = turn_from(alloc, names, slots)?;
-            Ok(Step::End { grain, turn })
-        }
-        Form::Abandon => {
-            let (grain, turn) = turn_from(alloc, names, slots)?;
-            Ok(Step::Abandon { grain, turn })
-        }
-        Form::Tick => {
-            let step = tick_from(slots)?;
-            Ok(step)
-        }
-        Form::Sweep => {
-            let step = sweep_from(slots)?;
-            Ok(step)
-        }
-    }
+    let step = read_form(alloc, names, out, slots, bytes, form)?;
+    Ok(step)
 }

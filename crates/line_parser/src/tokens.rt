@@ -1,19 +1,19 @@
 //! The tokens of a line. While they are spelled plainly they are read straight from the text; from the first that isn't
 //! on, by json's reader.
 
-ghost use Rattle.std.specs.Prelude.{◌≡◌, ◌∷◌, [], Some, None, IsTrue, IfOk, OnOk, option_map};
+ghost use Rattle.std.specs.Prelude.{◌≡◌, ◌≢◌, ◌∷◌, [], Some, None, false, IfOk, OnOk, option_map};
 ghost use Rattle.std.specs.Bool.{MatchBool};
 ghost use Rattle.json.specs.Token.{string, number, begin_object};
 ghost use Rattle.json.specs.Lex.{tokens};
 ghost use Rattle.json.specs.Json.{read_key, after_end_array};
 ghost use Rattle.json.specs.Reads.{token_of};
-ghost use Rattle.line_parser.specs.Slots.{name_text};
+ghost use Rattle.line_parser.specs.Slots.{begins_object, IsNext};
 
 use crate::plain::{
     has_item, list_end, map_end, map_start, plain_key, plain_name, plain_number, plain_text,
     plain_token,
 };
-use crate::slots::{Name, name_of};
+use crate::slots::{Next, name_of};
 use crate::unread::Unread;
 use json::{Reader, Scratch, Token};
 use std::marker::Model;
@@ -97,21 +97,33 @@ impl<'a> Tokens<'a> {
         self.next_of_any()
     }
 
-    /// Takes the next token, which has to begin a map.
+    /// Takes the start of a map, if it is next, by json's reader.
+    #[inline(never)]
+    fn take_start_of_any(&mut self) -> Result<bool, Unread>
+        ensures { IfOk result (λ taken. MatchBool taken (self.old ≡ begin_object ∷ self.new) (begins_object self.old ≡ false)) }
+    {
+        self.leave_plain()?;
+        let Some(reader) = &mut self.reader else {
+            return Err(Unread::Unusual);
+        };
+        match reader.next() {
+            Some(Token::BeginObject) => Ok(true),
+            _ => Ok(false),
+        }
+    }
+
+    /// Takes the start of a map, if it is next.
     #[inline(always)]
-    pub(crate) fn begin_map(&mut self) -> Result<(), Unread>
-        ensures { OnOk result (self.old ≡ begin_object ∷ self.new) }
+    pub(crate) fn take_begin_map(&mut self) -> Result<bool, Unread>
+        ensures { IfOk result (λ taken. MatchBool taken (self.old ≡ begin_object ∷ self.new) (begins_object self.old ≡ false)) }
     {
         if self.reader.is_none() {
             if let Some(rest) = map_start(self.rest) {
                 self.rest = rest;
-                return Ok(());
+                return Ok(true);
             }
         }
-        match self.next_of_any()? {
-            Token::BeginObject => Ok(()),
-            _ => Err(Unread::Unusual),
-        }
+        self.take_start_of_any()
     }
 
     /// The next name, by json's reader; none at the end of the map.
@@ -145,28 +157,41 @@ impl<'a> Tokens<'a> {
         self.key_of_any()
     }
 
-    /// The next name, which has to be a member's, or none at the end of the map.
+    /// What a line's object goes on with, by json's reader.
+    #[inline(never)]
+    fn next_of_line(&mut self) -> Result<Next, Unread>
+        ensures { IfOk result (λ next. IsNext self.old next self.new) }
+    {
+        self.leave_plain()?;
+        let Some(reader) = &mut self.reader else {
+            return Err(Unread::Unusual);
+        };
+        match reader.next_key() {
+            Ok(Some(key)) => match name_of(key) {
+                Some(name) => Ok(Next::Member(name)),
+                None => Ok(Next::Other),
+            },
+            Ok(None) => Ok(Next::End),
+            Err(_) => Ok(Next::Broken),
+        }
+    }
+
+    /// What a line's object goes on with.
     #[inline(always)]
-    pub(crate) fn next_name(&mut self) -> Result<Option<Name>, Unread>
-        ensures { IfOk result (λ n. read_key self.old ≡ Some (option_map name_text n, self.new)) }
+    pub(crate) fn next_member(&mut self) -> Result<Next, Unread>
+        ensures { IfOk result (λ next. IsNext self.old next self.new) }
     {
         if self.reader.is_none() {
             if let Some((name, rest)) = plain_name(self.rest) {
                 self.rest = rest;
-                return Ok(Some(name));
+                return Ok(Next::Member(name));
             }
             if let Some(rest) = map_end(self.rest) {
                 self.rest = rest;
-                return Ok(None);
+                return Ok(Next::End);
             }
         }
-        match self.key_of_any()? {
-            Some(key) => match name_of(key) {
-                Some(name) => Ok(Some(name)),
-                None => Err(Unread::Unusual),
-            },
-            None => Ok(None),
-        }
+        self.next_of_line()
     }
 
     /// The next token, which has to be a text.
@@ -236,7 +261,7 @@ impl<'a> Tokens<'a> {
     /// Whether no token is left, by json's reader.
     #[inline(never)]
     fn ends_of_any(&mut self) -> Result<bool, Unread>
-        ensures { IfOk result (λ over. IsTrue over → self.old ≡ []) }
+        ensures { IfOk result (λ over. MatchBool over (self.old ≡ []) (self.old ≢ [])) }
     {
         self.leave_plain()?;
         let Some(reader) = &mut self.reader else {
@@ -249,7 +274,7 @@ impl<'a> Tokens<'a> {
     /// Whether no token is left. No more may be read then.
     #[inline(always)]
     pub(crate) fn ends(&mut self) -> Result<bool, Unread>
-        ensures { IfOk result (λ over. IsTrue over → self.old ≡ []) }
+        ensures { IfOk result (λ over. MatchBool over (self.old ≡ []) (self.old ≢ [])) }
     {
         if self.reader.is_none() {
             if self.rest.is_empty() {

@@ -1,16 +1,10 @@
-use Rattle.std.proofs.Common.{◌≡◌, suc, ◌==◌, false, codes, ap, arith, ne_eqb}
-use Rattle.std.specs.Prelude.{option_map}
-use Rattle.serde_json.specs.Data.{object}
-use Rattle.serde_json.specs.Events.{members_len}
-use Rattle.line_parser.specs.Slots.{a_truth}
+use Rattle.std.proofs.Common.{◌≡◌, suc, codes, refl, arith}
 use Rattle.line_parser.specs.declared.slots.Name.TheVariants.{Failed}
-use Rattle.line_parser.proofs.Steps.{truth_is, failed_is, same_count}
+use Rattle.line_parser.proofs.Steps.{counted, not_counted, truth_in}
 use Rattle.line_parser.proofs.named.failed_of.Goals as goal
 
-pub returns : goal.returns
-returns c l found h =
+pub returns-then-slots-count-2 : goal.returns-then-slots-count-2
+returns-then-slots-count-2 c l found h =
     let n = c.args.count in
-    let more : members_len found ≡ suc n = omega (arith, h.count, c.if-slots-count-2.false) in
-    let apart : (members_len found == n) ≡ false = ne_eqb (members_len found) n (λ e. omega (arith, e, more)) in
-    failed_is n (object found) c.in-Some.failed apart (same_count (members_len found) (suc n) more)
-    (truth_is (codes "failed") found _ c.in-Some.failed (h.each Failed) (ap (option_map a_truth) c.in-Some.is))
+    let more : c.args.slots.now.count ≡ suc n = omega arith in
+    rw (not_counted _ _ n h.count c.if-slots-count.false, counted _ _ (suc n) h.count more, truth_in c.args.slots.now.failed (codes "failed") found (h.each Failed)) refl

@@ -9,10 +9,6 @@ returns-then-is_empty c = sym (said_of_empty c.args.line.now c.is_empty.ensures 
 pub returns-then-line-gt-LINE_LIMIT : goal.returns-then-line-gt-LINE_LIMIT
 returns-then-line-gt-LINE_LIMIT c = sym (said_of_long c.args.line.now c.if-line-gt-LINE_LIMIT.true)
 
-pub returns-in-Some : goal.returns-in-Some
-returns-in-Some c =
-    ap meaning_by (sym c.in-Some.is ∙ c.in_ok-step.ensures) ∙ sym (said_of_asked c.args.line.now c.is_empty.ensures c.if-is_empty.false c.if-line-gt-LINE_LIMIT.false)
-
-pub returns-in-None : goal.returns-in-None
-returns-in-None c =
-    ap meaning_by (sym c.in-None.is ∙ c.in_ok-step.ensures) ∙ sym (said_of_asked c.args.line.now c.is_empty.ensures c.if-is_empty.false c.if-line-gt-LINE_LIMIT.false)
+pub returns : goal.returns
+returns c =
+    c.line_of.ensures ∙ ap meaning_by c.in_ok-step.ensures ∙ sym (said_of_asked c.args.line.now c.is_empty.ensures c.if-is_empty.false c.if-line-gt-LINE_LIMIT.false)

@@ -14,4 +14,4 @@ returns-in-Ok c =
     let valid : IsUtf8 line = c.in-Some.ensures.1 in
     let json = ap (λ b. cond b (read line) None) (is_utf8-from_IsUtf8 line valid) in
     let said = ap (option_and_then step_of_json) (json ∙ ap read (sym same)) ∙ c.in-Ok.ensures in
-    ap meaning_by (sym said) ∙ sym (said_of_asked line c.is_empty.ensures c.if-is_empty.false c.if-line-gt-LINE_LIMIT.false)
+    c.line_of.ensures ∙ ap meaning_by (sym said) ∙ sym (said_of_asked line c.is_empty.ensures c.if-is_empty.false c.if-line-gt-LINE_LIMIT.false)

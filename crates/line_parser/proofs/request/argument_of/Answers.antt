@@ -1,15 +1,22 @@
-use Rattle.std.proofs.Common.{◌==◌, codes, ap, ◌∙◌}
-use Rattle.serde_json.specs.Data.{null, object}
-use Rattle.line_parser.specs.Slots.{put_bytes}
+use Rattle.std.proofs.Common.{true, false, refl}
+use Rattle.serde_json.specs.Data.{null}
 use Rattle.line_parser.specs.declared.slots.Name.TheVariants.{Args}
-use Rattle.line_parser.proofs.Steps.{left_out, put_in, value_is, null_argument}
+use Rattle.line_parser.proofs.Steps.{counted, not_counted, put_in, null_argument}
 use Rattle.line_parser.proofs.request.argument_of.Goals as goal
-
-pub returns-then-slots-eq6 : goal.returns-then-slots-eq6
-returns-then-slots-eq6 c found h =
-    let n = h.count ∙ c.if-slots-eq6.true in
-    let v = value_is (codes "args") found (put_bytes c.args.slots.now.args c.args.bytes.now) c.args.bytes.now (h.each Args) (ap (λ b. put_bytes b c.args.bytes.now) c.if-slots.true) in
-    (v.0, put_in (object found) v.0 (ap (λ k. k == 5) n) (ap (λ k. k == 6) n) v.1, v.2)
+use Rattle.line_parser.proofs.request.argument_of.Goals.{else-slots-eq6-via-then-slots-eq6+else-slots, else-slots-eq6-via-else-slots-eq6}
 
 pub returns-then-slots-eq5 : goal.returns-then-slots-eq5
-returns-then-slots-eq5 c found h = (null, left_out (object found) (ap (λ k. k == 5) (h.count ∙ c.if-slots-eq5.true)), null_argument)
+returns-then-slots-eq5 c found h = (null, rw (counted _ _ 5 h.count c.if-slots-eq5.true) refl, null_argument)
+
+pub returns-then-slots : goal.returns-then-slots
+returns-then-slots c found h =
+    let put = put_in _ true c.args.bytes.now _ (h.each Args) c.if-slots.true in
+    (put.0, rw (not_counted _ _ 5 h.count c.if-slots-eq5.false, counted _ _ 6 h.count c.if-slots-eq6.true) put.1, put.2)
+
+pub returns : goal.returns
+returns c found h =
+    let five = not_counted _ _ 5 h.count c.if-slots-eq5.false in
+    elim c.else-slots-eq6.branch [
+      | else-slots-eq6-via-then-slots-eq6+else-slots w ↦ rw (five, counted _ _ 6 h.count w.if-slots-eq6.true) (put_in _ false c.args.bytes.now _ (h.each Args) w.if-slots.false)
+      | else-slots-eq6-via-else-slots-eq6 w ↦ rw (five, not_counted _ _ 6 h.count w.if-slots-eq6.false) refl
+    ]

@@ -1,15 +1,38 @@
-use Rattle.std.proofs.Common.{◌==◌, Some, codes, ap, sym, ◌∙◌}
-use Rattle.std.specs.Prelude.{option_map}
-use Rattle.serde_json.specs.Data.{object}
-use Rattle.line_parser.specs.Slots.{a_text, put_bytes}
-use Rattle.line_parser.specs.declared.slots.Name.TheVariants.{Grain, State}
-use Rattle.line_parser.proofs.Steps.{text_is, value_is, poke_is}
+use Rattle.std.proofs.Common.{true, false, codes, refl, sym, ap, ◌∙◌, Some}
+use Rattle.line_parser.specs.Form.{poke_of}
+use Rattle.line_parser.specs.declared.slots.Name.TheVariants.{Grain, Id, State}
+use Rattle.line_parser.proofs.Steps.{counted, not_counted, natural_in, text_in, put_in}
 use Rattle.line_parser.proofs.request.poke_from.Goals as goal
 
-pub returns : goal.returns
-returns c found h =
-    let l = c.args.bytes.now in
-    let grain = text_is (codes "grain") found _ c.in-Some.grain.now (h.each Grain) (ap (option_map (λ t. a_text t.now)) c.in-Some.is) in
-    let v = value_is (codes "state") found (put_bytes c.args.slots.now.state l) l (h.each State) (ap (λ b. put_bytes b l) c.if-not-slots.false) in
-    poke_is (object found) v.0 c.in_ok-caller.caller c.in_ok-id.id c.in-Some.grain.now c.in_ok-state.state (ap (λ k. k == 5) (h.count ∙ c.if-slots-ne5.false))
-    (c.in_ok-caller.ensures l found h) (c.in_ok-id.ensures l found h) grain v.1 (c.in_ok-state.ensures v.0 v.2) ∙ ap (λ x. Some x) (sym c.in_ok-step.ensures)
+pub returns-then-slots-ne5 : goal.returns-then-slots-ne5
+unfolding poke_of
+returns-then-slots-ne5 c found h = rw (not_counted _ _ 5 h.count c.if-slots-ne5.true) refl
+
+pub returns-in_default : goal.returns-in_default
+unfolding poke_of
+returns-in_default c found h = rw (counted _ _ 5 h.count c.if-slots-ne5.false, c.in_ok-caller.ensures c.args.bytes.now found h ∙ c.in_default.is) refl
+
+pub returns-in_default-id : goal.returns-in_default-id
+unfolding poke_of
+returns-in_default-id c found h = rw (counted _ _ 5 h.count c.if-slots-ne5.false, c.in_ok-caller.ensures c.args.bytes.now found h ∙ c.in-Some.is, natural_in _ _ (codes "id") found (h.each Id) c.in_default-id.is) refl
+
+pub returns-in_default-grain : goal.returns-in_default-grain
+unfolding poke_of
+returns-in_default-grain c found h = rw (counted _ _ 5 h.count c.if-slots-ne5.false, c.in_ok-caller.ensures c.args.bytes.now found h ∙ c.in-Some.is, natural_in _ _ (codes "id") found (h.each Id) c.in-Some-id.is, text_in _ _ (λ t. t.now) (codes "grain") found (h.each Grain) c.in_default-grain.is) refl
+
+pub returns-then-not-slots : goal.returns-then-not-slots
+unfolding poke_of
+returns-then-not-slots c found h =
+    rw (counted _ _ 5 h.count c.if-slots-ne5.false, c.in_ok-caller.ensures c.args.bytes.now found h ∙ c.in-Some.is, natural_in _ _ (codes "id") found (h.each Id) c.in-Some-id.is, text_in _ _ (λ t. t.now) (codes "grain") found (h.each Grain) c.in-Some-grain.is, put_in _ false c.args.bytes.now _ (h.each State) c.if-not-slots.true) refl
+
+pub returns-in_ok-step-in-Ok : goal.returns-in_ok-step-in-Ok
+unfolding poke_of
+returns-in_ok-step-in-Ok c found h =
+    let put = put_in _ true c.args.bytes.now _ (h.each State) c.if-not-slots.false in
+    rw (counted _ _ 5 h.count c.if-slots-ne5.false, c.in_ok-caller.ensures c.args.bytes.now found h ∙ c.in-Some.is, natural_in _ _ (codes "id") found (h.each Id) c.in-Some-id.is, text_in _ _ (λ t. t.now) (codes "grain") found (h.each Grain) c.in-Some-grain.is, put.1, c.in_ok-state.ensures put.0 put.2 ∙ c.in-Ok.is) (ap (λ x. Some x) (sym c.in_ok-step-in-Ok.ensures))
+
+pub returns-in-Err : goal.returns-in-Err
+unfolding poke_of
+returns-in-Err c found h =
+    let put = put_in _ true c.args.bytes.now _ (h.each State) c.if-not-slots.false in
+    rw (counted _ _ 5 h.count c.if-slots-ne5.false, c.in_ok-caller.ensures c.args.bytes.now found h ∙ c.in-Some.is, natural_in _ _ (codes "id") found (h.each Id) c.in-Some-id.is, text_in _ _ (λ t. t.now) (codes "grain") found (h.each Grain) c.in-Some-grain.is, put.1, c.in_ok-state.ensures put.0 put.2 ∙ c.in-Err.is) refl

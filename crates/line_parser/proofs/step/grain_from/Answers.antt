@@ -1,5 +1,5 @@
-use Rattle.std.proofs.Common.{◌==◌, ap, ◌∙◌}
+use Rattle.line_parser.proofs.Steps.{counted}
 use Rattle.line_parser.proofs.step.grain_from.Goals as goal
 
-pub returns-clause-alone : goal.returns-clause-alone
-returns-clause-alone c l found h = ap (λ k. k == 2) (h.count ∙ c.if-slots-ne2.false)
+pub returns : goal.returns
+returns c l found h = rw (counted _ _ 2 h.count c.if-slots-ne2.false) (c.in_ok-grain.ensures l found h)

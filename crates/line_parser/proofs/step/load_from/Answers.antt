@@ -1,6 +1,15 @@
-use Rattle.serde_json.specs.Data.{object}
-use Rattle.line_parser.proofs.Steps.{load_is}
+use Rattle.std.proofs.Common.{refl, ◌∙◌}
+use Rattle.line_parser.specs.Form.{load_of}
 use Rattle.line_parser.proofs.step.load_from.Goals as goal
 
+pub returns-in_default : goal.returns-in_default
+unfolding load_of
+returns-in_default c l found h = rw (c.failed_of.ensures l found h ∙ c.in_default.is) refl
+
+pub returns-in_default-2 : goal.returns-in_default-2
+unfolding load_of
+returns-in_default-2 c l found h = rw (c.failed_of.ensures l found h ∙ c.in-Some.is, c.in_ok-grain.ensures l found h ∙ c.in_default-2.is) refl
+
 pub returns : goal.returns
-returns c l found h = load_is (object found) c.in_ok-grain.grain c.in_ok-failed.failed (c.in_ok-failed.ensures l found h) (c.in_ok-grain.ensures l found h)
+unfolding load_of
+returns c l found h = rw (c.failed_of.ensures l found h ∙ c.in-Some.is, c.in_ok-grain.ensures l found h ∙ c.in-Some-2.is) refl

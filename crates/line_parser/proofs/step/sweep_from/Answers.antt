@@ -1,7 +1,12 @@
-use Rattle.std.proofs.Common.{◌==◌, ap, ◌∙◌}
-use Rattle.serde_json.specs.Data.{object}
-use Rattle.line_parser.proofs.Steps.{sweep_is}
+use Rattle.std.proofs.Common.{refl}
+use Rattle.line_parser.specs.Form.{sweep_of}
+use Rattle.line_parser.proofs.Steps.{counted, not_counted}
 use Rattle.line_parser.proofs.step.sweep_from.Goals as goal
 
+pub returns-then-slots-ne1 : goal.returns-then-slots-ne1
+unfolding sweep_of
+returns-then-slots-ne1 c l found h = rw (not_counted _ _ 1 h.count c.if-slots-ne1.true) refl
+
 pub returns : goal.returns
-returns c l found h = sweep_is (object found) (ap (λ k. k == 1) (h.count ∙ c.if-slots-ne1.false))
+unfolding sweep_of
+returns c l found h = rw (counted _ _ 1 h.count c.if-slots-ne1.false) refl

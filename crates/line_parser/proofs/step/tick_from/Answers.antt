@@ -1,9 +1,22 @@
-use Rattle.std.proofs.Common.{◌==◌, Some, ap, sym, ◌∙◌}
-use Rattle.serde_json.specs.Data.{object}
+use Rattle.std.proofs.Common.{Some, codes, refl, sym, ap}
 use Rattle.silo_event.specs.declared.step.Step.TheVariants as step
-use Rattle.line_parser.proofs.Steps.{tick_is}
+use Rattle.line_parser.specs.Form.{tick_of}
+use Rattle.line_parser.specs.declared.slots.Name.TheVariants.{Now}
+use Rattle.line_parser.proofs.Steps.{counted, not_counted, natural_in, natural_below}
 use Rattle.line_parser.proofs.step.tick_from.Goals as goal
 
+pub returns-then-slots-ne2 : goal.returns-then-slots-ne2
+unfolding tick_of
+returns-then-slots-ne2 c l found h = rw (not_counted _ _ 2 h.count c.if-slots-ne2.true) refl
+
+pub returns-in_err-slots : goal.returns-in_err-slots
+unfolding tick_of
+returns-in_err-slots c l found h = rw (counted _ _ 2 h.count c.if-slots-ne2.false, natural_in _ _ (codes "now") found (h.each Now) c.in_err-slots.was) (sym c.from_residual.ensures)
+
+-- a slot's number is a moment
+pub returns-in_err-now : goal.returns-in_err-now
+returns-in_err-now c l found h = absurd (c.in_err-now.ensures (natural_below _ _ _ (h.each Now) c.in_ok-slots.was))
+
 pub returns : goal.returns
-returns c l found h =
-    tick_is (object found) c.in_ok-now_of.field-0 (ap (λ k. k == 2) (h.count ∙ c.if-slots-ne2.false)) (c.in_ok-now_of.ensures l found h) ∙ ap (λ n. Some (step.Tick n)) (sym c.in-Some.ensures.1)
+unfolding tick_of
+returns c l found h = rw (counted _ _ 2 h.count c.if-slots-ne2.false, natural_in _ _ (codes "now") found (h.each Now) c.in_ok-slots.was) (ap (λ n. Some (step.Tick n)) (sym c.in_ok-now.ensures.1))

@@ -5,7 +5,7 @@ use Rattle.line_parser.proofs.PlainTokens.{no_tokens}
 use Rattle.line_parser.proofs.tokens.Tokens.ends.Goals as goal
 
 pub returns-then-is_empty : goal.returns-then-is_empty
-returns-then-is_empty c so =
+returns-then-is_empty c =
     let a = c.self.inside in
     let plain : a.reader ≡ None = grind arith in
     let none : length a.rest.now ≡ 0 = grind (arith, nat_tests) in
