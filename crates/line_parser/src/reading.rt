@@ -124,8 +124,8 @@ fn read_text_step(alloc: Global, room: &mut LineRoom, text: &str) -> Result<Opti
     )
 }
 
-/// What a line says, without its LF. A line in the usual form is read without a tree; every other
-/// one goes to `serde_json`.
+/// What a line says, without its LF. The quick reader tells it without a tree; a line that it leaves
+/// goes to `serde_json`.
 pub fn read_line(alloc: Global, room: &mut LineRoom, line: &[u8]) -> Result<Line, AllocError>
     ensures { IfOk result (λ said. said ≡ meaning_of line.now) }
 {
