@@ -9,7 +9,7 @@ ghost use Rattle.line_parser.specs.Meaning.{json_of_line, meaning_by, meaning_of
 use crate::ascii::is_ascii;
 use crate::forms::read_step;
 use crate::line::{Line, LineRefusal};
-use crate::slots::read_slots;
+use crate::slots::{Slots, read_slots};
 use crate::step::step_from;
 use crate::tokens::Tokens;
 use crate::unread::Unread;
@@ -112,9 +112,11 @@ fn read_text_step(alloc: Global, room: &mut LineRoom, text: &str) -> Result<Opti
     ensures { IfOk result (λ step. option_and_then step_of_json (read text.now) ≡ step) }
 {
     let mut tokens = Tokens::new(text, &mut room.scratch);
-    let Some(slots) = read_slots(&mut tokens, &mut room.args)? else {
+    let mut slots = Slots::none();
+    let all = read_slots(&mut tokens, &mut slots, &mut room.args)?;
+    if !all {
         return Ok(None);
-    };
+    }
     step_from(
         alloc,
         &mut room.names,
