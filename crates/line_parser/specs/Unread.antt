@@ -1,4 +1,4 @@
--- Why the quick reader has no step, by a fault of the codec.
+-- Why the quick reader has no answer, by a fault of the codec.
 use Rattle.request_codec.specs.declared.fault.CodecFault.{CodecFault}
 use Rattle.request_codec.specs.declared.fault.CodecFault.TheVariants as fault
 use Rattle.line_parser.specs.declared.unread.Unread.{Unread}

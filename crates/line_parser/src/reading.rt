@@ -9,7 +9,7 @@ ghost use Rattle.line_parser.specs.Meaning.{json_of_line, meaning_by, meaning_of
 use crate::ascii::is_ascii;
 use crate::forms::read_step;
 use crate::line::{Line, LineRefusal};
-use crate::slots::read_slots;
+use crate::slots::{Slots, read_slots};
 use crate::step::step_from;
 use crate::tokens::Tokens;
 use crate::unread::Unread;
@@ -112,9 +112,11 @@ fn read_text_step(alloc: Global, room: &mut LineRoom, text: &str) -> Result<Opti
     ensures { IfOk result (λ step. option_and_then step_of_json (read text.now) ≡ step) }
 {
     let mut tokens = Tokens::new(text, &mut room.scratch);
-    let Some(slots) = read_slots(&mut tokens, &mut room.args)? else {
+    let mut slots = Slots::none();
+    let all = read_slots(&mut tokens, &mut slots, &mut room.args)?;
+    if !all {
         return Ok(None);
-    };
+    }
     step_from(
         alloc,
         &mut room.names,
@@ -124,8 +126,8 @@ fn read_text_step(alloc: Global, room: &mut LineRoom, text: &str) -> Result<Opti
     )
 }
 
-/// What a line says, without its LF. A line in the usual form is read without a tree; every other
-/// one goes to `serde_json`.
+/// What a line says, without its LF. The quick reader tells it without a tree; a line that it leaves
+/// goes to `serde_json`.
 pub fn read_line(alloc: Global, room: &mut LineRoom, line: &[u8]) -> Result<Line, AllocError>
     ensures { IfOk result (λ said. said ≡ meaning_of line.now) }
 {

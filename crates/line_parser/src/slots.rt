@@ -1,9 +1,11 @@
 //! The members of a line, each by its name.
 
-ghost use Rattle.std.specs.Prelude.{◌≡◌, ◌<◌, ◌^◌, ◌||◌, [], ◌∷◌, false, None, IfSome, IfOk, OnOk, MatchOption, option_map};
+ghost use Rattle.std.specs.Prelude.{◌≡◌, ◌<◌, ◌^◌, ◌||◌, ℕ, List, [], ◌∷◌, false, None, IfSome, IfOk, OnOk, option_map};
+ghost use Rattle.std.specs.Bool.{MatchBool};
 ghost use Rattle.json.specs.Token.{string, boolean};
+ghost use Rattle.serde_json.specs.Data.{no_members};
 ghost use Rattle.line_parser.specs.Argument.{PutsValue};
-ghost use Rattle.line_parser.specs.Slots.{name_text, named, TakesMember, asked_by, HasSlots, IsNatural};
+ghost use Rattle.line_parser.specs.Slots.{name_text, named, TakesMember, asked_by, HoldsSlots, HasSlots, IsNatural};
 
 use crate::argument::put_value;
 use crate::number::whole_number;
@@ -50,6 +52,28 @@ pub(crate) struct Slots<'a> {
     pub(crate) args: bool,
     pub(crate) state: bool,
     pub(crate) count: usize,
+}
+
+impl<'a> Slots<'a> {
+    /// No member was there yet.
+    #[inline(always)]
+    pub(crate) fn none() -> Slots<'a>
+        ensures { (l : List ℕ) → HoldsSlots no_members result l }
+    {
+        Slots {
+            op: None,
+            from: None,
+            grain: None,
+            method: None,
+            id: None,
+            turn: None,
+            moment: None,
+            failed: None,
+            args: false,
+            state: false,
+            count: 0,
+        }
+    }
 }
 
 /// The levels that a member's value may have: what is left of 127 behind the line's object.
@@ -176,38 +200,27 @@ fn take_member<'a>(
     Ok(())
 }
 
-/// The members of the object that the tokens are, if each is known and stands once; none if the tokens are surely no
-/// request.
+/// Takes the members of the object that the tokens are, and answers whether it did: each is known and stands once.
+/// If not, the tokens are surely no request.
 pub(crate) fn read_slots<'a>(
     reader: &mut Tokens<'a>,
+    slots: &mut Slots<'a>,
     bytes: &mut Vec<u8>,
-) -> Result<Option<Slots<'a>>, Unread>
-    ensures { IfOk result (λ slots. MatchOption slots (asked_by reader.old ≡ None) (λ s. HasSlots reader.old s bytes.new.items)) }
+) -> Result<bool, Unread>
+    requires { (l : List ℕ) → HoldsSlots no_members slots.old l }
+    ensures { IfOk result (λ all. MatchBool all (HasSlots reader.old slots.new bytes.new.items) (asked_by reader.old ≡ None)) }
 {
     let begins = reader.take_begin_map()?;
     if !begins {
-        return Ok(None);
+        return Ok(false);
     }
-    let mut slots = Slots {
-        op: None,
-        from: None,
-        grain: None,
-        method: None,
-        id: None,
-        turn: None,
-        moment: None,
-        failed: None,
-        args: false,
-        state: false,
-        count: 0,
-    };
     'members: loop {
         match reader.next_member()? {
-            Next::Member(name) => take_member(&mut slots, bytes, reader, name)?,
+            Next::Member(name) => take_member(slots, bytes, reader, name)?,
             Next::End => break,
-            Next::Other | Next::Broken => return Ok(None),
+            Next::Other | Next::Broken => return Ok(false),
         }
     }
     let over = reader.ends()?;
-    if over { Ok(Some(slots)) } else { Ok(None) }
+    Ok(over)
 }

@@ -1,4 +1,4 @@
-//! Why the quick reader has no step.
+//! Why the quick reader has no answer.
 
 ghost use Rattle.std.specs.Prelude.{◌≡◌};
 ghost use Rattle.line_parser.specs.Unread.{unread_of};

@@ -1,6 +1,6 @@
-use Rattle.std.proofs.Common.{inl, inr, Some, None, refl, ap, ◌∙◌, arith}
+use Rattle.std.proofs.Common.{Bool, true, false, inl, inr, Some, None, refl, ap, ◌∙◌, arith}
+use Rattle.std.specs.Bool.{MatchBool}
 use Rattle.line_parser.specs.Slots.{name_text}
-use Rattle.line_parser.proofs.MembersTaken.{nothing_held}
 use Rattle.line_parser.proofs.ItemsRead.{members_start, members_next, members_stop}
 use Rattle.line_parser.proofs.NoRequest.{members_broken, other_member, text_behind}
 use Rattle.line_parser.proofs.NoObject.{asked_by-no_object}
@@ -11,7 +11,7 @@ returns-then-not-begins c = asked_by-no_object c.args.reader.now (rw c.if-not-be
 
 pub members-init : goal.members-init
 members-init c = record {
-  so_far = members_start c.take_begin_map.new.self _ c.args.bytes.now.items (nothing_held c.args.bytes.now.items);
+  so_far = members_start c.take_begin_map.new.self _ c.args.bytes.now.items (c.requires c.args.bytes.now.items);
   first = grind arith;
 }
 
@@ -33,13 +33,15 @@ returns-in-Other c =
       | inr is ↦ members_broken begun l.reader l.slots l.bytes.items c.args.reader.now l.invariant.first l.invariant.so_far (rw is at c.in_ok-name.ensures)
     ]
 
-pub returns-then-over : goal.returns-then-over
-returns-then-over c =
-    let l = c.members in
-    let last = rw c.if-over.true at c.in_ok-over.ensures in
-    members_stop c.take_begin_map.new.self l.reader l.slots l.bytes.items c.args.reader.now l.invariant.first l.invariant.so_far ((rw c.in-End.is at c.in_ok-name.ensures) ∙ ap (λ ts. Some (None, ts)) last)
+match_bool-map : {A B C D : Type 0} (b : Bool) → MatchBool b A B → (A → C) → (B → D) → MatchBool b C D
+match_bool-map true x f g = f x
+match_bool-map false x f g = g x
 
-pub returns-else-over : goal.returns-else-over
-returns-else-over c =
+pub returns : goal.returns
+returns c =
     let l = c.members in
-    text_behind c.take_begin_map.new.self l.reader l.slots l.bytes.items c.args.reader.now l.invariant.first l.invariant.so_far _ (rw c.in-End.is at c.in_ok-name.ensures) (rw c.if-over.false at c.in_ok-over.ensures)
+    let begun = c.take_begin_map.new.self in
+    let next = rw c.in-End.is at c.in_ok-name.ensures in
+    match_bool-map c.in_ok-over.over c.in_ok-over.ensures
+    (λ last. members_stop begun l.reader l.slots l.bytes.items c.args.reader.now l.invariant.first l.invariant.so_far (next ∙ ap (λ ts. Some (None, ts)) last))
+    (text_behind begun l.reader l.slots l.bytes.items c.args.reader.now l.invariant.first l.invariant.so_far _ next)
