@@ -1,6 +1,7 @@
 //! Messages, states and JSON.
 
-use crate::values::{datum, message, state};
+use crate::compare::{same, same_at, same_copy};
+use crate::values::{datum, message, parsed, read_state, state};
 use request_codec::{
     CodecFault, Datum, Message, SharedState, StateBytes, decode, decode_message, decode_state,
     encode, encode_json, encode_state, from_json, laws, to_json,
@@ -12,20 +13,40 @@ use std::test::Fail;
 /// The message of `add` with `{"by":3}`.
 const ADD: &[u8] = b"\x01\0\0\0\x03add\x06\0\0\0\x01\0\0\0\x02by\x03\0\0\0\0\0\0\0\x03";
 
-/// The message of `a` with `{"a":null,"b":null}`.
-const ASCENDING: &[u8] = b"\x01\0\0\0\x01a\x06\0\0\0\x02\0\0\0\x01a\0\0\0\0\x01b\0";
+/// The argument of that message.
+const BY_THREE: &str = "{\"by\":3}";
+
+/// Bytes of a message, its method and its argument.
+const CALLS: [(&[u8], &str, &str); 2] = [
+    (ADD, "add", BY_THREE),
+    (
+        b"\x01\0\0\0\x01a\x06\0\0\0\x02\0\0\0\x01a\0\0\0\0\x01b\0",
+        "a",
+        "{\"a\":null,\"b\":null}",
+    ),
+];
 
 /// Names out of order, and one twice; an end behind a count, and a count above what is left; text
-/// that isn't UTF-8.
-const NO_MESSAGES: [&[u8]; 5] = [
+/// that isn't UTF-8; and a message with one byte more.
+const NO_MESSAGES: [&[u8]; 6] = [
     b"\x01\0\0\0\x01a\x06\0\0\0\x02\0\0\0\x01b\0\0\0\0\x01a\0",
     b"\x01\0\0\0\x01a\x06\0\0\0\x02\0\0\0\x01a\0\0\0\0\x01a\0",
     b"\x01\0\0\0\x01a\x06\0\0\0\x02",
     b"\x01\0\0\0\x01a\x05\xFF\xFF\xFF\xFF",
     b"\x01\0\0\0\x01a\x04\0\0\0\x02\xC0\x80",
+    b"\x01\0\0\0\x03add\x06\0\0\0\x01\0\0\0\x02by\x03\0\0\0\0\0\0\0\x03\0",
 ];
 
 const NOT_A_MESSAGE: Option<CodecFault> = Some(CodecFault::NotAMessage);
+
+const NOT_WHOLE: Option<CodecFault> = Some(CodecFault::NotWhole);
+
+const TOO_DEEP: Option<CodecFault> = Some(CodecFault::TooDeep);
+
+const TOO_LONG: Option<CodecFault> = Some(CodecFault::TooLong);
+
+/// Two faults, of a value that is made and of a value that is written at once.
+type Faults = (Option<CodecFault>, Option<CodecFault>);
 
 /// JSON of that many nested lists, the inmost empty.
 fn nested_json(alloc: Global, lists: usize) -> Result<String, Fail> {
@@ -63,6 +84,10 @@ fn decoding_fault(alloc: Global, bytes: &[u8]) -> Option<CodecFault> {
     decode(alloc, bytes).err()
 }
 
+fn keeping_fault(alloc: Global, bytes: &[u8]) -> Option<CodecFault> {
+    Message::read(alloc, bytes).err()
+}
+
 fn reading_fault(alloc: Global, bytes: &[u8]) -> Option<CodecFault> {
     StateBytes::read(alloc, bytes).err()
 }
@@ -71,12 +96,23 @@ fn encoding_fault(alloc: Global, argument: &Datum) -> Option<CodecFault> {
     encode(alloc, "a", argument).err()
 }
 
-fn conversion_fault(alloc: Global, json: &str) -> Result<Option<CodecFault>, Fail> {
-    Ok(from_json(alloc, &Value::from_str(alloc, json)?).err())
+fn state_fault(alloc: Global, value: &Datum) -> Option<CodecFault> {
+    encode_state(alloc, value).err()
 }
 
-fn json_encoding_fault(alloc: Global, json: &str) -> Result<Option<CodecFault>, Fail> {
-    Ok(encode_json(alloc, "a", &Value::from_str(alloc, json)?).err())
+fn conversion_fault(alloc: Global, json: &Value) -> Option<CodecFault> {
+    from_json(alloc, json).err()
+}
+
+fn json_encoding_fault(alloc: Global, json: &Value) -> Option<CodecFault> {
+    encode_json(alloc, "a", json).err()
+}
+
+/// The faults of JSON that is converted, and that is encoded with no value made of it.
+fn json_faults(alloc: Global, json: &str) -> Result<Faults, Fail> {
+    let json = parsed(alloc, json)?;
+    let conversion = conversion_fault(alloc, &json);
+    Ok((conversion, json_encoding_fault(alloc, &json)))
 }
 
 /// The value as JSON.
@@ -84,136 +120,140 @@ fn json(alloc: Global, value: &Datum) -> Result<String, Fail> {
     Ok(to_json(alloc, value)?.to_string(alloc)?)
 }
 
-/// The method and the argument that bytes spell.
-fn call(alloc: Global, bytes: &[u8]) -> Result<String, Fail> {
-    let (method, argument) = decode(alloc, bytes)?;
-    let argument = json(alloc, &argument)?;
-    Ok(format!(in alloc; "{method} {argument}")?)
+fn is_json(alloc: Global, value: &Datum, wanted: &str) -> Result<(), Fail> {
+    same(json(alloc, value)?.as_str(), wanted)
 }
 
-/// The method and the argument of a message.
-fn call_of(alloc: Global, message: &Message) -> Result<String, Fail> {
-    let (method, argument) = decode_message(alloc, message)?;
-    let argument = json(alloc, &argument)?;
-    Ok(format!(in alloc; "{method} {argument}")?)
+fn decoded(alloc: Global, bytes: &[u8]) -> Result<(String, Datum), Fail> {
+    Ok(decode(alloc, bytes)?)
 }
 
-/// The value of a state.
-fn value_of(alloc: Global, state: &StateBytes) -> Result<String, Fail> {
-    json(alloc, &decode_state(alloc, state)?)
+fn decoded_message(alloc: Global, message: &Message) -> Result<(String, Datum), Fail> {
+    Ok(decode_message(alloc, message)?)
+}
+
+fn decoded_state(alloc: Global, state: &StateBytes) -> Result<Datum, Fail> {
+    Ok(decode_state(alloc, state)?)
+}
+
+/// The method and the argument of a call are these.
+fn is_call(
+    alloc: Global,
+    call: &(String, Datum),
+    method: &str,
+    argument: &str,
+) -> Result<(), Fail> {
+    let found = json(alloc, &call.1)?;
+    same((call.0.as_str(), found.as_str()), (method, argument))
+}
+
+fn is_value(alloc: Global, state: &StateBytes, wanted: &str) -> Result<(), Fail> {
+    is_json(alloc, &decoded_state(alloc, state)?, wanted)
 }
 
 /// The message of a method and JSON, with no value made of it.
 fn direct(alloc: Global, method: &str, json: &str) -> Result<Message, Fail> {
-    Ok(encode_json(alloc, method, &Value::from_str(alloc, json)?)?)
+    Ok(encode_json(alloc, method, &parsed(alloc, json)?)?)
+}
+
+fn has_bytes(message: &Message, bytes: &[u8]) -> Result<(), Fail> {
+    same(message.bytes(), bytes)
+}
+
+fn state_has_bytes(state: &StateBytes, bytes: &[u8]) -> Result<(), Fail> {
+    same(state.bytes(), bytes)
 }
 
 #[test]
 fn a_call_is_decoded(rt: HostRuntime) -> Result<(), Fail> {
-    let alloc = rt.alloc();
-    assert_eq!(rt; call(alloc, ADD)?.as_str(), "add {\"by\":3}");
-    assert_eq!(rt;
-        call(alloc, ASCENDING)?.as_str(),
-        "a {\"a\":null,\"b\":null}"
-    );
+    for (bytes, method, argument) in &CALLS {
+        is_call(
+            rt.alloc(),
+            &decoded(rt.alloc(), *bytes)?,
+            *method,
+            *argument,
+        )?;
+    }
     Ok(())
 }
 
 #[test]
 fn a_call_is_encoded(rt: HostRuntime) -> Result<(), Fail> {
-    let alloc = rt.alloc();
-    assert_eq!(rt; message(alloc, "add", "{\"by\":3}")?.bytes(), ADD);
-    assert_eq!(rt; direct(alloc, "add", "{\"by\":3}")?.bytes(), ADD);
-    Ok(())
+    has_bytes(&message(rt.alloc(), "add", BY_THREE)?, ADD)?;
+    has_bytes(&direct(rt.alloc(), "add", BY_THREE)?, ADD)
 }
 
 #[test]
-fn bytes_that_are_no_message(rt: HostRuntime) {
+fn bytes_that_are_no_message(rt: HostRuntime) -> Result<(), Fail> {
     for bytes in &NO_MESSAGES {
-        assert_eq!(rt; decoding_fault(rt.alloc(), *bytes), NOT_A_MESSAGE);
+        same(decoding_fault(rt.alloc(), *bytes), NOT_A_MESSAGE)?;
     }
-}
-
-#[test]
-fn a_part_of_a_message_is_none(rt: HostRuntime) {
-    for len in 0..ADD.len() {
-        assert_eq!(rt;
-            decoding_fault(rt.alloc(), &ADD[..len]),
-            NOT_A_MESSAGE,
-            "at {len}"
-        );
-    }
-}
-
-#[test]
-fn what_follows_a_message_is_refused(rt: HostRuntime) -> Result<(), Fail> {
-    let mut longer = Vec::from_slice(rt.alloc(), ADD)?;
-    longer.push(0)?;
-    assert_eq!(rt; decoding_fault(rt.alloc(), &longer), NOT_A_MESSAGE);
     Ok(())
+}
+
+#[test]
+fn a_part_of_a_message_is_none(rt: HostRuntime) -> Result<(), Fail> {
+    for len in 0..ADD.len() {
+        same(decoding_fault(rt.alloc(), &ADD[..len]), NOT_A_MESSAGE)?;
+    }
+    Ok(())
+}
+
+fn decoding_fault_at(alloc: Global, lists: usize) -> Result<Option<CodecFault>, Fail> {
+    Ok(decoding_fault(alloc, &nested_lists(alloc, lists)?))
 }
 
 #[test]
 fn thirty_two_levels_are_decoded_and_no_more(rt: HostRuntime) -> Result<(), Fail> {
-    let alloc = rt.alloc();
-    assert_eq!(rt; decoding_fault(alloc, &nested_lists(alloc, 32)?), None);
-    assert_eq!(rt;
-        decoding_fault(alloc, &nested_lists(alloc, 33)?),
-        NOT_A_MESSAGE
-    );
-    Ok(())
+    let deepest = decoding_fault_at(rt.alloc(), 32)?;
+    let deeper = decoding_fault_at(rt.alloc(), 33)?;
+    same((deepest, deeper), (None, NOT_A_MESSAGE))
+}
+
+/// The message of nested lists of JSON.
+fn nested_message(alloc: Global, lists: usize) -> Result<Message, Fail> {
+    message(alloc, "a", &nested_json(alloc, lists)?)
 }
 
 #[test]
 fn thirty_two_levels_are_converted_and_no_more(rt: HostRuntime) -> Result<(), Fail> {
-    let alloc = rt.alloc();
-    let deepest = nested_json(alloc, 32)?;
-    let deeper = nested_json(alloc, 33)?;
-    assert_eq!(rt;
-        message(alloc, "a", &deepest)?.bytes(),
-        nested_lists(alloc, 32)?.as_slice()
-    );
-    assert_eq!(rt;
-        conversion_fault(alloc, &deeper)?,
-        Some(CodecFault::TooDeep)
-    );
-    assert_eq!(rt;
-        json_encoding_fault(alloc, &deeper)?,
-        Some(CodecFault::TooDeep)
-    );
-    Ok(())
+    let faults = json_faults(rt.alloc(), &nested_json(rt.alloc(), 33)?)?;
+    same(faults, (TOO_DEEP, TOO_DEEP))?;
+    let bytes = nested_lists(rt.alloc(), 32)?;
+    has_bytes(&nested_message(rt.alloc(), 32)?, &bytes)
+}
+
+/// The value of 32 nested lists.
+fn deepest(alloc: Global) -> Result<Datum, Fail> {
+    datum(alloc, &nested_json(alloc, 32)?)
 }
 
 /// The value of 33 nested lists.
 fn deeper(alloc: Global) -> Result<Datum, Fail> {
     let mut items = Vec::new(alloc);
-    items.push(datum(alloc, &nested_json(alloc, 32)?)?)?;
+    items.push(deepest(alloc)?)?;
     Ok(Datum::List(items))
 }
 
 #[test]
 fn thirty_two_levels_are_encoded_and_no_more(rt: HostRuntime) -> Result<(), Fail> {
-    let alloc = rt.alloc();
-    let deeper = deeper(alloc)?;
-    assert_eq!(rt; encoding_fault(alloc, &deeper), Some(CodecFault::TooDeep));
-    assert_eq!(rt;
-        encode_state(alloc, &deeper).err(),
-        Some(CodecFault::TooDeep)
-    );
-    Ok(())
+    let deeper = deeper(rt.alloc())?;
+    let of_message = encoding_fault(rt.alloc(), &deeper);
+    let of_state = state_fault(rt.alloc(), &deeper);
+    same((of_message, of_state), (TOO_DEEP, TOO_DEEP))
+}
+
+/// How long a wide message is, and its fault.
+fn wide_fault(alloc: Global, letters: u32) -> Result<(usize, Option<CodecFault>), Fail> {
+    let bytes = wide_message(alloc, letters)?;
+    Ok((bytes.len(), decoding_fault(alloc, &bytes)))
 }
 
 #[test]
 fn a_message_has_65_536_bytes_at_most(rt: HostRuntime) -> Result<(), Fail> {
-    let alloc = rt.alloc();
-    let longest = wide_message(alloc, 65_525)?;
-    assert_eq!(rt; longest.len(), 65_536);
-    assert_eq!(rt; decoding_fault(alloc, &longest), None);
-    assert_eq!(rt;
-        decoding_fault(alloc, &wide_message(alloc, 65_526)?),
-        NOT_A_MESSAGE
-    );
-    Ok(())
+    let longest = wide_fault(rt.alloc(), 65_525)?;
+    let longer = wide_fault(rt.alloc(), 65_526)?;
+    same((longest, longer), ((65_536, None), (65_537, NOT_A_MESSAGE)))
 }
 
 /// A text of that many letters.
@@ -225,87 +265,105 @@ fn wide_text(alloc: Global, letters: usize) -> Result<Datum, Fail> {
     Ok(Datum::Text(text))
 }
 
+fn wide_text_fault(alloc: Global, letters: usize) -> Result<Option<CodecFault>, Fail> {
+    Ok(encoding_fault(alloc, &wide_text(alloc, letters)?))
+}
+
 #[test]
 fn a_longer_message_is_not_encoded(rt: HostRuntime) -> Result<(), Fail> {
-    let alloc = rt.alloc();
-    assert_eq!(rt; encoding_fault(alloc, &wide_text(alloc, 65_525)?), None);
-    assert_eq!(rt;
-        encoding_fault(alloc, &wide_text(alloc, 65_526)?),
-        Some(CodecFault::TooLong)
-    );
-    Ok(())
+    let longest = wide_text_fault(rt.alloc(), 65_525)?;
+    let longer = wide_text_fault(rt.alloc(), 65_526)?;
+    same((longest, longer), (None, TOO_LONG))
+}
+
+fn kept(alloc: Global, bytes: &[u8]) -> Result<Message, Fail> {
+    Ok(Message::read(alloc, bytes)?)
+}
+
+fn is_add(alloc: Global, message: &Message) -> Result<(), Fail> {
+    same((message.bytes(), message.method()), (ADD, "add"))?;
+    is_call(alloc, &decoded_message(alloc, message)?, "add", BY_THREE)
 }
 
 #[test]
 fn a_message_is_kept(rt: HostRuntime) -> Result<(), Fail> {
-    let alloc = rt.alloc();
-    let add = Message::read(alloc, ADD)?;
-    assert_eq!(rt; add.bytes(), ADD);
-    assert_eq!(rt; add.method(), "add");
-    assert_eq!(rt; call_of(alloc, &add)?.as_str(), "add {\"by\":3}");
-    assert_eq!(rt; Message::read(alloc, &ADD[..27]).err(), NOT_A_MESSAGE);
-    Ok(())
+    same(keeping_fault(rt.alloc(), &ADD[..27]), NOT_A_MESSAGE)?;
+    is_add(rt.alloc(), &kept(rt.alloc(), ADD)?)
+}
+
+fn are_same(one: &Message, other: &Message) -> bool {
+    one == other
 }
 
 #[test]
 fn messages_are_compared(rt: HostRuntime) -> Result<(), Fail> {
-    let alloc = rt.alloc();
-    let add = Message::read(alloc, ADD)?;
-    assert!(rt; add.clone()? == add);
-    assert!(rt; message(alloc, "get", "null")? != add);
-    Ok(())
+    let add = kept(rt.alloc(), ADD)?;
+    same_copy(&add)?;
+    same(are_same(&message(rt.alloc(), "get", "null")?, &add), false)
+}
+
+fn are_same_states(one: &StateBytes, other: &StateBytes) -> bool {
+    one == other
+}
+
+/// The state is the value true.
+fn is_true(alloc: Global, state: &StateBytes) -> Result<(), Fail> {
+    state_has_bytes(state, b"\x02")?;
+    is_value(alloc, state, "true")?;
+    same_copy(state)?;
+    same(are_same_states(&read_state(alloc, b"\x01")?, state), false)
 }
 
 #[test]
 fn a_state_is_kept(rt: HostRuntime) -> Result<(), Fail> {
-    let alloc = rt.alloc();
-    let yes = state(alloc, "true")?;
-    assert_eq!(rt; yes.bytes(), b"\x02".as_slice());
-    assert_eq!(rt; value_of(alloc, &yes)?.as_str(), "true");
-    assert!(rt; yes.clone()? == yes);
-    assert!(rt; StateBytes::read(alloc, b"\x01")? != yes);
-    Ok(())
+    is_true(rt.alloc(), &state(rt.alloc(), "true")?)
 }
 
+/// Bytes, and the fault of a state that they are read as.
+const STATE_FAULTS: [(&[u8], Option<CodecFault>); 3] = [
+    (b"\x02", None),
+    (b"\x07", NOT_A_MESSAGE),
+    (b"", NOT_A_MESSAGE),
+];
+
 #[test]
-fn bytes_that_are_no_state(rt: HostRuntime) {
-    assert_eq!(rt; reading_fault(rt.alloc(), b"\x02"), None);
-    assert_eq!(rt; reading_fault(rt.alloc(), b"\x07"), NOT_A_MESSAGE);
-    assert_eq!(rt; reading_fault(rt.alloc(), b""), NOT_A_MESSAGE);
+fn bytes_that_are_no_state(rt: HostRuntime) -> Result<(), Fail> {
+    for (bytes, fault) in &STATE_FAULTS {
+        same(reading_fault(rt.alloc(), *bytes), *fault)?;
+    }
+    Ok(())
 }
 
 #[test]
 fn json_is_converted_both_ways(rt: HostRuntime) -> Result<(), Fail> {
-    let alloc = rt.alloc();
     let text = "{\"by\":[-3,\"x\",null,true,{}]}";
-    assert_eq!(rt; json(alloc, &datum(alloc, text)?)?.as_str(), text);
-    Ok(())
+    is_json(rt.alloc(), &datum(rt.alloc(), text)?, text)
 }
 
 #[test]
 fn json_is_encoded_as_its_value(rt: HostRuntime) -> Result<(), Fail> {
-    let alloc = rt.alloc();
     let text = "{\"a\":[-3,\"x\",null],\"b\":{\"c\":true,\"d\":false}}";
-    assert!(rt; direct(alloc, "add", text)? == message(alloc, "add", text)?);
-    assert_eq!(rt;
-        json_encoding_fault(alloc, "{\"by\":[3.0]}")?,
-        Some(CodecFault::NotWhole)
-    );
-    Ok(())
+    let made = message(rt.alloc(), "add", text)?;
+    same(are_same(&direct(rt.alloc(), "add", text)?, &made), true)
 }
+
+/// JSON, and its fault.
+const NUMBERS: [(&str, Option<CodecFault>); 9] = [
+    ("1.5", NOT_WHOLE),
+    ("-0", NOT_WHOLE),
+    ("9223372036854775808", NOT_WHOLE),
+    ("[1.0]", NOT_WHOLE),
+    ("{\"a\":1e2}", NOT_WHOLE),
+    ("{\"by\":[3.0]}", NOT_WHOLE),
+    ("0", None),
+    ("9223372036854775807", None),
+    ("-9223372036854775808", None),
+];
 
 #[test]
 fn whole_numbers_alone_are_converted(rt: HostRuntime) -> Result<(), Fail> {
-    let alloc = rt.alloc();
-    for text in ["1.5", "-0", "9223372036854775808", "[1.0]", "{\"a\":1e2}"] {
-        assert_eq!(rt;
-            conversion_fault(alloc, text)?,
-            Some(CodecFault::NotWhole),
-            "at {text}"
-        );
-    }
-    for text in ["0", "9223372036854775807", "-9223372036854775808"] {
-        assert_eq!(rt; conversion_fault(alloc, text)?, None, "at {text}");
+    for (text, fault) in &NUMBERS {
+        same_at(*text, json_faults(rt.alloc(), *text)?, (*fault, *fault))?;
     }
     Ok(())
 }
@@ -316,35 +374,44 @@ fn the_laws_are_stated() {
     laws::no_prefix();
 }
 
+/// Numbers, and the bytes of their texts as states.
+const DECIMALS: [(u64, &[u8]); 2] = [
+    (1024, b"\x04\0\0\0\x041024"),
+    (u64::MAX, b"\x04\0\0\0\x1418446744073709551615"),
+];
+
+fn decimal(alloc: Global, number: u64) -> Result<StateBytes, Fail> {
+    Ok(StateBytes::decimal(alloc, number)?)
+}
+
 #[test]
 fn a_number_has_its_text_as_a_state(rt: HostRuntime) -> Result<(), Fail> {
-    let alloc = rt.alloc();
-    let version = StateBytes::decimal(alloc, 1024)?;
-    assert_eq!(rt; version.bytes(), b"\x04\0\0\0\x041024".as_slice());
-    let last = StateBytes::decimal(alloc, u64::MAX)?;
-    assert_eq!(rt;
-        last.bytes(),
-        b"\x04\0\0\0\x1418446744073709551615".as_slice()
-    );
+    for (number, bytes) in &DECIMALS {
+        state_has_bytes(&decimal(rt.alloc(), *number)?, *bytes)?;
+    }
     Ok(())
+}
+
+fn integer(number: i64) -> StateBytes {
+    StateBytes::integer(number)
 }
 
 #[test]
 fn a_whole_number_is_a_state(rt: HostRuntime) -> Result<(), Fail> {
-    assert_eq!(rt;
-        StateBytes::integer(-2).bytes(),
-        b"\x03\xff\xff\xff\xff\xff\xff\xff\xfe".as_slice()
-    );
-    let least = value_of(rt.alloc(), &StateBytes::integer(i64::MIN))?;
-    assert_eq!(rt; least.as_str(), "-9223372036854775808");
-    Ok(())
+    state_has_bytes(&integer(-2), b"\x03\xff\xff\xff\xff\xff\xff\xff\xfe")?;
+    is_value(rt.alloc(), &integer(i64::MIN), "-9223372036854775808")
+}
+
+fn shared(alloc: Global, json: &str) -> Result<SharedState, Fail> {
+    Ok(SharedState::new(alloc, state(alloc, json)?)?)
+}
+
+fn copied(state: &SharedState) -> Result<SharedState, Fail> {
+    Ok(state.clone()?)
 }
 
 #[test]
 fn a_shared_state_is_the_same(rt: HostRuntime) -> Result<(), Fail> {
-    let alloc = rt.alloc();
-    let shared = SharedState::new(alloc, state(alloc, "{\"a\":[1,2]}")?)?;
-    let copy = shared.clone()?;
-    assert_eq!(rt; value_of(alloc, copy.state())?.as_str(), "{\"a\":[1,2]}");
-    Ok(())
+    let copy = copied(&shared(rt.alloc(), "{\"a\":[1,2]}")?)?;
+    is_value(rt.alloc(), copy.state(), "{\"a\":[1,2]}")
 }

@@ -1,88 +1,114 @@
 //! Notes that are replaced and dropped, and the grains that are due between.
 
+use crate::compare::same;
+use crate::values::grain;
 use grain_id::GrainId;
 use idle_collector::Collector;
 use std::alloc::Global;
 use std::test::Fail;
 
-/// Whether these grains are due, in this order.
-fn are_due(
-    alloc: Global,
-    collector: &Collector,
-    now: u64,
-    expected: &[&str],
-) -> Result<bool, Fail> {
-    let due = collector.due(alloc, now)?;
-    if due.len() != expected.len() {
-        return Ok(false);
-    }
-    for (grain, text) in due.iter().zip(expected.iter()) {
-        if grain.text() != *text {
-            return Ok(false);
-        }
-    }
-    Ok(true)
+/// A call of a collector.
+#[derive(Clone, Copy)]
+enum Call {
+    /// A grain was idle last at that moment.
+    Note(&'static str, u64),
+    Forget(&'static str),
+    /// The grains that are due at a moment, each with a space behind it.
+    Due(u64, &'static str),
 }
+
+fn note(alloc: Global, collector: &mut Collector, text: &str, moment: u64) -> Result<(), Fail> {
+    Ok(collector.note(grain(alloc, text)?, moment)?)
+}
+
+fn forget(alloc: Global, collector: &mut Collector, text: &str) -> Result<(), Fail> {
+    collector.forget(&grain(alloc, text)?);
+    Ok(())
+}
+
+/// The texts of grains, each with a space behind it.
+fn texts(alloc: Global, grains: &[GrainId]) -> Result<String, Fail> {
+    let mut texts = String::new(alloc);
+    for grain in grains {
+        texts.push_str(grain.text())?;
+        texts.push_str(" ")?;
+    }
+    Ok(texts)
+}
+
+fn due(alloc: Global, collector: &Collector, now: u64) -> Result<String, Fail> {
+    texts(alloc, &collector.due(alloc, now)?)
+}
+
+fn are_due(alloc: Global, collector: &Collector, now: u64, wanted: &str) -> Result<(), Fail> {
+    same(due(alloc, collector, now)?.as_str(), wanted)
+}
+
+fn make(alloc: Global, collector: &mut Collector, call: Call) -> Result<(), Fail> {
+    match call {
+        Call::Note(text, moment) => note(alloc, collector, text, moment),
+        Call::Forget(text) => forget(alloc, collector, text),
+        Call::Due(now, wanted) => are_due(alloc, collector, now, wanted),
+    }
+}
+
+fn make_each(alloc: Global, collector: &mut Collector, calls: &[Call]) -> Result<(), Fail> {
+    for call in calls {
+        make(alloc, collector, *call)?;
+    }
+    Ok(())
+}
+
+/// Makes the calls, of a collector for grains that were idle for so long.
+fn run(alloc: Global, age: u64, calls: &[Call]) -> Result<(), Fail> {
+    let mut collector = Collector::new(alloc, age);
+    make_each(alloc, &mut collector, calls)
+}
+
+const A_LATER_NOTE: [Call; 7] = [
+    Call::Note("counter/red:a", 5),
+    Call::Note("counter/red:b", 3),
+    Call::Note("counter/red:a", 9),
+    Call::Due(9, "counter/red:b "),
+    Call::Due(11, "counter/red:a counter/red:b "),
+    Call::Forget("counter/red:a"),
+    Call::Due(11, "counter/red:b "),
+];
+
+const IN_ORDER: [Call; 6] = [
+    Call::Note("counter/red:c", 1),
+    Call::Note("counter/blue:z", 3),
+    Call::Note("counter/red:a", 2),
+    Call::Note("counter/red:b", 4),
+    Call::Due(10, ""),
+    Call::Due(13, "counter/blue:z counter/red:a counter/red:c "),
+];
+
+const ONE_MOMENT: [Call; 11] = [
+    Call::Note("counter/red:b", 7),
+    Call::Note("counter/red:a", 7),
+    Call::Note("counter/red:b", 7),
+    Call::Due(7, "counter/red:a counter/red:b "),
+    Call::Forget("counter/red:b"),
+    Call::Forget("counter/red:b"),
+    Call::Note("counter/red:c", 7),
+    Call::Due(7, "counter/red:a counter/red:c "),
+    Call::Note("counter/red:a", 6),
+    Call::Forget("counter/red:a"),
+    Call::Due(7, "counter/red:c "),
+];
 
 #[test]
 fn a_later_note_takes_the_place_of_an_earlier_one(rt: HostRuntime) -> Result<(), Fail> {
-    let alloc = rt.alloc();
-    let a = GrainId::read(alloc, "counter/red:a")?;
-    let b = GrainId::read(alloc, "counter/red:b")?;
-    let mut collector = Collector::new(alloc, 2);
-    collector.note(a.clone()?, 5)?;
-    collector.note(b, 3)?;
-    collector.note(a.clone()?, 9)?;
-    let at_nine = are_due(alloc, &collector, 9, &["counter/red:b"])?;
-    assert!(rt; at_nine);
-    let at_eleven = are_due(alloc, &collector, 11, &["counter/red:a", "counter/red:b"])?;
-    assert!(rt; at_eleven);
-    collector.forget(&a);
-    let after = are_due(alloc, &collector, 11, &["counter/red:b"])?;
-    assert!(rt; after);
-    Ok(())
+    run(rt.alloc(), 2, &A_LATER_NOTE)
 }
 
 #[test]
 fn due_grains_ascend_whatever_their_moments(rt: HostRuntime) -> Result<(), Fail> {
-    let alloc = rt.alloc();
-    let mut collector = Collector::new(alloc, 10);
-    collector.note(GrainId::read(alloc, "counter/red:c")?, 1)?;
-    collector.note(GrainId::read(alloc, "counter/blue:z")?, 3)?;
-    collector.note(GrainId::read(alloc, "counter/red:a")?, 2)?;
-    collector.note(GrainId::read(alloc, "counter/red:b")?, 4)?;
-    let none = are_due(alloc, &collector, 10, &[])?;
-    assert!(rt; none);
-    let three = are_due(
-        alloc,
-        &collector,
-        13,
-        &["counter/blue:z", "counter/red:a", "counter/red:c"],
-    )?;
-    assert!(rt; three);
-    Ok(())
+    run(rt.alloc(), 10, &IN_ORDER)
 }
 
 #[test]
 fn notes_of_one_moment_stay_apart(rt: HostRuntime) -> Result<(), Fail> {
-    let alloc = rt.alloc();
-    let a = GrainId::read(alloc, "counter/red:a")?;
-    let b = GrainId::read(alloc, "counter/red:b")?;
-    let c = GrainId::read(alloc, "counter/red:c")?;
-    let mut collector = Collector::new(alloc, 0);
-    collector.note(b.clone()?, 7)?;
-    collector.note(a.clone()?, 7)?;
-    collector.note(b.clone()?, 7)?;
-    let both = are_due(alloc, &collector, 7, &["counter/red:a", "counter/red:b"])?;
-    assert!(rt; both);
-    collector.forget(&b);
-    collector.forget(&b);
-    collector.note(c, 7)?;
-    let others = are_due(alloc, &collector, 7, &["counter/red:a", "counter/red:c"])?;
-    assert!(rt; others);
-    collector.note(a.clone()?, 6)?;
-    collector.forget(&a);
-    let last = are_due(alloc, &collector, 7, &["counter/red:c"])?;
-    assert!(rt; last);
-    Ok(())
+    run(rt.alloc(), 0, &ONE_MOMENT)
 }

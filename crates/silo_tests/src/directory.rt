@@ -1,5 +1,7 @@
 //! Activations that come and go, and the numbers of their tenants.
 
+use crate::compare::same;
+use crate::values::grain;
 use activation_directory::{Activation, Directory, Phase};
 use grain_id::GrainId;
 use std::alloc::{AllocError, Global};
@@ -28,22 +30,34 @@ fn moment_of(activation: Option<&Activation>) -> u64 {
     }
 }
 
+fn mailbox(alloc: Global) -> Result<Mailbox, Fail> {
+    Ok(Mailbox::new(alloc, 2)?)
+}
+
 fn get(alloc: Global, directory: &Directory, text: &str) -> Result<u64, Fail> {
-    Ok(moment_of(directory.get(&GrainId::read(alloc, text)?)))
+    Ok(moment_of(directory.get(&grain(alloc, text)?)))
 }
 
 /// 1 if it was added, 0 if the grain has one.
 fn insert(alloc: Global, directory: &mut Directory, text: &str, last: u64) -> Result<u64, Fail> {
-    let id = GrainId::read(alloc, text)?;
-    let mailbox = Mailbox::new(alloc, 2)?;
-    if directory.get(&id).is_some() {
-        return Ok(0);
-    }
+    let mailbox = mailbox(alloc)?;
     let activation = Activation {
         phase: Phase::Waiting,
         mailbox,
         last,
     };
+    inserted(alloc, directory, grain(alloc, text)?, activation)
+}
+
+fn inserted(
+    alloc: Global,
+    directory: &mut Directory,
+    id: GrainId,
+    activation: Activation,
+) -> Result<u64, Fail> {
+    if directory.get(&id).is_some() {
+        return Ok(0);
+    }
     match directory.insert(alloc, id, activation) {
         Ok(()) => Ok(1),
         Err(_) => Err(Fail::from(AllocError)),
@@ -52,21 +66,27 @@ fn insert(alloc: Global, directory: &mut Directory, text: &str, last: u64) -> Re
 
 /// 1 if it was written.
 fn change(alloc: Global, directory: &mut Directory, text: &str, last: u64) -> Result<u64, Fail> {
-    let id = GrainId::read(alloc, text)?;
-    match directory.get_mut(&id) {
+    Ok(changed(directory, &grain(alloc, text)?, last))
+}
+
+fn changed(directory: &mut Directory, id: &GrainId, last: u64) -> u64 {
+    match directory.get_mut(id) {
         Some(activation) => {
             activation.last = last;
-            Ok(1)
+            1
         }
-        None => Ok(0),
+        None => 0,
     }
 }
 
 fn remove(alloc: Global, directory: &mut Directory, text: &str) -> Result<u64, Fail> {
-    let id = GrainId::read(alloc, text)?;
-    match directory.remove(&id) {
-        Some(activation) => Ok(activation.last),
-        None => Ok(0),
+    Ok(removed(directory, &grain(alloc, text)?))
+}
+
+fn removed(directory: &mut Directory, id: &GrainId) -> u64 {
+    match directory.remove(id) {
+        Some(activation) => activation.last,
+        None => 0,
     }
 }
 
@@ -95,14 +115,32 @@ fn answer(alloc: Global, directory: &mut Directory, call: Call) -> Result<u64, F
 }
 
 /// The place of the first call that answers otherwise.
-fn first_wrong(alloc: Global, calls: &[(Call, u64)]) -> Result<Option<usize>, Fail> {
-    let mut directory = Directory::new(alloc);
+fn first_wrong(
+    alloc: Global,
+    directory: &mut Directory,
+    calls: &[(Call, u64)],
+) -> Result<Option<usize>, Fail> {
     for (place, (call, wanted)) in calls.iter().enumerate() {
-        if answer(alloc, &mut directory, *call)? != *wanted {
+        if answer(alloc, directory, *call)? != *wanted {
             return Ok(Some(place));
         }
     }
     Ok(None)
+}
+
+/// No call answers otherwise.
+fn answers_each(
+    alloc: Global,
+    directory: &mut Directory,
+    calls: &[(Call, u64)],
+) -> Result<(), Fail> {
+    same(first_wrong(alloc, directory, calls)?, None)
+}
+
+/// Makes the calls, of a new directory.
+fn run(alloc: Global, calls: &[(Call, u64)]) -> Result<(), Fail> {
+    let mut directory = Directory::new(alloc);
+    answers_each(alloc, &mut directory, calls)
 }
 
 const EACH_TENANT: [(Call, u64); 10] = [
@@ -142,18 +180,15 @@ const PLACES: [(Call, u64); 10] = [
 
 #[test]
 fn each_tenant_has_its_own_number(rt: HostRuntime) -> Result<(), Fail> {
-    assert_eq!(rt; first_wrong(rt.alloc(), &EACH_TENANT)?, None);
-    Ok(())
+    run(rt.alloc(), &EACH_TENANT)
 }
 
 #[test]
 fn an_activation_is_changed_where_it_stands(rt: HostRuntime) -> Result<(), Fail> {
-    assert_eq!(rt; first_wrong(rt.alloc(), &WHERE_IT_STANDS)?, None);
-    Ok(())
+    run(rt.alloc(), &WHERE_IT_STANDS)
 }
 
 #[test]
 fn places_are_used_again(rt: HostRuntime) -> Result<(), Fail> {
-    assert_eq!(rt; first_wrong(rt.alloc(), &PLACES)?, None);
-    Ok(())
+    run(rt.alloc(), &PLACES)
 }

@@ -1,5 +1,6 @@
 //! Lines of a journal that have a form, and lines that have none.
 
+use crate::compare::same_at;
 use crate::journals::verdict;
 use std::alloc::Global;
 use std::test::Fail;
@@ -107,9 +108,8 @@ fn lines_before(place: Place) -> usize {
     }
 }
 
-/// The line at fault, or 0, in a journal that has this line at its place and ends behind it. Such a
-/// journal has no close, so a line that is taken makes the next one the line at fault.
-fn line_verdict(alloc: Global, place: Place, line: &str) -> Result<usize, Fail> {
+/// A journal that has this line at its place and ends behind it.
+fn journal(alloc: Global, place: Place, line: &str) -> Result<String, Fail> {
     let mut text = String::new(alloc);
     for before in ["silo-journal 1\n", "age 1\n", "tenant red 1 1\n"]
         .iter()
@@ -119,29 +119,30 @@ fn line_verdict(alloc: Global, place: Place, line: &str) -> Result<usize, Fail> 
     }
     text.push_str(line)?;
     text.push_str("\n")?;
-    verdict(alloc, text.as_bytes())
+    Ok(text)
+}
+
+/// How far behind its place the line at fault of that journal is. Such a journal has no close, so a
+/// line that is taken makes the next one the line at fault.
+fn line_verdict(alloc: Global, place: Place, line: &str) -> Result<usize, Fail> {
+    let found = verdict(alloc, journal(alloc, place, line)?.as_bytes())?;
+    Ok(found.saturating_sub(lines_before(place)))
+}
+
+/// In each of the journals the line at fault is so far behind the place of the line.
+fn are_at_fault(alloc: Global, lines: &[(Place, &str)], wanted: usize) -> Result<(), Fail> {
+    for (place, line) in lines {
+        same_at(*line, line_verdict(alloc, *place, *line)?, wanted)?;
+    }
+    Ok(())
 }
 
 #[test]
 fn lines_that_have_a_form(rt: HostRuntime) -> Result<(), Fail> {
-    for (place, line) in &LINES {
-        assert_eq!(rt;
-            line_verdict(rt.alloc(), *place, *line)?,
-            lines_before(*place).saturating_add(2),
-            "{line}"
-        );
-    }
-    Ok(())
+    are_at_fault(rt.alloc(), &LINES, 2)
 }
 
 #[test]
 fn lines_that_have_none(rt: HostRuntime) -> Result<(), Fail> {
-    for (place, line) in &REFUSED {
-        assert_eq!(rt;
-            line_verdict(rt.alloc(), *place, *line)?,
-            lines_before(*place).saturating_add(1),
-            "{line}"
-        );
-    }
-    Ok(())
+    are_at_fault(rt.alloc(), &REFUSED, 1)
 }

@@ -1,11 +1,12 @@
 //! Whole journals, read and written.
 
-use grain_id::{Caller, Tenant};
-use request_codec::StateBytes;
+use crate::compare::{same, same_at};
+use crate::values::{caller, read_state, tenant};
 use silo_event::{Fault, Party, Reply, Step};
 use std::alloc::{AllocError, Global};
 use std::test::Fail;
 use tenant_audit::{Journal, JournalFault, RecordedReply, journal_of_parts, laws, read_journal};
+use tenant_gate::Limits;
 
 /// The journal of one tenant whose counter is asked to add 3.
 const WORKED: &str =
@@ -29,63 +30,77 @@ pub fn whole_lines(bytes: &[u8]) -> usize {
     bytes.iter().filter(|byte| **byte == b'\n').count()
 }
 
+/// The journal of a text.
+fn journal(alloc: Global, text: &str) -> Result<Journal, Fail> {
+    Ok(read_journal(alloc, text.as_bytes())?)
+}
+
+fn write_tenant(text: &mut String, name: &str, limits: &Limits) -> Result<(), Fail> {
+    let (activations, mailbox) = (limits.activations, limits.mailbox);
+    write!(text, "{name} {activations} {mailbox};")?;
+    Ok(())
+}
+
 /// The tenants of a journal and their limits.
 fn tenants(alloc: Global, journal: &Journal) -> Result<String, Fail> {
     let mut text = String::new(alloc);
     for (tenant, limits) in journal.tenants() {
-        let name = tenant.text();
-        let (activations, mailbox) = (limits.activations, limits.mailbox);
-        write!(text, "{name} {activations} {mailbox};")?;
+        write_tenant(&mut text, tenant.text(), limits)?;
     }
     Ok(text)
 }
 
-/// What a reply tells: the code and the text of a fault, or how many bytes a value has.
-fn told(alloc: Global, reply: &RecordedReply) -> Result<String, Fail> {
-    let tenant = reply.recipient.tenant();
+/// What an outcome tells: the code and the text of a fault, or how many bytes a value has.
+fn outcome(reply: &RecordedReply) -> (usize, &str) {
     match &reply.outcome {
-        Ok(value) => {
-            let len = value.bytes().len();
-            Ok(format!(in alloc; "{tenant}: {len} bytes")?)
-        }
-        Err(fault) => {
-            let (code, said) = (fault.code(), fault.text());
-            Ok(format!(in alloc; "{tenant}: {code} {said}")?)
-        }
+        Ok(value) => (value.bytes().len(), "bytes"),
+        Err(fault) => (fault.code() as usize, fault.text()),
     }
 }
 
-/// What the last reply of a journal tells.
-fn last_told(alloc: Global, journal: &Journal) -> Result<String, Fail> {
+/// The tenant and the outcome of the last reply of a journal.
+fn last_told(journal: &Journal) -> (&str, (usize, &str)) {
     match journal.replies().last() {
-        Some(reply) => told(alloc, reply),
-        None => Ok(String::new(alloc)),
+        Some(reply) => (reply.recipient.tenant(), outcome(reply)),
+        None => ("", (0, "")),
     }
+}
+
+/// How many steps and rows a journal has.
+fn counts(journal: &Journal) -> (usize, usize) {
+    (journal.steps().len(), journal.rows().len())
+}
+
+fn ends_turn_one(journal: &Journal) -> bool {
+    matches!(journal.steps().last(), Some(Step::End { turn: 1, .. }))
+}
+
+/// The parts of the worked journal are these.
+fn is_worked(alloc: Global, journal: &Journal) -> Result<(), Fail> {
+    let tenants = tenants(alloc, journal)?;
+    same((journal.age(), tenants.as_str()), (900_000, "red 2 4;"))?;
+    let steps = (counts(journal), ends_turn_one(journal));
+    same(
+        (steps, last_told(journal)),
+        (((5, 0), true), ("red", (9, "bytes"))),
+    )
 }
 
 #[test]
 fn the_worked_journal_is_read(rt: HostRuntime) -> Result<(), Fail> {
-    let alloc = rt.alloc();
-    let journal = read_journal(alloc, WORKED.as_bytes())?;
-    assert_eq!(rt; journal.age(), 900_000);
-    assert_eq!(rt; tenants(alloc, &journal)?.as_str(), "red 2 4;");
-    assert_eq!(rt; journal.steps().len(), 5);
-    assert!(rt; matches!(journal.steps().last(), Some(Step::End { turn: 1, .. })));
-    assert_eq!(rt; last_told(alloc, &journal)?.as_str(), "red: 9 bytes");
-    assert_eq!(rt; journal.rows().len(), 0);
-    Ok(())
+    is_worked(rt.alloc(), &journal(rt.alloc(), WORKED)?)
+}
+
+/// The last reply of a journal tells this, and it has one row.
+fn tells(journal: &Journal, tenant: &str, code: usize, text: &str) -> Result<(), Fail> {
+    let rows = journal.rows().len();
+    same((rows, last_told(journal)), (1, (tenant, (code, text))))
 }
 
 #[test]
 fn a_recorded_fault_has_its_code_and_its_text(rt: HostRuntime) -> Result<(), Fail> {
-    let alloc = rt.alloc();
-    let journal = read_journal(alloc, FAULT.as_bytes())?;
-    assert_eq!(rt;
-        last_told(alloc, &journal)?.as_str(),
-        "blue: 21 tenant blue is unknown"
-    );
-    assert_eq!(rt; journal.rows().len(), 1);
-    Ok(())
+    let journal = journal(rt.alloc(), FAULT)?;
+    tells(&journal, "blue", 21, "tenant blue is unknown")
 }
 
 /// The journal with these replies in place of its own, written.
@@ -102,55 +117,56 @@ fn written(alloc: Global, journal: &Journal, replies: &[Reply]) -> Result<Vec<u8
 
 /// The value 3, for `red/c1`.
 fn three(alloc: Global) -> Result<Reply, Fail> {
+    let value = read_state(alloc, b"\x03\0\0\0\0\0\0\0\x03")?;
     Ok(Reply {
-        recipient: Party::Client(Caller::read(alloc, "red/c1")?, 1),
-        outcome: Ok(StateBytes::read(alloc, b"\x03\0\0\0\0\0\0\0\x03")?),
+        recipient: Party::Client(caller(alloc, "red/c1")?, 1),
+        outcome: Ok(value),
     })
 }
 
 /// That `blue` is unknown, for `blue/c1`.
 fn unknown(alloc: Global) -> Result<Reply, Fail> {
+    let tenant = tenant(alloc, "blue")?;
     Ok(Reply {
-        recipient: Party::Client(Caller::read(alloc, "blue/c1")?, 1),
-        outcome: Err(Fault::UnknownTenant(Tenant::read(alloc, "blue")?)),
+        recipient: Party::Client(caller(alloc, "blue/c1")?, 1),
+        outcome: Err(Fault::UnknownTenant(tenant)),
     })
 }
 
-/// The journal of these bytes with one reply in place of its own, written.
-fn written_with(alloc: Global, text: &str, reply: Reply) -> Result<Vec<u8>, Fail> {
-    let journal = read_journal(alloc, text.as_bytes())?;
+fn list_of(alloc: Global, reply: Reply) -> Result<Vec<Reply>, Fail> {
     let mut replies = Vec::new(alloc);
     replies.push(reply)?;
-    written(alloc, &journal, &replies)
+    Ok(replies)
+}
+
+/// The journal of a text with one reply in place of its own, written, is that text.
+fn is_written(alloc: Global, text: &str, reply: Reply) -> Result<(), Fail> {
+    let replies = list_of(alloc, reply)?;
+    let found = written(alloc, &journal(alloc, text)?, &replies)?;
+    same(found.as_slice() == text.as_bytes(), true)
 }
 
 #[test]
 fn the_parts_of_a_journal_are_written(rt: HostRuntime) -> Result<(), Fail> {
-    let alloc = rt.alloc();
-    let text = written_with(alloc, WORKED, three(alloc)?)?;
-    assert!(rt; text.as_slice() == WORKED.as_bytes());
-    Ok(())
+    is_written(rt.alloc(), WORKED, three(rt.alloc())?)
 }
 
 #[test]
 fn a_fault_is_written_as_its_code_and_its_text(rt: HostRuntime) -> Result<(), Fail> {
-    let alloc = rt.alloc();
-    let text = written_with(alloc, FAULT, unknown(alloc)?)?;
-    assert!(rt; text.as_slice() == FAULT.as_bytes());
-    Ok(())
+    is_written(rt.alloc(), FAULT, unknown(rt.alloc())?)
+}
+
+/// The front of a journal is wrong at its first line that is not whole.
+fn is_cut(alloc: Global, front: &[u8]) -> Result<(), Fail> {
+    same(verdict(alloc, front)?, whole_lines(front).saturating_add(1))
 }
 
 #[test]
 fn a_cut_is_at_the_first_line_that_is_not_whole(rt: HostRuntime) -> Result<(), Fail> {
     for end in 0..WORKED.len() {
-        let front = &WORKED.as_bytes()[..end];
-        assert_eq!(rt;
-            verdict(rt.alloc(), front)?,
-            whole_lines(front).saturating_add(1)
-        );
+        is_cut(rt.alloc(), &WORKED.as_bytes()[..end])?;
     }
-    assert_eq!(rt; verdict(rt.alloc(), WORKED.as_bytes())?, 0);
-    Ok(())
+    same(verdict(rt.alloc(), WORKED.as_bytes())?, 0)
 }
 
 /// A part of the worked journal, what stands in its place, and the line at fault.
@@ -186,15 +202,19 @@ const CHANGES: [(&str, &str, usize); 17] = [
     ("age 900000\n", "age 900000\nage 900000\n", 3),
 ];
 
-/// The line at fault in the worked journal with one part in place of another.
+/// The worked journal with one part in place of another.
+fn changed(alloc: Global, old: &str, new: &str) -> Result<String, Fail> {
+    Ok(WORKED.replace(alloc, old, new)?)
+}
+
 fn changed_verdict(alloc: Global, old: &str, new: &str) -> Result<usize, Fail> {
-    verdict(alloc, WORKED.replace(alloc, old, new)?.as_bytes())
+    verdict(alloc, changed(alloc, old, new)?.as_bytes())
 }
 
 #[test]
 fn a_wrong_line_is_named(rt: HostRuntime) -> Result<(), Fail> {
     for (old, new, line) in &CHANGES {
-        assert_eq!(rt; changed_verdict(rt.alloc(), *old, *new)?, *line);
+        same_at(*new, changed_verdict(rt.alloc(), *old, *new)?, *line)?;
     }
     Ok(())
 }
@@ -209,21 +229,20 @@ fn journal_of(alloc: Global, tenants: u32) -> Result<String, Fail> {
     Ok(text)
 }
 
+fn verdict_of(alloc: Global, tenants: u32) -> Result<usize, Fail> {
+    verdict(alloc, journal_of(alloc, tenants)?.as_bytes())
+}
+
 #[test]
 fn a_thousand_tenants_are_read_and_no_more(rt: HostRuntime) -> Result<(), Fail> {
-    let alloc = rt.alloc();
-    assert_eq!(rt; verdict(alloc, journal_of(alloc, 1_000)?.as_bytes())?, 0);
-    assert_eq!(rt;
-        verdict(alloc, journal_of(alloc, 1_001)?.as_bytes())?,
-        1_003
-    );
-    Ok(())
+    let all = verdict_of(rt.alloc(), 1_000)?;
+    let more = verdict_of(rt.alloc(), 1_001)?;
+    same((all, more), (0, 1_003))
 }
 
 #[test]
 fn bytes_that_are_no_text_are_no_line(rt: HostRuntime) -> Result<(), Fail> {
-    assert_eq!(rt; verdict(rt.alloc(), b"\xFF\n")?, 1);
-    Ok(())
+    same(verdict(rt.alloc(), b"\xFF\n")?, 1)
 }
 
 #[test]

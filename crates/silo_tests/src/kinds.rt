@@ -2,9 +2,9 @@
 
 ghost use Rattle.std.specs.Prelude.{◌≡◌, true};
 
-use crate::values::{message, state};
+use crate::compare::{same, same_at};
+use crate::values::{grain, message, read_state, state};
 use bumpalo::Bump;
-use grain_id::GrainId;
 use grain_kinds::{
     FinishedTurn, GrainLogic, Kinds, MethodFault, OpenedTurn, StoreCall, laws, run_turn,
 };
@@ -15,7 +15,16 @@ use std::test::Fail;
 const FOUR: &str = "[\"counter/red:b\",\"counter/red:c\",\"counter/red:d\",\"counter/red:e\"]";
 
 /// A kind, a state, a method and its argument; the answer, and the state after it.
-const ANSWERS: [(&str, &str, &str, &str, &str, &str); 18] = [
+type Answer = (
+    &'static str,
+    &'static str,
+    &'static str,
+    &'static str,
+    &'static str,
+    &'static str,
+);
+
+const ANSWERS: [Answer; 18] = [
     ("counter", "2", "add", "{\"by\":3}", "5", "5"),
     ("counter", "null", "add", "{\"by\":3}", "3", "3"),
     ("counter", "2", "get", "null", "2", "2"),
@@ -143,7 +152,15 @@ const ANSWERS: [(&str, &str, &str, &str, &str, &str); 18] = [
 ];
 
 /// A kind, a state, a method and its argument; the fault. The state stays.
-const FAULTS: [(&str, &str, &str, &str, MethodFault); 6] = [
+type Fault = (
+    &'static str,
+    &'static str,
+    &'static str,
+    &'static str,
+    MethodFault,
+);
+
+const FAULTS: [Fault; 6] = [
     (
         "counter",
         "9223372036854775807",
@@ -184,6 +201,11 @@ const ASKED: [(&str, &str, StoreCall); 4] = [
     ("counter", "get", StoreCall::None),
 ];
 
+/// The text of the grain `red:a` of a kind.
+fn text_of(alloc: Global, kind: &str) -> Result<String, Fail> {
+    Ok(format!(in alloc; "{kind}/red:a")?)
+}
+
 /// Turn 7 of the grain `red:a` of a kind, opened on this state.
 fn opened(
     alloc: Global,
@@ -192,13 +214,13 @@ fn opened(
     method: &str,
     args: &str,
 ) -> Result<OpenedTurn, Fail> {
-    let text = format!(in alloc; "{kind}/red:a")?;
+    let message = message(alloc, method, args)?;
     Ok(OpenedTurn {
-        grain: GrainId::read(alloc, text.as_str())?,
+        grain: grain(alloc, &text_of(alloc, kind)?)?,
         number: 7,
         reading: false,
         state,
-        message: message(alloc, method, args)?,
+        message,
     })
 }
 
@@ -219,10 +241,8 @@ fn turn(
     method: &str,
     args: &str,
 ) -> Result<FinishedTurn<Kinds>, Fail> {
-    finished(
-        alloc,
-        opened(alloc, kind, state(alloc, before)?, method, args)?,
-    )
+    let before = state(alloc, before)?;
+    finished(alloc, opened(alloc, kind, before, method, args)?)
 }
 
 fn is_answered(turn: &FinishedTurn<Kinds>, answer: &StateBytes) -> bool {
@@ -243,75 +263,109 @@ fn leaves(turn: &FinishedTurn<Kinds>, after: &StateBytes) -> bool {
     turn.state() == after
 }
 
+/// Whether a turn has this answer, and whether it leaves this state.
+fn answers(
+    alloc: Global,
+    turn: &FinishedTurn<Kinds>,
+    answer: &str,
+    after: &str,
+) -> Result<(bool, bool), Fail> {
+    let answer = state(alloc, answer)?;
+    let after = state(alloc, after)?;
+    Ok((is_answered(turn, &answer), leaves(turn, &after)))
+}
+
+fn answers_row(alloc: Global, row: &Answer) -> Result<(bool, bool), Fail> {
+    let (kind, before, method, args, answer, after) = *row;
+    answers(
+        alloc,
+        &turn(alloc, kind, before, method, args)?,
+        answer,
+        after,
+    )
+}
+
 #[test]
 fn methods_answer(rt: HostRuntime) -> Result<(), Fail> {
-    let alloc = rt.alloc();
-    for (kind, before, method, args, answer, after) in &ANSWERS {
-        let turn = turn(alloc, *kind, *before, *method, *args)?;
-        let answered = is_answered(&turn, &state(alloc, *answer)?);
-        assert!(rt; answered, "the answer of {kind} {method} {args}");
-        let left = leaves(&turn, &state(alloc, *after)?);
-        assert!(rt; left, "the state after {kind} {method} {args}");
+    for row in &ANSWERS {
+        same_at(row.3, answers_row(rt.alloc(), row)?, (true, true))?;
     }
     Ok(())
+}
+
+/// The fault of a turn, and whether it leaves this state.
+fn refuses(
+    alloc: Global,
+    turn: &FinishedTurn<Kinds>,
+    after: &str,
+) -> Result<(Option<MethodFault>, bool), Fail> {
+    let after = state(alloc, after)?;
+    Ok((fault_of(turn), leaves(turn, &after)))
+}
+
+fn refuses_row(alloc: Global, row: &Fault) -> Result<(Option<MethodFault>, bool), Fail> {
+    let (kind, before, method, args, _) = *row;
+    refuses(alloc, &turn(alloc, kind, before, method, args)?, before)
 }
 
 #[test]
 fn methods_refuse(rt: HostRuntime) -> Result<(), Fail> {
-    let alloc = rt.alloc();
-    for (kind, before, method, args, fault) in &FAULTS {
-        let turn = turn(alloc, *kind, *before, *method, *args)?;
-        assert_eq!(rt; fault_of(&turn), Some(*fault), "{kind} {method} {args}");
-        let left = leaves(&turn, &state(alloc, *before)?);
-        assert!(rt; left, "the state after {kind} {method} {args}");
+    for row in &FAULTS {
+        same_at(row.3, refuses_row(rt.alloc(), row)?, (Some(row.4), true))?;
     }
     Ok(())
 }
 
+/// Whether a turn asks this of the storage, and its fault.
+fn asks(turn: &FinishedTurn<Kinds>, call: StoreCall) -> (bool, Option<MethodFault>) {
+    (turn.store_call() == call, fault_of(turn))
+}
+
+fn asks_row(
+    alloc: Global,
+    row: &(&str, &str, StoreCall),
+) -> Result<(bool, Option<MethodFault>), Fail> {
+    let (kind, method, call) = *row;
+    Ok(asks(&turn(alloc, kind, "2", method, "null")?, call))
+}
+
 #[test]
 fn methods_ask_the_storage(rt: HostRuntime) -> Result<(), Fail> {
-    for (kind, method, call) in &ASKED {
-        let turn = turn(rt.alloc(), *kind, "2", *method, "null")?;
-        assert!(rt; turn.store_call() == *call, "{kind} {method}");
-        assert_eq!(rt; fault_of(&turn), None);
+    for row in &ASKED {
+        same_at(row.1, asks_row(rt.alloc(), row)?, (true, None))?;
     }
     Ok(())
 }
 
 /// A sheet of the field `a` with a text of that many letters, which is 15 bytes longer.
-fn wide_sheet(alloc: Global, letters: u32) -> Result<StateBytes, Fail> {
+fn wide_sheet(alloc: Global, letters: u32) -> Result<Vec<u8>, Fail> {
     let mut bytes = Vec::from_slice(alloc, b"\x06\0\0\0\x01\0\0\0\x01a\x04")?;
     bytes.extend_from_slice(&letters.to_be_bytes())?;
     for _ in 0..letters {
         bytes.push(b'x')?;
     }
-    Ok(StateBytes::read(alloc, &bytes)?)
+    Ok(bytes)
 }
 
-/// The turn that puts a field of 8 bytes into a sheet of that many letters.
-fn put(alloc: Global, letters: u32) -> Result<FinishedTurn<Kinds>, Fail> {
-    let sheet = wide_sheet(alloc, letters)?;
-    finished(
-        alloc,
-        opened(
-            alloc,
-            "sheet",
-            sheet,
-            "put",
-            "{\"name\":\"bcd\",\"value\":null}",
-        )?,
-    )
+/// The fault of a turn, and how many bytes the state has that it leaves.
+fn length_after(turn: &FinishedTurn<Kinds>) -> (Option<MethodFault>, usize) {
+    (fault_of(turn), turn.state().bytes().len())
+}
+
+/// The same of the turn that puts a field of 8 bytes into a sheet of that many letters.
+fn put(alloc: Global, letters: u32) -> Result<(Option<MethodFault>, usize), Fail> {
+    let sheet = read_state(alloc, &wide_sheet(alloc, letters)?)?;
+    let args = "{\"name\":\"bcd\",\"value\":null}";
+    let opened = opened(alloc, "sheet", sheet, "put", args)?;
+    Ok(length_after(&finished(alloc, opened)?))
 }
 
 #[test]
 fn a_sheet_has_262_144_bytes_at_most(rt: HostRuntime) -> Result<(), Fail> {
     let fits = put(rt.alloc(), 262_121)?;
-    assert_eq!(rt; fault_of(&fits), None);
-    assert_eq!(rt; fits.state().bytes().len(), 262_144);
     let full = put(rt.alloc(), 262_122)?;
-    assert_eq!(rt; fault_of(&full), Some(MethodFault::TooLarge));
-    assert_eq!(rt; full.state().bytes().len(), 262_137);
-    Ok(())
+    let too_large = Some(MethodFault::TooLarge);
+    same((fits, full), ((None, 262_144), (too_large, 262_137)))
 }
 
 /// Each grain that is sent to, and the method.
@@ -328,30 +382,28 @@ fn write_send(texts: &mut String, target: &str, method: &str) -> Result<(), Fail
     Ok(())
 }
 
+fn sends(alloc: Global, turn: &FinishedTurn<Kinds>, wanted: &str) -> Result<(), Fail> {
+    same(sent(alloc, turn)?.as_str(), wanted)
+}
+
 #[test]
 fn a_relay_sends_to_each_member(rt: HostRuntime) -> Result<(), Fail> {
-    let alloc = rt.alloc();
-    let turn = turn(
-        alloc,
-        "relay",
-        FOUR,
-        "send",
-        "{\"args\":5,\"method\":\"add\"}",
-    )?;
-    assert_eq!(rt;
-        sent(alloc, &turn)?.as_str(),
-        "counter/red:b add;counter/red:c add;counter/red:d add;counter/red:e add;"
-    );
-    Ok(())
+    let args = "{\"args\":5,\"method\":\"add\"}";
+    sends(
+        rt.alloc(),
+        &turn(rt.alloc(), "relay", FOUR, "send", args)?,
+        "counter/red:b add;counter/red:c add;counter/red:d add;counter/red:e add;",
+    )
+}
+
+fn is_turn_seven(turn: &FinishedTurn<Kinds>) -> Result<(), Fail> {
+    let numbers = (turn.number(), turn.input().number);
+    same((turn.grain().text(), numbers), ("counter/red:a", (7, 7)))
 }
 
 #[test]
 fn a_turn_is_shown(rt: HostRuntime) -> Result<(), Fail> {
-    let turn = turn(rt.alloc(), "counter", "2", "get", "null")?;
-    assert_eq!(rt; turn.number(), 7);
-    assert_eq!(rt; turn.grain().text(), "counter/red:a");
-    assert_eq!(rt; turn.input().number, 7);
-    Ok(())
+    is_turn_seven(&turn(rt.alloc(), "counter", "2", "get", "null")?)
 }
 
 /// The number of the turn that comes back, if memory is refused to its plan.
@@ -366,16 +418,10 @@ fn given_back(alloc: Global, opened: OpenedTurn) -> u64 {
 
 #[test]
 fn a_turn_comes_back_if_memory_is_refused(rt: HostRuntime) -> Result<(), Fail> {
-    let alloc = rt.alloc();
-    let opened = opened(
-        alloc,
-        "sheet",
-        state(alloc, "{}")?,
-        "put",
-        "{\"name\":\"b\",\"value\":true}",
-    )?;
-    assert_eq!(rt; given_back(alloc, opened), 7);
-    Ok(())
+    let args = "{\"name\":\"b\",\"value\":true}";
+    let sheet = state(rt.alloc(), "{}")?;
+    let opened = opened(rt.alloc(), "sheet", sheet, "put", args)?;
+    same(given_back(rt.alloc(), opened), 7)
 }
 
 /// The empty state by a logic, through its bound.
@@ -393,31 +439,53 @@ fn empty_relay(alloc: Global) -> Result<StateBytes, Fail> {
     Err(Fail::from("relays are unknown"))
 }
 
+fn has_bytes(state: &StateBytes, bytes: &[u8]) -> Result<(), Fail> {
+    same(state.bytes(), bytes)
+}
+
 #[test]
 fn a_relay_begins_empty(rt: HostRuntime) -> Result<(), Fail> {
-    assert_eq!(rt;
-        empty_relay(rt.alloc())?.bytes(),
-        b"\x05\0\0\0\0".as_slice()
-    );
+    has_bytes(&empty_relay(rt.alloc())?, b"\x05\0\0\0\0")
+}
+
+const KNOWN: [(&str, bool); 4] = [
+    ("counter", true),
+    ("sheet", true),
+    ("relay", true),
+    ("counters", false),
+];
+
+fn knows(kind: &str) -> bool {
+    Kinds.knows(kind)
+}
+
+#[test]
+fn three_kinds_are_known() -> Result<(), Fail> {
+    for (kind, known) in &KNOWN {
+        same_at(*kind, knows(*kind), *known)?;
+    }
     Ok(())
 }
 
-#[test]
-fn three_kinds_are_known(rt: HostRuntime) {
-    for kind in ["counter", "sheet", "relay"] {
-        assert!(rt; Kinds.knows(kind), "{kind}");
-    }
-    assert!(rt; !Kinds.knows("counters"));
+/// A kind, a method, and whether it only reads.
+const READING: [(&str, &str, bool); 5] = [
+    ("counter", "get", true),
+    ("sheet", "get", true),
+    ("sheet", "list", true),
+    ("relay", "get", false),
+    ("counter", "list", false),
+];
+
+fn is_read(kind: &str, method: &str) -> bool {
+    Kinds.is_read(kind, method)
 }
 
 #[test]
-fn three_methods_read(rt: HostRuntime) {
-    for (kind, method) in [("counter", "get"), ("sheet", "get"), ("sheet", "list")] {
-        assert!(rt; Kinds.is_read(kind, method), "{kind} {method}");
+fn three_methods_read() -> Result<(), Fail> {
+    for (kind, method, reading) in &READING {
+        same_at(*method, is_read(*kind, *method), *reading)?;
     }
-    for (kind, method) in [("relay", "get"), ("counter", "list")] {
-        assert!(rt; !Kinds.is_read(kind, method), "{kind} {method}");
-    }
+    Ok(())
 }
 
 #[test]

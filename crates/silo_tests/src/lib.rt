@@ -9,6 +9,8 @@ mod codec;
 #[cfg(test)]
 mod collector;
 #[cfg(test)]
+mod compare;
+#[cfg(test)]
 mod directory;
 #[cfg(test)]
 mod events;

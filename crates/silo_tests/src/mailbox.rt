@@ -1,7 +1,9 @@
 //! Requests that wait, turns that are open together or alone, and turns that end.
 
-use crate::values::{message, state};
-use grain_id::{Caller, GrainId};
+use crate::compare::same;
+use crate::values::{caller, grain, message, state};
+use grain_id::GrainId;
+use request_codec::StateBytes;
 use silo_event::Party;
 use std::alloc::Global;
 use std::test::Fail;
@@ -25,11 +27,12 @@ enum Call {
 
 /// A request of the client `red/c1`.
 fn request(alloc: Global, number: u64, reading: bool) -> Result<Request, Fail> {
+    let message = message(alloc, "get", "null")?;
     Ok(Request {
         number,
         reading,
-        sender: Party::Client(Caller::read(alloc, "red/c1")?, number),
-        message: message(alloc, "get", "null")?,
+        sender: Party::Client(caller(alloc, "red/c1")?, number),
+        message,
     })
 }
 
@@ -42,20 +45,28 @@ fn number_of(request: Option<&Request>) -> u64 {
 }
 
 /// 0 if the request was taken, or else the number of the one that came back.
-fn push(alloc: Global, mailbox: &mut Mailbox, number: u64, reading: bool) -> Result<u64, Fail> {
-    match mailbox.push(request(alloc, number, reading)?) {
-        Ok(()) => Ok(0),
-        Err(back) => Ok(back.number),
+fn pushed(mailbox: &mut Mailbox, request: Request) -> u64 {
+    match mailbox.push(request) {
+        Ok(()) => 0,
+        Err(back) => back.number,
     }
 }
 
-/// The number of the turn that begins, or 0.
-fn begin(alloc: Global, mailbox: &mut Mailbox) -> Result<u64, Fail> {
-    let grain = GrainId::read(alloc, "counter/red:a")?;
-    match mailbox.begin(&grain, &state(alloc, "3")?)? {
+fn push(alloc: Global, mailbox: &mut Mailbox, number: u64, reading: bool) -> Result<u64, Fail> {
+    Ok(pushed(mailbox, request(alloc, number, reading)?))
+}
+
+/// The number of the turn that begins on a state, or 0.
+fn begun(mailbox: &mut Mailbox, grain: &GrainId, state: &StateBytes) -> Result<u64, Fail> {
+    match mailbox.begin(grain, state)? {
         Some(turn) => Ok(turn.number),
         None => Ok(0),
     }
+}
+
+fn begin(alloc: Global, mailbox: &mut Mailbox) -> Result<u64, Fail> {
+    let grain = grain(alloc, "counter/red:a")?;
+    begun(mailbox, &grain, &state(alloc, "3")?)
 }
 
 /// The number of the turn that ends, or 0.
@@ -67,7 +78,7 @@ fn finish(mailbox: &mut Mailbox, number: u64) -> u64 {
 }
 
 fn has_from(alloc: Global, mailbox: &Mailbox, client: &str) -> Result<u64, Fail> {
-    Ok(mailbox.has_from(&Caller::read(alloc, client)?) as u64)
+    Ok(mailbox.has_from(&caller(alloc, client)?) as u64)
 }
 
 /// What the mailbox answers, as a number: that of a request, a count, or 1 for yes.
@@ -86,15 +97,29 @@ fn answer(alloc: Global, mailbox: &mut Mailbox, call: Call) -> Result<u64, Fail>
     }
 }
 
-/// The place of the first call that answers otherwise, of a mailbox for four.
-fn first_wrong(alloc: Global, calls: &[(Call, u64)]) -> Result<Option<usize>, Fail> {
-    let mut mailbox = Mailbox::new(alloc, 4)?;
+/// The place of the first call that answers otherwise.
+fn first_wrong(
+    alloc: Global,
+    mailbox: &mut Mailbox,
+    calls: &[(Call, u64)],
+) -> Result<Option<usize>, Fail> {
     for (place, (call, wanted)) in calls.iter().enumerate() {
-        if answer(alloc, &mut mailbox, *call)? != *wanted {
+        if answer(alloc, mailbox, *call)? != *wanted {
             return Ok(Some(place));
         }
     }
     Ok(None)
+}
+
+/// No call answers otherwise.
+fn answers_each(alloc: Global, mailbox: &mut Mailbox, calls: &[(Call, u64)]) -> Result<(), Fail> {
+    same(first_wrong(alloc, mailbox, calls)?, None)
+}
+
+/// Makes the calls, of a mailbox for four.
+fn run(alloc: Global, calls: &[(Call, u64)]) -> Result<(), Fail> {
+    let mut mailbox = Mailbox::new(alloc, 4)?;
+    answers_each(alloc, &mut mailbox, calls)
 }
 
 const READERS_AND_A_WRITER: [(Call, u64); 10] = [
@@ -149,33 +174,36 @@ const CLIENTS: [(Call, u64); 7] = [
 
 #[test]
 fn readers_are_open_together_and_no_writer_beside_them(rt: HostRuntime) -> Result<(), Fail> {
-    assert_eq!(rt; first_wrong(rt.alloc(), &READERS_AND_A_WRITER)?, None);
-    Ok(())
+    run(rt.alloc(), &READERS_AND_A_WRITER)
 }
 
 #[test]
 fn a_writer_is_open_alone_and_ends_once(rt: HostRuntime) -> Result<(), Fail> {
-    assert_eq!(rt; first_wrong(rt.alloc(), &A_WRITER_ALONE)?, None);
-    Ok(())
+    run(rt.alloc(), &A_WRITER_ALONE)
 }
 
 #[test]
 fn a_full_mailbox_gives_the_request_back(rt: HostRuntime) -> Result<(), Fail> {
-    assert_eq!(rt; first_wrong(rt.alloc(), &A_FULL_MAILBOX)?, None);
-    Ok(())
+    run(rt.alloc(), &A_FULL_MAILBOX)
 }
 
 #[test]
 fn requests_are_known_by_their_client(rt: HostRuntime) -> Result<(), Fail> {
-    assert_eq!(rt; first_wrong(rt.alloc(), &CLIENTS)?, None);
-    Ok(())
+    run(rt.alloc(), &CLIENTS)
+}
+
+fn is_from(alloc: Global, request: &Request, client: &str) -> Result<bool, Fail> {
+    Ok(request.is_from(&caller(alloc, client)?))
+}
+
+/// Whether a request is from `red/c1`, and whether it is from `red/c2`.
+fn senders(alloc: Global, request: &Request) -> Result<(bool, bool), Fail> {
+    let first = is_from(alloc, request, "red/c1")?;
+    Ok((first, is_from(alloc, request, "red/c2")?))
 }
 
 #[test]
 fn a_request_is_from_its_client(rt: HostRuntime) -> Result<(), Fail> {
-    let alloc = rt.alloc();
-    let request = request(alloc, 1, true)?;
-    assert!(rt; request.is_from(&Caller::read(alloc, "red/c1")?));
-    assert!(rt; !request.is_from(&Caller::read(alloc, "red/c2")?));
-    Ok(())
+    let senders = senders(rt.alloc(), &request(rt.alloc(), 1, true)?)?;
+    same(senders, (true, false))
 }
