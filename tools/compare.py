@@ -11,8 +11,9 @@
 limit and too large to keep. `serve` makes inputs whose output is the same whatever the workers do, and has each served
 by 1, 2, 4 and 64 workers; the slow silo looks at the journals, by their bytes if they are certain too. `examples`
 takes the folders of examples/: the files `args` (one word a line), `stdin`, `stdout`, `status`, and `stderr` if it is
-fixed. The program `oracle` is the slow silo itself. Each prints what differs, and last 'N passed, M failed'; `random`
-and `serve` keep an input that differs, as a folder of that form.
+fixed; the files of `data/`, which are there before the run, and those of `written/`, which are there after it. The
+program `oracle` is the slow silo itself. Each prints what differs, and last 'N passed, M failed'; `random` and `serve`
+keep an input that differs, as a folder of that form.
 """
 
 from __future__ import annotations
@@ -102,7 +103,12 @@ def keep(folder: pathlib.Path, given: Input, wanted: Run) -> None:
     (folder / "stdout").write_bytes(wanted.out or b"")
     (folder / "status").write_text(f"{wanted.status}\n")
     for path, content in given.files.items():
-        (folder / path).write_bytes(content)
+        (folder / "data").mkdir(exist_ok=True)
+        (folder / "data" / path).write_bytes(content)
+    for path, content in wanted.files.items():
+        if given.files.get(path) != content:
+            (folder / "written").mkdir(exist_ok=True)
+            (folder / "written" / path).write_bytes(content)
 
 
 def compare_random(options: argparse.Namespace) -> int:
@@ -179,9 +185,12 @@ def read_example(folder: pathlib.Path) -> tuple[Input, Run]:
     """The input, and what is wanted."""
     def given(name: str) -> bytes:
         return (folder / name).read_bytes() if (folder / name).exists() else b""
+    def files(name: str) -> dict[str, bytes]:
+        return {path.name: path.read_bytes() for path in (folder / name).iterdir()} if (folder / name).is_dir() else {}
     errors = given("stderr") if (folder / "stderr").exists() else None
-    words = given("args").decode().splitlines()
-    return Input(words, given("stdin")), Run(given("stdout"), errors, int(given("status") or b"0"), {})
+    words, data = given("args").decode().splitlines(), files("data")
+    left = {**data, **files("written")}
+    return Input(words, given("stdin"), data), Run(given("stdout"), errors, int(given("status") or b"0"), left)
 
 
 def compare_examples(options: argparse.Namespace) -> int:

@@ -276,14 +276,45 @@ LINES = [
         no(1, 12, "arguments are too deep") + no(2, 12, "arguments are too deep")
         + no(3, 13, "number is not a whole number of 64 bits") + no(4, 11, "line is too long")
         + no(5, 63, "state is too large") + NOT_A_REQUEST * 2),
-    Row("a tenant that stands twice among the words", ["steps", "red:1:1", "blue:1:1", "red:2:2"], [], [], 2,
-        "silo: tenant argument 3 is refused"),
-    Row("a thousand tenants, and one more", ["steps", *(f"t{n}:1:1" for n in range(1_001))], [], [], 2,
-        "silo: tenant argument 1001 is refused"),
     Row("an unknown tenant's bad line is refused before the tenant", ["steps", "red:2:4"],
         call(1, "x", "get", None, BLUE) + call(2, A, "get", 1.5, BLUE) + call(3, A, "get", None, BLUE),
         no(1, 20, "grain name is not well formed", BLUE) + no(2, 13, "number is not a whole number of 64 bits", BLUE)
         + no(3, 21, "tenant blue is unknown", BLUE)),
+]
+
+# ---- words
+
+
+def refused_tenant(name, number, *words) -> Row:
+    """The tenant argument with this number is refused, and no line is answered."""
+    lines = FIRST_CALL + up(A) + run(A, 1)
+    return Row(f"tenants: {name}", ["steps", *words], lines, [], 2, f"silo: tenant argument {number} is refused")
+
+
+WORDS = [
+    refused_tenant("one that stands twice", 3, "red:1:1", "blue:1:1", "red:2:2"),
+    refused_tenant("one that stands twice with the same limits", 2, "red:2:4", "red:2:4"),
+    refused_tenant("one that stands twice, before one that isn't well formed", 2, "red:2:4", "red:1:1", "x"),
+    refused_tenant("one that isn't well formed, before one that stands twice", 1, "x", "red:2:4", "red:1:1"),
+    refused_tenant("a thousand, and one more", 1001, *(f"t{n}:1:1" for n in range(1_001))),
+    refused_tenant("a zero before the activations", 1, "red:02:4", "blue:2:4"),
+    refused_tenant("a zero before the activations of the second", 2, "red:2:4", "red:02:4"),
+    refused_tenant("a zero before the mailbox", 1, "--age", "1", "red:2:04"),
+    refused_tenant("an upper case name", 1, "Red:1:1"),
+    refused_tenant("no activation", 1, "red:0:4"),
+    refused_tenant("an activation too many", 1, "red:10001:1"),
+    refused_tenant("a mailbox of nothing", 1, "red:1:0"),
+    refused_tenant("a place of the mailbox too many", 1, "red:1:1001"),
+    refused_tenant("a plus sign", 1, "red:+1:1"),
+    refused_tenant("a number past 64 bits", 1, "red:1:99999999999999999999"),
+    refused_tenant("no mailbox", 1, "red:1"),
+    refused_tenant("a part too many", 1, "red:1:1:1"),
+    refused_tenant("an empty number", 1, "red::1"),
+    refused_tenant("an empty word", 1, ""),
+    Row("words: the least numbers", ["steps", "--age", "1", "a:1:1"], [], []),
+    Row("words: the greatest numbers", ["steps", "--age=86400000", "a-b-1:10000:1000"], [], []),
+    Row("words: the age behind the tenant", ["steps", "red:2:4", "--age", "900000"], [], []),
+    Row("words: the version, in short", ["-V"], FIRST_CALL + up(A) + run(A, 1), ["silo 0.1.0"]),
 ]
 
 # ---- lanes
@@ -294,7 +325,17 @@ SERVED = ["silo-journal 1", "age 900000", "tenant red 2 4",
 JOURNAL = SERVED + ["reply red/c1 1 ok 030000000000000003", "close 5"]
 
 
+OF_THREE_LANES = (
+    call(1, RELAY, "join", {"grain": "counter/blue:x"}, "red/c2") + ["hello"] + tick(5) + FIRST_CALL + begin(A)
+    + call(2, RELAY, "send", {"args": None, "method": "get"}, "red/c2") + call(2, A, "get") + call(3, BLUE_A, "get"))
+REPLIES_OF_THREE_LANES = (
+    NOT_A_REQUEST * 2 + ok(1, True, "red/c2") + ok(2, 1, "red/c2") + ok(1, 3) + ok(2, 3)
+    + no(3, 40, "tenant red may not call a grain of tenant blue")
+    + told(error=40, from_=RELAY, text="tenant red may not call a grain of tenant blue"))
 LANES = [
+    Row("lanes by the usual number of workers", ["serve", "red:2:4"], OF_THREE_LANES, REPLIES_OF_THREE_LANES),
+    Row("lanes by 64 workers", ["serve", "--workers", "64", "--age", "1", "red:2:4"],
+        OF_THREE_LANES, REPLIES_OF_THREE_LANES),
     Row("one client is served", ["serve", "--workers", "1", "red:2:4"], FIRST_CALL, ok(1, 3)),
     Row("what was served is written down", ["serve", "--workers", "1", "--journal", "j", "red:2:4"],
         FIRST_CALL, ok(1, 3), files_after={"j": text(JOURNAL)}),
@@ -374,7 +415,13 @@ JOURNALS = [
     refused_at("a row that stands twice", SHORT + f"row {A} 1 00\nrow {A} 1 00\nclose 0\n", 5),
     refused_at("a line refused with a code that no step has", SHORT + "refuse red/c1 1 10\nclose 1\n", 4),
     refused_at("bytes behind the last line", text(JOURNAL) + "x", 11),
+    audited("two tenants that differ", SHORT + "status blue/c1 1\ntick 2\ntick 1\nclose 3\n",
+            ["tenant red: step 2 differs", "tenant blue: step 3 differs"], 3),
     refused_at("an empty journal", "", 1),
+    refused_at("another form of journal", "silo-journal 2\n", 1),
+    refused_at("an age of 0", "silo-journal 1\nage 0\n", 2),
+    refused_at("nothing behind the tenants", SHORT, 4),
+    refused_at("a step fewer than is told", SHORT + "tick 5\nclose 2\n", 5),
     refused_at("a leading zero", text(changed(3, "tenant red 02 4")), 3),
     refused_at("a digit in upper case", text(changed(4, SERVED[3][:-1] + "A")), 4),
     refused_at("a code that there isn't", text(changed(9, "reply red/c1 1 no 99 x")), 9),
@@ -383,4 +430,4 @@ JOURNALS = [
     refused_at("a step after a reply", text(JOURNAL[:9] + [f"begin {A}"]), 10),
 ]
 
-ROWS = [*COUNTERS, *STORAGE, *OTHER_KINDS, *TENANTS, *CLOCK, *LINES, *LANES, *JOURNALS]
+ROWS = [*COUNTERS, *STORAGE, *OTHER_KINDS, *TENANTS, *CLOCK, *LINES, *WORDS, *LANES, *JOURNALS]
