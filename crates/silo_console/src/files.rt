@@ -53,7 +53,8 @@ impl<R: Files + AllocGlobal> WholeFiles for HostFiles<'_, R> {
     }
 }
 
-/// One file in memory. Every other path fails.
+/// One file in memory, of which the clauses of `WholeFiles` say most; the program has the host's. Every other path
+/// fails.
 #[derive(Drop)]
 pub struct MemoryFile {
     pub path: String,

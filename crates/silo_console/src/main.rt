@@ -81,6 +81,3 @@ fn main(rt: HostRuntime) -> ExitCode {
         &mut errors,
     ))
 }
-
-#[cfg(test)]
-mod tests;
