@@ -1,5 +1,5 @@
 -- What the loops over a list's items and over a line's members have read so far. Of the items each part is said of all that may still follow, so that a turn only adds to it.
-use Rattle.std.proofs.Common.{◌≡◌, ℕ, ◌+◌, ◌-◌, ◌<◌, ◌≤◌, List, [], ◌∷◌, ◌++◌, length, Option, Some, None, refl, sym, ap, ap₂, subst, ◌∙◌, append_assoc, append-nil, arith}
+use Rattle.std.proofs.Common.{◌≡◌, ℕ, max, ◌+◌, ◌-◌, ◌<◌, ◌≤◌, Bool, true, false, ◌||◌, List, [], ◌∷◌, ◌++◌, length, Option, Some, None, refl, sym, ap, ap₂, subst, ◌∙◌, append_assoc, append-nil, arith}
 use Rattle.std.specs.Int.{w32, to_be_bytes}
 use Rattle.std.proofs.lemmas.List.{length-append}
 use Rattle.json.specs.Token.{Token, begin_object}
@@ -8,26 +8,33 @@ use Rattle.json.proofs.Grammar.{read_key-shorter, after_end_array-shorter, value
 use Rattle.serde_json.specs.Data.{Data, Items, no_items, item, Members, no_members, put, object}
 use Rattle.serde_json.specs.Read.{of_json, of_items, of_members, converted}
 use Rattle.request_codec.specs.Tree.{members_count}
-use Rattle.request_codec.specs.Json.{items_depth}
-use Rattle.line_parser.specs.Lenient.{lenient_value, lenient_members, HasValue, HaveValues}
+use Rattle.request_codec.specs.Json.{json_depth, items_depth}
+use Rattle.request_codec.specs.Formed.{AreFormed}
+use Rattle.line_parser.specs.Lenient.{lenient_value, lenient_members, is_not_whole, are_not_whole}
 use Rattle.request_codec.specs.Written.{spelling, members_spelling}
 use Rattle.request_codec.proofs.Spelled.{length-spelling, some_length}
-use Rattle.line_parser.specs.Argument.{too_deep, PutsValue, PutsItems}
+use Rattle.line_parser.specs.Argument.{too_deep, is_deep, AddsFaults, PutsValue, PutsItems}
 use Rattle.line_parser.specs.Slots.{name_text, HoldsSlots, TakesMember, HasSlots}
 use Rattle.line_parser.specs.declared.slots.Name.{Name}
 use Rattle.line_parser.specs.declared.slots.Slots.{Slots}
+use Rattle.line_parser.specs.declared.faults.Faults.{Faults}
+use Rattle.line_parser.proofs.NotWhole.{or_false, or_more, adds_both, adds_as, deep_max, nothing_added}
 use Rattle.line_parser.proofs.GrammarLoops.{item_read, items_over, member_read, members_over, parse_map-twice, converted-object, whole_read}
 
 -- ---- the items of a list
 
-pub record ItemsRead (depth : ℕ) (initial now : List Token) (before after : List ℕ) (count : ℕ) : Type 0 where
+pub record ItemsRead (depth : ℕ) (initial now : List Token) (before after : List ℕ) (count : ℕ) (noted_before noted_after : Faults) : Type 0 where
   pub turns : ℕ
   pub enough : length now ≤ turns
   pub shorter : length now ≤ length initial
   pub json : Items → Items
   pub read : converted of_items (items (value depth) (length initial) initial) ≡ parse_map json (converted of_items (items (value depth) turns now))
-  pub whole : (ds : Items) → HaveValues ds → HaveValues (json ds)
-  pub deep : (ds : Items) → items_depth ds + too_deep ≤ depth → items_depth (json ds) + too_deep ≤ depth
+  pub formed : (ds : Items) → AreFormed (lenient_members ds) → AreFormed (lenient_members (json ds))
+  pub levels : ℕ
+  pub deepest : (ds : Items) → items_depth (json ds) ≡ max levels (items_depth ds)
+  pub some_not_whole : Bool
+  pub numbers : (ds : Items) → are_not_whole (json ds) ≡ (some_not_whole || are_not_whole ds)
+  pub noted : AddsFaults noted_before noted_after (is_deep depth levels) some_not_whole
   pub counted : (ds : Items) → members_count (lenient_members (json ds)) ≡ count + members_count (lenient_members ds)
   pub done : List ℕ
   pub spelled : (ds : Items) → members_spelling (lenient_members (json ds)) ≡ done ++ members_spelling (lenient_members ds)
@@ -38,25 +45,25 @@ id_map : {A : Type 0} (o : Option (A × List Token)) → o ≡ parse_map (λ a. 
 id_map None = refl
 id_map (Some p) = refl
 
-pub items_start : (depth : ℕ) (ts : List Token) (before after : List ℕ) → after ≡ before ++ (5 ∷ 0 ∷ 0 ∷ 0 ∷ 0 ∷ []) → ItemsRead depth ts ts before after 0
-items_start depth ts before after e = record {
+pub items_start : (depth : ℕ) (ts : List Token) (before after : List ℕ) (f : Faults) → after ≡ before ++ (5 ∷ 0 ∷ 0 ∷ 0 ∷ 0 ∷ []) → (depth < too_deep → f.too_deep ≡ true) → ItemsRead depth ts ts before after 0 f f
+items_start depth ts before after f e deep = record {
   turns = length ts;
   enough = omega arith;
   shorter = omega arith;
   json = λ ds. ds;
   read = id_map _;
-  whole = λ ds h. h;
-  deep = λ ds h. h;
+  formed = λ ds h. h;
+  levels = 0;
+  deepest = λ ds. omega arith;
+  some_not_whole = false;
+  numbers = λ ds. refl;
+  noted = nothing_added depth f deep;
   counted = λ ds. omega arith;
   done = [];
   spelled = λ ds. refl;
   bytes = e;
   some = omega arith;
 }
-
--- the value was whole, and so are the items
-item_whole : (d : Data) (ds : Items) → HasValue d → HaveValues ds → HaveValues (item d ds)
-item_whole d ds h t = (rw (h.0, t.0) refl, (h.1, t.1))
 
 one_spelled : (d : Data) (ds : Items) → members_spelling (lenient_members (item d ds)) ≡ spelling (lenient_value d) ++ members_spelling (lenient_members ds)
 unfolding spelling
@@ -65,9 +72,9 @@ one_spelled d ds = refl
 pub longer : (mid after : List ℕ) (d : Data) → after ≡ mid ++ spelling (lenient_value d) → length mid < length after
 longer mid after d e = omega (arith, ap length e, length-append mid (spelling (lenient_value d)), length-spelling (lenient_value d), some_length (lenient_value d))
 
-pub items_next : (depth : ℕ) (initial ts r : List Token) (before mid after : List ℕ) (count : ℕ) → ItemsRead depth initial ts before mid count → after_end_array ts ≡ None → PutsValue depth ts r mid after
-    → ItemsRead depth initial r before after (count + 1)
-items_next depth initial ts r before mid after count s going v =
+pub items_next : (depth : ℕ) (initial ts r : List Token) (before mid after : List ℕ) (count : ℕ) (first old new : Faults) → ItemsRead depth initial ts before mid count first old → after_end_array ts ≡ None → PutsValue depth ts r mid after old new
+    → ItemsRead depth initial r before after (count + 1) first new
+items_next depth initial ts r before mid after count first old new s going v =
     let some_turn : 0 < s.turns = omega (arith, s.enough, v.shorter) in
     let turn = item_read (value depth) s.turns ts r v.json some_turn going v.read in
     let more = longer mid after v.json v.bytes in
@@ -77,8 +84,12 @@ items_next depth initial ts r before mid after count s going v =
       shorter = omega (arith, s.shorter, v.shorter);
       json = λ ds. s.json (item v.json ds);
       read = s.read ∙ ap (parse_map s.json) turn ∙ parse_map-twice s.json (item v.json) _;
-      whole = λ ds h. s.whole (item v.json ds) (item_whole v.json ds v.whole h);
-      deep = λ ds h. s.deep (item v.json ds) (omega (arith, v.deep, h));
+      formed = λ ds h. s.formed (item v.json ds) (v.formed, h);
+      levels = max s.levels (json_depth v.json);
+      deepest = λ ds. omega (arith, s.deepest (item v.json ds));
+      some_not_whole = s.some_not_whole || is_not_whole v.json;
+      numbers = λ ds. s.numbers (item v.json ds) ∙ sym (or_more s.some_not_whole (is_not_whole v.json) (are_not_whole ds));
+      noted = adds_as first new _ _ _ _ (adds_both first old new _ _ _ _ s.noted v.noted) (deep_max depth s.levels (json_depth v.json)) refl;
       counted = λ ds. omega (arith, s.counted (item v.json ds));
       done = s.done ++ spelling (lenient_value v.json);
       spelled = λ ds. s.spelled (item v.json ds) ∙ ap (λ l. s.done ++ l) (one_spelled v.json ds) ∙ sym (append_assoc s.done _ _);
@@ -100,16 +111,17 @@ pub counted_bytes : (tag at count : ℕ) (before old new done : List ℕ) → at
 counted_bytes tag at count before old new done is e set =
     set (before ++ tag ∷ []) done (omega (arith, is, length-append before (tag ∷ []))) (e ∙ one_front before tag _) ∙ sym (one_front before tag _)
 
-pub items_stop : (depth : ℕ) (initial ts r : List Token) (before after new : List ℕ) (at count : ℕ) → ItemsRead depth initial ts before after count → too_deep ≤ depth → after_end_array ts ≡ Some r
-    → at ≡ length before + 1 → SetsCount at count after new → PutsItems depth initial r before new
-items_stop depth initial ts r before after new at count s deep over is set =
+pub items_stop : (depth : ℕ) (initial ts r : List Token) (before after new : List ℕ) (at count : ℕ) (first noted : Faults) → ItemsRead depth initial ts before after count first noted → after_end_array ts ≡ Some r
+    → at ≡ length before + 1 → SetsCount at count after new → PutsItems depth initial r before new first noted
+items_stop depth initial ts r before after new at count first noted s over is set =
     let n : count ≡ members_count (lenient_members (s.json no_items)) = omega (arith, s.counted no_items) in
+    let levels : s.levels ≡ items_depth (s.json no_items) = omega (arith, s.deepest no_items) in
     let all : s.done ≡ members_spelling (lenient_members (s.json no_items)) = sym (s.spelled no_items ∙ ap (λ l. s.done ++ l) no_items_spelled ∙ append-nil s.done) in
     record {
       json = s.json no_items;
       read = s.read ∙ ap (parse_map s.json) (items_over (value depth) s.turns ts r s.enough over);
-      whole = s.whole no_items (refl, tt);
-      deep = s.deep no_items (omega (arith, deep));
+      formed = s.formed no_items tt;
+      noted = adds_as first noted _ _ _ _ s.noted (ap (is_deep depth) levels) (sym (s.numbers no_items ∙ or_false s.some_not_whole));
       bytes = counted_bytes 5 at count before after new s.done is s.bytes set ∙ ap₂ (λ k l. before ++ (5 ∷ (to_be_bytes w32 k ++ l))) n all;
       shorter = omega (arith, s.shorter, after_end_array-shorter ts r over);
     }

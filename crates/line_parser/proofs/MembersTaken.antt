@@ -12,8 +12,8 @@ use Rattle.serde_json.specs.Read.{of_json, converted}
 use Rattle.serde_json.specs.Data.{Data, string, number, boolean, unsigned, Members, no_members, member, put}
 use Rattle.serde_json.specs.Events.{members_len}
 use Rattle.serde_json.specs.Find.{get_member}
-use Rattle.line_parser.specs.Argument.{PutsValue}
-use Rattle.line_parser.specs.Slots.{name_text, IsNatural, Held, a_text, a_number, a_truth, a_value, IsHeld, Holds, put_bytes, slot_of, HoldsSlots, TakesMember}
+use Rattle.silo_event.specs.declared.refusal.Refusal.{Refusal}
+use Rattle.line_parser.specs.Slots.{name_text, IsNatural, Held, a_text, a_number, a_truth, a_value, IsHeld, Holds, put_bytes, slot_of, HoldsSlots, TakesMember, TakesValue}
 use Rattle.line_parser.specs.declared.slots.Name.{Name}
 use Rattle.line_parser.specs.declared.slots.Name.TheVariants.{Op, From, Grain, Method, Id, Turn, Now, Failed, Args, State}
 use Rattle.line_parser.specs.declared.slots.Slots.{Slots}
@@ -132,7 +132,7 @@ member_taken name x json old new before after ts rest read shorter is empty fill
       shorter = shorter;
     }
 
-pub nothing_held : (l : List ℕ) → HoldsSlots no_members (record { op = None; from = None; grain = None; method = None; id = None; turn = None; moment = None; failed = None; args = false; state = false; count = 0 }) l
+pub nothing_held : (l : List ℕ) → HoldsSlots no_members (record { op = None; from = None; grain = None; method = None; id = None; turn = None; moment = None; failed = None; args = false; state = false; refusal = None; count = 0 }) l
 nothing_held l = record { each = out_of_list no_members _ l ((refl, (refl, (refl, (refl, (refl, (refl, (refl, (refl, (refl, (refl, tt))))))))))); count = refl }
 
 -- ---- a member's value
@@ -162,31 +162,30 @@ pub truth_taken : (name : Name) (b : Bool) (old new : Slots) (l : List ℕ) (ts 
     → TakesMember name ts rest old l new l
 truth_taken name b old new l ts rest token = member_taken name (a_truth b) (boolean b) old new l l ts rest (read_truth b ts rest token) (one_less (Token.boolean b) ts rest token) refl
 
-value_taken : (name : Name) (old new : Slots) (before after : List ℕ) (ts rest : List Token) → PutsValue 126 ts rest [] after → slot_of name old before ≡ None → Fills name (a_value after) old before new after
+value_taken : (name : Name) (old new : Slots) (before after : List ℕ) (ts rest : List Token) (why : Option Refusal) → TakesValue ts rest why after → slot_of name old before ≡ None → Fills name (a_value why after) old before new after
     → new.count ≡ old.count + 1 → TakesMember name ts rest old before new after
-value_taken name old new before after ts rest v =
-    member_taken name (a_value after) v.json old new before after ts rest v.read v.shorter (record { whole = v.whole; deep = omega (arith, v.deep); spelled = v.bytes })
+value_taken name old new before after ts rest why v = member_taken name (a_value why after) v.json old new before after ts rest v.read v.shorter v.asked
 
--- a value that wasn't there doesn't depend on the bytes
-not_put : (b : Bool) (before after : List ℕ) → b ≡ false → put_bytes b after ≡ put_bytes b before
-not_put b before after e = ap (λ x. put_bytes x after) e ∙ sym (ap (λ x. put_bytes x before) e)
+-- a value that wasn't there doesn't depend on the bytes, nor on why it is refused
+not_put : (b : Bool) (w why : Option Refusal) (before after : List ℕ) → b ≡ false → put_bytes b why after ≡ put_bytes b w before
+not_put b w why before after e = ap (λ x. put_bytes x why after) e ∙ sym (ap (λ x. put_bytes x w before) e)
 
 -- all slots, the last two apart
 abbrev listed_with : Slots → Option Held → Option Held → List Named
 listed_with s args state = (name_text Op, slot_of Op s []) ∷ (name_text From, slot_of From s []) ∷ (name_text Grain, slot_of Grain s []) ∷ (name_text Method, slot_of Method s []) ∷ (name_text Id, slot_of Id s []) ∷ (name_text Turn, slot_of Turn s [])
     ∷ (name_text Now, slot_of Now s []) ∷ (name_text Failed, slot_of Failed s []) ∷ (name_text Args, args) ∷ (name_text State, state) ∷ []
 
-pub args_taken : (old : Slots) (count : ℕ) (before after : List ℕ) (ts rest : List Token) → PutsValue 126 ts rest [] after → (old.args ≡ false) × (old.state ≡ false) → count ≡ old.count + 1
-    → TakesMember Args ts rest old before (record old { args = true; count = count }) after
-args_taken old count before after ts rest v none more =
-    value_taken Args old (record old { args = true; count = count }) before after ts rest v (ap (λ b. put_bytes b before) none.0)
-    (ap (λ o. listed_with old (Some (a_value after)) o) (not_put old.state before after none.1)) more
+pub args_taken : (old : Slots) (count : ℕ) (before after : List ℕ) (ts rest : List Token) (why : Option Refusal) → TakesValue ts rest why after → (old.args ≡ false) × (old.state ≡ false) → count ≡ old.count + 1
+    → TakesMember Args ts rest old before (record old { args = true; refusal = why; count = count }) after
+args_taken old count before after ts rest why v none more =
+    value_taken Args old (record old { args = true; refusal = why; count = count }) before after ts rest why v (ap (λ b. put_bytes b old.refusal before) none.0)
+    (ap (λ o. listed_with old (Some (a_value why after)) o) (not_put old.state old.refusal why before after none.1)) more
 
-pub state_taken : (old : Slots) (count : ℕ) (before after : List ℕ) (ts rest : List Token) → PutsValue 126 ts rest [] after → (old.args ≡ false) × (old.state ≡ false) → count ≡ old.count + 1
-    → TakesMember State ts rest old before (record old { state = true; count = count }) after
-state_taken old count before after ts rest v none more =
-    value_taken State old (record old { state = true; count = count }) before after ts rest v (ap (λ b. put_bytes b before) none.1)
-    (ap (λ o. listed_with old o (Some (a_value after))) (not_put old.args before after none.0)) more
+pub state_taken : (old : Slots) (count : ℕ) (before after : List ℕ) (ts rest : List Token) (why : Option Refusal) → TakesValue ts rest why after → (old.args ≡ false) × (old.state ≡ false) → count ≡ old.count + 1
+    → TakesMember State ts rest old before (record old { state = true; refusal = why; count = count }) after
+state_taken old count before after ts rest why v none more =
+    value_taken State old (record old { state = true; refusal = why; count = count }) before after ts rest why v (ap (λ b. put_bytes b old.refusal before) none.1)
+    (ap (λ o. listed_with old o (Some (a_value why after))) (not_put old.args old.refusal why before after none.0)) more
 
 pub neither : (a b : Bool) → (a || b) ≡ false → (a ≡ false) × (b ≡ false)
 neither true b e = absurd cc

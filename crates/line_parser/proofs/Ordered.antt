@@ -1,6 +1,7 @@
 -- A field that is put among those of a map: it goes to the place of its name, and the others stay as they are.
-use Rattle.std.proofs.Common.{◌≡◌, ℕ, zero, suc, ◌+◌, ◌≤◌, ◌<◌, true, List, [], ◌∷◌, ◌++◌, length, map, drop, get_or, Option, Some, Ordering, Less, Equal, Greater, inl, inr, Result, Ok, Err, refl, sym, ap, subst, ◌∙◌, append_assoc, append-nil, arith}
+use Rattle.std.proofs.Common.{◌≡◌, ℕ, zero, suc, max, ◌+◌, ◌≤◌, ◌<◌, Bool, true, false, ◌||◌, List, [], ◌∷◌, ◌++◌, length, map, drop, get_or, Option, Some, Ordering, Less, Equal, Greater, inl, inr, Result, Ok, Err, refl, sym, ap, subst, ◌∙◌, append_assoc, append-nil, arith}
 use Rattle.std.specs.Prelude.{IsUtf8, ◌⊎◌, OnOk, OnErr}
+use Rattle.std.proofs.lemmas.Bool.{or_right}
 use Rattle.std.proofs.lemmas.List.Edits.{length-insert}
 use Rattle.std.specs.Cmp.Lexicographic.{slice_cmp}
 use Rattle.std.specs.Ordering.{nat_cmp, is_lt, ordering_reverse, match_ordering}
@@ -12,9 +13,11 @@ use Rattle.request_codec.specs.Tree.{fields_count}
 use Rattle.request_codec.specs.Reading.{is_above}
 use Rattle.request_codec.specs.Spelling.{IsBelowFirst}
 use Rattle.request_codec.specs.Json.{json_depth, json_members_depth}
-use Rattle.line_parser.specs.Lenient.{lenient_value, lenient_fields, HasValue, FieldsHaveValues}
+use Rattle.request_codec.specs.Formed.{IsFormed, FieldsFormed}
+use Rattle.line_parser.specs.Lenient.{lenient_value, lenient_fields, is_not_whole, fields_not_whole}
 use Rattle.request_codec.specs.Written.{text_spelling, spelling, fields_spelling}
 use Rattle.request_codec.proofs.Entries.{is_less}
+use Rattle.line_parser.proofs.NotWhole.{or_false, or_more}
 use Rattle.line_parser.specs.Fields.{field_spelling, Put, puts_of, IsBelow, AllBelow, IsPlace, HoldsFields, IsBehind}
 
 above : (l k : List ℕ) → IsBelow l k → slice_cmp nat_cmp k l ≡ Greater
@@ -44,29 +47,42 @@ put_by : (P : Members → Type 0) (k l : List ℕ) (d e : Data) (ms : Members) �
 put_by P k l d e ms a b c =
     by_order k l (slice_cmp nat_cmp k l) refl (λ h. subst P (sym (put_before k l d e ms h)) (a h)) (λ h. subst P (sym (put_over k l d e ms h)) b) (λ h. subst P (sym (put_behind k l d e ms h)) (c h))
 
--- ---- what is whole, and how deep it is
-
-abbrev pub AreWhole : Members → Type 0
-AreWhole no_members = Unit {0}
-AreWhole (member k d ms) = IsUtf8 k × HasValue d × IsBelowFirst k (lenient_fields ms) × AreWhole ms
-
-pub whole_tests : (ms : Members) → AreWhole ms → FieldsHaveValues ms
-whole_tests no_members h = (refl, tt)
-whole_tests (member k d ms) (valid, w, b, h) = let t = whole_tests ms h in (rw (w.0, t.0) refl, (valid, w.1, b, t.1))
+-- ---- what is well formed, how deep it is, and whether its numbers are whole
 
 still_below : (l k : List ℕ) (d : Data) (ms : Members) → IsBelow l k → IsBelowFirst l (lenient_fields ms) → IsBelowFirst l (lenient_fields (put k d ms))
 still_below l k d no_members lt h = ap is_lt lt
 still_below l k d (member m e ms) lt h = put_by (λ x. IsBelowFirst l (lenient_fields x)) k m d e ms (λ a. ap is_lt lt) h (λ a. h)
 
-pub whole_put : (k : List ℕ) (d : Data) (ms : Members) → IsUtf8 k → HasValue d → AreWhole ms → AreWhole (put k d ms)
-whole_put k d no_members valid w h = (valid, w, tt, tt)
-whole_put k d (member l e ms) valid w (u, v, b, h) =
-    put_by AreWhole k l d e ms (λ a. (valid, w, ap is_lt a, (u, v, b, h))) (u, w, b, h) (λ a. (u, v, still_below l k d ms a b, whole_put k d ms valid w h))
+pub formed_put : (k : List ℕ) (d : Data) (ms : Members) → IsUtf8 k → IsFormed (lenient_value d) → FieldsFormed (lenient_fields ms) → FieldsFormed (lenient_fields (put k d ms))
+formed_put k d no_members valid w h = (valid, w, tt, tt)
+formed_put k d (member l e ms) valid w (u, v, b, h) =
+    put_by (λ x. FieldsFormed (lenient_fields x)) k l d e ms (λ a. (valid, w, ap is_lt a, (u, v, b, h))) (u, w, b, h) (λ a. (u, v, still_below l k d ms a b, formed_put k d ms valid w h))
 
-pub deep_put : (bound : ℕ) (k : List ℕ) (d : Data) (ms : Members) → json_depth d ≤ bound → json_members_depth ms ≤ bound → json_members_depth (put k d ms) ≤ bound
-deep_put bound k d no_members one all = omega (arith, one)
-deep_put bound k d (member l e ms) one all =
-    put_by (λ x. json_members_depth x ≤ bound) k l d e ms (λ a. omega (arith, one, all)) (omega (arith, one, all)) (λ a. omega (arith, all, deep_put bound k d ms one (omega (arith, all))))
+-- one more field is there: the name is a new one
+abbrev pub IsMore : List ℕ → Data → Members → Type 0
+IsMore k d ms = fields_count (lenient_fields (put k d ms)) ≡ suc (fields_count (lenient_fields ms))
+
+or_turned : (a b : Bool) → (a || b) ≡ (b || a)
+or_turned true b = sym (or_right b true refl)
+or_turned false b = sym (or_false b)
+
+pub not_whole_put : (k : List ℕ) (d : Data) (ms : Members) → IsMore k d ms → fields_not_whole (put k d ms) ≡ (fields_not_whole ms || is_not_whole d)
+not_whole_put k d no_members more = or_false (is_not_whole d)
+not_whole_put k d (member l e ms) more =
+    put_by (λ x. fields_count (lenient_fields x) ≡ suc (suc (fields_count (lenient_fields ms))) → fields_not_whole x ≡ (fields_not_whole (member l e ms) || is_not_whole d)) k l d e ms
+    (λ a n. or_turned (is_not_whole d) (fields_not_whole (member l e ms)))
+    (λ n. absurd (omega (arith, n)))
+    (λ a n. ap (λ x. is_not_whole e || x) (not_whole_put k d ms (omega (arith, n))) ∙ sym (or_more (is_not_whole e) (fields_not_whole ms) (is_not_whole d)))
+    more
+
+pub depth_put : (k : List ℕ) (d : Data) (ms : Members) → IsMore k d ms → json_members_depth (put k d ms) ≡ max (json_members_depth ms) (json_depth d)
+depth_put k d no_members more = omega arith
+depth_put k d (member l e ms) more =
+    put_by (λ x. fields_count (lenient_fields x) ≡ suc (suc (fields_count (lenient_fields ms))) → json_members_depth x ≡ max (json_members_depth (member l e ms)) (json_depth d)) k l d e ms
+    (λ a n. omega arith)
+    (λ n. absurd (omega (arith, n)))
+    (λ a n. omega (arith, depth_put k d ms (omega (arith, n))))
+    more
 
 -- ---- one field more
 

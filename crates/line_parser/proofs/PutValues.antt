@@ -1,19 +1,23 @@
 -- One value of an argument.
-use Rattle.std.proofs.Common.{◌≡◌, ℕ, ◌-◌, ◌<◌, Bool, ℤ, List, ◌∷◌, ◌++◌, length, Some, refl, sym, ap, ◌∙◌, arith}
-use Rattle.std.specs.Prelude.{IsUtf8, option_map}
+use Rattle.std.proofs.Common.{◌≡◌, ℕ, ◌-◌, ◌<◌, Bool, true, false, ℤ, List, ◌∷◌, ◌++◌, length, Some, refl, sym, ap, subst, ◌∙◌, arith}
+use Rattle.std.specs.Prelude.{IsUtf8, option_map, is_none}
 use Rattle.json.specs.Token.{Token}
 use Rattle.json.specs.Json.{value, items, members, parse_map}
 use Rattle.json.proofs.Grammar.{value_is, value-begin_array, value-begin_object}
 use Rattle.serde_json.specs.Data as json
 use Rattle.serde_json.specs.Data.{Data, array, object}
 use Rattle.serde_json.specs.Find.{of_integer, as_i64}
-use Rattle.serde_json.specs.Read.{of_json, converted}
+use Rattle.serde_json.specs.Read.{of_json, converted, number_of}
+use Rattle.request_codec.specs.Formed.{IsFormed}
+use Rattle.request_codec.specs.Json.{items_depth, json_members_depth}
 use Rattle.request_codec.specs.Tree as tree
 use Rattle.request_codec.specs.Tree.{list, map}
 use Rattle.line_parser.specs.Lenient.{lenient_value, lenient_members, lenient_fields, integer_or_null}
 use Rattle.request_codec.specs.Written.{spelling}
-use Rattle.line_parser.specs.Number.{IsWhole}
-use Rattle.line_parser.specs.Argument.{too_deep, PutsValue, PutsItems, PutsFields}
+use Rattle.line_parser.specs.Number.{IsWhole, IsNotWhole}
+use Rattle.line_parser.specs.Argument.{is_deep, AddsFaults, PutsValue, PutsItems, PutsFields}
+use Rattle.line_parser.specs.declared.faults.Faults.{Faults}
+use Rattle.line_parser.proofs.NotWhole.{or_false, adds_both, adds_as, deep_outer}
 use Rattle.line_parser.proofs.GrammarLoops.{converted-array, converted-object}
 use Rattle.line_parser.proofs.Numbers.{as_i64-of_integer}
 
@@ -23,73 +27,87 @@ one_less ts t old e = omega (arith, ap length e)
 read_at : (depth : ℕ) (old new : List Token) (t : Token) → old ≡ t ∷ new → value depth old ≡ value depth (t ∷ new)
 read_at depth old new t e = ap (value depth) e
 
-pub put_null : (depth : ℕ) (old new : List Token) (before after : List ℕ) → too_deep < depth → old ≡ Token.null ∷ new → after ≡ before ++ spelling tree.null → PutsValue depth old new before after
-put_null depth old new before after deep e b = record {
+pub put_null : (depth : ℕ) (old new : List Token) (before after : List ℕ) (first last : Faults) → AddsFaults first last (is_deep depth 1) false → old ≡ Token.null ∷ new → after ≡ before ++ spelling tree.null → PutsValue depth old new before after first last
+put_null depth old new before after first last noted e b = record {
   json = json.null;
   read = ap (converted of_json) (read_at depth old new Token.null e ∙ value_is depth (Token.null ∷ new));
-  whole = (refl, tt);
-  deep = omega (arith, deep);
+  formed = tt;
+  noted = noted;
   bytes = b;
   shorter = one_less new Token.null old e;
 }
 
-pub put_bool : (depth : ℕ) (old new : List Token) (before after : List ℕ) (x : Bool) → too_deep < depth → old ≡ Token.boolean x ∷ new → after ≡ before ++ spelling (tree.truth x) → PutsValue depth old new before after
-put_bool depth old new before after x deep e b = record {
+pub put_bool : (depth : ℕ) (old new : List Token) (before after : List ℕ) (first last : Faults) (x : Bool) → AddsFaults first last (is_deep depth 1) false → old ≡ Token.boolean x ∷ new → after ≡ before ++ spelling (tree.truth x) → PutsValue depth old new before after first last
+put_bool depth old new before after first last x noted e b = record {
   json = json.boolean x;
   read = ap (converted of_json) (read_at depth old new (Token.boolean x) e ∙ value_is depth (Token.boolean x ∷ new));
-  whole = (refl, tt);
-  deep = omega (arith, deep);
+  formed = tt;
+  noted = noted;
   bytes = b;
   shorter = one_less new (Token.boolean x) old e;
 }
 
-pub put_string : (depth : ℕ) (old new : List Token) (before after : List ℕ) (s : List ℕ) → too_deep < depth → old ≡ Token.string s ∷ new → IsUtf8 s → after ≡ before ++ spelling (tree.text s) → PutsValue depth old new before after
-put_string depth old new before after s deep e valid b = record {
+pub put_string : (depth : ℕ) (old new : List Token) (before after : List ℕ) (first last : Faults) (s : List ℕ) → AddsFaults first last (is_deep depth 1) false → old ≡ Token.string s ∷ new → IsUtf8 s → after ≡ before ++ spelling (tree.text s) → PutsValue depth old new before after first last
+put_string depth old new before after first last s noted e valid b = record {
   json = json.string s;
   read = ap (converted of_json) (read_at depth old new (Token.string s) e ∙ value_is depth (Token.string s ∷ new));
-  whole = (refl, valid);
-  deep = omega (arith, deep);
+  formed = valid;
+  noted = noted;
   bytes = b;
   shorter = one_less new (Token.string s) old e;
 }
 
-pub put_number : (depth : ℕ) (old new : List Token) (before after s : List ℕ) (i : ℤ) → too_deep < depth → old ≡ Token.number s ∷ new → IsWhole s i → after ≡ before ++ spelling (tree.integer i) → PutsValue depth old new before after
-put_number depth old new before after s i deep e w b =
+pub put_number : (depth : ℕ) (old new : List Token) (before after s : List ℕ) (first last : Faults) (i : ℤ) → AddsFaults first last (is_deep depth 1) false → old ≡ Token.number s ∷ new → IsWhole s i → after ≡ before ++ spelling (tree.integer i) → PutsValue depth old new before after first last
+put_number depth old new before after s first last i noted e w b =
     let is : as_i64 (of_integer i) ≡ Some i = as_i64-of_integer i w.fits in
     let seen : lenient_value (json.number (of_integer i)) ≡ tree.integer i = ap integer_or_null is in
     record {
       json = json.number (of_integer i);
       read = ap (converted of_json) (read_at depth old new (Token.number s) e ∙ value_is depth (Token.number s ∷ new)) ∙ ap (λ o. option_map {U = Data × List Token} (λ d. (d, new)) (option_map json.number o)) w.read;
-      whole = rw is (refl, w.fits);
-      deep = omega (arith, deep);
+      formed = subst IsFormed (sym seen) w.fits;
+      noted = adds_as first last _ _ _ _ noted refl (sym (ap is_none is));
       bytes = b ∙ ap (λ v. before ++ spelling v) (sym seen);
       shorter = one_less new (Token.number s) old e;
     }
 
-list_spelled : (depth : ℕ) (ts r : List Token) (before after : List ℕ) (p : PutsItems depth ts r before after) → after ≡ before ++ spelling (list (lenient_members p.json))
-unfolding spelling
-list_spelled depth ts r before after p = p.bytes
+-- a number that isn't whole, for which null is put
+pub put_other_number : (depth : ℕ) (old new : List Token) (before after s : List ℕ) (first mid last : Faults) → AddsFaults first mid (is_deep depth 1) false → old ≡ Token.number s ∷ new → IsNotWhole (number_of s) → after ≡ before ++ spelling tree.null → AddsFaults mid last false true
+    → PutsValue depth old new before after first last
+put_other_number depth old new before after s first mid last deep e (n, is, other) b more =
+    let seen : lenient_value (json.number n) ≡ tree.null = ap integer_or_null other in
+    record {
+      json = json.number n;
+      read = ap (converted of_json) (read_at depth old new (Token.number s) e ∙ value_is depth (Token.number s ∷ new)) ∙ ap (λ o. option_map {U = Data × List Token} (λ d. (d, new)) (option_map json.number o)) is;
+      formed = subst IsFormed (sym seen) tt;
+      noted = adds_as first last _ _ _ _ (adds_both first mid last _ _ _ _ deep more) (or_false (is_deep depth 1)) (sym (ap is_none other));
+      bytes = b ∙ ap (λ v. before ++ spelling v) (sym seen);
+      shorter = one_less new (Token.number s) old e;
+    }
 
-pub put_list : (depth : ℕ) (old ts r : List Token) (before after : List ℕ) → too_deep < depth → old ≡ Token.begin_array ∷ ts → PutsItems (depth - 1) ts r before after → PutsValue depth old r before after
-put_list depth old ts r before after deep e p = record {
+list_spelled : (depth : ℕ) (ts r : List Token) (before after : List ℕ) (mid last : Faults) (p : PutsItems depth ts r before after mid last) → after ≡ before ++ spelling (list (lenient_members p.json))
+unfolding spelling
+list_spelled depth ts r before after mid last p = p.bytes
+
+pub put_list : (depth : ℕ) (old ts r : List Token) (before after : List ℕ) (first mid last : Faults) → 0 < depth → AddsFaults first mid (is_deep depth 1) false → old ≡ Token.begin_array ∷ ts → PutsItems (depth - 1) ts r before after mid last → PutsValue depth old r before after first last
+put_list depth old ts r before after first mid last some deep e p = record {
   json = array p.json;
-  read = ap (converted of_json) (read_at depth old ts Token.begin_array e ∙ value-begin_array depth ts (omega (arith, deep))) ∙ converted-array (items (value (depth - 1)) (length ts) ts) ∙ ap (parse_map array) p.read;
-  whole = (ap (option_map list) p.whole.0, p.whole.1);
-  deep = omega (arith, deep, p.deep);
-  bytes = list_spelled (depth - 1) ts r before after p;
+  read = ap (converted of_json) (read_at depth old ts Token.begin_array e ∙ value-begin_array depth ts some) ∙ converted-array (items (value (depth - 1)) (length ts) ts) ∙ ap (parse_map array) p.read;
+  formed = p.formed;
+  noted = adds_as first last _ _ _ _ (adds_both first mid last _ _ _ _ deep p.noted) (deep_outer depth (items_depth p.json) some) refl;
+  bytes = list_spelled (depth - 1) ts r before after mid last p;
   shorter = omega (arith, p.shorter, one_less ts Token.begin_array old e);
 }
 
-map_spelled : (depth : ℕ) (ts r : List Token) (before after : List ℕ) (p : PutsFields depth ts r before after) → after ≡ before ++ spelling (map (lenient_fields p.json))
+map_spelled : (depth : ℕ) (ts r : List Token) (before after : List ℕ) (mid last : Faults) (p : PutsFields depth ts r before after mid last) → after ≡ before ++ spelling (map (lenient_fields p.json))
 unfolding spelling
-map_spelled depth ts r before after p = p.bytes
+map_spelled depth ts r before after mid last p = p.bytes
 
-pub put_map : (depth : ℕ) (old ts r : List Token) (before after : List ℕ) → too_deep < depth → old ≡ Token.begin_object ∷ ts → PutsFields (depth - 1) ts r before after → PutsValue depth old r before after
-put_map depth old ts r before after deep e p = record {
+pub put_map : (depth : ℕ) (old ts r : List Token) (before after : List ℕ) (first mid last : Faults) → 0 < depth → AddsFaults first mid (is_deep depth 1) false → old ≡ Token.begin_object ∷ ts → PutsFields (depth - 1) ts r before after mid last → PutsValue depth old r before after first last
+put_map depth old ts r before after first mid last some deep e p = record {
   json = object p.json;
-  read = ap (converted of_json) (read_at depth old ts Token.begin_object e ∙ value-begin_object depth ts (omega (arith, deep))) ∙ converted-object (members (value (depth - 1)) (length ts) ts) ∙ ap (parse_map object) p.read;
-  whole = (ap (option_map map) p.whole.0, p.whole.1);
-  deep = omega (arith, deep, p.deep);
-  bytes = map_spelled (depth - 1) ts r before after p;
+  read = ap (converted of_json) (read_at depth old ts Token.begin_object e ∙ value-begin_object depth ts some) ∙ converted-object (members (value (depth - 1)) (length ts) ts) ∙ ap (parse_map object) p.read;
+  formed = p.formed;
+  noted = adds_as first last _ _ _ _ (adds_both first mid last _ _ _ _ deep p.noted) (deep_outer depth (json_members_depth p.json) some) refl;
+  bytes = map_spelled (depth - 1) ts r before after mid last p;
   shorter = omega (arith, p.shorter, one_less ts Token.begin_object old e);
 }

@@ -14,12 +14,13 @@ use Rattle.request_codec.specs.Written.{text_spelling, spelling}
 use Rattle.request_codec.proofs.Encoded.{encoded_message, encoded_state, same_found}
 use Rattle.request_codec.proofs.JsonDepths.{within_depth}
 use Rattle.request_codec.proofs.Spelled.{length-message, length-spelling}
+use Rattle.silo_event.specs.declared.refusal.Refusal.{Refusal}
 use Rattle.silo_event.specs.declared.refusal.Refusal.TheVariants as refusal
-use Rattle.line_parser.specs.Form.{natural, where_so, text_at, natural_at, truth_at, message_asked, state_asked, form_of}
+use Rattle.line_parser.specs.Form.{natural, where_so, text_at, natural_at, truth_at, unless_refused, within_or, value_asked, message_asked, state_asked, form_of}
 use Rattle.line_parser.specs.Step.{form_text, of_form}
 use Rattle.line_parser.specs.declared.step.Form.{Form}
 use Rattle.line_parser.specs.declared.step.Form.TheVariants as form
-use Rattle.line_parser.specs.Slots.{a_text, a_number, a_truth, Holds, put_bytes, IsArgument}
+use Rattle.line_parser.specs.Slots.{a_text, a_number, a_truth, Holds, put_bytes, IsArgument, IsAsked}
 
 -- ---- members
 
@@ -43,8 +44,8 @@ pub truth_in : (o : Option Bool) (name : List ℕ) (found : Members) → Holds (
 truth_in None name found h = ap (option_and_then as_bool) h
 truth_in (Some b) name found h = ap (option_and_then as_bool) (h.1 ∙ ap (λ x. Some x) h.2)
 
-pub put_in : (a b : Bool) (l : List ℕ) (o : Option Data) → Holds (put_bytes a l) o → a ≡ b → Holds (put_bytes b l) o
-put_in a b l o h e = subst (λ x. Holds (put_bytes x l) o) e h
+pub put_in : (a b : Bool) (why : Option Refusal) (l : List ℕ) (o : Option Data) → Holds (put_bytes a why l) o → a ≡ b → Holds (put_bytes b why l) o
+put_in a b why l o h e = subst (λ x. Holds (put_bytes x why l) o) e h
 
 same_count : (n : ℕ) → (n == n) ≡ true
 same_count n = grind (arith, nat_tests)
@@ -60,6 +61,19 @@ unfolding spelling
 null_argument = record { whole = (refl, tt); deep = omega arith; spelled = refl }
 
 -- ---- the message and the state
+
+pub not_refused : (why : Option Refusal) (json : Data) (l : List ℕ) → IsAsked why json l → why ≡ None → IsArgument json l
+not_refused why json l is none = subst (λ w. IsAsked w json l) none is
+
+refused_as : (why : Option Refusal) (code : Refusal) (json : Data) (l : List ℕ) → IsAsked why json l → why ≡ Some code → value_asked json ≡ Err code
+refused_as why code json l is some = subst (λ w. IsAsked w json l) some is
+
+pub message_refused : (why : Option Refusal) (code : Refusal) (method argument : List ℕ) (json : Data) → IsAsked why json argument → why ≡ Some code → message_asked method json ≡ Err code
+message_refused why code method argument json is some =
+    ap (λ asked. unless_refused asked (λ v. within_or refusal.TooLong (message_length method v) message_limit (asks method v))) (refused_as why code json argument is some)
+
+pub state_refused : (why : Option Refusal) (code : Refusal) (l : List ℕ) (json : Data) → IsAsked why json l → why ≡ Some code → state_asked json ≡ Err code
+state_refused why code l json is some = ap (λ asked. unless_refused asked (λ v. within_or refusal.TooLarge (spelled_length v) state_limit v)) (refused_as why code json l is some)
 
 pub message_of : (items method argument : List ℕ) (json : Data) → IsUtf8 method → IsArgument json argument → (items ≡ 1 ∷ (text_spelling method ++ argument)) × (length items ≤ message_limit)
     → message_call items ≡ Some (asks method (lenient_value json))

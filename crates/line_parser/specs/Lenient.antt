@@ -1,10 +1,10 @@
 -- The value of JSON part by part, with null for each number that isn't a whole number of 64 bits.
-use Rattle.std.specs.Prelude.{◌≡◌, ℤ, Option, Some, None}
+use Rattle.std.specs.Prelude.{◌≡◌, ℤ, Bool, false, ◌||◌, Option, Some, None, is_none}
 use Rattle.serde_json.specs.Data as json
 use Rattle.serde_json.specs.Find.{as_i64}
 use Rattle.request_codec.specs.Tree.{Tree, null, truth, integer, text, list, map, Members, no_members, member, Fields, no_fields, field}
-use Rattle.request_codec.specs.Json.{value_of_json, members_of_json, fields_of_json}
-use Rattle.request_codec.specs.Formed.{IsFormed, AreFormed, FieldsFormed}
+use Rattle.request_codec.specs.Json.{value_of_json}
+use Rattle.request_codec.specs.Formed.{IsFormed}
 
 abbrev pub integer_or_null : Option ℤ → Tree
 integer_or_null (Some i) = integer i
@@ -27,12 +27,24 @@ abbrev mutual
   lenient_fields json.no_members = no_fields
   lenient_fields (json.member n d ms) = field n (lenient_value d) (lenient_fields ms)
 
+-- whether a number of it isn't a whole number of 64 bits
+abbrev mutual
+  pub is_not_whole : json.Data → Bool
+  is_not_whole json.null = false
+  is_not_whole (json.boolean b) = false
+  is_not_whole (json.number n) = is_none (as_i64 n)
+  is_not_whole (json.string s) = false
+  is_not_whole (json.array ds) = are_not_whole ds
+  is_not_whole (json.object ms) = fields_not_whole ms
+
+  pub are_not_whole : json.Items → Bool
+  are_not_whole json.no_items = false
+  are_not_whole (json.item d ds) = is_not_whole d || are_not_whole ds
+
+  pub fields_not_whole : json.Members → Bool
+  fields_not_whole json.no_members = false
+  fields_not_whole (json.member n d ms) = is_not_whole d || fields_not_whole ms
+
 -- JSON that has a value, which is well formed
 abbrev pub HasValue : json.Data → Type 0
 HasValue d = (value_of_json d ≡ Some (lenient_value d)) × IsFormed (lenient_value d)
-
-abbrev pub HaveValues : json.Items → Type 0
-HaveValues ds = (members_of_json ds ≡ Some (lenient_members ds)) × AreFormed (lenient_members ds)
-
-abbrev pub FieldsHaveValues : json.Members → Type 0
-FieldsHaveValues ms = (fields_of_json ms ≡ Some (lenient_fields ms)) × FieldsFormed (lenient_fields ms)

@@ -1,5 +1,5 @@
 -- What is known of the members of a line: an object as serde_json reads it, and where each of its members went.
-use Rattle.std.specs.Prelude.{◌≡◌, ℕ, ◌<◌, ◌≤◌, ◌^◌, Bool, true, false, List, ◌∷◌, length, Option, Some, None, option_map, option_and_then, if◌then◌else◌, bytes_eq, codes}
+use Rattle.std.specs.Prelude.{◌≡◌, ℕ, ◌<◌, ◌≤◌, ◌^◌, Bool, true, false, List, ◌∷◌, length, Option, Some, None, Err, option_map, option_and_then, if◌then◌else◌, bytes_eq, codes}
 use Rattle.json.specs.Token.{Token, begin_object, number as number_token}
 use Rattle.json.specs.Json.{value, if_last, read_key}
 use Rattle.serde_json.specs.Data.{Data, object, string, number, boolean, unsigned, Members, put}
@@ -8,8 +8,9 @@ use Rattle.serde_json.specs.Find.{get_member}
 use Rattle.serde_json.specs.Read.{of_json, converted, number_of}
 use Rattle.request_codec.specs.Limits.{depth_limit}
 use Rattle.request_codec.specs.Json.{json_depth}
+use Rattle.silo_event.specs.declared.refusal.Refusal.{Refusal}
 use Rattle.silo_event.specs.declared.step.Step.{Step}
-use Rattle.line_parser.specs.Form.{step_of_json}
+use Rattle.line_parser.specs.Form.{value_asked, step_of_json}
 use Rattle.line_parser.specs.Lenient.{lenient_value, HasValue}
 use Rattle.request_codec.specs.Written.{spelling}
 use Rattle.line_parser.specs.declared.slots.Name.{Name}
@@ -66,19 +67,24 @@ pub record IsArgument (json : Data) (bytes : List ℕ) : Type 0 where
   pub deep : json_depth json ≤ depth_limit
   pub spelled : bytes ≡ spelling (lenient_value json)
 
--- what a slot holds: a text, a number that is not below 0, a truth value, or the bytes of a value
+-- what is known of the JSON of a value: its bytes, or why it is refused
+abbrev pub IsAsked : Option Refusal → Data → List ℕ → Type 0
+IsAsked None json bytes = IsArgument json bytes
+IsAsked (Some why) json bytes = value_asked json ≡ Err why
+
+-- what a slot holds: a text, a number that is not below 0, a truth value, or why a value is refused, if it is, and its bytes
 pub data Held : Type 0 where
   a_text : List ℕ → Held
   a_number : ℕ → Held
   a_truth : Bool → Held
-  a_value : List ℕ → Held
+  a_value : Option Refusal → List ℕ → Held
 
 -- of which JSON that is
 abbrev pub IsHeld : Held → Data → Type 0
 IsHeld (a_text s) json = json ≡ string s
 IsHeld (a_number n) json = (json ≡ number (unsigned n)) × (n < 2 ^ 63)
 IsHeld (a_truth b) json = json ≡ boolean b
-IsHeld (a_value l) json = IsArgument json l
+IsHeld (a_value why l) json = IsAsked why json l
 
 -- what a slot says of the member that it is for: an empty one, that there is none
 abbrev pub Holds : Option Held → Option Data → Type 0
@@ -86,9 +92,9 @@ Holds None o = o ≡ None
 Holds (Some held) o = (json : Data) × (o ≡ Some json) × IsHeld held json
 
 -- bytes that were put elsewhere, if they were
-abbrev pub put_bytes : Bool → List ℕ → Option Held
-put_bytes true l = Some (a_value l)
-put_bytes false l = None
+abbrev pub put_bytes : Bool → Option Refusal → List ℕ → Option Held
+put_bytes true why l = Some (a_value why l)
+put_bytes false why l = None
 
 -- the slot of each member; the bytes of a value were put elsewhere
 abbrev pub slot_of : Name → Slots → List ℕ → Option Held
@@ -100,8 +106,8 @@ slot_of Id s l = option_map a_number s.id
 slot_of Turn s l = option_map a_number s.turn
 slot_of Now s l = option_map a_number s.moment
 slot_of Failed s l = option_map a_truth s.failed
-slot_of Args s l = put_bytes s.args l
-slot_of State s l = put_bytes s.state l
+slot_of Args s l = put_bytes s.args s.refusal l
+slot_of State s l = put_bytes s.state s.refusal l
 
 -- where each member went, and how many there are
 pub record HoldsSlots (found : Members) (s : Slots) (l : List ℕ) : Type 0 where
@@ -113,6 +119,13 @@ pub record TakesMember (name : Name) (old new : List Token) (slots_old : Slots) 
   pub json : Data
   pub read : converted of_json (value 126 old) ≡ Some (json, new)
   pub holds : (found : Members) → HoldsSlots found slots_old bytes_old → HoldsSlots (put (name_text name) json found) slots_new bytes_new
+  pub shorter : length new < length old
+
+-- Of the tokens `old` a value was read, `new` is left, and its bytes are known, or why it is refused.
+pub record TakesValue (old new : List Token) (why : Option Refusal) (bytes : List ℕ) : Type 0 where
+  pub json : Data
+  pub read : converted of_json (value 126 old) ≡ Some (json, new)
+  pub asked : IsAsked why json bytes
   pub shorter : length new < length old
 
 -- the first token begins an object

@@ -1,11 +1,17 @@
-//! An argument, written from the tokens of a line as the bytes that spell it.
+//! An argument, written from the tokens of a line as the bytes that spell it. If it is too deep or a number of it isn't
+//! whole, that is noted, and null stands for the number.
 
-ghost use Rattle.std.specs.Prelude.{◌≡◌, ◌<◌, ◌≤◌, ◌^◌, ◌+◌, ◌++◌, ◌∷◌, [], ℕ, List, length, OnOk, IsUtf8};
+ghost use Rattle.std.specs.Prelude.{◌≡◌, ◌<◌, ◌≤◌, ◌^◌, ◌+◌, ◌++◌, ◌∷◌, [], ℕ, List, length, OnOk, IsTrue, IsUtf8, true, false};
 ghost use Rattle.std.specs.Int.{w32, to_be_bytes};
-ghost use Rattle.line_parser.specs.Argument.{PutsValue, PutsItems, PutsFields};
+ghost use Rattle.serde_json.specs.Read.{number_of};
+ghost use Rattle.request_codec.specs.Tree.{null};
+ghost use Rattle.request_codec.specs.Written.{spelling};
+ghost use Rattle.line_parser.specs.Argument.{is_deep, AddsFaults, PutsValue, PutsItems, PutsFields};
+ghost use Rattle.line_parser.specs.Number.{IsNotWhole};
 
+use crate::faults::Faults;
 use crate::fields::Fields;
-use crate::number::whole_number;
+use crate::number::{is_not_whole, whole_number};
 use crate::tokens::Tokens;
 use crate::unread::Unread;
 use json::Token;
@@ -36,38 +42,67 @@ fn set_count(out: &mut Vec<u8>, at: usize, count: u32)
     out[at + 3] = bytes[3];
 }
 
-/// Puts the value that the tokens begin with, if its numbers are whole.
+/// Notes that the value is too deep if one with so many levels left is.
+#[inline(always)]
+fn note_depth(faults: &mut Faults, depth: usize)
+    ensures { AddsFaults faults.old faults.new (is_deep depth 1) false }
+{
+    if depth <= TOO_DEEP {
+        faults.too_deep = true;
+    }
+}
+
+/// Puts null for a number that isn't a whole one of 64 bits, and notes it. One past a float's range is left.
+#[cold]
+#[inline(never)]
+fn put_not_whole(
+    out: &mut Vec<u8>,
+    limit: usize,
+    text: &str,
+    faults: &mut Faults,
+) -> Result<(), Unread>
+    requires room { length out.old.items ≤ limit }
+    requires small { limit < 2 ^ 32 }
+    ensures number { OnOk result (IsNotWhole (number_of text.now)) }
+    ensures bytes { OnOk result (out.new.items ≡ out.old.items ++ spelling null) }
+    ensures within { OnOk result (length out.new.items ≤ limit) }
+    ensures faults { OnOk result (AddsFaults faults.old faults.new false true) }
+{
+    if !is_not_whole(text) {
+        return Err(Unread::Unusual);
+    }
+    put_start(out, limit, Start::Null)?;
+    faults.not_whole = true;
+    Ok(())
+}
+
+/// Puts the value that the tokens begin with, and notes its faults.
 #[cycle(argument)]
 pub(crate) fn put_value(
     out: &mut Vec<u8>,
     limit: usize,
     reader: &mut Tokens<'_>,
     depth: usize,
+    faults: &mut Faults,
 ) -> Result<(), Unread>
     requires room { length out.old.items ≤ limit }
     requires small { limit < 2 ^ 32 }
-    ensures value { OnOk result (PutsValue depth reader.old reader.new out.old.items out.new.items) }
+    ensures value { OnOk result (PutsValue depth reader.old reader.new out.old.items out.new.items faults.old faults.new) }
     ensures within { OnOk result (length out.new.items ≤ limit) }
 {
-    if depth <= TOO_DEEP {
-        return Err(Unread::Unusual);
-    }
+    note_depth(faults, depth);
     let token = reader.next()?;
     match token {
         Token::Null => put_start(out, limit, Start::Null)?,
         Token::Bool(b) => put_start(out, limit, Start::Bool(b))?,
-        Token::Number(text) => {
-            let Some(number) = whole_number(text) else {
-                return Err(Unread::Unusual);
-            };
-            put_start(out, limit, Start::Int(number))?;
-        }
+        Token::Number(text) => match whole_number(text) {
+            Some(number) => put_start(out, limit, Start::Int(number))?,
+            None => put_not_whole(out, limit, text, faults)?,
+        },
         Token::String(text) => put_start(out, limit, Start::Text(known(text)))?,
-        Token::BeginArray => put_items(out, limit, reader, depth - 1)?,
-        Token::BeginObject => put_fields(out, limit, reader, depth - 1)?,
-        Token::EndObject | Token::EndArray | Token::Key(_) | Token::Bad => {
-            return Err(Unread::Unusual);
-        }
+        Token::BeginArray if depth > 0 => put_items(out, limit, reader, depth - 1, faults)?,
+        Token::BeginObject if depth > 0 => put_fields(out, limit, reader, depth - 1, faults)?,
+        _ => return Err(Unread::Unusual),
     }
     Ok(())
 }
@@ -80,18 +115,19 @@ fn put_items(
     limit: usize,
     reader: &mut Tokens<'_>,
     depth: usize,
+    faults: &mut Faults,
 ) -> Result<(), Unread>
     requires room { length out.old.items ≤ limit }
     requires small { limit < 2 ^ 32 }
-    requires deep { 94 ≤ depth }
-    ensures value { OnOk result (PutsItems depth reader.old reader.new out.old.items out.new.items) }
+    requires noted { depth < 94 → IsTrue faults.old.too_deep }
+    ensures value { OnOk result (PutsItems depth reader.old reader.new out.old.items out.new.items faults.old faults.new) }
     ensures within { OnOk result (length out.new.items ≤ limit) }
 {
     put_start(out, limit, Start::List(0))?;
     let at = out.len() - 4;
     let mut count = 0usize;
     'items: while !reader.take_end_array()? {
-        put_value(out, limit, reader, depth)?;
+        put_value(out, limit, reader, depth, faults)?;
         count += 1;
     }
     set_count(out, at, count as u32);
@@ -106,11 +142,12 @@ fn put_fields(
     limit: usize,
     reader: &mut Tokens<'_>,
     depth: usize,
+    faults: &mut Faults,
 ) -> Result<(), Unread>
     requires room { length out.old.items ≤ limit }
     requires small { limit < 2 ^ 32 }
-    requires deep { 94 ≤ depth }
-    ensures value { OnOk result (PutsFields depth reader.old reader.new out.old.items out.new.items) }
+    requires noted { depth < 94 → IsTrue faults.old.too_deep }
+    ensures value { OnOk result (PutsFields depth reader.old reader.new out.old.items out.new.items faults.old faults.new) }
     ensures within { OnOk result (length out.new.items ≤ limit) }
 {
     put_start(out, limit, Start::Map(0))?;
@@ -119,7 +156,7 @@ fn put_fields(
     'fields: while let Some(name) = reader.next_key()? {
         let from = out.len();
         put_text(out, limit, known(name))?;
-        put_value(out, limit, reader, depth)?;
+        put_value(out, limit, reader, depth, faults)?;
         let count = out.len() - from;
         fields.add(out, start, name, count)?;
     }

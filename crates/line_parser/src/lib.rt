@@ -7,6 +7,7 @@
 mod argument;
 mod ascii;
 mod asked;
+mod faults;
 mod fields;
 mod forms;
 mod line;

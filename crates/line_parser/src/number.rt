@@ -1,11 +1,11 @@
-//! Whole numbers of 64 bits in JSON.
+//! Whole numbers of 64 bits in JSON, and those that are none.
 
-ghost use Rattle.std.specs.Prelude.{◌≡◌, ◌<◌, ◌==◌, ◌^◌, length, slice_index, IsTrue, IfSome, Some, true, false, FitsSigned};
+ghost use Rattle.std.specs.Prelude.{◌≡◌, ◌<◌, ◌==◌, ◌^◌, length, slice_index, IsTrue, IfSome, IfNone, Some, true, false, Float, FitsSigned};
 ghost use Rattle.std.specs.Int.{w64};
-ghost use Rattle.serde_json.specs.Data.{unsigned};
+ghost use Rattle.serde_json.specs.Data.{unsigned, float};
 ghost use Rattle.serde_json.specs.Find.{of_integer};
-ghost use Rattle.serde_json.specs.Read.{number_of, number_from};
-ghost use Rattle.line_parser.specs.Number.{IsWhole};
+ghost use Rattle.serde_json.specs.Read.{number_of, number_from, float_of};
+ghost use Rattle.line_parser.specs.Number.{IsWhole, IsNotWhole};
 
 use fast_float::Numeral;
 
@@ -42,7 +42,8 @@ fn has_minus(bytes: &[u8]) -> bool
 
 /// The number of a numeral with no minus, if it is whole and below 2^64.
 fn unsigned_of(numeral: &Numeral<'_>) -> Option<u64>
-    ensures { IfSome result (λ n. number_from false numeral.now ≡ Some (unsigned n)) }
+    ensures read { IfSome result (λ n. number_from false numeral.now ≡ Some (unsigned n)) }
+    ensures other { IfNone result (number_from false numeral.now ≡ float_of false numeral.now) }
 {
     numeral.to_u64()
 }
@@ -51,6 +52,7 @@ fn unsigned_of(numeral: &Numeral<'_>) -> Option<u64>
 fn negative_of(numeral: &Numeral<'_>) -> Option<i64>
     ensures read { IfSome result (λ n. number_from true numeral.now ≡ Some (of_integer n)) }
     ensures fits { IfSome result (λ n. FitsSigned w64 n) }
+    ensures other { IfNone result (number_from true numeral.now ≡ float_of true numeral.now) }
 {
     let number = numeral.to_i64(true)?;
     if number < 0 { Some(number) } else { None }
@@ -74,5 +76,45 @@ pub(crate) fn whole_number(text: &str) -> Option<i64>
         } else {
             None
         }
+    }
+}
+
+/// Whether the number is within a float's range.
+fn has_float(negative: bool, numeral: &Numeral<'_>) -> bool
+    ensures { IsTrue result → (x : Float) × (float_of negative numeral.now ≡ Some (float x)) }
+{
+    let nearest: f64 = numeral.to_float(negative);
+    nearest.is_finite()
+}
+
+/// Whether the number of a numeral with no minus is read, but is no whole one below 2^63.
+fn is_unsigned_not_whole(numeral: &Numeral<'_>) -> bool
+    ensures { IsTrue result → IsNotWhole (number_from false numeral.now) }
+{
+    match unsigned_of(numeral) {
+        Some(n) => n > i64::MAX as u64,
+        None => has_float(false, numeral),
+    }
+}
+
+/// Whether the number of a numeral behind a minus is read, but is no whole one of 64 bits below 0.
+fn is_negative_not_whole(numeral: &Numeral<'_>) -> bool
+    ensures { IsTrue result → IsNotWhole (number_from true numeral.now) }
+{
+    match negative_of(numeral) {
+        Some(_) => false,
+        None => has_float(true, numeral),
+    }
+}
+
+/// Whether the text spells a number that isn't a whole one of 64 bits, and is within a float's range.
+pub(crate) fn is_not_whole(text: &str) -> bool
+    ensures { IsTrue result → IsNotWhole (number_of text.now) }
+{
+    let bytes = text.as_bytes();
+    if has_minus(bytes) {
+        is_negative_not_whole(&Numeral::scan(&bytes[1..]))
+    } else {
+        is_unsigned_not_whole(&Numeral::scan(bytes))
     }
 }

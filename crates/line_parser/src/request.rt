@@ -6,7 +6,7 @@ ghost use Rattle.request_codec.specs.Call.{message_call, state_value};
 ghost use Rattle.request_codec.specs.Limits.{message_limit};
 ghost use Rattle.request_codec.specs.Written.{text_spelling};
 ghost use Rattle.line_parser.specs.Form.{argument_at, message_asked, state_asked, call_of, poke_of, status_of};
-ghost use Rattle.line_parser.specs.Slots.{IsArgument, HoldsSlots};
+ghost use Rattle.line_parser.specs.Slots.{IsAsked, HoldsSlots};
 ghost use Rattle.line_parser.specs.Step.{FindsIn, Finds};
 
 use crate::asked::{call_with, poke_with};
@@ -19,6 +19,13 @@ use request_codec::limits::{MAX_MESSAGE_BYTES, MAX_STATE_BYTES};
 use request_codec::{Message, StateBytes};
 use silo_event::{Refusal, Step};
 use std::alloc::{AllocError, Global};
+
+/// The argument of a call: why it is refused, if it is, and else the bytes that spell it.
+#[derive(Clone, Copy)]
+struct Argument<'t> {
+    refusal: Option<Refusal>,
+    bytes: &'t [u8],
+}
 
 /// The bytes of a message beside its method and its argument: its version, and how long the method is.
 const MESSAGE_HEAD_BYTES: usize = 5;
@@ -42,16 +49,21 @@ fn keep_message(alloc: Global, out: &Vec<u8>) -> Result<Message, Unread>
     Ok(Message::copy_spelling(alloc, out.as_slice())?)
 }
 
-/// The message of a method and the bytes of its argument, unless it would be too long.
+/// The message of a method and the bytes of its argument, unless the argument is refused or the message
+/// would be too long.
 fn read_message(
     alloc: Global,
     out: &mut Vec<u8>,
     method: &str,
+    refusal: Option<Refusal>,
     argument: &[u8],
 ) -> Result<Result<Message, Refusal>, Unread>
-    requires { (json : Data) × IsArgument json argument.now }
-    ensures { IfOk result (λ asked. (json : Data) → IsArgument json argument.now → message_asked method.now json ≡ asked) }
+    requires { (json : Data) × IsAsked refusal json argument.now }
+    ensures { IfOk result (λ asked. (json : Data) → IsAsked refusal json argument.now → message_asked method.now json ≡ asked) }
 {
+    if let Some(code) = refusal {
+        return Ok(Err(code));
+    }
     if method.len() + argument.len() > MAX_MESSAGE_BYTES - MESSAGE_HEAD_BYTES {
         return Ok(Err(Refusal::TooLong));
     }
@@ -60,10 +72,17 @@ fn read_message(
     Ok(Ok(message))
 }
 
-/// The state that the bytes spell, unless they are too many.
-fn read_state(alloc: Global, bytes: &[u8]) -> Result<Result<StateBytes, Refusal>, Unread>
-    ensures { IfOk result (λ asked. (json : Data) → IsArgument json bytes.now → state_asked json ≡ asked) }
+/// The state that the bytes spell, unless it is refused or they are too many.
+fn read_state(
+    alloc: Global,
+    refusal: Option<Refusal>,
+    bytes: &[u8],
+) -> Result<Result<StateBytes, Refusal>, Unread>
+    ensures { IfOk result (λ asked. (json : Data) → IsAsked refusal json bytes.now → state_asked json ≡ asked) }
 {
+    if let Some(code) = refusal {
+        return Ok(Err(code));
+    }
     if bytes.len() > MAX_STATE_BYTES {
         return Ok(Err(Refusal::TooLarge));
     }
@@ -71,22 +90,28 @@ fn read_state(alloc: Global, bytes: &[u8]) -> Result<Result<StateBytes, Refusal>
     Ok(Ok(state))
 }
 
-/// The bytes of a call's argument: null where it is left out; none if the members are none of a call.
-fn argument_of<'t>(slots: &Slots<'_>, bytes: &'t [u8]) -> Option<&'t [u8]>
+/// The argument of a call: null where it is left out; none if the members are none of a call.
+fn argument_of<'t>(slots: &Slots<'_>, bytes: &'t [u8]) -> Option<Argument<'t>>
     ensures { MatchOption result (FindsIn slots.now bytes.now argument_at None) (λ argument. (found : Members) → HoldsSlots found slots.now bytes.now
-        → (json : Data) × (argument_at (object found) ≡ Some json) × IsArgument json argument.now) }
+        → (json : Data) × (argument_at (object found) ≡ Some json) × IsAsked argument.refusal json argument.bytes.now) }
 {
     if slots.count == 5 {
-        return Some(&[0]);
+        return Some(Argument {
+            refusal: None,
+            bytes: &[0],
+        });
     }
     if slots.count == 6 && slots.args {
-        return Some(bytes);
+        return Some(Argument {
+            refusal: slots.refusal,
+            bytes,
+        });
     }
     None
 }
 
-/// The call, if the members are those of a call; it is refused if its message is too long, or its
-/// grain isn't well formed.
+/// The call, if the members are those of a call; it is refused if its argument is, its message is too
+/// long, or its grain isn't well formed.
 pub(crate) fn call_from(
     alloc: Global,
     names: &mut LatelyRead,
@@ -112,7 +137,7 @@ pub(crate) fn call_from(
     let Some(method) = slots.method else {
         return Ok(None);
     };
-    match read_message(alloc, out, method, argument)? {
+    match read_message(alloc, out, method, argument.refusal, argument.bytes)? {
         Ok(message) => {
             let step = call_with(alloc, names, caller, id, grain, message)?;
             Ok(Some(step))
@@ -121,8 +146,8 @@ pub(crate) fn call_from(
     }
 }
 
-/// The poke, if the members are those of a poke; it is refused if its state is too large, or its grain
-/// isn't well formed.
+/// The poke, if the members are those of a poke; it is refused if its state is, or is too large, or its
+/// grain isn't well formed.
 pub(crate) fn poke_from(
     alloc: Global,
     names: &mut LatelyRead,
@@ -146,7 +171,7 @@ pub(crate) fn poke_from(
     if !slots.state {
         return Ok(None);
     }
-    match read_state(alloc, bytes)? {
+    match read_state(alloc, slots.refusal, bytes)? {
         Ok(state) => {
             let step = poke_with(alloc, names, caller, id, grain, state)?;
             Ok(Some(step))

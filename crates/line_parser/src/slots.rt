@@ -4,14 +4,15 @@ ghost use Rattle.std.specs.Prelude.{◌≡◌, ◌<◌, ◌^◌, ◌||◌, ℕ, 
 ghost use Rattle.std.specs.Bool.{MatchBool};
 ghost use Rattle.json.specs.Token.{string, boolean};
 ghost use Rattle.serde_json.specs.Data.{no_members};
-ghost use Rattle.line_parser.specs.Argument.{PutsValue};
-ghost use Rattle.line_parser.specs.Slots.{name_text, named, TakesMember, asked_by, HoldsSlots, HasSlots, IsNatural};
+ghost use Rattle.line_parser.specs.Slots.{name_text, named, TakesMember, TakesValue, asked_by, HoldsSlots, HasSlots, IsNatural};
 
 use crate::argument::put_value;
+use crate::faults::Faults;
 use crate::number::whole_number;
 use crate::tokens::Tokens;
 use crate::unread::Unread;
 use json::Token;
+use silo_event::Refusal;
 
 /// The members that a step may have.
 #[derive(Clone, Copy)]
@@ -38,7 +39,8 @@ pub(crate) enum Next {
 }
 
 /// What the members of a line were, each at most once. `args` and `state` say whether they were
-/// there, which is at most one of them; its bytes are kept elsewhere.
+/// there, which is at most one of them; its bytes are kept elsewhere, and `refusal` says why it is
+/// refused, if it is.
 #[derive(Drop)]
 pub(crate) struct Slots<'a> {
     pub(crate) op: Option<&'a str>,
@@ -51,6 +53,7 @@ pub(crate) struct Slots<'a> {
     pub(crate) failed: Option<bool>,
     pub(crate) args: bool,
     pub(crate) state: bool,
+    pub(crate) refusal: Option<Refusal>,
     pub(crate) count: usize,
 }
 
@@ -71,6 +74,7 @@ impl<'a> Slots<'a> {
             failed: None,
             args: false,
             state: false,
+            refusal: None,
             count: 0,
         }
     }
@@ -155,16 +159,23 @@ fn has_value(slots: &Slots<'_>) -> bool
     slots.args || slots.state
 }
 
-/// Puts the next value's bytes in place of others, unless a value was put there before.
-fn take_value(taken: bool, bytes: &mut Vec<u8>, reader: &mut Tokens<'_>) -> Result<(), Unread>
+/// Puts the next value's bytes in place of others, unless a value was put there before, and answers
+/// why the value is refused, if it is.
+fn take_value(
+    taken: bool,
+    bytes: &mut Vec<u8>,
+    reader: &mut Tokens<'_>,
+) -> Result<Option<Refusal>, Unread>
     ensures empty { OnOk result (taken ≡ false) }
-    ensures value { OnOk result (PutsValue 126 reader.old reader.new [] bytes.new.items) }
+    ensures value { IfOk result (λ why. TakesValue reader.old reader.new why bytes.new.items) }
 {
     if taken {
         return Err(Unread::Unusual);
     }
     bytes.clear();
-    put_value(bytes, MAX_VALUE_BYTES, reader, MEMBER_DEPTH)
+    let mut faults = Faults::none();
+    put_value(bytes, MAX_VALUE_BYTES, reader, MEMBER_DEPTH, &mut faults)?;
+    Ok(faults.refusal())
 }
 
 /// Takes a member that wasn't there yet.
@@ -189,11 +200,11 @@ fn take_member<'a>(
         Name::Now => slots.moment = Some(take_natural(slots.moment, reader)?),
         Name::Failed => slots.failed = Some(take_truth(slots.failed, reader)?),
         Name::Args => {
-            take_value(has_value(slots), bytes, reader)?;
+            slots.refusal = take_value(has_value(slots), bytes, reader)?;
             slots.args = true;
         }
         Name::State => {
-            take_value(has_value(slots), bytes, reader)?;
+            slots.refusal = take_value(has_value(slots), bytes, reader)?;
             slots.state = true;
         }
     }

@@ -8,14 +8,14 @@ use Rattle.line_parser.specs.Argument.{PutsValue}
 use Rattle.line_parser.specs.Fields.{IsBehind}
 use Rattle.line_parser.proofs.ItemsRead.{items_start, items_next, items_stop}
 use Rattle.line_parser.proofs.FieldsRead.{begun, fields_start, behind_them, fields_next, fields_stop}
-use Rattle.line_parser.proofs.PutValues.{put_null, put_bool, put_string, put_number, put_list, put_map}
+use Rattle.line_parser.proofs.PutValues.{put_null, put_bool, put_string, put_number, put_other_number, put_list, put_map}
 use Rattle.line_parser.proofs.argument.+argument.Goals as goal
 
 pub put_items-items-init : goal.put_items-items-init
 put_items-items-init t c =
     let put = c.in_ok-put_start.ensures in
     record {
-      so_far = items_start c.args.depth c.args.reader.now c.args.out.now.items c.put_start.new.out.items put.0;
+      so_far = items_start c.args.depth c.args.reader.now c.args.out.now.items c.put_start.new.out.items c.args.faults.now put.0 c.requires.noted;
       within = put.1;
       place = omega (arith, ap length put.0, length-append c.args.out.now.items (5 ∷ 0 ∷ 0 ∷ 0 ∷ 0 ∷ []), c.len-at.ensures);
       depth = λ i. c.args.depth;
@@ -25,9 +25,9 @@ pub put_items-items-preserved : goal.put_items-items-preserved
 put_items-items-preserved t c =
     let l = c.items in
     let going : (after_end_array l.reader ≡ None) × (c.take_end_array.new.self ≡ l.reader) = grind arith in
-    let v = subst (λ ts. PutsValue c.args.depth ts c.put_value.new.reader l.out.items c.put_value.new.out.items) going.1 c.in_ok-put_value.ensures.value in
+    let v = subst (λ ts. PutsValue c.args.depth ts c.put_value.new.reader l.out.items c.put_value.new.out.items l.faults c.put_value.new.faults) going.1 c.in_ok-put_value.ensures.value in
     record {
-      so_far = items_next c.args.depth c.args.reader.now l.reader c.put_value.new.reader c.args.out.now.items l.out.items c.put_value.new.out.items l.count l.invariant.so_far going.0 v;
+      so_far = items_next c.args.depth c.args.reader.now l.reader c.put_value.new.reader c.args.out.now.items l.out.items c.put_value.new.out.items l.count c.args.faults.now l.faults c.put_value.new.faults l.invariant.so_far going.0 v;
       within = c.in_ok-put_value.ensures.within;
       place = l.invariant.place;
       depth = l.invariant.depth;
@@ -36,13 +36,13 @@ put_items-items-preserved t c =
 pub put_items-returns-clause-value : goal.put_items-returns-clause-value
 put_items-returns-clause-value t c =
     let l = c.items in
-    items_stop c.args.depth c.args.reader.now l.reader c.take_end_array.new.self c.args.out.now.items l.out.items c.set_count.new.out.items (c.len-at.result - 4) l.count l.invariant.so_far c.requires.deep (grind arith) l.invariant.place c.set_count.ensures.bytes
+    items_stop c.args.depth c.args.reader.now l.reader c.take_end_array.new.self c.args.out.now.items l.out.items c.set_count.new.out.items (c.len-at.result - 4) l.count c.args.faults.now l.faults l.invariant.so_far (grind arith) l.invariant.place c.set_count.ensures.bytes
 
 pub put_fields-fields-init : goal.put_fields-fields-init
 put_fields-fields-init t c =
     let put = c.in_ok-put_start.ensures in
     record {
-      so_far = fields_start c.args.depth c.args.reader.now c.args.out.now.items c.put_start.new.out.items c.new-fields.result put.0 c.new-fields.ensures c.requires.deep;
+      so_far = fields_start c.args.depth c.args.reader.now c.args.out.now.items c.put_start.new.out.items c.new-fields.result c.args.faults.now put.0 c.new-fields.ensures c.requires.noted;
       within = put.1;
       place = omega (arith, ap length put.0, length-append c.args.out.now.items (6 ∷ 0 ∷ 0 ∷ 0 ∷ 0 ∷ []), c.len-start.ensures);
       depth = λ i. c.args.depth;
@@ -55,7 +55,7 @@ put_fields-add-requires t c =
     let k = c.in-Some.name.now in
     let v = c.in_ok-put_value.ensures.value in
     let text : c.put_text.new.out.items ≡ l.out.items ++ text_spelling k = c.in_ok-put_text.ensures.0 ∙ ap (λ (s : List ℕ). l.out.items ++ text_spelling s) c.known.ensures.same in
-    let behind = behind_them c.args.depth c.args.reader.now l.reader c.next_key.new.self c.put_value.new.reader c.args.out.now.items l.out.items c.put_text.new.out.items c.put_value.new.out.items l.fields k c.len-from.result (c.len.result - c.len-from.result) f text v (omega (arith, c.len-from.ensures)) (omega (arith, c.len.ensures)) in
+    let behind = behind_them c.args.depth c.args.reader.now l.reader c.next_key.new.self c.put_value.new.reader c.args.out.now.items l.out.items c.put_text.new.out.items c.put_value.new.out.items l.fields c.args.faults.now l.faults c.put_value.new.faults k c.len-from.result (c.len.result - c.len-from.result) f text v (omega (arith, c.len-from.ensures)) (omega (arith, c.len.ensures)) in
     record {
       few = omega (arith, f.some, l.invariant.within, c.requires.small);
       small = omega (arith, c.in_ok-put_value.ensures.within, c.requires.small);
@@ -70,10 +70,10 @@ put_fields-fields-preserved t c =
     let v = c.in_ok-put_value.ensures.value in
     let named : read_key l.reader ≡ Some (Some k, c.next_key.new.self) = grind arith in
     let text : c.put_text.new.out.items ≡ l.out.items ++ text_spelling k = c.in_ok-put_text.ensures.0 ∙ ap (λ (s : List ℕ). l.out.items ++ text_spelling s) c.known.ensures.same in
-    let behind = behind_them c.args.depth c.args.reader.now l.reader c.next_key.new.self c.put_value.new.reader c.args.out.now.items l.out.items c.put_text.new.out.items c.put_value.new.out.items l.fields k c.len-from.result (c.len.result - c.len-from.result) f text v (omega (arith, c.len-from.ensures)) (omega (arith, c.len.ensures)) in
+    let behind = behind_them c.args.depth c.args.reader.now l.reader c.next_key.new.self c.put_value.new.reader c.args.out.now.items l.out.items c.put_text.new.out.items c.put_value.new.out.items l.fields c.args.faults.now l.faults c.put_value.new.faults k c.len-from.result (c.len.result - c.len-from.result) f text v (omega (arith, c.len-from.ensures)) (omega (arith, c.len.ensures)) in
     let put = c.in_ok-add.ensures.put f.json v.json (begun c.args.out.now.items) f.holds (subst (λ n. IsBehind f.json k v.json n (c.len.result - c.len-from.result) (begun c.args.out.now.items) c.put_value.new.out.items) (sym l.invariant.place) behind) in
     record {
-      so_far = fields_next c.args.depth c.args.reader.now l.reader c.next_key.new.self c.put_value.new.reader c.args.out.now.items l.out.items c.put_text.new.out.items c.put_value.new.out.items c.add.new.out.items l.fields c.add.new.self k f named c.known.ensures.utf8 text v c.in_ok-add.ensures.len put.0 put.1 (omega (arith, c.in_ok-add.ensures.count));
+      so_far = fields_next c.args.depth c.args.reader.now l.reader c.next_key.new.self c.put_value.new.reader c.args.out.now.items l.out.items c.put_text.new.out.items c.put_value.new.out.items c.add.new.out.items l.fields c.add.new.self c.args.faults.now l.faults c.put_value.new.faults k f named c.known.ensures.utf8 text v c.in_ok-add.ensures.len put.0 put.1 (omega (arith, c.in_ok-add.ensures.count));
       within = omega (arith, c.in_ok-put_value.ensures.within, c.in_ok-add.ensures.len);
       place = l.invariant.place;
       depth = l.invariant.depth;
@@ -82,36 +82,42 @@ put_fields-fields-preserved t c =
 pub put_fields-returns-clause-value : goal.put_fields-returns-clause-value
 put_fields-returns-clause-value t c =
     let l = c.fields in
-    fields_stop c.args.depth c.args.reader.now l.reader c.next_key.new.self c.args.out.now.items l.out.items c.set_count.new.out.items l.fields (c.len-start.result - 4) l.fields.count l.invariant.so_far (grind arith) (omega (arith, l.invariant.place)) refl c.set_count.ensures.bytes
+    fields_stop c.args.depth c.args.reader.now l.reader c.next_key.new.self c.args.out.now.items l.out.items c.set_count.new.out.items l.fields c.args.faults.now l.faults (c.len-start.result - 4) l.fields.count l.invariant.so_far (grind arith) (omega (arith, l.invariant.place)) refl c.set_count.ensures.bytes
 
 pub put_value-returns-in_ok-put_start-in-Null-clause-value : goal.put_value-returns-in_ok-put_start-in-Null-clause-value
 put_value-returns-in_ok-put_start-in-Null-clause-value t c =
     let first : c.args.reader.now ≡ token_of c.in_ok-token.token ∷ c.next.new.self = grind arith in
-    put_null c.args.depth c.args.reader.now c.next.new.self c.args.out.now.items c.put_start.new.out.items (omega arith) (first ∙ ap (λ k. token_of k ∷ c.next.new.self) c.in-Null.is) c.in_ok-put_start-in-Null.ensures.0
+    put_null c.args.depth c.args.reader.now c.next.new.self c.args.out.now.items c.put_start.new.out.items c.args.faults.now c.note_depth.new.faults c.note_depth.ensures (first ∙ ap (λ k. token_of k ∷ c.next.new.self) c.in-Null.is) c.in_ok-put_start-in-Null.ensures.0
 
 pub put_value-returns-in_ok-put_start-in-Bool-clause-value : goal.put_value-returns-in_ok-put_start-in-Bool-clause-value
 put_value-returns-in_ok-put_start-in-Bool-clause-value t c =
     let first : c.args.reader.now ≡ token_of c.in_ok-token.token ∷ c.next.new.self = grind arith in
-    put_bool c.args.depth c.args.reader.now c.next.new.self c.args.out.now.items c.put_start-in-Bool.new.out.items c.in-Bool.b (omega arith) (first ∙ ap (λ k. token_of k ∷ c.next.new.self) c.in-Bool.is) c.in_ok-put_start-in-Bool.ensures.0
+    put_bool c.args.depth c.args.reader.now c.next.new.self c.args.out.now.items c.put_start-in-Bool.new.out.items c.args.faults.now c.note_depth.new.faults c.in-Bool.b c.note_depth.ensures (first ∙ ap (λ k. token_of k ∷ c.next.new.self) c.in-Bool.is) c.in_ok-put_start-in-Bool.ensures.0
 
-pub put_value-returns-in_ok-put_start-in-Number-clause-value : goal.put_value-returns-in_ok-put_start-in-Number-clause-value
-put_value-returns-in_ok-put_start-in-Number-clause-value t c =
+pub put_value-returns-in_ok-put_start-in-Some-clause-value : goal.put_value-returns-in_ok-put_start-in-Some-clause-value
+put_value-returns-in_ok-put_start-in-Some-clause-value t c =
     let first : c.args.reader.now ≡ token_of c.in_ok-token.token ∷ c.next.new.self = grind arith in
     let is = to_z-of_z c.in-Some.ensures.fits in
-    put_number c.args.depth c.args.reader.now c.next.new.self c.args.out.now.items c.put_start-in-Number.new.out.items c.in-Number.text.now c.in-Some.number (omega arith) (first ∙ ap (λ k. token_of k ∷ c.next.new.self) c.in-Number.is) c.in-Some.ensures
-    (c.in_ok-put_start-in-Number.ensures.0 ∙ ap (λ i. c.args.out.now.items ++ spelling (tree.integer i)) is)
+    put_number c.args.depth c.args.reader.now c.next.new.self c.args.out.now.items c.put_start-in-Some.new.out.items c.in-Number.text.now c.args.faults.now c.note_depth.new.faults c.in-Some.number c.note_depth.ensures (first ∙ ap (λ k. token_of k ∷ c.next.new.self) c.in-Number.is) c.in-Some.ensures
+    (c.in_ok-put_start-in-Some.ensures.0 ∙ ap (λ i. c.args.out.now.items ++ spelling (tree.integer i)) is)
+
+pub put_value-returns-in_ok-put_not_whole-in-None-clause-value : goal.put_value-returns-in_ok-put_not_whole-in-None-clause-value
+put_value-returns-in_ok-put_not_whole-in-None-clause-value t c =
+    let first : c.args.reader.now ≡ token_of c.in_ok-token.token ∷ c.next.new.self = grind arith in
+    let put = c.in_ok-put_not_whole-in-None.ensures in
+    put_other_number c.args.depth c.args.reader.now c.next.new.self c.args.out.now.items c.put_not_whole.new.out.items c.in-Number.text.now c.args.faults.now c.note_depth.new.faults c.put_not_whole.new.faults c.note_depth.ensures (first ∙ ap (λ k. token_of k ∷ c.next.new.self) c.in-Number.is) put.number put.bytes put.faults
 
 pub put_value-returns-in_ok-put_start-in-String-clause-value : goal.put_value-returns-in_ok-put_start-in-String-clause-value
 put_value-returns-in_ok-put_start-in-String-clause-value t c =
     let first : c.args.reader.now ≡ token_of c.in_ok-token.token ∷ c.next.new.self = grind arith in
-    put_string c.args.depth c.args.reader.now c.next.new.self c.args.out.now.items c.put_start-in-String.new.out.items c.in-String.text.now (omega arith) (first ∙ ap (λ k. token_of k ∷ c.next.new.self) c.in-String.is) c.known.ensures.utf8 (c.in_ok-put_start-in-String.ensures.0 ∙ ap (λ (s : List ℕ). c.args.out.now.items ++ spelling (tree.text s)) c.known.ensures.same)
+    put_string c.args.depth c.args.reader.now c.next.new.self c.args.out.now.items c.put_start-in-String.new.out.items c.args.faults.now c.note_depth.new.faults c.in-String.text.now c.note_depth.ensures (first ∙ ap (λ k. token_of k ∷ c.next.new.self) c.in-String.is) c.known.ensures.utf8 (c.in_ok-put_start-in-String.ensures.0 ∙ ap (λ (s : List ℕ). c.args.out.now.items ++ spelling (tree.text s)) c.known.ensures.same)
 
 pub put_value-returns-in_ok-put_items-in-BeginArray-clause-value : goal.put_value-returns-in_ok-put_items-in-BeginArray-clause-value
 put_value-returns-in_ok-put_items-in-BeginArray-clause-value t c =
     let first : c.args.reader.now ≡ token_of c.in_ok-token.token ∷ c.next.new.self = grind arith in
-    put_list c.args.depth c.args.reader.now c.next.new.self c.put_items.new.reader c.args.out.now.items c.put_items.new.out.items (omega arith) (first ∙ ap (λ k. token_of k ∷ c.next.new.self) c.in-BeginArray.is) c.in_ok-put_items-in-BeginArray.ensures.value
+    put_list c.args.depth c.args.reader.now c.next.new.self c.put_items.new.reader c.args.out.now.items c.put_items.new.out.items c.args.faults.now c.note_depth.new.faults c.put_items.new.faults (omega arith) c.note_depth.ensures (first ∙ ap (λ k. token_of k ∷ c.next.new.self) c.in-BeginArray.is) c.in_ok-put_items-in-BeginArray.ensures.value
 
 pub put_value-returns-in_ok-put_fields-in-BeginObject-clause-value : goal.put_value-returns-in_ok-put_fields-in-BeginObject-clause-value
 put_value-returns-in_ok-put_fields-in-BeginObject-clause-value t c =
     let first : c.args.reader.now ≡ token_of c.in_ok-token.token ∷ c.next.new.self = grind arith in
-    put_map c.args.depth c.args.reader.now c.next.new.self c.put_fields.new.reader c.args.out.now.items c.put_fields.new.out.items (omega arith) (first ∙ ap (λ k. token_of k ∷ c.next.new.self) c.in-BeginObject.is) c.in_ok-put_fields-in-BeginObject.ensures.value
+    put_map c.args.depth c.args.reader.now c.next.new.self c.put_fields.new.reader c.args.out.now.items c.put_fields.new.out.items c.args.faults.now c.note_depth.new.faults c.put_fields.new.faults (omega arith) c.note_depth.ensures (first ∙ ap (λ k. token_of k ∷ c.next.new.self) c.in-BeginObject.is) c.in_ok-put_fields-in-BeginObject.ensures.value

@@ -27,6 +27,6 @@ returns-then-number c =
     let read : number_from false (scan s) ≡ number_of s = rw no_sign in
     let n = c.in_ok-number-2.number in
     let same : to_z w64 n ≡ pos n = to_z_pos w64 n (omega arith) in
-    let text : number_of c.args.text.now ≡ Some (unsigned n) = ap number_of (sym c.as_bytes-bytes.ensures.value) ∙ sym read ∙ ap (number_from false) (sym c.scan-else-has_minus.ensures.parts) ∙ c.in_ok-number-2.ensures in
+    let text : number_of c.args.text.now ≡ Some (unsigned n) = ap number_of (sym c.as_bytes-bytes.ensures.value) ∙ sym read ∙ ap (number_from false) (sym c.scan-else-has_minus.ensures.parts) ∙ c.in_ok-number-2.ensures.read in
     let whole : IsWhole c.args.text.now (pos n) = record { read = text; fits = omega arith } in
     subst (IsWhole c.args.text.now) (sym same) whole

@@ -23,16 +23,16 @@ returns-in_default-grain c found h = rw (counted _ _ 5 h.count c.if-slots-ne5.fa
 pub returns-then-not-slots : goal.returns-then-not-slots
 unfolding poke_of
 returns-then-not-slots c found h =
-    rw (counted _ _ 5 h.count c.if-slots-ne5.false, c.in_ok-caller.ensures c.args.bytes.now found h ∙ c.in-Some.is, natural_in _ _ (codes "id") found (h.each Id) c.in-Some-id.is, text_in _ _ (λ t. t.now) (codes "grain") found (h.each Grain) c.in-Some-grain.is, put_in _ false c.args.bytes.now _ (h.each State) c.if-not-slots.true) refl
+    rw (counted _ _ 5 h.count c.if-slots-ne5.false, c.in_ok-caller.ensures c.args.bytes.now found h ∙ c.in-Some.is, natural_in _ _ (codes "id") found (h.each Id) c.in-Some-id.is, text_in _ _ (λ t. t.now) (codes "grain") found (h.each Grain) c.in-Some-grain.is, put_in _ false c.args.slots.now.refusal c.args.bytes.now _ (h.each State) c.if-not-slots.true) refl
 
 pub returns-in_ok-step-in-Ok : goal.returns-in_ok-step-in-Ok
 unfolding poke_of
 returns-in_ok-step-in-Ok c found h =
-    let put = put_in _ true c.args.bytes.now _ (h.each State) c.if-not-slots.false in
+    let put = put_in _ true c.args.slots.now.refusal c.args.bytes.now _ (h.each State) c.if-not-slots.false in
     rw (counted _ _ 5 h.count c.if-slots-ne5.false, c.in_ok-caller.ensures c.args.bytes.now found h ∙ c.in-Some.is, natural_in _ _ (codes "id") found (h.each Id) c.in-Some-id.is, text_in _ _ (λ t. t.now) (codes "grain") found (h.each Grain) c.in-Some-grain.is, put.1, c.in_ok-state.ensures put.0 put.2 ∙ c.in-Ok.is) (ap (λ x. Some x) (sym c.in_ok-step-in-Ok.ensures))
 
 pub returns-in-Err : goal.returns-in-Err
 unfolding poke_of
 returns-in-Err c found h =
-    let put = put_in _ true c.args.bytes.now _ (h.each State) c.if-not-slots.false in
+    let put = put_in _ true c.args.slots.now.refusal c.args.bytes.now _ (h.each State) c.if-not-slots.false in
     rw (counted _ _ 5 h.count c.if-slots-ne5.false, c.in_ok-caller.ensures c.args.bytes.now found h ∙ c.in-Some.is, natural_in _ _ (codes "id") found (h.each Id) c.in-Some-id.is, text_in _ _ (λ t. t.now) (codes "grain") found (h.each Grain) c.in-Some-grain.is, put.1, c.in_ok-state.ensures put.0 put.2 ∙ c.in-Err.is) refl

@@ -62,16 +62,16 @@ returns-in_ok-take_truth-in-Failed c =
     subst (λ n. TakesMember n c.args.reader.now c.take_truth.new.reader c.args.slots.now c.args.bytes.now.items new c.args.bytes.now.items) (sym c.in-Failed.is)
     (truth_taken name.Failed c.in_ok-take_truth-in-Failed.field-0 c.args.slots.now new c.args.bytes.now.items c.args.reader.now c.take_truth.new.reader c.in_ok-take_truth-in-Failed.ensures.token (ap (option_map a_truth) c.in_ok-take_truth-in-Failed.ensures.empty) refl more)
 
-pub returns-in_ok-take_value-in-Args : goal.returns-in_ok-take_value-in-Args
-returns-in_ok-take_value-in-Args c =
+pub returns-in_ok-slots-in-Args : goal.returns-in_ok-slots-in-Args
+returns-in_ok-slots-in-Args c =
     let more : c.in_ok-count.count ≡ c.args.slots.now.count + 1 = search rules in
-    let new : Slots = record c.args.slots.now { args = true; count = c.in_ok-count.count } in
+    let new : Slots = record c.args.slots.now { args = true; refusal = c.in_ok-slots-in-Args.field-0; count = c.in_ok-count.count } in
     subst (λ n. TakesMember n c.args.reader.now c.take_value.new.reader c.args.slots.now c.args.bytes.now.items new c.take_value.new.bytes.items) (sym c.in-Args.is)
-    (args_taken c.args.slots.now c.in_ok-count.count c.args.bytes.now.items c.take_value.new.bytes.items c.args.reader.now c.take_value.new.reader c.in_ok-take_value-in-Args.ensures.value (neither c.args.slots.now.args c.args.slots.now.state (sym c.has_value.ensures ∙ c.in_ok-take_value-in-Args.ensures.empty)) more)
+    (args_taken c.args.slots.now c.in_ok-count.count c.args.bytes.now.items c.take_value.new.bytes.items c.args.reader.now c.take_value.new.reader c.in_ok-slots-in-Args.field-0 c.in_ok-slots-in-Args.ensures.value (neither c.args.slots.now.args c.args.slots.now.state (sym c.has_value.ensures ∙ c.in_ok-slots-in-Args.ensures.empty)) more)
 
-pub returns-in_ok-take_value-in-State : goal.returns-in_ok-take_value-in-State
-returns-in_ok-take_value-in-State c =
+pub returns-in_ok-slots-in-State : goal.returns-in_ok-slots-in-State
+returns-in_ok-slots-in-State c =
     let more : c.in_ok-count.count ≡ c.args.slots.now.count + 1 = search rules in
-    let new : Slots = record c.args.slots.now { state = true; count = c.in_ok-count.count } in
+    let new : Slots = record c.args.slots.now { state = true; refusal = c.in_ok-slots-in-State.field-0; count = c.in_ok-count.count } in
     subst (λ n. TakesMember n c.args.reader.now c.take_value-in-State.new.reader c.args.slots.now c.args.bytes.now.items new c.take_value-in-State.new.bytes.items) (sym c.in-State.is)
-    (state_taken c.args.slots.now c.in_ok-count.count c.args.bytes.now.items c.take_value-in-State.new.bytes.items c.args.reader.now c.take_value-in-State.new.reader c.in_ok-take_value-in-State.ensures.value (neither c.args.slots.now.args c.args.slots.now.state (sym c.has_value-in-State.ensures ∙ c.in_ok-take_value-in-State.ensures.empty)) more)
+    (state_taken c.args.slots.now c.in_ok-count.count c.args.bytes.now.items c.take_value-in-State.new.bytes.items c.args.reader.now c.take_value-in-State.new.reader c.in_ok-slots-in-State.field-0 c.in_ok-slots-in-State.ensures.value (neither c.args.slots.now.args c.args.slots.now.state (sym c.has_value-in-State.ensures ∙ c.in_ok-slots-in-State.ensures.empty)) more)

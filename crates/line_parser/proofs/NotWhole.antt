@@ -1,0 +1,119 @@
+-- JSON has a value if none of its numbers isn't whole, and the flags that note faults.
+use Rattle.std.proofs.Common.{◌≡◌, ℕ, suc, max, ◌+◌, ◌-◌, ◌<◌, ◌≤◌, Bool, true, false, ◌||◌, cond, List, [], Option, Some, None, ℤ, refl, sym, ap, subst, ◌∙◌, arith, ltb-true, ltb-false, le-leb}
+use Rattle.std.specs.Prelude.{is_none, option_map, option_and_then}
+use Rattle.std.proofs.lemmas.Bool.{or_right, lt-leb}
+use Rattle.std.proofs.lemmas.Bool.Decides.{nat_tests}
+use Rattle.serde_json.specs.Data as json
+use Rattle.serde_json.specs.Find.{as_i64}
+use Rattle.json.specs.Token.{Token}
+use Rattle.request_codec.specs.Formed.{IsFormed}
+use Rattle.request_codec.specs.Limits.{depth_limit}
+use Rattle.request_codec.specs.Written.{spelling}
+use Rattle.silo_event.specs.declared.refusal.Refusal.{Refusal}
+use Rattle.request_codec.specs.Tree.{integer, list, map, member, field}
+use Rattle.request_codec.specs.Json.{value_of_json, members_of_json, fields_of_json, json_depth}
+use Rattle.line_parser.specs.Lenient.{lenient_value, lenient_members, lenient_fields, integer_or_null, is_not_whole, are_not_whole, fields_not_whole}
+use Rattle.line_parser.specs.Argument.{too_deep, is_deep, AddsFaults, PutsValue, why_by, why_of}
+use Rattle.line_parser.specs.Slots.{IsAsked, TakesValue}
+use Rattle.line_parser.specs.declared.faults.Faults.{Faults}
+
+-- ---- the value of JSON
+
+one : (o : Option ℤ) → option_map integer o ≡ cond (is_none o) None (Some (integer_or_null o))
+one None = refl
+one (Some i) = refl
+
+mapped : {A B : Type 0} (f : A → B) (b : Bool) (a : A) (o : Option A) → o ≡ cond b None (Some a) → option_map f o ≡ cond b None (Some (f a))
+mapped f true a o e = ap (option_map f) e
+mapped f false a o e = ap (option_map f) e
+
+both : {A B C : Type 0} (f : A → B → C) (b c : Bool) (a : A) (d : B) (o : Option A) (p : Option B) → o ≡ cond b None (Some a) → p ≡ cond c None (Some d)
+    → option_and_then (λ x. option_map (f x) p) o ≡ cond (b || c) None (Some (f a d))
+both f true c a d o p e h = ap (option_and_then (λ x. option_map (f x) p)) e
+both f false c a d o p e h = ap (option_and_then (λ x. option_map (f x) p)) e ∙ mapped (f a) c d p h
+
+mutual
+  pub value_unless : (d : json.Data) → value_of_json d ≡ cond (is_not_whole d) None (Some (lenient_value d))
+  value_unless json.null = refl
+  value_unless (json.boolean b) = refl
+  value_unless (json.number n) = one (as_i64 n)
+  value_unless (json.string s) = refl
+  value_unless (json.array ds) = mapped list (are_not_whole ds) (lenient_members ds) (members_of_json ds) (members_unless ds)
+  value_unless (json.object ms) = mapped map (fields_not_whole ms) (lenient_fields ms) (fields_of_json ms) (fields_unless ms)
+
+  members_unless : (ds : json.Items) → members_of_json ds ≡ cond (are_not_whole ds) None (Some (lenient_members ds))
+  members_unless json.no_items = refl
+  members_unless (json.item d ds) = both member (is_not_whole d) (are_not_whole ds) (lenient_value d) (lenient_members ds) (value_of_json d) (members_of_json ds) (value_unless d) (members_unless ds)
+
+  fields_unless : (ms : json.Members) → fields_of_json ms ≡ cond (fields_not_whole ms) None (Some (lenient_fields ms))
+  fields_unless json.no_members = refl
+  fields_unless (json.member n d ms) = both (field n) (is_not_whole d) (fields_not_whole ms) (lenient_value d) (lenient_fields ms) (value_of_json d) (fields_of_json ms) (value_unless d) (fields_unless ms)
+
+-- ---- what is noted
+
+pub or_false : (a : Bool) → (a || false) ≡ a
+or_false true = refl
+or_false false = refl
+
+pub or_more : (a b c : Bool) → ((a || b) || c) ≡ (a || (b || c))
+or_more true b c = refl
+or_more false b c = refl
+
+pub adds_both : (first next last : Faults) (deep split deeper more : Bool) → AddsFaults first next deep split → AddsFaults next last deeper more → AddsFaults first last (deep || deeper) (split || more)
+adds_both first next last deep split deeper more a b = record {
+  depth = b.depth ∙ ap (λ x. x || deeper) a.depth ∙ or_more first.too_deep deep deeper;
+  numbers = b.numbers ∙ ap (λ x. x || more) a.numbers ∙ or_more first.not_whole split more;
+}
+
+pub adds_as : (old new : Faults) (deep split deeper more : Bool) → AddsFaults old new deep split → deep ≡ deeper → split ≡ more → AddsFaults old new deeper more
+adds_as old new deep split deeper more a d s = record {
+  depth = a.depth ∙ ap (λ x. old.too_deep || x) d;
+  numbers = a.numbers ∙ ap (λ x. old.not_whole || x) s;
+}
+
+-- the deeper of two parts tells
+pub deep_max : (depth m n : ℕ) → (is_deep depth m || is_deep depth n) ≡ is_deep depth (max m n)
+deep_max depth m n = grind (arith, nat_tests)
+
+-- a list or a map is a level deeper than its parts
+pub deep_outer : (depth n : ℕ) → 0 < depth → (is_deep depth 1 || is_deep (depth - 1) n) ≡ is_deep depth (suc n)
+deep_outer depth n some = grind (arith, nat_tests)
+
+-- nothing was put yet
+pub nothing_added : (depth : ℕ) (f : Faults) → (depth < too_deep → f.too_deep ≡ true) → AddsFaults f f (is_deep depth 0) false
+nothing_added depth f h = record { depth = grind (arith, nat_tests); numbers = sym (or_false f.not_whole) }
+
+-- what is inside a value that is too deep is too deep
+pub noted_inside : (depth : ℕ) (old new : Faults) → AddsFaults old new (is_deep depth 1) false → depth - 1 < too_deep → new.too_deep ≡ true
+noted_inside depth old new a h =
+    let deep : is_deep depth 1 ≡ true = grind (arith, nat_tests) in
+    a.depth ∙ or_right old.too_deep (is_deep depth 1) deep
+
+-- ---- why a value is refused
+
+pub asked_by : (deep split : Bool) (d : json.Data) (l : List ℕ) → deep ≡ is_deep 126 (json_depth d) → split ≡ is_not_whole d → IsFormed (lenient_value d) → l ≡ spelling (lenient_value d) → IsAsked (why_by deep split) d l
+asked_by true split d l deep numbers formed bytes =
+    let above : 126 < json_depth d + too_deep = ltb-true _ _ (sym deep) in
+    rw (lt-leb (json_depth d) depth_limit (omega (arith, above))) refl
+asked_by false true d l deep numbers formed bytes =
+    let within : json_depth d + too_deep ≤ 126 = ltb-false _ _ (sym deep) in
+    let none : value_of_json d ≡ None = value_unless d ∙ ap (λ b. cond b None (Some (lenient_value d))) (sym numbers) in
+    rw (le-leb (json_depth d) depth_limit (omega (arith, within)), none) refl
+asked_by false false d l deep numbers formed bytes =
+    let within : json_depth d + too_deep ≤ 126 = ltb-false _ _ (sym deep) in
+    record {
+      whole = (value_unless d ∙ ap (λ b. cond b None (Some (lenient_value d))) (sym numbers), formed);
+      deep = omega (arith, within);
+      spelled = bytes;
+    }
+
+pub value_asked_for : (ts rest : List Token) (l : List ℕ) (none noted : Faults) (why : Option Refusal) → none.too_deep ≡ false → none.not_whole ≡ false → PutsValue 126 ts rest [] l none noted → why ≡ why_of noted → TakesValue ts rest why l
+value_asked_for ts rest l none noted why shallow whole v is =
+    let deep : noted.too_deep ≡ is_deep 126 (json_depth v.json) = v.noted.depth ∙ ap (λ b. b || is_deep 126 (json_depth v.json)) shallow in
+    let numbers : noted.not_whole ≡ is_not_whole v.json = v.noted.numbers ∙ ap (λ b. b || is_not_whole v.json) whole in
+    record {
+      json = v.json;
+      read = v.read;
+      asked = subst (λ w. IsAsked w v.json l) (sym is) (asked_by noted.too_deep noted.not_whole v.json l deep numbers v.formed v.bytes);
+      shorter = v.shorter;
+    }
