@@ -5,6 +5,8 @@
 #![tactic(auto)]
 
 #[cfg(test)]
+mod arena;
+#[cfg(test)]
 mod codec;
 #[cfg(test)]
 mod collector;
@@ -28,6 +30,8 @@ mod kinds;
 mod mailbox;
 #[cfg(test)]
 mod names;
+#[cfg(test)]
+mod spelled;
 #[cfg(test)]
 mod storage;
 #[cfg(test)]

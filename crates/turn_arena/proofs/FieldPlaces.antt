@@ -122,10 +122,6 @@ pub none_ascend : NamesAscend []
 unfolding IsStrictlySortedBy
 none_ascend = tt
 
-pub one_ascends : (f : Field) → NamesAscend (f ∷ [])
-unfolding IsStrictlySortedBy
-one_ascends f = (tt, tt)
-
 pub NamesAscend-put : (f : Field) (fs : List Field) → NamesAscend fs → NamesAscend (put_field f fs)
 unfolding IsStrictlySortedBy
 NamesAscend-put f [] up = (tt, tt)

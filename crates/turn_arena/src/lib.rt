@@ -27,10 +27,3 @@ pub use reading::{decode_in, node_in};
 pub use setting::put_spelled;
 pub use trees::{list_in, map_in, text_in};
 pub use writing::{encode_call, encode_formed, encode_node};
-
-#[cfg(test)]
-mod tests;
-#[cfg(test)]
-mod trees_tests;
-#[cfg(test)]
-mod writing_tests;
