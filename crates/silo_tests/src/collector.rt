@@ -17,15 +17,6 @@ enum Call {
     Due(u64, &'static str),
 }
 
-fn note(alloc: Global, collector: &mut Collector, text: &str, moment: u64) -> Result<(), Fail> {
-    Ok(collector.note(grain(alloc, text)?, moment)?)
-}
-
-fn forget(alloc: Global, collector: &mut Collector, text: &str) -> Result<(), Fail> {
-    collector.forget(&grain(alloc, text)?);
-    Ok(())
-}
-
 /// The texts of grains, each with a space behind it.
 fn texts(alloc: Global, grains: &[GrainId]) -> Result<String, Fail> {
     let mut texts = String::new(alloc);
@@ -40,15 +31,11 @@ fn due(alloc: Global, collector: &Collector, now: u64) -> Result<String, Fail> {
     texts(alloc, &collector.due(alloc, now)?)
 }
 
-fn are_due(alloc: Global, collector: &Collector, now: u64, wanted: &str) -> Result<(), Fail> {
-    same(due(alloc, collector, now)?.as_str(), wanted)
-}
-
 fn make(alloc: Global, collector: &mut Collector, call: Call) -> Result<(), Fail> {
     match call {
-        Call::Note(text, moment) => note(alloc, collector, text, moment),
-        Call::Forget(text) => forget(alloc, collector, text),
-        Call::Due(now, wanted) => are_due(alloc, collector, now, wanted),
+        Call::Note(text, moment) => Ok(collector.note(grain(alloc, text)?, moment)?),
+        Call::Forget(text) => Ok(collector.forget(&grain(alloc, text)?)),
+        Call::Due(now, wanted) => same(due(alloc, collector, now)?.as_str(), wanted),
     }
 }
 
@@ -65,6 +52,7 @@ fn run(alloc: Global, age: u64, calls: &[Call]) -> Result<(), Fail> {
     make_each(alloc, &mut collector, calls)
 }
 
+/// A later note takes the place of an earlier one.
 const A_LATER_NOTE: [Call; 7] = [
     Call::Note("counter/red:a", 5),
     Call::Note("counter/red:b", 3),
@@ -75,6 +63,7 @@ const A_LATER_NOTE: [Call; 7] = [
     Call::Due(11, "counter/red:b "),
 ];
 
+/// Due grains ascend, whatever their moments.
 const IN_ORDER: [Call; 6] = [
     Call::Note("counter/red:c", 1),
     Call::Note("counter/blue:z", 3),
@@ -84,6 +73,7 @@ const IN_ORDER: [Call; 6] = [
     Call::Due(13, "counter/blue:z counter/red:a counter/red:c "),
 ];
 
+/// Notes of one moment stay apart.
 const ONE_MOMENT: [Call; 11] = [
     Call::Note("counter/red:b", 7),
     Call::Note("counter/red:a", 7),
@@ -99,16 +89,8 @@ const ONE_MOMENT: [Call; 11] = [
 ];
 
 #[test]
-fn a_later_note_takes_the_place_of_an_earlier_one(rt: HostRuntime) -> Result<(), Fail> {
-    run(rt.alloc(), 2, &A_LATER_NOTE)
-}
-
-#[test]
-fn due_grains_ascend_whatever_their_moments(rt: HostRuntime) -> Result<(), Fail> {
-    run(rt.alloc(), 10, &IN_ORDER)
-}
-
-#[test]
-fn notes_of_one_moment_stay_apart(rt: HostRuntime) -> Result<(), Fail> {
+fn grains_are_due_by_their_last_notes(rt: HostRuntime) -> Result<(), Fail> {
+    run(rt.alloc(), 2, &A_LATER_NOTE)?;
+    run(rt.alloc(), 10, &IN_ORDER)?;
     run(rt.alloc(), 0, &ONE_MOMENT)
 }

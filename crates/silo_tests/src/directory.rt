@@ -30,25 +30,16 @@ fn moment_of(activation: Option<&Activation>) -> u64 {
     }
 }
 
-fn mailbox(alloc: Global) -> Result<Mailbox, Fail> {
-    Ok(Mailbox::new(alloc, 2)?)
-}
-
-fn get(alloc: Global, directory: &Directory, text: &str) -> Result<u64, Fail> {
-    Ok(moment_of(directory.get(&grain(alloc, text)?)))
+/// An activation that waits since that moment.
+fn activation(alloc: Global, last: u64) -> Result<Activation, Fail> {
+    Ok(Activation {
+        phase: Phase::Waiting,
+        mailbox: Mailbox::new(alloc, 2)?,
+        last,
+    })
 }
 
 /// 1 if it was added, 0 if the grain has one.
-fn insert(alloc: Global, directory: &mut Directory, text: &str, last: u64) -> Result<u64, Fail> {
-    let mailbox = mailbox(alloc)?;
-    let activation = Activation {
-        phase: Phase::Waiting,
-        mailbox,
-        last,
-    };
-    inserted(alloc, directory, grain(alloc, text)?, activation)
-}
-
 fn inserted(
     alloc: Global,
     directory: &mut Directory,
@@ -65,10 +56,6 @@ fn inserted(
 }
 
 /// 1 if it was written.
-fn change(alloc: Global, directory: &mut Directory, text: &str, last: u64) -> Result<u64, Fail> {
-    Ok(changed(directory, &grain(alloc, text)?, last))
-}
-
 fn changed(directory: &mut Directory, id: &GrainId, last: u64) -> u64 {
     match directory.get_mut(id) {
         Some(activation) => {
@@ -79,19 +66,11 @@ fn changed(directory: &mut Directory, id: &GrainId, last: u64) -> u64 {
     }
 }
 
-fn remove(alloc: Global, directory: &mut Directory, text: &str) -> Result<u64, Fail> {
-    Ok(removed(directory, &grain(alloc, text)?))
-}
-
 fn removed(directory: &mut Directory, id: &GrainId) -> u64 {
     match directory.remove(id) {
         Some(activation) => activation.last,
         None => 0,
     }
-}
-
-fn count(directory: &Directory, tenant: &str) -> u64 {
-    directory.count(tenant) as u64
 }
 
 fn at(directory: &Directory, place: usize) -> u64 {
@@ -101,40 +80,35 @@ fn at(directory: &Directory, place: usize) -> u64 {
     }
 }
 
+fn insert(alloc: Global, directory: &mut Directory, text: &str, last: u64) -> Result<u64, Fail> {
+    let id = grain(alloc, text)?;
+    inserted(alloc, directory, id, activation(alloc, last)?)
+}
+
 /// What the directory answers, as a number: a moment, a count, or 1 for yes.
 fn answer(alloc: Global, directory: &mut Directory, call: Call) -> Result<u64, Fail> {
     match call {
         Call::Insert(text, last) => insert(alloc, directory, text, last),
-        Call::Get(text) => get(alloc, directory, text),
-        Call::Change(text, last) => change(alloc, directory, text, last),
-        Call::Remove(text) => remove(alloc, directory, text),
-        Call::Count(tenant) => Ok(count(directory, tenant)),
+        Call::Get(text) => Ok(moment_of(directory.get(&grain(alloc, text)?))),
+        Call::Change(text, last) => Ok(changed(directory, &grain(alloc, text)?, last)),
+        Call::Remove(text) => Ok(removed(directory, &grain(alloc, text)?)),
+        Call::Count(tenant) => Ok(directory.count(tenant) as u64),
         Call::Len => Ok(directory.len() as u64),
         Call::At(place) => Ok(at(directory, place)),
     }
 }
 
-/// The place of the first call that answers otherwise.
-fn first_wrong(
-    alloc: Global,
-    directory: &mut Directory,
-    calls: &[(Call, u64)],
-) -> Result<Option<usize>, Fail> {
-    for (place, (call, wanted)) in calls.iter().enumerate() {
-        if answer(alloc, directory, *call)? != *wanted {
-            return Ok(Some(place));
-        }
-    }
-    Ok(None)
-}
-
-/// No call answers otherwise.
+/// Each call is answered so. A wrong answer is shown with its place.
 fn answers_each(
     alloc: Global,
     directory: &mut Directory,
     calls: &[(Call, u64)],
 ) -> Result<(), Fail> {
-    same(first_wrong(alloc, directory, calls)?, None)
+    for (place, (call, wanted)) in calls.iter().enumerate() {
+        let found = answer(alloc, directory, *call)?;
+        same((place, found), (place, *wanted))?;
+    }
+    Ok(())
 }
 
 /// Makes the calls, of a new directory.
@@ -143,6 +117,7 @@ fn run(alloc: Global, calls: &[(Call, u64)]) -> Result<(), Fail> {
     answers_each(alloc, &mut directory, calls)
 }
 
+/// Each tenant has its own number.
 const EACH_TENANT: [(Call, u64); 10] = [
     (Call::Insert("counter/red:a", 1), 1),
     (Call::Insert("counter/blue:a", 2), 1),
@@ -156,6 +131,7 @@ const EACH_TENANT: [(Call, u64); 10] = [
     (Call::Count("red"), 1),
 ];
 
+/// An activation is changed where it stands.
 const WHERE_IT_STANDS: [(Call, u64); 6] = [
     (Call::Insert("counter/red:a", 1), 1),
     (Call::Insert("counter/blue:a", 2), 1),
@@ -165,6 +141,7 @@ const WHERE_IT_STANDS: [(Call, u64); 6] = [
     (Call::Get("counter/red:a"), 1),
 ];
 
+/// Places are used again.
 const PLACES: [(Call, u64); 10] = [
     (Call::Insert("counter/red:a", 1), 1),
     (Call::Insert("counter/blue:a", 2), 1),
@@ -179,16 +156,8 @@ const PLACES: [(Call, u64); 10] = [
 ];
 
 #[test]
-fn each_tenant_has_its_own_number(rt: HostRuntime) -> Result<(), Fail> {
-    run(rt.alloc(), &EACH_TENANT)
-}
-
-#[test]
-fn an_activation_is_changed_where_it_stands(rt: HostRuntime) -> Result<(), Fail> {
-    run(rt.alloc(), &WHERE_IT_STANDS)
-}
-
-#[test]
-fn places_are_used_again(rt: HostRuntime) -> Result<(), Fail> {
+fn activations_come_and_go(rt: HostRuntime) -> Result<(), Fail> {
+    run(rt.alloc(), &EACH_TENANT)?;
+    run(rt.alloc(), &WHERE_IT_STANDS)?;
     run(rt.alloc(), &PLACES)
 }

@@ -1,9 +1,9 @@
 //! Steps, replies and faults: copies, owners, moments, and each code and text.
 
 use crate::compare::same;
-use crate::values::{caller, grain, kind, tenant};
+use crate::values::{caller, grain, kind, message, state, tenant};
 use grain_id::GrainId;
-use request_codec::{Datum, Message, SharedState, StateBytes, encode, encode_state};
+use request_codec::SharedState;
 use silo_event::{
     Fault, Moment, Party, Refusal, Reply, Step, copy_of_fault, copy_of_party, copy_of_reply,
     copy_of_step,
@@ -36,18 +36,15 @@ const FAULTS: [(u8, &str); 19] = [
     (70, "turn met want of memory"),
 ];
 
-fn across(alloc: Global) -> Result<Fault, Fail> {
-    let from = tenant(alloc, "red")?;
-    let to = tenant(alloc, "blue")?;
-    Ok(Fault::AcrossTenants { from, to })
-}
-
 /// The fault of a code that names a tenant, a kind or a grain; that of 70 for another code.
 fn named_fault(alloc: Global, code: u8) -> Result<Fault, Fail> {
     match code {
         21 => Ok(Fault::UnknownTenant(tenant(alloc, "red")?)),
         22 => Ok(Fault::UnknownKind(kind(alloc, "clock")?)),
-        40 => across(alloc),
+        40 => Ok(Fault::AcrossTenants {
+            from: tenant(alloc, "red")?,
+            to: tenant(alloc, "blue")?,
+        }),
         41 => Ok(Fault::NoActivation(tenant(alloc, "red")?)),
         42 => Ok(Fault::MailboxFull(grain(alloc, RED_A)?)),
         43 => Ok(Fault::NoNumber(tenant(alloc, "red")?)),
@@ -78,20 +75,11 @@ fn copied_fault(fault: &Fault) -> Result<Fault, Fail> {
     Ok(copy_of_fault(fault)?)
 }
 
-fn is_same_fault(one: &Fault, other: &Fault) -> bool {
-    one == other
-}
-
-fn text_of(alloc: Global, fault: &Fault) -> Result<String, Fail> {
-    Ok(fault.text(alloc)?)
-}
-
-/// A fault and a copy of it are the same, with this code and this text.
+/// A copy of a fault is the same, with this code and this text.
 fn shows(alloc: Global, fault: &Fault, code: u8, text: &str) -> Result<(), Fail> {
     let copy = copied_fault(fault)?;
-    let shown = text_of(alloc, &copy)?;
-    let found = (is_same_fault(&copy, fault), fault.code(), shown.as_str());
-    same(found, (true, code, text))
+    same((copy == *fault, copy.code()), (true, code))?;
+    same(copy.text(alloc)?.as_str(), text)
 }
 
 #[test]
@@ -102,6 +90,13 @@ fn faults(rt: HostRuntime) -> Result<(), Fail> {
     Ok(())
 }
 
+/// Numbers, and whether they are moments.
+const MOMENTS: [(u64, bool); 3] = [
+    (0, true),
+    (9_223_372_036_854_775_807, true),
+    (9_223_372_036_854_775_808, false),
+];
+
 /// The moment of a number, if it is one.
 fn moment(now: u64) -> Option<u64> {
     match Moment::new(now) {
@@ -110,13 +105,25 @@ fn moment(now: u64) -> Option<u64> {
     }
 }
 
+const REFUSALS: [(Refusal, u8); 5] = [
+    (Refusal::TooLong, 11),
+    (Refusal::TooDeep, 12),
+    (Refusal::NotWhole, 13),
+    (Refusal::NotWellFormed, 20),
+    (Refusal::TooLarge, 63),
+];
+
+fn code_of(refusal: &Refusal) -> u8 {
+    refusal.fault().code()
+}
+
 #[test]
-fn moments() -> Result<(), Fail> {
-    for now in &[0, 1, 9_223_372_036_854_775_807] {
-        same(moment(*now), Some(*now))?;
+fn moments_and_codes_of_refusals() -> Result<(), Fail> {
+    for (now, is_moment) in &MOMENTS {
+        same(moment(*now), is_moment.then_some(*now))?;
     }
-    for now in &[9_223_372_036_854_775_808, 18_446_744_073_709_551_615] {
-        same(moment(*now), None)?;
+    for (refusal, code) in &REFUSALS {
+        same(code_of(refusal), *code)?;
     }
     Ok(())
 }
@@ -126,6 +133,7 @@ fn moments() -> Result<(), Fail> {
 enum Form {
     Call,
     Activate,
+    /// A load that is marked as failed.
     Load,
     Begin,
     End,
@@ -147,60 +155,23 @@ const OWNERS: [(Form, &str); 9] = [
     (Form::Sweep, "nobody"),
 ];
 
-fn message(alloc: Global) -> Result<Message, Fail> {
-    Ok(encode(alloc, "get", &Datum::Null)?)
-}
-
-fn three(alloc: Global) -> Result<StateBytes, Fail> {
-    Ok(encode_state(alloc, &Datum::Int(3))?)
-}
-
 fn shared(alloc: Global) -> Result<SharedState, Fail> {
-    Ok(SharedState::new(alloc, three(alloc)?)?)
+    Ok(SharedState::new(alloc, state(alloc, "3")?)?)
 }
 
-fn call(alloc: Global) -> Result<Step, Fail> {
-    let message = message(alloc)?;
-    let caller = caller(alloc, "reddish/c1")?;
-    let grain = grain(alloc, RED_A)?;
-    Ok(Step::Call {
-        caller,
-        id: 7,
+fn loaded(grain: GrainId) -> Step {
+    let load = Step::Load {
         grain,
-        message,
-    })
-}
-
-fn poke(alloc: Global) -> Result<Step, Fail> {
-    let state = shared(alloc)?;
-    let caller = caller(alloc, "reddish/c1")?;
-    let grain = grain(alloc, RED_A)?;
-    Ok(Step::Poke {
         failed: false,
-        caller,
-        id: 7,
-        grain,
-        state,
-    })
-}
-
-fn refuse(alloc: Global) -> Result<Step, Fail> {
-    let caller = caller(alloc, "red/c1")?;
-    Ok(Step::Refuse {
-        caller,
-        id: 7,
-        code: Refusal::TooDeep,
-    })
+    };
+    load.into_failed()
 }
 
 /// A step of `counter/red:a`, or a sweep.
 fn step_of_a_grain(form: Form, grain: GrainId) -> Step {
     match form {
         Form::Activate => Step::Activate { grain },
-        Form::Load => Step::Load {
-            grain,
-            failed: false,
-        },
+        Form::Load => loaded(grain),
         Form::Begin => Step::Begin { grain },
         Form::End => Step::End { grain, turn: 1 },
         Form::Deliver => Step::Deliver { grain },
@@ -210,9 +181,24 @@ fn step_of_a_grain(form: Form, grain: GrainId) -> Step {
 
 fn step(alloc: Global, form: Form) -> Result<Step, Fail> {
     match form {
-        Form::Call => call(alloc),
-        Form::Poke => poke(alloc),
-        Form::Refuse => refuse(alloc),
+        Form::Call => Ok(Step::Call {
+            caller: caller(alloc, "reddish/c1")?,
+            id: 7,
+            grain: grain(alloc, RED_A)?,
+            message: message(alloc, "get", "null")?,
+        }),
+        Form::Poke => Ok(Step::Poke {
+            failed: false,
+            caller: caller(alloc, "reddish/c1")?,
+            id: 7,
+            grain: grain(alloc, RED_A)?,
+            state: shared(alloc)?,
+        }),
+        Form::Refuse => Ok(Step::Refuse {
+            caller: caller(alloc, "red/c1")?,
+            id: 7,
+            code: Refusal::TooDeep,
+        }),
         _ => Ok(step_of_a_grain(form, grain(alloc, RED_A)?)),
     }
 }
@@ -221,64 +207,30 @@ fn copied_step(step: &Step) -> Result<Step, Fail> {
     Ok(copy_of_step(step)?)
 }
 
-fn owner_of(step: &Step) -> &str {
-    step.owner().unwrap_or("nobody")
-}
-
-/// A copy of the step is this owner's.
-fn is_of(step: &Step, owner: &str) -> Result<(), Fail> {
-    same(owner_of(&copied_step(step)?), owner)
+/// A copy of the step is this owner's, and a failed load is one still.
+fn is_of(step: &Step, form: Form, owner: &str) -> Result<(), Fail> {
+    let copy = copied_step(step)?;
+    let has_failed = matches!(copy, Step::Load { failed: true, .. });
+    same(copy.owner().unwrap_or("nobody"), owner)?;
+    same(has_failed, matches!(form, Form::Load))
 }
 
 #[test]
 fn owners_of_steps(rt: HostRuntime) -> Result<(), Fail> {
     for (form, owner) in &OWNERS {
-        is_of(&step(rt.alloc(), *form)?, *owner)?;
+        is_of(&step(rt.alloc(), *form)?, *form, *owner)?;
     }
     Ok(())
 }
 
-fn failed_load(step: &Step) -> bool {
-    matches!(step, Step::Load { failed: true, .. })
-}
-
-fn into_failed(step: Step) -> Step {
-    step.into_failed()
-}
-
-#[test]
-fn load_into_failed(rt: HostRuntime) -> Result<(), Fail> {
-    let step = step_of_a_grain(Form::Load, grain(rt.alloc(), RED_A)?);
-    let before = failed_load(&step);
-    same((before, failed_load(&into_failed(step))), (false, true))
-}
-
-const REFUSALS: [(Refusal, u8); 5] = [
-    (Refusal::TooLong, 11),
-    (Refusal::TooDeep, 12),
-    (Refusal::NotWhole, 13),
-    (Refusal::NotWellFormed, 20),
-    (Refusal::TooLarge, 63),
-];
-
-fn code_of(refusal: &Refusal) -> u8 {
-    refusal.fault().code()
-}
-
-#[test]
-fn codes_of_refusals() -> Result<(), Fail> {
-    for (refusal, code) in &REFUSALS {
-        same(code_of(refusal), *code)?;
-    }
-    Ok(())
-}
-
+/// A value for a client of red.
 fn value(alloc: Global) -> Result<Reply, Fail> {
-    let outcome = Ok(three(alloc)?);
+    let outcome = Ok(state(alloc, "3")?);
     let recipient = Party::Client(caller(alloc, "red/c1")?, 1);
     Ok(Reply { recipient, outcome })
 }
 
+/// A fault for a grain of blue.
 fn refusal(alloc: Global) -> Result<Reply, Fail> {
     let recipient = Party::Grain(grain(alloc, "counter/blue:a")?);
     let outcome = Err(Fault::Misfit);
@@ -293,32 +245,20 @@ fn copied_party(party: &Party) -> Result<Party, Fail> {
     Ok(copy_of_party(party)?)
 }
 
-fn is_for(party: &Party, reply: &Reply) -> bool {
-    *party == reply.recipient
+/// A party is this one, and of this tenant.
+fn is_party(party: &Party, wanted: &Party, tenant: &str) -> Result<(), Fail> {
+    same((party.tenant(), *party == *wanted), (tenant, true))
 }
 
-/// The copy is for the client that the reply is for.
-fn is_for_client(reply: &Reply, copy: &Reply) -> Result<(), Fail> {
-    let party = copied_party(&copy.recipient)?;
-    same((copy.tenant(), is_for(&party, reply)), ("red", true))
-}
-
-fn copy_is_for_client(reply: &Reply) -> Result<(), Fail> {
-    is_for_client(reply, &copied_reply(reply)?)
-}
-
-#[test]
-fn reply_to_a_client(rt: HostRuntime) -> Result<(), Fail> {
-    copy_is_for_client(&value(rt.alloc())?)
-}
-
-/// The reply is for a grain of blue, and not for a client of its.
-fn is_for_grain(alloc: Global, reply: &Reply) -> Result<(), Fail> {
-    let client = Party::Client(caller(alloc, "blue/c1")?, 1);
-    same((reply.tenant(), is_for(&client, reply)), ("blue", false))
+/// A reply is this tenant's, and a copy of it is for the same.
+fn is_for(reply: &Reply, tenant: &str) -> Result<(), Fail> {
+    same(reply.tenant(), tenant)?;
+    let copy = copied_reply(reply)?;
+    is_party(&copied_party(&copy.recipient)?, &reply.recipient, tenant)
 }
 
 #[test]
-fn reply_to_a_grain(rt: HostRuntime) -> Result<(), Fail> {
-    is_for_grain(rt.alloc(), &refusal(rt.alloc())?)
+fn replies(rt: HostRuntime) -> Result<(), Fail> {
+    is_for(&value(rt.alloc())?, "red")?;
+    is_for(&refusal(rt.alloc())?, "blue")
 }

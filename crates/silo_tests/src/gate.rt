@@ -28,15 +28,6 @@ const PASSES: (&str, &str, &str) = ("passes", "", "");
 
 type List = Vec<(Tenant, Limits)>;
 
-/// Tenants, each with its limits.
-fn tenants(alloc: Global, rows: &[(&str, Limits)]) -> Result<List, Fail> {
-    let mut list = Vec::new(alloc);
-    for (name, limits) in rows {
-        list.push((tenant(alloc, *name)?, *limits))?;
-    }
-    Ok(list)
-}
-
 fn numbered_name(alloc: Global, number: u32) -> Result<String, Fail> {
     Ok(format!(in alloc; "t{number}")?)
 }
@@ -51,6 +42,15 @@ fn numbered(alloc: Global, count: u32) -> Result<List, Fail> {
             mailbox: 1,
         };
         list.push((tenant(alloc, &name)?, limits))?;
+    }
+    Ok(list)
+}
+
+/// So many numbered tenants, and these behind them.
+fn tenants(alloc: Global, count: u32, rows: &[(&str, Limits)]) -> Result<List, Fail> {
+    let mut list = numbered(alloc, count)?;
+    for (name, limits) in rows {
+        list.push((tenant(alloc, *name)?, *limits))?;
     }
     Ok(list)
 }
@@ -78,46 +78,9 @@ fn is_refused(alloc: Global, list: List, wanted: (&str, &str)) -> Result<(), Fai
     }
 }
 
-/// How many activations a tenant may have; 0 for one that isn't there.
-fn activations(table: &TenantTable, name: &str) -> u32 {
-    match table.limits(name) {
-        Some(limits) => limits.activations,
-        None => 0,
-    }
-}
-
-fn are_numbered(alloc: Global, table: &TenantTable, count: u32) -> Result<(), Fail> {
-    for number in 0..count {
-        let name = numbered_name(alloc, number)?;
-        same(activations(table, &name), number.saturating_add(1))?;
-    }
-    Ok(())
-}
-
-/// Each of a thousand tenants is found, and no other.
-fn are_found(alloc: Global, table: &TenantTable) -> Result<(), Fail> {
-    are_numbered(alloc, table, 1_000)?;
-    let missing = (activations(table, "t1000"), activations(table, "t"));
-    same((table.list().len(), missing), (1_000, (0, 0)))
-}
-
-#[test]
-fn each_of_a_thousand_tenants_is_found(rt: HostRuntime) -> Result<(), Fail> {
-    let table = table(rt.alloc(), numbered(rt.alloc(), 1_000)?)?;
-    are_found(rt.alloc(), &table)
-}
-
-#[test]
-fn a_thousand_and_one_are_too_many(rt: HostRuntime) -> Result<(), Fail> {
-    let alloc = rt.alloc();
-    let mut list = numbered(alloc, 1_000)?;
-    list.push((tenant(alloc, "t0")?, LIMITS))?;
-    is_refused(alloc, list, ("too many", ""))?;
-    is_refused(alloc, Vec::new(alloc), ("empty", ""))
-}
-
 const OUT_OF_RANGE: [(&str, Limits); 3] = [("red", LIMITS), ("blue", TOO_LOW), ("green", TOO_HIGH)];
 
+/// A repeat comes before a range.
 const REPEATED: [(&str, Limits); 6] = [
     ("red", LIMITS),
     ("blue", LIMITS),
@@ -127,36 +90,47 @@ const REPEATED: [(&str, Limits); 6] = [
     ("grey", TOO_LOW),
 ];
 
-#[test]
-fn a_repeat_comes_before_a_range(rt: HostRuntime) -> Result<(), Fail> {
-    let alloc = rt.alloc();
-    is_refused(alloc, tenants(alloc, &OUT_OF_RANGE)?, ("range", "blue"))?;
-    is_refused(alloc, tenants(alloc, &REPEATED)?, ("twice", "blue"))
-}
-
-/// Activations, a mailbox, and whether they are in range.
-const RANGES: [(u32, u32, bool); 5] = [
-    (1, 1, true),
-    (10_000, 1_000, true),
-    (10_001, 1, false),
-    (1, 0, false),
-    (1, 1_001, false),
+/// How many numbered tenants, those behind them, and why the list is refused.
+const REFUSED: [(u32, &[(&str, Limits)], (&str, &str)); 4] = [
+    (0, &[], ("empty", "")),
+    (1_000, &[("t0", LIMITS)], ("too many", "")),
+    (0, &OUT_OF_RANGE, ("range", "blue")),
+    (0, &REPEATED, ("twice", "blue")),
 ];
 
-fn are_in_range(activations: u32, mailbox: u32) -> bool {
-    let limits = Limits {
-        activations,
-        mailbox,
-    };
-    limits.are_in_range()
+#[test]
+fn the_first_fault_of_a_table_is_told(rt: HostRuntime) -> Result<(), Fail> {
+    for (count, rows, wanted) in &REFUSED {
+        is_refused(rt.alloc(), tenants(rt.alloc(), *count, *rows)?, *wanted)?;
+    }
+    Ok(())
+}
+
+/// How many activations a tenant may have; 0 for one that isn't there.
+fn activations(table: &TenantTable, name: &str) -> u32 {
+    match table.limits(name) {
+        Some(limits) => limits.activations,
+        None => 0,
+    }
+}
+
+/// Each of so many tenants is found, and no other.
+fn are_found(alloc: Global, table: &TenantTable, count: u32) -> Result<(), Fail> {
+    same(table.list().len(), count as usize)?;
+    for number in 0..count {
+        let name = numbered_name(alloc, number)?;
+        same(activations(table, &name), number.saturating_add(1))?;
+    }
+    same(
+        (activations(table, "t1000"), activations(table, "t")),
+        (0, 0),
+    )
 }
 
 #[test]
-fn limits_have_their_ranges() -> Result<(), Fail> {
-    for (activations, mailbox, wanted) in &RANGES {
-        same(are_in_range(*activations, *mailbox), *wanted)?;
-    }
-    Ok(())
+fn each_of_a_thousand_tenants_is_found(rt: HostRuntime) -> Result<(), Fail> {
+    let table = table(rt.alloc(), numbered(rt.alloc(), 1_000)?)?;
+    are_found(rt.alloc(), &table, 1_000)
 }
 
 /// What is wrong with a call, and the tenants that the answer names.
@@ -182,47 +156,38 @@ fn is_answered(
     }
 }
 
-/// A caller, a grain and the answer.
+/// A caller, a grain and the answer of a gate that knows `red` and `reddish`.
 type Call = (
     &'static str,
     &'static str,
     (&'static str, &'static str, &'static str),
 );
 
-fn are_answered(alloc: Global, table: &TenantTable, calls: &[Call]) -> Result<(), Fail> {
-    for (caller, called, wanted) in calls {
+const CALLS: [Call; 5] = [
+    ("red", "counter/red:a", PASSES),
+    ("reddish", "counter/reddish:a", PASSES),
+    ("reddish", "counter/red:a", ("across", "reddish", "red")),
+    ("red", "counter/blue:a", ("across", "red", "blue")),
+    ("blue", "counter/blue:a", ("unknown", "blue", "")),
+];
+
+fn are_answered(alloc: Global, table: &TenantTable) -> Result<(), Fail> {
+    for (caller, called, wanted) in &CALLS {
         let caller = tenant(alloc, *caller)?;
         is_answered(alloc, table, &caller, &grain(alloc, *called)?, *wanted)?;
     }
     Ok(())
 }
 
-/// A table of these tenants answers the calls.
-fn answers_each(alloc: Global, rows: &[(&str, Limits)], calls: &[Call]) -> Result<(), Fail> {
-    let table = table(alloc, tenants(alloc, rows)?)?;
-    are_answered(alloc, &table, calls)
-}
-
-const ALIKE: [Call; 3] = [
-    ("red", "counter/red:a", PASSES),
-    ("reddish", "counter/reddish:a", PASSES),
-    ("reddish", "counter/red:a", ("across", "reddish", "red")),
-];
-
 #[test]
 fn names_that_begin_alike_are_told_apart(rt: HostRuntime) -> Result<(), Fail> {
-    answers_each(rt.alloc(), &[("red", LIMITS), ("reddish", LIMITS)], &ALIKE)
+    let rows = [("red", LIMITS), ("reddish", LIMITS)];
+    let table = table(rt.alloc(), tenants(rt.alloc(), 0, &rows)?)?;
+    are_answered(rt.alloc(), &table)
 }
 
-const UNKNOWN: [Call; 2] = [
-    ("red", "counter/blue:a", ("across", "red", "blue")),
-    ("blue", "counter/blue:a", ("unknown", "blue", "")),
-];
-
-#[test]
-fn only_the_caller_is_looked_up(rt: HostRuntime) -> Result<(), Fail> {
-    answers_each(rt.alloc(), &[("red", LIMITS)], &UNKNOWN)
-}
+/// Limits, and whether they are in range.
+const RANGES: [(Limits, bool); 3] = [(LIMITS, true), (TOO_LOW, false), (TOO_HIGH, false)];
 
 /// Milliseconds, and those of the age that they make.
 const AGES: [(u64, Option<u64>); 4] = [
@@ -232,6 +197,10 @@ const AGES: [(u64, Option<u64>); 4] = [
     (86_400_001, None),
 ];
 
+fn are_in_range(limits: Limits) -> bool {
+    limits.are_in_range()
+}
+
 fn millis(number: u64) -> Option<u64> {
     match Age::new(number) {
         Some(age) => Some(age.millis()),
@@ -240,7 +209,10 @@ fn millis(number: u64) -> Option<u64> {
 }
 
 #[test]
-fn an_age_is_a_millisecond_to_a_day() -> Result<(), Fail> {
+fn limits_and_ages_have_their_ranges() -> Result<(), Fail> {
+    for (limits, wanted) in &RANGES {
+        same(are_in_range(*limits), *wanted)?;
+    }
     for (number, wanted) in &AGES {
         same(millis(*number), *wanted)?;
     }

@@ -1,222 +1,212 @@
 //! Turns of each method of each kind. States, arguments and answers are JSON.
 
-ghost use Rattle.std.specs.Prelude.{◌≡◌, true};
-
 use crate::compare::{same, same_at};
+use crate::spelled::{Parts, joined};
 use crate::values::{grain, message, read_state, state};
 use bumpalo::Bump;
-use grain_kinds::{
-    FinishedTurn, GrainLogic, Kinds, MethodFault, OpenedTurn, StoreCall, laws, run_turn,
-};
+use grain_kinds::{FinishedTurn, GrainLogic, Kinds, MethodFault, OpenedTurn, StoreCall, run_turn};
 use request_codec::StateBytes;
 use std::alloc::{AllocError, Global};
 use std::test::Fail;
 
 const FOUR: &str = "[\"counter/red:b\",\"counter/red:c\",\"counter/red:d\",\"counter/red:e\"]";
 
-/// A kind, a state, a method and its argument; the answer, and the state after it.
-type Answer = (
+/// A grain, its state, a method and its argument; the answer or the fault, and the state after it.
+type Row = (
     &'static str,
     &'static str,
     &'static str,
     &'static str,
-    &'static str,
+    Result<&'static str, MethodFault>,
     &'static str,
 );
 
-const ANSWERS: [Answer; 18] = [
-    ("counter", "2", "add", "{\"by\":3}", "5", "5"),
-    ("counter", "null", "add", "{\"by\":3}", "3", "3"),
-    ("counter", "2", "get", "null", "2", "2"),
+const ROWS: [Row; 24] = [
+    ("counter/red:a", "2", "add", "{\"by\":3}", Ok("5"), "5"),
+    ("counter/red:a", "null", "add", "{\"by\":3}", Ok("3"), "3"),
+    ("counter/red:a", "2", "get", "null", Ok("2"), "2"),
     (
-        "sheet",
+        "sheet/red:a",
         "2",
         "put",
         "{\"name\":\"b\",\"value\":true}",
-        "null",
+        Ok("null"),
         "{\"b\":true}",
     ),
     (
-        "sheet",
+        "sheet/red:a",
         "{\"b\":true,\"d\":[1]}",
         "put",
         "{\"name\":\"c\",\"value\":{\"x\":2}}",
-        "null",
+        Ok("null"),
         "{\"b\":true,\"c\":{\"x\":2},\"d\":[1]}",
     ),
     (
-        "sheet",
+        "sheet/red:a",
         "{\"b\":true,\"c\":{\"x\":2},\"d\":[1]}",
         "put",
         "{\"name\":\"c\",\"value\":\"y\"}",
-        "null",
+        Ok("null"),
         "{\"b\":true,\"c\":\"y\",\"d\":[1]}",
     ),
     (
-        "sheet",
+        "sheet/red:a",
         "{\"b\":true}",
         "put",
         "{\"name\":\"bb\",\"value\":-7}",
-        "null",
+        Ok("null"),
         "{\"b\":true,\"bb\":-7}",
     ),
     (
-        "sheet",
+        "sheet/red:a",
         "{\"b\":true}",
         "get",
         "{\"name\":\"b\"}",
-        "true",
+        Ok("true"),
         "{\"b\":true}",
     ),
     (
-        "sheet",
+        "sheet/red:a",
         "{\"b\":true}",
         "get",
         "{\"name\":\"c\"}",
-        "null",
+        Ok("null"),
         "{\"b\":true}",
     ),
     (
-        "sheet",
+        "sheet/red:a",
         "{\"b\":true}",
         "list",
         "null",
-        "[\"b\"]",
+        Ok("[\"b\"]"),
         "{\"b\":true}",
     ),
     (
-        "sheet",
+        "sheet/red:a",
         "{\"b\":true}",
         "drop",
         "{\"name\":\"b\"}",
-        "true",
+        Ok("true"),
         "{}",
     ),
     (
-        "sheet",
+        "sheet/red:a",
         "{\"b\":true}",
         "drop",
         "{\"name\":\"c\"}",
-        "false",
+        Ok("false"),
         "{\"b\":true}",
     ),
     (
-        "relay",
+        "relay/red:a",
         "[]",
         "join",
         "{\"grain\":\"sheet/red:a\"}",
-        "true",
+        Ok("true"),
         "[\"sheet/red:a\"]",
     ),
     (
-        "relay",
+        "relay/red:a",
         "[\"sheet/red:a\"]",
         "join",
         "{\"grain\":\"sheet/red:a\"}",
-        "false",
+        Ok("false"),
         "[\"sheet/red:a\"]",
     ),
     (
-        "relay",
+        "relay/red:a",
         "[\"sheet/red:a\"]",
         "leave",
         "{\"grain\":\"sheet/red:a\"}",
-        "true",
+        Ok("true"),
         "[]",
     ),
     (
-        "relay",
+        "relay/red:a",
         "[\"sheet/red:a\"]",
         "leave",
         "{\"grain\":\"sheet\"}",
-        "false",
+        Ok("false"),
         "[\"sheet/red:a\"]",
     ),
     // A grain that stands twice, and a text that names none: no relay, so it counts as an empty one.
     (
-        "relay",
+        "relay/red:a",
         "[\"sheet/red:b\",\"sheet/red:b\"]",
         "join",
         "{\"grain\":\"sheet/red:a\"}",
-        "true",
+        Ok("true"),
         "[\"sheet/red:a\"]",
     ),
     (
-        "relay",
+        "relay/red:a",
         "[\"sheet/red:b\",\"sheet\"]",
         "join",
         "{\"grain\":\"sheet/red:a\"}",
-        "true",
+        Ok("true"),
         "[\"sheet/red:a\"]",
     ),
-];
-
-/// A kind, a state, a method and its argument; the fault. The state stays.
-type Fault = (
-    &'static str,
-    &'static str,
-    &'static str,
-    &'static str,
-    MethodFault,
-);
-
-const FAULTS: [Fault; 6] = [
     (
-        "counter",
+        "counter/red:a",
         "9223372036854775807",
         "add",
         "{\"by\":3}",
-        MethodFault::OutOfRange,
+        Err(MethodFault::OutOfRange),
+        "9223372036854775807",
     ),
-    ("counter", "2", "add", "2", MethodFault::Misfit),
     (
-        "counter",
+        "counter/red:a",
+        "2",
+        "add",
+        "2",
+        Err(MethodFault::Misfit),
+        "2",
+    ),
+    (
+        "counter/red:a",
         "2",
         "put",
         "{\"by\":3}",
-        MethodFault::UnknownMethod,
+        Err(MethodFault::UnknownMethod),
+        "2",
     ),
-    ("relay", "2", "clear", "2", MethodFault::Misfit),
     (
-        "relay",
+        "relay/red:a",
+        "2",
+        "clear",
+        "2",
+        Err(MethodFault::Misfit),
+        "2",
+    ),
+    (
+        "relay/red:a",
         "[]",
         "join",
         "{\"grain\":\"sheet\"}",
-        MethodFault::Misfit,
+        Err(MethodFault::Misfit),
+        "[]",
     ),
     (
-        "relay",
+        "relay/red:a",
         FOUR,
         "join",
         "{\"grain\":\"sheet/red:a\"}",
-        MethodFault::OutOfRange,
+        Err(MethodFault::OutOfRange),
+        FOUR,
     ),
 ];
 
-/// A kind and a method of its with the argument null; what is asked of the storage.
-const ASKED: [(&str, &str, StoreCall); 4] = [
-    ("counter", "save", StoreCall::Write),
-    ("sheet", "reload", StoreCall::Read),
-    ("relay", "clear", StoreCall::Clear),
-    ("counter", "get", StoreCall::None),
-];
-
-/// The text of the grain `red:a` of a kind.
-fn text_of(alloc: Global, kind: &str) -> Result<String, Fail> {
-    Ok(format!(in alloc; "{kind}/red:a")?)
-}
-
-/// Turn 7 of the grain `red:a` of a kind, opened on this state.
+/// Turn 7 of a grain, opened on this state.
 fn opened(
     alloc: Global,
-    kind: &str,
+    id: &str,
     state: StateBytes,
     method: &str,
     args: &str,
 ) -> Result<OpenedTurn, Fail> {
     let message = message(alloc, method, args)?;
     Ok(OpenedTurn {
-        grain: grain(alloc, &text_of(alloc, kind)?)?,
+        grain: grain(alloc, id)?,
         number: 7,
         reading: false,
         state,
@@ -236,136 +226,79 @@ fn finished(alloc: Global, opened: OpenedTurn) -> Result<FinishedTurn<Kinds>, Fa
 /// The turn of a method on a state of JSON, run.
 fn turn(
     alloc: Global,
-    kind: &str,
+    id: &str,
     before: &str,
     method: &str,
     args: &str,
 ) -> Result<FinishedTurn<Kinds>, Fail> {
     let before = state(alloc, before)?;
-    finished(alloc, opened(alloc, kind, before, method, args)?)
+    finished(alloc, opened(alloc, id, before, method, args)?)
 }
 
-fn is_answered(turn: &FinishedTurn<Kinds>, answer: &StateBytes) -> bool {
-    match turn.outcome() {
-        Ok(found) => found == answer,
-        Err(_) => false,
-    }
-}
-
-fn fault_of(turn: &FinishedTurn<Kinds>) -> Option<MethodFault> {
-    match turn.outcome() {
-        Ok(_) => None,
-        Err(fault) => Some(*fault),
-    }
-}
-
-fn leaves(turn: &FinishedTurn<Kinds>, after: &StateBytes) -> bool {
-    turn.state() == after
-}
-
-/// Whether a turn has this answer, and whether it leaves this state.
-fn answers(
+/// Whether a turn has this answer or this fault.
+fn has_outcome(
     alloc: Global,
     turn: &FinishedTurn<Kinds>,
-    answer: &str,
-    after: &str,
-) -> Result<(bool, bool), Fail> {
-    let answer = state(alloc, answer)?;
-    let after = state(alloc, after)?;
-    Ok((is_answered(turn, &answer), leaves(turn, &after)))
+    wanted: Result<&str, MethodFault>,
+) -> Result<bool, Fail> {
+    match (turn.outcome(), wanted) {
+        (Ok(found), Ok(answer)) => Ok(*found == state(alloc, answer)?),
+        (Err(found), Err(fault)) => Ok(*found == fault),
+        _ => Ok(false),
+    }
 }
 
-fn answers_row(alloc: Global, row: &Answer) -> Result<(bool, bool), Fail> {
-    let (kind, before, method, args, answer, after) = *row;
-    answers(
-        alloc,
-        &turn(alloc, kind, before, method, args)?,
-        answer,
-        after,
-    )
+fn leaves(alloc: Global, turn: &FinishedTurn<Kinds>, after: &str) -> Result<bool, Fail> {
+    Ok(*turn.state() == state(alloc, after)?)
+}
+
+/// A turn has the outcome of the row, and leaves its state.
+fn is_of_row(alloc: Global, turn: &FinishedTurn<Kinds>, row: &Row) -> Result<(), Fail> {
+    let found = has_outcome(alloc, turn, row.4)?;
+    same_at(row.3, (found, leaves(alloc, turn, row.5)?), (true, true))
 }
 
 #[test]
-fn methods_answer(rt: HostRuntime) -> Result<(), Fail> {
-    for row in &ANSWERS {
-        same_at(row.3, answers_row(rt.alloc(), row)?, (true, true))?;
+fn methods_answer_or_refuse(rt: HostRuntime) -> Result<(), Fail> {
+    for row in &ROWS {
+        let (id, before, method, args, _, _) = *row;
+        is_of_row(
+            rt.alloc(),
+            &turn(rt.alloc(), id, before, method, args)?,
+            row,
+        )?;
     }
     Ok(())
 }
 
-/// The fault of a turn, and whether it leaves this state.
-fn refuses(
-    alloc: Global,
-    turn: &FinishedTurn<Kinds>,
-    after: &str,
-) -> Result<(Option<MethodFault>, bool), Fail> {
-    let after = state(alloc, after)?;
-    Ok((fault_of(turn), leaves(turn, &after)))
-}
+/// A grain, its state, a method and its argument; what is asked of the storage, and what is sent.
+type Asked = (
+    &'static str,
+    &'static str,
+    &'static str,
+    &'static str,
+    StoreCall,
+    &'static str,
+);
 
-fn refuses_row(alloc: Global, row: &Fault) -> Result<(Option<MethodFault>, bool), Fail> {
-    let (kind, before, method, args, _) = *row;
-    refuses(alloc, &turn(alloc, kind, before, method, args)?, before)
-}
+const ASKED: [Asked; 5] = [
+    ("counter/red:a", "2", "save", "null", StoreCall::Write, ""),
+    ("sheet/red:a", "2", "reload", "null", StoreCall::Read, ""),
+    ("relay/red:a", "2", "clear", "null", StoreCall::Clear, ""),
+    ("counter/red:a", "2", "get", "null", StoreCall::None, ""),
+    (
+        "relay/red:a",
+        FOUR,
+        "send",
+        "{\"args\":5,\"method\":\"add\"}",
+        StoreCall::None,
+        "counter/red:b add;counter/red:c add;counter/red:d add;counter/red:e add;",
+    ),
+];
 
-#[test]
-fn methods_refuse(rt: HostRuntime) -> Result<(), Fail> {
-    for row in &FAULTS {
-        same_at(row.3, refuses_row(rt.alloc(), row)?, (Some(row.4), true))?;
-    }
+fn write_send(texts: &mut String, target: &str, method: &str) -> Result<(), Fail> {
+    write!(texts, "{target} {method};")?;
     Ok(())
-}
-
-/// Whether a turn asks this of the storage, and its fault.
-fn asks(turn: &FinishedTurn<Kinds>, call: StoreCall) -> (bool, Option<MethodFault>) {
-    (turn.store_call() == call, fault_of(turn))
-}
-
-fn asks_row(
-    alloc: Global,
-    row: &(&str, &str, StoreCall),
-) -> Result<(bool, Option<MethodFault>), Fail> {
-    let (kind, method, call) = *row;
-    Ok(asks(&turn(alloc, kind, "2", method, "null")?, call))
-}
-
-#[test]
-fn methods_ask_the_storage(rt: HostRuntime) -> Result<(), Fail> {
-    for row in &ASKED {
-        same_at(row.1, asks_row(rt.alloc(), row)?, (true, None))?;
-    }
-    Ok(())
-}
-
-/// A sheet of the field `a` with a text of that many letters, which is 15 bytes longer.
-fn wide_sheet(alloc: Global, letters: u32) -> Result<Vec<u8>, Fail> {
-    let mut bytes = Vec::from_slice(alloc, b"\x06\0\0\0\x01\0\0\0\x01a\x04")?;
-    bytes.extend_from_slice(&letters.to_be_bytes())?;
-    for _ in 0..letters {
-        bytes.push(b'x')?;
-    }
-    Ok(bytes)
-}
-
-/// The fault of a turn, and how many bytes the state has that it leaves.
-fn length_after(turn: &FinishedTurn<Kinds>) -> (Option<MethodFault>, usize) {
-    (fault_of(turn), turn.state().bytes().len())
-}
-
-/// The same of the turn that puts a field of 8 bytes into a sheet of that many letters.
-fn put(alloc: Global, letters: u32) -> Result<(Option<MethodFault>, usize), Fail> {
-    let sheet = read_state(alloc, &wide_sheet(alloc, letters)?)?;
-    let args = "{\"name\":\"bcd\",\"value\":null}";
-    let opened = opened(alloc, "sheet", sheet, "put", args)?;
-    Ok(length_after(&finished(alloc, opened)?))
-}
-
-#[test]
-fn a_sheet_has_262_144_bytes_at_most(rt: HostRuntime) -> Result<(), Fail> {
-    let fits = put(rt.alloc(), 262_121)?;
-    let full = put(rt.alloc(), 262_122)?;
-    let too_large = Some(MethodFault::TooLarge);
-    same((fits, full), ((None, 262_144), (too_large, 262_137)))
 }
 
 /// Each grain that is sent to, and the method.
@@ -377,33 +310,70 @@ fn sent(alloc: Global, turn: &FinishedTurn<Kinds>) -> Result<String, Fail> {
     Ok(texts)
 }
 
-fn write_send(texts: &mut String, target: &str, method: &str) -> Result<(), Fail> {
-    write!(texts, "{target} {method};")?;
+/// A turn is turn 7 of the row's grain, and asks and sends what the row says.
+fn asks(alloc: Global, turn: &FinishedTurn<Kinds>, row: &Asked) -> Result<(), Fail> {
+    same((turn.number(), turn.input().number), (7, 7))?;
+    same((turn.grain().text(), turn.store_call()), (row.0, row.4))?;
+    same(sent(alloc, turn)?.as_str(), row.5)
+}
+
+#[test]
+fn methods_ask_the_storage_and_send(rt: HostRuntime) -> Result<(), Fail> {
+    for row in &ASKED {
+        let (id, before, method, args, _, _) = *row;
+        asks(
+            rt.alloc(),
+            &turn(rt.alloc(), id, before, method, args)?,
+            row,
+        )?;
+    }
     Ok(())
 }
 
-fn sends(alloc: Global, turn: &FinishedTurn<Kinds>, wanted: &str) -> Result<(), Fail> {
-    same(sent(alloc, turn)?.as_str(), wanted)
+/// Sheets of the field `a` with a text; the fault of a `put` that makes them 8 bytes longer, and how long the state is
+/// that it leaves.
+const WIDE: [(Parts, Option<MethodFault>, usize); 2] = [
+    (
+        &[
+            (b"\x06\0\0\0\x01\0\0\0\x01a\x04\0\x03\xff\xe9", 1),
+            (b"x", 262_121),
+        ],
+        None,
+        262_144,
+    ),
+    (
+        &[
+            (b"\x06\0\0\0\x01\0\0\0\x01a\x04\0\x03\xff\xea", 1),
+            (b"x", 262_122),
+        ],
+        Some(MethodFault::TooLarge),
+        262_137,
+    ),
+];
+
+/// The fault of a turn, and how many bytes the state has that it leaves.
+fn length_after(turn: &FinishedTurn<Kinds>) -> (Option<MethodFault>, usize) {
+    let length = turn.state().bytes().len();
+    match turn.outcome() {
+        Ok(_) => (None, length),
+        Err(fault) => (Some(*fault), length),
+    }
+}
+
+/// The same of the turn that puts a field of 8 bytes into a sheet.
+fn put(alloc: Global, sheet: Parts) -> Result<(Option<MethodFault>, usize), Fail> {
+    let sheet = read_state(alloc, &joined(alloc, sheet)?)?;
+    let args = "{\"name\":\"bcd\",\"value\":null}";
+    let opened = opened(alloc, "sheet/red:a", sheet, "put", args)?;
+    Ok(length_after(&finished(alloc, opened)?))
 }
 
 #[test]
-fn a_relay_sends_to_each_member(rt: HostRuntime) -> Result<(), Fail> {
-    let args = "{\"args\":5,\"method\":\"add\"}";
-    sends(
-        rt.alloc(),
-        &turn(rt.alloc(), "relay", FOUR, "send", args)?,
-        "counter/red:b add;counter/red:c add;counter/red:d add;counter/red:e add;",
-    )
-}
-
-fn is_turn_seven(turn: &FinishedTurn<Kinds>) -> Result<(), Fail> {
-    let numbers = (turn.number(), turn.input().number);
-    same((turn.grain().text(), numbers), ("counter/red:a", (7, 7)))
-}
-
-#[test]
-fn a_turn_is_shown(rt: HostRuntime) -> Result<(), Fail> {
-    is_turn_seven(&turn(rt.alloc(), "counter", "2", "get", "null")?)
+fn a_sheet_has_262_144_bytes_at_most(rt: HostRuntime) -> Result<(), Fail> {
+    for (sheet, fault, length) in &WIDE {
+        same(put(rt.alloc(), *sheet)?, (*fault, *length))?;
+    }
+    Ok(())
 }
 
 /// The number of the turn that comes back, if memory is refused to its plan.
@@ -420,75 +390,46 @@ fn given_back(alloc: Global, opened: OpenedTurn) -> u64 {
 fn a_turn_comes_back_if_memory_is_refused(rt: HostRuntime) -> Result<(), Fail> {
     let args = "{\"name\":\"b\",\"value\":true}";
     let sheet = state(rt.alloc(), "{}")?;
-    let opened = opened(rt.alloc(), "sheet", sheet, "put", args)?;
+    let opened = opened(rt.alloc(), "sheet/red:a", sheet, "put", args)?;
     same(given_back(rt.alloc(), opened), 7)
 }
 
-/// The empty state by a logic, through its bound.
-fn empty<L: GrainLogic>(alloc: Global, logic: &L, kind: &str) -> Result<StateBytes, AllocError>
-    requires { L.logic.knows kind.now ≡ true }
-{
-    logic.empty(alloc, kind)
-}
-
-/// The bytes of the empty relay.
-fn empty_relay(alloc: Global) -> Result<StateBytes, Fail> {
-    if Kinds.knows("relay") {
-        return Ok(empty(alloc, &Kinds, "relay")?);
+/// A logic knows this kind, whose empty state has these bytes.
+fn begins_as<L: GrainLogic>(
+    alloc: Global,
+    logic: &L,
+    kind: &str,
+    bytes: &[u8],
+) -> Result<(), Fail> {
+    if logic.knows(kind) {
+        return same(logic.empty(alloc, kind)?.bytes(), bytes);
     }
-    Err(Fail::from("relays are unknown"))
+    Err(Fail::from("the kind is unknown"))
 }
 
-fn has_bytes(state: &StateBytes, bytes: &[u8]) -> Result<(), Fail> {
-    same(state.bytes(), bytes)
-}
-
-#[test]
-fn a_relay_begins_empty(rt: HostRuntime) -> Result<(), Fail> {
-    has_bytes(&empty_relay(rt.alloc())?, b"\x05\0\0\0\0")
-}
-
-const KNOWN: [(&str, bool); 4] = [
-    ("counter", true),
-    ("sheet", true),
-    ("relay", true),
-    ("counters", false),
+/// A kind, a method, whether the kind is known, and whether the method only reads.
+const READING: [(&str, &str, bool, bool); 6] = [
+    ("counter", "get", true, true),
+    ("sheet", "get", true, true),
+    ("sheet", "list", true, true),
+    ("relay", "get", true, false),
+    ("counter", "list", true, false),
+    ("counters", "get", false, false),
 ];
 
 fn knows(kind: &str) -> bool {
     Kinds.knows(kind)
 }
 
-#[test]
-fn three_kinds_are_known() -> Result<(), Fail> {
-    for (kind, known) in &KNOWN {
-        same_at(*kind, knows(*kind), *known)?;
-    }
-    Ok(())
-}
-
-/// A kind, a method, and whether it only reads.
-const READING: [(&str, &str, bool); 5] = [
-    ("counter", "get", true),
-    ("sheet", "get", true),
-    ("sheet", "list", true),
-    ("relay", "get", false),
-    ("counter", "list", false),
-];
-
 fn is_read(kind: &str, method: &str) -> bool {
     Kinds.is_read(kind, method)
 }
 
 #[test]
-fn three_methods_read() -> Result<(), Fail> {
-    for (kind, method, reading) in &READING {
-        same_at(*method, is_read(*kind, *method), *reading)?;
+fn three_kinds_are_known(rt: HostRuntime) -> Result<(), Fail> {
+    for (kind, method, known, reading) in &READING {
+        same_at(*kind, knows(*kind), *known)?;
+        same_at(*kind, is_read(*kind, *method), *reading)?;
     }
-    Ok(())
-}
-
-#[test]
-fn the_laws_are_stated() {
-    laws::lawful();
+    begins_as(rt.alloc(), &Kinds, "relay", b"\x05\0\0\0\0")
 }

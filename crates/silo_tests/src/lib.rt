@@ -27,6 +27,8 @@ mod journals;
 #[cfg(test)]
 mod kinds;
 #[cfg(test)]
+mod laws;
+#[cfg(test)]
 mod mailbox;
 #[cfg(test)]
 mod names;

@@ -15,6 +15,8 @@ enum Call {
     /// A request of that number, whose method only reads.
     PushReader(u64),
     PushWriter(u64),
+    /// Whether the request in front is from that client.
+    FrontIsFrom(&'static str),
     Begin,
     Finish(u64),
     Opened(u64),
@@ -52,10 +54,6 @@ fn pushed(mailbox: &mut Mailbox, request: Request) -> u64 {
     }
 }
 
-fn push(alloc: Global, mailbox: &mut Mailbox, number: u64, reading: bool) -> Result<u64, Fail> {
-    Ok(pushed(mailbox, request(alloc, number, reading)?))
-}
-
 /// The number of the turn that begins on a state, or 0.
 fn begun(mailbox: &mut Mailbox, grain: &GrainId, state: &StateBytes) -> Result<u64, Fail> {
     match mailbox.begin(grain, state)? {
@@ -77,15 +75,19 @@ fn finish(mailbox: &mut Mailbox, number: u64) -> u64 {
     }
 }
 
-fn has_from(alloc: Global, mailbox: &Mailbox, client: &str) -> Result<u64, Fail> {
-    Ok(mailbox.has_from(&caller(alloc, client)?) as u64)
+fn is_from(alloc: Global, request: Option<&Request>, client: &str) -> Result<u64, Fail> {
+    match request {
+        Some(request) => Ok(request.is_from(&caller(alloc, client)?) as u64),
+        None => Ok(0),
+    }
 }
 
 /// What the mailbox answers, as a number: that of a request, a count, or 1 for yes.
 fn answer(alloc: Global, mailbox: &mut Mailbox, call: Call) -> Result<u64, Fail> {
     match call {
-        Call::PushReader(number) => push(alloc, mailbox, number, true),
-        Call::PushWriter(number) => push(alloc, mailbox, number, false),
+        Call::PushReader(number) => Ok(pushed(mailbox, request(alloc, number, true)?)),
+        Call::PushWriter(number) => Ok(pushed(mailbox, request(alloc, number, false)?)),
+        Call::FrontIsFrom(client) => is_from(alloc, mailbox.at(0), client),
         Call::Begin => begin(alloc, mailbox),
         Call::Finish(number) => Ok(finish(mailbox, number)),
         Call::Opened(number) => Ok(number_of(mailbox.opened(number))),
@@ -93,27 +95,17 @@ fn answer(alloc: Global, mailbox: &mut Mailbox, call: Call) -> Result<u64, Fail>
         Call::Len => Ok(mailbox.len() as u64),
         Call::IsIdle => Ok(mailbox.is_idle() as u64),
         Call::MayBegin => Ok(mailbox.may_begin() as u64),
-        Call::HasFrom(client) => has_from(alloc, mailbox, client),
+        Call::HasFrom(client) => Ok(mailbox.has_from(&caller(alloc, client)?) as u64),
     }
 }
 
-/// The place of the first call that answers otherwise.
-fn first_wrong(
-    alloc: Global,
-    mailbox: &mut Mailbox,
-    calls: &[(Call, u64)],
-) -> Result<Option<usize>, Fail> {
-    for (place, (call, wanted)) in calls.iter().enumerate() {
-        if answer(alloc, mailbox, *call)? != *wanted {
-            return Ok(Some(place));
-        }
-    }
-    Ok(None)
-}
-
-/// No call answers otherwise.
+/// Each call is answered so. A wrong answer is shown with its place.
 fn answers_each(alloc: Global, mailbox: &mut Mailbox, calls: &[(Call, u64)]) -> Result<(), Fail> {
-    same(first_wrong(alloc, mailbox, calls)?, None)
+    for (place, (call, wanted)) in calls.iter().enumerate() {
+        let found = answer(alloc, mailbox, *call)?;
+        same((place, found), (place, *wanted))?;
+    }
+    Ok(())
 }
 
 /// Makes the calls, of a mailbox for four.
@@ -122,6 +114,7 @@ fn run(alloc: Global, calls: &[(Call, u64)]) -> Result<(), Fail> {
     answers_each(alloc, &mut mailbox, calls)
 }
 
+/// Readers are open together, and no writer beside them.
 const READERS_AND_A_WRITER: [(Call, u64); 10] = [
     (Call::PushReader(1), 0),
     (Call::PushReader(2), 0),
@@ -135,6 +128,7 @@ const READERS_AND_A_WRITER: [(Call, u64); 10] = [
     (Call::Begin, 3),
 ];
 
+/// A writer is open alone, and ends once.
 const A_WRITER_ALONE: [(Call, u64); 10] = [
     (Call::IsIdle, 1),
     (Call::PushWriter(3), 0),
@@ -148,6 +142,7 @@ const A_WRITER_ALONE: [(Call, u64); 10] = [
     (Call::MayBegin, 1),
 ];
 
+/// A full mailbox gives the request back.
 const A_FULL_MAILBOX: [(Call, u64); 11] = [
     (Call::PushWriter(1), 0),
     (Call::PushReader(2), 0),
@@ -162,8 +157,11 @@ const A_FULL_MAILBOX: [(Call, u64); 11] = [
     (Call::IsIdle, 0),
 ];
 
-const CLIENTS: [(Call, u64); 7] = [
+/// Requests are known by their client.
+const CLIENTS: [(Call, u64); 9] = [
     (Call::PushWriter(1), 0),
+    (Call::FrontIsFrom("red/c1"), 1),
+    (Call::FrontIsFrom("red/c2"), 0),
     (Call::HasFrom("red/c1"), 1),
     (Call::HasFrom("red/c2"), 0),
     (Call::Begin, 1),
@@ -173,37 +171,9 @@ const CLIENTS: [(Call, u64); 7] = [
 ];
 
 #[test]
-fn readers_are_open_together_and_no_writer_beside_them(rt: HostRuntime) -> Result<(), Fail> {
-    run(rt.alloc(), &READERS_AND_A_WRITER)
-}
-
-#[test]
-fn a_writer_is_open_alone_and_ends_once(rt: HostRuntime) -> Result<(), Fail> {
-    run(rt.alloc(), &A_WRITER_ALONE)
-}
-
-#[test]
-fn a_full_mailbox_gives_the_request_back(rt: HostRuntime) -> Result<(), Fail> {
-    run(rt.alloc(), &A_FULL_MAILBOX)
-}
-
-#[test]
-fn requests_are_known_by_their_client(rt: HostRuntime) -> Result<(), Fail> {
+fn requests_wait_and_turns_are_open(rt: HostRuntime) -> Result<(), Fail> {
+    run(rt.alloc(), &READERS_AND_A_WRITER)?;
+    run(rt.alloc(), &A_WRITER_ALONE)?;
+    run(rt.alloc(), &A_FULL_MAILBOX)?;
     run(rt.alloc(), &CLIENTS)
-}
-
-fn is_from(alloc: Global, request: &Request, client: &str) -> Result<bool, Fail> {
-    Ok(request.is_from(&caller(alloc, client)?))
-}
-
-/// Whether a request is from `red/c1`, and whether it is from `red/c2`.
-fn senders(alloc: Global, request: &Request) -> Result<(bool, bool), Fail> {
-    let first = is_from(alloc, request, "red/c1")?;
-    Ok((first, is_from(alloc, request, "red/c2")?))
-}
-
-#[test]
-fn a_request_is_from_its_client(rt: HostRuntime) -> Result<(), Fail> {
-    let senders = senders(rt.alloc(), &request(rt.alloc(), 1, true)?)?;
-    same(senders, (true, false))
 }
