@@ -2,11 +2,10 @@
 
 use crate::compare::{same, same_at};
 use crate::values::{caller, read_state, tenant};
-use silo_event::{Fault, Party, Reply, Step};
+use silo_event::{Fault, Party, Reply};
 use std::alloc::{AllocError, Global};
 use std::test::Fail;
-use tenant_audit::{Journal, JournalFault, RecordedReply, journal_of_parts, laws, read_journal};
-use tenant_gate::Limits;
+use tenant_audit::{Journal, JournalFault, RecordedReply, journal_of_parts, read_journal};
 
 /// The journal of one tenant whose counter is asked to add 3.
 const WORKED: &str =
@@ -15,6 +14,10 @@ const WORKED: &str =
 /// A journal whose one reply tells a fault.
 const FAULT: &str =
     "silo-journal 1\nage 1\ntenant red 1 1\nstatus blue/c1 1\nreply blue/c1 1 no 21 tenant blue is unknown\nrow counter/red:a 7 -\nclose 1\n";
+
+/// A journal with a line of each kind.
+const EACH_KIND: &str =
+    "silo-journal 1\nage 86400000\ntenant red 2 4\ntenant blue-2 10000 1000\nrefuse red/c1 0 13\ncall red/c1 1 counter/red:a 01000000036164640600000001000000026279030000000000000003\npoke red/c1 2 sheet/red:s ok 0600000000\nstatus green/c 3\nactivate counter/red:a\nload counter/red:a failed\nbegin counter/red:a\nstore counter/red:a 1 ok\nend counter/red:a 1\nabandon counter/red:a 2\ndeliver relay/red:r\ntick 9223372036854775807\nsweep\nreply red/c1 1 ok 030000000000000003\nreply green/c 3 no 21 tenant green is unknown\nreply relay/red:r - no 22 kind x is unknown\nrow counter/red:a 18446744073709551615 00\nrow sheet/red:s 1 -\nclose 13\n";
 
 /// The line at fault in bytes, or 0 for a journal.
 pub fn verdict(alloc: Global, bytes: &[u8]) -> Result<usize, Fail> {
@@ -25,29 +28,9 @@ pub fn verdict(alloc: Global, bytes: &[u8]) -> Result<usize, Fail> {
     }
 }
 
-/// How many lines the bytes have that end with an LF.
-pub fn whole_lines(bytes: &[u8]) -> usize {
-    bytes.iter().filter(|byte| **byte == b'\n').count()
-}
-
 /// The journal of a text.
 fn journal(alloc: Global, text: &str) -> Result<Journal, Fail> {
     Ok(read_journal(alloc, text.as_bytes())?)
-}
-
-fn write_tenant(text: &mut String, name: &str, limits: &Limits) -> Result<(), Fail> {
-    let (activations, mailbox) = (limits.activations, limits.mailbox);
-    write!(text, "{name} {activations} {mailbox};")?;
-    Ok(())
-}
-
-/// The tenants of a journal and their limits.
-fn tenants(alloc: Global, journal: &Journal) -> Result<String, Fail> {
-    let mut text = String::new(alloc);
-    for (tenant, limits) in journal.tenants() {
-        write_tenant(&mut text, tenant.text(), limits)?;
-    }
-    Ok(text)
 }
 
 /// What an outcome tells: the code and the text of a fault, or how many bytes a value has.
@@ -64,43 +47,6 @@ fn last_told(journal: &Journal) -> (&str, (usize, &str)) {
         Some(reply) => (reply.recipient.tenant(), outcome(reply)),
         None => ("", (0, "")),
     }
-}
-
-/// How many steps and rows a journal has.
-fn counts(journal: &Journal) -> (usize, usize) {
-    (journal.steps().len(), journal.rows().len())
-}
-
-fn ends_turn_one(journal: &Journal) -> bool {
-    matches!(journal.steps().last(), Some(Step::End { turn: 1, .. }))
-}
-
-/// The parts of the worked journal are these.
-fn is_worked(alloc: Global, journal: &Journal) -> Result<(), Fail> {
-    let tenants = tenants(alloc, journal)?;
-    same((journal.age(), tenants.as_str()), (900_000, "red 2 4;"))?;
-    let steps = (counts(journal), ends_turn_one(journal));
-    same(
-        (steps, last_told(journal)),
-        (((5, 0), true), ("red", (9, "bytes"))),
-    )
-}
-
-#[test]
-fn the_worked_journal_is_read(rt: HostRuntime) -> Result<(), Fail> {
-    is_worked(rt.alloc(), &journal(rt.alloc(), WORKED)?)
-}
-
-/// The last reply of a journal tells this, and it has one row.
-fn tells(journal: &Journal, tenant: &str, code: usize, text: &str) -> Result<(), Fail> {
-    let rows = journal.rows().len();
-    same((rows, last_told(journal)), (1, (tenant, (code, text))))
-}
-
-#[test]
-fn a_recorded_fault_has_its_code_and_its_text(rt: HostRuntime) -> Result<(), Fail> {
-    let journal = journal(rt.alloc(), FAULT)?;
-    tells(&journal, "blue", 21, "tenant blue is unknown")
 }
 
 /// The journal with these replies in place of its own, written.
@@ -139,34 +85,56 @@ fn list_of(alloc: Global, reply: Reply) -> Result<Vec<Reply>, Fail> {
     Ok(replies)
 }
 
-/// The journal of a text with one reply in place of its own, written, is that text.
-fn is_written(alloc: Global, text: &str, reply: Reply) -> Result<(), Fail> {
+/// The last reply of a text's journal tells this, and the journal is written as the text, if that reply is given again.
+fn is_written(
+    alloc: Global,
+    text: &str,
+    reply: Reply,
+    told: (&str, (usize, &str)),
+) -> Result<(), Fail> {
     let replies = list_of(alloc, reply)?;
-    let found = written(alloc, &journal(alloc, text)?, &replies)?;
+    is_text(alloc, &journal(alloc, text)?, &replies, text, told)
+}
+
+fn is_text(
+    alloc: Global,
+    journal: &Journal,
+    replies: &[Reply],
+    text: &str,
+    told: (&str, (usize, &str)),
+) -> Result<(), Fail> {
+    same(last_told(journal), told)?;
+    let found = written(alloc, journal, replies)?;
     same(found.as_slice() == text.as_bytes(), true)
 }
 
 #[test]
-fn the_parts_of_a_journal_are_written(rt: HostRuntime) -> Result<(), Fail> {
-    is_written(rt.alloc(), WORKED, three(rt.alloc())?)
-}
-
-#[test]
-fn a_fault_is_written_as_its_code_and_its_text(rt: HostRuntime) -> Result<(), Fail> {
-    is_written(rt.alloc(), FAULT, unknown(rt.alloc())?)
-}
-
-/// The front of a journal is wrong at its first line that is not whole.
-fn is_cut(alloc: Global, front: &[u8]) -> Result<(), Fail> {
-    same(verdict(alloc, front)?, whole_lines(front).saturating_add(1))
+fn journals_are_read_and_written(rt: HostRuntime) -> Result<(), Fail> {
+    let unknown_blue = (21, "tenant blue is unknown");
+    is_written(
+        rt.alloc(),
+        WORKED,
+        three(rt.alloc())?,
+        ("red", (9, "bytes")),
+    )?;
+    is_written(
+        rt.alloc(),
+        FAULT,
+        unknown(rt.alloc())?,
+        ("blue", unknown_blue),
+    )
 }
 
 #[test]
 fn a_cut_is_at_the_first_line_that_is_not_whole(rt: HostRuntime) -> Result<(), Fail> {
+    let mut line = 1usize;
     for end in 0..WORKED.len() {
-        is_cut(rt.alloc(), &WORKED.as_bytes()[..end])?;
+        same(verdict(rt.alloc(), &WORKED.as_bytes()[..end])?, line)?;
+        if WORKED.as_bytes()[end] == b'\n' {
+            line = line.saturating_add(1);
+        }
     }
-    same(verdict(rt.alloc(), WORKED.as_bytes())?, 0)
+    Ok(())
 }
 
 /// A part of the worked journal, what stands in its place, and the line at fault.
@@ -202,13 +170,9 @@ const CHANGES: [(&str, &str, usize); 17] = [
     ("age 900000\n", "age 900000\nage 900000\n", 3),
 ];
 
-/// The worked journal with one part in place of another.
-fn changed(alloc: Global, old: &str, new: &str) -> Result<String, Fail> {
-    Ok(WORKED.replace(alloc, old, new)?)
-}
-
+/// The line at fault of the worked journal with one part in place of another.
 fn changed_verdict(alloc: Global, old: &str, new: &str) -> Result<usize, Fail> {
-    verdict(alloc, changed(alloc, old, new)?.as_bytes())
+    verdict(alloc, WORKED.replace(alloc, old, new)?.as_bytes())
 }
 
 #[test]
@@ -216,39 +180,6 @@ fn a_wrong_line_is_named(rt: HostRuntime) -> Result<(), Fail> {
     for (old, new, line) in &CHANGES {
         same_at(*new, changed_verdict(rt.alloc(), *old, *new)?, *line)?;
     }
-    Ok(())
-}
-
-/// A journal of that many tenants.
-fn journal_of(alloc: Global, tenants: u32) -> Result<String, Fail> {
-    let mut text = String::from_str(alloc, "silo-journal 1\nage 1\n")?;
-    for number in 0..tenants {
-        write!(text, "tenant t{number} 1 1\n")?;
-    }
-    text.push_str("close 0\n")?;
-    Ok(text)
-}
-
-fn verdict_of(alloc: Global, tenants: u32) -> Result<usize, Fail> {
-    verdict(alloc, journal_of(alloc, tenants)?.as_bytes())
-}
-
-#[test]
-fn a_thousand_tenants_are_read_and_no_more(rt: HostRuntime) -> Result<(), Fail> {
-    let all = verdict_of(rt.alloc(), 1_000)?;
-    let more = verdict_of(rt.alloc(), 1_001)?;
-    same((all, more), (0, 1_003))
-}
-
-#[test]
-fn bytes_that_are_no_text_are_no_line(rt: HostRuntime) -> Result<(), Fail> {
+    same(verdict(rt.alloc(), EACH_KIND.as_bytes())?, 0)?;
     same(verdict(rt.alloc(), b"\xFF\n")?, 1)
-}
-
-#[test]
-fn the_laws_are_stated() {
-    laws::one_line();
-    laws::plain_line();
-    laws::one_text();
-    laws::one_first_fault();
 }

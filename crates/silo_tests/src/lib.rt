@@ -19,8 +19,6 @@ mod events;
 #[cfg(test)]
 mod gate;
 #[cfg(test)]
-mod journal_changes;
-#[cfg(test)]
 mod journal_lines;
 #[cfg(test)]
 mod journals;
