@@ -5,6 +5,8 @@
 #include <stdint.h>
 #include <stdio.h>
 #include <stdlib.h>
+#include <sys/syscall.h>
+#include <unistd.h>
 
 // glibc's own, under the names that no library takes over
 extern void *__libc_malloc(size_t size);
@@ -25,6 +27,12 @@ __attribute__((destructor)) static void end(void) {
     if (!file) return;
     fprintf(file, "%lu\n", counted);
     fclose(file);
+}
+
+// a program with threads ends by it, and then nothing is destructed
+void _exit(int status) {
+    end();
+    for (;;) syscall(SYS_exit_group, status);
 }
 
 void *malloc(size_t size) { count(); return __libc_malloc(size); }
