@@ -1,5 +1,6 @@
 // A library to load before a program's own (LD_PRELOAD): it counts the calls of malloc, calloc, realloc,
-// posix_memalign and aligned_alloc from `main` on, and writes their number to the file ALLOCATIONS_TO at the end.
+// posix_memalign and aligned_alloc from `main` on, and writes their number to the file ALLOCATIONS_TO when the program
+// ends, by exit or by _exit.
 #include <errno.h>
 #include <stddef.h>
 #include <stdint.h>
@@ -29,7 +30,7 @@ __attribute__((destructor)) static void end(void) {
     fclose(file);
 }
 
-// a program with threads ends by it, and then nothing is destructed
+// a program with threads ends by _exit, which runs no destructor
 void _exit(int status) {
     end();
     for (;;) syscall(SYS_exit_group, status);

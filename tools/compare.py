@@ -21,6 +21,7 @@ from __future__ import annotations
 import argparse
 import pathlib
 import random
+import shutil
 import subprocess
 import sys
 import tempfile
@@ -97,10 +98,13 @@ class Count:
 
 
 def keep(folder: pathlib.Path, given: Input, wanted: Run) -> None:
-    folder.mkdir(parents=True, exist_ok=True)
+    shutil.rmtree(folder, ignore_errors=True)
+    folder.mkdir(parents=True)
     (folder / "args").write_text("".join(word + "\n" for word in given.words))
     (folder / "stdin").write_bytes(given.data)
     (folder / "stdout").write_bytes(wanted.out or b"")
+    if wanted.errors:
+        (folder / "stderr").write_bytes(wanted.errors)
     (folder / "status").write_text(f"{wanted.status}\n")
     for path, content in given.files.items():
         (folder / "data").mkdir(exist_ok=True)
