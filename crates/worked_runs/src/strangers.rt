@@ -10,11 +10,10 @@ use silo_event::StepFault;
 use std::alloc::{AllocError, Global};
 use std::test::Fail;
 
-/// A silo that took these lines.
-fn silo_of(alloc: Global, lines: &str) -> Result<TestedSilo, Fail> {
-    let mut silo = new_silo(alloc)?;
-    drop(answers(alloc, &mut silo, steps_of(alloc, lines)?)?);
-    Ok(silo)
+/// Has the silo take these lines.
+fn take_lines(alloc: Global, silo: &mut TestedSilo, lines: &str) -> Result<(), Fail> {
+    drop(answers(alloc, silo, steps_of(alloc, lines)?)?);
+    Ok(())
 }
 
 /// The next turn of the counter, opened.
@@ -32,10 +31,16 @@ fn turn_of(alloc: Global, silo: &mut TestedSilo) -> Result<FinishedTurn<Kinds>, 
     Ok(finished(alloc, turn)?)
 }
 
+/// The turn behind the lines that add 4.
+fn turn_that_adds_4(alloc: Global, silo: &mut TestedSilo) -> Result<FinishedTurn<Kinds>, Fail> {
+    take_lines(alloc, silo, add_4())?;
+    turn_of(alloc, silo)
+}
+
 /// The first turn of another silo, in which 4 is added.
 fn turn_of_another(alloc: Global) -> Result<FinishedTurn<Kinds>, Fail> {
-    let mut silo = silo_of(alloc, add_4())?;
-    turn_of(alloc, &mut silo)
+    let mut silo = new_silo(alloc)?;
+    turn_that_adds_4(alloc, &mut silo)
 }
 
 /// Whether the turn is none of this silo's own.
@@ -84,10 +89,16 @@ fn tells_apart(alloc: Global, silo: &mut TestedSilo) -> Result<bool, Fail> {
     Ok(left && taken)
 }
 
+/// Whether the silo does so behind the lines that add 3.
+fn tells_apart_behind_3(alloc: Global, silo: &mut TestedSilo) -> Result<bool, Fail> {
+    take_lines(alloc, silo, add_3())?;
+    tells_apart(alloc, silo)
+}
+
 /// Whether the first turns of two silos are told apart.
 fn are_told_apart(alloc: Global) -> Result<bool, Fail> {
-    let mut silo = silo_of(alloc, add_3())?;
-    tells_apart(alloc, &mut silo)
+    let mut silo = new_silo(alloc)?;
+    tells_apart_behind_3(alloc, &mut silo)
 }
 
 #[test]
