@@ -69,22 +69,57 @@ fn answered(alloc: Global, lanes: &[Lane], replies: &[Reply]) -> Result<Vec<Vec<
     Ok(answers(alloc, lanes, replies)?)
 }
 
-#[test]
-fn a_journal_without_a_step_of_a_lane_is_refused(rt: HostRuntime) -> Result<(), Fail> {
-    let alloc = rt.alloc();
-    let ticks = vec![in alloc; tick(5)?, tick(3)?, Step::Sweep]?;
-    let nobodys = Lane::new(None, ticks).map_err(|_| "no lane")?;
-    let lanes = vec![in alloc; lane_of(alloc, "red/c1", 2)?, nobodys]?;
-    let mut journal = Vec::new(alloc);
+/// A lane of nobody: two ticks, of which the second is behind the clock, and a sweep.
+fn lane_of_nobody(alloc: Global) -> Result<Lane, Fail> {
+    let steps = vec![in alloc; tick(5)?, tick(3)?, Step::Sweep]?;
+    Ok(Lane::new(None, steps).map_err(|_| "no lane")?)
+}
+
+/// A lane of red's first client, and one of nobody.
+fn add_two_lanes(alloc: Global, lanes: &mut Vec<Lane>) -> Result<(), Fail> {
+    lanes.push(lane_of(alloc, "red/c1", 2)?)?;
+    lanes.push(lane_of_nobody(alloc)?)?;
+    Ok(())
+}
+
+/// The journal of these lanes but for the client's second step.
+fn add_all_but_one(alloc: Global, journal: &mut Vec<Step>) -> Result<(), Fail> {
     journal.push(status(alloc, "red/c1", 0)?)?;
     journal.push(tick(5)?)?;
     journal.push(Step::Sweep)?;
-    assert!(rt; !stand(alloc, &lanes, &journal)?);
-    journal.push(status(alloc, "red/c1", 1)?)?;
-    assert!(rt; stand(alloc, &lanes, &journal)?);
-    journal.push(status(alloc, "red/c2", 1)?)?;
-    assert!(rt; !stand(alloc, &lanes, &journal)?);
-    assert_eq!(rt; failed_in(&journal), 0);
+    Ok(())
+}
+
+/// Whether the lanes stand in the journal with that step behind it.
+fn stand_with(
+    alloc: Global,
+    lanes: &[Lane],
+    journal: &mut Vec<Step>,
+    step: Step,
+) -> Result<bool, Fail> {
+    journal.push(step)?;
+    stand(alloc, lanes, journal)
+}
+
+/// Whether the lanes stand in the journal, with the step that it lacks, and with one that is of no lane.
+fn stand_as_it_grows(
+    alloc: Global,
+    lanes: &[Lane],
+    journal: &mut Vec<Step>,
+) -> Result<(bool, bool, bool), Fail> {
+    add_all_but_one(alloc, journal)?;
+    let without = stand(alloc, lanes, journal)?;
+    let whole = stand_with(alloc, lanes, journal, status(alloc, "red/c1", 1)?)?;
+    let foreign = stand_with(alloc, lanes, journal, status(alloc, "red/c2", 1)?)?;
+    Ok((without, whole, foreign))
+}
+
+#[test]
+fn a_journal_without_a_step_of_a_lane_is_refused(rt: HostRuntime) -> Result<(), Fail> {
+    let mut lanes = Vec::new(rt.alloc());
+    let mut journal = Vec::new(rt.alloc());
+    add_two_lanes(rt.alloc(), &mut lanes)?;
+    assert!(rt; stand_as_it_grows(rt.alloc(), &lanes, &mut journal)? == (false, true, false));
     Ok(())
 }
 
@@ -105,19 +140,37 @@ fn load(alloc: Global, failed: bool) -> Result<Step, Fail> {
     Ok(Step::Load { grain, failed })
 }
 
+/// Three loads, of which two failed, and a client's status between them.
+fn add_loads(alloc: Global, journal: &mut Vec<Step>) -> Result<(), Fail> {
+    journal.push(load(alloc, true)?)?;
+    journal.push(load(alloc, false)?)?;
+    journal.push(status(alloc, "red/c1", 1)?)?;
+    journal.push(load(alloc, true)?)?;
+    Ok(())
+}
+
+/// Whether a client asks for the step at that place.
+fn is_asked(journal: &[Step], place: usize) -> bool {
+    match journal.get(place) {
+        Some(step) => asker_of(step).is_some(),
+        None => false,
+    }
+}
+
+/// How many steps failed, and whether a client asks for the first and for the third.
+fn counted(journal: &[Step]) -> (usize, bool, bool) {
+    (
+        failed_in(journal),
+        is_asked(journal, 0),
+        is_asked(journal, 2),
+    )
+}
+
 #[test]
 fn failed_loads_are_counted(rt: HostRuntime) -> Result<(), Fail> {
-    let alloc = rt.alloc();
-    let asks = status(alloc, "red/c1", 1)?;
-    assert!(rt; asker_of(&asks).is_some());
-    assert!(rt; asker_of(&load(alloc, true)?).is_none());
-    let journal = vec![in alloc;
-        load(alloc, true)?,
-        load(alloc, false)?,
-        asks,
-        load(alloc, true)?,
-    ]?;
-    assert_eq!(rt; failed_in(&journal), 2);
+    let mut journal = Vec::new(rt.alloc());
+    add_loads(rt.alloc(), &mut journal)?;
+    assert!(rt; counted(&journal) == (2, false, true));
     Ok(())
 }
 
