@@ -16,7 +16,7 @@ use Rattle.line_parser.specs.Argument.{too_deep, is_deep, AddsFaults, PutsValue,
 use Rattle.line_parser.specs.Fields.{HoldsMembers, IsBehind, field_spelling}
 use Rattle.line_parser.specs.declared.fields.Fields.{Fields}
 use Rattle.line_parser.specs.declared.faults.Faults.{Faults}
-use Rattle.line_parser.proofs.NotWhole.{adds_both, adds_as, deep_max, nothing_added}
+use Rattle.line_parser.proofs.Noted.{adds_both, adds_as, deep_max, nothing_added}
 use Rattle.line_parser.proofs.Ordered.{IsMore, formed_put, not_whole_put, depth_put, none_spelled}
 use Rattle.line_parser.proofs.ItemsRead.{SetsCount, counted_bytes, longer}
 use Rattle.line_parser.proofs.GrammarLoops.{member_read, members_over}

@@ -18,7 +18,7 @@ use Rattle.line_parser.specs.Slots.{name_text, HoldsSlots, TakesMember, HasSlots
 use Rattle.line_parser.specs.declared.slots.Name.{Name}
 use Rattle.line_parser.specs.declared.slots.Slots.{Slots}
 use Rattle.line_parser.specs.declared.faults.Faults.{Faults}
-use Rattle.line_parser.proofs.NotWhole.{or_false, or_more, adds_both, adds_as, deep_max, nothing_added}
+use Rattle.line_parser.proofs.Noted.{or_false, or_more, adds_both, adds_as, deep_max, nothing_added}
 use Rattle.line_parser.proofs.GrammarLoops.{item_read, items_over, member_read, members_over, parse_map-twice, converted-object, whole_read}
 
 -- ---- the items of a list

@@ -9,7 +9,7 @@ pub mod Ordered
 pub mod FieldsRead
 pub mod Numbers
 pub mod Counts
-pub mod NotWhole
+pub mod Noted
 pub mod PutValues
 pub mod MembersTaken
 pub mod OtherNames

@@ -17,7 +17,7 @@ use Rattle.request_codec.specs.Formed.{IsFormed, FieldsFormed}
 use Rattle.line_parser.specs.Lenient.{lenient_value, lenient_fields, is_not_whole, fields_not_whole}
 use Rattle.request_codec.specs.Written.{text_spelling, spelling, fields_spelling}
 use Rattle.request_codec.proofs.Entries.{is_less}
-use Rattle.line_parser.proofs.NotWhole.{or_false, or_more}
+use Rattle.line_parser.proofs.Noted.{or_false, or_more}
 use Rattle.line_parser.specs.Fields.{field_spelling, Put, puts_of, IsBelow, AllBelow, IsPlace, HoldsFields, IsBehind}
 
 above : (l k : List ℕ) → IsBelow l k → slice_cmp nat_cmp k l ≡ Greater

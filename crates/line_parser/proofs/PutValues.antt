@@ -17,7 +17,7 @@ use Rattle.request_codec.specs.Written.{spelling}
 use Rattle.line_parser.specs.Number.{IsWhole, IsNotWhole}
 use Rattle.line_parser.specs.Argument.{is_deep, AddsFaults, PutsValue, PutsItems, PutsFields}
 use Rattle.line_parser.specs.declared.faults.Faults.{Faults}
-use Rattle.line_parser.proofs.NotWhole.{or_false, adds_both, adds_as, deep_outer}
+use Rattle.line_parser.proofs.Noted.{or_false, adds_both, adds_as, deep_outer}
 use Rattle.line_parser.proofs.GrammarLoops.{converted-array, converted-object}
 use Rattle.line_parser.proofs.Numbers.{as_i64-of_integer}
 

@@ -18,7 +18,7 @@ use Rattle.request_codec.specs.Written.{spelling, members_spelling, fields_spell
 abbrev pub too_deep : ℕ
 too_deep = 94
 
--- whether JSON of so many levels is too deep at that depth
+-- whether JSON of so many levels is too deep if it is read at that depth
 abbrev pub is_deep : ℕ → ℕ → Bool
 is_deep depth levels = nat_lt depth (levels + too_deep)
 
@@ -27,12 +27,13 @@ pub record AddsFaults (old new : Faults) (deep not_whole : Bool) : Type 0 where
   pub depth : new.too_deep ≡ (old.too_deep || deep)
   pub numbers : new.not_whole ≡ (old.not_whole || not_whole)
 
--- why a value with such faults is refused
+-- why a value is refused if it is too deep, and if a number of it isn't whole
 abbrev pub why_by : Bool → Bool → Option Refusal
 why_by true not_whole = Some refusal.TooDeep
 why_by false true = Some refusal.NotWhole
 why_by false false = None
 
+-- why a value is refused, by what was noted of it
 abbrev pub why_of : Faults → Option Refusal
 why_of f = why_by f.too_deep f.not_whole
 
@@ -45,7 +46,7 @@ pub record PutsValue (depth : ℕ) (old new : List Token) (before after : List �
   pub bytes : after ≡ before ++ spelling (lenient_value json)
   pub shorter : length new < length old
 
--- The same of a list's items, and of its count. The list is read one level above them.
+-- The same of a list's items, and of its count; the depth is that of an item.
 pub record PutsItems (depth : ℕ) (old new : List Token) (before after : List ℕ) (noted_before noted_after : Faults) : Type 0 where
   pub json : Items
   pub read : converted of_items (items (value depth) (length old) old) ≡ Some (json, new)

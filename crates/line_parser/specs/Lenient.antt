@@ -45,6 +45,6 @@ abbrev mutual
   fields_not_whole json.no_members = false
   fields_not_whole (json.member n d ms) = is_not_whole d || fields_not_whole ms
 
--- JSON that has a value, which is well formed
+-- JSON that has a value, and that value is well formed
 abbrev pub HasValue : json.Data → Type 0
 HasValue d = (value_of_json d ≡ Some (lenient_value d)) × IsFormed (lenient_value d)

@@ -6,7 +6,7 @@ ghost use Rattle.std.specs.Int.{w32, to_be_bytes};
 ghost use Rattle.serde_json.specs.Read.{number_of};
 ghost use Rattle.request_codec.specs.Tree.{null};
 ghost use Rattle.request_codec.specs.Written.{spelling};
-ghost use Rattle.line_parser.specs.Argument.{is_deep, AddsFaults, PutsValue, PutsItems, PutsFields};
+ghost use Rattle.line_parser.specs.Argument.{too_deep, is_deep, AddsFaults, PutsValue, PutsItems, PutsFields};
 ghost use Rattle.line_parser.specs.Number.{IsNotWhole};
 
 use crate::faults::Faults;
@@ -17,7 +17,7 @@ use crate::unread::Unread;
 use json::Token;
 use request_codec::bytes::{Start, put_start, put_text};
 
-/// An argument's levels are counted down from `MEMBER_DEPTH`; here it would have more than 32.
+/// So many levels are left for a value right below an argument's 32nd level; they are counted down from `MEMBER_DEPTH`.
 const TOO_DEEP: usize = 94;
 
 /// The same text; the proof sees that its bytes are UTF-8.
@@ -42,7 +42,7 @@ fn set_count(out: &mut Vec<u8>, at: usize, count: u32)
     out[at + 3] = bytes[3];
 }
 
-/// Notes that the value is too deep if one with so many levels left is.
+/// Notes that the argument is too deep, if a value with so many levels left lies below its 32nd level.
 #[inline(always)]
 fn note_depth(faults: &mut Faults, depth: usize)
     ensures { AddsFaults faults.old faults.new (is_deep depth 1) false }
@@ -119,7 +119,7 @@ fn put_items(
 ) -> Result<(), Unread>
     requires room { length out.old.items ≤ limit }
     requires small { limit < 2 ^ 32 }
-    requires noted { depth < 94 → IsTrue faults.old.too_deep }
+    requires noted { depth < too_deep → IsTrue faults.old.too_deep }
     ensures value { OnOk result (PutsItems depth reader.old reader.new out.old.items out.new.items faults.old faults.new) }
     ensures within { OnOk result (length out.new.items ≤ limit) }
 {
@@ -146,7 +146,7 @@ fn put_fields(
 ) -> Result<(), Unread>
     requires room { length out.old.items ≤ limit }
     requires small { limit < 2 ^ 32 }
-    requires noted { depth < 94 → IsTrue faults.old.too_deep }
+    requires noted { depth < too_deep → IsTrue faults.old.too_deep }
     ensures value { OnOk result (PutsFields depth reader.old reader.new out.old.items out.new.items faults.old faults.new) }
     ensures within { OnOk result (length out.new.items ≤ limit) }
 {

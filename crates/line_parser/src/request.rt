@@ -90,7 +90,7 @@ fn read_state(
     Ok(Ok(state))
 }
 
-/// The argument of a call: null where it is left out; none if the members are none of a call.
+/// The argument of a call: null if it is left out; none if the members are none of a call.
 fn argument_of<'t>(slots: &Slots<'_>, bytes: &'t [u8]) -> Option<Argument<'t>>
     ensures { MatchOption result (FindsIn slots.now bytes.now argument_at None) (λ argument. (found : Members) → HoldsSlots found slots.now bytes.now
         → (json : Data) × (argument_at (object found) ≡ Some json) × IsAsked argument.refusal json argument.bytes.now) }

@@ -1,6 +1,6 @@
 use Rattle.std.proofs.Common.{List, ℕ, subst}
 use Rattle.line_parser.specs.Argument.{PutsValue}
-use Rattle.line_parser.proofs.NotWhole.{value_asked_for}
+use Rattle.line_parser.proofs.Noted.{value_asked_for}
 use Rattle.line_parser.proofs.slots.take_value.Goals as goal
 
 pub returns-clause-value : goal.returns-clause-value

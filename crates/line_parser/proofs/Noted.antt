@@ -1,7 +1,7 @@
--- JSON has a value if none of its numbers isn't whole, and the flags that note faults.
+-- What is noted of a value while it is put.
 use Rattle.std.proofs.Common.{◌≡◌, ℕ, suc, max, ◌+◌, ◌-◌, ◌<◌, ◌≤◌, Bool, true, false, ◌||◌, cond, List, [], Option, Some, None, ℤ, refl, sym, ap, subst, ◌∙◌, arith, ltb-true, ltb-false, le-leb}
 use Rattle.std.specs.Prelude.{is_none, option_map, option_and_then}
-use Rattle.std.proofs.lemmas.Bool.{or_right, lt-leb}
+use Rattle.std.proofs.lemmas.Bool.{lt-leb}
 use Rattle.std.proofs.lemmas.Bool.Decides.{nat_tests}
 use Rattle.serde_json.specs.Data as json
 use Rattle.serde_json.specs.Find.{as_i64}
@@ -82,12 +82,6 @@ deep_outer depth n some = grind (arith, nat_tests)
 -- nothing was put yet
 pub nothing_added : (depth : ℕ) (f : Faults) → (depth < too_deep → f.too_deep ≡ true) → AddsFaults f f (is_deep depth 0) false
 nothing_added depth f h = record { depth = grind (arith, nat_tests); numbers = sym (or_false f.not_whole) }
-
--- what is inside a value that is too deep is too deep
-pub noted_inside : (depth : ℕ) (old new : Faults) → AddsFaults old new (is_deep depth 1) false → depth - 1 < too_deep → new.too_deep ≡ true
-noted_inside depth old new a h =
-    let deep : is_deep depth 1 ≡ true = grind (arith, nat_tests) in
-    a.depth ∙ or_right old.too_deep (is_deep depth 1) deep
 
 -- ---- why a value is refused
 
