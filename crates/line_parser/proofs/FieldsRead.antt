@@ -1,25 +1,80 @@
--- What the loop over an argument's fields has read and put so far: they stand in the order of their names.
-use Rattle.std.proofs.Common.{◌≡◌, ℕ, ◌+◌, ◌-◌, ◌<◌, ◌≤◌, true, List, [], ◌∷◌, ◌++◌, length, Some, None, refl, sym, ap, ◌∙◌, append_assoc, append-nil, arith}
+-- What the loop over an argument's fields has read and put so far: they stand in the order in which they came.
+use Rattle.std.proofs.Common.{◌≡◌, ℕ, suc, ◌+◌, ◌-◌, ◌<◌, ◌≤◌, Bool, true, false, ◌||◌, List, [], ◌∷◌, ◌++◌, length, Some, None, refl, sym, ap, ◌∙◌, append_assoc, append-nil, arith}
 use Rattle.std.specs.Prelude.{IsUtf8}
 use Rattle.std.specs.Int.{w32, to_be_bytes}
+use Rattle.std.specs.List.{list_any}
 use Rattle.std.proofs.lemmas.List.{length-append}
+use Rattle.std.proofs.lemmas.List.Elements.{All-nil}
+use Rattle.std.proofs.lemmas.List.Folds.{list_any-append}
+use Rattle.std.proofs.lemmas.List.Sorted.{list_any-IsPermutation, length_permutation}
 use Rattle.json.specs.Token.{Token}
 use Rattle.json.specs.Json.{value, members, read_key}
 use Rattle.json.proofs.Grammar.{read_key-shorter}
-use Rattle.serde_json.specs.Data.{Members, no_members, put}
+use Rattle.serde_json.specs.Data.{Data, Members, no_members, put}
 use Rattle.serde_json.specs.Read.{of_members, converted}
+use Rattle.request_codec.specs.Tree.{fields_count}
 use Rattle.request_codec.specs.Json.{json_depth, json_members_depth}
 use Rattle.request_codec.specs.Formed.{FieldsFormed}
-use Rattle.line_parser.specs.Lenient.{lenient_value, lenient_fields, fields_not_whole}
+use Rattle.line_parser.specs.Lenient.{lenient_value, lenient_fields, is_not_whole, fields_not_whole}
 use Rattle.request_codec.specs.Written.{text_spelling, spelling, fields_spelling}
 use Rattle.line_parser.specs.Argument.{too_deep, is_deep, AddsFaults, PutsValue, PutsFields}
-use Rattle.line_parser.specs.Fields.{HoldsMembers, IsBehind, field_spelling}
+use Rattle.line_parser.specs.Fields.{Came, came_bytes, came_spelling, members_of, HoldsFields, AreBehind, AreSorted, field_spelling}
 use Rattle.line_parser.specs.declared.fields.Fields.{Fields}
 use Rattle.line_parser.specs.declared.faults.Faults.{Faults}
-use Rattle.line_parser.proofs.Noted.{adds_both, adds_as, deep_max, nothing_added}
-use Rattle.line_parser.proofs.Ordered.{IsMore, formed_put, not_whole_put, depth_put, none_spelled}
+use Rattle.line_parser.proofs.Noted.{or_false, or_more, adds_both, adds_as, deep_max, nothing_added}
+use Rattle.line_parser.proofs.Ordered.{Collects, collects_none, collects_more, formed_put, put_in_order}
+use Rattle.line_parser.proofs.Places.{one_behind}
 use Rattle.line_parser.proofs.ItemsRead.{SetsCount, counted_bytes, longer}
 use Rattle.line_parser.proofs.GrammarLoops.{member_read, members_over}
+
+-- ---- what is noted of fields, in any order
+
+abbrev came_deep : ℕ → Came → Bool
+came_deep depth c = is_deep depth (json_depth c.value)
+
+abbrev came_split : Came → Bool
+came_split c = is_not_whole c.value
+
+-- whether one of them is too deep; the depth is that of a field
+abbrev some_deep : ℕ → List Came → Bool
+some_deep depth cs = list_any (came_deep depth) cs || is_deep depth 0
+
+abbrev some_split : List Came → Bool
+some_split cs = list_any came_split cs
+
+or_last : (x y a : Bool) → ((x || y) || a) ≡ ((x || (a || false)) || y)
+or_last true y a = refl
+or_last false true true = refl
+or_last false true false = refl
+or_last false false true = refl
+or_last false false false = refl
+
+deep_more : (depth : ℕ) (cs : List Came) (c : Came) → (some_deep depth cs || came_deep depth c) ≡ some_deep depth (cs ++ c ∷ [])
+deep_more depth cs c = or_last (list_any (came_deep depth) cs) (is_deep depth 0) (came_deep depth c) ∙ ap (λ b. b || is_deep depth 0) (sym (list_any-append (came_deep depth) cs (c ∷ [])))
+
+split_more : (cs : List Came) (c : Came) → (some_split cs || came_split c) ≡ some_split (cs ++ c ∷ [])
+split_more cs c = ap (λ b. some_split cs || b) (sym (or_false (came_split c))) ∙ sym (list_any-append came_split cs (c ∷ []))
+
+deep_is : (depth : ℕ) (cs : List Came) → some_deep depth cs ≡ is_deep depth (json_members_depth (members_of cs))
+deep_is depth [] = refl
+deep_is depth (c ∷ cs) = or_more (came_deep depth c) (list_any (came_deep depth) cs) (is_deep depth 0) ∙ ap (λ b. came_deep depth c || b) (deep_is depth cs) ∙ deep_max depth (json_depth c.value) (json_members_depth (members_of cs))
+
+split_is : (cs : List Came) → some_split cs ≡ fields_not_whole (members_of cs)
+split_is [] = refl
+split_is (c ∷ cs) = ap (λ b. came_split c || b) (split_is cs)
+
+-- ---- how they are spelled
+
+spelled_is : (cs : List Came) → fields_spelling (lenient_fields (members_of cs)) ≡ came_spelling cs
+unfolding spelling
+spelled_is [] = refl
+spelled_is (c ∷ cs) = sym (append_assoc (text_spelling c.name) (spelling (lenient_value c.value)) _) ∙ ap (λ l. came_bytes c ++ l) (spelled_is cs)
+
+count_is : (cs : List Came) → fields_count (lenient_fields (members_of cs)) ≡ length cs
+count_is [] = refl
+count_is (c ∷ cs) = ap suc (count_is cs)
+
+-- ---- the loop
 
 -- the bytes before the fields: those of before, and a start whose count is put at the end
 abbrev pub begun : List ℕ → List ℕ
@@ -29,69 +84,83 @@ pub record FieldsRead (depth : ℕ) (initial now : List Token) (before after : L
   pub turns : ℕ
   pub enough : length now ≤ turns
   pub shorter : length now ≤ length initial
+  pub came : List Came
   pub json : Members
   pub read : converted (λ ms. of_members ms no_members) (members (value depth) (length initial) initial) ≡ converted (λ ms. of_members ms json) (members (value depth) turns now)
   pub formed : FieldsFormed (lenient_fields json)
-  pub noted : AddsFaults noted_before noted_after (is_deep depth (json_members_depth json)) (fields_not_whole json)
-  pub holds : HoldsMembers fields json
-  pub bytes : after ≡ begun before ++ fields_spelling (lenient_fields json)
-  pub some : fields.count ≤ length after
+  pub collects : Collects came json
+  pub noted : AddsFaults noted_before noted_after (some_deep depth came) (some_split came)
+  pub holds : HoldsFields came fields
+  pub put : AreBehind came (length before + 5) (begun before) after
+  pub some : length came ≤ length after
 
-pub fields_start : (depth : ℕ) (ts : List Token) (before after : List ℕ) (fields : Fields) (f : Faults) → after ≡ begun before → HoldsMembers fields no_members → (depth < too_deep → f.too_deep ≡ true) → FieldsRead depth ts ts before after fields f f
+pub fields_start : (depth : ℕ) (ts : List Token) (before after : List ℕ) (fields : Fields) (f : Faults) → after ≡ begun before → HoldsFields [] fields → (depth < too_deep → f.too_deep ≡ true) → FieldsRead depth ts ts before after fields f f
 fields_start depth ts before after fields f e h deep = record {
   turns = length ts;
   enough = omega arith;
   shorter = omega arith;
+  came = [];
   json = no_members;
   read = refl;
   formed = tt;
+  collects = collects_none;
   noted = nothing_added depth f deep;
   holds = h;
-  bytes = e ∙ sym (ap (λ l. begun before ++ l) none_spelled ∙ append-nil (begun before));
-  some = omega (arith, h.count_is);
+  put = record {
+    at_start = length-append before (6 ∷ 0 ∷ 0 ∷ 0 ∷ 0 ∷ []);
+    bytes = e ∙ sym (append-nil (begun before));
+    stand = All-nil _;
+  };
+  some = omega arith;
 }
 
--- the field that was put last stands behind the others
-pub behind_them : (depth : ℕ) (initial ts s r : List Token) (before mid named after : List ℕ) (fields : Fields) (first old new : Faults) (k : List ℕ) (from n : ℕ) (f : FieldsRead depth initial ts before mid fields first old) → named ≡ mid ++ text_spelling k → (v : PutsValue depth s r named after old new)
-    → from ≡ length mid → n ≡ length after - from → IsBehind f.json k v.json (length before + 5) n (begun before) after
-behind_them depth initial ts s r before mid named after fields first old new k from n f name v is long =
-    let all : after ≡ mid ++ field_spelling k v.json = v.bytes ∙ ap (λ l. l ++ spelling (lenient_value v.json)) name ∙ append_assoc mid (text_spelling k) (spelling (lenient_value v.json)) in
-    record {
-      start_is = length-append before (6 ∷ 0 ∷ 0 ∷ 0 ∷ 0 ∷ []);
-      count_is = omega (arith, long, is, ap length all, length-append mid (field_spelling k v.json));
-      bytes = all ∙ ap (λ l. l ++ field_spelling k v.json) f.bytes ∙ append_assoc (begun before) (fields_spelling (lenient_fields f.json)) (field_spelling k v.json);
-    }
+-- the field that was put last
+abbrev pub came_last : List ℕ → Data → ℕ → Came
+came_last k d from = record { name = k; value = d; start = from }
 
-pub fields_next : (depth : ℕ) (initial ts s r : List Token) (before mid named after new : List ℕ) (old fields : Fields) (first noted_old noted_new : Faults) (k : List ℕ) (f : FieldsRead depth initial ts before mid old first noted_old) → read_key ts ≡ Some (Some k, s) → IsUtf8 k → named ≡ mid ++ text_spelling k → (v : PutsValue depth s r named after noted_old noted_new)
-    → length new ≡ length after → HoldsMembers fields (put k v.json f.json) → new ≡ begun before ++ fields_spelling (lenient_fields (put k v.json f.json)) → fields.count ≡ old.count + 1 → FieldsRead depth initial r before new fields first noted_new
-fields_next depth initial ts s r before mid named after new old fields first noted_old noted_new k f key valid name v same holds bytes more =
+pub last_bytes : (depth : ℕ) (s r : List Token) (mid named after : List ℕ) (old new : Faults) (k : List ℕ) → named ≡ mid ++ text_spelling k → (v : PutsValue depth s r named after old new) → after ≡ mid ++ field_spelling k v.json
+last_bytes depth s r mid named after old new k name v = v.bytes ∙ ap (λ l. l ++ spelling (lenient_value v.json)) name ∙ append_assoc mid (text_spelling k) (spelling (lenient_value v.json))
+
+pub last_count : (mid after : List ℕ) (k : List ℕ) (d : Data) (from n : ℕ) → after ≡ mid ++ field_spelling k d → from ≡ length mid → n ≡ length after - from → length (field_spelling k d) ≡ n
+last_count mid after k d from n all is long = omega (arith, long, is, ap length all, length-append mid (field_spelling k d))
+
+pub fields_next : (depth : ℕ) (initial ts s r : List Token) (before mid named after : List ℕ) (old fields : Fields) (first noted_old noted_new : Faults) (k : List ℕ) (from : ℕ) (f : FieldsRead depth initial ts before mid old first noted_old) → read_key ts ≡ Some (Some k, s) → IsUtf8 k → named ≡ mid ++ text_spelling k → (v : PutsValue depth s r named after noted_old noted_new)
+    → from ≡ length mid → HoldsFields (f.came ++ came_last k v.json from ∷ []) fields → FieldsRead depth initial r before after fields first noted_new
+fields_next depth initial ts s r before mid named after old fields first noted_old noted_new k from f key valid name v is holds =
     let less = read_key-shorter ts (Some k) s key in
     let some_turn : 0 < f.turns = omega (arith, f.enough, less) in
     let longer_now = longer named after v.json v.bytes in
-    let one_more : IsMore k v.json f.json = omega (arith, holds.count_is, more, f.holds.count_is) in
-    let deep = deep_max depth (json_members_depth f.json) (json_depth v.json) ∙ ap (is_deep depth) (sym (depth_put k v.json f.json one_more)) in
+    let c = came_last k v.json from in
+    let all = last_bytes depth s r mid named after noted_old noted_new k name v in
     record {
       turns = f.turns - 1;
       enough = omega (arith, f.enough, less, v.shorter);
       shorter = omega (arith, f.shorter, less, v.shorter);
+      came = f.came ++ c ∷ [];
       json = put k v.json f.json;
       read = f.read ∙ member_read (value depth) f.json f.turns k ts s r v.json some_turn key v.read;
       formed = formed_put k v.json f.json valid v.formed f.formed;
-      noted = adds_as first noted_new _ _ _ _ (adds_both first noted_old noted_new _ _ _ _ f.noted v.noted) deep (sym (not_whole_put k v.json f.json one_more));
+      collects = collects_more f.came f.json c f.collects;
+      noted = adds_as first noted_new _ _ _ _ (adds_both first noted_old noted_new _ _ _ _ f.noted v.noted) (deep_more depth f.came c) (split_more f.came c);
       holds = holds;
-      bytes = bytes;
-      some = omega (arith, f.some, more, same, longer_now, ap length name, length-append mid (text_spelling k));
+      put = one_behind f.came c (begun before) mid after (length before + 5) f.put is all;
+      some = omega (arith, f.some, length-append f.came (c ∷ []), longer_now, ap length name, length-append mid (text_spelling k));
     }
 
-pub fields_stop : (depth : ℕ) (initial ts r : List Token) (before after new : List ℕ) (fields : Fields) (first noted : Faults) (at count : ℕ) → FieldsRead depth initial ts before after fields first noted → read_key ts ≡ Some (None, r)
-    → at ≡ length before + 1 → count ≡ fields.count → SetsCount at count after new → PutsFields depth initial r before new first noted
-fields_stop depth initial ts r before after new fields first noted at count f over is n set =
-    let all : after ≡ before ++ (6 ∷ 0 ∷ 0 ∷ 0 ∷ 0 ∷ fields_spelling (lenient_fields f.json)) = f.bytes ∙ append_assoc before (6 ∷ 0 ∷ 0 ∷ 0 ∷ 0 ∷ []) _ in
+pub fields_stop : (depth : ℕ) (initial ts r : List Token) (before after sorted new : List ℕ) (fields : Fields) (first noted : Faults) (at count : ℕ) → (f : FieldsRead depth initial ts before after fields first noted) → read_key ts ≡ Some (None, r)
+    → AreSorted f.came (begun before) sorted → at ≡ length before + 1 → count ≡ length f.came → SetsCount at count sorted new → PutsFields depth initial r before new first noted
+fields_stop depth initial ts r before after sorted new fields first noted at count f over s is n set =
+    let same : f.json ≡ members_of s.sorted = put_in_order f.came s.sorted f.json f.collects f.formed s.same s.ascend in
+    let spelled : came_spelling s.sorted ≡ fields_spelling (lenient_fields f.json) = sym (spelled_is s.sorted) ∙ ap (λ ms. fields_spelling (lenient_fields ms)) (sym same) in
+    let all : sorted ≡ before ++ (6 ∷ 0 ∷ 0 ∷ 0 ∷ 0 ∷ fields_spelling (lenient_fields f.json)) = s.bytes ∙ ap (λ l. begun before ++ l) spelled ∙ append_assoc before (6 ∷ 0 ∷ 0 ∷ 0 ∷ 0 ∷ []) _ in
+    let counted : count ≡ fields_count (lenient_fields f.json) = n ∙ sym (length_permutation f.came s.sorted s.same) ∙ sym (count_is s.sorted) ∙ ap (λ ms. fields_count (lenient_fields ms)) (sym same) in
+    let deep = ap (λ b. b || is_deep depth 0) (list_any-IsPermutation (came_deep depth) f.came s.sorted s.same) ∙ deep_is depth s.sorted ∙ ap (λ ms. is_deep depth (json_members_depth ms)) (sym same) in
+    let split = list_any-IsPermutation came_split f.came s.sorted s.same ∙ split_is s.sorted ∙ ap fields_not_whole (sym same) in
     record {
       json = f.json;
       read = f.read ∙ members_over (value depth) f.json f.turns ts r f.enough over;
       formed = f.formed;
-      noted = f.noted;
-      bytes = counted_bytes 6 at count before after new (fields_spelling (lenient_fields f.json)) is all set ∙ ap (λ k. before ++ (6 ∷ (to_be_bytes w32 k ++ fields_spelling (lenient_fields f.json)))) (n ∙ sym f.holds.count_is);
+      noted = adds_as first noted _ _ _ _ f.noted deep split;
+      bytes = counted_bytes 6 at count before sorted new (fields_spelling (lenient_fields f.json)) is all set ∙ ap (λ k. before ++ (6 ∷ (to_be_bytes w32 k ++ fields_spelling (lenient_fields f.json)))) counted;
       shorter = omega (arith, f.shorter, read_key-shorter ts None r over);
     }

@@ -5,8 +5,9 @@ pub mod PlainTokens
 pub mod PlainRuns
 pub mod PlainNaturals
 pub mod ItemsRead
-pub mod Ordered
+pub mod Places
 pub mod FieldsRead
+pub mod Ordered
 pub mod Numbers
 pub mod Counts
 pub mod Noted

@@ -1,24 +1,24 @@
--- A field that is put among those of a map: it goes to the place of its name, and the others stay as they are.
-use Rattle.std.proofs.Common.{◌≡◌, ℕ, zero, suc, max, ◌+◌, ◌≤◌, ◌<◌, Bool, true, false, ◌||◌, List, [], ◌∷◌, ◌++◌, length, map, drop, get_or, Option, Some, Ordering, Less, Equal, Greater, inl, inr, Result, Ok, Err, refl, sym, ap, subst, ◌∙◌, append_assoc, append-nil, arith}
-use Rattle.std.specs.Prelude.{IsUtf8, ◌⊎◌, OnOk, OnErr}
-use Rattle.std.proofs.lemmas.Bool.{or_right}
-use Rattle.std.proofs.lemmas.List.Edits.{length-insert}
+-- The members of a map: which it has once some were put, and that those in the order of their names are one list alone.
+use Rattle.std.proofs.Common.{◌≡◌, ℕ, List, [], ◌∷◌, ◌++◌, map, Option, Some, None, Ordering, Less, Equal, Greater, inl, inr, refl, sym, ap, subst, ◌∙◌}
+use Rattle.std.specs.Prelude.{IsUtf8, ◌⊎◌}
 use Rattle.std.specs.Cmp.Lexicographic.{slice_cmp}
-use Rattle.std.specs.Ordering.{nat_cmp, is_lt, ordering_reverse, match_ordering}
-use Rattle.std.specs.List.{insert}
-use Rattle.std.proofs.lemmas.Cmp.{nat_list_cmp_total}
-use Rattle.std.proofs.lemmas.List.{length-append}
+use Rattle.std.specs.List.{All}
+use Rattle.std.specs.List.Sorted.{IsPermutation}
+use Rattle.std.specs.Ordering.{nat_cmp, is_lt, is_eq, ordering_reverse, match_ordering}
+use Rattle.std.proofs.lemmas.Cmp.{nat_list_cmp_total, tied_itself}
+use Rattle.std.proofs.lemmas.List.Elements.{All-nil, All-cons, All-head, All-tail, All-weaker}
+use Rattle.std.proofs.lemmas.List.Sorted.{IsPermutation-sym, All-permutation}
+use Rattle.std.proofs.lemmas.Map.Text.{is_eq-slice_cmp}
+use Rattle.std.proofs.lemmas.Slice.Eq.{bytes_eq-Decides}
 use Rattle.serde_json.specs.Data.{Data, Members, no_members, member, put}
-use Rattle.request_codec.specs.Tree.{fields_count}
-use Rattle.request_codec.specs.Reading.{is_above}
 use Rattle.request_codec.specs.Spelling.{IsBelowFirst}
-use Rattle.request_codec.specs.Json.{json_depth, json_members_depth}
 use Rattle.request_codec.specs.Formed.{IsFormed, FieldsFormed}
-use Rattle.line_parser.specs.Lenient.{lenient_value, lenient_fields, is_not_whole, fields_not_whole}
-use Rattle.request_codec.specs.Written.{text_spelling, spelling, fields_spelling}
 use Rattle.request_codec.proofs.Entries.{is_less}
-use Rattle.line_parser.proofs.Noted.{or_false, or_more}
-use Rattle.line_parser.specs.Fields.{field_spelling, Put, puts_of, IsBelow, AllBelow, IsPlace, HoldsFields, IsBehind}
+use Rattle.line_parser.specs.Lenient.{lenient_value, lenient_fields}
+use Rattle.line_parser.specs.Fields.{Came, members_of, place_of, Ascend}
+
+abbrev IsBelow : List ℕ → List ℕ → Type 0
+IsBelow name other = slice_cmp nat_cmp name other ≡ Less
 
 above : (l k : List ℕ) → IsBelow l k → slice_cmp nat_cmp k l ≡ Greater
 above l k h = nat_list_cmp_total.antisymm k l ∙ ap ordering_reverse h
@@ -26,261 +26,208 @@ above l k h = nat_list_cmp_total.antisymm k l ∙ ap ordering_reverse h
 below : (l k : List ℕ) → slice_cmp nat_cmp k l ≡ Greater → IsBelow l k
 below l k h = nat_list_cmp_total.antisymm l k ∙ ap ordering_reverse h
 
-by_order : {P : Type 0} (k l : List ℕ) (o : Ordering) → slice_cmp nat_cmp k l ≡ o → (IsBelow k l → P) → (slice_cmp nat_cmp k l ≡ Equal → P) → (IsBelow l k → P) → P
+same_name : (k l : List ℕ) → slice_cmp nat_cmp k l ≡ Equal → k ≡ l
+same_name k l h = (bytes_eq-Decides k l).0 (sym (is_eq-slice_cmp k l) ∙ ap is_eq h)
+
+not_below_itself : (k : List ℕ) → IsBelow k k → ⊥
+not_below_itself k h = let e : Less ≡ Equal = sym h ∙ tied_itself nat_list_cmp_total k in absurd (cc)
+
+by_order : {P : Type 0} (k l : List ℕ) (o : Ordering) → slice_cmp nat_cmp k l ≡ o → (IsBelow k l → P) → (k ≡ l → P) → (IsBelow l k → P) → P
 by_order k l Less is a b c = a is
-by_order k l Equal is a b c = b is
+by_order k l Equal is a b c = b (same_name k l is)
 by_order k l Greater is a b c = c (below l k is)
 
--- ---- where the field goes
+-- ---- where a member goes
 
 put_before : (k l : List ℕ) (d e : Data) (ms : Members) → IsBelow k l → put k d (member l e ms) ≡ member k d (member l e ms)
 put_before k l d e ms h = ap (λ o. match_ordering o (member k d (member l e ms)) (member l d ms) (member l e (put k d ms))) h
 
-put_over : (k l : List ℕ) (d e : Data) (ms : Members) → slice_cmp nat_cmp k l ≡ Equal → put k d (member l e ms) ≡ member l d ms
-put_over k l d e ms h = ap (λ o. match_ordering o (member k d (member l e ms)) (member l d ms) (member l e (put k d ms))) h
+put_over : (k l : List ℕ) (d e : Data) (ms : Members) → k ≡ l → put k d (member l e ms) ≡ member l d ms
+put_over k l d e ms h =
+    let equal : slice_cmp nat_cmp k l ≡ Equal = ap (slice_cmp nat_cmp k) (sym h) ∙ tied_itself nat_list_cmp_total k in
+    ap (λ o. match_ordering o (member k d (member l e ms)) (member l d ms) (member l e (put k d ms))) equal
 
 put_behind : (k l : List ℕ) (d e : Data) (ms : Members) → IsBelow l k → put k d (member l e ms) ≡ member l e (put k d ms)
 put_behind k l d e ms h = ap (λ o. match_ordering o (member k d (member l e ms)) (member l d ms) (member l e (put k d ms))) (above l k h)
 
--- a property of the members with one more, from its three cases
-put_by : (P : Members → Type 0) (k l : List ℕ) (d e : Data) (ms : Members) → (IsBelow k l → P (member k d (member l e ms))) → P (member l d ms) → (IsBelow l k → P (member l e (put k d ms))) → P (put k d (member l e ms))
+-- a property of the members with one put, from its three cases
+put_by : (P : Members → Type 0) (k l : List ℕ) (d e : Data) (ms : Members) → (IsBelow k l → P (member k d (member l e ms))) → (k ≡ l → P (member l d ms)) → (IsBelow l k → P (member l e (put k d ms))) → P (put k d (member l e ms))
 put_by P k l d e ms a b c =
-    by_order k l (slice_cmp nat_cmp k l) refl (λ h. subst P (sym (put_before k l d e ms h)) (a h)) (λ h. subst P (sym (put_over k l d e ms h)) b) (λ h. subst P (sym (put_behind k l d e ms h)) (c h))
-
--- ---- what is well formed, how deep it is, and whether its numbers are whole
+    by_order k l (slice_cmp nat_cmp k l) refl (λ h. subst P (sym (put_before k l d e ms h)) (a h)) (λ h. subst P (sym (put_over k l d e ms h)) (b h)) (λ h. subst P (sym (put_behind k l d e ms h)) (c h))
 
 still_below : (l k : List ℕ) (d : Data) (ms : Members) → IsBelow l k → IsBelowFirst l (lenient_fields ms) → IsBelowFirst l (lenient_fields (put k d ms))
 still_below l k d no_members lt h = ap is_lt lt
-still_below l k d (member m e ms) lt h = put_by (λ x. IsBelowFirst l (lenient_fields x)) k m d e ms (λ a. ap is_lt lt) h (λ a. h)
+still_below l k d (member m e ms) lt h = put_by (λ x. IsBelowFirst l (lenient_fields x)) k m d e ms (λ a. ap is_lt lt) (λ a. h) (λ a. h)
 
 pub formed_put : (k : List ℕ) (d : Data) (ms : Members) → IsUtf8 k → IsFormed (lenient_value d) → FieldsFormed (lenient_fields ms) → FieldsFormed (lenient_fields (put k d ms))
 formed_put k d no_members valid w h = (valid, w, tt, tt)
 formed_put k d (member l e ms) valid w (u, v, b, h) =
-    put_by (λ x. FieldsFormed (lenient_fields x)) k l d e ms (λ a. (valid, w, ap is_lt a, (u, v, b, h))) (u, w, b, h) (λ a. (u, v, still_below l k d ms a b, formed_put k d ms valid w h))
+    put_by (λ x. FieldsFormed (lenient_fields x)) k l d e ms (λ a. (valid, w, ap is_lt a, (u, v, b, h))) (λ a. (u, w, b, h)) (λ a. (u, v, still_below l k d ms a b, formed_put k d ms valid w h))
 
--- one more field is there: the name is a new one
-abbrev pub IsMore : List ℕ → Data → Members → Type 0
-IsMore k d ms = fields_count (lenient_fields (put k d ms)) ≡ suc (fields_count (lenient_fields ms))
+-- ---- which members there are
 
-or_turned : (a b : Bool) → (a || b) ≡ (b || a)
-or_turned true b = sym (or_right b true refl)
-or_turned false b = sym (or_false b)
+-- it is this member
+abbrev Is : List ℕ → Data → List ℕ → Data → Type 0
+Is l e k d = (k ≡ l) × (d ≡ e)
 
-pub not_whole_put : (k : List ℕ) (d : Data) (ms : Members) → IsMore k d ms → fields_not_whole (put k d ms) ≡ (fields_not_whole ms || is_not_whole d)
-not_whole_put k d no_members more = or_false (is_not_whole d)
-not_whole_put k d (member l e ms) more =
-    put_by (λ x. fields_count (lenient_fields x) ≡ suc (suc (fields_count (lenient_fields ms))) → fields_not_whole x ≡ (fields_not_whole (member l e ms) || is_not_whole d)) k l d e ms
-    (λ a n. or_turned (is_not_whole d) (fields_not_whole (member l e ms)))
-    (λ n. absurd (omega (arith, n)))
-    (λ a n. ap (λ x. is_not_whole e || x) (not_whole_put k d ms (omega (arith, n))) ∙ sym (or_more (is_not_whole e) (fields_not_whole ms) (is_not_whole d)))
-    more
+-- some member has this name and this value
+abbrev pub Has : Members → List ℕ → Data → Type 0
+Has no_members k d = ⊥
+Has (member l e ms) k d = Is l e k d ⊎ Has ms k d
 
-pub depth_put : (k : List ℕ) (d : Data) (ms : Members) → IsMore k d ms → json_members_depth (put k d ms) ≡ max (json_members_depth ms) (json_depth d)
-depth_put k d no_members more = omega arith
-depth_put k d (member l e ms) more =
-    put_by (λ x. fields_count (lenient_fields x) ≡ suc (suc (fields_count (lenient_fields ms))) → json_members_depth x ≡ max (json_members_depth (member l e ms)) (json_depth d)) k l d e ms
-    (λ a n. omega arith)
-    (λ n. absurd (omega (arith, n)))
-    (λ a n. omega (arith, depth_put k d ms (omega (arith, n))))
-    more
+put_from : (k : List ℕ) (d : Data) (ms : Members) (j : List ℕ) (x : Data) → Has (put k d ms) j x → Is k d j x ⊎ Has ms j x
+put_from k d no_members j x h = h
+put_from k d (member l e ms) j x h =
+    put_by (λ m. Has m j x → Is k d j x ⊎ Has (member l e ms) j x) k l d e ms
+    (λ a g. g)
+    (λ a g. elim g [
+      | inl (i, v) ↦ inl (i ∙ sym a, v)
+      | inr r ↦ inr (inr r)
+    ])
+    (λ a g. elim g [
+      | inl i ↦ inr (inl i)
+      | inr r ↦ elim (put_from k d ms j x r) [
+        | inl i ↦ inl i
+        | inr s ↦ inr (inr s)
+      ]
+    ])
+    h
 
--- ---- one field more
+has_put : (k : List ℕ) (d : Data) (ms : Members) → Has (put k d ms) k d
+has_put k d no_members = inl (refl, refl)
+has_put k d (member l e ms) = put_by (λ m. Has m k d) k l d e ms (λ a. inl (refl, refl)) (λ a. inl (a, refl)) (λ a. inr (has_put k d ms))
 
-one_spelled : (k : List ℕ) (d : Data) (ms : Members) → fields_spelling (lenient_fields (member k d ms)) ≡ field_spelling k d ++ fields_spelling (lenient_fields ms)
-unfolding spelling
-one_spelled k d ms = sym (append_assoc (text_spelling k) (spelling (lenient_value d)) _)
+-- a name that was there is there still
+still_named : (k : List ℕ) (d : Data) (ms : Members) (j : List ℕ) (x : Data) → Has ms j x → (y : Data) × Has (put k d ms) j y
+still_named k d no_members j x h = absurd h
+still_named k d (member l e ms) j x h =
+    put_by (λ m. (y : Data) × Has m j y) k l d e ms
+    (λ a. (x, inr h))
+    (λ a. elim h [
+      | inl (i, v) ↦ (d, inl (i, refl))
+      | inr r ↦ (x, inr r)
+    ])
+    (λ a. elim h [
+      | inl i ↦ (x, inl i)
+      | inr r ↦ let (y, s) = still_named k d ms j x r in (y, inr s)
+    ])
 
-pub none_spelled : fields_spelling (lenient_fields no_members) ≡ []
-unfolding spelling
-none_spelled = refl
+-- ---- the fields that came, and the members that were put of them
 
-abbrev put_entry : List ℕ → Data → Put
-put_entry k d = (k, length (field_spelling k d))
+has_left : (cs : List Came) (c : Came) (k : List ℕ) (d : Data) → Has (members_of cs) k d → Has (members_of (cs ++ c ∷ [])) k d
+has_left [] c k d h = absurd h
+has_left (f ∷ cs) c k d (inl i) = inl i
+has_left (f ∷ cs) c k d (inr h) = inr (has_left cs c k d h)
 
--- what one more field makes of those that were put, of which so many bytes come before it
-record OneMore (k : List ℕ) (d : Data) (old new : Members) (bytes : ℕ) : Type 0 where
-  front : List ℕ
-  back : List ℕ
-  before : fields_spelling (lenient_fields old) ≡ front ++ back
-  place : length front ≡ bytes
-  after : fields_spelling (lenient_fields new) ≡ front ++ (field_spelling k d ++ back)
-  counted : fields_count (lenient_fields new) ≡ suc (fields_count (lenient_fields old))
+has_last : (cs : List Came) (c : Came) (k : List ℕ) (d : Data) → Is c.name c.value k d → Has (members_of (cs ++ c ∷ [])) k d
+has_last [] c k d i = inl i
+has_last (f ∷ cs) c k d i = inr (has_last cs c k d i)
 
-abbrev OneMoreBelow : List ℕ → Data → Members → Members → Type 0
-OneMoreBelow k d old new = (fields_spelling (lenient_fields new) ≡ fields_spelling (lenient_fields old) ++ field_spelling k d) × (fields_count (lenient_fields new) ≡ suc (fields_count (lenient_fields old))) × (puts_of new ≡ puts_of old ++ put_entry k d ∷ [])
+has_cases : (cs : List Came) (c : Came) (k : List ℕ) (d : Data) → Has (members_of (cs ++ c ∷ [])) k d → Has (members_of cs) k d ⊎ Is c.name c.value k d
+has_cases [] c k d (inl i) = inr i
+has_cases [] c k d (inr h) = absurd h
+has_cases (f ∷ cs) c k d (inl i) = inl (inl i)
+has_cases (f ∷ cs) c k d (inr h) = elim (has_cases cs c k d h) [
+  | inl r ↦ inl (inr r)
+  | inr i ↦ inr i
+]
 
--- ---- at the end
+-- Each member is a field that came, and each name that came is there.
+pub record Collects (came : List Came) (json : Members) : Type 0 where
+  pub from : (k : List ℕ) (d : Data) → Has json k d → Has (members_of came) k d
+  pub named : (k : List ℕ) (d : Data) → Has (members_of came) k d → (e : Data) × Has json k e
 
-last_put : (k : List ℕ) (d : Data) (ms : Members) → AllBelow k ms → OneMoreBelow k d ms (put k d ms)
-last_put k d no_members h = (one_spelled k d no_members ∙ ap (λ l. field_spelling k d ++ l) none_spelled ∙ append-nil _ ∙ ap (λ l. l ++ field_spelling k d) (sym none_spelled), refl, refl)
-last_put k d (member l e ms) (lt, h) =
-    let m = last_put k d ms h in
-    subst (OneMoreBelow k d (member l e ms)) (sym (put_behind k l d e ms lt)) (
-      one_spelled l e (put k d ms) ∙ ap (λ s. field_spelling l e ++ s) m.0 ∙ sym (append_assoc (field_spelling l e) _ _) ∙ ap (λ s. s ++ field_spelling k d) (sym (one_spelled l e ms)),
-      ap suc m.1,
-      ap (λ s. put_entry l e ∷ s) m.2,
-    )
+pub collects_none : Collects [] no_members
+collects_none = record {
+  from = λ k d h. h;
+  named = λ k d h. absurd h;
+}
 
-last_below : (k j : List ℕ) (d : Data) (ms : Members) → AllBelow k ms → IsBelow k j → AllBelow j (put k d ms)
-last_below k j d no_members h lt = (lt, tt)
-last_below k j d (member l e ms) (is, h) lt =
-    subst (AllBelow j) (sym (put_behind k l d e ms is)) (nat_list_cmp_total.trans l k j is lt, last_below k j d ms h lt)
+pub collects_more : (came : List Came) (json : Members) (c : Came) → Collects came json → Collects (came ++ c ∷ []) (put c.name c.value json)
+collects_more came json c h = record {
+  from = λ k d g. elim (put_from c.name c.value json k d g) [
+    | inl i ↦ has_last came c k d i
+    | inr r ↦ has_left came c k d (h.from k d r)
+  ];
+  named = λ k d g. elim (has_cases came c k d g) [
+    | inl r ↦ let (e, s) = h.named k d r in still_named c.name c.value json k e s
+    | inr i ↦ (c.value, subst (λ n. Has (put c.name c.value json) n c.value) (sym i.0) (has_put c.name c.value json))
+  ];
+}
 
--- ---- between others
+-- ---- members in order
 
-placed : (k : List ℕ) (d : Data) (ms : Members) (place bytes : ℕ) → IsPlace (puts_of ms) k place bytes → OneMore k d ms (put k d ms) bytes
-placed k d no_members place bytes h = absurd h
-placed k d (member l e ms) zero bytes (lt, none) =
-    subst (λ x. OneMore k d (member l e ms) x bytes) (sym (put_before k l d e ms lt)) (record {
-      front = [];
-      back = fields_spelling (lenient_fields (member l e ms));
-      before = refl;
-      place = sym none;
-      after = one_spelled k d (member l e ms);
-      counted = refl;
-    })
-placed k d (member l e ms) (suc place) bytes (rest, lt, is, h) =
-    let m = placed k d ms place rest h in
-    subst (λ x. OneMore k d (member l e ms) x bytes) (sym (put_behind k l d e ms lt)) (record {
-      front = field_spelling l e ++ m.front;
-      back = m.back;
-      before = one_spelled l e ms ∙ ap (λ s. field_spelling l e ++ s) m.before ∙ sym (append_assoc (field_spelling l e) m.front m.back);
-      place = length-append (field_spelling l e) m.front ∙ ap (λ n. length (field_spelling l e) + n) m.place ∙ sym is;
-      after = one_spelled l e (put k d ms) ∙ ap (λ s. field_spelling l e ++ s) m.after ∙ sym (append_assoc (field_spelling l e) m.front _);
-      counted = ap suc m.counted;
-    })
+-- each name is below the next
+abbrev pub InOrder : Members → Type 0
+InOrder no_members = Unit {0}
+InOrder (member k d ms) = IsBelowFirst k (lenient_fields ms) × InOrder ms
 
-placed_puts : (k : List ℕ) (d : Data) (ms : Members) (place bytes : ℕ) → IsPlace (puts_of ms) k place bytes → puts_of (put k d ms) ≡ insert (puts_of ms) place (put_entry k d)
-placed_puts k d no_members place bytes h = absurd h
-placed_puts k d (member l e ms) zero bytes (lt, none) = ap puts_of (put_before k l d e ms lt)
-placed_puts k d (member l e ms) (suc place) bytes (rest, lt, is, h) = ap puts_of (put_behind k l d e ms lt) ∙ ap (λ s. put_entry l e ∷ s) (placed_puts k d ms place rest h)
+formed_in_order : (ms : Members) → FieldsFormed (lenient_fields ms) → InOrder ms
+formed_in_order no_members h = tt
+formed_in_order (member k d ms) (u, v, b, h) = (b, formed_in_order ms h)
 
--- a name above all the others is above this one too
-placed_below : (k j : List ℕ) (d : Data) (ms : Members) (place bytes : ℕ) → IsPlace (puts_of ms) k place bytes → AllBelow j ms → AllBelow j (put k d ms)
-placed_below k j d no_members place bytes h all = absurd h
-placed_below k j d (member l e ms) zero bytes (lt, none) (is, all) = subst (AllBelow j) (sym (put_before k l d e ms lt)) (nat_list_cmp_total.trans k l j lt is, (is, all))
-placed_below k j d (member l e ms) (suc place) bytes (rest, lt, eq, h) (is, all) = subst (AllBelow j) (sym (put_behind k l d e ms lt)) (is, placed_below k j d ms place rest h all)
+first_above : (last : List ℕ) (cs : List Came) → Ascend (Some last) (map place_of cs) → IsBelowFirst last (lenient_fields (members_of cs))
+first_above last [] h = tt
+first_above last (c ∷ cs) h = h.0
 
--- ---- what is known of the fields that were put
+ascending_in_order : (last : Option (List ℕ)) (cs : List Came) → Ascend last (map place_of cs) → InOrder (members_of cs)
+ascending_in_order last [] h = tt
+ascending_in_order last (c ∷ cs) (a, h) = (first_above c.name cs h, ascending_in_order (Some c.name) cs h)
 
--- what became of those that are known when one more came last
-abbrev pub MayGrow : List Put → Put → List Put → Type 0
-MayGrow known f new = (new ≡ known ++ f ∷ []) ⊎ (new ≡ known)
+later_above : (k : List ℕ) (ms : Members) (j : List ℕ) (x : Data) → IsBelowFirst k (lenient_fields ms) → InOrder ms → Has ms j x → IsBelow k j
+later_above k no_members j x b o h = absurd h
+later_above k (member l e ms) j x b (f, o) (inl (i, v)) = subst (IsBelow k) (sym i) (is_less _ b)
+later_above k (member l e ms) j x b (f, o) (inr h) = nat_list_cmp_total.trans k l j (is_less _ b) (later_above l ms j x f o h)
 
-grown_within : (known new : List Put) (f : Put) (count : ℕ) → length known ≤ count → MayGrow known f new → length new ≤ count + 1
-grown_within known new f count h (inl e) = omega (arith, h, ap length e, length-append known (f ∷ []))
-grown_within known new f count h (inr e) = omega (arith, h, ap length e)
+-- a name has one value
+one_value : (ms : Members) (k : List ℕ) (d e : Data) → InOrder ms → Has ms k d → Has ms k e → d ≡ e
+one_value no_members k d e o h g = absurd h
+one_value (member l x ms) k d e (b, o) (inl (i, v)) (inl (j, w)) = v ∙ sym w
+one_value (member l x ms) k d e (b, o) (inl (i, v)) (inr g) = absurd (not_below_itself l (subst (IsBelow l) i (later_above l ms k e b o g)))
+one_value (member l x ms) k d e (b, o) (inr h) (inl (j, w)) = absurd (not_below_itself l (subst (IsBelow l) j (later_above l ms k d b o h)))
+one_value (member l x ms) k d e (b, o) (inr h) (inr g) = one_value ms k d e o h g
 
-grown : (known all new : List Put) (f : Put) (count : ℕ) → length known ≤ count → (length known ≡ count → known ≡ all) → MayGrow known f new → length new ≡ count + 1 → new ≡ all ++ f ∷ []
-grown known all new f count h same (inl e) is = e ∙ ap (λ l. l ++ f ∷ []) (same (omega (arith, is, ap length e, length-append known (f ∷ []))))
-grown known all new f count h same (inr e) is = absurd (omega (arith, h, is, ap length e))
+same_head : (k : List ℕ) (d : Data) (ms : Members) (l : List ℕ) (e : Data) (ns : Members) → InOrder (member k d ms) → InOrder (member l e ns) → Has (member l e ns) k d → Has (member k d ms) l e → Is l e k d
+same_head k d ms l e ns (a, o) (b, p) (inl i) g = i
+same_head k d ms l e ns (a, o) (b, p) (inr h) (inl (j, w)) = absurd (not_below_itself l (subst (IsBelow l) (sym j) (later_above l ns k d b p h)))
+same_head k d ms l e ns (a, o) (b, p) (inr h) (inr g) = absurd (not_below_itself l (nat_list_cmp_total.trans l k l (later_above l ns k d b p h) (later_above k ms l e a o g)))
 
-pub last_held : (ms : Members) (d : Data) (last : Option (List ℕ)) (count : ℕ) (known new : List Put) (k : List ℕ) (n : ℕ) → HoldsFields ms last count known → is_above last k ≡ true → length (field_spelling k d) ≡ n → MayGrow known (k, n) new
-    → HoldsFields (put k d ms) (Some k) (count + 1) new
-last_held ms d last count known new k n h is long more =
-    let all = h.last_is k is in
-    let one = last_put k d ms all in
-    let grows = subst (λ m. MayGrow known (k, m) new) (sym long) more in
-    record {
-      last_is = λ j lt. last_below k j d ms all (is_less _ lt);
-      count_is = omega (arith, one.1, h.count_is);
-      within = grown_within known new (put_entry k d) count h.within grows;
-      known_are = λ e. grown known (puts_of ms) new (put_entry k d) count h.within h.known_are grows e ∙ sym one.2;
-    }
+rest_has : (k : List ℕ) (d : Data) (ms : Members) (l : List ℕ) (e : Data) (ns : Members) → IsBelowFirst k (lenient_fields ms) → InOrder ms → k ≡ l → ((j : List ℕ) (x : Data) → Has (member k d ms) j x → Has (member l e ns) j x)
+    → (j : List ℕ) (x : Data) → Has ms j x → Has ns j x
+rest_has k d ms l e ns a o same to j x h = elim (to j x (inr h)) [
+  | inl i ↦ absurd (not_below_itself k (subst (IsBelow k) (i.0 ∙ sym same) (later_above k ms j x a o h)))
+  | inr r ↦ r
+]
 
-pub last_bytes : (ms : Members) (d : Data) (last : Option (List ℕ)) (count : ℕ) (known : List Put) (k front out : List ℕ) (start length_k : ℕ) → HoldsFields ms last count known → is_above last k ≡ true → IsBehind ms k d start length_k front out
-    → out ≡ front ++ fields_spelling (lenient_fields (put k d ms))
-last_bytes ms d last count known k front out start n h is b = b.bytes ∙ ap (λ l. front ++ l) (sym (last_put k d ms (h.last_is k is)).0)
+-- members in order are told by which there are
+pub one_order : (ms ns : Members) → InOrder ms → InOrder ns → ((k : List ℕ) (d : Data) → Has ms k d → Has ns k d) → ((k : List ℕ) (d : Data) → Has ns k d → Has ms k d) → ms ≡ ns
+one_order no_members no_members o p to back = refl
+one_order no_members (member l e ns) o p to back = absurd (back l e (inl (refl, refl)))
+one_order (member k d ms) no_members o p to back = absurd (to k d (inl (refl, refl)))
+one_order (member k d ms) (member l e ns) (a, o) (b, p) to back =
+    let i = same_head k d ms l e ns (a, o) (b, p) (to k d (inl (refl, refl))) (back l e (inl (refl, refl))) in
+    let rest = one_order ms ns o p (rest_has k d ms l e ns a o i.0 to) (rest_has l e ns k d ms b p (sym i.0) back) in
+    ap (λ n. member n d ms) i.0 ∙ ap (λ v. member l v ms) i.1 ∙ ap (member l e) rest
 
-pub place_within : (known : List Put) (k : List ℕ) (place bytes : ℕ) → IsPlace known k place bytes → place < length known
-place_within [] k place bytes h = absurd h
-place_within (f ∷ fs) k zero bytes h = omega arith
-place_within (f ∷ fs) k (suc place) bytes (rest, lt, is, h) = omega (arith, place_within fs k place rest h)
+-- ---- the fields in another order
 
-pub placed_held : (ms : Members) (d : Data) (last : Option (List ℕ)) (count : ℕ) (known new : List Put) (k : List ℕ) (n place bytes : ℕ) → HoldsFields ms last count known → length known ≡ count → IsPlace known k place bytes → length (field_spelling k d) ≡ n
-    → new ≡ insert known place (k, n) → HoldsFields (put k d ms) last (count + 1) new
-placed_held ms d last count known new k n place bytes h full p long is =
-    let same = h.known_are full in
-    let q = subst (λ l. IsPlace l k place bytes) same p in
-    let one = placed k d ms place bytes q in
-    record {
-      last_is = λ j lt. placed_below k j d ms place bytes q (h.last_is j lt);
-      count_is = omega (arith, one.counted, h.count_is);
-      within = omega (arith, full, ap length is, length-insert known place (k, n) (omega (arith, place_within known k place bytes p)));
-      known_are = λ e. is ∙ ap (λ m. insert known place (k, m)) (sym long) ∙ ap (λ l. insert l place (put_entry k d)) same ∙ sym (placed_puts k d ms place bytes q);
-    }
+all_there : (cs : List Came) → All (λ c. Has (members_of cs) c.name c.value) cs
+all_there [] = All-nil _
+all_there (c ∷ cs) = All-cons (λ f. Has (members_of (c ∷ cs)) f.name f.value) c cs (inl (refl, refl)) (All-weaker (λ f. Has (members_of cs) f.name f.value) (λ f. Has (members_of (c ∷ cs)) f.name f.value) (λ f h. inr h) cs (all_there cs))
 
-pub map_insert : {A B : Type 0} (f : A → B) (xs : List A) (i : ℕ) (x : A) → map f (insert xs i x) ≡ insert (map f xs) i (f x)
-map_insert f [] zero x = refl
-map_insert f [] (suc i) x = refl
-map_insert f (y ∷ ys) zero x = refl
-map_insert f (y ∷ ys) (suc i) x = ap (λ l. f y ∷ l) (map_insert f ys i x)
+each_is : (ms : Members) (cs : List Came) → All (λ c. Has ms c.name c.value) cs → (k : List ℕ) (d : Data) → Has (members_of cs) k d → Has ms k d
+each_is ms [] all k d h = absurd h
+each_is ms (c ∷ cs) all k d (inl (i, v)) = subst (λ n. Has ms n d) (sym i) (subst (Has ms c.name) (sym v) (All-head (λ f. Has ms f.name f.value) c cs all))
+each_is ms (c ∷ cs) all k d (inr h) = each_is ms cs (All-tail (λ f. Has ms f.name f.value) c cs all) k d h
 
-pub either : {A E : Type 0} (r : Result A E) (P Q : Type 0) → OnOk r P → OnErr r Q → P ⊎ Q
-either (Ok x) P Q p q = inl p
-either (Err e) P Q p q = inr q
+has_moved : (cs ds : List Came) → IsPermutation cs ds → (k : List ℕ) (d : Data) → Has (members_of cs) k d → Has (members_of ds) k d
+has_moved cs ds p = each_is (members_of ds) cs (All-permutation (λ c. Has (members_of ds) c.name c.value) ds cs (IsPermutation-sym cs ds p) (all_there ds))
 
--- Where the field goes among the bytes, and what they are then.
-pub record Moves (front : List ℕ) (ms : Members) (d : Data) (k : List ℕ) (start bytes n : ℕ) (out : List ℕ) : Type 0 where
-  pub ahead : List ℕ
-  pub back : List ℕ
-  pub from_place : length ahead ≡ start + bytes
-  pub from_count : length (field_spelling k d) ≡ n
-  pub before : out ≡ ahead ++ (back ++ field_spelling k d)
-  pub after : ahead ++ (field_spelling k d ++ back) ≡ front ++ fields_spelling (lenient_fields (put k d ms))
-  pub fits : start + bytes + n ≤ length out
-
-pub placed_bytes : (ms : Members) (d : Data) (last : Option (List ℕ)) (count : ℕ) (known : List Put) (k front out : List ℕ) (start n place bytes : ℕ) → HoldsFields ms last count known → length known ≡ count → IsPlace known k place bytes
-    → IsBehind ms k d start n front out → Moves front ms d k start bytes n out
-placed_bytes ms d last count known k front out start n place bytes h full p b =
-    let one = placed k d ms place bytes (subst (λ l. IsPlace l k place bytes) (h.known_are full) p) in
-    let ahead = front ++ one.front in
-    let before : out ≡ ahead ++ (one.back ++ field_spelling k d) = b.bytes ∙ ap (λ l. front ++ (l ++ field_spelling k d)) one.before ∙ ap (λ l. front ++ l) (append_assoc one.front one.back (field_spelling k d)) ∙ sym (append_assoc front one.front _) in
-    record {
-      ahead = ahead;
-      back = one.back;
-      from_place = omega (arith, length-append front one.front, b.start_is, one.place);
-      from_count = b.count_is;
-      before = before;
-      after = append_assoc front one.front _ ∙ ap (λ l. front ++ l) (sym one.after);
-      fits = omega (arith, ap length before, length-append ahead (one.back ++ field_spelling k d), length-append one.back (field_spelling k d), length-append front one.front, b.start_is, one.place, b.count_is);
-    }
-
--- ---- the search for the place
-
-abbrev pub Going : List Put → List Put → List ℕ → ℕ → ℕ → Type 0
-Going known rest k place bytes = (j n : ℕ) → IsPlace rest k j n → IsPlace known k (place + j) (bytes + n)
-
-pub going_on : (known rest : List Put) (k other : List ℕ) (count place bytes : ℕ) → IsBelow other k → Going known ((other, count) ∷ rest) k place bytes → Going known rest k (place + 1) (bytes + count)
-going_on known rest k other count place bytes lt going j n h =
-    let there = going (suc j) (count + n) (n, lt, refl, h) in
-    let e : place + suc j ≡ (place + 1) + j = omega arith in
-    let m : bytes + (count + n) ≡ (bytes + count) + n = omega arith in
-    subst (λ x. IsPlace known k x ((bytes + count) + n)) e (subst (λ x. IsPlace known k (place + suc j) x) m there)
-
-pub going_end : (known rest : List Put) (k other : List ℕ) (count place bytes : ℕ) → IsBelow k other → Going known ((other, count) ∷ rest) k place bytes → IsPlace known k place bytes
-going_end known rest k other count place bytes lt going =
-    let there = going 0 0 (lt, refl) in
-    let e : place + 0 ≡ place = omega arith in
-    let m : bytes + 0 ≡ bytes = omega arith in
-    subst (λ x. IsPlace known k x bytes) e (subst (λ x. IsPlace known k (place + 0) x) m there)
-
-at_place : {A : Type 0} (f : A → Put) (xs : List A) (i : ℕ) (d : A) → i < length xs → drop i (map f xs) ≡ f (get_or xs i d) ∷ drop (suc i) (map f xs)
-at_place f [] i d h = absurd (omega (arith, h))
-at_place f (x ∷ xs) zero d h = refl
-at_place f (x ∷ xs) (suc i) d h = at_place f xs i d (omega (arith, h))
-
-at_next : {A : Type 0} (f : A → Put) (xs : List A) (i : ℕ) (d : A) → i < length xs → drop i (map f xs) ≡ f (get_or xs i d) ∷ drop (i + 1) (map f xs)
-at_next f xs i d h = let next : suc i ≡ i + 1 = omega arith in at_place f xs i d h ∙ ap (λ j. f (get_or xs i d) ∷ drop j (map f xs)) next
-
-pub found_here : {A : Type 0} (f : A → Put) (xs : List A) (i bytes : ℕ) (d : A) (k : List ℕ) → Going (map f xs) (drop i (map f xs)) k i bytes → i < length xs → is_lt (slice_cmp nat_cmp k (f (get_or xs i d)).0) ≡ true → IsPlace (map f xs) k i bytes
-found_here f xs i bytes d k going lt h =
-    let x = f (get_or xs i d) in
-    going_end (map f xs) (drop (i + 1) (map f xs)) k x.0 x.1 i bytes (is_less _ h) (subst (λ r. Going (map f xs) r k i bytes) (at_next f xs i d lt) going)
-
-pub passed_here : {A : Type 0} (f : A → Put) (xs : List A) (i bytes next : ℕ) (d : A) (k : List ℕ) → Going (map f xs) (drop i (map f xs)) k i bytes → i < length xs → is_lt (slice_cmp nat_cmp (f (get_or xs i d)).0 k) ≡ true → next ≡ bytes + (f (get_or xs i d)).1
-    → Going (map f xs) (drop (i + 1) (map f xs)) k (i + 1) next
-passed_here f xs i bytes next d k going lt h is =
-    let x = f (get_or xs i d) in
-    subst (λ n. Going (map f xs) (drop (i + 1) (map f xs)) k (i + 1) n) (sym is)
-    (going_on (map f xs) (drop (i + 1) (map f xs)) k x.0 x.1 i bytes (is_less _ h) (subst (λ r. Going (map f xs) r k i bytes) (at_next f xs i d lt) going))
+-- the members that were put are the fields in the order of their names
+pub put_in_order : (came sorted : List Came) (json : Members) → Collects came json → FieldsFormed (lenient_fields json) → IsPermutation came sorted → Ascend None (map place_of sorted) → json ≡ members_of sorted
+put_in_order came sorted json h formed p a =
+    let order = ascending_in_order None sorted a in
+    let there = λ (k : List ℕ) (d : Data) (g : Has json k d). has_moved came sorted p k d (h.from k d g) in
+    one_order json (members_of sorted) (formed_in_order json formed) order there (λ k d g.
+    let (e, s) = h.named k d (has_moved sorted came (IsPermutation-sym came sorted p) k d g) in
+    subst (Has json k) (sym (one_value (members_of sorted) k d e order g (there k e s))) s)

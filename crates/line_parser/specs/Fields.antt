@@ -1,53 +1,84 @@
--- The fields of a map in the order of their names, as they are put one after another.
-use Rattle.std.specs.Prelude.{◌≡◌, ℕ, zero, suc, ◌+◌, ◌≤◌, true, List, [], ◌∷◌, ◌++◌, length, map, Option, option_map}
-use Rattle.std.specs.Cmp.Lexicographic.{slice_cmp}
-use Rattle.std.specs.Ordering.{nat_cmp}
-use Rattle.std.specs.declared.cmp.Ordering.TheVariants.{Less}
+-- The fields of a map: in the order in which they come, and in that of their names.
+use Rattle.std.specs.Prelude.{◌≡◌, ℕ, ◌+◌, ◌≤◌, true, List, [], ◌∷◌, ◌++◌, length, map, Option, Some, None, option_map, slice_range}
+use Rattle.std.specs.List.{All}
+use Rattle.std.specs.List.Sorted.{IsPermutation}
 use Rattle.serde_json.specs.Data.{Data, Members, no_members, member}
-use Rattle.request_codec.specs.Tree.{fields_count}
 use Rattle.request_codec.specs.Reading.{is_above}
-use Rattle.line_parser.specs.Lenient.{lenient_value, lenient_fields}
-use Rattle.request_codec.specs.Written.{text_spelling, spelling, fields_spelling}
+use Rattle.request_codec.specs.Written.{text_spelling, spelling}
+use Rattle.line_parser.specs.Lenient.{lenient_value}
+use Rattle.line_parser.specs.declared.fields.Known.{Known}
 use Rattle.line_parser.specs.declared.fields.Fields.{Fields}
 
 -- the bytes of one field
 abbrev pub field_spelling : List ℕ → Data → List ℕ
 field_spelling name d = text_spelling name ++ spelling (lenient_value d)
 
--- a name, and how many bytes its field has
-abbrev pub Put : Type 0
-Put = List ℕ × ℕ
+-- a field: its name, its value, and where its bytes begin
+pub record Came : Type 0 where
+  pub name : List ℕ
+  pub value : Data
+  pub start : ℕ
 
-abbrev pub puts_of : Members → List Put
-puts_of no_members = []
-puts_of (member name d ms) = (name, length (field_spelling name d)) ∷ puts_of ms
+abbrev pub came_bytes : Came → List ℕ
+came_bytes c = field_spelling c.name c.value
 
-abbrev pub IsBelow : List ℕ → List ℕ → Type 0
-IsBelow name other = slice_cmp nat_cmp name other ≡ Less
+-- the bytes of fields, one behind the other
+abbrev pub came_spelling : List Came → List ℕ
+came_spelling [] = []
+came_spelling (c ∷ cs) = came_bytes c ++ came_spelling cs
 
--- each name is below this one
-abbrev pub AllBelow : List ℕ → Members → Type 0
-AllBelow name no_members = Unit {0}
-AllBelow name (member other d ms) = IsBelow other name × AllBelow name ms
+abbrev pub members_of : List Came → Members
+members_of [] = no_members
+members_of (c ∷ cs) = member c.name c.value (members_of cs)
 
--- The name is above the first so many, whose fields have so many bytes together, and below the next.
-abbrev pub IsPlace : List Put → List ℕ → ℕ → ℕ → Type 0
-IsPlace [] name place bytes = ⊥
-IsPlace (f ∷ fs) name zero bytes = IsBelow name f.0 × (bytes ≡ 0)
-IsPlace (f ∷ fs) name (suc place) bytes = (rest : ℕ) × IsBelow f.0 name × (bytes ≡ f.1 + rest) × IsPlace fs name place rest
+-- what is kept of a field: its name, where its bytes begin, and how many they are
+pub record Place : Type 0 where
+  pub name : List ℕ
+  pub start : ℕ
+  pub count : ℕ
 
--- What is known of the fields that were put: the last name, how many there are, and each of them while none was left out.
-pub record HoldsFields (ms : Members) (last : Option (List ℕ)) (count : ℕ) (known : List Put) : Type 0 where
-  pub last_is : (name : List ℕ) → is_above last name ≡ true → AllBelow name ms
-  pub count_is : fields_count (lenient_fields ms) ≡ count
-  pub within : length known ≤ count
-  pub known_are : length known ≡ count → known ≡ puts_of ms
+abbrev pub place_of : Came → Place
+place_of c = record { name = c.name; start = c.start; count = length (came_bytes c) }
 
-abbrev pub HoldsMembers : Fields → Members → Type 0
-HoldsMembers s ms = HoldsFields ms (option_map (λ t. t.now) s.last) s.count (map (λ f. (f.0.now, f.1)) s.known.items)
+abbrev pub place_kept : Known → Place
+place_kept k = record { name = k.name.now; start = k.start; count = k.count }
 
--- One more field stands behind those that were put from some place on.
-pub record IsBehind (ms : Members) (name : List ℕ) (d : Data) (start count : ℕ) (front out : List ℕ) : Type 0 where
-  pub start_is : length front ≡ start
-  pub count_is : length (field_spelling name d) ≡ count
-  pub bytes : out ≡ front ++ (fields_spelling (lenient_fields ms) ++ field_spelling name d)
+-- each name is above the one before it, and the first above this one
+abbrev pub Ascend : Option (List ℕ) → List Place → Type 0
+Ascend last [] = Unit {0}
+Ascend last (p ∷ ps) = (is_above last p.name ≡ true) × Ascend (Some p.name) ps
+
+-- the bytes at these places, in their order
+abbrev pub bytes_at : List ℕ → List Place → List ℕ
+bytes_at out [] = []
+bytes_at out (p ∷ ps) = slice_range out p.start (p.start + p.count) ++ bytes_at out ps
+
+-- each place lies within so many bytes
+abbrev pub LieWithin : ℕ → List Place → Type 0
+LieWithin n [] = Unit {0}
+LieWithin n (p ∷ ps) = (p.start + p.count ≤ n) × LieWithin n ps
+
+-- These fields came, in this order; if their names ascend so far, they go on to with each name above the last.
+pub record HoldsFields (came : List Came) (fields : Fields) : Type 0 where
+  pub kept : map place_kept fields.known.items ≡ map place_of came
+  pub ascend : fields.ascend ≡ true → (more : List Place) → Ascend (option_map (λ t. t.now) fields.last) more → Ascend None (map place_of came ++ more)
+
+-- the bytes of a field stand at its place
+pub record Stands (out : List ℕ) (c : Came) : Type 0 where
+  pub ahead : List ℕ
+  pub behind : List ℕ
+  pub at_start : length ahead ≡ c.start
+  pub bytes : out ≡ ahead ++ (came_bytes c ++ behind)
+
+-- The fields stand behind what was there before, in the order in which they came.
+pub record AreBehind (came : List Came) (start : ℕ) (front out : List ℕ) : Type 0 where
+  pub at_start : length front ≡ start
+  pub bytes : out ≡ front ++ came_spelling came
+  pub stand : All (Stands out) came
+
+-- The fields stand there in the order of their names, and no name stands twice.
+pub record AreSorted (came : List Came) (front out : List ℕ) : Type 0 where
+  pub sorted : List Came
+  pub same : IsPermutation came sorted
+  pub ascend : Ascend None (map place_of sorted)
+  pub bytes : out ≡ front ++ came_spelling sorted

@@ -152,14 +152,16 @@ fn put_fields(
 {
     put_start(out, limit, Start::Map(0))?;
     let start = out.len();
-    let mut fields = Fields::new();
+    let mut fields = Fields::new(*out.allocator());
     'fields: while let Some(name) = reader.next_key()? {
         let from = out.len();
         put_text(out, limit, known(name))?;
         put_value(out, limit, reader, depth, faults)?;
         let count = out.len() - from;
-        fields.add(out, start, name, count)?;
+        fields.add(name, from, count)?;
     }
-    set_count(out, start - 4, fields.count as u32);
+    let count = fields.count();
+    fields.sort(out, start)?;
+    set_count(out, start - 4, count as u32);
     Ok(())
 }

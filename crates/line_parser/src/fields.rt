@@ -1,140 +1,129 @@
-//! The fields of a map, which stand in the order of their names whatever order they come in.
+//! The fields of a map: they are put in the order in which they come, and at the end of the map in that of their names.
 
-ghost use Rattle.std.specs.Prelude.{◌≡◌, ◌<◌, ◌≤◌, ◌^◌, ◌+◌, ◌++◌, ℕ, List, length, map, IsTrue, IfSome, OnOk, option_map};
-ghost use Rattle.serde_json.specs.Data.{Data, Members, no_members, put};
-ghost use Rattle.request_codec.specs.Reading.{is_above};
-ghost use Rattle.line_parser.specs.Lenient.{lenient_fields};
-ghost use Rattle.request_codec.specs.Written.{fields_spelling};
-ghost use Rattle.line_parser.specs.Fields.{IsPlace, HoldsMembers, IsBehind, AllBelow, field_spelling};
+ghost use Rattle.std.specs.Prelude.{◌≡◌, ◌<◌, ◌≤◌, ◌^◌, ◌+◌, ◌++◌, ◌∷◌, [], ℕ, List, length, map, None, OnOk, slice_range};
+ghost use Rattle.serde_json.specs.Data.{Data};
+ghost use Rattle.line_parser.specs.Fields.{Came, HoldsFields, AreBehind, AreSorted, Ascend, LieWithin, bytes_at, place_kept, field_spelling};
 
 use crate::unread::Unread;
-use arrayvec::ArrayVec;
 use request_codec::bytes::may_follow;
-use std::alloc::AllocError;
+use smallvec::SmallVec;
+use std::alloc::{AllocError, Global};
 
-/// The most fields that a map may have if its names don't ascend.
-const MOST_KNOWN: usize = 16;
+/// So many fields of a map are kept with no memory of their own.
+const FEW_FIELDS: usize = 16;
 
-/// The fields of a map that were put, in the order of their names.
+/// What is kept of a field: its name, where its bytes begin, and how many they are.
+#[derive(Clone, Copy, Default, PartialEq, Eq, PartialOrd, Ord)]
+pub(crate) struct Known<'a> {
+    name: &'a str,
+    start: u32,
+    count: u32,
+}
+
+/// The fields of a map that were put, in the order in which they came.
 #[derive(Drop)]
 pub(crate) struct Fields<'a> {
-    pub(crate) count: usize,
+    known: SmallVec<Known<'a>, FEW_FIELDS>,
     last: Option<&'a str>,
-    known: ArrayVec<(&'a str, usize), MOST_KNOWN>,
+    ascend: bool,
 }
 
-/// How many fields come before the name, and how many bytes these have, if some name is above it and
-/// none is equal.
-fn place_of(known: &[(&str, usize)], name: &str) -> Option<(usize, usize)>
-    ensures { IfSome result (λ found. IsPlace (map (λ f. (f.0.now, f.1)) known.now) name.now found.0 found.1) }
+/// Puts so many bytes once more, at the end.
+fn put_bytes(out: &mut Vec<u8>, start: u32, count: u32) -> Result<(), AllocError>
+    requires { start + count ≤ length out.old.items }
+    ensures { OnOk result (out.new.items ≡ out.old.items ++ slice_range out.old.items start (start + count)) }
 {
-    let mut bytes = 0usize;
+    let start = start as usize;
+    out.extend_from_within(start..start + count as usize)
+}
+
+/// Puts the bytes of these fields once more, at the end. A line in which a name isn't above the one
+/// before it is left.
+fn put_again(out: &mut Vec<u8>, known: &[Known<'_>]) -> Result<(), Unread>
+    requires { LieWithin (length out.old.items) (map place_kept known.now) }
+    ensures ascend { OnOk result (Ascend None (map place_kept known.now)) }
+    ensures bytes { OnOk result (out.new.items ≡ out.old.items ++ bytes_at out.old.items (map place_kept known.now)) }
+{
+    let mut last = None;
     for place in 0..known.len() {
-        let (other, count) = known[place];
-        if may_follow(Some(name), other) {
-            return Some((place, bytes));
+        let field = known[place];
+        if !may_follow(last, field.name) {
+            return Err(Unread::Unusual);
         }
-        if !may_follow(Some(other), name) {
-            return None;
-        }
-        bytes = bytes.checked_add(count)?;
+        put_bytes(out, field.start, field.count)?;
+        last = Some(field.name);
     }
-    None
+    Ok(())
 }
 
-/// Moves the last so many bytes to a place before them. What they pass is put behind them first.
-fn move_back(out: &mut Vec<u8>, place: usize, count: usize) -> Result<(), AllocError>
-    requires { place + count ≤ length out.old.items }
-    ensures len { length out.new.items ≡ length out.old.items }
-    ensures bytes { OnOk result ((front back moved : List ℕ) → length front ≡ place → length moved ≡ count
-        → out.old.items ≡ front ++ (back ++ moved) → out.new.items ≡ front ++ (moved ++ back)) }
+/// Moves the bytes from `end` on to an earlier place, over those that stand there, and cuts what is left.
+fn move_down(out: &mut Vec<u8>, start: usize, end: usize)
+    requires within { start ≤ end }
+    requires ends { end ≤ length out.old.items }
+    requires even { length out.old.items + start ≡ end + end }
+    ensures len { length out.new.items ≡ end }
+    ensures bytes { (front old moved : List ℕ) → length front ≡ start → length moved ≡ length old
+        → out.old.items ≡ (front ++ old) ++ moved → out.new.items ≡ front ++ moved }
 {
-    let whole = out.len();
-    let from = whole - count;
-    out.extend_from_within(place..from)?;
-    out.copy_within(from.., place);
-    out.truncate(whole);
-    Ok(())
+    out.copy_within(end.., start);
+    out.truncate(end);
 }
 
 impl<'a> Fields<'a> {
     /// No field yet.
-    pub(crate) fn new() -> Fields<'a>
-        ensures { HoldsMembers result no_members }
+    pub(crate) fn new(alloc: Global) -> Fields<'a>
+        ensures { HoldsFields [] result }
     {
         Fields {
-            count: 0,
+            known: SmallVec::new(alloc),
             last: None,
-            known: ArrayVec::new(),
+            ascend: true,
         }
     }
 
-    /// Takes in a field whose name is above all others.
-    fn add_last(&mut self, name: &'a str, count: usize)
-        requires few { self.old.count < 2 ^ 32 }
-        requires above { IsTrue (is_above (option_map (λ s. s.now) self.old.last) name.now) }
-        ensures count { self.new.count ≡ self.old.count + 1 }
-        ensures put { (ms : Members) (d : Data) → HoldsMembers self.old ms → length (field_spelling name.now d) ≡ count
-            → HoldsMembers self.new (put name.now d ms) }
+    /// How many there are.
+    pub(crate) fn count(&self) -> usize
+        ensures { (came : List Came) → HoldsFields came self.now → result ≡ length came }
     {
-        let _ = self.known.try_push((name, count));
-        self.last = Some(name);
-        self.count += 1;
+        self.known.len()
     }
 
-    /// Takes in a field whose name is below another's, and moves its bytes there.
-    fn add_between(
+    /// Takes in the field that was put last.
+    pub(crate) fn add(
         &mut self,
-        out: &mut Vec<u8>,
-        start: usize,
         name: &'a str,
+        start: usize,
         count: usize,
-    ) -> Result<(), Unread>
-        requires few { self.old.count < 2 ^ 32 }
-        requires small { length out.old.items < 2 ^ 32 }
-        requires behind { (ms : Members) × (d : Data) × (front : List ℕ) × HoldsMembers self.old ms
-            × IsBehind ms name.now d start count front out.old.items }
-        ensures put { OnOk result ((ms : Members) (d : Data) (front : List ℕ) → HoldsMembers self.old ms
-            → IsBehind ms name.now d start count front out.old.items
-            → HoldsMembers self.new (put name.now d ms) × (out.new.items ≡ front ++ fields_spelling (lenient_fields (put name.now d ms)))) }
-        ensures len { length out.new.items ≡ length out.old.items }
-        ensures count { OnOk result (self.new.count ≡ self.old.count + 1) }
+    ) -> Result<(), AllocError>
+        requires small { start + count < 2 ^ 32 }
+        ensures { OnOk result ((came : List Came) (d : Data) → HoldsFields came self.old → length (field_spelling name.now d) ≡ count
+            → HoldsFields (came ++ (record { name = name.now; value = d; start = start }) ∷ []) self.new) }
     {
-        if self.known.len() != self.count || self.known.is_full() {
-            return Err(Unread::Unusual);
-        }
-        let Some((place, before)) = place_of(self.known.as_slice(), name) else {
-            return Err(Unread::Unusual);
-        };
-        move_back(out, start + before, count)?;
-        self.known.insert(place, (name, count));
-        self.count += 1;
+        self.known.push(Known {
+            name,
+            start: start as u32,
+            count: count as u32,
+        })?;
+        self.ascend = self.ascend && may_follow(self.last, name);
+        self.last = Some(name);
         Ok(())
     }
 
-    /// Takes in the field that stands behind the others, which begin at `start`, and moves its bytes
-    /// to the place of its name.
-    pub(crate) fn add(
-        &mut self,
-        out: &mut Vec<u8>,
-        start: usize,
-        name: &'a str,
-        count: usize,
-    ) -> Result<(), Unread>
-        requires few { self.old.count < 2 ^ 32 }
-        requires small { length out.old.items < 2 ^ 32 }
-        requires behind { (ms : Members) × (d : Data) × (front : List ℕ) × HoldsMembers self.old ms
-            × IsBehind ms name.now d start count front out.old.items }
-        ensures put { OnOk result ((ms : Members) (d : Data) (front : List ℕ) → HoldsMembers self.old ms
-            → IsBehind ms name.now d start count front out.old.items
-            → HoldsMembers self.new (put name.now d ms) × (out.new.items ≡ front ++ fields_spelling (lenient_fields (put name.now d ms)))) }
-        ensures len { length out.new.items ≡ length out.old.items }
-        ensures count { OnOk result (self.new.count ≡ self.old.count + 1) }
+    /// Brings the bytes of the fields, which begin at `start`, into the order of their names. A line with
+    /// a name twice is left.
+    pub(crate) fn sort(&mut self, out: &mut Vec<u8>, start: usize) -> Result<(), Unread>
+        requires { (came : List Came) × (front : List ℕ) × HoldsFields came self.old × AreBehind came start front out.old.items }
+        ensures sorted { OnOk result ((came : List Came) (front : List ℕ) → HoldsFields came self.old
+            → AreBehind came start front out.old.items → AreSorted came front out.new.items) }
+        ensures len { OnOk result (length out.new.items ≡ length out.old.items) }
     {
-        if may_follow(self.last, name) {
-            self.add_last(name, count);
+        if self.ascend {
             return Ok(());
         }
-        self.add_between(out, start, name, count)
+        self.known.sort_unstable();
+        let end = out.len();
+        put_again(out, self.known.as_slice())?;
+        move_down(out, start, end);
+        Ok(())
     }
 }

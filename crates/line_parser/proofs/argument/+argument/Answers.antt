@@ -1,13 +1,13 @@
-use Rattle.std.proofs.Common.{◌≡◌, ◌-◌, ◌++◌, ◌∷◌, [], ℕ, List, length, Some, None, to_z-of_z, ap, sym, subst, refl, ◌∙◌, arith}
+use Rattle.std.proofs.Common.{◌≡◌, ◌-◌, ◌++◌, ◌∷◌, [], ℕ, List, length, Some, None, to_z-of_z, ap, sym, subst, ◌∙◌, arith}
 use Rattle.std.proofs.lemmas.List.{length-append}
 use Rattle.json.specs.Json.{after_end_array, read_key}
 use Rattle.json.specs.Reads.{token_of}
 use Rattle.request_codec.specs.Written.{text_spelling, spelling}
 use Rattle.request_codec.specs.Tree as tree
 use Rattle.line_parser.specs.Argument.{PutsValue}
-use Rattle.line_parser.specs.Fields.{IsBehind}
+use Rattle.line_parser.specs.Fields.{field_spelling, AreBehind}
 use Rattle.line_parser.proofs.ItemsRead.{items_start, items_next, items_stop}
-use Rattle.line_parser.proofs.FieldsRead.{begun, fields_start, behind_them, fields_next, fields_stop}
+use Rattle.line_parser.proofs.FieldsRead.{begun, last_bytes, last_count, fields_start, fields_next, fields_stop}
 use Rattle.line_parser.proofs.PutValues.{put_null, put_bool, put_string, put_number, put_other_number, put_list, put_map}
 use Rattle.line_parser.proofs.argument.+argument.Goals as goal
 
@@ -51,16 +51,11 @@ put_fields-fields-init t c =
 pub put_fields-add-requires : goal.put_fields-add-requires
 put_fields-add-requires t c =
     let l = c.fields in
-    let f = l.invariant.so_far in
     let k = c.in-Some.name.now in
     let v = c.in_ok-put_value.ensures.value in
     let text : c.put_text.new.out.items ≡ l.out.items ++ text_spelling k = c.in_ok-put_text.ensures.0 ∙ ap (λ (s : List ℕ). l.out.items ++ text_spelling s) c.known.ensures.same in
-    let behind = behind_them c.args.depth c.args.reader.now l.reader c.next_key.new.self c.put_value.new.reader c.args.out.now.items l.out.items c.put_text.new.out.items c.put_value.new.out.items l.fields c.args.faults.now l.faults c.put_value.new.faults k c.len-from.result (c.len.result - c.len-from.result) f text v (omega (arith, c.len-from.ensures)) (omega (arith, c.len.ensures)) in
-    record {
-      few = omega (arith, f.some, l.invariant.within, c.requires.small);
-      small = omega (arith, c.in_ok-put_value.ensures.within, c.requires.small);
-      behind = (f.json, v.json, begun c.args.out.now.items, f.holds, subst (λ n. IsBehind f.json k v.json n (c.len.result - c.len-from.result) (begun c.args.out.now.items) c.put_value.new.out.items) (sym l.invariant.place) behind);
-    }
+    let all = last_bytes c.args.depth c.next_key.new.self c.put_value.new.reader l.out.items c.put_text.new.out.items c.put_value.new.out.items l.faults c.put_value.new.faults k text v in
+    omega (arith, c.in_ok-put_value.ensures.within, c.requires.small, c.len-from.ensures, c.len.ensures, ap length all, length-append l.out.items (field_spelling k v.json))
 
 pub put_fields-fields-preserved : goal.put_fields-fields-preserved
 put_fields-fields-preserved t c =
@@ -70,19 +65,28 @@ put_fields-fields-preserved t c =
     let v = c.in_ok-put_value.ensures.value in
     let named : read_key l.reader ≡ Some (Some k, c.next_key.new.self) = grind arith in
     let text : c.put_text.new.out.items ≡ l.out.items ++ text_spelling k = c.in_ok-put_text.ensures.0 ∙ ap (λ (s : List ℕ). l.out.items ++ text_spelling s) c.known.ensures.same in
-    let behind = behind_them c.args.depth c.args.reader.now l.reader c.next_key.new.self c.put_value.new.reader c.args.out.now.items l.out.items c.put_text.new.out.items c.put_value.new.out.items l.fields c.args.faults.now l.faults c.put_value.new.faults k c.len-from.result (c.len.result - c.len-from.result) f text v (omega (arith, c.len-from.ensures)) (omega (arith, c.len.ensures)) in
-    let put = c.in_ok-add.ensures.put f.json v.json (begun c.args.out.now.items) f.holds (subst (λ n. IsBehind f.json k v.json n (c.len.result - c.len-from.result) (begun c.args.out.now.items) c.put_value.new.out.items) (sym l.invariant.place) behind) in
+    let all = last_bytes c.args.depth c.next_key.new.self c.put_value.new.reader l.out.items c.put_text.new.out.items c.put_value.new.out.items l.faults c.put_value.new.faults k text v in
+    let from : c.len-from.result ≡ length l.out.items = omega (arith, c.len-from.ensures) in
+    let count = last_count l.out.items c.put_value.new.out.items k v.json c.len-from.result (c.len.result - c.len-from.result) all from (omega (arith, c.len.ensures)) in
     record {
-      so_far = fields_next c.args.depth c.args.reader.now l.reader c.next_key.new.self c.put_value.new.reader c.args.out.now.items l.out.items c.put_text.new.out.items c.put_value.new.out.items c.add.new.out.items l.fields c.add.new.self c.args.faults.now l.faults c.put_value.new.faults k f named c.known.ensures.utf8 text v c.in_ok-add.ensures.len put.0 put.1 (omega (arith, c.in_ok-add.ensures.count));
-      within = omega (arith, c.in_ok-put_value.ensures.within, c.in_ok-add.ensures.len);
+      so_far = fields_next c.args.depth c.args.reader.now l.reader c.next_key.new.self c.put_value.new.reader c.args.out.now.items l.out.items c.put_text.new.out.items c.put_value.new.out.items l.fields c.add.new.self c.args.faults.now l.faults c.put_value.new.faults k c.len-from.result f named c.known.ensures.utf8 text v from (c.in_ok-add.ensures f.came v.json f.holds count);
+      within = c.in_ok-put_value.ensures.within;
       place = l.invariant.place;
       depth = l.invariant.depth;
     }
 
+pub put_fields-sort-requires : goal.put_fields-sort-requires
+put_fields-sort-requires t c =
+    let l = c.fields in
+    let f = l.invariant.so_far in
+    (f.came, begun c.args.out.now.items, f.holds, subst (λ n. AreBehind f.came n (begun c.args.out.now.items) l.out.items) (sym l.invariant.place) f.put)
+
 pub put_fields-returns-clause-value : goal.put_fields-returns-clause-value
 put_fields-returns-clause-value t c =
     let l = c.fields in
-    fields_stop c.args.depth c.args.reader.now l.reader c.next_key.new.self c.args.out.now.items l.out.items c.set_count.new.out.items l.fields c.args.faults.now l.faults (c.len-start.result - 4) l.fields.count l.invariant.so_far (grind arith) (omega (arith, l.invariant.place)) refl c.set_count.ensures.bytes
+    let f = l.invariant.so_far in
+    let sorted = c.in_ok-sort.ensures.sorted f.came (begun c.args.out.now.items) f.holds (subst (λ n. AreBehind f.came n (begun c.args.out.now.items) l.out.items) (sym l.invariant.place) f.put) in
+    fields_stop c.args.depth c.args.reader.now l.reader c.next_key.new.self c.args.out.now.items l.out.items c.sort.new.out.items c.set_count.new.out.items l.fields c.args.faults.now l.faults (c.len-start.result - 4) c.count-count.result f (grind arith) sorted (omega (arith, l.invariant.place)) (c.count-count.ensures f.came f.holds) c.set_count.ensures.bytes
 
 pub put_value-returns-in_ok-put_start-in-Null-clause-value : goal.put_value-returns-in_ok-put_start-in-Null-clause-value
 put_value-returns-in_ok-put_start-in-Null-clause-value t c =

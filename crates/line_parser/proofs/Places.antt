@@ -1,0 +1,212 @@
+-- Where the bytes of a map's fields stand, and what they are once they stand in another order.
+use Rattle.std.proofs.Common.{◌≡◌, ℕ, zero, suc, ◌+◌, ◌-◌, ◌≤◌, ◌<◌, true, List, [], ◌∷◌, ◌++◌, length, map, take, drop, get_or, set, Option, Some, None, option_map, refl, sym, ap, ap₂, subst, ◌∙◌, append_assoc, append-nil, arith}
+use Rattle.std.specs.Prelude.{slice_range}
+use Rattle.std.specs.List.{All, swap, sum_by}
+use Rattle.std.specs.List.Sorted.{IsPermutation}
+use Rattle.std.proofs.lemmas.List.{length-append, length-drop, take-append-le, drop-append-le, map-append, map-set, get_or-map, length-map}
+use Rattle.std.proofs.lemmas.List.Elements.{All-head, All-tail, All-push, All-weaker}
+use Rattle.std.proofs.lemmas.List.Recursion.{is_sum_by}
+use Rattle.std.proofs.lemmas.List.Sorted.{IsPermutation-refl, IsPermutation-trans, IsPermutation-swap, IsPermutation-map, IsPermutation-keeps, All-permutation, sum_by-IsPermutation}
+use Rattle.std.proofs.Math.Seq.{take-append_seam, drop-append_seam}
+use Rattle.request_codec.specs.Reading.{is_above}
+use Rattle.line_parser.specs.Fields.{Came, came_bytes, came_spelling, Place, place_of, place_kept, Ascend, LieWithin, bytes_at, HoldsFields, Stands, AreBehind, AreSorted}
+use Rattle.line_parser.specs.declared.fields.Fields.{Fields}
+use Rattle.line_parser.specs.declared.fields.Known.{Known}
+
+-- ---- the bytes are put again, place by place
+
+-- what was put again so far: the places `left` are still to come
+pub record PutAgain (all left : List Place) (last : Option (List ℕ)) (old out : List ℕ) : Type 0 where
+  pub within : LieWithin (length old) left
+  pub ascend : Ascend last left → Ascend None all
+  pub put : List ℕ
+  pub grown : out ≡ old ++ put
+  pub bytes : put ++ bytes_at old left ≡ bytes_at old all
+
+pub again_start : (all : List Place) (old : List ℕ) → LieWithin (length old) all → PutAgain all all None old old
+again_start all old h = record {
+  within = h;
+  ascend = λ a. a;
+  put = [];
+  grown = sym (append-nil old);
+  bytes = refl;
+}
+
+-- what stands within the first bytes doesn't change if more are put behind
+range_left : (xs ys : List ℕ) (a b : ℕ) → a ≤ b → b ≤ length xs → slice_range (xs ++ ys) a b ≡ slice_range xs a b
+range_left xs ys a b ab h =
+    let long = length-drop a xs in
+    ap (take (b - a)) (drop-append-le a xs ys (omega (arith, ab, h))) ∙ take-append-le (b - a) (drop a xs) ys (omega (arith, ab, h, long))
+
+pub again_next : (all left rest : List Place) (p : Place) (last : Option (List ℕ)) (old out new : List ℕ) → PutAgain all left last old out → left ≡ p ∷ rest → is_above last p.name ≡ true → new ≡ out ++ slice_range out p.start (p.start + p.count)
+    → PutAgain all rest (Some p.name) old new
+again_next all left rest p last old out new a is above grows =
+    let h = subst (LieWithin (length old)) is a.within in
+    let more = slice_range old p.start (p.start + p.count) in
+    let same : slice_range out p.start (p.start + p.count) ≡ more =
+    ap (λ l. slice_range l p.start (p.start + p.count)) a.grown ∙ range_left old a.put p.start (p.start + p.count) (omega arith) h.0 in
+    record {
+      within = h.1;
+      ascend = λ r. a.ascend (subst (Ascend last) (sym is) (above, r));
+      put = a.put ++ more;
+      grown = grows ∙ ap₂ (λ x y. x ++ y) a.grown same ∙ append_assoc old a.put more;
+      bytes = append_assoc a.put more (bytes_at old rest) ∙ ap (λ l. a.put ++ bytes_at old l) (sym is) ∙ a.bytes;
+    }
+
+pub again_stop : (all left : List Place) (last : Option (List ℕ)) (old out : List ℕ) → PutAgain all left last old out → left ≡ [] → Ascend None all × (out ≡ old ++ bytes_at old all)
+again_stop all left last old out a is = (
+  a.ascend (subst (Ascend last) (sym is) tt),
+  a.grown ∙ ap (λ l. old ++ l) (sym (append-nil a.put) ∙ ap (λ l. a.put ++ bytes_at old l) (sym is) ∙ a.bytes),
+)
+
+place_within : (all left rest : List Place) (p : Place) (last : Option (List ℕ)) (old out : List ℕ) → PutAgain all left last old out → left ≡ p ∷ rest → p.start + p.count ≤ length out
+place_within all left rest p last old out a is =
+    let h = subst (LieWithin (length old)) is a.within in
+    omega (arith, h.0, ap length a.grown, length-append old a.put)
+
+at_place : {A : Type 0} (f : A → Place) (xs : List A) (i : ℕ) (d : A) → i < length xs → drop i (map f xs) ≡ f (get_or xs i d) ∷ drop (suc i) (map f xs)
+at_place f [] i d h = absurd (omega (arith, h))
+at_place f (x ∷ xs) zero d h = refl
+at_place f (x ∷ xs) (suc i) d h = at_place f xs i d (omega (arith, h))
+
+pub at_next : {A : Type 0} (f : A → Place) (xs : List A) (i : ℕ) (d : A) → i < length xs → drop i (map f xs) ≡ f (get_or xs i d) ∷ drop (i + 1) (map f xs)
+at_next f xs i d h = let next : suc i ≡ i + 1 = omega arith in at_place f xs i d h ∙ ap (λ j. f (get_or xs i d) ∷ drop j (map f xs)) next
+
+pub place_there : {A : Type 0} (f : A → Place) (xs : List A) (i : ℕ) (d : A) (last : Option (List ℕ)) (old out : List ℕ) → i < length xs → PutAgain (map f xs) (drop i (map f xs)) last old out → (f (get_or xs i d)).start + (f (get_or xs i d)).count ≤ length out
+place_there f xs i d last old out h a = place_within (map f xs) (drop i (map f xs)) (drop (i + 1) (map f xs)) (f (get_or xs i d)) last old out a (at_next f xs i d h)
+
+pub none_left : {A : Type 0} (f : A → Place) (xs : List A) (i : ℕ) → length xs ≤ i → drop i (map f xs) ≡ []
+none_left f [] zero h = refl
+none_left f [] (suc i) h = refl
+none_left f (x ∷ xs) zero h = absurd (omega (arith, h))
+none_left f (x ∷ xs) (suc i) h = none_left f xs i (omega (arith, h))
+
+-- ---- the fields in another order
+
+map-swap : {A : Type 0} (f : A → Place) (xs : List A) (i j : ℕ) → i < length xs → j < length xs → map f (swap xs i j) ≡ swap (map f xs) i j
+map-swap f [] i j h g = refl
+map-swap f (d ∷ ys) i j h g =
+    let first = map-set f (d ∷ ys) i (get_or (d ∷ ys) j d) in
+    let moved : List _ = set (d ∷ ys) i (get_or (d ∷ ys) j d) in
+    map-set f (set (d ∷ ys) i (get_or (d ∷ ys) j d)) j (get_or (d ∷ ys) i d)
+    ∙ ap₂ (λ l x. set l j x) (first ∙ ap (set (map f (d ∷ ys)) i) (sym (get_or-map f (d ∷ ys) j d (f d) g))) (sym (get_or-map f (d ∷ ys) i d (f d) h))
+
+-- what is another order of places is that of the fields in some order
+pub record Moved (cs : List Came) (ps : List Place) : Type 0 where
+  fields : List Came
+  same : IsPermutation cs fields
+  places : map place_of fields ≡ ps
+
+moved : (cs : List Came) (ps : List Place) → IsPermutation (map place_of cs) ps → Moved cs ps
+moved cs = IsPermutation-keeps (map place_of cs) (Moved cs) (record { fields = cs; same = IsPermutation-refl cs; places = refl }) (λ ps i j a b m.
+    let long : length m.fields ≡ length ps = sym (length-map m.fields place_of) ∙ ap length m.places in
+    let p : i < length m.fields = omega (arith, long) in
+    let q : j < length m.fields = omega (arith, long) in
+    record {
+      fields = swap m.fields i j;
+      same = IsPermutation-trans cs m.fields (swap m.fields i j) m.same (IsPermutation-swap m.fields (swap m.fields i j) i j p q refl);
+      places = map-swap place_of m.fields i j p q ∙ ap (λ l. swap l i j) m.places;
+    })
+
+-- ---- what stands at the places
+
+stands_range : (out : List ℕ) (c : Came) → Stands out c → slice_range out c.start (c.start + length (came_bytes c)) ≡ came_bytes c
+stands_range out c s =
+    let n = length (came_bytes c) in
+    let size : c.start + n - c.start ≡ n = omega arith in
+    ap₂ take size (ap₂ drop (sym s.at_start) s.bytes ∙ drop-append_seam s.ahead (came_bytes c ++ s.behind)) ∙ take-append_seam (came_bytes c) s.behind
+
+stands_within : (out : List ℕ) (c : Came) → Stands out c → c.start + length (came_bytes c) ≤ length out
+stands_within out c s = omega (arith, s.at_start, ap length s.bytes, length-append s.ahead (came_bytes c ++ s.behind), length-append (came_bytes c) s.behind)
+
+lie_within : (out : List ℕ) (cs : List Came) → All (Stands out) cs → LieWithin (length out) (map place_of cs)
+lie_within out [] all = tt
+lie_within out (c ∷ cs) all = (stands_within out c (All-head (Stands out) c cs all), lie_within out cs (All-tail (Stands out) c cs all))
+
+bytes_there : (out : List ℕ) (cs : List Came) → All (Stands out) cs → bytes_at out (map place_of cs) ≡ came_spelling cs
+bytes_there out [] all = refl
+bytes_there out (c ∷ cs) all = ap₂ (λ x y. x ++ y) (stands_range out c (All-head (Stands out) c cs all)) (bytes_there out cs (All-tail (Stands out) c cs all))
+
+length_spelled : (cs : List Came) → length (came_spelling cs) ≡ sum_by (λ c. length (came_bytes c)) cs
+length_spelled = is_sum_by (λ cs. length (came_spelling cs)) (λ c. length (came_bytes c)) refl (λ c cs. length-append (came_bytes c) (came_spelling cs))
+
+same_length : (cs ds : List Came) → IsPermutation cs ds → length (came_spelling ds) ≡ length (came_spelling cs)
+same_length cs ds p = length_spelled ds ∙ sum_by-IsPermutation (λ c. length (came_bytes c)) cs ds p ∙ sym (length_spelled cs)
+
+-- ---- the fields are sorted
+
+abbrev places_kept : Fields → List Place
+places_kept s = map place_kept s.known.items
+
+-- The table was sorted: it has the places of the fields in some order.
+pub sorted_places : (came : List Came) (fields : Fields) (known : List Known) → HoldsFields came fields → IsPermutation fields.known.items known → Moved came (map place_kept known)
+sorted_places came fields known h p = moved came (map place_kept known) (subst (λ l. IsPermutation l (map place_kept known)) h.kept (IsPermutation-map place_kept fields.known.items known p))
+
+pub sorted_within : (came : List Came) (front out : List ℕ) (start : ℕ) (ps : List Place) → AreBehind came start front out → Moved came ps → LieWithin (length out) ps
+sorted_within came front out start ps b m = subst (LieWithin (length out)) m.places (lie_within out m.fields (All-permutation (Stands out) came m.fields m.same b.stand))
+
+bytes_moved : (came : List Came) (front out : List ℕ) (start : ℕ) (ps : List Place) → AreBehind came start front out → (m : Moved came ps) → bytes_at out ps ≡ came_spelling m.fields
+bytes_moved came front out start ps b m = ap (bytes_at out) (sym m.places) ∙ bytes_there out m.fields (All-permutation (Stands out) came m.fields m.same b.stand)
+
+-- what was put again is as long as what stands there
+pub sorted_even : (came : List Came) (front out again : List ℕ) (start : ℕ) (ps : List Place) → AreBehind came start front out → Moved came ps → again ≡ out ++ bytes_at out ps → length again + start ≡ length out + length out
+sorted_even came front out again start ps b m grown =
+    omega (arith, ap length grown, length-append out (bytes_at out ps), ap length (bytes_moved came front out start ps b m), same_length came m.fields m.same, ap length b.bytes, length-append front (came_spelling came), b.at_start)
+
+-- ..and their bytes were put again in that order, over those that stood there before
+pub are_sorted : (came : List Came) (front out again new : List ℕ) (start : ℕ) (ps : List Place) → AreBehind came start front out → Moved came ps → Ascend None ps → again ≡ out ++ bytes_at out ps
+    → ((front old moved : List ℕ) → length front ≡ start → length moved ≡ length old → again ≡ (front ++ old) ++ moved → new ≡ front ++ moved) → AreSorted came front new
+are_sorted came front out again new start ps b m a grown down =
+    let put = bytes_moved came front out start ps b m in
+    record {
+      sorted = m.fields;
+      same = m.same;
+      ascend = subst (Ascend None) (sym m.places) a;
+      bytes = down front (came_spelling came) (came_spelling m.fields) b.at_start (same_length came m.fields m.same) (grown ∙ ap₂ (λ x y. x ++ y) b.bytes put);
+    }
+
+-- fields whose names ascend are sorted as they came
+pub sorted_already : (came : List Came) (fields : Fields) (front out : List ℕ) (start : ℕ) → HoldsFields came fields → fields.ascend ≡ true → AreBehind came start front out → AreSorted came front out
+sorted_already came fields front out start h is b = record {
+  sorted = came;
+  same = IsPermutation-refl came;
+  ascend = subst (Ascend None) (append-nil (map place_of came)) (h.ascend is [] tt);
+  bytes = b.bytes;
+}
+
+-- ---- one more field
+
+spelling-append : (cs ds : List Came) → came_spelling (cs ++ ds) ≡ came_spelling cs ++ came_spelling ds
+spelling-append [] ds = refl
+spelling-append (c ∷ cs) ds = ap (λ l. came_bytes c ++ l) (spelling-append cs ds) ∙ sym (append_assoc (came_bytes c) (came_spelling cs) (came_spelling ds))
+
+stands_still : (out more : List ℕ) (c : Came) → Stands out c → Stands (out ++ more) c
+stands_still out more c s = record {
+  ahead = s.ahead;
+  behind = s.behind ++ more;
+  at_start = s.at_start;
+  bytes = ap (λ l. l ++ more) s.bytes ∙ append_assoc s.ahead _ more ∙ ap (λ l. s.ahead ++ l) (append_assoc (came_bytes c) s.behind more);
+}
+
+-- its bytes were put behind the others
+pub one_behind : (came : List Came) (c : Came) (front out new : List ℕ) (start : ℕ) → AreBehind came start front out → c.start ≡ length out → new ≡ out ++ came_bytes c → AreBehind (came ++ c ∷ []) start front new
+one_behind came c front out new start b at grown = record {
+  at_start = b.at_start;
+  bytes = grown ∙ ap (λ l. l ++ came_bytes c) b.bytes ∙ append_assoc front (came_spelling came) (came_bytes c) ∙ ap (λ l. front ++ (came_spelling came ++ l)) (sym (append-nil (came_bytes c))) ∙ ap (λ l. front ++ l) (sym (spelling-append came (c ∷ [])));
+  stand = subst (λ l. All (Stands l) (came ++ c ∷ [])) (sym grown) (All-push (Stands (out ++ came_bytes c)) came c (All-weaker (Stands out) (Stands (out ++ came_bytes c)) (stands_still out (came_bytes c)) came b.stand) (record {
+    ahead = out;
+    behind = [];
+    at_start = sym at;
+    bytes = ap (λ l. out ++ l) (sym (append-nil (came_bytes c)));
+  }));
+}
+
+-- the table with one more
+pub one_held : (came : List Came) (c : Came) (old new : Fields) (k : Known) → HoldsFields came old → new.known.items ≡ old.known.items ++ k ∷ [] → place_kept k ≡ place_of c
+    → (new.ascend ≡ true → (old.ascend ≡ true) × (is_above (option_map (λ t. t.now) old.last) c.name ≡ true)) → option_map (λ t. t.now) new.last ≡ Some c.name → HoldsFields (came ++ c ∷ []) new
+one_held came c old new k h grown is goes last = record {
+  kept = ap (map place_kept) grown ∙ map-append place_kept old.known.items (k ∷ []) ∙ ap₂ (λ l p. l ++ p ∷ []) h.kept is ∙ sym (map-append place_of came (c ∷ []));
+  ascend = λ now more up.
+      let (so_far, above) = goes now in
+      subst (Ascend None) (sym (ap (λ l. l ++ more) (map-append place_of came (c ∷ [])) ∙ append_assoc (map place_of came) (place_of c ∷ []) more)) (h.ascend so_far (place_of c ∷ more) (above, subst (λ o. Ascend o more) last up));
+}
