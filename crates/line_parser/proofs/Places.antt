@@ -1,68 +1,35 @@
 -- Where the bytes of a map's fields stand, and what they are once they stand in another order.
-use Rattle.std.proofs.Common.{◌≡◌, ℕ, zero, suc, ◌+◌, ◌-◌, ◌≤◌, ◌<◌, true, List, [], ◌∷◌, ◌++◌, length, map, take, drop, get_or, set, Option, Some, None, option_map, refl, sym, ap, ap₂, subst, ◌∙◌, append_assoc, append-nil, arith}
-use Rattle.std.specs.Prelude.{slice_range}
+use Rattle.std.proofs.Common.{◌≡◌, ℕ, zero, suc, ◌+◌, ◌-◌, ◌≤◌, ◌<◌, true, List, [], ◌∷◌, ◌++◌, length, map, take, drop, get_or, set, Option, Some, None, option_map, inl, inr, refl, sym, ap, ap₂, subst, ◌∙◌, append_assoc, append-nil, arith}
+use Rattle.std.specs.Prelude.{slice_range, ◌⊎◌}
 use Rattle.std.specs.List.{All, swap, sum_by}
 use Rattle.std.specs.List.Sorted.{IsPermutation}
-use Rattle.std.proofs.lemmas.List.{length-append, length-drop, take-append-le, drop-append-le, map-append, map-set, get_or-map, length-map}
+use Rattle.std.proofs.lemmas.List.{length-append, map-append, map-set, get_or-map, length-map}
 use Rattle.std.proofs.lemmas.List.Elements.{All-head, All-tail, All-push, All-weaker}
 use Rattle.std.proofs.lemmas.List.Recursion.{is_sum_by}
-use Rattle.std.proofs.lemmas.List.Sorted.{IsPermutation-refl, IsPermutation-trans, IsPermutation-swap, IsPermutation-map, IsPermutation-keeps, All-permutation, sum_by-IsPermutation}
+use Rattle.std.proofs.lemmas.List.Sorted.{IsPermutation-refl, IsPermutation-trans, IsPermutation-swap, IsPermutation-map, IsPermutation-keeps, IsPermutation-append_left, IsPermutation-append_right, IsPermutation-append_comm, All-permutation, sum_by-IsPermutation}
 use Rattle.std.proofs.Math.Seq.{take-append_seam, drop-append_seam}
 use Rattle.request_codec.specs.Reading.{is_above}
-use Rattle.line_parser.specs.Fields.{Came, came_bytes, came_spelling, Place, place_of, place_kept, Ascend, LieWithin, bytes_at, HoldsFields, Stands, AreBehind, AreSorted}
+use Rattle.line_parser.specs.Fields.{Came, came_bytes, came_spelling, Place, place_of, place_kept, Ascend, LieWithin, bytes_at, HoldsFields, Stands, AreBehind, Moved, PutsSorted, AreSorted}
 use Rattle.line_parser.specs.declared.fields.Fields.{Fields}
 use Rattle.line_parser.specs.declared.fields.Known.{Known}
 
--- ---- the bytes are put again, place by place
+-- ---- the bytes are put in order, place by place
 
--- what was put again so far: the places `left` are still to come
-pub record PutAgain (all left : List Place) (last : Option (List ℕ)) (old out : List ℕ) : Type 0 where
-  pub within : LieWithin (length old) left
+-- what was put so far: the places `left` are still to come
+pub record PutsPlaces (all left : List Place) (last : Option (List ℕ)) (bytes first sorted : List ℕ) : Type 0 where
+  pub within : LieWithin (length bytes) left
   pub ascend : Ascend last left → Ascend None all
-  pub put : List ℕ
-  pub grown : out ≡ old ++ put
-  pub bytes : put ++ bytes_at old left ≡ bytes_at old all
+  pub put : sorted ++ bytes_at bytes left ≡ first ++ bytes_at bytes all
 
-pub again_start : (all : List Place) (old : List ℕ) → LieWithin (length old) all → PutAgain all all None old old
-again_start all old h = record {
-  within = h;
-  ascend = λ a. a;
-  put = [];
-  grown = sym (append-nil old);
-  bytes = refl;
-}
-
--- what stands within the first bytes doesn't change if more are put behind
-range_left : (xs ys : List ℕ) (a b : ℕ) → a ≤ b → b ≤ length xs → slice_range (xs ++ ys) a b ≡ slice_range xs a b
-range_left xs ys a b ab h =
-    let long = length-drop a xs in
-    ap (take (b - a)) (drop-append-le a xs ys (omega (arith, ab, h))) ∙ take-append-le (b - a) (drop a xs) ys (omega (arith, ab, h, long))
-
-pub again_next : (all left rest : List Place) (p : Place) (last : Option (List ℕ)) (old out new : List ℕ) → PutAgain all left last old out → left ≡ p ∷ rest → is_above last p.name ≡ true → new ≡ out ++ slice_range out p.start (p.start + p.count)
-    → PutAgain all rest (Some p.name) old new
-again_next all left rest p last old out new a is above grows =
-    let h = subst (LieWithin (length old)) is a.within in
-    let more = slice_range old p.start (p.start + p.count) in
-    let same : slice_range out p.start (p.start + p.count) ≡ more =
-    ap (λ l. slice_range l p.start (p.start + p.count)) a.grown ∙ range_left old a.put p.start (p.start + p.count) (omega arith) h.0 in
+pub places_next : (all left rest : List Place) (p : Place) (last : Option (List ℕ)) (bytes first sorted new : List ℕ) → PutsPlaces all left last bytes first sorted → left ≡ p ∷ rest → is_above last p.name ≡ true → new ≡ sorted ++ slice_range bytes p.start (p.start + p.count)
+    → PutsPlaces all rest (Some p.name) bytes first new
+places_next all left rest p last bytes first sorted new a is above grows =
+    let more = slice_range bytes p.start (p.start + p.count) in
     record {
-      within = h.1;
+      within = (subst (LieWithin (length bytes)) is a.within).1;
       ascend = λ r. a.ascend (subst (Ascend last) (sym is) (above, r));
-      put = a.put ++ more;
-      grown = grows ∙ ap₂ (λ x y. x ++ y) a.grown same ∙ append_assoc old a.put more;
-      bytes = append_assoc a.put more (bytes_at old rest) ∙ ap (λ l. a.put ++ bytes_at old l) (sym is) ∙ a.bytes;
+      put = ap (λ l. l ++ bytes_at bytes rest) grows ∙ append_assoc sorted more (bytes_at bytes rest) ∙ ap (λ l. sorted ++ bytes_at bytes l) (sym is) ∙ a.put;
     }
-
-pub again_stop : (all left : List Place) (last : Option (List ℕ)) (old out : List ℕ) → PutAgain all left last old out → left ≡ [] → Ascend None all × (out ≡ old ++ bytes_at old all)
-again_stop all left last old out a is = (
-  a.ascend (subst (Ascend last) (sym is) tt),
-  a.grown ∙ ap (λ l. old ++ l) (sym (append-nil a.put) ∙ ap (λ l. a.put ++ bytes_at old l) (sym is) ∙ a.bytes),
-)
-
-place_within : (all left rest : List Place) (p : Place) (last : Option (List ℕ)) (old out : List ℕ) → PutAgain all left last old out → left ≡ p ∷ rest → p.start + p.count ≤ length out
-place_within all left rest p last old out a is =
-    let h = subst (LieWithin (length old)) is a.within in
-    omega (arith, h.0, ap length a.grown, length-append old a.put)
 
 at_place : {A : Type 0} (f : A → Place) (xs : List A) (i : ℕ) (d : A) → i < length xs → drop i (map f xs) ≡ f (get_or xs i d) ∷ drop (suc i) (map f xs)
 at_place f [] i d h = absurd (omega (arith, h))
@@ -72,8 +39,8 @@ at_place f (x ∷ xs) (suc i) d h = at_place f xs i d (omega (arith, h))
 pub at_next : {A : Type 0} (f : A → Place) (xs : List A) (i : ℕ) (d : A) → i < length xs → drop i (map f xs) ≡ f (get_or xs i d) ∷ drop (i + 1) (map f xs)
 at_next f xs i d h = let next : suc i ≡ i + 1 = omega arith in at_place f xs i d h ∙ ap (λ j. f (get_or xs i d) ∷ drop j (map f xs)) next
 
-pub place_there : {A : Type 0} (f : A → Place) (xs : List A) (i : ℕ) (d : A) (last : Option (List ℕ)) (old out : List ℕ) → i < length xs → PutAgain (map f xs) (drop i (map f xs)) last old out → (f (get_or xs i d)).start + (f (get_or xs i d)).count ≤ length out
-place_there f xs i d last old out h a = place_within (map f xs) (drop i (map f xs)) (drop (i + 1) (map f xs)) (f (get_or xs i d)) last old out a (at_next f xs i d h)
+pub place_there : {A : Type 0} (f : A → Place) (xs : List A) (i : ℕ) (d : A) (last : Option (List ℕ)) (bytes first sorted : List ℕ) → i < length xs → PutsPlaces (map f xs) (drop i (map f xs)) last bytes first sorted → (f (get_or xs i d)).start + (f (get_or xs i d)).count ≤ length bytes
+place_there f xs i d last bytes first sorted h a = (subst (LieWithin (length bytes)) (at_next f xs i d h) a.within).0
 
 pub none_left : {A : Type 0} (f : A → Place) (xs : List A) (i : ℕ) → length xs ≤ i → drop i (map f xs) ≡ []
 none_left f [] zero h = refl
@@ -92,20 +59,15 @@ map-swap f (d ∷ ys) i j h g =
     ∙ ap₂ (λ l x. set l j x) (first ∙ ap (set (map f (d ∷ ys)) i) (sym (get_or-map f (d ∷ ys) j d (f d) g))) (sym (get_or-map f (d ∷ ys) i d (f d) h))
 
 -- what is another order of places is that of the fields in some order
-pub record Moved (cs : List Came) (ps : List Place) : Type 0 where
-  fields : List Came
-  same : IsPermutation cs fields
-  places : map place_of fields ≡ ps
-
 moved : (cs : List Came) (ps : List Place) → IsPermutation (map place_of cs) ps → Moved cs ps
-moved cs = IsPermutation-keeps (map place_of cs) (Moved cs) (record { fields = cs; same = IsPermutation-refl cs; places = refl }) (λ ps i j a b m.
-    let long : length m.fields ≡ length ps = sym (length-map m.fields place_of) ∙ ap length m.places in
+moved cs = IsPermutation-keeps (map place_of cs) (Moved cs) (record { fields = cs; same = IsPermutation-refl cs; are = refl }) (λ ps i j a b m.
+    let long : length m.fields ≡ length ps = sym (length-map m.fields place_of) ∙ ap length m.are in
     let p : i < length m.fields = omega (arith, long) in
     let q : j < length m.fields = omega (arith, long) in
     record {
       fields = swap m.fields i j;
       same = IsPermutation-trans cs m.fields (swap m.fields i j) m.same (IsPermutation-swap m.fields (swap m.fields i j) i j p q refl);
-      places = map-swap place_of m.fields i j p q ∙ ap (λ l. swap l i j) m.places;
+      are = map-swap place_of m.fields i j p q ∙ ap (λ l. swap l i j) m.are;
     })
 
 -- ---- what stands at the places
@@ -135,34 +97,30 @@ same_length cs ds p = length_spelled ds ∙ sum_by-IsPermutation (λ c. length (
 
 -- ---- the fields are sorted
 
-abbrev places_kept : Fields → List Place
-places_kept s = map place_kept s.known.items
-
 -- The table was sorted: it has the places of the fields in some order.
-pub sorted_places : (came : List Came) (fields : Fields) (known : List Known) → HoldsFields came fields → IsPermutation fields.known.items known → Moved came (map place_kept known)
-sorted_places came fields known h p = moved came (map place_kept known) (subst (λ l. IsPermutation l (map place_kept known)) h.kept (IsPermutation-map place_kept fields.known.items known p))
+pub sorted_places : (came : List Came) (fields : Fields) (sorted : List Known) → HoldsFields came fields → IsPermutation (fields.few.items ++ fields.more.items) sorted → Moved came (map place_kept sorted)
+sorted_places came fields sorted h p = moved came (map place_kept sorted) (IsPermutation-trans _ _ _ h.kept (IsPermutation-map place_kept (fields.few.items ++ fields.more.items) sorted p))
 
 pub sorted_within : (came : List Came) (front out : List ℕ) (start : ℕ) (ps : List Place) → AreBehind came start front out → Moved came ps → LieWithin (length out) ps
-sorted_within came front out start ps b m = subst (LieWithin (length out)) m.places (lie_within out m.fields (All-permutation (Stands out) came m.fields m.same b.stand))
+sorted_within came front out start ps b m = subst (LieWithin (length out)) m.are (lie_within out m.fields (All-permutation (Stands out) came m.fields m.same b.stand))
 
 bytes_moved : (came : List Came) (front out : List ℕ) (start : ℕ) (ps : List Place) → AreBehind came start front out → (m : Moved came ps) → bytes_at out ps ≡ came_spelling m.fields
-bytes_moved came front out start ps b m = ap (bytes_at out) (sym m.places) ∙ bytes_there out m.fields (All-permutation (Stands out) came m.fields m.same b.stand)
+bytes_moved came front out start ps b m = ap (bytes_at out) (sym m.are) ∙ bytes_there out m.fields (All-permutation (Stands out) came m.fields m.same b.stand)
 
--- what was put again is as long as what stands there
-pub sorted_even : (came : List Came) (front out again : List ℕ) (start : ℕ) (ps : List Place) → AreBehind came start front out → Moved came ps → again ≡ out ++ bytes_at out ps → length again + start ≡ length out + length out
-sorted_even came front out again start ps b m grown =
-    omega (arith, ap length grown, length-append out (bytes_at out ps), ap length (bytes_moved came front out start ps b m), same_length came m.fields m.same, ap length b.bytes, length-append front (came_spelling came), b.at_start)
+-- they are as long in order as they are now
+pub sorted_long : (came : List Came) (front out sorted : List ℕ) (start : ℕ) → AreBehind came start front out → PutsSorted came out sorted → start + length sorted ≡ length out
+sorted_long came front out sorted start b p =
+    omega (arith, ap length p.bytes, ap length (bytes_moved came front out start p.places b p.moved), same_length came p.moved.fields p.moved.same, ap length b.bytes, length-append front (came_spelling came), b.at_start)
 
--- ..and their bytes were put again in that order, over those that stood there before
-pub are_sorted : (came : List Came) (front out again new : List ℕ) (start : ℕ) (ps : List Place) → AreBehind came start front out → Moved came ps → Ascend None ps → again ≡ out ++ bytes_at out ps
-    → ((front old moved : List ℕ) → length front ≡ start → length moved ≡ length old → again ≡ (front ++ old) ++ moved → new ≡ front ++ moved) → AreSorted came front new
-are_sorted came front out again new start ps b m a grown down =
-    let put = bytes_moved came front out start ps b m in
+-- ..and stand then where they stood
+pub are_sorted : (came : List Came) (front out sorted new : List ℕ) (start : ℕ) → AreBehind came start front out → PutsSorted came out sorted → new ≡ take start out ++ sorted → AreSorted came front new
+are_sorted came front out sorted new start b p is =
+    let ahead : take start out ≡ front = ap₂ take (sym b.at_start) b.bytes ∙ take-append_seam front (came_spelling came) in
     record {
-      sorted = m.fields;
-      same = m.same;
-      ascend = subst (Ascend None) (sym m.places) a;
-      bytes = down front (came_spelling came) (came_spelling m.fields) b.at_start (same_length came m.fields m.same) (grown ∙ ap₂ (λ x y. x ++ y) b.bytes put);
+      sorted = p.moved.fields;
+      same = p.moved.same;
+      ascend = subst (Ascend None) (sym p.moved.are) p.ascend;
+      bytes = is ∙ ap₂ (λ x y. x ++ y) ahead (p.bytes ∙ bytes_moved came front out start p.places b p.moved);
     }
 
 -- fields whose names ascend are sorted as they came
@@ -201,11 +159,30 @@ one_behind came c front out new start b at grown = record {
   }));
 }
 
+in_front : (few more : List Known) (k : Known) → IsPermutation ((few ++ more) ++ k ∷ []) ((few ++ k ∷ []) ++ more)
+in_front few more k =
+    let turned = IsPermutation-append_right few (more ++ k ∷ []) (k ∷ more) (IsPermutation-append_comm more (k ∷ [])) in
+    subst (λ l. IsPermutation l ((few ++ k ∷ []) ++ more)) (sym (append_assoc few more (k ∷ []))) (subst (IsPermutation (few ++ (more ++ k ∷ []))) (sym (append_assoc few (k ∷ []) more)) turned)
+
+kept_more : (came : List Came) (c : Came) (all new : List Known) (k : Known) → IsPermutation (map place_of came) (map place_kept all) → place_kept k ≡ place_of c → IsPermutation (all ++ k ∷ []) new → IsPermutation (map place_of (came ++ c ∷ [])) (map place_kept new)
+kept_more came c all new k h is p =
+    let one : IsPermutation (map place_of came ++ place_of c ∷ []) (map place_kept all ++ place_of c ∷ []) = IsPermutation-append_left (place_of c ∷ []) (map place_of came) (map place_kept all) h in
+    let same : map place_kept all ++ place_of c ∷ [] ≡ map place_kept (all ++ k ∷ []) = ap (λ x. map place_kept all ++ x ∷ []) (sym is) ∙ sym (map-append place_kept all (k ∷ [])) in
+    IsPermutation-trans _ _ _ (subst (λ l. IsPermutation l (map place_kept (all ++ k ∷ []))) (sym (map-append place_of came (c ∷ []))) (subst (IsPermutation (map place_of came ++ place_of c ∷ [])) same one)) (IsPermutation-map place_kept (all ++ k ∷ []) new p)
+
+-- which of the two parts of the table has one more
+abbrev pub Grows : Fields → Fields → Known → Type 0
+Grows old new k = ((new.few.items ≡ old.few.items ++ k ∷ []) × (new.more.items ≡ old.more.items)) ⊎ ((new.few.items ≡ old.few.items) × (new.more.items ≡ old.more.items ++ k ∷ []))
+
+grown_table : (old new : Fields) (k : Known) → Grows old new k → IsPermutation ((old.few.items ++ old.more.items) ++ k ∷ []) (new.few.items ++ new.more.items)
+grown_table old new k (inl (few, more)) = subst (IsPermutation ((old.few.items ++ old.more.items) ++ k ∷ [])) (sym (ap₂ (λ x y. x ++ y) few more)) (in_front old.few.items old.more.items k)
+grown_table old new k (inr (few, more)) = subst (IsPermutation ((old.few.items ++ old.more.items) ++ k ∷ [])) (append_assoc old.few.items old.more.items (k ∷ []) ∙ sym (ap₂ (λ x y. x ++ y) few more)) (IsPermutation-refl _)
+
 -- the table with one more
-pub one_held : (came : List Came) (c : Came) (old new : Fields) (k : Known) → HoldsFields came old → new.known.items ≡ old.known.items ++ k ∷ [] → place_kept k ≡ place_of c
+pub one_held : (came : List Came) (c : Came) (old new : Fields) (k : Known) → HoldsFields came old → Grows old new k → place_kept k ≡ place_of c
     → (new.ascend ≡ true → (old.ascend ≡ true) × (is_above (option_map (λ t. t.now) old.last) c.name ≡ true)) → option_map (λ t. t.now) new.last ≡ Some c.name → HoldsFields (came ++ c ∷ []) new
-one_held came c old new k h grown is goes last = record {
-  kept = ap (map place_kept) grown ∙ map-append place_kept old.known.items (k ∷ []) ∙ ap₂ (λ l p. l ++ p ∷ []) h.kept is ∙ sym (map-append place_of came (c ∷ []));
+one_held came c old new k h grows is goes last = record {
+  kept = kept_more came c (old.few.items ++ old.more.items) (new.few.items ++ new.more.items) k h.kept is (grown_table old new k grows);
   ascend = λ now more up.
       let (so_far, above) = goes now in
       subst (Ascend None) (sym (ap (λ l. l ++ more) (map-append place_of came (c ∷ [])) ∙ append_assoc (map place_of came) (place_of c ∷ []) more)) (h.ascend so_far (place_of c ∷ more) (above, subst (λ o. Ascend o more) last up));

@@ -58,9 +58,10 @@ abbrev pub LieWithin : ℕ → List Place → Type 0
 LieWithin n [] = Unit {0}
 LieWithin n (p ∷ ps) = (p.start + p.count ≤ n) × LieWithin n ps
 
--- These fields came, in this order; if their names ascend so far, they go on to with each name above the last.
+-- These fields came, in this order, and the table keeps each. If their names ascend so far, they go on to with each name
+-- above the last.
 pub record HoldsFields (came : List Came) (fields : Fields) : Type 0 where
-  pub kept : map place_kept fields.known.items ≡ map place_of came
+  pub kept : IsPermutation (map place_of came) (map place_kept (fields.few.items ++ fields.more.items))
   pub ascend : fields.ascend ≡ true → (more : List Place) → Ascend (option_map (λ t. t.now) fields.last) more → Ascend None (map place_of came ++ more)
 
 -- the bytes of a field stand at its place
@@ -75,6 +76,19 @@ pub record AreBehind (came : List Came) (start : ℕ) (front out : List ℕ) : T
   pub at_start : length front ≡ start
   pub bytes : out ≡ front ++ came_spelling came
   pub stand : All (Stands out) came
+
+-- These are the places of the fields in some order.
+pub record Moved (came : List Came) (places : List Place) : Type 0 where
+  pub fields : List Came
+  pub same : IsPermutation came fields
+  pub are : map place_of fields ≡ places
+
+-- The bytes of the fields were put behind one another, in the order of their names.
+pub record PutsSorted (came : List Came) (out sorted : List ℕ) : Type 0 where
+  pub places : List Place
+  pub moved : Moved came places
+  pub ascend : Ascend None places
+  pub bytes : sorted ≡ bytes_at out places
 
 -- The fields stand there in the order of their names, and no name stands twice.
 pub record AreSorted (came : List Came) (front out : List ℕ) : Type 0 where

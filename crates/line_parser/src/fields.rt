@@ -2,15 +2,15 @@
 
 ghost use Rattle.std.specs.Prelude.{◌≡◌, ◌<◌, ◌≤◌, ◌^◌, ◌+◌, ◌++◌, ◌∷◌, [], ℕ, List, length, map, None, OnOk, slice_range};
 ghost use Rattle.serde_json.specs.Data.{Data};
-ghost use Rattle.line_parser.specs.Fields.{Came, HoldsFields, AreBehind, AreSorted, Ascend, LieWithin, bytes_at, place_kept, field_spelling};
+ghost use Rattle.line_parser.specs.Fields.{Came, HoldsFields, AreBehind, PutsSorted, AreSorted, Ascend, LieWithin, bytes_at, place_kept, field_spelling};
 
 use crate::unread::Unread;
+use arrayvec::ArrayVec;
 use request_codec::bytes::may_follow;
-use smallvec::SmallVec;
 use std::alloc::{AllocError, Global};
 
-/// So many fields of a map are kept with no memory of their own.
-const FEW_FIELDS: usize = 16;
+/// So many fields of a map are noted in place; the more there are, the longer it takes to make the place ready.
+const FEW_FIELDS: usize = 12;
 
 /// What is kept of a field: its name, where its bytes begin, and how many they are.
 #[derive(Clone, Copy, Default, PartialEq, Eq, PartialOrd, Ord)]
@@ -20,29 +20,31 @@ pub(crate) struct Known<'a> {
     count: u32,
 }
 
-/// The fields of a map that were put, in the order in which they came.
+/// The fields of a map that were put: a few are noted in place, more on the heap. It knows whether their names
+/// ascend so far.
 #[derive(Drop)]
 pub(crate) struct Fields<'a> {
-    known: SmallVec<Known<'a>, FEW_FIELDS>,
+    few: ArrayVec<Known<'a>, FEW_FIELDS>,
+    more: Vec<Known<'a>>,
     last: Option<&'a str>,
     ascend: bool,
 }
 
-/// Puts so many bytes once more, at the end.
-fn put_bytes(out: &mut Vec<u8>, start: u32, count: u32) -> Result<(), AllocError>
-    requires { start + count ≤ length out.old.items }
-    ensures { OnOk result (out.new.items ≡ out.old.items ++ slice_range out.old.items start (start + count)) }
+/// Puts a part of these bytes behind others.
+fn put_part(sorted: &mut Vec<u8>, bytes: &[u8], start: u32, count: u32) -> Result<(), AllocError>
+    requires { start + count ≤ length bytes.now }
+    ensures { OnOk result (sorted.new.items ≡ sorted.old.items ++ slice_range bytes.now start (start + count)) }
 {
     let start = start as usize;
-    out.extend_from_within(start..start + count as usize)
+    sorted.extend_from_slice(&bytes[start..start + count as usize])
 }
 
-/// Puts the bytes of these fields once more, at the end. A line in which a name isn't above the one
-/// before it is left.
-fn put_again(out: &mut Vec<u8>, known: &[Known<'_>]) -> Result<(), Unread>
-    requires { LieWithin (length out.old.items) (map place_kept known.now) }
+/// Puts the bytes of these fields behind one another. A line in which a name isn't above the one before it is
+/// left.
+fn put_in_order(sorted: &mut Vec<u8>, bytes: &[u8], known: &[Known<'_>]) -> Result<(), Unread>
+    requires { LieWithin (length bytes.now) (map place_kept known.now) }
     ensures ascend { OnOk result (Ascend None (map place_kept known.now)) }
-    ensures bytes { OnOk result (out.new.items ≡ out.old.items ++ bytes_at out.old.items (map place_kept known.now)) }
+    ensures bytes { OnOk result (sorted.new.items ≡ sorted.old.items ++ bytes_at bytes.now (map place_kept known.now)) }
 {
     let mut last = None;
     for place in 0..known.len() {
@@ -50,23 +52,10 @@ fn put_again(out: &mut Vec<u8>, known: &[Known<'_>]) -> Result<(), Unread>
         if !may_follow(last, field.name) {
             return Err(Unread::Unusual);
         }
-        put_bytes(out, field.start, field.count)?;
+        put_part(sorted, bytes, field.start, field.count)?;
         last = Some(field.name);
     }
     Ok(())
-}
-
-/// Moves the bytes from `end` on to an earlier place, over those that stand there, and cuts what is left.
-fn move_down(out: &mut Vec<u8>, start: usize, end: usize)
-    requires within { start ≤ end }
-    requires ends { end ≤ length out.old.items }
-    requires even { length out.old.items + start ≡ end + end }
-    ensures len { length out.new.items ≡ end }
-    ensures bytes { (front old moved : List ℕ) → length front ≡ start → length moved ≡ length old
-        → out.old.items ≡ (front ++ old) ++ moved → out.new.items ≡ front ++ moved }
-{
-    out.copy_within(end.., start);
-    out.truncate(end);
 }
 
 impl<'a> Fields<'a> {
@@ -75,7 +64,8 @@ impl<'a> Fields<'a> {
         ensures { HoldsFields [] result }
     {
         Fields {
-            known: SmallVec::new(alloc),
+            few: ArrayVec::new(),
+            more: Vec::new(alloc),
             last: None,
             ascend: true,
         }
@@ -85,7 +75,7 @@ impl<'a> Fields<'a> {
     pub(crate) fn count(&self) -> usize
         ensures { (came : List Came) → HoldsFields came self.now → result ≡ length came }
     {
-        self.known.len()
+        self.few.len() + self.more.len()
     }
 
     /// Takes in the field that was put last.
@@ -99,13 +89,32 @@ impl<'a> Fields<'a> {
         ensures { OnOk result ((came : List Came) (d : Data) → HoldsFields came self.old → length (field_spelling name.now d) ≡ count
             → HoldsFields (came ++ (record { name = name.now; value = d; start = start }) ∷ []) self.new) }
     {
-        self.known.push(Known {
+        let field = Known {
             name,
             start: start as u32,
             count: count as u32,
-        })?;
+        };
+        if self.few.try_push(field).is_err() {
+            self.more.push(field)?;
+        }
         self.ascend = self.ascend && may_follow(self.last, name);
         self.last = Some(name);
+        Ok(())
+    }
+
+    /// Puts the bytes of the fields behind one another, in the order of their names.
+    fn put_sorted(&mut self, sorted: &mut Vec<u8>, bytes: &[u8]) -> Result<(), Unread>
+        requires { (came : List Came) × (front : List ℕ) × (start : ℕ) × HoldsFields came self.old × AreBehind came start front bytes.now }
+        ensures { OnOk result ((came : List Came) → HoldsFields came self.old → sorted.old.items ≡ [] → PutsSorted came bytes.now sorted.new.items) }
+    {
+        if self.more.is_empty() {
+            self.few.sort_unstable();
+            put_in_order(sorted, bytes, self.few.as_slice())?;
+            return Ok(());
+        }
+        self.more.extend_from_slice(self.few.as_slice())?;
+        self.more.sort_unstable();
+        put_in_order(sorted, bytes, self.more.as_slice())?;
         Ok(())
     }
 
@@ -120,10 +129,10 @@ impl<'a> Fields<'a> {
         if self.ascend {
             return Ok(());
         }
-        self.known.sort_unstable();
-        let end = out.len();
-        put_again(out, self.known.as_slice())?;
-        move_down(out, start, end);
+        let mut sorted = Vec::with_capacity(*out.allocator(), out.len() - start)?;
+        self.put_sorted(&mut sorted, out.as_slice())?;
+        out.truncate(start);
+        out.extend_from_slice(sorted.as_slice())?;
         Ok(())
     }
 }

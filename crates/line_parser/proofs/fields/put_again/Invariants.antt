@@ -1,9 +1,0 @@
-use Rattle.std.proofs.Common.{map, drop, option_map}
-use Rattle.line_parser.specs.Fields.{place_kept}
-use Rattle.line_parser.proofs.Places.{PutAgain}
-use Rattle.line_parser.proofs.fields.put_again.Given as goal
-
-abbrev pub invariant-loop-place : goal.invariant-loop-place
-invariant-loop-place l = record {
-  again : PutAgain (map place_kept l.known) (drop l.place (map place_kept l.known)) (option_map (λ t. t.now) l.last) l.fn.out.items l.out.items;
-}
