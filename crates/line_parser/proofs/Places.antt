@@ -42,19 +42,12 @@ at_next f xs i d h = let next : suc i ≡ i + 1 = omega arith in at_place f xs i
 pub place_there : {A : Type 0} (f : A → Place) (xs : List A) (i : ℕ) (d : A) (last : Option (List ℕ)) (bytes first sorted : List ℕ) → i < length xs → PutsPlaces (map f xs) (drop i (map f xs)) last bytes first sorted → (f (get_or xs i d)).start + (f (get_or xs i d)).count ≤ length bytes
 place_there f xs i d last bytes first sorted h a = (subst (LieWithin (length bytes)) (at_next f xs i d h) a.within).0
 
-pub none_left : {A : Type 0} (f : A → Place) (xs : List A) (i : ℕ) → length xs ≤ i → drop i (map f xs) ≡ []
-none_left f [] zero h = refl
-none_left f [] (suc i) h = refl
-none_left f (x ∷ xs) zero h = absurd (omega (arith, h))
-none_left f (x ∷ xs) (suc i) h = none_left f xs i (omega (arith, h))
-
 -- ---- the fields in another order
 
 map-swap : {A : Type 0} (f : A → Place) (xs : List A) (i j : ℕ) → i < length xs → j < length xs → map f (swap xs i j) ≡ swap (map f xs) i j
 map-swap f [] i j h g = refl
 map-swap f (d ∷ ys) i j h g =
     let first = map-set f (d ∷ ys) i (get_or (d ∷ ys) j d) in
-    let moved : List _ = set (d ∷ ys) i (get_or (d ∷ ys) j d) in
     map-set f (set (d ∷ ys) i (get_or (d ∷ ys) j d)) j (get_or (d ∷ ys) i d)
     ∙ ap₂ (λ l x. set l j x) (first ∙ ap (set (map f (d ∷ ys)) i) (sym (get_or-map f (d ∷ ys) j d (f d) g))) (sym (get_or-map f (d ∷ ys) i d (f d) h))
 

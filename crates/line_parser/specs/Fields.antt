@@ -58,8 +58,8 @@ abbrev pub LieWithin : ℕ → List Place → Type 0
 LieWithin n [] = Unit {0}
 LieWithin n (p ∷ ps) = (p.start + p.count ≤ n) × LieWithin n ps
 
--- These fields came, in this order, and the table keeps each. If their names ascend so far, they go on to with each name
--- above the last.
+-- These fields came, in this order, and the table keeps each of them. If it says that their names ascend, they do, and
+-- still do with more places whose names ascend from the last one on.
 pub record HoldsFields (came : List Came) (fields : Fields) : Type 0 where
   pub kept : IsPermutation (map place_of came) (map place_kept (fields.few.items ++ fields.more.items))
   pub ascend : fields.ascend ≡ true → (more : List Place) → Ascend (option_map (λ t. t.now) fields.last) more → Ascend None (map place_of came ++ more)
