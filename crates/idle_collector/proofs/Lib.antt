@@ -3,3 +3,4 @@ pub mod Ties
 pub mod Prefix
 pub mod Due
 pub mod Aside
+pub mod OneMoment

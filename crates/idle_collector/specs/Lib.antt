@@ -1,3 +1,4 @@
 pub mod Notes
 pub mod Ties
 pub mod Aside
+pub mod OneMoment

@@ -4,9 +4,9 @@ ghost use Rattle.std.specs.Prelude.{◌≡◌, OnOk, OnErr, IfOk};
 ghost use Rattle.std.specs.FinMap.{empty};
 ghost use Rattle.idle_collector.specs.Notes.{noted, forgotten, due};
 
-use crate::filed::Filed;
 use crate::latest;
 use crate::latest::Latest;
+use crate::recent::Recent;
 use grain_id::GrainId;
 use std::alloc::{AllocError, Global};
 use std::marker::Model;
@@ -16,7 +16,7 @@ use std::marker::Model;
 #[derive(Drop)]
 pub struct Collector {
     latest: Option<Latest>,
-    filed: Filed,
+    filed: Recent,
 }
 
 impl Model for Collector {
@@ -40,7 +40,7 @@ impl Collector {
     {
         Collector {
             latest: None,
-            filed: Filed::new(alloc, age),
+            filed: Recent::new(alloc, age),
         }
     }
 

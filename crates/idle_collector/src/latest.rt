@@ -3,7 +3,7 @@
 ghost use Rattle.std.specs.Prelude.{◌≡◌, ◌++◌, None, OnOk, OnErr};
 ghost use Rattle.idle_collector.specs.Aside.{is_of, with_latest, due_of};
 
-use crate::filed::Filed;
+use crate::recent::Recent;
 use grain_id::GrainId;
 use std::alloc::AllocError;
 
@@ -29,7 +29,7 @@ pub fn is_of(latest: &Option<Latest>, id: &GrainId) -> bool
 /// # Errors
 ///
 /// Out of memory: nothing changed.
-pub fn file(latest: &mut Option<Latest>, filed: &mut Filed) -> Result<(), AllocError>
+pub fn file(latest: &mut Option<Latest>, filed: &mut Recent) -> Result<(), AllocError>
     ensures filed { OnOk result (filed.new ≡ with_latest latest.old filed.old) }
     ensures none { OnOk result (latest.new ≡ None) }
     ensures still_aside { OnErr result (latest.new ≡ latest.old) }
