@@ -1,30 +1,11 @@
-//! The program `silo`: its words, its files and its streams.
-//!
-//! `main` hands the real ones to `run_program`, which is generic over them all and says by its answer
-//! what the exit status is. The crate `silo_words` reads the words, the tenant arguments among them. Here
-//! `stepping` takes the steps of an input, `serving` serves its lines by threads, `auditing` audits a
-//! journal, and `files` is what the program knows of files. How the program ends stands in
-//! `specs/Ends.antt`.
+//! The program `silo`: `main` hands the host's words, files and streams to `run_program` of `silo_program`, and ends with
+//! the status that it answers.
 #![tactic(auto)]
 
-ghost use Rattle.std.specs.Prelude.{◌≡◌, ◌≢◌};
-ghost use Rattle.std.specs.IoError.{error_kind};
-ghost use Rattle.silo_console.specs.Status.{failure_text};
-ghost use Rattle.silo_console.specs.Streams.{Tells};
-
-mod auditing;
-mod failure;
-mod files;
-mod program;
-mod serving;
-mod stepping;
-mod streams;
-
-use crate::failure::{ARGUMENTS_STATUS, Cause, ProgramFault, say, tell};
-use crate::files::HostFiles;
-use crate::program::run_program;
-use crate::streams::{Input, Output};
-use std::io::{BufWriter, ErrorKind, Write};
+use silo_program::{
+    Cause, HostFiles, Input, Output, ProgramFault, refuse_words, run_program, tell,
+};
+use std::io::BufWriter;
 use std::process::ExitCode;
 use std::rt::Env;
 use std::{env, io};
@@ -38,23 +19,6 @@ fn words_of<H: Env + AllocGlobal>(rt: &H) -> io::Result<Vec<String>> {
         words.push(word)?;
     }
     Ok(words)
-}
-
-/// What is told if an argument is no text.
-const NOT_UTF8: &str = "error: an argument is not UTF-8\n";
-
-/// Tells why the words were not had, and answers the status.
-fn refuse_words<E: Write>(fault: &io::Error, errors: &mut Output<E>) -> u8
-    ensures memory { error_kind fault.now ≡ ErrorKind.OutOfMemory
-        → (result ≡ 1) × Tells (E.contents errors.old.writer) (E.contents errors.new.writer) errors.new.calls (failure_text Cause.Memory) }
-    ensures other { error_kind fault.now ≢ ErrorKind.OutOfMemory
-        → (result ≡ 2) × Tells (E.contents errors.old.writer) (E.contents errors.new.writer) errors.new.calls NOT_UTF8.now }
-{
-    if fault.kind() == ErrorKind::OutOfMemory {
-        return tell(errors, &ProgramFault::Failed(Cause::Memory));
-    }
-    say(errors, NOT_UTF8);
-    ARGUMENTS_STATUS
 }
 
 fn main(rt: HostRuntime) -> ExitCode {

@@ -1,9 +1,0 @@
-use Rattle.std.proofs.Common.{◌∙◌, sym}
-use Rattle.silo_console.proofs.FaultLemmas.{failed_by, refused_by}
-use Rattle.silo_console.proofs.program.run_program.Goals as goal
-
-pub returns-in-Err-clause-failed : goal.returns-in-Err-clause-failed
-returns-in-Err-clause-failed g c one = failed_by _ _ _ _ _ _ _ _ _ _ _ _ c.in-Err.fault (sym c.tell.ensures.status ∙ one) c.in-Err.ensures.fault c.tell.ensures.told
-
-pub returns-in-Err-clause-refused : goal.returns-in-Err-clause-refused
-returns-in-Err-clause-refused g c two = refused_by _ _ _ _ _ _ _ _ _ _ _ _ c.in-Err.fault (sym c.tell.ensures.status ∙ two) c.in-Err.ensures.fault c.tell.ensures.told

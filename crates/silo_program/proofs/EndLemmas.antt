@@ -1,0 +1,186 @@
+-- How the steps of an input end, by what its lines answer over a storage that never fails.
+use Rattle.std.proofs.Common.{◌≡◌, ◌∙◌, ℕ, List, [], ◌∷◌, ◌++◌, append-nil, Option, None, Some, IfSome, Result, Ok, Err, IfErr, true, refl, sym, ap, subst, arith, ⊎_elim}
+use Rattle.std.specs.Prelude.{OnErr}
+use Rattle.std.specs.Io.KnownBytes.{Keeps}
+use Rattle.std.proofs.KnownBytes.{Appends-kept, Appends-nil}
+use Rattle.silo_event.specs.declared.step.Answer.{Answer}
+use Rattle.grain_kinds.specs.Kinds.{kinds}
+use Rattle.silo_model.specs.Opening.{Setup, opening}
+use Rattle.silo_model.specs.Whole.{Whole, shown_to}
+use Rattle.silo_model.specs.Machine.{Machine}
+use Rattle.silo_model.proofs.Opening.{opening_shown}
+use Rattle.silo_core.specs.History.{History}
+use Rattle.silo_core.specs.Runs.{failed_in}
+use Rattle.line_protocol.specs.Lines.{lines_of}
+use Rattle.line_protocol.specs.LineTexts.{whole_stepper, machine_stepper, said_lines, steps_said, line_texts, lines_text, lines_to, texts_to}
+use Rattle.line_protocol.specs.LineRuns.{AnswersLines, AnswersNext, AnswersAll, StopsBefore, StopsAt, StopsAfter, StopsBy}
+use Rattle.line_protocol.specs.declared.calls.ReaderCalls.{ReaderCalls}
+use Rattle.line_protocol.specs.declared.written.WriterCalls.{WriterCalls}
+use Rattle.line_protocol.specs.declared.fault.LineFault.{LineFault}
+use Rattle.line_protocol.specs.declared.fault.LineFault.TheVariants as line
+use Rattle.line_parser.specs.declared.line.Line.{Line}
+use Rattle.line_protocol.proofs.Unfailed.{none_failed, none_failed_before, unmarked, own_unmarked}
+use Rattle.silo_program.specs.Steps.{IsTextOf, AnswersSteps, StopsBetween, StopsFrom, StopsInside, StopsSteps}
+
+-- ---- the text of lines
+
+module _ (setup : Setup) (old : History) (opens : old.whole ≡ opening setup) where
+  text_of_lines : (lines : List (List ℕ)) (given : List Answer) (new : History) (text : List ℕ) → AnswersLines kinds old lines given new text → failed_in given ≡ 0 → IsTextOf setup lines text
+  text_of_lines lines given new text p zero =
+      let saids = said_lines lines in
+      let each = p.all.silo.each_answered in
+      let same = unmarked saids given each zero in
+      record {
+        whole = p.all.text_is ∙ ap (lines_text (whole_stepper kinds) old.whole) same ∙ ap (λ (w : Whole). lines_text (whole_stepper kinds) w saids) opens;
+        own = λ tenant.
+            ap (λ (w : Whole). texts_to tenant saids (line_texts (whole_stepper kinds) w saids)) (sym opens)
+            ∙ ap (λ (taken : List Line). texts_to tenant saids (line_texts (whole_stepper kinds) old.whole taken)) (sym same)
+            ∙ (p.own tenant).texts
+            ∙ ap (line_texts (machine_stepper kinds) (shown_to tenant old.whole)) (own_unmarked tenant saids given each zero)
+            ∙ ap (λ (m : Machine). line_texts (machine_stepper kinds) m (lines_to tenant saids)) (ap (shown_to tenant) opens ∙ opening_shown setup tenant);
+      }
+
+  all_text : (n : ℕ) (new : History) (from left before after : Option (List ℕ)) → new.failures.now ≡ 0 → IfSome from (λ input. AnswersAll kinds input n old new left before after)
+      → IfSome from (λ input. AnswersSteps setup input left before after)
+  all_text n new None left before after zero h = tt
+  all_text n new (Some input) left before after zero h = record {
+    read = h.read;
+    text = h.text;
+    answers = text_of_lines (lines_of input) h.given new h.text h.answers (none_failed kinds old new (steps_said (said_lines (lines_of input))) h.given h.answers.all.silo zero);
+    written = h.written;
+  }
+
+  -- of an input of which nothing is read ahead
+  pub steps_answered : (n : ℕ) (new : History) (ahead from left before after : Option (List ℕ)) → ahead ≡ from → new.failures.now ≡ 0 → IfSome ahead (λ input. AnswersAll kinds input n old new left before after)
+      → IfSome from (λ input. AnswersSteps setup input left before after)
+  steps_answered n new ahead from left before after same zero h = subst (λ (o : Option (List ℕ)). IfSome o (λ input. AnswersSteps setup input left before after)) same (all_text n new ahead left before after zero h)
+
+  before_text : (input : List ℕ) (new : History) (before after : Option (List ℕ)) → new.failures.now ≡ 0 → StopsBefore kinds (lines_of input) old new before after → StopsBetween setup (lines_of input) before after
+  before_text input new before after zero h = record {
+    done = h.done;
+    rest = h.rest;
+    parts = h.parts;
+    text = h.text;
+    answers = text_of_lines h.done h.given new h.text h.answers (none_failed kinds old new (steps_said (said_lines h.done)) h.given h.answers.all.silo zero);
+    written = h.written;
+  }
+
+  next_unfailed : (done rest : List (List ℕ)) (given : List Answer) (new : History) (text : List ℕ) → new.failures.now ≡ 0 → AnswersNext kinds old done rest given new text → failed_in given ≡ 0
+  next_unfailed done [] given new text zero h = absurd h
+  next_unfailed done (l ∷ rest) given new text zero h =
+      none_failed_before given h.0 (none_failed kinds old new (steps_said (said_lines (done ++ l ∷ []))) (given ++ h.0) h.2.all.silo zero)
+
+  at_text : (input : List ℕ) (new : History) (before after : Option (List ℕ)) → new.failures.now ≡ 0 → StopsAt kinds (lines_of input) old new before after → StopsBetween setup (lines_of input) before after
+  at_text input new before after zero h =
+      let none : failed_in h.given ≡ 0 =
+      ⊎_elim (λ same. none_failed kinds old h.mid (steps_said (said_lines h.done)) h.given h.answers.all.silo (ap (λ (k : History). k.failures.now) (sym same) ∙ zero))
+      (λ more. next_unfailed h.done h.rest h.given new h.text zero more) h.next in
+      record {
+        done = h.done;
+        rest = h.rest;
+        parts = h.parts;
+        text = h.text;
+        answers = text_of_lines h.done h.given h.mid h.text h.answers none;
+        written = h.written;
+      }
+
+  after_text : (input : List ℕ) (new : History) (before after : Option (List ℕ)) → new.failures.now ≡ 0 → StopsAfter kinds (lines_of input) old new before after → StopsInside setup (lines_of input) before after
+  after_text input new before after zero h =
+      let none = none_failed kinds old new (steps_said (said_lines (h.done ++ h.last))) (h.given ++ h.more) h.answers.all.silo zero in
+      record {
+        done = h.done;
+        last = h.last;
+        rest = h.rest;
+        at_most_one = h.at_most_one;
+        parts = h.parts;
+        text = h.text;
+        last_text = h.last_text;
+        before_it = text_of_lines h.done h.given h.mid h.text h.before_it (none_failed_before h.given h.more none);
+        answers = text_of_lines (h.done ++ h.last) (h.given ++ h.more) new (h.text ++ h.last_text) h.answers none;
+        during = h.during;
+        written = h.written;
+        part = h.part;
+      }
+
+  by_fault : (why : LineFault) (calls : ReaderCalls) (writing : WriterCalls) (input : List ℕ) (new : History) (before after : Option (List ℕ)) → new.failures.now ≡ 0 → StopsBy kinds why (lines_of input) calls writing old new before after
+      → StopsSteps setup why input calls before after writing
+  unfolding before_text
+  by_fault line.Read calls writing input new before after zero h = (before_text input new before after zero h.0, h.1)
+  by_fault line.TooMuch calls writing input new before after zero h = (before_text input new before after zero h.0, h.1)
+  by_fault line.Memory calls writing input new before after zero h = at_text input new before after zero h
+  by_fault line.Write calls writing input new before after zero h = (after_text input new before after zero h.0, h.1)
+
+  fault_text : (why : LineFault) (calls : ReaderCalls) (writing : WriterCalls) (new : History) (from before after : Option (List ℕ)) → new.failures.now ≡ 0
+      → IfSome from (λ input. StopsBy kinds why (lines_of input) calls writing old new before after) → IfSome from (λ input. StopsSteps setup why input calls before after writing)
+  fault_text why calls writing new None before after zero h = tt
+  fault_text why calls writing new (Some input) before after zero h = by_fault why calls writing input new before after zero h
+
+  pub steps_stopped : (why : LineFault) (calls : ReaderCalls) (writing : WriterCalls) (new : History) (ahead from before after : Option (List ℕ)) → ahead ≡ from → new.failures.now ≡ 0
+      → IfSome ahead (λ input. StopsBy kinds why (lines_of input) calls writing old new before after) → IfSome from (λ input. StopsSteps setup why input calls before after writing)
+  steps_stopped why calls writing new ahead from before after same zero h = subst (λ (o : Option (List ℕ)). IfSome o (λ input. StopsSteps setup why input calls before after writing)) same (fault_text why calls writing new ahead before after zero h)
+
+-- ---- all was answered, and then writing failed
+
+all_but_out : (setup : Setup) (input : List ℕ) (left before during after : Option (List ℕ)) → Keeps during after → AnswersSteps setup input left before during → StopsInside setup (lines_of input) before after
+all_but_out setup input left before during after kept h = record {
+  done = lines_of input;
+  last = [];
+  rest = [];
+  at_most_one = omega arith;
+  parts = sym (append-nil (lines_of input ++ []) ∙ append-nil (lines_of input));
+  text = h.text;
+  last_text = [];
+  before_it = h.answers;
+  answers = subst (λ (lines : List (List ℕ)). IsTextOf setup lines (h.text ++ [])) (sym (append-nil (lines_of input)))
+      (subst (λ (text : List ℕ). IsTextOf setup (lines_of input) text) (sym (append-nil h.text)) h.answers);
+  during = after;
+  written = Appends-kept before during after _ h.written kept;
+  part = record { front = []; back = []; parts = refl; written = Appends-nil after };
+}
+
+StopsSteps-answered : (setup : Setup) (calls : ReaderCalls) (writing : WriterCalls) (from left before during after : Option (List ℕ)) → writing.failed ≡ true → Keeps during after
+    → IfSome from (λ input. AnswersSteps setup input left before during) → IfSome from (λ input. StopsSteps setup line.Write input calls before after writing)
+StopsSteps-answered setup calls writing None left before during after failed kept h = tt
+StopsSteps-answered setup calls writing (Some input) left before during after failed kept h = (all_but_out setup input left before during after kept h, failed)
+
+pub steps_not_out : {T : Type 0} (setup : Setup) (calls : ReaderCalls) (writing : WriterCalls) (from left before during after : Option (List ℕ)) (out : Result T LineFault) → OnErr out ((out ≡ Err line.Write) × (writing.failed ≡ true)) → Keeps during after
+    → IfSome from (λ input. AnswersSteps setup input left before during) → IfErr out (λ why. StopsFrom setup why from calls before after writing)
+steps_not_out setup calls writing from left before during after (Ok none) fault kept h = tt
+steps_not_out setup calls writing from left before during after (Err why) fault kept h =
+    let is : why ≡ line.Write = cc (fault.0) in
+    subst (λ (w : LineFault). StopsFrom setup w from calls before after writing) (sym is) (StopsSteps-answered setup calls writing from left before during after fault.1 kept h)
+
+-- ---- the steps ended with a fault, and then what was written went out
+
+module _ (setup : Setup) (lines : List (List ℕ)) (before during after : Option (List ℕ)) (kept : Keeps during after) where
+  StopsBetween-kept : StopsBetween setup lines before during → StopsBetween setup lines before after
+  StopsBetween-kept h = record { done = h.done; rest = h.rest; parts = h.parts; text = h.text; answers = h.answers; written = Appends-kept before during after h.text h.written kept }
+
+  StopsInside-kept : StopsInside setup lines before during → StopsInside setup lines before after
+  StopsInside-kept h = record {
+    done = h.done;
+    last = h.last;
+    rest = h.rest;
+    at_most_one = h.at_most_one;
+    parts = h.parts;
+    text = h.text;
+    last_text = h.last_text;
+    before_it = h.before_it;
+    answers = h.answers;
+    during = h.during;
+    written = h.written;
+    part = record { front = h.part.front; back = h.part.back; parts = h.part.parts; written = Appends-kept h.during during after h.part.front h.part.written kept };
+  }
+
+StopsSteps-kept : (setup : Setup) (why : LineFault) (input : List ℕ) (calls : ReaderCalls) (writing : WriterCalls) (before during after : Option (List ℕ)) → Keeps during after
+    → StopsSteps setup why input calls before during writing → StopsSteps setup why input calls before after writing
+unfolding StopsBetween-kept
+StopsSteps-kept setup line.Read input calls writing before during after kept h = (StopsBetween-kept setup (lines_of input) before during after kept h.0, h.1)
+StopsSteps-kept setup line.TooMuch input calls writing before during after kept h = (StopsBetween-kept setup (lines_of input) before during after kept h.0, h.1)
+StopsSteps-kept setup line.Memory input calls writing before during after kept h = StopsBetween-kept setup (lines_of input) before during after kept h
+StopsSteps-kept setup line.Write input calls writing before during after kept h = (StopsInside-kept setup (lines_of input) before during after kept h.0, h.1)
+
+pub StopsFrom-kept : (setup : Setup) (why : LineFault) (from : Option (List ℕ)) (calls : ReaderCalls) (writing : WriterCalls) (before during after : Option (List ℕ)) → Keeps during after
+    → StopsFrom setup why from calls before during writing → StopsFrom setup why from calls before after writing
+StopsFrom-kept setup why None calls writing before during after kept h = tt
+StopsFrom-kept setup why (Some input) calls writing before during after kept h = StopsSteps-kept setup why input calls writing before during after kept h

@@ -1,0 +1,175 @@
+-- How the program ends, by its status: what the words ask for, what was read and written, and what was told.
+use Rattle.std.specs.Prelude.{◌≡◌, ◌⊎◌, ℕ, List, Option, Some, string_bytes}
+use Rattle.std.specs.Io.KnownBytes.{Appends, Keeps}
+use Rattle.clap.specs.Words.{Text}
+use Rattle.tenant_gate.specs.Table.{Table}
+use Rattle.line_protocol.specs.declared.calls.ReaderCalls.{ReaderCalls}
+use Rattle.line_protocol.specs.declared.written.WriterCalls.{WriterCalls}
+use Rattle.line_protocol.specs.declared.fault.LineFault.{LineFault}
+use Rattle.silo_service.specs.Serving.{setup_of}
+use Rattle.silo_words.specs.Words.{AreRefused, AreTaken, AskForAudit, AskForHelp, AskForServing, AskForSteps, AskForVersion, EndsWithExample, IsOutOfRange}
+use Rattle.silo_program.specs.Status.{cause_of, refused_text, version_text}
+use Rattle.silo_program.specs.Streams.{BreaksOff}
+use Rattle.silo_words.specs.Tenants.{IsFirstRefused, NameTenants}
+use Rattle.silo_program.specs.Steps.{AnswersFrom, StopsFrom}
+use Rattle.silo_program.specs.Serving.{ServesLanes, ServingFailsBy}
+use Rattle.silo_program.specs.Auditing.{AuditFailsBy, AuditsFile, RefusesFile}
+use Rattle.silo_program.specs.declared.failure.Cause.{Cause}
+use Rattle.silo_program.specs.declared.failure.Cause.TheVariants as cause
+use Rattle.silo_program.specs.declared.failure.End.{End}
+use Rattle.silo_program.specs.declared.failure.End.TheVariants as end
+use Rattle.silo_program.specs.declared.failure.ProgramFault.{ProgramFault}
+use Rattle.silo_program.specs.declared.failure.ProgramFault.TheVariants as fault
+
+-- ---- what the words ask for
+
+-- the text that the words ask for: help, or the version
+abbrev pub AskForText : List Text → Text → Type 0
+AskForText words text = (AskForHelp words × EndsWithExample text) ⊎ (AskForVersion words × (text ≡ version_text))
+
+-- The words ask to take steps for these tenants, each within its limits, under this age.
+pub record AskForTenants (words : List Text) (tenants : Table) (age : ℕ) : Type 0 where
+  pub arguments : List Text
+  pub asked : AskForSteps words age arguments
+  pub named : NameTenants arguments tenants
+
+-- The words ask to serve the lines of an input by so many threads, for these tenants under this age, and for the journal at this path.
+pub record AskForThreads (words : List Text) (workers : ℕ) (tenants : Table) (age : ℕ) (journal : Option Text) : Type 0 where
+  pub arguments : List Text
+  pub asked : AskForServing words workers age journal arguments
+  pub named : NameTenants arguments tenants
+
+-- The words ask for the journal at the path.
+abbrev pub AskForJournal : List Text → Text → Type 0
+AskForJournal words path = (workers : ℕ) × (age : ℕ) × (arguments : List Text) × AskForServing words workers age (Some path) arguments
+
+-- The words have these tenant arguments, whether they ask to take steps or to serve.
+abbrev pub HaveArguments : List Text → List Text → Type 0
+HaveArguments words arguments = ((age : ℕ) × AskForSteps words age arguments) ⊎ ((workers : ℕ) × (age : ℕ) × (journal : Option Text) × AskForServing words workers age journal arguments)
+
+-- Of the words' tenant arguments the one of this number is the first that is refused.
+pub record NameNoTenant (words : List Text) (number : ℕ) : Type 0 where
+  pub arguments : List Text
+  pub asked : HaveArguments words arguments
+  pub first : IsFirstRefused arguments number
+
+-- What is said of words that are refused: clap's text, or that a number is out of its range, or which tenant argument is refused.
+abbrev pub AreRefusedBy : List Text → Text → Type 0
+AreRefusedBy words text = (AreRefused words ⊎ (AreTaken words × IsOutOfRange words)) ⊎ ((number : ℕ) × NameNoTenant words number × (text ≡ refused_text number))
+
+-- ---- a text is shown
+
+-- The text that the words ask for was written, and nothing was read.
+pub record ShowsText (words : List Text) (from left before after : Option (List ℕ)) : Type 0 where
+  pub text : Text
+  pub asked : AskForText words text
+  pub kept : Keeps from left
+  pub written : Appends before after text
+
+-- The text that the words ask for breaks off: a call of the writer failed. Nothing was read.
+pub record StopsText (words : List Text) (from left before after : Option (List ℕ)) (writing : WriterCalls) : Type 0 where
+  pub text : Text
+  pub asked : AskForText words text
+  pub kept : Keeps from left
+  pub part : BreaksOff before after writing text
+
+-- Before a task is done memory may be refused, or writing a text may fail.
+abbrev pub FailsEarly : List Text → Cause → Option (List ℕ) → Option (List ℕ) → Option (List ℕ) → Option (List ℕ) → WriterCalls → Type 0
+FailsEarly words cause.Read from left before after writing = ⊥
+FailsEarly words cause.Write from left before after writing = StopsText words from left before after writing
+FailsEarly words cause.Memory from left before after writing = Keeps from left × Keeps before after
+FailsEarly words cause.TooMuch from left before after writing = ⊥
+FailsEarly words cause.NoWorker from left before after writing = ⊥
+FailsEarly words cause.Strayed from left before after writing = ⊥
+
+-- ---- steps are taken
+
+-- The words name tenants, and the steps of the input were answered for them.
+pub record ServesSteps (words : List Text) (from left before after : Option (List ℕ)) : Type 0 where
+  pub tenants : Table
+  pub age : ℕ
+  pub asked : AskForTenants words tenants age
+  pub answered : AnswersFrom (setup_of tenants age) from left before after
+
+-- The words name tenants, and the steps of the input were answered for them up to this fault.
+pub record FailsInSteps (words : List Text) (why : Cause) (from : Option (List ℕ)) (reading : ReaderCalls) (before after : Option (List ℕ)) (writing : WriterCalls) : Type 0 where
+  pub tenants : Table
+  pub age : ℕ
+  pub asked : AskForTenants words tenants age
+  pub fault : LineFault
+  pub is : why ≡ cause_of fault
+  pub stopped : StopsFrom (setup_of tenants age) fault from reading before after writing
+
+-- ---- lines are served
+
+-- The words name tenants, and the lines of the input were served for them.
+pub record ServesInput (words : List Text) (may_hold : Text → List ℕ → Type 0) (from left before after : Option (List ℕ)) : Type 0 where
+  pub workers : ℕ
+  pub tenants : Table
+  pub age : ℕ
+  pub journal : Option Text
+  pub asked : AskForThreads words workers tenants age journal
+  pub served : ServesLanes (setup_of tenants age) may_hold journal from left before after
+
+-- The words name tenants, and serving the lines of the input for them failed.
+pub record FailsInServing (words : List Text) (may_hold : Text → List ℕ → Type 0) (may_fail : Text → Type 0) (why : Cause) (from left : Option (List ℕ)) (reading : ReaderCalls) (before after : Option (List ℕ)) (writing : WriterCalls) : Type 0 where
+  pub workers : ℕ
+  pub tenants : Table
+  pub age : ℕ
+  pub journal : Option Text
+  pub asked : AskForThreads words workers tenants age journal
+  pub failed : ServingFailsBy (setup_of tenants age) may_hold may_fail journal why from left reading before after writing
+
+-- ---- a journal is audited
+
+-- The words name a file, and its journal was audited. Nothing was read from the input.
+pub record Audits (words : List Text) (may_hold : Text → List ℕ → Type 0) (how : End) (from left before after : Option (List ℕ)) : Type 0 where
+  pub path : Text
+  pub asked : AskForAudit words path
+  pub kept : Keeps from left
+  pub audited : AuditsFile (may_hold path) how before after
+
+-- The words name a file, and its audit failed. Nothing was read from the input.
+pub record FailsInAudit (words : List Text) (may_hold : Text → List ℕ → Type 0) (may_fail : Text → Type 0) (why : Cause) (from left before after : Option (List ℕ)) (writing : WriterCalls) : Type 0 where
+  pub path : Text
+  pub asked : AskForAudit words path
+  pub kept : Keeps from left
+  pub failed : AuditFailsBy (may_hold path) (may_fail path) why before after writing
+
+-- The words name a file that has no journal, and that was said. Nothing was read from the input.
+pub record RefusesJournal (words : List Text) (may_hold : Text → List ℕ → Type 0) (text : Text) (from left before after : Option (List ℕ)) : Type 0 where
+  pub path : Text
+  pub asked : AskForAudit words path
+  pub kept : Keeps from left
+  pub refused : RefusesFile (may_hold path) text before after
+
+-- ---- how the program ends
+
+-- All is well: the words ask for a text, which was written, or for steps, which were answered, or for lines to be served, which they were, or for an audit, which found no difference. A tenant differs: the words ask for an audit, which found that.
+abbrev pub EndsAs : End → List Text → (Text → List ℕ → Type 0) → Option (List ℕ) → Option (List ℕ) → Option (List ℕ) → Option (List ℕ) → Type 0
+EndsAs end.Well words may_hold from left before after =
+    ShowsText words from left before after ⊎ (ServesSteps words from left before after ⊎ (ServesInput words may_hold from left before after ⊎ Audits words may_hold end.Well from left before after))
+EndsAs end.Differs words may_hold from left before after = Audits words may_hold end.Differs from left before after
+
+-- What was done before the program failed by this: nothing yet, or a part of what the words ask for.
+abbrev pub FailsBy : List Text → (Text → List ℕ → Type 0) → (Text → Type 0) → Cause → Option (List ℕ) → Option (List ℕ) → ReaderCalls → Option (List ℕ) → Option (List ℕ) → WriterCalls → Type 0
+FailsBy words may_hold may_fail why from left reading before after writing =
+    FailsEarly words why from left before after writing ⊎ (FailsInSteps words why from reading before after writing ⊎ (FailsInServing words may_hold may_fail why from left reading before after writing ⊎ FailsInAudit words may_hold may_fail why from left before after writing))
+
+-- Why a text isn't shown, or steps aren't taken.
+abbrev pub IsStreamFault : List Text → ProgramFault → Option (List ℕ) → Option (List ℕ) → ReaderCalls → Option (List ℕ) → Option (List ℕ) → WriterCalls → Type 0
+IsStreamFault words (fault.Failed why) from left reading before after writing = FailsEarly words why from left before after writing ⊎ FailsInSteps words why from reading before after writing
+IsStreamFault words (fault.Refused text) from left reading before after writing = AreRefusedBy words (string_bytes text) × Keeps from left × Keeps before after
+IsStreamFault words (fault.NoJournal text) from left reading before after writing = ⊥
+
+-- Why lines aren't served.
+abbrev pub IsServingFault : List Text → (Text → List ℕ → Type 0) → (Text → Type 0) → ProgramFault → Option (List ℕ) → Option (List ℕ) → ReaderCalls → Option (List ℕ) → Option (List ℕ) → WriterCalls → Type 0
+IsServingFault words may_hold may_fail (fault.Failed why) from left reading before after writing = FailsEarly words why from left before after writing ⊎ FailsInServing words may_hold may_fail why from left reading before after writing
+IsServingFault words may_hold may_fail (fault.Refused text) from left reading before after writing = AreRefusedBy words (string_bytes text) × Keeps from left × Keeps before after
+IsServingFault words may_hold may_fail (fault.NoJournal text) from left reading before after writing = ⊥
+
+-- Why the program doesn't do what the words ask for. If the words are refused, nothing was read and nothing written.
+abbrev pub IsFaultOf : List Text → (Text → List ℕ → Type 0) → (Text → Type 0) → ProgramFault → Option (List ℕ) → Option (List ℕ) → ReaderCalls → Option (List ℕ) → Option (List ℕ) → WriterCalls → Type 0
+IsFaultOf words may_hold may_fail (fault.Failed why) from left reading before after writing = FailsBy words may_hold may_fail why from left reading before after writing
+IsFaultOf words may_hold may_fail (fault.Refused text) from left reading before after writing = AreRefusedBy words (string_bytes text) × Keeps from left × Keeps before after
+IsFaultOf words may_hold may_fail (fault.NoJournal text) from left reading before after writing = RefusesJournal words may_hold (string_bytes text) from left before after

@@ -1,0 +1,95 @@
+-- What `silo serve` does with the lines of an input.
+use Rattle.std.specs.Prelude.{◌≡◌, ◌≢◌, ◌⊎◌, ℕ, List, Option, None, Some, IfSome, true}
+use Rattle.std.specs.Io.KnownBytes.{Appends, Keeps}
+use Rattle.silo_event.specs.declared.reply.Reply.{Reply}
+use Rattle.grain_kinds.specs.Kinds.{kinds}
+use Rattle.silo_model.specs.Opening.{Setup}
+use Rattle.silo_core.specs.History.{History}
+use Rattle.line_parser.specs.declared.line.LineRefusal.{LineRefusal}
+use Rattle.line_protocol.specs.Calls.{calls_limit}
+use Rattle.line_protocol.specs.Gathered.{HasTooMany}
+use Rattle.line_protocol.specs.declared.calls.ReaderCalls.{ReaderCalls}
+use Rattle.line_protocol.specs.declared.written.WriterCalls.{WriterCalls}
+use Rattle.tenant_audit.specs.Text.{journal_text}
+use Rattle.silo_report.specs.Report.{IsFirstDifference}
+use Rattle.journal_audit.specs.SiloJournal.{journal_of}
+use Rattle.silo_service.specs.Serving.{IsServed}
+use Rattle.silo_service.specs.ServedText.{served_text}
+use Rattle.silo_service.specs.declared.fault.ServiceFault.{ServiceFault}
+use Rattle.silo_service.specs.declared.fault.ServiceFault.TheVariants as service
+use Rattle.silo_program.specs.Status.{cause_of}
+use Rattle.silo_program.specs.Streams.{BreaksOff}
+use Rattle.silo_program.specs.declared.failure.Cause.{Cause}
+use Rattle.silo_program.specs.declared.failure.Cause.TheVariants as cause
+
+-- what became of an input: the refusals of the lines of no lane, the silo, and each lane's replies
+pub record Outcome : Type 0 where
+  pub refusals : List LineRefusal
+  pub silo : History
+  pub answers : List (List Reply)
+
+-- All of the input was read, and serving it left this. Of an input that isn't known nothing is said.
+abbrev pub LeavesOutcome : Setup → Option (List ℕ) → Option (List ℕ) → Outcome → Type 0
+LeavesOutcome setup from left outcome = IfSome from (λ input. IsServed setup input left outcome.refusals outcome.silo outcome.answers)
+
+-- what is written of it
+abbrev pub outcome_text : Outcome → List ℕ
+outcome_text outcome = served_text outcome.refusals outcome.answers outcome.silo.whole.replies
+
+-- The file may have the journal of the silo, in which no tenant differs from its machine.
+pub record HoldsJournal (may_hold : List ℕ → Type 0) (silo : History) : Type 0 where
+  pub held : may_hold (journal_text (journal_of silo))
+  pub no_difference : (tenant : List ℕ) → IsFirstDifference kinds (journal_of silo) tenant None
+
+-- the same of the file at the path, if a path is given
+abbrev pub KeepsJournal : (List ℕ → List ℕ → Type 0) → Option (List ℕ) → History → Type 0
+KeepsJournal may_hold journal silo = IfSome journal (λ path. HoldsJournal (may_hold path) silo)
+
+-- A path is given, and a call at it may fail.
+abbrev pub MayFailAt : (List ℕ → Type 0) → Option (List ℕ) → Type 0
+MayFailAt may_fail None = ⊥
+MayFailAt may_fail (Some path) = may_fail path
+
+-- ---- how serving ends
+
+-- The lines of the input were served; their journal was written, if a path is given; and then what became of them.
+pub record ServesLanes (setup : Setup) (may_hold : List ℕ → List ℕ → Type 0) (journal : Option (List ℕ)) (from left before after : Option (List ℕ)) : Type 0 where
+  pub outcome : Outcome
+  pub served : LeavesOutcome setup from left outcome
+  pub kept : KeepsJournal may_hold journal outcome.silo
+  pub written : Appends before after (outcome_text outcome)
+
+-- The same, but the text of what became of them breaks off: a call of the writer failed.
+pub record WritesOutcomeInPart (setup : Setup) (may_hold : List ℕ → List ℕ → Type 0) (journal : Option (List ℕ)) (from left before after : Option (List ℕ)) (writing : WriterCalls) : Type 0 where
+  pub outcome : Outcome
+  pub served : LeavesOutcome setup from left outcome
+  pub kept : KeepsJournal may_hold journal outcome.silo
+  pub part : BreaksOff before after writing (outcome_text outcome)
+
+-- The lines of the input were served, but their journal wasn't written to the path that is given, where a call may fail, and so nothing was.
+pub record LosesJournal (setup : Setup) (may_fail : List ℕ → Type 0) (journal : Option (List ℕ)) (from left before after : Option (List ℕ)) : Type 0 where
+  pub fails : MayFailAt may_fail journal
+  pub outcome : Outcome
+  pub served : LeavesOutcome setup from left outcome
+  pub kept : Keeps before after
+
+-- By what serving fails: reading only if the last call of the reader failed; too much only if there are too many lines, or all calls of the reader were made; writing as above. But for a fault of writing nothing was written.
+abbrev pub ServingFailsBy : Setup → (List ℕ → List ℕ → Type 0) → (List ℕ → Type 0) → Option (List ℕ) → Cause → Option (List ℕ) → Option (List ℕ) → ReaderCalls → Option (List ℕ) → Option (List ℕ) → WriterCalls → Type 0
+ServingFailsBy setup may_hold may_fail journal cause.Read from left reading before after writing = (reading.failed ≡ true) × Keeps before after
+ServingFailsBy setup may_hold may_fail journal cause.TooMuch from left reading before after writing = (HasTooMany from ⊎ (reading.made ≡ calls_limit)) × Keeps before after
+ServingFailsBy setup may_hold may_fail journal cause.Write from left reading before after writing = LosesJournal setup may_fail journal from left before after ⊎ WritesOutcomeInPart setup may_hold journal from left before after writing
+ServingFailsBy setup may_hold may_fail journal why from left reading before after writing = Keeps before after
+
+-- ---- its parts
+
+-- what a fault of the service becomes
+abbrev pub service_cause : ServiceFault → Cause
+service_cause (service.Failed why) = cause_of why
+service_cause service.NoWorker = cause.NoWorker
+service_cause service.Strayed = cause.Strayed
+
+-- a path is given, and memory was refused, or a call at the path may fail
+abbrev pub IsKeepingCause : (List ℕ → Type 0) → Option (List ℕ) → Cause → Type 0
+IsKeepingCause may_fail journal cause.Memory = journal ≢ None
+IsKeepingCause may_fail journal cause.Write = MayFailAt may_fail journal
+IsKeepingCause may_fail journal why = ⊥

@@ -1,0 +1,149 @@
+//! Auditing the journal of a file.
+
+ghost use Rattle.std.specs.Prelude.{◌≡◌, ℕ, List, Option, map, IfOk, IfErr, OnOk};
+ghost use Rattle.std.specs.Io.KnownBytes.{Appends};
+ghost use Rattle.grain_kinds.specs.Kinds.{kinds};
+ghost use Rattle.line_protocol.specs.declared.written.WriterCalls.{WriterCalls};
+ghost use Rattle.tenant_audit.specs.Rules.{KeepsRules};
+ghost use Rattle.tenant_audit.specs.Text.{journal_text};
+ghost use Rattle.silo_report.specs.Report.{IsReport};
+ghost use Rattle.journal_audit.specs.Reported.{tenant_report_of};
+ghost use Rattle.silo_program.specs.Auditing.{AuditsFile, IsAuditCause, IsAuditFault, IsEndOf, IsReadingFault, IsRefusalOf, IsWritingCause, MayHoldJournal, file_cause, reports_text};
+
+use crate::failure::{Cause, End, ProgramFault, say};
+use crate::files::{FileFault, WholeFiles};
+use crate::streams::Output;
+use grain_id::Tenant;
+use journal_audit::{AuditFault, AuditGate, TenantReport, audit_with, has_difference, report_text};
+use std::alloc::Global;
+use std::io::Write;
+use std::sync::Wait;
+use std::thread::Threads;
+use tenant_audit::{Journal, JournalFault, read_journal};
+
+/// How many threads audit a journal.
+const AUDIT_WORKERS: usize = 4;
+
+/// A gate that does nothing.
+struct FreeGate;
+
+impl AuditGate for FreeGate {
+    fn entered(&self, _tenant: &Tenant) {}
+}
+
+/// What a fault of a file that is read is to the program.
+fn cause_of_file(fault: FileFault) -> Cause
+    ensures { result ≡ file_cause fault }
+{
+    match fault {
+        FileFault::Memory => Cause::Memory,
+        FileFault::Failed => Cause::Read,
+    }
+}
+
+/// What is said of bytes that are no journal's, by the number of the line that is refused.
+fn refuse_line(alloc: Global, number: usize) -> ProgramFault
+    ensures { IsRefusalOf number result }
+{
+    match format!(in alloc; "silo: journal line {number} is refused\n") {
+        Ok(text) => ProgramFault::NoJournal(text),
+        Err(_) => ProgramFault::Failed(Cause::Memory),
+    }
+}
+
+/// The journal whose text the bytes are.
+fn journal_in(alloc: Global, bytes: &[u8]) -> Result<Journal, ProgramFault>
+    ensures journal { IfOk result (λ journal. KeepsRules journal × (bytes.now ≡ journal_text journal)) }
+    ensures fault { IfErr result (λ fault. IsReadingFault bytes.now fault) }
+{
+    match read_journal(alloc, bytes) {
+        Ok(journal) => Ok(journal),
+        Err(JournalFault::Memory) => Err(ProgramFault::Failed(Cause::Memory)),
+        Err(JournalFault::At { line }) => Err(refuse_line(alloc, line)),
+    }
+}
+
+/// The journal that the file at the path has.
+fn journal_at<F: WholeFiles>(alloc: Global, files: &F, path: &str) -> Result<Journal, ProgramFault>
+    ensures journal { IfOk result (λ journal. MayHoldJournal (F.may_hold files.now path.now) journal) }
+    ensures fault { (before : Option (List ℕ)) (writing : WriterCalls) → IfErr result (λ fault. IsAuditFault (F.may_hold files.now path.now) (F.may_fail files.now path.now) fault before before writing) }
+{
+    match files.read_whole(alloc, path) {
+        Ok(bytes) => journal_in(alloc, bytes.as_slice()),
+        Err(fault) => Err(ProgramFault::Failed(cause_of_file(fault))),
+    }
+}
+
+/// What the audit reports of each tenant of the journal.
+fn reports_on<H: AllocGlobal + Threads + Wait + Sync>(
+    rt: &H,
+    journal: &Journal,
+) -> Result<Vec<TenantReport>, Cause>
+    ensures reports { IfOk result (λ reports. IsReport kinds journal.now (map tenant_report_of reports.items)) }
+    ensures fault { IfErr result (λ cause. IsAuditCause cause) }
+{
+    match audit_with(rt, rt.alloc(), journal, AUDIT_WORKERS, &FreeGate) {
+        Ok(reports) => Ok(reports),
+        Err(AuditFault::Memory) => Err(Cause::Memory),
+        Err(AuditFault::NoWorker) => Err(Cause::NoWorker),
+    }
+}
+
+/// How an audit ends that reports this.
+fn end_of(reports: &[TenantReport]) -> End
+    ensures { IsEndOf result (map tenant_report_of reports.now) }
+{
+    if has_difference(reports) {
+        End::Differs
+    } else {
+        End::Well
+    }
+}
+
+/// Writes what is reported of each tenant.
+fn write_reports<W: Write>(
+    alloc: Global,
+    reports: &[TenantReport],
+    output: &mut Output<W>,
+) -> Result<End, Cause>
+    ensures written { IfOk result (λ how. IsEndOf how (map tenant_report_of reports.now) × Appends (W.contents output.old.writer) (W.contents output.new.writer) (reports_text (map tenant_report_of reports.now))) }
+    ensures unfailed { OnOk result (output.new.calls.failed ≡ output.old.calls.failed) }
+    ensures fault { IfErr result (λ cause. IsWritingCause cause (W.contents output.old.writer) (W.contents output.new.writer) output.new.calls (reports_text (map tenant_report_of reports.now))) }
+{
+    let Ok(text) = report_text(alloc, reports) else {
+        return Err(Cause::Memory);
+    };
+    if say(output, text.as_str()) {
+        return Ok(end_of(reports));
+    }
+    Err(Cause::Write)
+}
+
+/// Audits the journal that the file at the path has by 4 threads, and writes a line for each tenant.
+///
+/// # Errors
+///
+/// `Failed` with `Read` if the file isn't read, and then `NoJournal` if it has no journal. `Failed` with
+/// `NoWorker` if a thread couldn't be started, with `Write` if a call of the writer failed, and with
+/// `Memory` if memory was refused. But for `Write` nothing was written.
+pub fn audit_file<H: AllocGlobal + Threads + Wait + Sync, F: WholeFiles, W: Write>(
+    rt: &H,
+    path: &str,
+    files: &F,
+    output: &mut Output<W>,
+) -> Result<End, ProgramFault>
+    ensures audited { IfOk result (λ how. AuditsFile (F.may_hold files.now path.now) how (W.contents output.old.writer) (W.contents output.new.writer)) }
+    ensures unfailed { OnOk result (output.new.calls.failed ≡ output.old.calls.failed) }
+    ensures fault { IfErr result (λ fault. IsAuditFault (F.may_hold files.now path.now) (F.may_fail files.now path.now) fault (W.contents output.old.writer) (W.contents output.new.writer) output.new.calls) }
+{
+    let alloc = rt.alloc();
+    let journal = journal_at(alloc, files, path)?;
+    let reports = match reports_on(rt, &journal) {
+        Ok(reports) => reports,
+        Err(cause) => return Err(ProgramFault::Failed(cause)),
+    };
+    match write_reports(alloc, reports.as_slice(), output) {
+        Ok(how) => Ok(how),
+        Err(cause) => Err(ProgramFault::Failed(cause)),
+    }
+}

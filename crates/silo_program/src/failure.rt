@@ -1,0 +1,141 @@
+//! How the program ends: what it says if it fails, and its status.
+
+ghost use Rattle.std.specs.Prelude.{◌≡◌, ◌≢◌, true, false};
+ghost use Rattle.std.specs.Io.KnownBytes.{Appends};
+ghost use Rattle.std.specs.IoError.{error_kind};
+ghost use Rattle.silo_program.specs.Status.{cause_of, end_status, failure_text, status_of, told_text};
+ghost use Rattle.silo_program.specs.Streams.{BreaksOff, Tells};
+
+use crate::streams::Output;
+use line_protocol::LineFault;
+use std::io::{self, ErrorKind, Write};
+
+/// How the program ends if it does what it is asked for.
+#[derive(Clone, Copy, Debug, PartialEq, Eq)]
+pub enum End {
+    Well,
+    /// An audit found that a tenant differs.
+    Differs,
+}
+
+/// Why the program fails.
+#[derive(Clone, Copy, Debug, PartialEq, Eq)]
+pub enum Cause {
+    Read,
+    Write,
+    Memory,
+    /// The input has too many lines, or needs too many calls of the reader.
+    TooMuch,
+    /// No thread could be started.
+    NoWorker,
+    /// What the threads left isn't what serving the lanes leaves.
+    Strayed,
+}
+
+/// Why the program doesn't do what it is asked for.
+#[derive(Drop)]
+pub enum ProgramFault {
+    /// It failed.
+    Failed(Cause),
+    /// The arguments are refused, with what is said of them.
+    Refused(String),
+    /// The file has no journal, with what is said of it.
+    NoJournal(String),
+}
+
+/// The status if a tenant differs.
+const DIFFERS_STATUS: u8 = 3;
+
+/// The status after a fault of reading, of writing, of memory or of threads, or after too much input.
+const FAILED_STATUS: u8 = 1;
+
+/// The status after a fault of the arguments.
+const ARGUMENTS_STATUS: u8 = 2;
+
+/// The status if the file has no journal.
+const NO_JOURNAL_STATUS: u8 = 4;
+
+/// What a fault of the lines is to the program.
+pub fn cause_of(fault: LineFault) -> Cause
+    ensures { result ≡ cause_of fault }
+{
+    match fault {
+        LineFault::Read => Cause::Read,
+        LineFault::Write => Cause::Write,
+        LineFault::Memory => Cause::Memory,
+        LineFault::TooMuch => Cause::TooMuch,
+    }
+}
+
+/// Writes a text whole, and says whether that was done. If it wasn't, a call of the writer failed, and a part of the
+/// text was written: its beginning.
+pub fn say<W: Write>(to: &mut Output<W>, text: &str) -> bool
+    ensures whole { result ≡ true → Appends (W.contents to.old.writer) (W.contents to.new.writer) text.now }
+    ensures unfailed { result ≡ true → to.new.calls.failed ≡ to.old.calls.failed }
+    ensures part { result ≡ false → BreaksOff (W.contents to.old.writer) (W.contents to.new.writer) to.new.calls text.now }
+{
+    let whole = to.calls.write_whole(&mut to.writer, text.as_bytes());
+    whole.is_ok() && to.calls.flush(&mut to.writer).is_ok()
+}
+
+fn failure_line(cause: Cause) -> &'static str
+    ensures { result.now ≡ failure_text cause }
+{
+    match cause {
+        Cause::Read => "silo: reading failed\n",
+        Cause::Write => "silo: writing failed\n",
+        Cause::Memory => "silo: out of memory\n",
+        Cause::TooMuch => "silo: too much input\n",
+        Cause::NoWorker => "silo: no worker\n",
+        Cause::Strayed => "silo: lanes strayed\n",
+    }
+}
+
+/// Tells the errors why the program fails, as far as they take it, and answers the status.
+pub fn tell<E: Write>(errors: &mut Output<E>, fault: &ProgramFault) -> u8
+    ensures status { result ≡ status_of fault.now }
+    ensures told { Tells (E.contents errors.old.writer) (E.contents errors.new.writer) errors.new.calls (told_text fault.now) }
+{
+    match fault {
+        ProgramFault::Failed(why) => {
+            say(errors, failure_line(*why));
+            FAILED_STATUS
+        }
+        ProgramFault::Refused(text) => {
+            say(errors, text.as_str());
+            ARGUMENTS_STATUS
+        }
+        ProgramFault::NoJournal(text) => {
+            say(errors, text.as_str());
+            NO_JOURNAL_STATUS
+        }
+    }
+}
+
+/// The status of a program that did what it was asked for.
+pub fn status_of_end(end: End) -> u8
+    ensures { result ≡ end_status end }
+{
+    match end {
+        End::Well => 0,
+        End::Differs => DIFFERS_STATUS,
+    }
+}
+
+/// What is told if an argument is no text.
+const NOT_UTF8: &str = "error: an argument is not UTF-8\n";
+
+/// Tells why the program's words were not had, and answers the status: 1 if memory was refused, and else 2, since a word
+/// is not UTF-8.
+pub fn refuse_words<E: Write>(fault: &io::Error, errors: &mut Output<E>) -> u8
+    ensures memory { error_kind fault.now ≡ ErrorKind.OutOfMemory
+        → (result ≡ 1) × Tells (E.contents errors.old.writer) (E.contents errors.new.writer) errors.new.calls (failure_text Cause.Memory) }
+    ensures other { error_kind fault.now ≢ ErrorKind.OutOfMemory
+        → (result ≡ 2) × Tells (E.contents errors.old.writer) (E.contents errors.new.writer) errors.new.calls NOT_UTF8.now }
+{
+    if fault.kind() == ErrorKind::OutOfMemory {
+        return tell(errors, &ProgramFault::Failed(Cause::Memory));
+    }
+    say(errors, NOT_UTF8);
+    ARGUMENTS_STATUS
+}

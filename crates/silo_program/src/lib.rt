@@ -1,0 +1,20 @@
+//! What the program `silo` does, over any files and streams.
+//!
+//! A layer above may rely on this: `run_program` does what the words ask for, and says by its answer what the exit status
+//! is, and by its contract what was read, written and told. The crate `silo_words` reads the words, the tenant arguments
+//! among them. Here `stepping` takes the steps of an input, `serving` serves its lines by threads, `auditing` audits a
+//! journal, and `files` is what the program knows of files. How the program ends stands in `specs/Ends.antt`.
+#![tactic(auto)]
+
+mod auditing;
+mod failure;
+mod files;
+mod program;
+mod serving;
+mod stepping;
+mod streams;
+
+pub use failure::{Cause, End, ProgramFault, refuse_words, tell};
+pub use files::{FileFault, HostFiles, MemoryFile, WholeFiles};
+pub use program::run_program;
+pub use streams::{Input, Output};

@@ -1,0 +1,219 @@
+//! What the program does, over any files and streams.
+
+ghost use Rattle.std.specs.Prelude.{◌≡◌, ◌≤◌, ◌⊎◌, List, ℕ, Option, IfOk, IfErr, IfNone, OnOk, map, option_map};
+ghost use Rattle.std.specs.Io.KnownBytes.{Appends, Keeps};
+ghost use Rattle.clap.specs.Words.{Text};
+ghost use Rattle.line_protocol.specs.declared.calls.ReaderCalls.{ReaderCalls};
+ghost use Rattle.tenant_gate.specs.Age.{IsAge};
+ghost use Rattle.silo_words.specs.Words.{AskForServing, AskForSteps, IsWhy, texts_of};
+ghost use Rattle.silo_program.specs.Status.{IsTenantsFault, failure_text};
+ghost use Rattle.silo_program.specs.Streams.{BreaksOff, IsFresh, Tells};
+ghost use Rattle.silo_program.specs.Ends.{AreRefusedBy, AskForJournal, EndsAs, FailsBy, IsFaultOf, IsServingFault, IsStreamFault, RefusesJournal, ServesInput, ServesSteps, ShowsText};
+
+use crate::auditing::audit_file;
+use crate::failure::{Cause, End, ProgramFault, cause_of, say, status_of_end, tell};
+use crate::files::WholeFiles;
+use crate::serving::serve_lines;
+use crate::stepping::answer_steps;
+use crate::streams::{Input, Output};
+use silo_words::{Task, TenantsFault, WordsFault, read_tenants, read_words};
+use std::alloc::Global;
+use std::io::{Read, Write};
+use std::sync::Wait;
+use std::thread::Threads;
+
+/// What `--version` shows.
+const VERSION_LINE: &str = "silo 0.1.0\n";
+
+/// Writes a text that was asked for.
+fn show<W: Write>(output: &mut Output<W>, text: &str) -> Result<End, ProgramFault>
+    ensures whole { IfOk result (λ end. (end ≡ End.Well) × Appends (W.contents output.old.writer) (W.contents output.new.writer) text.now) }
+    ensures unfailed { OnOk result (output.new.calls.failed ≡ output.old.calls.failed) }
+    ensures part { IfErr result (λ why. (why ≡ ProgramFault.Failed Cause.Write) × BreaksOff (W.contents output.old.writer) (W.contents output.new.writer) output.new.calls text.now) }
+{
+    if say(output, text) {
+        return Ok(End::Well);
+    }
+    Err(ProgramFault::Failed(Cause::Write))
+}
+
+/// Shows the text that the words ask for, if they ask for one.
+fn explain_words<W: Write>(fault: WordsFault, output: &mut Output<W>) -> Result<End, ProgramFault>
+    ensures shown { (words : List Text) (from : Option (List ℕ)) → IsWhy words fault
+        → IfOk result (λ end. (end ≡ End.Well) × ShowsText words from from (W.contents output.old.writer) (W.contents output.new.writer)) }
+    ensures unfailed { OnOk result (output.new.calls.failed ≡ output.old.calls.failed) }
+    ensures fault { (words : List Text) (from : Option (List ℕ)) (reading : ReaderCalls) → IsWhy words fault
+        → IfErr result (λ why. IsStreamFault words why from from reading (W.contents output.old.writer) (W.contents output.new.writer) output.new.calls) }
+{
+    match fault {
+        WordsFault::Memory => Err(ProgramFault::Failed(Cause::Memory)),
+        WordsFault::Help(text) => show(output, text.as_str()),
+        WordsFault::Version => show(output, VERSION_LINE),
+        WordsFault::Wrong(text) => Err(ProgramFault::Refused(text)),
+    }
+}
+
+fn explain_tenants(alloc: Global, fault: TenantsFault) -> ProgramFault
+    ensures { IsTenantsFault fault result }
+{
+    match fault {
+        TenantsFault::Memory => ProgramFault::Failed(Cause::Memory),
+        TenantsFault::Refused(number) => {
+            match format!(in alloc; "silo: tenant argument {number} is refused\n") {
+                Ok(text) => ProgramFault::Refused(text),
+                Err(_) => ProgramFault::Failed(Cause::Memory),
+            }
+        }
+    }
+}
+
+/// Takes the steps of the input for the tenants of the arguments.
+fn take_steps<R: Read, W: Write>(
+    alloc: Global,
+    age: u64,
+    arguments: &[&str],
+    input: &mut Input<R>,
+    output: &mut Output<W>,
+) -> Result<End, ProgramFault>
+    requires age { IsAge age }
+    requires fresh { IsFresh input.old.lines }
+    ensures ended { (words : List Text) → AskForSteps words age (map (λ text. text.now) arguments.now)
+        → IfOk result (λ end. (end ≡ End.Well) × ServesSteps words (R.remaining input.old.reader) (R.remaining input.new.reader) (W.contents output.old.writer) (W.contents output.new.writer)) }
+    ensures unfailed { OnOk result (output.new.calls.failed ≡ output.old.calls.failed) }
+    ensures fault { (words : List Text) → AskForSteps words age (map (λ text. text.now) arguments.now)
+        → IfErr result (λ why. IsStreamFault words why (R.remaining input.old.reader) (R.remaining input.new.reader) input.new.lines.calls (W.contents output.old.writer) (W.contents output.new.writer) output.new.calls) }
+{
+    let tenants = match read_tenants(alloc, arguments) {
+        Ok(tenants) => tenants,
+        Err(fault) => return Err(explain_tenants(alloc, fault)),
+    };
+    match answer_steps(alloc, tenants, age, input, output) {
+        Ok(()) => Ok(End::Well),
+        Err(why) => Err(ProgramFault::Failed(cause_of(why))),
+    }
+}
+
+/// Serves the lines of the input for the tenants of the arguments.
+fn serve_tenants<H: AllocGlobal + Threads + Wait + Sync, F: WholeFiles, R: Read, W: Write>(
+    rt: &H,
+    workers: usize,
+    age: u64,
+    journal: Option<&str>,
+    arguments: &[&str],
+    files: &mut F,
+    input: &mut Input<R>,
+    output: &mut Output<W>,
+) -> Result<End, ProgramFault>
+    requires workers { (1 ≤ workers) × (workers ≤ 64) }
+    requires age { IsAge age }
+    requires fresh { IsFresh input.old.lines }
+    ensures ended { (words : List Text) → AskForServing words workers age (option_map (λ path. path.now) journal.entry) (map (λ text. text.now) arguments.now)
+        → IfOk result (λ end. (end ≡ End.Well) × ServesInput words (F.may_hold files.new) (R.remaining input.old.reader) (R.remaining input.new.reader) (W.contents output.old.writer) (W.contents output.new.writer)) }
+    ensures unfailed { OnOk result (output.new.calls.failed ≡ output.old.calls.failed) }
+    ensures fault { (words : List Text) → AskForServing words workers age (option_map (λ path. path.now) journal.entry) (map (λ text. text.now) arguments.now)
+        → IfErr result (λ why. IsServingFault words (F.may_hold files.new) (F.may_fail files.old) why (R.remaining input.old.reader) (R.remaining input.new.reader) input.new.lines.calls (W.contents output.old.writer) (W.contents output.new.writer) output.new.calls) }
+    ensures files { IfNone journal.entry (files.new ≡ files.old) }
+{
+    let alloc = rt.alloc();
+    let tenants = match read_tenants(alloc, arguments) {
+        Ok(tenants) => tenants,
+        Err(fault) => return Err(explain_tenants(alloc, fault)),
+    };
+    match serve_lines(rt, workers, tenants, age, journal, files, input, output) {
+        Ok(()) => Ok(End::Well),
+        Err(why) => Err(ProgramFault::Failed(why)),
+    }
+}
+
+/// Does what the words ask for.
+fn answer<H: AllocGlobal + Threads + Wait + Sync, F: WholeFiles, R: Read, W: Write>(
+    rt: &H,
+    words: &[String],
+    files: &mut F,
+    input: &mut Input<R>,
+    output: &mut Output<W>,
+) -> Result<End, ProgramFault>
+    requires { IsFresh input.old.lines }
+    ensures ended { IfOk result (λ end. EndsAs end (texts_of words.now) (F.may_hold files.new) (R.remaining input.old.reader) (R.remaining input.new.reader) (W.contents output.old.writer) (W.contents output.new.writer)) }
+    ensures unfailed { OnOk result (output.new.calls.failed ≡ output.old.calls.failed) }
+    ensures fault { IfErr result (λ why. IsFaultOf (texts_of words.now) (F.may_hold files.new) (F.may_fail files.old) why (R.remaining input.old.reader) (R.remaining input.new.reader) input.new.lines.calls (W.contents output.old.writer) (W.contents output.new.writer) output.new.calls) }
+    ensures files { ((path : Text) → ¬ AskForJournal (texts_of words.now) path) → files.new ≡ files.old }
+{
+    let alloc = rt.alloc();
+    match read_words(alloc, words) {
+        Ok(Task::Steps { age, tenants }) => {
+            take_steps(alloc, age, tenants.as_slice(), input, output)
+        }
+        Ok(
+            Task::Serve {
+                workers,
+                age,
+                journal,
+                tenants,
+            },
+        ) => serve_tenants(
+            rt,
+            workers,
+            age,
+            journal,
+            tenants.as_slice(),
+            files,
+            input,
+            output,
+        ),
+        Ok(Task::Audit { path }) => audit_file(rt, path, &*files, output),
+        Err(fault) => explain_words(fault, output),
+    }
+}
+
+/// The whole program: its answer is the exit status. The words begin with the program's name, and nothing of the input
+/// is read ahead.
+pub fn run_program<
+    H: AllocGlobal + Threads + Wait + Sync,
+    F: WholeFiles,
+    R: Read,
+    W: Write,
+    E: Write,
+>(
+    rt: &H,
+    words: &[String],
+    files: &mut F,
+    input: &mut Input<R>,
+    output: &mut Output<W>,
+    errors: &mut Output<E>,
+) -> u8
+    requires { IsFresh input.old.lines }
+    ensures status { result ≤ 4 }
+
+    // What the words ask for was done.
+    ensures well { result ≡ 0 → EndsAs End.Well (texts_of words.now) (F.may_hold files.new) (R.remaining input.old.reader) (R.remaining input.new.reader) (W.contents output.old.writer) (W.contents output.new.writer) }
+
+    // An audit was asked for, and a tenant differs.
+    ensures differs { result ≡ 3 → EndsAs End.Differs (texts_of words.now) (F.may_hold files.new) (R.remaining input.old.reader) (R.remaining input.new.reader) (W.contents output.old.writer) (W.contents output.new.writer) }
+
+    // No file is written but the journal that was asked for.
+    ensures files { ((path : Text) → ¬ AskForJournal (texts_of words.now) path) → files.new ≡ files.old }
+
+    // No call of the writer failed, and nothing was told then.
+    ensures unfailed { (result ≡ 0) ⊎ (result ≡ 3) → output.new.calls.failed ≡ output.old.calls.failed }
+    ensures quiet { (result ≡ 0) ⊎ (result ≡ 3) → Keeps (E.contents errors.old.writer) (E.contents errors.new.writer) }
+
+    // The program failed, and told by what.
+    ensures failed { result ≡ 1 → (why : Cause)
+        × FailsBy (texts_of words.now) (F.may_hold files.new) (F.may_fail files.old) why (R.remaining input.old.reader) (R.remaining input.new.reader) input.new.lines.calls (W.contents output.old.writer) (W.contents output.new.writer) output.new.calls
+        × Tells (E.contents errors.old.writer) (E.contents errors.new.writer) errors.new.calls (failure_text why) }
+
+    // The arguments are refused, and what was told says why.
+    ensures refused { result ≡ 2 → (text : Text) × AreRefusedBy (texts_of words.now) text × Tells (E.contents errors.old.writer) (E.contents errors.new.writer) errors.new.calls text }
+    ensures idle { result ≡ 2 → Keeps (R.remaining input.old.reader) (R.remaining input.new.reader) × Keeps (W.contents output.old.writer) (W.contents output.new.writer) }
+
+    // An audit was asked for, the file has no journal, and what was told says which line is refused.
+    ensures no_journal { result ≡ 4 → (text : Text)
+        × RefusesJournal (texts_of words.now) (F.may_hold files.new) text (R.remaining input.old.reader) (R.remaining input.new.reader) (W.contents output.old.writer) (W.contents output.new.writer)
+        × Tells (E.contents errors.old.writer) (E.contents errors.new.writer) errors.new.calls text }
+{
+    match answer(rt, words, files, input, output) {
+        Ok(end) => status_of_end(end),
+        Err(fault) => tell(errors, &fault),
+    }
+}

@@ -1,0 +1,131 @@
+//! Serving the lines of an input by threads, and keeping the journal.
+
+ghost use Rattle.std.specs.Prelude.{◌≡◌, ◌≤◌, [], IfOk, IfErr, IfNone, IfSome, OnOk, map as map_list, option_map};
+ghost use Rattle.std.specs.FinMap.{entries};
+ghost use Rattle.tenant_gate.specs.Age.{IsAge};
+ghost use Rattle.silo_service.specs.Serving.{IsServed, StopsServing, setup_of};
+ghost use Rattle.silo_program.specs.Serving.{IsKeepingCause, KeepsJournal, ServesLanes, ServingFailsBy, service_cause};
+ghost use Rattle.silo_program.specs.Streams.{IsFresh};
+
+use crate::failure::{Cause, cause_of};
+use crate::files::{FileFault, WholeFiles};
+use crate::streams::{Input, Output};
+use journal_audit::write_journal;
+use silo_service::{Served, ServiceFault, serve_input, write_served};
+use std::alloc::Global;
+use std::io::{Read, Write};
+use std::mem;
+use std::sync::Wait;
+use std::thread::Threads;
+use tenant_gate::{Age, TenantTable};
+
+/// What a fault of the service is to the program.
+fn cause_of_service(fault: ServiceFault) -> Cause
+    ensures { result ≡ service_cause fault }
+{
+    match fault {
+        ServiceFault::Failed(why) => cause_of(why),
+        ServiceFault::NoWorker => Cause::NoWorker,
+        ServiceFault::Strayed => Cause::Strayed,
+    }
+}
+
+/// Reads all lines of the input, and serves them over no rows.
+fn serve_reader<H: AllocGlobal + Threads + Wait + Sync, R: Read>(
+    rt: &H,
+    workers: usize,
+    tenants: TenantTable,
+    age: Age,
+    input: &mut Input<R>,
+) -> Result<Served, ServiceFault>
+    requires workers { (1 ≤ workers) × (workers ≤ 64) }
+    requires fresh { IsFresh input.old.lines }
+    ensures served { IfOk result (λ served. IfSome (R.remaining input.old.reader) (λ bytes.
+        IsServed (setup_of tenants age) bytes (R.remaining input.new.reader) served.refusals.items served.report.silo (map_list (λ v. v.items) served.report.answers.items))) }
+    ensures no_rows { IfOk result (λ served. entries served.report.silo.setup.rows ≡ []) }
+    ensures fault { IfErr result (λ why. StopsServing why (R.remaining input.old.reader) input.new.lines.calls) }
+{
+    serve_input(
+        rt,
+        workers,
+        tenants,
+        age,
+        &mut input.lines,
+        &mut input.reader,
+    )
+}
+
+/// Writes the journal of what was served to the file at the path, if there is a path.
+fn keep_journal<F: WholeFiles>(
+    alloc: Global,
+    files: &mut F,
+    journal: Option<&str>,
+    served: &Served,
+) -> Result<(), Cause>
+    requires { entries served.now.report.silo.setup.rows ≡ [] }
+    ensures kept { OnOk result (KeepsJournal (F.may_hold files.new) (option_map (λ path. path.now) journal.entry) served.now.report.silo) }
+    ensures fault { IfErr result (λ why. IsKeepingCause (F.may_fail files.old) (option_map (λ path. path.now) journal.entry) why) }
+    ensures none { IfNone journal.entry (files.new ≡ files.old) }
+{
+    let Some(path) = journal else {
+        return Ok(());
+    };
+    let Ok(text) = write_journal(alloc, &served.report.silo) else {
+        return Err(Cause::Memory);
+    };
+    match files.write_whole(alloc, path, text.as_slice()) {
+        Ok(()) => Ok(()),
+        Err(FileFault::Memory) => Err(Cause::Memory),
+        Err(FileFault::Failed) => Err(Cause::Write),
+    }
+}
+
+/// Reads all lines of the input and serves them by so many threads, 1 to 64, over no rows; writes the
+/// journal to the file at the path, if one is given; and then writes what the lines are answered.
+///
+/// # Errors
+///
+/// In this order: `Read` if the last call of the reader failed, or `TooMuch` of the input; `NoWorker` if no thread could
+/// be started, and `Strayed` if the threads left what serving doesn't leave; `Write` if the journal wasn't written, or if
+/// a call of the writer failed. `Memory` if memory was refused. But for the last `Write` nothing was written.
+pub fn serve_lines<H: AllocGlobal + Threads + Wait + Sync, F: WholeFiles, R: Read, W: Write>(
+    rt: &H,
+    workers: usize,
+    tenants: TenantTable,
+    age: u64,
+    journal: Option<&str>,
+    files: &mut F,
+    input: &mut Input<R>,
+    output: &mut Output<W>,
+) -> Result<(), Cause>
+    requires workers { (1 ≤ workers) × (workers ≤ 64) }
+    requires age { IsAge age }
+    requires fresh { IsFresh input.old.lines }
+    ensures served { OnOk result (ServesLanes (setup_of tenants age) (F.may_hold files.new) (option_map (λ path. path.now) journal.entry) (R.remaining input.old.reader) (R.remaining input.new.reader) (W.contents output.old.writer) (W.contents output.new.writer)) }
+    ensures unfailed { OnOk result (output.new.calls.failed ≡ output.old.calls.failed) }
+    ensures fault { IfErr result (λ why. ServingFailsBy (setup_of tenants age) (F.may_hold files.new) (F.may_fail files.old) (option_map (λ path. path.now) journal.entry) why (R.remaining input.old.reader) (R.remaining input.new.reader) input.new.lines.calls (W.contents output.old.writer) (W.contents output.new.writer) output.new.calls) }
+    ensures files { IfNone journal.entry (files.new ≡ files.old) }
+{
+    let alloc = rt.alloc();
+    let Some(age) = Age::new(age) else {
+        unreachable!();
+    };
+    let served = match serve_reader(rt, workers, tenants, age, input) {
+        Ok(served) => served,
+        Err(fault) => return Err(cause_of_service(fault)),
+    };
+    let kept = keep_journal(alloc, files, journal, &served);
+    match kept {
+        Err(why) => Err(why),
+        Ok(()) => {
+            let written = write_served(alloc, &mut output.calls, &served, &mut output.writer);
+
+            // The process ends soon, and gives all of its memory back at once.
+            mem::forget(served);
+            match written {
+                Ok(()) => Ok(()),
+                Err(why) => Err(cause_of(why)),
+            }
+        }
+    }
+}

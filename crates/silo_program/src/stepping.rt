@@ -1,0 +1,99 @@
+//! Taking the steps of an input.
+
+ghost use Rattle.std.specs.Prelude.{◌≡◌, OnOk, IfOk, IfErr};
+ghost use Rattle.tenant_gate.specs.Age.{IsAge};
+ghost use Rattle.silo_model.specs.Opening.{opening};
+ghost use Rattle.silo_service.specs.Serving.{setup_of};
+ghost use Rattle.silo_program.specs.Steps.{AnswersFrom, StopsFrom};
+ghost use Rattle.silo_program.specs.Streams.{IsFresh};
+
+use crate::streams::{Input, Output};
+use grain_kinds::Kinds;
+use grain_storage::MemoryStorage;
+use line_protocol::{LineFault, run_lines};
+use silo_core::{Setup, Silo};
+use std::alloc::{AllocError, Global};
+use std::io::{Read, Write};
+use std::mem;
+use tenant_gate::{Age, TenantTable};
+
+/// A silo of the kinds `counter`, `sheet` and `relay`, over no rows.
+fn new_silo(
+    alloc: Global,
+    tenants: TenantTable,
+    age: Age,
+) -> Result<Silo<MemoryStorage, Kinds>, AllocError>
+    ensures setup { IfOk result (λ s. s.setup ≡ setup_of tenants age) }
+    ensures opening { IfOk result (λ s. s.whole ≡ opening (setup_of tenants age)) }
+{
+    Silo::new(
+        alloc,
+        Setup {
+            tenants,
+            age,
+            storage: MemoryStorage::new(alloc),
+            logic: Kinds,
+        },
+    )
+}
+
+/// Takes every step of the input, and writes what it answers.
+fn answer_lines<R: Read, W: Write>(
+    alloc: Global,
+    tenants: TenantTable,
+    age: u64,
+    input: &mut Input<R>,
+    output: &mut Output<W>,
+) -> Result<(), LineFault>
+    requires age { IsAge age }
+    requires fresh { IsFresh input.old.lines }
+    ensures answered { OnOk result (AnswersFrom (setup_of tenants age) (R.remaining input.old.reader) (R.remaining input.new.reader) (W.contents output.old.writer) (W.contents output.new.writer)) }
+    ensures unfailed { OnOk result (output.new.calls.failed ≡ output.old.calls.failed) }
+    ensures stopped { IfErr result (λ why. StopsFrom (setup_of tenants age) why (R.remaining input.old.reader) input.new.lines.calls (W.contents output.old.writer) (W.contents output.new.writer) output.new.calls) }
+{
+    let Some(age) = Age::new(age) else {
+        unreachable!();
+    };
+    let Ok(mut silo) = new_silo(alloc, tenants, age) else {
+        return Err(LineFault::Memory);
+    };
+    let done = run_lines(
+        alloc,
+        &mut input.lines,
+        &mut input.reader,
+        &mut output.calls,
+        &mut output.writer,
+        &mut silo,
+    );
+    let _ = silo.storage();
+
+    // The process ends soon, and gives all of its memory back at once.
+    mem::forget(silo);
+    match done {
+        Ok(_) => Ok(()),
+        Err(why) => Err(why),
+    }
+}
+
+/// Takes every step of the input. What was written goes out, also what was written before a fault.
+pub fn answer_steps<R: Read, W: Write>(
+    alloc: Global,
+    tenants: TenantTable,
+    age: u64,
+    input: &mut Input<R>,
+    output: &mut Output<W>,
+) -> Result<(), LineFault>
+    requires age { IsAge age }
+    requires fresh { IsFresh input.old.lines }
+    ensures answered { OnOk result (AnswersFrom (setup_of tenants age) (R.remaining input.old.reader) (R.remaining input.new.reader) (W.contents output.old.writer) (W.contents output.new.writer)) }
+    ensures unfailed { OnOk result (output.new.calls.failed ≡ output.old.calls.failed) }
+    ensures stopped { IfErr result (λ why. StopsFrom (setup_of tenants age) why (R.remaining input.old.reader) input.new.lines.calls (W.contents output.old.writer) (W.contents output.new.writer) output.new.calls) }
+{
+    match answer_lines(alloc, tenants, age, input, output) {
+        Ok(()) => output.calls.flush(&mut output.writer),
+        Err(why) => {
+            let _ = output.writer.flush();
+            Err(why)
+        }
+    }
+}
