@@ -2,7 +2,7 @@
 
 use client_lanes::Lane;
 use grain_id::{Caller, GrainId};
-use line_lanes::asked_by;
+use line_lanes::{Asked, asked_by};
 use line_parser::{Line, LineRefusal};
 use silo_event::{Moment, Step};
 use std::alloc::Global;
@@ -34,13 +34,25 @@ fn is_of(alloc: Global, lane: &Lane, caller: &str) -> Result<bool, Fail> {
     Ok(*lane.from() == Some(caller))
 }
 
+fn add_status(alloc: Global, lines: &mut Vec<Line>, caller: &str, id: u64) -> Result<(), Fail> {
+    let line = status(alloc, caller, id)?;
+    lines.push(line)?;
+    Ok(())
+}
+
+fn add_tick(lines: &mut Vec<Line>, now: u64) -> Result<(), Fail> {
+    let line = tick(now)?;
+    lines.push(line)?;
+    Ok(())
+}
+
 /// Lines of two clients and of nobody.
 fn mixed(alloc: Global) -> Result<Vec<Line>, Fail> {
     let mut lines = Vec::new(alloc);
-    lines.push(status(alloc, "red/c2", 1)?)?;
-    lines.push(tick(5)?)?;
-    lines.push(status(alloc, "red/c1", 2)?)?;
-    lines.push(status(alloc, "red/c2", 3)?)?;
+    add_status(alloc, &mut lines, "red/c2", 1)?;
+    add_tick(&mut lines, 5)?;
+    add_status(alloc, &mut lines, "red/c1", 2)?;
+    add_status(alloc, &mut lines, "red/c2", 3)?;
     lines.push(Line::Step(Step::Sweep))?;
     Ok(lines)
 }
@@ -66,13 +78,23 @@ fn have_their_lines(lanes: &[Lane]) -> bool {
         && third.steps().len() == 1
 }
 
+/// Whether nothing is refused and the lanes have their lines, in the order of their first lines.
+fn are_lanes_of_mixed(alloc: Global, asked: &Asked) -> Result<bool, Fail> {
+    let in_order = are_in_order(alloc, &asked.lanes)?;
+    Ok(in_order && have_their_lines(&asked.lanes) && asked.refusals.is_empty())
+}
+
+/// Whether the mixed lines ask for their lanes.
+fn mixed_lines_ask(alloc: Global) -> Result<bool, Fail> {
+    let asked = asked_by(alloc, mixed(alloc)?)?;
+    let found = are_lanes_of_mixed(alloc, &asked);
+    drop(asked);
+    found
+}
+
 #[test]
 fn lanes_stand_in_the_order_of_their_first_lines(rt: HostRuntime) -> Result<(), Fail> {
-    let alloc = rt.alloc();
-    let asked = asked_by(alloc, mixed(alloc)?)?;
-    assert!(rt; asked.refusals.is_empty());
-    assert!(rt; are_in_order(alloc, &asked.lanes)?);
-    assert!(rt; have_their_lines(&asked.lanes));
+    assert!(rt; mixed_lines_ask(rt.alloc())?);
     Ok(())
 }
 
@@ -82,25 +104,28 @@ fn refused(alloc: Global) -> Result<Vec<Line>, Fail> {
     lines.push(Line::Refusal(LineRefusal::TooLong))?;
     lines.push(Line::Nothing)?;
     lines.push(activate(alloc)?)?;
-    lines.push(tick(1)?)?;
+    add_tick(&mut lines, 1)?;
     lines.push(Line::Refusal(LineRefusal::TooLong))?;
     Ok(lines)
+}
+
+/// Whether there is one lane, and the refusals are those of the lines, in order.
+fn are_refused(asked: &Asked) -> bool {
+    let in_order = matches!(
+        asked.refusals.as_slice(),
+        [
+            LineRefusal::TooLong,
+            LineRefusal::NotARequest,
+            LineRefusal::TooLong
+        ]
+    );
+    in_order && asked.lanes.len() == 1
 }
 
 #[test]
 fn what_no_lane_gives_is_refused_in_order(rt: HostRuntime) -> Result<(), Fail> {
     let alloc = rt.alloc();
     let asked = asked_by(alloc, refused(alloc)?)?;
-    assert_eq!(rt; asked.lanes.len(), 1);
-    assert!(rt;
-        matches!(
-            asked.refusals.as_slice(),
-            [
-                LineRefusal::TooLong,
-                LineRefusal::NotARequest,
-                LineRefusal::TooLong
-            ]
-        )
-    );
+    assert!(rt; are_refused(&asked));
     Ok(())
 }

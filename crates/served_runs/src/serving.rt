@@ -4,7 +4,7 @@ use bumpalo::Bump;
 use grain_id::{Caller, GrainId, Tenant};
 use grain_kinds::{GrainLogic, Kinds, Plan};
 use grain_storage::MemoryStorage;
-use request_codec::{Datum, StateBytes, decode_state, encode};
+use request_codec::{Datum, Message, StateBytes, decode_state, encode};
 use silo_core::Setup;
 use silo_event::{Party, Reply, Step};
 use std::alloc::{AllocError, Global};
@@ -62,20 +62,30 @@ impl TurnGate for Meeting {
     }
 }
 
+/// The argument of `add`.
+fn addend(alloc: Global, by: i64) -> Result<Datum, Fail> {
+    let mut fields = BTreeMap::new(alloc);
+    drop(fields.insert(String::from_str(alloc, "by")?, Datum::Int(by))?);
+    Ok(Datum::Map(fields))
+}
+
+/// Asks for a value, or to add to it.
+fn message_of(alloc: Global, by: Option<i64>) -> Result<Message, Fail> {
+    match by {
+        Some(by) => Ok(encode(alloc, "add", &addend(alloc, by)?)?),
+        None => Ok(encode(alloc, "get", &Datum::Null)?),
+    }
+}
+
 /// Asks a counter for a value, or to add to it.
 fn call(alloc: Global, caller: &str, id: u64, grain: &str, by: Option<i64>) -> Result<Step, Fail> {
-    let message = match by {
-        Some(by) => {
-            let mut fields = BTreeMap::new(alloc);
-            drop(fields.insert(String::from_str(alloc, "by")?, Datum::Int(by))?);
-            encode(alloc, "add", &Datum::Map(fields))?
-        }
-        None => encode(alloc, "get", &Datum::Null)?,
-    };
+    let message = message_of(alloc, by)?;
+    let caller = Caller::read(alloc, caller)?;
+    let grain = GrainId::read(alloc, grain)?;
     Ok(Step::Call {
-        caller: Caller::read(alloc, caller)?,
+        caller,
         id,
-        grain: GrainId::read(alloc, grain)?,
+        grain,
         message,
     })
 }
@@ -87,6 +97,15 @@ fn lane(alloc: Global, caller: &str, steps: Vec<Step>) -> Result<Lane, Fail> {
 fn get_lane(alloc: Global, caller: &str, grain: &str) -> Result<Lane, Fail> {
     let steps = vec![in alloc; call(alloc, caller, 1, grain, None)?]?;
     lane(alloc, caller, steps)
+}
+
+/// A lane for each of these clients, with a `get` of that counter.
+fn get_lanes(alloc: Global, asked: &[(&str, &str)]) -> Result<Vec<Lane>, Fail> {
+    let mut lanes = Vec::new(alloc);
+    for (caller, grain) in asked {
+        lanes.push(get_lane(alloc, *caller, *grain)?)?;
+    }
+    Ok(lanes)
 }
 
 /// A logic whose plans wait for one another: counters, sheets and relays otherwise.
@@ -129,12 +148,8 @@ impl GrainLogic for Together<'_> {
     ghost lawful = { kinds_lawful };
 }
 
-/// A setup with this logic.
-fn setup_with<L: GrainLogic + Drop>(
-    alloc: Global,
-    names: &[&str],
-    logic: L,
-) -> Result<Setup<MemoryStorage, L>, Fail> {
+/// These tenants, each with 2 activations of 4 waiting requests.
+fn tenants(alloc: Global, names: &[&str]) -> Result<TenantTable, Fail> {
     let mut list = Vec::new(alloc);
     for name in names {
         let limits = Limits {
@@ -143,9 +158,20 @@ fn setup_with<L: GrainLogic + Drop>(
         };
         list.push((Tenant::read(alloc, name)?, limits))?;
     }
+    Ok(TenantTable::new(alloc, list)?)
+}
+
+/// A setup with this logic.
+fn setup_with<L: GrainLogic + Drop>(
+    alloc: Global,
+    names: &[&str],
+    logic: L,
+) -> Result<Setup<MemoryStorage, L>, Fail> {
+    let age = Age::new(900_000).ok_or("no age")?;
+    let tenants = tenants(alloc, names)?;
     Ok(Setup {
-        tenants: TenantTable::new(alloc, list)?,
-        age: Age::new(900_000).ok_or("no age")?,
+        tenants,
+        age,
         storage: MemoryStorage::new(alloc),
         logic,
     })
@@ -208,62 +234,110 @@ fn served<
     }
 }
 
+/// Serves a `get` for each client: what each is answered.
+fn got<
+    R: AllocGlobal + Threads + Wait + Sync,
+    L: GrainLogic + Copy + Send + Drop,
+    G: TurnGate + Sync,
+>(
+    rt: &R,
+    logic: L,
+    asked: &[(&str, &str)],
+    workers: usize,
+    gate: &G,
+) -> Result<Vec<Vec<Reply>>, Fail> {
+    let lanes = get_lanes(rt.alloc(), asked)?;
+    let setup = setup_with(rt.alloc(), &["red", "blue"], logic)?;
+    served(rt, setup, &lanes, workers, gate)
+}
+
+/// The numbers of that.
+fn numbers_got<
+    R: AllocGlobal + Threads + Wait + Sync,
+    L: GrainLogic + Copy + Send + Drop,
+    G: TurnGate + Sync,
+>(
+    rt: &R,
+    logic: L,
+    asked: &[(&str, &str)],
+    workers: usize,
+    gate: &G,
+) -> Result<Vec<i64>, Fail> {
+    let answers = got(rt, logic, asked, workers, gate)?;
+    numbers_of(rt.alloc(), &answers)
+}
+
+/// A client of red and one of blue, each with its counter.
+const TWO: [(&str, &str); 2] = [
+    ("red/c1", "counter/red:a"),
+    ("blue/c1", "counter/blue:a"),
+];
+
 #[test]
 fn two_turns_are_open_at_once(rt: HostRuntime) -> Result<(), Fail> {
-    let alloc = rt.alloc();
-    let lanes = vec![in alloc;
-        get_lane(alloc, "red/c1", "counter/red:a")?,
-        get_lane(alloc, "blue/c1", "counter/blue:a")?,
-    ]?;
     let gate = Meeting::new(2);
-    let setup = setup_with(alloc, &["red", "blue"], Kinds)?;
-    let answers = served(&rt, setup, &lanes, 2, &gate)?;
+    let numbers = numbers_got(&rt, Kinds, &TWO, 2, &gate)?;
     assert!(rt; !gate.was_missed(), "a turn waited alone");
-    assert_eq!(rt; numbers_of(alloc, &answers)?, vec![in alloc; 0, 0]?);
+    assert!(rt; numbers.as_slice() == [0, 0].as_slice());
     Ok(())
 }
 
 #[test]
 fn one_thread_misses(rt: HostRuntime) -> Result<(), Fail> {
-    let alloc = rt.alloc();
-    let lanes = vec![in alloc;
-        get_lane(alloc, "red/c1", "counter/red:a")?,
-        get_lane(alloc, "blue/c1", "counter/blue:a")?,
-    ]?;
     let gate = Meeting::new(2);
-    let setup = setup_with(alloc, &["red", "blue"], Kinds)?;
-    served(&rt, setup, &lanes, 1, &gate)?;
+    drop(numbers_got(&rt, Kinds, &TWO, 1, &gate)?);
     assert!(rt; gate.was_missed());
     Ok(())
 }
 
+/// Two clients of red at one counter, and two of blue at another.
+const FOUR: [(&str, &str); 4] = [
+    ("red/c1", "counter/red:a"),
+    ("red/c2", "counter/red:a"),
+    ("blue/c1", "counter/blue:a"),
+    ("blue/c2", "counter/blue:a"),
+];
+
 #[test]
 fn four_bodies_run_at_once(rt: HostRuntime) -> Result<(), Fail> {
-    let alloc = rt.alloc();
-    let lanes = vec![in alloc;
-        get_lane(alloc, "red/c1", "counter/red:a")?,
-        get_lane(alloc, "red/c2", "counter/red:a")?,
-        get_lane(alloc, "blue/c1", "counter/blue:a")?,
-        get_lane(alloc, "blue/c2", "counter/blue:a")?,
-    ]?;
     let meeting = Meeting::new(4);
-    let setup = setup_with(alloc, &["red", "blue"], Together { meeting: &meeting })?;
-    let answers = served(&rt, setup, &lanes, 4, &FreeGate)?;
+    let together = Together { meeting: &meeting };
+    let numbers = numbers_got(&rt, together, &FOUR, 4, &FreeGate)?;
     assert!(rt; !meeting.was_missed(), "a body waited alone");
-    assert_eq!(rt; numbers_of(alloc, &answers)?, vec![in alloc; 0, 0, 0, 0]?);
+    assert!(rt; numbers.as_slice() == [0, 0, 0, 0].as_slice());
+    Ok(())
+}
+
+/// Adds a call of red's counter.
+fn add_call(
+    alloc: Global,
+    steps: &mut Vec<Step>,
+    caller: &str,
+    id: u64,
+    by: Option<i64>,
+) -> Result<(), Fail> {
+    let step = call(alloc, caller, id, "counter/red:a", by)?;
+    steps.push(step)?;
     Ok(())
 }
 
 /// A lane of an `add` of 3, a `get`, and a status.
 fn three_steps(alloc: Global) -> Result<Lane, Fail> {
     let mut steps = Vec::new(alloc);
-    steps.push(call(alloc, "red/c1", 1, "counter/red:a", Some(3))?)?;
-    steps.push(call(alloc, "red/c1", 2, "counter/red:a", None)?)?;
-    steps.push(Step::Status {
-        caller: Caller::read(alloc, "red/c1")?,
-        id: 3,
-    })?;
+    add_call(alloc, &mut steps, "red/c1", 1, Some(3))?;
+    add_call(alloc, &mut steps, "red/c1", 2, None)?;
+    let caller = Caller::read(alloc, "red/c1")?;
+    steps.push(Step::Status { caller, id: 3 })?;
     lane(alloc, "red/c1", steps)
+}
+
+/// The ids and the numbers of the answers.
+fn ids_and_numbers(alloc: Global, answers: &[Vec<Reply>]) -> Result<(Vec<u64>, Vec<i64>), Fail> {
+    let mut ids = Vec::new(alloc);
+    for replies in answers {
+        ids.append(&mut ids_of(alloc, replies)?)?;
+    }
+    Ok((ids, numbers_of(alloc, answers)?))
 }
 
 /// The ids and the numbers that such a lane is answered by so many workers. The status is no number.
@@ -275,38 +349,42 @@ fn three_answers<R: AllocGlobal + Threads + Wait + Sync>(
     let lanes = vec![in alloc; three_steps(alloc)?]?;
     let setup = setup_with(alloc, &["red"], Kinds)?;
     let answers = served(rt, setup, &lanes, workers, &FreeGate)?;
-    let mut ids = Vec::new(alloc);
-    for replies in &answers {
-        ids.append(&mut ids_of(alloc, replies)?)?;
-    }
-    Ok((ids, numbers_of(alloc, &answers)?))
+    ids_and_numbers(alloc, &answers)
 }
 
 #[test]
 fn a_lane_is_answered_in_its_order(rt: HostRuntime) -> Result<(), Fail> {
-    let alloc = rt.alloc();
     for workers in [1, 2, 4, 64] {
         let (ids, numbers) = three_answers(&rt, workers)?;
-        assert_eq!(rt; ids, vec![in alloc; 1, 2, 3]?);
-        assert_eq!(rt; numbers, vec![in alloc; -1, 3, 3]?);
+        assert!(rt; ids.as_slice() == [1, 2, 3].as_slice());
+        assert!(rt; numbers.as_slice() == [-1, 3, 3].as_slice());
     }
     Ok(())
 }
 
-#[test]
-fn two_lanes_of_a_hundred_calls(rt: HostRuntime) -> Result<(), Fail> {
+/// A lane of a hundred calls that add 1.
+fn hundred_calls(alloc: Global, caller: &str) -> Result<Lane, Fail> {
+    let mut steps = Vec::new(alloc);
+    for id in 0..100 {
+        add_call(alloc, &mut steps, caller, id, Some(1))?;
+    }
+    lane(alloc, caller, steps)
+}
+
+/// The numbers that two such lanes are answered.
+fn numbers_of_two<R: AllocGlobal + Threads + Wait + Sync>(rt: &R) -> Result<Vec<i64>, Fail> {
     let alloc = rt.alloc();
     let mut lanes = Vec::new(alloc);
-    for caller in ["red/c1", "red/c2"] {
-        let mut steps = Vec::new(alloc);
-        for id in 0..100 {
-            steps.push(call(alloc, caller, id, "counter/red:a", Some(1))?)?;
-        }
-        lanes.push(lane(alloc, caller, steps)?)?;
-    }
+    lanes.push(hundred_calls(alloc, "red/c1")?)?;
+    lanes.push(hundred_calls(alloc, "red/c2")?)?;
     let setup = setup_with(alloc, &["red"], Kinds)?;
-    let answers = served(&rt, setup, &lanes, 4, &FreeGate)?;
-    let numbers = numbers_of(alloc, &answers)?;
+    let answers = served(rt, setup, &lanes, 4, &FreeGate)?;
+    numbers_of(alloc, &answers)
+}
+
+#[test]
+fn two_lanes_of_a_hundred_calls(rt: HostRuntime) -> Result<(), Fail> {
+    let numbers = numbers_of_two(&rt)?;
     assert_eq!(rt; numbers.len(), 200);
     let mut wanted = 1;
     for number in &numbers {
@@ -324,20 +402,19 @@ fn is_right(alloc: Global, reply: &Reply) -> Result<bool, Fail> {
     }
 }
 
+/// Whether there is one reply, and it is right.
+fn are_right(alloc: Global, replies: &[Reply]) -> Result<bool, Fail> {
+    match replies {
+        [reply] => is_right(alloc, reply),
+        _ => Ok(false),
+    }
+}
+
 #[test]
 fn served_with_little_memory(rt: HostRuntime) -> Result<(), Fail> {
-    let alloc = rt.alloc();
-    let lanes = vec![in alloc;
-        get_lane(alloc, "red/c1", "counter/red:a")?,
-        get_lane(alloc, "blue/c1", "counter/blue:a")?,
-    ]?;
-    let setup = setup_with(alloc, &["red", "blue"], Kinds)?;
-    let answers = served(&rt, setup, &lanes, 2, &FreeGate)?;
+    let answers = got(&rt, Kinds, &TWO, 2, &FreeGate)?;
     for replies in &answers {
-        assert_eq!(rt; replies.len(), 1);
-        for reply in replies {
-            assert!(rt; is_right(alloc, reply)?);
-        }
+        assert!(rt; are_right(rt.alloc(), replies)?);
     }
     Ok(())
 }

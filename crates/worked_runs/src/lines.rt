@@ -17,12 +17,24 @@ fn step_of(alloc: Global, room: &mut LineRoom, line: &str) -> Result<Step, Fail>
     }
 }
 
+/// Adds the step of a line.
+fn add_step(
+    alloc: Global,
+    room: &mut LineRoom,
+    line: &str,
+    steps: &mut Vec<Step>,
+) -> Result<(), Fail> {
+    let step = step_of(alloc, room, line)?;
+    steps.push(step)?;
+    Ok(())
+}
+
 /// The steps of the lines behind the first so many.
 pub fn steps_behind(alloc: Global, lines: &str, first: usize) -> Result<Vec<Step>, Fail> {
     let mut room = LineRoom::new(alloc)?;
     let mut steps = Vec::new(alloc);
     for line in lines.lines().skip(first) {
-        steps.push(step_of(alloc, &mut room, line)?)?;
+        add_step(alloc, &mut room, line, &mut steps)?;
     }
     Ok(steps)
 }
@@ -32,12 +44,18 @@ pub fn steps_of(alloc: Global, lines: &str) -> Result<Vec<Step>, Fail> {
     steps_behind(alloc, lines, 0)
 }
 
+/// Adds the line of a reply.
+fn add_told(alloc: Global, reply: &Reply, text: &mut String) -> Result<(), Fail> {
+    text.push_str(reply_text(alloc, reply)?.as_str())?;
+    text.push('\n')?;
+    Ok(())
+}
+
 /// The lines of the replies.
 pub fn told(alloc: Global, replies: &[Reply]) -> Result<String, Fail> {
     let mut text = String::new(alloc);
     for reply in replies {
-        text.push_str(reply_text(alloc, reply)?.as_str())?;
-        text.push('\n')?;
+        add_told(alloc, reply, &mut text)?;
     }
     Ok(text)
 }

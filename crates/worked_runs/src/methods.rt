@@ -103,6 +103,20 @@ fn open(
     Ok(Answer::Done)
 }
 
+/// Closes a turn, which asks for the storage or not.
+fn close_turn(
+    alloc: Global,
+    silo: &mut TestedSilo,
+    turn: &FinishedTurn<Kinds>,
+    asks: bool,
+) -> Result<Answer, StepFault> {
+    if asks {
+        store(alloc, silo, turn)
+    } else {
+        end(alloc, silo, turn)
+    }
+}
+
 /// Closes the turn that was opened last, if there is one, or else by the step.
 fn close(
     alloc: Global,
@@ -113,10 +127,10 @@ fn close(
     let Some(turn) = turns.pop() else {
         return Ok(apply(alloc, silo, step)?);
     };
-    match step {
-        Step::Store { .. } => Ok(store(alloc, silo, &turn)?),
-        _ => Ok(end(alloc, silo, &turn)?),
-    }
+    let closed = close_turn(alloc, silo, &turn, matches!(step, Step::Store { .. }));
+    drop(turn);
+    drop(step);
+    Ok(closed?)
 }
 
 /// Takes a step by the method for its kind.

@@ -28,12 +28,19 @@ fn shown_by(alloc: Global, silo: &mut TestedSilo, steps: Vec<Step>) -> Result<St
     shown(alloc, silo)
 }
 
+/// What a new silo shows after these steps.
+fn shown_anew(alloc: Global, steps: Vec<Step>) -> Result<String, Fail> {
+    let mut silo = new_silo(alloc)?;
+    let shown = shown_by(alloc, &mut silo, steps);
+    drop(silo);
+    shown
+}
+
 /// What a silo shows that took the first so many of the lines.
 fn shown_after(alloc: Global, lines: &str, first: usize) -> Result<String, Fail> {
     let mut steps = steps_of(alloc, lines)?;
     steps.truncate(first);
-    let mut silo = new_silo(alloc)?;
-    shown_by(alloc, &mut silo, steps)
+    shown_anew(alloc, steps)
 }
 
 /// Whether the silo is where the first so many of the row's lines lead, and told a beginning of what is to be told.
@@ -78,7 +85,9 @@ fn is_worked_by(alloc: Global, silo: &mut TestedSilo, row: &Worked) -> Result<bo
 /// The same of a new silo.
 fn is_worked(alloc: Global, row: &Worked) -> Result<bool, Fail> {
     let mut silo = new_silo(alloc)?;
-    is_worked_by(alloc, &mut silo, row)
+    let worked = is_worked_by(alloc, &mut silo, row);
+    drop(silo);
+    worked
 }
 
 #[test]

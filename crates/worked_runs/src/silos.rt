@@ -34,9 +34,10 @@ fn opened<S: GrainStorage + Drop, L: GrainLogic + Drop>(
 
 /// A silo over these rows, whose storage fails that call, or none if it is 0.
 pub fn silo_over(alloc: Global, rows: MemoryStorage, fails_at: u64) -> Result<TestedSilo, Fail> {
+    let age = Age::new(1_000).ok_or("no age")?;
     let setup = Setup {
         tenants: tenants(alloc)?,
-        age: Age::new(1_000).ok_or("no age")?,
+        age,
         storage: FusedStorage::new(rows, fails_at),
         logic: Kinds,
     };

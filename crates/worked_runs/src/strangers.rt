@@ -40,7 +40,9 @@ fn turn_that_adds_4(alloc: Global, silo: &mut TestedSilo) -> Result<FinishedTurn
 /// The first turn of another silo, in which 4 is added.
 fn turn_of_another(alloc: Global) -> Result<FinishedTurn<Kinds>, Fail> {
     let mut silo = new_silo(alloc)?;
-    turn_that_adds_4(alloc, &mut silo)
+    let turn = turn_that_adds_4(alloc, &mut silo);
+    drop(silo);
+    turn
 }
 
 /// Whether the turn is none of this silo's own.
@@ -78,15 +80,28 @@ fn is_taken(
 /// Whether the silo leaves the first turn of another.
 fn leaves_another(alloc: Global, silo: &mut TestedSilo) -> Result<bool, Fail> {
     let other = turn_of_another(alloc)?;
-    is_left(alloc, silo, &other)
+    let left = is_left(alloc, silo, &other);
+    drop(other);
+    left
 }
 
-/// Whether the silo, with a turn open, leaves another's turn, and then takes its own.
+/// Whether the silo, with its own turn open, leaves another's turn, and then takes its own.
+fn tells_apart_from(
+    alloc: Global,
+    silo: &mut TestedSilo,
+    own: &FinishedTurn<Kinds>,
+) -> Result<bool, Fail> {
+    let left = leaves_another(alloc, silo)?;
+    let taken = is_taken(alloc, silo, own)?;
+    Ok(left && taken)
+}
+
+/// The same of the next turn of the counter.
 fn tells_apart(alloc: Global, silo: &mut TestedSilo) -> Result<bool, Fail> {
     let own = turn_of(alloc, silo)?;
-    let left = leaves_another(alloc, silo)?;
-    let taken = is_taken(alloc, silo, &own)?;
-    Ok(left && taken)
+    let apart = tells_apart_from(alloc, silo, &own);
+    drop(own);
+    apart
 }
 
 /// Whether the silo does so behind the lines that add 3.
@@ -98,7 +113,9 @@ fn tells_apart_behind_3(alloc: Global, silo: &mut TestedSilo) -> Result<bool, Fa
 /// Whether the first turns of two silos are told apart.
 fn are_told_apart(alloc: Global) -> Result<bool, Fail> {
     let mut silo = new_silo(alloc)?;
-    tells_apart_behind_3(alloc, &mut silo)
+    let apart = tells_apart_behind_3(alloc, &mut silo);
+    drop(silo);
+    apart
 }
 
 #[test]

@@ -10,22 +10,35 @@ use crate::silos::{
     replies_of, rows, rows_of, silo_over,
 };
 use grain_id::{GrainId, Tenant};
+use grain_kinds::{FinishedTurn, Kinds};
 use grain_storage::{MemoryStorage, Row};
 use request_codec::StateBytes;
 use silo_event::{Answer, Step};
 use std::alloc::Global;
 use std::test::Fail;
 
+/// Takes the step, and adds what it tells.
+fn tell_step(
+    alloc: Global,
+    silo: &mut TestedSilo,
+    turns: &mut Vec<FinishedTurn<Kinds>>,
+    step: Step,
+    text: &mut String,
+) -> Result<(), Fail> {
+    let before = replies(silo).len();
+    if take(alloc, silo, turns, step)? == Answer::NotNow {
+        text.push_str("{\"text\":\"not now\"}\n")?;
+    }
+    text.push_str(told_since(alloc, silo, before)?.as_str())?;
+    Ok(())
+}
+
 /// What the lines tell, step by step.
 fn told_by(alloc: Global, silo: &mut TestedSilo, lines: &str) -> Result<String, Fail> {
     let mut text = String::new(alloc);
     let mut turns = Vec::new(alloc);
     for step in steps_of(alloc, lines)? {
-        let before = replies(silo).len();
-        if take(alloc, silo, &mut turns, step)? == Answer::NotNow {
-            text.push_str("{\"text\":\"not now\"}\n")?;
-        }
-        text.push_str(told_since(alloc, silo, before)?.as_str())?;
+        tell_step(alloc, silo, &mut turns, step, &mut text)?;
     }
     Ok(text)
 }
@@ -48,7 +61,9 @@ fn is_worked(alloc: Global, silo: &mut TestedSilo, row: &Worked) -> Result<bool,
 /// Whether a new silo gives the row, by the method for each step.
 fn is_worked_anew(alloc: Global, row: &Worked) -> Result<bool, Fail> {
     let mut silo = new_silo(alloc)?;
-    is_worked(alloc, &mut silo, row)
+    let worked = is_worked(alloc, &mut silo, row);
+    drop(silo);
+    worked
 }
 
 #[test]
@@ -91,7 +106,9 @@ fn counts(alloc: Global, silo: &mut TestedSilo) -> Result<((usize, usize), (usiz
 /// The same of a new silo.
 fn counts_anew(alloc: Global) -> Result<((usize, usize), (usize, usize)), Fail> {
     let mut silo = new_silo(alloc)?;
-    counts(alloc, &mut silo)
+    let counts = counts(alloc, &mut silo);
+    drop(silo);
+    counts
 }
 
 #[test]
@@ -111,7 +128,9 @@ fn is_worked_but(alloc: Global, silo: &mut TestedSilo, number: u64) -> Result<bo
 /// The same of a new silo.
 fn is_worked_anew_but(alloc: Global, number: u64) -> Result<bool, Fail> {
     let mut silo = silo_over(alloc, MemoryStorage::new(alloc), number)?;
-    is_worked_but(alloc, &mut silo, number)
+    let worked = is_worked_but(alloc, &mut silo, number);
+    drop(silo);
+    worked
 }
 
 #[test]
@@ -136,14 +155,21 @@ fn fails_to_load(alloc: Global, silo: &mut TestedSilo) -> Result<bool, Fail> {
     let steps = steps_of(alloc, loaded_twice().lines)?;
     let answered = answers(alloc, silo, steps)?;
     let noted = is_failed_load(answered.get(2), journal(silo).get(2));
+    drop(answered);
     Ok(noted && is_told(alloc, silo, loaded_twice().told)?)
+}
+
+/// The same of a new silo, whose storage fails its first call.
+fn fails_to_load_anew(alloc: Global) -> Result<bool, Fail> {
+    let mut silo = silo_over(alloc, MemoryStorage::new(alloc), 1)?;
+    let failed = fails_to_load(alloc, &mut silo);
+    drop(silo);
+    failed
 }
 
 #[test]
 fn a_load_that_fails_is_noted_so(rt: HostRuntime) -> Result<(), Fail> {
-    let alloc = rt.alloc();
-    let mut silo = silo_over(alloc, MemoryStorage::new(alloc), 1)?;
-    assert!(rt; fails_to_load(alloc, &mut silo)?);
+    assert!(rt; fails_to_load_anew(rt.alloc())?);
     Ok(())
 }
 
@@ -164,11 +190,17 @@ fn is_spent(alloc: Global, silo: &mut TestedSilo) -> Result<bool, Fail> {
     Ok(worked && opened.as_str() == spent().stored)
 }
 
+/// The same of the silo over that row.
+fn is_spent_anew(alloc: Global) -> Result<bool, Fail> {
+    let mut silo = silo_over(alloc, last_version(alloc)?, 0)?;
+    let spent = is_spent(alloc, &mut silo);
+    drop(silo);
+    spent
+}
+
 #[test]
 fn a_row_of_the_last_version_stays(rt: HostRuntime) -> Result<(), Fail> {
-    let alloc = rt.alloc();
-    let mut silo = silo_over(alloc, last_version(alloc)?, 0)?;
-    assert!(rt; is_spent(alloc, &mut silo)?);
+    assert!(rt; is_spent_anew(rt.alloc())?);
     Ok(())
 }
 
@@ -178,9 +210,16 @@ fn opened_with(silo: &TestedSilo) -> (u64, usize, u64) {
     (silo.age(), tenants, opening_failures(silo))
 }
 
+/// What a new silo shows of that.
+fn opened_anew(alloc: Global) -> Result<(u64, usize, u64), Fail> {
+    let silo = new_silo(alloc)?;
+    let opened = opened_with(&silo);
+    drop(silo);
+    Ok(opened)
+}
+
 #[test]
 fn a_silo_shows_what_it_was_opened_with(rt: HostRuntime) -> Result<(), Fail> {
-    let silo = new_silo(rt.alloc())?;
-    assert!(rt; opened_with(&silo) == (1_000, 2, 0));
+    assert!(rt; opened_anew(rt.alloc())? == (1_000, 2, 0));
     Ok(())
 }
