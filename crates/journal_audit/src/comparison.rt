@@ -80,6 +80,23 @@ fn record_apart<L: GrainLogic>(
     }
 }
 
+/// The first difference between what a journal recorded of the tenant and what the tenant's machine does, which has taken
+/// no step yet.
+fn difference_from<L: GrainLogic>(
+    alloc: Global,
+    journal: &Journal,
+    tenant: &Tenant,
+    machine: &mut TenantMachine<L>,
+) -> Result<Option<Difference>, AllocError>
+    requires { machine.old ≡ start_of (setup_of journal.now) tenant.now }
+    ensures { IfOk result (λ difference. IsFirstDifference L.logic journal.now tenant.now (option_map difference_of difference)) }
+{
+    if let Some(step) = first_not_done(alloc, machine, tenant, journal.steps())? {
+        return Ok(Some(Difference::Step(step)));
+    }
+    record_apart(alloc, journal, tenant, machine)
+}
+
 /// The first difference between what a journal recorded of the tenant and what the tenant's machine
 /// does.
 pub fn first_difference<L: GrainLogic + Drop>(
@@ -91,8 +108,7 @@ pub fn first_difference<L: GrainLogic + Drop>(
     ensures { IfOk result (λ difference. IsFirstDifference L.logic journal.now tenant.now (option_map difference_of difference)) }
 {
     let mut machine = machine_for(alloc, journal, tenant, logic)?;
-    if let Some(step) = first_not_done(alloc, &mut machine, tenant, journal.steps())? {
-        return Ok(Some(Difference::Step(step)));
-    }
-    record_apart(alloc, journal, tenant, &machine)
+    let found = difference_from(alloc, journal, tenant, &mut machine);
+    drop(machine);
+    found
 }

@@ -148,14 +148,20 @@ impl<S: GrainStorage, L: GrainLogic> WatchedSilo<S, L> {
     pub fn apply(&mut self, alloc: Global, step: Step) -> Result<Answer, StepFault>
         ensures { Answered L.logic self.old step result self.new }
     {
-        candidates::note(
+        let Ok(()) = candidates::note(
             &mut self.entries,
             &mut self.senders,
             &mut self.busy,
             candidates::changed_by(&self.silo, &step),
             candidates::sender_by(&step),
-        )?;
-        let asker = owed::ask(&mut self.owing, &step)?;
+        ) else {
+            drop(step);
+            return Err(StepFault::Memory);
+        };
+        let Ok(asker) = owed::ask(&mut self.owing, &step) else {
+            drop(step);
+            return Err(StepFault::Memory);
+        };
         let seen = self.silo.replies().len();
         let answer = self.silo.apply(alloc, step);
         let done = was_done(&answer);

@@ -5,12 +5,12 @@ use Rattle.silo_work.specs.Watching.{asks_once, owing_to}
 use Rattle.silo_work.proofs.Answering.{replies_within, watched_same, watched_settled}
 use Rattle.silo_work.proofs.watched.WatchedSilo.apply.Goals as goal
 
-pub invariant_of-self-in_err-asker : goal.invariant_of-self-in_err-asker
-invariant_of-self-in_err-asker g c =
+pub invariant_of-self-in_default-ask : goal.invariant_of-self-in_default-ask
+invariant_of-self-in_default-ask g c =
     let a = c.self.inside in
     watched_same g.L.GrainLogic.logic a.silo a.silo a.entries.items a.senders.items a.busy.items a.owing c.self.invariant c.args.step c.note.new.entries.items c.note.new.senders.items c.note.new.busy.items
-    (c.in_ok-note.ensures.entries ∙ ap (λ gs. a.entries.items ++ gs) c.changed_by.ensures) (c.in_ok-note.ensures.senders ∙ ap (λ gs. a.senders.items ++ gs) c.sender_by.ensures)
-    (c.in_ok-note.ensures.busy ∙ ap (λ gs. a.busy.items ++ gs) c.changed_by.ensures) c.ask.new.owing refl c.in_err-asker.ensures.unchanged
+    (c.in-Ok.ensures.entries ∙ ap (λ gs. a.entries.items ++ gs) c.changed_by.ensures) (c.in-Ok.ensures.senders ∙ ap (λ gs. a.senders.items ++ gs) c.sender_by.ensures)
+    (c.in-Ok.ensures.busy ∙ ap (λ gs. a.busy.items ++ gs) c.changed_by.ensures) c.ask.new.owing refl c.in_default-ask.ensures.unchanged
 
 pub settle-requires : goal.settle-requires
 settle-requires g c =
@@ -24,7 +24,7 @@ invariant_of-self-2 g c =
     let a = c.self.inside in
     let logic = g.L.GrainLogic.logic in
     watched_settled logic a.silo c.apply-answer.new.self a.entries.items a.senders.items a.busy.items a.owing c.self.invariant c.args.step c.note.new.entries.items c.note.new.senders.items c.note.new.busy.items
-    (c.in_ok-note.ensures.entries ∙ ap (λ gs. a.entries.items ++ gs) c.changed_by.ensures) (c.in_ok-note.ensures.senders ∙ ap (λ gs. a.senders.items ++ gs) c.sender_by.ensures)
-    (c.in_ok-note.ensures.busy ∙ ap (λ gs. a.busy.items ++ gs) c.changed_by.ensures) (lawful_readers logic g.met.L.GrainLogic.lawful) c.apply-answer.result c.apply-answer.ensures.answered c.ask.new.owing c.settle.new.owing c.in_ok-asker.ensures.asked
+    (c.in-Ok.ensures.entries ∙ ap (λ gs. a.entries.items ++ gs) c.changed_by.ensures) (c.in-Ok.ensures.senders ∙ ap (λ gs. a.senders.items ++ gs) c.sender_by.ensures)
+    (c.in-Ok.ensures.busy ∙ ap (λ gs. a.busy.items ++ gs) c.changed_by.ensures) (lawful_readers logic g.met.L.GrainLogic.lawful) c.apply-answer.result c.apply-answer.ensures.answered c.ask.new.owing c.settle.new.owing c.in-Ok-ask.ensures.asked
     (λ done client. c.settle.ensures.done (c.was_done-done.ensures ∙ done) client ∙ (λ i. owing_to c.ask.new.owing client - length (ids_told client (drop (length (c.replies-seen.ensures i)) (c.replies.ensures i)))))
-    (λ not_done client. c.settle.ensures.not_done (c.was_done-done.ensures ∙ not_done) client ∙ ap (λ asker. owing_to c.ask.new.owing client - asks_once asker client) c.in_ok-asker.ensures.asker)
+    (λ not_done client. c.settle.ensures.not_done (c.was_done-done.ensures ∙ not_done) client ∙ ap (λ asker. owing_to c.ask.new.owing client - asks_once asker client) c.in-Ok-ask.ensures.asker)
