@@ -112,7 +112,7 @@ impl<S: GrainStorage + Drop, L: GrainLogic + Drop> Board<S, L> {
     /// The silo, or none if all was given up.
     pub fn into_silo(self) -> Option<PacedSilo<S, L>> {
         let Board { silo, stopped, .. } = self;
-        if stopped { None } else { Some(silo) }
+        (!stopped).then_some(silo)
     }
 }
 
@@ -176,14 +176,8 @@ impl<S: GrainStorage, L: GrainLogic> Board<S, L> {
     /// Takes at most one step: what is to do comes first, and then a lane's next step.
     fn advance(&mut self, alloc: Global, lanes: &[Lane]) -> Result<Task, StepFault> {
         match self.silo.todo()? {
-            Some(Step::Begin { grain }) => match self.silo.begin(alloc, grain)? {
-                Some(turn) => Ok(Task::Turn(turn)),
-                None => Ok(Task::Again),
-            },
-            Some(step) => {
-                self.silo.take(alloc, step)?;
-                Ok(Task::Again)
-            }
+            Some(Step::Begin { grain }) => self.open(alloc, grain),
+            Some(step) => self.step(alloc, step),
             None => {
                 self.seen = note_told(
                     self.silo.replies(),
@@ -196,6 +190,20 @@ impl<S: GrainStorage, L: GrainLogic> Board<S, L> {
         }
     }
 
+    /// Opens a turn of the grain, if one begins.
+    fn open(&mut self, alloc: Global, grain: GrainId) -> Result<Task, StepFault> {
+        match self.silo.begin(alloc, grain)? {
+            Some(turn) => Ok(Task::Turn(turn)),
+            None => Ok(Task::Again),
+        }
+    }
+
+    /// Takes a step.
+    fn step(&mut self, alloc: Global, step: Step) -> Result<Task, StepFault> {
+        self.silo.take(alloc, step)?;
+        Ok(Task::Again)
+    }
+
     /// Gives a step of the lane that has been ready for longest.
     fn ask_next(&mut self, alloc: Global, lanes: &[Lane]) -> Result<Task, StepFault> {
         let Some(index) = self.ready.pop_front() else {
@@ -205,13 +213,27 @@ impl<S: GrainStorage, L: GrainLogic> Board<S, L> {
                 Task::Wait
             });
         };
-        let (Some(lane), Some(place)) = (lanes.get(index), self.places.get(index).copied()) else {
-            return Ok(Task::Again);
+        if let Some(lane) = lanes.get(index) {
+            self.ask(alloc, lane, index)?;
+        }
+        Ok(Task::Again)
+    }
+
+    /// Takes a copy of a lane's step.
+    fn give(&mut self, alloc: Global, step: &Step) -> Result<Answer, StepFault> {
+        let step = step.clone()?;
+        self.silo.take(alloc, step)
+    }
+
+    /// Gives the lane's next step, if it has one. A lane of nobody is ready again at once.
+    fn ask(&mut self, alloc: Global, lane: &Lane, index: usize) -> Result<(), StepFault> {
+        let Some(place) = self.places.get(index).copied() else {
+            return Ok(());
         };
         let Some(step) = lane.steps().get(place) else {
-            return Ok(Task::Again);
+            return Ok(());
         };
-        self.silo.take(alloc, step.clone()?)?;
+        self.give(alloc, step)?;
         if let Some(at) = self.places.get_mut(index) {
             *at = place.saturating_add(1);
         }
@@ -220,6 +242,6 @@ impl<S: GrainStorage, L: GrainLogic> Board<S, L> {
                 return Err(StepFault::Memory);
             };
         }
-        Ok(Task::Again)
+        Ok(())
     }
 }

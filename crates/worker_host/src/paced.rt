@@ -116,6 +116,7 @@ impl<S: GrainStorage, L: GrainLogic> PacedSilo<S, L> {
     /// Out of memory: nothing changed.
     pub fn take(&mut self, alloc: Global, step: Step) -> Result<Answer, StepFault> {
         if !self.may_take(&step) {
+            drop(step);
             return Ok(Answer::NotNow);
         }
         self.silo.apply(alloc, step)
