@@ -116,7 +116,10 @@ pub fn serve_lines<H: AllocGlobal + Threads + Wait + Sync, F: WholeFiles, R: Rea
     };
     let kept = keep_journal(alloc, files, journal, &served);
     match kept {
-        Err(why) => Err(why),
+        Err(why) => {
+            drop(served);
+            Err(why)
+        }
         Ok(()) => {
             let written = write_served(alloc, &mut output.calls, &served, &mut output.writer);
 

@@ -44,6 +44,25 @@ fn read_by(way: Way, alloc: Global, room: &mut LineRoom, line: &[u8]) -> Result<
     }
 }
 
+/// A line, without its end.
+fn without_end(line: &[u8]) -> &[u8] {
+    match line {
+        [before @ .., b'\n'] => before,
+        all => all,
+    }
+}
+
+/// What is printed of a line.
+fn text_of(alloc: Global, said: &Line) -> Result<String, AllocError> {
+    format!(in alloc; "{said:?}\n")
+}
+
+/// What is printed of a line, read that way.
+fn text_by(alloc: Global, way: Way, room: &mut LineRoom, line: &[u8]) -> Result<String, AllocError> {
+    let said = read_by(way, alloc, room, without_end(line))?;
+    text_of(alloc, &said)
+}
+
 /// Prints what each line of the reader says, a line each.
 fn print_lines<R: BufRead, W: Write>(
     alloc: Global,
@@ -58,12 +77,7 @@ fn print_lines<R: BufRead, W: Write>(
         if reader.read_until(b'\n', &mut line)? == 0 {
             break;
         }
-        let whole = match line.as_slice() {
-            [before @ .., b'\n'] => before,
-            all => all,
-        };
-        let said = read_by(way, alloc, &mut room, whole)?;
-        let text = format!(in alloc; "{said:?}\n")?;
+        let text = text_by(alloc, way, &mut room, line.as_slice())?;
         writer.write_all(text.as_str().as_bytes())?;
     }
     writer.flush()

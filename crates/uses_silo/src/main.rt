@@ -6,6 +6,7 @@ use grain_id::{Caller, GrainId, Tenant};
 use grain_kinds::{GrainLogic, MethodFault, Plan, StoreCall, run_turn, state_of};
 use grain_storage::{GrainStorage, Row, StoreFault};
 use request_codec::{Datum, StateBytes, decode_state, encode, to_json};
+use serde_json::Value;
 use silo_core::{Setup, Silo};
 use std::alloc::{AllocError, Global};
 use std::test::Fail;
@@ -114,15 +115,28 @@ fn new_silo(alloc: Global) -> Result<NoteSilo, Fail> {
     Ok(Silo::new(alloc, setup)?)
 }
 
-/// Asks a note, and takes the steps to its reply. A step that isn't possible now changes nothing.
-fn ask(alloc: Global, silo: &mut NoteSilo, id: u64, method: &str) -> Result<(), Fail> {
-    let caller = Caller::read(alloc, "red/c1")?;
-    let note = GrainId::read(alloc, "note/red:a")?;
+fn note(alloc: Global) -> Result<GrainId, Fail> {
+    Ok(GrainId::read(alloc, "note/red:a")?)
+}
+
+/// A client calls a method of the note.
+fn call(alloc: Global, silo: &mut NoteSilo, id: u64, method: &str) -> Result<(), Fail> {
     let message = encode(alloc, method, &Datum::Int(3))?;
-    silo.call(alloc, caller, id, note.clone()?, message)?;
-    silo.activate(alloc, note.clone()?)?;
-    silo.load(alloc, note.clone()?, false)?;
-    let opened = silo.begin(alloc, note)?.ok_or("no turn")?;
+    let caller = Caller::read(alloc, "red/c1")?;
+    silo.call(alloc, caller, id, note(alloc)?, message)?;
+    Ok(())
+}
+
+/// The note is activated and loaded. A step that isn't possible now changes nothing.
+fn make_ready(alloc: Global, silo: &mut NoteSilo) -> Result<(), Fail> {
+    silo.activate(alloc, note(alloc)?)?;
+    silo.load(alloc, note(alloc)?, false)?;
+    Ok(())
+}
+
+/// The note takes a turn.
+fn take_turn(alloc: Global, silo: &mut NoteSilo) -> Result<(), Fail> {
+    let opened = silo.begin(alloc, note(alloc)?)?.ok_or("no turn")?;
     let turn = run_turn(alloc, &Bump::new(alloc), &Notes, opened).map_err(|_| AllocError)?;
     match turn.store_call() {
         StoreCall::None => silo.end(alloc, &turn)?,
@@ -131,13 +145,24 @@ fn ask(alloc: Global, silo: &mut NoteSilo, id: u64, method: &str) -> Result<(), 
     Ok(())
 }
 
+/// Asks the note, and takes the steps to its reply.
+fn ask(alloc: Global, silo: &mut NoteSilo, id: u64, method: &str) -> Result<(), Fail> {
+    call(alloc, silo, id, method)?;
+    make_ready(alloc, silo)?;
+    take_turn(alloc, silo)
+}
+
+fn json_of(alloc: Global, value: &StateBytes) -> Result<Value, Fail> {
+    Ok(to_json(alloc, &decode_state(alloc, value)?)?)
+}
+
 fn show(rt: &impl Print, alloc: Global, silo: &mut NoteSilo) -> Result<(), Fail> {
     ask(alloc, silo, 1, "put")?;
     ask(alloc, silo, 2, "get")?;
     ask(alloc, silo, 3, "save")?;
     for reply in silo.replies() {
         match &reply.outcome {
-            Ok(value) => println!(rt; "{}", to_json(alloc, &decode_state(alloc, value)?)?)?,
+            Ok(value) => println!(rt; "{}", json_of(alloc, value)?)?,
             Err(fault) => println!(rt; "{}", fault.text(alloc)?)?,
         }
     }
