@@ -82,7 +82,7 @@ fn drop_if<L: GrainLogic>(activations: &mut Activations<L>, grain: &GrainId, res
     ensures { activations.new ≡ (if rests then map.remove activations.old grain.now else activations.old) }
 {
     if rests {
-        activations.remove(grain);
+        drop(activations.remove(grain));
     }
 }
 

@@ -25,14 +25,11 @@ pub fn status_value(
     ensures { IfOk result (λ value. value ≡ status_value active clock requests) }
 {
     let mut fields = BTreeMap::new(alloc);
-    fields.insert(
-        String::from_str(alloc, "activations")?,
-        Datum::Int(active as i64),
-    )?;
-    fields.insert(String::from_str(alloc, "clock")?, Datum::Int(clock as i64))?;
-    fields.insert(
-        String::from_str(alloc, "requests")?,
-        Datum::Int(requests as i64),
-    )?;
+    let name = String::from_str(alloc, "activations")?;
+    drop(fields.insert(name, Datum::Int(active as i64))?);
+    let name = String::from_str(alloc, "clock")?;
+    drop(fields.insert(name, Datum::Int(clock as i64))?);
+    let name = String::from_str(alloc, "requests")?;
+    drop(fields.insert(name, Datum::Int(requests as i64))?);
     state_of(alloc, &Datum::Map(fields))
 }

@@ -25,7 +25,7 @@ pub fn tell(replies: &mut Vec<Reply>, recipient: Party, outcome: Result<StateByt
             recipient: Party::Client(caller, id),
             outcome,
         }),
-        Party::Grain(_) => {}
+        Party::Grain(_) => drop(outcome),
     }
 }
 

@@ -46,10 +46,15 @@ impl<L: GrainLogic> Activations<L> {
         if let Some(activation) = self.directory.get_mut(grain) {
             return arrival::arrive(activation, request, clock);
         }
+        let named = grain.clone()?;
         let activation = arrival::first(alloc, request, clock)?;
-        let Ok(()) = self.directory.insert(alloc, grain.clone()?, activation) else {
-            return Err(AllocError);
-        };
+        match self.directory.insert(alloc, named, activation) {
+            Ok(()) => {}
+            Err(refused) => {
+                drop(refused);
+                return Err(AllocError);
+            }
+        }
         Ok(())
     }
 }

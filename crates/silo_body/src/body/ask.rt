@@ -104,12 +104,14 @@ fn overwrite<S: GrainStorage>(
         Err(StoreFault::Stale(_)) => unreachable!(),
         Err(StoreFault::Spent) => unreachable!(),
     };
-    let told = version_value(alloc, Some(version_after(version_of(&row))))?;
-    let spent = Fault::VersionsSpent(grain.clone()?);
+    let version = version_of(&row);
+    drop(row);
+    let named = grain.clone()?;
+    let told = version_value(alloc, Some(version_after(version)))?;
     match storage.poke(alloc, grain, state.clone()?) {
         Ok(_version) => Ok((Answer::Done, Ok(told))),
         Err(StoreFault::Failed) => Ok((Answer::Failed, Err(Fault::StorageFailed))),
-        Err(StoreFault::Spent) => Ok((Answer::Done, Err(spent))),
+        Err(StoreFault::Spent) => Ok((Answer::Done, Err(Fault::VersionsSpent(named)))),
         Err(StoreFault::Memory) => Err(AllocError),
         Err(StoreFault::Stale(_)) => unreachable!(),
     }

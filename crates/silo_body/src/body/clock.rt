@@ -51,7 +51,7 @@ fn drop_all<L: GrainLogic>(
     ensures forgotten { collector.new ≡ record collector.old { lasts = without collector.old.lasts grains.now } }
 {
     for grain in grains {
-        activations.remove(grain);
+        drop(activations.remove(grain));
         collector.forget(grain);
     }
 }

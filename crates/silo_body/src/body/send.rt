@@ -31,7 +31,10 @@ impl<S: GrainStorage, L: GrainLogic> Body<S, L> {
         let message = sent.message.clone()?;
         let sender = Party::Grain(grain.clone()?);
         match self.refusal(alloc, &sender, &target)? {
-            Some(why) => self.tell(sender, Err(why))?,
+            Some(why) => {
+                drop(message);
+                self.tell(sender, Err(why))?
+            }
             None => self.accept(alloc, sender, &target, message)?,
         }
         self.accounts.take_first(grain);

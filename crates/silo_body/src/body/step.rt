@@ -99,7 +99,9 @@ impl<S: GrainStorage, L: GrainLogic> Body<S, L> {
             return Ok(Answer::NotNow);
         };
         let Standing { version, rests } = standing;
-        self.end_own(alloc, grain, turn, version, rests, &finished)
+        let answer = self.end_own(alloc, grain, turn, version, rests, &finished);
+        drop(finished);
+        answer
     }
 
     /// An open turn that asks for the storage runs and is closed.
@@ -116,6 +118,8 @@ impl<S: GrainStorage, L: GrainLogic> Body<S, L> {
             return Ok(Answer::NotNow);
         };
         let Standing { version, rests } = standing;
-        self.store_own(alloc, grain, turn, version, rests, &finished, failed)
+        let answer = self.store_own(alloc, grain, turn, version, rests, &finished, failed);
+        drop(finished);
+        answer
     }
 }

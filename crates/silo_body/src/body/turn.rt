@@ -106,11 +106,11 @@ impl<S: GrainStorage, L: GrainLogic> Body<S, L> {
         if asks_storage(finished.store_call()) {
             return Ok(Answer::NotNow);
         }
-        let outcome = copied(finished.outcome())?;
-        let sent = account::sent_by(alloc, grain, finished.sends())?;
-        let state = finished.state().clone()?;
         let now = self.clock.get();
         self.replies.reserve(1)?;
+        let sent = account::sent_by(alloc, grain, finished.sends())?;
+        let outcome = copied(finished.outcome())?;
+        let state = finished.state().clone()?;
         notes::expect(&mut self.collector, grain, rests, now)?;
         match self.accounts.send(alloc, grain.tenant(), sent) {
             Ok(()) => {}

@@ -33,14 +33,14 @@ returns-in-Some-clause-unchanged g c =
     subst (λ (old : Entries). OnErr c.arrive.result (entries_of (map.insert m grain after) ≡ old)) c.self.view_is
     (arrive_leaves g.L.GrainLogic.logic m grain c.args.request c.args.clock c.in-Some.activation.now after (sym c.in-Some.ensures.value) after.mailbox.capacity c.arrive.result c.arrive.ensures.arrived c.arrive.ensures.unchanged)
 
-pub invariant_of-self-in_default-insert : goal.invariant_of-self-in_default-insert
-invariant_of-self-in_default-insert g c = subst (λ (r : Register). AllMarked g.L.GrainLogic.logic r.activations) (sym c.in_default-insert.ensures.unchanged) c.self.invariant
+pub invariant_of-self-in-Err : goal.invariant_of-self-in-Err
+invariant_of-self-in-Err g c = subst (λ (r : Register). AllMarked g.L.GrainLogic.logic r.activations) (sym c.in-Err.ensures.unchanged) c.self.invariant
 
 pub invariant_of-self-2 : goal.invariant_of-self-2
 invariant_of-self-2 g c =
     let m = c.self.inside.directory.activations in
     let a = c.in_ok-activation.activation in
-    subst (λ (after : FinMap grain_cmp Activation). AllMarked g.L.GrainLogic.logic after) (sym (c.in-Ok.ensures.entered ∙ ap (λ k. map.insert m k a) c.in_ok-clone.ensures.cases))
+    subst (λ (after : FinMap grain_cmp Activation). AllMarked g.L.GrainLogic.logic after) (sym (c.in-Ok.ensures.entered ∙ ap (λ k. map.insert m k a) c.in_ok-named.ensures.cases))
     (first_marked g.L.GrainLogic.logic m c.args.grain.now c.args.request c.args.clock a c.in_ok-activation.ensures (sym c.in_default.ensures.value) c.self.invariant c.requires.known c.requires.marked)
 
 pub returns-clause-waits : goal.returns-clause-waits
@@ -49,5 +49,5 @@ returns-clause-waits g c =
     let grain = c.args.grain.now in
     let a = c.in_ok-activation.activation in
     subst (λ (old : Entries). entries_of c.insert.new.self.activations ≡ map.insert old grain (with_request c.args.clock (request_of c.args.request) (map.get old grain))) c.self.view_is
-    (ap entries_of (c.in-Ok.ensures.entered ∙ ap (λ k. map.insert m k a) c.in_ok-clone.ensures.cases)
+    (ap entries_of (c.in-Ok.ensures.entered ∙ ap (λ k. map.insert m k a) c.in_ok-named.ensures.cases)
     ∙ first_shows g.L.GrainLogic.logic m grain c.args.request c.args.clock a c.in_ok-activation.ensures (sym c.in_default.ensures.value))
