@@ -206,6 +206,6 @@ fn note(journal: &mut Vec<Step>, answer: Answer, step: Step)
     match answer {
         Answer::Done => journal.push_reserved(step),
         Answer::Failed => journal.push_reserved(step.into_failed()),
-        Answer::NotNow => {}
+        Answer::NotNow => drop(step),
     }
 }

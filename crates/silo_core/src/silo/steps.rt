@@ -19,7 +19,7 @@ use grain_kinds::{FinishedTurn, GrainLogic, OpenedTurn};
 use grain_storage::GrainStorage;
 use request_codec::{Message, SharedState, StateBytes};
 use silo_event::{Answer, Moment, Refusal, Step, StepFault};
-use std::alloc::Global;
+use std::alloc::{AllocError, Global};
 
 impl<S: GrainStorage, L: GrainLogic> Silo<S, L> {
     /// A client's line asked for something that can't be asked.
@@ -221,9 +221,22 @@ impl<S: GrainStorage, L: GrainLogic> Silo<S, L> {
     fn take(&mut self, alloc: Global, step: Step) -> Result<Answer, StepFault>
         ensures { Answered L.logic self.old step result self.new }
     {
-        self.journal.reserve(1)?;
-        let answer = self.body.step(alloc, &step)?;
-        note(&mut self.journal, answer, step);
-        Ok(answer)
+        match self.journal.reserve(1) {
+            Ok(()) => {}
+            Err(AllocError) => {
+                drop(step);
+                return Err(StepFault::Memory);
+            }
+        }
+        match self.body.step(alloc, &step) {
+            Ok(answer) => {
+                note(&mut self.journal, answer, step);
+                Ok(answer)
+            }
+            Err(fault) => {
+                drop(step);
+                Err(fault)
+            }
+        }
     }
 }
