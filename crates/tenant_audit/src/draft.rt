@@ -113,6 +113,7 @@ impl Draft {
         ensures { AddAnswers self.old (line.Tenant tenant limits) result self.new }
     {
         if !self.tenant_fits(tenant.text()) {
+            drop(tenant);
             return Ok(false);
         }
         self.tenants.push((tenant, limits))?;
@@ -124,6 +125,7 @@ impl Draft {
         ensures { AddAnswers self.old (line.Step step) result self.new }
     {
         if !self.step_fits() {
+            drop(step);
             return Ok(false);
         }
         self.steps.push(step)?;
@@ -135,6 +137,7 @@ impl Draft {
         ensures { AddAnswers self.old (line.Reply reply) result self.new }
     {
         if !self.reply_fits() {
+            drop(reply);
             return Ok(false);
         }
         self.replies.push(reply)?;
@@ -146,6 +149,8 @@ impl Draft {
         ensures { AddAnswers self.old (line.Row grain row) result self.new }
     {
         if !self.row_fits(&grain) {
+            drop(grain);
+            drop(row);
             return Ok(false);
         }
         self.rows.push((grain, row))?;

@@ -25,7 +25,7 @@ impl From<AllocError> for JournalFault {
 }
 
 /// Why a line, or a field of one, was not read.
-#[derive(Clone, Copy, Debug, PartialEq, Eq)]
+#[derive(Clone, Copy)]
 pub enum LineFault {
     /// It has no form that a line or the field may have.
     NoForm,

@@ -84,11 +84,9 @@ fn next_head<'a>(
     let Some((line, behind)) = next_line(alloc, names, bytes)? else {
         return Ok(None);
     };
-    if is_head(&line) {
-        Ok(Some(behind))
-    } else {
-        Ok(None)
-    }
+    let fits = is_head(&line);
+    drop(line);
+    if fits { Ok(Some(behind)) } else { Ok(None) }
 }
 
 /// The age, and what stands behind its line, if the bytes begin with one.
@@ -102,7 +100,9 @@ fn next_age<'a>(
     let Some((line, behind)) = next_line(alloc, names, bytes)? else {
         return Ok(None);
     };
-    match age_of(&line) {
+    let age = age_of(&line);
+    drop(line);
+    match age {
         Some(age) => Ok(Some((age, behind))),
         None => Ok(None),
     }

@@ -63,6 +63,28 @@ fn push_rows(alloc: Global, text: &mut String, rows: &[(GrainId, Row)]) -> Resul
     Ok(())
 }
 
+/// Adds all lines of a journal that has these parts to a text that has none.
+fn push_parts(
+    alloc: Global,
+    text: &mut String,
+    tenants: &[(Tenant, Limits)],
+    age: u64,
+    steps: &[Step],
+    replies: &[Reply],
+    rows: &[(GrainId, Row)],
+) -> Result<(), AllocError>
+    requires { string_bytes text.now ≡ [] }
+    ensures { OnOk result (string_bytes text.new ≡ journal_text (history tenants.now age steps.now (map recorded_of replies.now) rows.now)) }
+{
+    push_head(text)?;
+    push_age(text, age)?;
+    push_tenants(text, tenants)?;
+    push_steps(alloc, text, steps)?;
+    push_replies(alloc, text, replies)?;
+    push_rows(alloc, text, rows)?;
+    push_close(text, steps.len() as u64)
+}
+
 /// The text of the journal that has these parts.
 pub fn journal_of_parts(
     alloc: Global,
@@ -75,12 +97,6 @@ pub fn journal_of_parts(
     ensures { IfOk result (λ text. text.items ≡ journal_text (history tenants.now age steps.now (map recorded_of replies.now) rows.now)) }
 {
     let mut text = String::new(alloc);
-    push_head(&mut text)?;
-    push_age(&mut text, age)?;
-    push_tenants(&mut text, tenants)?;
-    push_steps(alloc, &mut text, steps)?;
-    push_replies(alloc, &mut text, replies)?;
-    push_rows(alloc, &mut text, rows)?;
-    push_close(&mut text, steps.len() as u64)?;
+    push_parts(alloc, &mut text, tenants, age, steps, replies, rows)?;
     Ok(text.into_bytes())
 }

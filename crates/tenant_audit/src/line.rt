@@ -7,7 +7,7 @@ use silo_event::Step;
 use tenant_gate::Limits;
 
 /// A line of a journal.
-#[derive(Debug, Drop)]
+#[derive(Drop)]
 pub enum Line {
     /// The first line, which names the form.
     Head,

@@ -287,10 +287,14 @@ fn confirmed(alloc: Global, line: Line, text: &str) -> Result<Line, LineFault>
     requires is_line { IsLine line }
     ensures { ReadsLine text.now result }
 {
-    let same = is_text_of(alloc, &line, text)?;
+    let Ok(same) = is_text_of(alloc, &line, text) else {
+        drop(line);
+        return Err(LineFault::Memory);
+    };
     if same {
         Ok(line)
     } else {
+        drop(line);
         Err(LineFault::NoForm)
     }
 }

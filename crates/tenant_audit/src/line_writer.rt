@@ -27,7 +27,9 @@ fn push_refuse(text: &mut String, caller: &Caller, id: u64, code: Refusal) -> Re
     ensures { OnOk result (string_bytes text.new ≡ string_bytes text.old ++ (step_text (step.Refuse caller.now id code) ++ 10 ∷ [])) }
 {
     let caller = caller.text();
-    let code = code.fault().code();
+    let fault = code.fault();
+    let code = fault.code();
+    drop(fault);
     write!(text, "refuse {caller} {id} {code}\n")
 }
 
