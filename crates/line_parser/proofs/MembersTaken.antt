@@ -1,6 +1,6 @@
 -- One more member in an object.
-use Rattle.std.proofs.Common.{◌≡◌, ℕ, suc, ◌+◌, ◌<◌, Bool, true, false, cond, List, [], ◌∷◌, length, Option, Some, None, Ordering, Less, Equal, Greater, refl, sym, ap, subst, ◌∙◌, arith}
-use Rattle.std.specs.Prelude.{option_map, ◌||◌}
+use Rattle.std.proofs.Common.{◌≡◌, ℕ, suc, ◌+◌, ◌<◌, Bool, true, false, cond, List, [], ◌∷◌, length, Option, Some, None, Result, Ok, Err, Ordering, Less, Equal, Greater, refl, sym, ap, subst, ◌∙◌, arith}
+use Rattle.std.specs.Prelude.{option_map, IsSome, IfSome, OnOk, ◌||◌}
 use Rattle.std.specs.Cmp.Lexicographic.{slice_cmp}
 use Rattle.std.specs.Ordering.{nat_cmp, is_eq, ordering_reverse, match_ordering}
 use Rattle.std.proofs.lemmas.Cmp.{nat_list_cmp_total}
@@ -161,6 +161,32 @@ natural_taken name n old new l ts rest is = member_taken name (a_number n) (numb
 pub truth_taken : (name : Name) (b : Bool) (old new : Slots) (l : List ℕ) (ts rest : List Token) → ts ≡ Token.boolean b ∷ rest → slot_of name old l ≡ None → Fills name (a_truth b) old l new l → new.count ≡ old.count + 1
     → TakesMember name ts rest old l new l
 truth_taken name b old new l ts rest token = member_taken name (a_truth b) (boolean b) old new l l ts rest (read_truth b ts rest token) (one_less (Token.boolean b) ts rest token) refl
+
+-- ---- what a slot was given is taken
+
+pub text_put : {A T E : Type 0} (given name : Name) (f : A → List ℕ) (make : Option A → Slots) (was slot : Option A) (r : Result T E) (old : Slots) (l : List ℕ) (ts rest : List Token) → given ≡ name
+    → OnOk r (was ≡ None) → OnOk r (IsSome slot) → OnOk r (IfSome slot (λ t. ts ≡ Token.string (f t) ∷ rest)) → (was ≡ None → slot_of name old l ≡ None) → ((t : A) → Fills name (a_text (f t)) old l (make (Some t)) l)
+    → ((o : Option A) → (make o).count ≡ old.count + 1) → OnOk r (TakesMember given ts rest old l (make slot) l)
+text_put given name f make was None (Ok x) old l ts rest is empty full token none fills more = absurd cc
+text_put given name f make was (Some t) (Ok x) old l ts rest is empty full token none fills more =
+    subst (λ n. TakesMember n ts rest old l (make (Some t)) l) (sym is) (text_taken name (f t) old (make (Some t)) l ts rest token (none empty) (fills t) (more (Some t)))
+text_put given name f make was slot (Err e) old l ts rest is empty full token none fills more = tt
+
+pub natural_put : {T E : Type 0} (given name : Name) (make : Option ℕ → Slots) (was slot : Option ℕ) (r : Result T E) (old : Slots) (l : List ℕ) (ts rest : List Token) → given ≡ name
+    → OnOk r (was ≡ None) → OnOk r (IsSome slot) → OnOk r (IfSome slot (λ t. IsNatural ts t rest)) → (was ≡ None → slot_of name old l ≡ None) → ((t : ℕ) → Fills name (a_number t) old l (make (Some t)) l)
+    → ((o : Option ℕ) → (make o).count ≡ old.count + 1) → OnOk r (TakesMember given ts rest old l (make slot) l)
+natural_put given name make was None (Ok x) old l ts rest is empty full token none fills more = absurd cc
+natural_put given name make was (Some t) (Ok x) old l ts rest is empty full token none fills more =
+    subst (λ n. TakesMember n ts rest old l (make (Some t)) l) (sym is) (natural_taken name t old (make (Some t)) l ts rest token (none empty) (fills t) (more (Some t)))
+natural_put given name make was slot (Err e) old l ts rest is empty full token none fills more = tt
+
+pub truth_put : {T E : Type 0} (given name : Name) (make : Option Bool → Slots) (was slot : Option Bool) (r : Result T E) (old : Slots) (l : List ℕ) (ts rest : List Token) → given ≡ name
+    → OnOk r (was ≡ None) → OnOk r (IsSome slot) → OnOk r (IfSome slot (λ t. ts ≡ Token.boolean t ∷ rest)) → (was ≡ None → slot_of name old l ≡ None) → ((t : Bool) → Fills name (a_truth t) old l (make (Some t)) l)
+    → ((o : Option Bool) → (make o).count ≡ old.count + 1) → OnOk r (TakesMember given ts rest old l (make slot) l)
+truth_put given name make was None (Ok x) old l ts rest is empty full token none fills more = absurd cc
+truth_put given name make was (Some t) (Ok x) old l ts rest is empty full token none fills more =
+    subst (λ n. TakesMember n ts rest old l (make (Some t)) l) (sym is) (truth_taken name t old (make (Some t)) l ts rest token (none empty) (fills t) (more (Some t)))
+truth_put given name make was slot (Err e) old l ts rest is empty full token none fills more = tt
 
 value_taken : (name : Name) (old new : Slots) (before after : List ℕ) (ts rest : List Token) (why : Option Refusal) → TakesValue ts rest why after → slot_of name old before ≡ None → Fills name (a_value why after) old before new after
     → new.count ≡ old.count + 1 → TakesMember name ts rest old before new after

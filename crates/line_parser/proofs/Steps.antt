@@ -1,6 +1,6 @@
 -- The step that an object asks for, once it is known where its members are.
-use Rattle.std.proofs.Common.{false, ◌≡◌, ℕ, ◌+◌, ◌<◌, ◌≤◌, true, ◌==◌, List, [], ◌∷◌, ◌++◌, length, Bool, Option, Some, None, Ok, Err, pos, refl, sym, ap, subst, ◌∙◌, arith, lt-ltb, le-leb, ne_eqb}
-use Rattle.std.specs.Prelude.{◌≢◌, ◌^◌, option_map, option_and_then, IsUtf8}
+use Rattle.std.proofs.Common.{false, ◌≡◌, ℕ, ◌+◌, ◌<◌, ◌≤◌, true, ◌==◌, List, [], ◌∷◌, ◌++◌, length, Bool, Option, Some, None, Result, Ok, Err, pos, refl, sym, ap, subst, ◌∙◌, arith, lt-ltb, le-leb, ne_eqb}
+use Rattle.std.specs.Prelude.{◌≢◌, ◌^◌, option_map, option_and_then, IfSome, IfNone, IfOk, IsUtf8}
 use Rattle.std.proofs.lemmas.Bool.{lt-leb}
 use Rattle.std.proofs.lemmas.Bool.Decides.{nat_tests}
 use Rattle.serde_json.specs.Data.{Data, null, unsigned, Members, object}
@@ -17,7 +17,9 @@ use Rattle.request_codec.proofs.Spelled.{length-message, length-spelling}
 use Rattle.silo_event.specs.declared.refusal.Refusal.{Refusal}
 use Rattle.silo_event.specs.declared.refusal.Refusal.TheVariants as refusal
 use Rattle.line_parser.specs.Form.{natural, where_so, text_at, natural_at, truth_at, unless_refused, within_or, value_asked, message_asked, state_asked, form_of}
-use Rattle.line_parser.specs.Step.{form_text, of_form}
+use Rattle.line_parser.specs.Step.{form_text, of_form, said_by, FindsIn, Finds}
+use Rattle.silo_event.specs.declared.step.Step.{Step}
+use Rattle.line_parser.specs.declared.slots.Slots.{Slots}
 use Rattle.line_parser.specs.declared.step.Form.{Form}
 use Rattle.line_parser.specs.declared.step.Form.TheVariants as form
 use Rattle.line_parser.specs.Slots.{a_text, a_number, a_truth, Holds, put_bytes, IsArgument, IsAsked}
@@ -134,3 +136,12 @@ form_named form.Sweep d = refl
 
 pub form_is : (form : Form) (op : List ℕ) (d : Data) → op ≡ form_text form → form_of op d ≡ of_form form d
 form_is form op d is = ap (λ o. form_of o d) is ∙ form_named form d
+
+pub named_or_none : (o : Option Form) (op : List ℕ) (d : Data) → IfSome o (λ form. op ≡ form_text form) → IfNone o ((d : Data) → form_of op d ≡ None) → form_of op d ≡ said_by o d
+named_or_none None op d known other = other d
+named_or_none (Some form) op d known other = form_is form op d known
+
+-- what is found of a form's members is found of those of the form given
+pub finds_as : {E : Type 0} (given form : Form) (slots : Slots) (l : List ℕ) (r : Result (Option Step) E) → given ≡ form → IfOk r (λ step. Finds slots (of_form form) step) → IfOk r (λ step. FindsIn slots l (of_form given) step)
+finds_as given form slots l (Ok step) is h = λ found holds. ap (λ f. of_form f (object found)) is ∙ h l found holds
+finds_as given form slots l (Err e) is h = h

@@ -4,9 +4,11 @@ ghost use Rattle.std.specs.Prelude.{◌≡◌, ◌<◌, IfOk, option_map};
 ghost use Rattle.serde_json.specs.Data.{null};
 ghost use Rattle.serde_json.specs.View.{view};
 ghost use Rattle.line_parser.specs.Form.{where_so, has_members, grain_at, turn_alone, argument_at, failed_at, call_of, poke_of, status_of, load_of, store_of, tick_of, sweep_of, step_of_json};
+ghost use Rattle.line_parser.specs.Step.{of_form, said_by};
 
 use crate::asked::{ask_call, ask_poke};
 use crate::members::{caller_at, grain_at, has_members, natural_at, text_at, truth_at};
+use crate::step::{Form, form_of};
 use grain_id::{GrainId, LatelyRead};
 use serde_json::Value;
 use silo_event::{Moment, Step};
@@ -41,15 +43,17 @@ fn failed_at(value: &Value, count: usize) -> Option<bool>
 }
 
 #[tactic(auto, unfolding(crate::specs::Form::call_of))]
-fn read_call(
+/// The call, whose argument is `left_out` where it has none.
+fn read_call_or(
     alloc: Global,
     names: &mut LatelyRead,
     value: &Value,
+    left_out: &Value,
 ) -> Result<Option<Step>, AllocError>
+    requires { view left_out.now ≡ null }
     ensures { IfOk result (λ step. step ≡ call_of (view value.now)) }
 {
-    let left_out = Value::Null;
-    let Some(argument) = argument_at(value, &left_out) else {
+    let Some(argument) = argument_at(value, left_out) else {
         return Ok(None);
     };
     let Some(caller) = caller_at(alloc, names, value)? else {
@@ -66,6 +70,20 @@ fn read_call(
     };
     let step = ask_call(alloc, names, caller, id, grain, method, argument)?;
     Ok(Some(step))
+}
+
+/// The call, with `null` for an argument that is left out.
+fn read_call(
+    alloc: Global,
+    names: &mut LatelyRead,
+    value: &Value,
+) -> Result<Option<Step>, AllocError>
+    ensures { IfOk result (λ step. step ≡ call_of (view value.now)) }
+{
+    let left_out = Value::Null;
+    let step = read_call_or(alloc, names, value, &left_out);
+    drop(left_out);
+    step
 }
 
 #[tactic(auto, unfolding(crate::specs::Form::poke_of))]
@@ -211,7 +229,40 @@ fn read_sweep(value: &Value) -> Option<Step>
     Some(Step::Sweep)
 }
 
-#[tactic(auto, unfolding(crate::specs::Form::step_of_json, crate::specs::Form::form_of))]
+/// The step that the JSON asks for, if it has exactly the members of the form.
+fn read_form(
+    alloc: Global,
+    names: &mut LatelyRead,
+    value: &Value,
+    form: Form,
+) -> Result<Option<Step>, AllocError>
+    ensures { IfOk result (λ step. step ≡ of_form form (view value.now)) }
+{
+    match form {
+        Form::Call => read_call(alloc, names, value),
+        Form::Poke => read_poke(alloc, names, value),
+        Form::Status => read_status(alloc, names, value),
+        Form::Deliver => Ok(read_grain(alloc, names, value)?.map(|grain| Step::Deliver { grain })),
+        Form::Activate => Ok(read_grain(alloc, names, value)?.map(|grain| Step::Activate {
+            grain,
+        })),
+        Form::Load => read_load(alloc, names, value),
+        Form::Begin => Ok(read_grain(alloc, names, value)?.map(|grain| Step::Begin { grain })),
+        Form::Store => read_store(alloc, names, value),
+        Form::End => Ok(read_turn(alloc, names, value)?.map(|(grain, turn)| Step::End {
+            grain,
+            turn,
+        })),
+        Form::Abandon => Ok(read_turn(alloc, names, value)?.map(|(grain, turn)| Step::Abandon {
+            grain,
+            turn,
+        })),
+        Form::Tick => Ok(read_tick(value)),
+        Form::Sweep => Ok(read_sweep(value)),
+    }
+}
+
+#[tactic(auto, unfolding(crate::specs::Form::step_of_json))]
 /// The step that the JSON asks for, where it has exactly the members of one form.
 pub(crate) fn read_step(
     alloc: Global,
@@ -223,22 +274,8 @@ pub(crate) fn read_step(
     let Some(op) = text_at(value, "op") else {
         return Ok(None);
     };
-    match op {
-        "call" => read_call(alloc, names, value),
-        "poke" => read_poke(alloc, names, value),
-        "status" => read_status(alloc, names, value),
-        "deliver" => Ok(read_grain(alloc, names, value)?.map(|grain| Step::Deliver { grain })),
-        "activate" => Ok(read_grain(alloc, names, value)?.map(|grain| Step::Activate { grain })),
-        "load" => read_load(alloc, names, value),
-        "begin" => Ok(read_grain(alloc, names, value)?.map(|grain| Step::Begin { grain })),
-        "store" => read_store(alloc, names, value),
-        "end" => Ok(read_turn(alloc, names, value)?.map(|(grain, turn)| Step::End { grain, turn })),
-        "abandon" => Ok(read_turn(alloc, names, value)?.map(|(grain, turn)| Step::Abandon {
-            grain,
-            turn,
-        })),
-        "tick" => Ok(read_tick(value)),
-        "sweep" => Ok(read_sweep(value)),
-        _ => Ok(None),
-    }
+    let Some(form) = form_of(op) else {
+        return Ok(None);
+    };
+    read_form(alloc, names, value, form)
 }

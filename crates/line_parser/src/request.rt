@@ -18,7 +18,7 @@ use request_codec::bytes::{put, put_text};
 use request_codec::limits::{MAX_MESSAGE_BYTES, MAX_STATE_BYTES};
 use request_codec::{Message, StateBytes};
 use silo_event::{Refusal, Step};
-use std::alloc::{AllocError, Global};
+use std::alloc::Global;
 
 /// The argument of a call: why it is refused, if it is, and else the bytes that spell it.
 #[derive(Clone, Copy)]
@@ -185,7 +185,7 @@ pub(crate) fn status_from(
     alloc: Global,
     names: &mut LatelyRead,
     slots: &Slots<'_>,
-) -> Result<Option<Step>, AllocError>
+) -> Result<Option<Step>, Unread>
     ensures { IfOk result (λ step. Finds slots.now status_of step) }
 {
     if slots.count != 3 {

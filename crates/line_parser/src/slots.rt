@@ -1,6 +1,6 @@
 //! The members of a line, each by its name.
 
-ghost use Rattle.std.specs.Prelude.{◌≡◌, ◌<◌, ◌^◌, ◌||◌, ℕ, List, [], ◌∷◌, false, None, IfSome, IfOk, OnOk, option_map};
+ghost use Rattle.std.specs.Prelude.{◌≡◌, ◌<◌, ◌^◌, ◌||◌, ℕ, List, [], ◌∷◌, false, None, IsSome, IfSome, IfOk, OnOk, option_map};
 ghost use Rattle.std.specs.Bool.{MatchBool};
 ghost use Rattle.json.specs.Token.{string, boolean};
 ghost use Rattle.serde_json.specs.Data.{no_members};
@@ -108,22 +108,25 @@ pub(crate) fn name_of(key: &str) -> Option<Name>
     }
 }
 
-/// The next token, which has to be a text, for a slot that has none.
-fn take_text<'a>(slot: Option<&str>, reader: &mut Tokens<'a>) -> Result<&'a str, Unread>
-    ensures empty { OnOk result (slot.entry ≡ None) }
-    ensures token { IfOk result (λ s. reader.old ≡ string s.now ∷ reader.new) }
+/// Puts the next token, which has to be a text, into a slot that has none.
+fn take_text<'a>(slot: &mut Option<&'a str>, reader: &mut Tokens<'a>) -> Result<(), Unread>
+    ensures empty { OnOk result (slot.old ≡ None) }
+    ensures full { OnOk result (IsSome slot.new) }
+    ensures token { OnOk result (IfSome slot.new (λ s. reader.old ≡ string s.now ∷ reader.new)) }
 {
     if slot.is_some() {
         return Err(Unread::Unusual);
     }
     let text = reader.next_text()?;
-    Ok(text)
+    *slot = Some(text);
+    Ok(())
 }
 
-/// The next token, which has to be a whole number, 0 or above, for a slot that has none.
-fn take_natural(slot: Option<u64>, reader: &mut Tokens<'_>) -> Result<u64, Unread>
-    ensures empty { OnOk result (slot ≡ None) }
-    ensures token { IfOk result (λ n. IsNatural reader.old n reader.new) }
+/// Puts the next token, which has to be a whole number, 0 or above, into a slot that has none.
+fn take_natural(slot: &mut Option<u64>, reader: &mut Tokens<'_>) -> Result<(), Unread>
+    ensures empty { OnOk result (slot.old ≡ None) }
+    ensures full { OnOk result (IsSome slot.new) }
+    ensures token { OnOk result (IfSome slot.new (λ n. IsNatural reader.old n reader.new)) }
 {
     if slot.is_some() {
         return Err(Unread::Unusual);
@@ -135,19 +138,24 @@ fn take_natural(slot: Option<u64>, reader: &mut Tokens<'_>) -> Result<u64, Unrea
     if n < 0 {
         return Err(Unread::Unusual);
     }
-    Ok(n as u64)
+    *slot = Some(n as u64);
+    Ok(())
 }
 
-/// The next token, which has to be a truth value, for a slot that has none.
-fn take_truth(slot: Option<bool>, reader: &mut Tokens<'_>) -> Result<bool, Unread>
-    ensures empty { OnOk result (slot ≡ None) }
-    ensures token { IfOk result (λ b. reader.old ≡ boolean b ∷ reader.new) }
+/// Puts the next token, which has to be a truth value, into a slot that has none.
+fn take_truth(slot: &mut Option<bool>, reader: &mut Tokens<'_>) -> Result<(), Unread>
+    ensures empty { OnOk result (slot.old ≡ None) }
+    ensures full { OnOk result (IsSome slot.new) }
+    ensures token { OnOk result (IfSome slot.new (λ b. reader.old ≡ boolean b ∷ reader.new)) }
 {
     if slot.is_some() {
         return Err(Unread::Unusual);
     }
     match reader.next()? {
-        Token::Bool(truth) => Ok(truth),
+        Token::Bool(truth) => {
+            *slot = Some(truth);
+            Ok(())
+        }
         _ => Err(Unread::Unusual),
     }
 }
@@ -191,24 +199,25 @@ fn take_member<'a>(
     let count = slots.count.checked_add(1).ok_or(Unread::Unusual)?;
     slots.count = count;
     match name {
-        Name::Op => slots.op = Some(take_text(slots.op, reader)?),
-        Name::From => slots.from = Some(take_text(slots.from, reader)?),
-        Name::Grain => slots.grain = Some(take_text(slots.grain, reader)?),
-        Name::Method => slots.method = Some(take_text(slots.method, reader)?),
-        Name::Id => slots.id = Some(take_natural(slots.id, reader)?),
-        Name::Turn => slots.turn = Some(take_natural(slots.turn, reader)?),
-        Name::Now => slots.moment = Some(take_natural(slots.moment, reader)?),
-        Name::Failed => slots.failed = Some(take_truth(slots.failed, reader)?),
+        Name::Op => take_text(&mut slots.op, reader),
+        Name::From => take_text(&mut slots.from, reader),
+        Name::Grain => take_text(&mut slots.grain, reader),
+        Name::Method => take_text(&mut slots.method, reader),
+        Name::Id => take_natural(&mut slots.id, reader),
+        Name::Turn => take_natural(&mut slots.turn, reader),
+        Name::Now => take_natural(&mut slots.moment, reader),
+        Name::Failed => take_truth(&mut slots.failed, reader),
         Name::Args => {
             slots.refusal = take_value(has_value(slots), bytes, reader)?;
             slots.args = true;
+            Ok(())
         }
         Name::State => {
             slots.refusal = take_value(has_value(slots), bytes, reader)?;
             slots.state = true;
+            Ok(())
         }
     }
-    Ok(())
 }
 
 /// Takes the members of the object that the tokens are, and answers whether it did: each is known and stands once.

@@ -1,6 +1,6 @@
 //! The step that the members of a line ask for.
 
-ghost use Rattle.std.specs.Prelude.{◌≡◌, IfSome, IfOk};
+ghost use Rattle.std.specs.Prelude.{◌≡◌, None, IfSome, IfNone, IfOk};
 ghost use Rattle.serde_json.specs.Data.{Data, Members};
 ghost use Rattle.line_parser.specs.Form.{where_so, has_members, grain_at, turn_alone, load_of, store_of, tick_of, sweep_of, form_of, step_of_json};
 ghost use Rattle.line_parser.specs.Slots.{HoldsSlots};
@@ -99,7 +99,8 @@ fn likely_form(op: &str) -> Option<Form>
 #[cold]
 #[inline(never)]
 fn form_of_any(op: &str) -> Option<Form>
-    ensures { (d : Data) → form_of op.now d ≡ said_by result d }
+    ensures known { IfSome result (λ form. op.now ≡ form_text form) }
+    ensures other { IfNone result ((d : Data) → form_of op.now d ≡ None) }
 {
     match op {
         "call" => Some(Form::Call),
@@ -119,7 +120,7 @@ fn form_of_any(op: &str) -> Option<Form>
 }
 
 /// The form that `op` names.
-fn form_of(op: &str) -> Option<Form>
+pub(crate) fn form_of(op: &str) -> Option<Form>
     ensures { (d : Data) → form_of op.now d ≡ said_by result d }
 {
     match likely_form(op) {
@@ -148,7 +149,7 @@ fn load_from(
     alloc: Global,
     names: &mut LatelyRead,
     slots: &Slots<'_>,
-) -> Result<Option<Step>, AllocError>
+) -> Result<Option<Step>, Unread>
     ensures { IfOk result (λ step. Finds slots.now load_of step) }
 {
     let Some(failed) = failed_of(slots, 2) else {
@@ -165,7 +166,7 @@ fn store_from(
     alloc: Global,
     names: &mut LatelyRead,
     slots: &Slots<'_>,
-) -> Result<Option<Step>, AllocError>
+) -> Result<Option<Step>, Unread>
     ensures { IfOk result (λ step. Finds slots.now store_of step) }
 {
     let Some(failed) = failed_of(slots, 3) else {
@@ -238,24 +239,28 @@ fn read_form(
     requires { (found : Members) × HoldsSlots found slots.now bytes.now }
     ensures { IfOk result (λ step. FindsIn slots.now bytes.now (of_form form) step) }
 {
-    let step = match form {
-        Form::Call => call_from(alloc, names, out, slots, bytes)?,
-        Form::Poke => poke_from(alloc, names, slots, bytes)?,
-        Form::Status => status_from(alloc, names, slots)?,
-        Form::Deliver => grain_from(alloc, names, slots)?.map(|grain| Step::Deliver { grain }),
-        Form::Activate => grain_from(alloc, names, slots)?.map(|grain| Step::Activate { grain }),
-        Form::Load => load_from(alloc, names, slots)?,
-        Form::Begin => grain_from(alloc, names, slots)?.map(|grain| Step::Begin { grain }),
-        Form::Store => store_from(alloc, names, slots)?,
-        Form::End => turn_from(alloc, names, slots)?.map(|(grain, turn)| Step::End { grain, turn }),
-        Form::Abandon => turn_from(alloc, names, slots)?.map(|(grain, turn)| Step::Abandon {
+    match form {
+        Form::Call => call_from(alloc, names, out, slots, bytes),
+        Form::Poke => poke_from(alloc, names, slots, bytes),
+        Form::Status => status_from(alloc, names, slots),
+        Form::Deliver => Ok(grain_from(alloc, names, slots)?.map(|grain| Step::Deliver { grain })),
+        Form::Activate => Ok(grain_from(alloc, names, slots)?.map(|grain| Step::Activate {
+            grain,
+        })),
+        Form::Load => load_from(alloc, names, slots),
+        Form::Begin => Ok(grain_from(alloc, names, slots)?.map(|grain| Step::Begin { grain })),
+        Form::Store => store_from(alloc, names, slots),
+        Form::End => Ok(turn_from(alloc, names, slots)?.map(|(grain, turn)| Step::End {
             grain,
             turn,
-        }),
-        Form::Tick => tick_from(slots),
-        Form::Sweep => sweep_from(slots),
-    };
-    Ok(step)
+        })),
+        Form::Abandon => Ok(turn_from(alloc, names, slots)?.map(|(grain, turn)| Step::Abandon {
+            grain,
+            turn,
+        })),
+        Form::Tick => Ok(tick_from(slots)),
+        Form::Sweep => Ok(sweep_from(slots)),
+    }
 }
 
 /// The step that the members ask for.

@@ -1,66 +1,58 @@
-use Rattle.std.proofs.Common.{◌≡◌, ◌+◌, Some, true, ap, refl, sym, subst, ◌∙◌, rules}
+use Rattle.std.proofs.Common.{◌≡◌, ◌+◌, true, ap, refl, sym, subst, ◌∙◌, rules}
 use Rattle.std.specs.Prelude.{option_map}
 use Rattle.line_parser.specs.Slots.{a_text, a_number, a_truth, TakesMember}
 use Rattle.line_parser.specs.declared.slots.Slots.{Slots}
 use Rattle.line_parser.specs.declared.slots.Name.TheVariants as name
-use Rattle.line_parser.proofs.MembersTaken.{text_taken, natural_taken, truth_taken, args_taken, state_taken, neither}
+use Rattle.line_parser.proofs.MembersTaken.{text_put, natural_put, truth_put, args_taken, state_taken, neither}
 use Rattle.line_parser.proofs.slots.take_member.Goals as goal
 
-pub returns-in_ok-take_text-in-Op : goal.returns-in_ok-take_text-in-Op
-returns-in_ok-take_text-in-Op c =
+pub returns-in-Op : goal.returns-in-Op
+returns-in-Op c =
     let more : c.in_ok-count.count ≡ c.args.slots.now.count + 1 = search rules in
-    let new : Slots = record c.args.slots.now { op = Some c.in_ok-take_text-in-Op.field-0; count = c.in_ok-count.count } in
-    subst (λ n. TakesMember n c.args.reader.now c.take_text.new.reader c.args.slots.now c.args.bytes.now.items new c.args.bytes.now.items) (sym c.in-Op.is)
-    (text_taken name.Op c.in_ok-take_text-in-Op.field-0.now c.args.slots.now new c.args.bytes.now.items c.args.reader.now c.take_text.new.reader c.in_ok-take_text-in-Op.ensures.token (ap (option_map (λ t. a_text t.now)) c.in_ok-take_text-in-Op.ensures.empty) refl more)
+    text_put c.args.name name.Op (λ t. t.now) (λ o. record c.args.slots.now { op = o; count = c.in_ok-count.count }) c.args.slots.now.op c.take_text.new.slot c.take_text.result c.args.slots.now c.args.bytes.now.items c.args.reader.now c.take_text.new.reader
+    c.in-Op.is c.take_text.ensures.empty c.take_text.ensures.full c.take_text.ensures.token (ap (option_map (λ t. a_text t.now))) (λ t. refl) (λ o. more)
 
-pub returns-in_ok-take_text-in-From : goal.returns-in_ok-take_text-in-From
-returns-in_ok-take_text-in-From c =
+pub returns-in-From : goal.returns-in-From
+returns-in-From c =
     let more : c.in_ok-count.count ≡ c.args.slots.now.count + 1 = search rules in
-    let new : Slots = record c.args.slots.now { from = Some c.in_ok-take_text-in-From.field-0; count = c.in_ok-count.count } in
-    subst (λ n. TakesMember n c.args.reader.now c.take_text-in-From.new.reader c.args.slots.now c.args.bytes.now.items new c.args.bytes.now.items) (sym c.in-From.is)
-    (text_taken name.From c.in_ok-take_text-in-From.field-0.now c.args.slots.now new c.args.bytes.now.items c.args.reader.now c.take_text-in-From.new.reader c.in_ok-take_text-in-From.ensures.token (ap (option_map (λ t. a_text t.now)) c.in_ok-take_text-in-From.ensures.empty) refl more)
+    text_put c.args.name name.From (λ t. t.now) (λ o. record c.args.slots.now { from = o; count = c.in_ok-count.count }) c.args.slots.now.from c.take_text-in-From.new.slot c.take_text-in-From.result c.args.slots.now c.args.bytes.now.items c.args.reader.now c.take_text-in-From.new.reader
+    c.in-From.is c.take_text-in-From.ensures.empty c.take_text-in-From.ensures.full c.take_text-in-From.ensures.token (ap (option_map (λ t. a_text t.now))) (λ t. refl) (λ o. more)
 
-pub returns-in_ok-take_text-in-Grain : goal.returns-in_ok-take_text-in-Grain
-returns-in_ok-take_text-in-Grain c =
+pub returns-in-Grain : goal.returns-in-Grain
+returns-in-Grain c =
     let more : c.in_ok-count.count ≡ c.args.slots.now.count + 1 = search rules in
-    let new : Slots = record c.args.slots.now { grain = Some c.in_ok-take_text-in-Grain.field-0; count = c.in_ok-count.count } in
-    subst (λ n. TakesMember n c.args.reader.now c.take_text-in-Grain.new.reader c.args.slots.now c.args.bytes.now.items new c.args.bytes.now.items) (sym c.in-Grain.is)
-    (text_taken name.Grain c.in_ok-take_text-in-Grain.field-0.now c.args.slots.now new c.args.bytes.now.items c.args.reader.now c.take_text-in-Grain.new.reader c.in_ok-take_text-in-Grain.ensures.token (ap (option_map (λ t. a_text t.now)) c.in_ok-take_text-in-Grain.ensures.empty) refl more)
+    text_put c.args.name name.Grain (λ t. t.now) (λ o. record c.args.slots.now { grain = o; count = c.in_ok-count.count }) c.args.slots.now.grain c.take_text-in-Grain.new.slot c.take_text-in-Grain.result c.args.slots.now c.args.bytes.now.items c.args.reader.now c.take_text-in-Grain.new.reader
+    c.in-Grain.is c.take_text-in-Grain.ensures.empty c.take_text-in-Grain.ensures.full c.take_text-in-Grain.ensures.token (ap (option_map (λ t. a_text t.now))) (λ t. refl) (λ o. more)
 
-pub returns-in_ok-take_text-in-Method : goal.returns-in_ok-take_text-in-Method
-returns-in_ok-take_text-in-Method c =
+pub returns-in-Method : goal.returns-in-Method
+returns-in-Method c =
     let more : c.in_ok-count.count ≡ c.args.slots.now.count + 1 = search rules in
-    let new : Slots = record c.args.slots.now { method = Some c.in_ok-take_text-in-Method.field-0; count = c.in_ok-count.count } in
-    subst (λ n. TakesMember n c.args.reader.now c.take_text-in-Method.new.reader c.args.slots.now c.args.bytes.now.items new c.args.bytes.now.items) (sym c.in-Method.is)
-    (text_taken name.Method c.in_ok-take_text-in-Method.field-0.now c.args.slots.now new c.args.bytes.now.items c.args.reader.now c.take_text-in-Method.new.reader c.in_ok-take_text-in-Method.ensures.token (ap (option_map (λ t. a_text t.now)) c.in_ok-take_text-in-Method.ensures.empty) refl more)
+    text_put c.args.name name.Method (λ t. t.now) (λ o. record c.args.slots.now { method = o; count = c.in_ok-count.count }) c.args.slots.now.method c.take_text-in-Method.new.slot c.take_text-in-Method.result c.args.slots.now c.args.bytes.now.items c.args.reader.now c.take_text-in-Method.new.reader
+    c.in-Method.is c.take_text-in-Method.ensures.empty c.take_text-in-Method.ensures.full c.take_text-in-Method.ensures.token (ap (option_map (λ t. a_text t.now))) (λ t. refl) (λ o. more)
 
-pub returns-in_ok-take_natural-in-Id : goal.returns-in_ok-take_natural-in-Id
-returns-in_ok-take_natural-in-Id c =
+pub returns-in-Id : goal.returns-in-Id
+returns-in-Id c =
     let more : c.in_ok-count.count ≡ c.args.slots.now.count + 1 = search rules in
-    let new : Slots = record c.args.slots.now { id = Some c.in_ok-take_natural-in-Id.field-0; count = c.in_ok-count.count } in
-    subst (λ n. TakesMember n c.args.reader.now c.take_natural.new.reader c.args.slots.now c.args.bytes.now.items new c.args.bytes.now.items) (sym c.in-Id.is)
-    (natural_taken name.Id c.in_ok-take_natural-in-Id.field-0 c.args.slots.now new c.args.bytes.now.items c.args.reader.now c.take_natural.new.reader c.in_ok-take_natural-in-Id.ensures.token (ap (option_map a_number) c.in_ok-take_natural-in-Id.ensures.empty) refl more)
+    natural_put c.args.name name.Id (λ o. record c.args.slots.now { id = o; count = c.in_ok-count.count }) c.args.slots.now.id c.take_natural.new.slot c.take_natural.result c.args.slots.now c.args.bytes.now.items c.args.reader.now c.take_natural.new.reader
+    c.in-Id.is c.take_natural.ensures.empty c.take_natural.ensures.full c.take_natural.ensures.token (ap (option_map (a_number))) (λ t. refl) (λ o. more)
 
-pub returns-in_ok-take_natural-in-Turn : goal.returns-in_ok-take_natural-in-Turn
-returns-in_ok-take_natural-in-Turn c =
+pub returns-in-Turn : goal.returns-in-Turn
+returns-in-Turn c =
     let more : c.in_ok-count.count ≡ c.args.slots.now.count + 1 = search rules in
-    let new : Slots = record c.args.slots.now { turn = Some c.in_ok-take_natural-in-Turn.field-0; count = c.in_ok-count.count } in
-    subst (λ n. TakesMember n c.args.reader.now c.take_natural-in-Turn.new.reader c.args.slots.now c.args.bytes.now.items new c.args.bytes.now.items) (sym c.in-Turn.is)
-    (natural_taken name.Turn c.in_ok-take_natural-in-Turn.field-0 c.args.slots.now new c.args.bytes.now.items c.args.reader.now c.take_natural-in-Turn.new.reader c.in_ok-take_natural-in-Turn.ensures.token (ap (option_map a_number) c.in_ok-take_natural-in-Turn.ensures.empty) refl more)
+    natural_put c.args.name name.Turn (λ o. record c.args.slots.now { turn = o; count = c.in_ok-count.count }) c.args.slots.now.turn c.take_natural-in-Turn.new.slot c.take_natural-in-Turn.result c.args.slots.now c.args.bytes.now.items c.args.reader.now c.take_natural-in-Turn.new.reader
+    c.in-Turn.is c.take_natural-in-Turn.ensures.empty c.take_natural-in-Turn.ensures.full c.take_natural-in-Turn.ensures.token (ap (option_map (a_number))) (λ t. refl) (λ o. more)
 
-pub returns-in_ok-take_natural-in-Now : goal.returns-in_ok-take_natural-in-Now
-returns-in_ok-take_natural-in-Now c =
+pub returns-in-Now : goal.returns-in-Now
+returns-in-Now c =
     let more : c.in_ok-count.count ≡ c.args.slots.now.count + 1 = search rules in
-    let new : Slots = record c.args.slots.now { moment = Some c.in_ok-take_natural-in-Now.field-0; count = c.in_ok-count.count } in
-    subst (λ n. TakesMember n c.args.reader.now c.take_natural-in-Now.new.reader c.args.slots.now c.args.bytes.now.items new c.args.bytes.now.items) (sym c.in-Now.is)
-    (natural_taken name.Now c.in_ok-take_natural-in-Now.field-0 c.args.slots.now new c.args.bytes.now.items c.args.reader.now c.take_natural-in-Now.new.reader c.in_ok-take_natural-in-Now.ensures.token (ap (option_map a_number) c.in_ok-take_natural-in-Now.ensures.empty) refl more)
+    natural_put c.args.name name.Now (λ o. record c.args.slots.now { moment = o; count = c.in_ok-count.count }) c.args.slots.now.moment c.take_natural-in-Now.new.slot c.take_natural-in-Now.result c.args.slots.now c.args.bytes.now.items c.args.reader.now c.take_natural-in-Now.new.reader
+    c.in-Now.is c.take_natural-in-Now.ensures.empty c.take_natural-in-Now.ensures.full c.take_natural-in-Now.ensures.token (ap (option_map (a_number))) (λ t. refl) (λ o. more)
 
-pub returns-in_ok-take_truth-in-Failed : goal.returns-in_ok-take_truth-in-Failed
-returns-in_ok-take_truth-in-Failed c =
+pub returns-in-Failed : goal.returns-in-Failed
+returns-in-Failed c =
     let more : c.in_ok-count.count ≡ c.args.slots.now.count + 1 = search rules in
-    let new : Slots = record c.args.slots.now { failed = Some c.in_ok-take_truth-in-Failed.field-0; count = c.in_ok-count.count } in
-    subst (λ n. TakesMember n c.args.reader.now c.take_truth.new.reader c.args.slots.now c.args.bytes.now.items new c.args.bytes.now.items) (sym c.in-Failed.is)
-    (truth_taken name.Failed c.in_ok-take_truth-in-Failed.field-0 c.args.slots.now new c.args.bytes.now.items c.args.reader.now c.take_truth.new.reader c.in_ok-take_truth-in-Failed.ensures.token (ap (option_map a_truth) c.in_ok-take_truth-in-Failed.ensures.empty) refl more)
+    truth_put c.args.name name.Failed (λ o. record c.args.slots.now { failed = o; count = c.in_ok-count.count }) c.args.slots.now.failed c.take_truth.new.slot c.take_truth.result c.args.slots.now c.args.bytes.now.items c.args.reader.now c.take_truth.new.reader
+    c.in-Failed.is c.take_truth.ensures.empty c.take_truth.ensures.full c.take_truth.ensures.token (ap (option_map (a_truth))) (λ t. refl) (λ o. more)
 
 pub returns-in_ok-slots-in-Args : goal.returns-in_ok-slots-in-Args
 returns-in_ok-slots-in-Args c =
