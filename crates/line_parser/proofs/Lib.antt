@@ -18,3 +18,4 @@ pub mod OtherMembers
 pub mod NoObject
 pub mod NoRequest
 pub mod Steps
+pub mod Results

@@ -97,11 +97,11 @@ pub(crate) fn put_value(
         Token::Bool(b) => put_start(out, limit, Start::Bool(b))?,
         Token::Number(text) => match whole_number(text) {
             Some(number) => put_start(out, limit, Start::Int(number))?,
-            None => put_not_whole(out, limit, text, faults)?,
+            None => return put_not_whole(out, limit, text, faults),
         },
         Token::String(text) => put_start(out, limit, Start::Text(known(text)))?,
-        Token::BeginArray if depth > 0 => put_items(out, limit, reader, depth - 1, faults)?,
-        Token::BeginObject if depth > 0 => put_fields(out, limit, reader, depth - 1, faults)?,
+        Token::BeginArray if depth > 0 => return put_items(out, limit, reader, depth - 1, faults),
+        Token::BeginObject if depth > 0 => return put_fields(out, limit, reader, depth - 1, faults),
         _ => return Err(Unread::Unusual),
     }
     Ok(())

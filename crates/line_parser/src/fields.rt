@@ -109,13 +109,11 @@ impl<'a> Fields<'a> {
     {
         if self.more.is_empty() {
             self.few.sort_unstable();
-            put_in_order(sorted, bytes, self.few.as_slice())?;
-            return Ok(());
+            return put_in_order(sorted, bytes, self.few.as_slice());
         }
         self.more.extend_from_slice(self.few.as_slice())?;
         self.more.sort_unstable();
-        put_in_order(sorted, bytes, self.more.as_slice())?;
-        Ok(())
+        put_in_order(sorted, bytes, self.more.as_slice())
     }
 
     /// Brings the bytes of the fields, which begin at `start`, into the order of their names. A line with

@@ -9,6 +9,7 @@ use Rattle.line_parser.specs.Fields.{field_spelling, AreBehind}
 use Rattle.line_parser.proofs.ItemsRead.{items_start, items_next, items_stop}
 use Rattle.line_parser.proofs.FieldsRead.{begun, last_bytes, last_count, fields_start, fields_next, fields_stop}
 use Rattle.line_parser.proofs.PutValues.{put_null, put_bool, put_string, put_number, put_other_number, put_list, put_map}
+use Rattle.line_parser.proofs.Results.{on_ok, on_ok₃}
 use Rattle.line_parser.proofs.argument.+argument.Goals as goal
 
 pub put_items-items-init : goal.put_items-items-init
@@ -105,23 +106,26 @@ put_value-returns-in_ok-put_start-in-Some-clause-value t c =
     put_number c.args.depth c.args.reader.now c.next.new.self c.args.out.now.items c.put_start-in-Some.new.out.items c.in-Number.text.now c.args.faults.now c.note_depth.new.faults c.in-Some.number c.note_depth.ensures (first ∙ ap (λ k. token_of k ∷ c.next.new.self) c.in-Number.is) c.in-Some.ensures
     (c.in_ok-put_start-in-Some.ensures.0 ∙ ap (λ i. c.args.out.now.items ++ spelling (tree.integer i)) is)
 
-pub put_value-returns-in_ok-put_not_whole-in-None-clause-value : goal.put_value-returns-in_ok-put_not_whole-in-None-clause-value
-put_value-returns-in_ok-put_not_whole-in-None-clause-value t c =
+pub put_value-returns-in-None-clause-value : goal.put_value-returns-in-None-clause-value
+put_value-returns-in-None-clause-value t c =
     let first : c.args.reader.now ≡ token_of c.in_ok-token.token ∷ c.next.new.self = grind arith in
-    let put = c.in_ok-put_not_whole-in-None.ensures in
-    put_other_number c.args.depth c.args.reader.now c.next.new.self c.args.out.now.items c.put_not_whole.new.out.items c.in-Number.text.now c.args.faults.now c.note_depth.new.faults c.put_not_whole.new.faults c.note_depth.ensures (first ∙ ap (λ k. token_of k ∷ c.next.new.self) c.in-Number.is) put.number put.bytes put.faults
+    let put = c.put_not_whole.ensures in
+    on_ok₃ c.put_not_whole.result put.number put.bytes put.faults
+    (put_other_number c.args.depth c.args.reader.now c.next.new.self c.args.out.now.items c.put_not_whole.new.out.items c.in-Number.text.now c.args.faults.now c.note_depth.new.faults c.put_not_whole.new.faults c.note_depth.ensures (first ∙ ap (λ k. token_of k ∷ c.next.new.self) c.in-Number.is))
 
 pub put_value-returns-in_ok-put_start-in-String-clause-value : goal.put_value-returns-in_ok-put_start-in-String-clause-value
 put_value-returns-in_ok-put_start-in-String-clause-value t c =
     let first : c.args.reader.now ≡ token_of c.in_ok-token.token ∷ c.next.new.self = grind arith in
     put_string c.args.depth c.args.reader.now c.next.new.self c.args.out.now.items c.put_start-in-String.new.out.items c.args.faults.now c.note_depth.new.faults c.in-String.text.now c.note_depth.ensures (first ∙ ap (λ k. token_of k ∷ c.next.new.self) c.in-String.is) c.known.ensures.utf8 (c.in_ok-put_start-in-String.ensures.0 ∙ ap (λ (s : List ℕ). c.args.out.now.items ++ spelling (tree.text s)) c.known.ensures.same)
 
-pub put_value-returns-in_ok-put_items-in-BeginArray-clause-value : goal.put_value-returns-in_ok-put_items-in-BeginArray-clause-value
-put_value-returns-in_ok-put_items-in-BeginArray-clause-value t c =
+pub put_value-returns-in-BeginArray-clause-value : goal.put_value-returns-in-BeginArray-clause-value
+put_value-returns-in-BeginArray-clause-value t c =
     let first : c.args.reader.now ≡ token_of c.in_ok-token.token ∷ c.next.new.self = grind arith in
-    put_list c.args.depth c.args.reader.now c.next.new.self c.put_items.new.reader c.args.out.now.items c.put_items.new.out.items c.args.faults.now c.note_depth.new.faults c.put_items.new.faults (omega arith) c.note_depth.ensures (first ∙ ap (λ k. token_of k ∷ c.next.new.self) c.in-BeginArray.is) c.in_ok-put_items-in-BeginArray.ensures.value
+    on_ok c.put_items.result c.put_items.ensures.value
+    (put_list c.args.depth c.args.reader.now c.next.new.self c.put_items.new.reader c.args.out.now.items c.put_items.new.out.items c.args.faults.now c.note_depth.new.faults c.put_items.new.faults (omega arith) c.note_depth.ensures (first ∙ ap (λ k. token_of k ∷ c.next.new.self) c.in-BeginArray.is))
 
-pub put_value-returns-in_ok-put_fields-in-BeginObject-clause-value : goal.put_value-returns-in_ok-put_fields-in-BeginObject-clause-value
-put_value-returns-in_ok-put_fields-in-BeginObject-clause-value t c =
+pub put_value-returns-in-BeginObject-clause-value : goal.put_value-returns-in-BeginObject-clause-value
+put_value-returns-in-BeginObject-clause-value t c =
     let first : c.args.reader.now ≡ token_of c.in_ok-token.token ∷ c.next.new.self = grind arith in
-    put_map c.args.depth c.args.reader.now c.next.new.self c.put_fields.new.reader c.args.out.now.items c.put_fields.new.out.items c.args.faults.now c.note_depth.new.faults c.put_fields.new.faults (omega arith) c.note_depth.ensures (first ∙ ap (λ k. token_of k ∷ c.next.new.self) c.in-BeginObject.is) c.in_ok-put_fields-in-BeginObject.ensures.value
+    on_ok c.put_fields.result c.put_fields.ensures.value
+    (put_map c.args.depth c.args.reader.now c.next.new.self c.put_fields.new.reader c.args.out.now.items c.put_fields.new.out.items c.args.faults.now c.note_depth.new.faults c.put_fields.new.faults (omega arith) c.note_depth.ensures (first ∙ ap (λ k. token_of k ∷ c.next.new.self) c.in-BeginObject.is))

@@ -8,6 +8,7 @@ use Rattle.line_parser.specs.Fields.{Came, HoldsFields, PutsSorted, Ascend, byte
 use Rattle.line_parser.specs.declared.fields.Fields.{Fields}
 use Rattle.line_parser.specs.declared.fields.Known.{Known}
 use Rattle.line_parser.proofs.Places.{sorted_places, sorted_within}
+use Rattle.line_parser.proofs.Results.{on_ok₂}
 use Rattle.line_parser.proofs.fields.Fields.put_sorted.Goals as goal
 
 -- what the table shows once its slice was sorted, if all is in place
@@ -42,10 +43,10 @@ put_in_order-requires c =
     sorted_within came front c.args.bytes.now start (map place_kept c.as_slice.result.now) b (sorted_places came c.args.self.now c.as_slice.result.now h moved)
 
 pub returns-then-is_empty : goal.returns-then-is_empty
-returns-then-is_empty c came h none_yet =
+returns-then-is_empty c = on_ok₂ c.put_in_order.result c.put_in_order.ensures.ascend c.put_in_order.ensures.bytes λ up bytes came h none_yet.
     let none : length c.args.self.now.more.items ≡ 0 = grind (arith, nat_tests) in
     let moved = few_sorted c.args.self.now.few c.args.self.now.more.items c.deref_mut.result.now c.sort_unstable.new.self c.as_slice.result.now c.deref_mut.ensures.value c.sort_unstable.ensures.permutation c.sort_unstable.ensures.len c.as_slice.ensures.value (none_there _ none) in
-    puts_sorted came c.args.self.now c.args.bytes.now c.put_in_order.new.sorted.items c.as_slice.result.now h moved c.in_ok-put_in_order.ensures.ascend (c.in_ok-put_in_order.ensures.bytes ∙ ap (λ l. l ++ bytes_at c.args.bytes.now (map place_kept c.as_slice.result.now)) none_yet)
+    puts_sorted came c.args.self.now c.args.bytes.now c.put_in_order.new.sorted.items c.as_slice.result.now h moved up (bytes ∙ ap (λ l. l ++ bytes_at c.args.bytes.now (map place_kept c.as_slice.result.now)) none_yet)
 
 pub put_in_order-requires-2 : goal.put_in_order-requires-2
 put_in_order-requires-2 c =
@@ -55,7 +56,7 @@ put_in_order-requires-2 c =
     sorted_within came front c.args.bytes.now start (map place_kept c.as_slice-3.result.now) b (sorted_places came c.args.self.now c.as_slice-3.result.now h moved)
 
 pub returns : goal.returns
-returns c came h none_yet =
+returns c = on_ok₂ c.put_in_order-2.result c.put_in_order-2.ensures.ascend c.put_in_order-2.ensures.bytes λ up bytes came h none_yet.
     let whole = c.in_ok-extend_from_slice.ensures.items ∙ ap (λ l. c.args.self.now.more.items ++ l) c.as_slice-2.ensures.value in
     let moved = all_sorted c.args.self.now.few.items c.args.self.now.more.items c.extend_from_slice.new.self.items c.sort_unstable-2.new.self.items c.as_slice-3.result.now whole c.sort_unstable-2.ensures.permutation c.as_slice-3.ensures.value in
-    puts_sorted came c.args.self.now c.args.bytes.now c.put_in_order-2.new.sorted.items c.as_slice-3.result.now h moved c.in_ok-put_in_order-2.ensures.ascend (c.in_ok-put_in_order-2.ensures.bytes ∙ ap (λ l. l ++ bytes_at c.args.bytes.now (map place_kept c.as_slice-3.result.now)) none_yet)
+    puts_sorted came c.args.self.now c.args.bytes.now c.put_in_order-2.new.sorted.items c.as_slice-3.result.now h moved up (bytes ∙ ap (λ l. l ++ bytes_at c.args.bytes.now (map place_kept c.as_slice-3.result.now)) none_yet)
