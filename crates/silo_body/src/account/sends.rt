@@ -62,17 +62,20 @@ impl Account {
     {
         let number = self.next;
         let Some(next) = number.checked_add(1) else {
+            drop(sent);
             return Err(AllocError);
         };
         index::add_last(alloc, &mut self.index, &sent.source, number)?;
         match self.sends.insert(number, sent) {
-            Ok(_) => {
+            Ok(replaced) => {
+                drop(replaced);
                 self.next = next;
                 Ok(())
             }
             Err(refused) => {
                 let (_, sent) = refused.value;
                 let _ = index::take_last(&mut self.index, &sent.source);
+                drop(sent);
                 Err(AllocError)
             }
         }

@@ -39,14 +39,15 @@ impl<S: GrainStorage, L: GrainLogic> Body<S, L> {
         ensures { Moves L.logic self.old (step.Status caller.now id) result self.new }
     {
         let asker = Party::Client(caller.clone()?, id);
-        let Some(account) = self.accounts.get(caller.tenant()) else {
-            self.tell(asker, Err(Fault::UnknownTenant(caller.to_tenant(alloc)?)))?;
-            return Ok(Answer::Done);
+        let outcome = match self.accounts.get(caller.tenant()) {
+            Some(account) => {
+                let requests = account.count();
+                let active = self.activations.count(caller.tenant());
+                Ok(status_value(alloc, active, self.clock.get(), requests)?)
+            }
+            None => Err(Fault::UnknownTenant(caller.to_tenant(alloc)?)),
         };
-        let requests = account.count();
-        let active = self.activations.count(caller.tenant());
-        let status = status_value(alloc, active, self.clock.get(), requests)?;
-        self.tell(asker, Ok(status))?;
+        self.tell(asker, outcome)?;
         Ok(Answer::Done)
     }
 

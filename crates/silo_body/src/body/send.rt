@@ -30,13 +30,15 @@ impl<S: GrainStorage, L: GrainLogic> Body<S, L> {
         let target = sent.target.clone()?;
         let message = sent.message.clone()?;
         let sender = Party::Grain(grain.clone()?);
-        match self.refusal(alloc, &sender, &target)? {
+        let asked = match self.refusal(alloc, &sender, &target)? {
             Some(why) => {
                 drop(message);
-                self.tell(sender, Err(why))?
+                self.tell(sender, Err(why))
             }
-            None => self.accept(alloc, sender, &target, message)?,
-        }
+            None => self.accept(alloc, sender, &target, message),
+        };
+        drop(target);
+        asked?;
         self.accounts.take_first(grain);
         Ok(Answer::Done)
     }

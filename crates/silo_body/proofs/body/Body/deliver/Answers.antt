@@ -1,13 +1,16 @@
 use Rattle.std.proofs.Common.{◌≡◌, refl, ap, sym, ◌∙◌, subst}
+use Rattle.std.specs.Prelude.{Err, OnOk}
 use Rattle.std.specs.Option.{option_copied}
 use Rattle.std.specs.FinMap as map
+use Rattle.silo_event.specs.declared.reply.Party.TheVariants as party
 use Rattle.silo_model.proofs.SendSteps.{deliver_unknown, deliver_nothing}
 use Rattle.silo_body.specs.Held.{Held}
+use Rattle.silo_body.specs.Requests.{with_told, with_accepted}
 use Rattle.silo_body.specs.Sends.{send_of}
 use Rattle.silo_body.specs.Verdicts.{verdict, Settles}
 use Rattle.silo_body.proofs.Calls.{deliver_told, deliver_taken, without_sent}
 use Rattle.silo_body.proofs.body.Body.deliver.Goals as goal
-use Rattle.silo_body.proofs.body.Body.deliver.Goals.{in-Some-2+in_ok-tell-in-Some-2, in-None+in_ok-accept-in-None}
+use Rattle.silo_body.proofs.body.Body.deliver.Goals.{in-Some-2, in-None}
 
 pub returns-in_default : goal.returns-in_default
 returns-in_default g c = (
@@ -42,12 +45,12 @@ returns g c =
       failures = g.S.GrainStorage.failed b.storage;
     }) ∙ ap (λ (x : Held). without_sent x grain) c.self-2.view_is in
     elim c.match-branch-5.branch [
-      | in-Some-2+in_ok-tell-in-Some-2 w ↦
+      | in-Some-2 w ↦
           deliver_told logic h c.match-branch-5.self new grain c.in-Some.account.now known (send_of c.in-Some-first_from.sent.now) c.in-Some-first_from.ensures left
           c.in_ok-clone.field-0 c.in_ok-clone.ensures.cases target c.in_ok-target.ensures.cases w.in-Some-2.why
-          (subst (Settles (verdict logic h.whole c.in_ok-clone.field-0.tenant target)) w.in-Some-2.is c.in_ok-why.ensures) (w.self-is ∙ w.in_ok-tell-in-Some-2.ensures.told)
-      | in-None+in_ok-accept-in-None w ↦
+          (subst (Settles (verdict logic h.whole c.in_ok-clone.field-0.tenant target)) w.in-Some-2.is c.in_ok-why.ensures) (w.self-is ∙ subst (λ asked. OnOk asked (w.tell-asked.new.self ≡ with_told h (party.Grain c.in_ok-clone.field-0) (Err w.in-Some-2.why))) (sym w.asked-is ∙ c.in_ok-asked.was) w.tell-asked.ensures.told)
+      | in-None w ↦
           deliver_taken logic h c.match-branch-5.self new grain c.in-Some.account.now known (send_of c.in-Some-first_from.sent.now) c.in-Some-first_from.ensures left
           c.in_ok-clone.field-0 c.in_ok-clone.ensures.cases target c.in_ok-target.ensures.cases c.in_ok-message.message c.in_ok-message.ensures.cases
-          (subst (Settles (verdict logic h.whole c.in_ok-clone.field-0.tenant target)) w.in-None.is c.in_ok-why.ensures) (w.self-is ∙ w.in_ok-accept-in-None.ensures.accepted)
+          (subst (Settles (verdict logic h.whole c.in_ok-clone.field-0.tenant target)) w.in-None.is c.in_ok-why.ensures) (w.self-is ∙ subst (λ asked. OnOk asked (w.accept-asked.new.self ≡ with_accepted h (party.Grain c.in_ok-clone.field-0) target c.in_ok-message.message (map.get h.whole.accounts c.in_ok-clone.field-0.tenant))) (sym w.asked-is ∙ c.in_ok-asked.was) w.accept-asked.ensures.accepted)
     ]
