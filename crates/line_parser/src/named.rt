@@ -50,8 +50,7 @@ pub(crate) fn caller_of(
     let Some(text) = slots.from else {
         return Ok(None);
     };
-    let caller = read_caller(alloc, names, text)?;
-    Ok(caller)
+    read_caller(alloc, names, text)
 }
 
 /// The grain that is named.
@@ -65,8 +64,7 @@ pub(crate) fn grain_of(
     let Some(text) = slots.grain else {
         return Ok(None);
     };
-    let grain = read_grain(alloc, names, text)?;
-    Ok(grain)
+    read_grain(alloc, names, text)
 }
 
 /// Whether the storage call is to fail: `false` where it is left out, which leaves `count` members.

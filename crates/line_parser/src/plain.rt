@@ -154,8 +154,7 @@ fn plain_null<'t>(rest: &'t str) -> Option<&'t str>
     ensures { IfSome result (λ after. tokens rest.now ≡ null ∷ tokens after.now) }
 {
     let after = cut_null(rest)?;
-    let next = pass_value(after)?;
-    Some(next)
+    pass_value(after)
 }
 
 /// The name that is the first token, and what follows its colon.
@@ -242,8 +241,7 @@ pub(crate) fn map_end<'t>(rest: &'t str) -> Option<&'t str>
     if byte_at(rest, 0) != b'}' {
         return None;
     }
-    let after = pass_value(past(rest, 0))?;
-    Some(after)
+    pass_value(past(rest, 0))
 }
 
 /// What follows the list that ends here.
@@ -254,8 +252,7 @@ pub(crate) fn list_end<'t>(rest: &'t str) -> Option<&'t str>
     if byte_at(rest, 0) != b']' {
         return None;
     }
-    let after = pass_value(past(rest, 0))?;
-    Some(after)
+    pass_value(past(rest, 0))
 }
 
 /// Whether an item stands here, and no list ends.

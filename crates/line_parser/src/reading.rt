@@ -46,7 +46,9 @@ fn read_request(
     let Some(value) = read_json(alloc, line)? else {
         return Ok(None);
     };
-    read_step(alloc, names, &value)
+    let step = read_step(alloc, names, &value);
+    drop(value);
+    step
 }
 
 /// What a line says, by the step that it asks for.

@@ -241,6 +241,5 @@ pub(crate) fn read_slots<'a>(
             Next::Other | Next::Broken => return Ok(false),
         }
     }
-    let over = reader.ends()?;
-    Ok(over)
+    reader.ends()
 }

@@ -140,8 +140,7 @@ fn grain_from(
     if slots.count != 2 {
         return Ok(None);
     }
-    let grain = grain_of(alloc, names, slots)?;
-    Ok(grain)
+    grain_of(alloc, names, slots)
 }
 
 /// The load of a grain, if the members are those of a load.
@@ -280,6 +279,5 @@ pub(crate) fn step_from(
     let Some(form) = form_of(op) else {
         return Ok(None);
     };
-    let step = read_form(alloc, names, out, slots, bytes, form)?;
-    Ok(step)
+    read_form(alloc, names, out, slots, bytes, form)
 }

@@ -4,6 +4,7 @@ use Rattle.line_parser.specs.Slots.{name_text}
 use Rattle.line_parser.proofs.ItemsRead.{members_start, members_next, members_stop}
 use Rattle.line_parser.proofs.NoRequest.{members_broken, other_member, text_behind}
 use Rattle.line_parser.proofs.NoObject.{asked_by-no_object}
+use Rattle.line_parser.proofs.Results.{if_ok_as}
 use Rattle.line_parser.proofs.slots.read_slots.Goals as goal
 
 pub returns-then-not-begins : goal.returns-then-not-begins
@@ -42,6 +43,6 @@ returns c =
     let l = c.members in
     let begun = c.take_begin_map.new.self in
     let next = rw c.in-End.is at c.in_ok-name.ensures in
-    match_bool-map c.in_ok-over.over c.in_ok-over.ensures
+    if_ok_as c.ends.result c.ends.ensures λ over ends. match_bool-map over ends
     (λ last. members_stop begun l.reader l.slots l.bytes.items c.args.reader.now l.invariant.first l.invariant.so_far (next ∙ ap (λ ts. Some (None, ts)) last))
     (text_behind begun l.reader l.slots l.bytes.items c.args.reader.now l.invariant.first l.invariant.so_far _ next)

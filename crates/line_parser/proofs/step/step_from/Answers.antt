@@ -3,6 +3,7 @@ use Rattle.serde_json.specs.Data.{object}
 use Rattle.line_parser.specs.Form.{step_of_json}
 use Rattle.line_parser.specs.declared.slots.Name.TheVariants.{Op}
 use Rattle.line_parser.proofs.Steps.{text_in}
+use Rattle.line_parser.proofs.Results.{if_ok_as}
 use Rattle.line_parser.proofs.step.step_from.Goals as goal
 
 pub returns-in_default : goal.returns-in_default
@@ -15,4 +16,4 @@ returns-in_default-form_of c found h = rw (text_in _ _ (λ t. t.now) (codes "op"
 
 pub returns : goal.returns
 unfolding step_of_json
-returns c found h = rw (text_in _ _ (λ t. t.now) (codes "op") found (h.each Op) c.in-Some.is) (c.in-Some-form_of.ensures (object found) ∙ c.in_ok-step.ensures found h)
+returns c = if_ok_as c.read_form.result c.read_form.ensures λ step finds found h. rw (text_in _ _ (λ t. t.now) (codes "op") found (h.each Op) c.in-Some.is) (c.in-Some-form_of.ensures (object found) ∙ finds found h)
