@@ -47,7 +47,7 @@ fn messages_and_states_are_read(rt: HostRuntime) -> Result<(), Fail> {
 /// Bytes of a message, its method and its argument.
 type Call = (&'static [u8], &'static str, &'static str);
 
-const CALLS: [Call; 3] = [
+static CALLS: [Call; 3] = [
     (ADD, "add", "{\"by\":3}"),
     (
         b"\x01\0\0\0\x01a\x06\0\0\0\x02\0\0\0\x01a\0\0\0\0\x01b\0",
@@ -104,7 +104,7 @@ fn calls_are_read_and_written(rt: HostRuntime) -> Result<(), Fail> {
 }
 
 /// The states of JSON.
-const VALUES: [(&str, &[u8]); 2] = [("true", b"\x02"), (EACH_FORM_JSON, EACH_FORM)];
+static VALUES: [(&str, &[u8]); 2] = [("true", b"\x02"), (EACH_FORM_JSON, EACH_FORM)];
 
 fn shared(state: StateBytes, alloc: Global) -> Result<SharedState, Fail> {
     Ok(SharedState::new(alloc, state)?.clone()?)
@@ -133,13 +133,13 @@ fn states_are_read_and_written(rt: HostRuntime) -> Result<(), Fail> {
 }
 
 /// A number, and the bytes of its text as a state.
-const DECIMALS: [(u64, &[u8]); 2] = [
+static DECIMALS: [(u64, &[u8]); 2] = [
     (1024, b"\x04\0\0\0\x041024"),
     (u64::MAX, b"\x04\0\0\0\x1418446744073709551615"),
 ];
 
 /// A number, and its bytes as a state.
-const INTEGERS: [(i64, &[u8]); 2] = [
+static INTEGERS: [(i64, &[u8]); 2] = [
     (-2, b"\x03\xff\xff\xff\xff\xff\xff\xff\xfe"),
     (i64::MIN, b"\x03\x80\0\0\0\0\0\0\0"),
 ];
@@ -166,7 +166,7 @@ fn numbers_are_states(rt: HostRuntime) -> Result<(), Fail> {
 const NOT_WHOLE: Option<CodecFault> = Some(CodecFault::NotWhole);
 
 /// JSON, and its fault.
-const JSON_FAULTS: [(&str, Option<CodecFault>); 11] = [
+static JSON_FAULTS: [(&str, Option<CodecFault>); 11] = [
     ("1.5", NOT_WHOLE),
     ("-0", NOT_WHOLE),
     ("9223372036854775808", NOT_WHOLE),

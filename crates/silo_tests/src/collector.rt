@@ -53,7 +53,7 @@ fn run(alloc: Global, age: u64, calls: &[Call]) -> Result<(), Fail> {
 }
 
 /// A later note takes the place of an earlier one.
-const A_LATER_NOTE: [Call; 7] = [
+static A_LATER_NOTE: [Call; 7] = [
     Call::Note("counter/red:a", 5),
     Call::Note("counter/red:b", 3),
     Call::Note("counter/red:a", 9),
@@ -64,7 +64,7 @@ const A_LATER_NOTE: [Call; 7] = [
 ];
 
 /// Due grains ascend, whatever their moments.
-const IN_ORDER: [Call; 6] = [
+static IN_ORDER: [Call; 6] = [
     Call::Note("counter/red:c", 1),
     Call::Note("counter/blue:z", 3),
     Call::Note("counter/red:a", 2),
@@ -74,7 +74,7 @@ const IN_ORDER: [Call; 6] = [
 ];
 
 /// Notes of one moment stay apart.
-const ONE_MOMENT: [Call; 11] = [
+static ONE_MOMENT: [Call; 11] = [
     Call::Note("counter/red:b", 7),
     Call::Note("counter/red:a", 7),
     Call::Note("counter/red:b", 7),

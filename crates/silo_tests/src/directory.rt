@@ -118,7 +118,7 @@ fn run(alloc: Global, calls: &[(Call, u64)]) -> Result<(), Fail> {
 }
 
 /// Each tenant has its own number.
-const EACH_TENANT: [(Call, u64); 10] = [
+static EACH_TENANT: [(Call, u64); 10] = [
     (Call::Insert("counter/red:a", 1), 1),
     (Call::Insert("counter/blue:a", 2), 1),
     (Call::Insert("counter/red:b", 3), 1),
@@ -132,7 +132,7 @@ const EACH_TENANT: [(Call, u64); 10] = [
 ];
 
 /// An activation is changed where it stands.
-const WHERE_IT_STANDS: [(Call, u64); 6] = [
+static WHERE_IT_STANDS: [(Call, u64); 6] = [
     (Call::Insert("counter/red:a", 1), 1),
     (Call::Insert("counter/blue:a", 2), 1),
     (Call::Change("counter/blue:a", 9), 1),
@@ -142,7 +142,7 @@ const WHERE_IT_STANDS: [(Call, u64); 6] = [
 ];
 
 /// Places are used again.
-const PLACES: [(Call, u64); 10] = [
+static PLACES: [(Call, u64); 10] = [
     (Call::Insert("counter/red:a", 1), 1),
     (Call::Insert("counter/blue:a", 2), 1),
     (Call::Insert("counter/red:b", 3), 1),

@@ -14,7 +14,7 @@ use std::test::Fail;
 const RED_A: &str = "counter/red:a";
 
 /// Codes, and what the fault of each says.
-const FAULTS: [(u8, &str); 19] = [
+static FAULTS: [(u8, &str); 19] = [
     (10, "line is not a request"),
     (11, "line is too long"),
     (12, "arguments are too deep"),
@@ -91,7 +91,7 @@ fn faults(rt: HostRuntime) -> Result<(), Fail> {
 }
 
 /// Numbers, and whether they are moments.
-const MOMENTS: [(u64, bool); 3] = [
+static MOMENTS: [(u64, bool); 3] = [
     (0, true),
     (9_223_372_036_854_775_807, true),
     (9_223_372_036_854_775_808, false),
@@ -105,7 +105,7 @@ fn moment(now: u64) -> Option<u64> {
     }
 }
 
-const REFUSALS: [(Refusal, u8); 5] = [
+static REFUSALS: [(Refusal, u8); 5] = [
     (Refusal::TooLong, 11),
     (Refusal::TooDeep, 12),
     (Refusal::NotWhole, 13),
@@ -143,7 +143,7 @@ enum Form {
     Sweep,
 }
 
-const OWNERS: [(Form, &str); 9] = [
+static OWNERS: [(Form, &str); 9] = [
     (Form::Call, "reddish"),
     (Form::Activate, "red"),
     (Form::Load, "red"),

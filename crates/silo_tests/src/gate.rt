@@ -91,7 +91,7 @@ const REPEATED: [(&str, Limits); 6] = [
 ];
 
 /// How many numbered tenants, those behind them, and why the list is refused.
-const REFUSED: [(u32, &[(&str, Limits)], (&str, &str)); 4] = [
+static REFUSED: [(u32, &[(&str, Limits)], (&str, &str)); 4] = [
     (0, &[], ("empty", "")),
     (1_000, &[("t0", LIMITS)], ("too many", "")),
     (0, &OUT_OF_RANGE, ("range", "blue")),
@@ -163,7 +163,7 @@ type Call = (
     (&'static str, &'static str, &'static str),
 );
 
-const CALLS: [Call; 5] = [
+static CALLS: [Call; 5] = [
     ("red", "counter/red:a", PASSES),
     ("reddish", "counter/reddish:a", PASSES),
     ("reddish", "counter/red:a", ("across", "reddish", "red")),
@@ -187,10 +187,10 @@ fn names_that_begin_alike_are_told_apart(rt: HostRuntime) -> Result<(), Fail> {
 }
 
 /// Limits, and whether they are in range.
-const RANGES: [(Limits, bool); 3] = [(LIMITS, true), (TOO_LOW, false), (TOO_HIGH, false)];
+static RANGES: [(Limits, bool); 3] = [(LIMITS, true), (TOO_LOW, false), (TOO_HIGH, false)];
 
 /// Milliseconds, and those of the age that they make.
-const AGES: [(u64, Option<u64>); 4] = [
+static AGES: [(u64, Option<u64>); 4] = [
     (0, None),
     (1, Some(1)),
     (86_400_000, Some(86_400_000)),

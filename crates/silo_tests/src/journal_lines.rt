@@ -17,7 +17,7 @@ const TENANT: Place = ("silo-journal 1\nage 1\n", 2);
 /// Among the steps, the replies or the rows.
 const BODY: Place = ("silo-journal 1\nage 1\ntenant red 1 1\n", 3);
 
-const LINES: [(Place, &str); 30] = [
+static LINES: [(Place, &str); 30] = [
     (HEAD, "silo-journal 1"),
     (AGE, "age 900000"),
     (AGE, "age 1"),
@@ -56,7 +56,7 @@ const LINES: [(Place, &str); 30] = [
     (BODY, "tick 9223372036854775807"),
 ];
 
-const REFUSED: [(Place, &str); 30] = [
+static REFUSED: [(Place, &str); 30] = [
     (HEAD, ""),
     (HEAD, "silo-journal 2"),
     (HEAD, "silo-journal"),

@@ -138,7 +138,7 @@ fn a_cut_is_at_the_first_line_that_is_not_whole(rt: HostRuntime) -> Result<(), F
 }
 
 /// A part of the worked journal, what stands in its place, and the line at fault.
-const CHANGES: [(&str, &str, usize); 17] = [
+static CHANGES: [(&str, &str, usize); 17] = [
     ("tenant red 2 4", "tenant red 02 4", 3),
     ("030000000000000003\na", "03000000000000000A\na", 4),
     (

@@ -21,7 +21,7 @@ type Row = (
     &'static str,
 );
 
-const ROWS: [Row; 24] = [
+static ROWS: [Row; 24] = [
     ("counter/red:a", "2", "add", "{\"by\":3}", Ok("5"), "5"),
     ("counter/red:a", "null", "add", "{\"by\":3}", Ok("3"), "3"),
     ("counter/red:a", "2", "get", "null", Ok("2"), "2"),
@@ -281,7 +281,7 @@ type Asked = (
     &'static str,
 );
 
-const ASKED: [Asked; 5] = [
+static ASKED: [Asked; 5] = [
     ("counter/red:a", "2", "save", "null", StoreCall::Write, ""),
     ("sheet/red:a", "2", "reload", "null", StoreCall::Read, ""),
     ("relay/red:a", "2", "clear", "null", StoreCall::Clear, ""),
@@ -332,7 +332,7 @@ fn methods_ask_the_storage_and_send(rt: HostRuntime) -> Result<(), Fail> {
 
 /// Sheets of the field `a` with a text; the fault of a `put` that makes them 8 bytes longer, and how long the state is
 /// that it leaves.
-const WIDE: [(Parts, Option<MethodFault>, usize); 2] = [
+static WIDE: [(Parts, Option<MethodFault>, usize); 2] = [
     (
         &[
             (b"\x06\0\0\0\x01\0\0\0\x01a\x04\0\x03\xff\xe9", 1),
@@ -408,7 +408,7 @@ fn begins_as<L: GrainLogic>(
 }
 
 /// A kind, a method, whether the kind is known, and whether the method only reads.
-const READING: [(&str, &str, bool, bool); 6] = [
+static READING: [(&str, &str, bool, bool); 6] = [
     ("counter", "get", true, true),
     ("sheet", "get", true, true),
     ("sheet", "list", true, true),

@@ -115,7 +115,7 @@ fn run(alloc: Global, calls: &[(Call, u64)]) -> Result<(), Fail> {
 }
 
 /// Readers are open together, and no writer beside them.
-const READERS_AND_A_WRITER: [(Call, u64); 10] = [
+static READERS_AND_A_WRITER: [(Call, u64); 10] = [
     (Call::PushReader(1), 0),
     (Call::PushReader(2), 0),
     (Call::PushWriter(3), 0),
@@ -129,7 +129,7 @@ const READERS_AND_A_WRITER: [(Call, u64); 10] = [
 ];
 
 /// A writer is open alone, and ends once.
-const A_WRITER_ALONE: [(Call, u64); 10] = [
+static A_WRITER_ALONE: [(Call, u64); 10] = [
     (Call::IsIdle, 1),
     (Call::PushWriter(3), 0),
     (Call::PushReader(4), 0),
@@ -143,7 +143,7 @@ const A_WRITER_ALONE: [(Call, u64); 10] = [
 ];
 
 /// A full mailbox gives the request back.
-const A_FULL_MAILBOX: [(Call, u64); 11] = [
+static A_FULL_MAILBOX: [(Call, u64); 11] = [
     (Call::PushWriter(1), 0),
     (Call::PushReader(2), 0),
     (Call::PushWriter(3), 0),
@@ -158,7 +158,7 @@ const A_FULL_MAILBOX: [(Call, u64); 11] = [
 ];
 
 /// Requests are known by their client.
-const CLIENTS: [(Call, u64); 9] = [
+static CLIENTS: [(Call, u64); 9] = [
     (Call::PushWriter(1), 0),
     (Call::FrontIsFrom("red/c1"), 1),
     (Call::FrontIsFrom("red/c2"), 0),

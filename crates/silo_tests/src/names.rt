@@ -29,7 +29,7 @@ const OF_NAME: Option<IdFault> = Some(IdFault::Name);
 const OF_CLIENT: Option<IdFault> = Some(IdFault::Client);
 
 /// Parts of a text, and the fault of the whole.
-const FAULTS: [(Form, &[&str], Option<IdFault>); 44] = [
+static FAULTS: [(Form, &[&str], Option<IdFault>); 44] = [
     (Form::Grain, &["counter/red:a/b:c"], None),
     (Form::Grain, &[""], OF_KIND),
     (Form::Grain, &["counter"], OF_KIND),
@@ -143,7 +143,7 @@ fn parts_and_copies(rt: HostRuntime) -> Result<(), Fail> {
 }
 
 /// Grains, each with its place among them.
-const PLACES: [(&str, u8); 5] = [
+static PLACES: [(&str, u8); 5] = [
     ("counter/red2:a", 4),
     ("sheet/blue:a", 5),
     ("counter/red:b", 2),
@@ -196,7 +196,7 @@ fn compared_as(alloc: Global, form: Form, one: &str, other: &str) -> Result<(boo
 }
 
 /// Two texts of a form, and what comes of comparing them.
-const COMPARED: [(Form, &str, &str, (bool, bool)); 8] = [
+static COMPARED: [(Form, &str, &str, (bool, bool)); 8] = [
     (Form::Grain, "counter/red:b", "counter/red:b", (false, true)),
     (
         Form::Grain,

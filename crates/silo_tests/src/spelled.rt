@@ -31,7 +31,7 @@ pub const MANY_VALUES: &[u8] = b"\x01\0\0\0\x01a\x05\xff\xff\xff\xff";
 pub const MANY_FIELDS: &[u8] = b"\x06\xff\xff\xff\xff";
 
 /// Bytes, and whether they are a message.
-pub const MESSAGES: [(Parts, bool); 15] = [
+pub static MESSAGES: [(Parts, bool); 15] = [
     (&[(ADD, 1)], true),
     (&[(b"\x01\0\0\0\x03add", 1), (EACH_FORM, 1)], true),
     // A part of a message, and one byte more.
@@ -60,7 +60,7 @@ pub const MESSAGES: [(Parts, bool); 15] = [
 ];
 
 /// Bytes, and whether they are a state.
-pub const STATES: [(Parts, bool); 14] = [
+pub static STATES: [(Parts, bool); 14] = [
     (&[(EACH_FORM, 1)], true),
     (&[(b"\x02", 1)], true),
     // Many values, which an arena takes in several pieces.

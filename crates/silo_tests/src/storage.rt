@@ -108,7 +108,7 @@ fn answers_each<S: GrainStorage>(
 }
 
 /// Each write, clearing and poke gives the next version, if it expects the one that is there.
-const VERSIONS: [(Call, Answer); 11] = [
+static VERSIONS: [(Call, Answer); 11] = [
     (Call::Version, Ok(None)),
     (Call::Write(None, 3), Ok(Some(1))),
     (Call::Number, Ok(Some(3))),
@@ -123,7 +123,7 @@ const VERSIONS: [(Call, Answer); 11] = [
 ];
 
 /// Other grains, which are poked once.
-const OTHERS: [&str; 3] = ["sheet/red:s", "counter/red:b", "counter/blue:z"];
+static OTHERS: [&str; 3] = ["sheet/red:s", "counter/red:b", "counter/blue:z"];
 
 /// The texts of rows' grains, each with a space behind it.
 fn texts(alloc: Global, rows: &[(GrainId, Row)]) -> Result<String, Fail> {
@@ -169,7 +169,7 @@ fn with_last(alloc: Global, grain: &GrainId) -> Result<MemoryStorage, Fail> {
 }
 
 /// A row of the last version is neither written, cleared nor poked.
-const LAST_VERSION: [(Call, Answer); 6] = [
+static LAST_VERSION: [(Call, Answer); 6] = [
     (Call::Write(Some(LAST), 4), SPENT),
     (Call::Poke(5), SPENT),
     (Call::Clear(Some(LAST)), SPENT),
@@ -186,7 +186,7 @@ fn a_spent_row_stays(rt: HostRuntime) -> Result<(), Fail> {
 }
 
 /// Which call fails, and what each is answered.
-const FUSED: [(u64, &[(Call, Answer)]); 5] = [
+static FUSED: [(u64, &[(Call, Answer)]); 5] = [
     (
         1,
         &[
