@@ -34,8 +34,11 @@ fn state_fault(alloc: Global, bytes: &[u8]) -> Option<CodecFault> {
 fn messages_and_states_are_read(rt: HostRuntime) -> Result<(), Fail> {
     for (parts, is_read) in &MESSAGES {
         let bytes = joined(rt.alloc(), *parts)?;
-        same(decoding_fault(rt.alloc(), &bytes), wanted(*is_read))?;
-        same(keeping_fault(rt.alloc(), &bytes), wanted(*is_read))?;
+        let found = (
+            decoding_fault(rt.alloc(), &bytes),
+            keeping_fault(rt.alloc(), &bytes),
+        );
+        same(found, (wanted(*is_read), wanted(*is_read)))?;
     }
     for (parts, is_read) in &STATES {
         let bytes = joined(rt.alloc(), *parts)?;
@@ -63,7 +66,10 @@ static CALLS: [Call; 3] = [
 
 /// The value as JSON.
 fn json(alloc: Global, value: &Datum) -> Result<String, Fail> {
-    Ok(to_json(alloc, value)?.to_string(alloc)?)
+    let json = to_json(alloc, value)?;
+    let text = json.to_string(alloc);
+    drop(json);
+    Ok(text?)
 }
 
 /// The value is this JSON.
@@ -81,7 +87,10 @@ fn is_call(alloc: Global, call: &(String, Datum), row: &Call) -> Result<(), Fail
 fn is_kept(alloc: Global, message: &Message, row: &Call) -> Result<(), Fail> {
     same((message.bytes(), message.method()), (row.0, row.1))?;
     same_copy(message)?;
-    is_call(alloc, &decode_message(alloc, message)?, row)
+    let call = decode_message(alloc, message)?;
+    let found = is_call(alloc, &call, row);
+    drop(call);
+    found
 }
 
 fn decoded(alloc: Global, bytes: &[u8]) -> Result<(String, Datum), Fail> {
@@ -90,15 +99,27 @@ fn decoded(alloc: Global, bytes: &[u8]) -> Result<(String, Datum), Fail> {
 
 /// The message of a method and JSON, with no value made of it.
 fn direct(alloc: Global, row: &Call) -> Result<Message, Fail> {
-    Ok(encode_json(alloc, row.1, &parsed(alloc, row.2)?)?)
+    let json = parsed(alloc, row.2)?;
+    let message = encode_json(alloc, row.1, &json);
+    drop(json);
+    Ok(message?)
 }
 
 #[test]
 fn calls_are_read_and_written(rt: HostRuntime) -> Result<(), Fail> {
     for row in &CALLS {
-        is_call(rt.alloc(), &decoded(rt.alloc(), row.0)?, row)?;
-        is_kept(rt.alloc(), &message(rt.alloc(), row.1, row.2)?, row)?;
-        same(direct(rt.alloc(), row)?.bytes(), row.0)?;
+        let call = decoded(rt.alloc(), row.0)?;
+        let is_read = is_call(rt.alloc(), &call, row);
+        drop(call);
+        is_read?;
+        let kept = message(rt.alloc(), row.1, row.2)?;
+        let is_written = is_kept(rt.alloc(), &kept, row);
+        drop(kept);
+        is_written?;
+        let direct = direct(rt.alloc(), row)?;
+        let is_same = same(direct.bytes(), row.0);
+        drop(direct);
+        is_same?;
     }
     Ok(())
 }
@@ -114,7 +135,10 @@ fn shared(state: StateBytes, alloc: Global) -> Result<SharedState, Fail> {
 fn is_state(alloc: Global, state: &StateBytes, json: &str, bytes: &[u8]) -> Result<(), Fail> {
     same(state.bytes(), bytes)?;
     same_copy(state)?;
-    is_json(alloc, &decode_state(alloc, state)?, json)
+    let value = decode_state(alloc, state)?;
+    let found = is_json(alloc, &value, json);
+    drop(value);
+    found
 }
 
 /// A shared state is the state of these bytes.
@@ -126,7 +150,10 @@ fn is_shared(alloc: Global, bytes: &[u8]) -> Result<(), Fail> {
 #[test]
 fn states_are_read_and_written(rt: HostRuntime) -> Result<(), Fail> {
     for (json, bytes) in &VALUES {
-        is_state(rt.alloc(), &state(rt.alloc(), *json)?, *json, *bytes)?;
+        let state = state(rt.alloc(), *json)?;
+        let found = is_state(rt.alloc(), &state, *json, *bytes);
+        drop(state);
+        found?;
         is_shared(rt.alloc(), *bytes)?;
     }
     Ok(())
@@ -152,13 +179,20 @@ fn integer(number: i64) -> StateBytes {
     StateBytes::integer(number)
 }
 
+/// The state has these bytes.
+fn has_bytes(state: StateBytes, bytes: &[u8]) -> Result<(), Fail> {
+    let found = same(state.bytes(), bytes);
+    drop(state);
+    found
+}
+
 #[test]
 fn numbers_are_states(rt: HostRuntime) -> Result<(), Fail> {
     for (number, bytes) in &DECIMALS {
-        same(decimal(rt.alloc(), *number)?.bytes(), *bytes)?;
+        has_bytes(decimal(rt.alloc(), *number)?, *bytes)?;
     }
     for (number, bytes) in &INTEGERS {
-        same(integer(*number).bytes(), *bytes)?;
+        has_bytes(integer(*number), *bytes)?;
     }
     Ok(())
 }
@@ -203,7 +237,10 @@ fn has_fault(alloc: Global, json: &Value, wanted: Option<CodecFault>) -> Result<
 #[test]
 fn whole_numbers_of_32_levels_are_converted_alone(rt: HostRuntime) -> Result<(), Fail> {
     for (text, fault) in &JSON_FAULTS {
-        has_fault(rt.alloc(), &parsed(rt.alloc(), *text)?, *fault)?;
+        let json = parsed(rt.alloc(), *text)?;
+        let found = has_fault(rt.alloc(), &json, *fault);
+        drop(json);
+        found?;
     }
     Ok(())
 }

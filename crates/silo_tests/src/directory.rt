@@ -47,11 +47,16 @@ fn inserted(
     activation: Activation,
 ) -> Result<u64, Fail> {
     if directory.get(&id).is_some() {
+        drop(id);
+        drop(activation);
         return Ok(0);
     }
     match directory.insert(alloc, id, activation) {
         Ok(()) => Ok(1),
-        Err(_) => Err(Fail::from(AllocError)),
+        Err(back) => {
+            drop(back);
+            Err(Fail::from(AllocError))
+        }
     }
 }
 
@@ -68,7 +73,11 @@ fn changed(directory: &mut Directory, id: &GrainId, last: u64) -> u64 {
 
 fn removed(directory: &mut Directory, id: &GrainId) -> u64 {
     match directory.remove(id) {
-        Some(activation) => activation.last,
+        Some(activation) => {
+            let last = activation.last;
+            drop(activation);
+            last
+        }
         None => 0,
     }
 }
@@ -85,13 +94,25 @@ fn insert(alloc: Global, directory: &mut Directory, text: &str, last: u64) -> Re
     inserted(alloc, directory, id, activation(alloc, last)?)
 }
 
+/// What the directory answers to a call about the activation of a grain.
+fn answer_of(directory: &mut Directory, id: &GrainId, call: Call) -> u64 {
+    match call {
+        Call::Change(_, last) => changed(directory, id, last),
+        Call::Remove(_) => removed(directory, id),
+        _ => moment_of(directory.get(id)),
+    }
+}
+
 /// What the directory answers, as a number: a moment, a count, or 1 for yes.
 fn answer(alloc: Global, directory: &mut Directory, call: Call) -> Result<u64, Fail> {
     match call {
         Call::Insert(text, last) => insert(alloc, directory, text, last),
-        Call::Get(text) => Ok(moment_of(directory.get(&grain(alloc, text)?))),
-        Call::Change(text, last) => Ok(changed(directory, &grain(alloc, text)?, last)),
-        Call::Remove(text) => Ok(removed(directory, &grain(alloc, text)?)),
+        Call::Get(text) | Call::Change(text, _) | Call::Remove(text) => {
+            let id = grain(alloc, text)?;
+            let found = answer_of(directory, &id, call);
+            drop(id);
+            Ok(found)
+        }
         Call::Count(tenant) => Ok(directory.count(tenant) as u64),
         Call::Len => Ok(directory.len() as u64),
         Call::At(place) => Ok(at(directory, place)),

@@ -2,7 +2,7 @@
 
 use crate::compare::same;
 use crate::values::{caller, grain, kind, message, state, tenant};
-use grain_id::GrainId;
+use grain_id::{GrainId, Tenant};
 use request_codec::SharedState;
 use silo_event::{
     Fault, Moment, Party, Refusal, Reply, Step, copy_of_fault, copy_of_party, copy_of_reply,
@@ -36,20 +36,37 @@ static FAULTS: [(u8, &str); 19] = [
     (70, "turn met want of memory"),
 ];
 
+/// The fault of a code that names one tenant.
+fn fault_of_tenant(code: u8, tenant: Tenant) -> Fault {
+    match code {
+        21 => Fault::UnknownTenant(tenant),
+        41 => Fault::NoActivation(tenant),
+        _ => Fault::NoNumber(tenant),
+    }
+}
+
+/// The fault of a code that names a grain.
+fn fault_of_grain(code: u8, grain: GrainId) -> Fault {
+    match code {
+        42 => Fault::MailboxFull(grain),
+        54 => Fault::StateChanged(grain),
+        _ => Fault::VersionsSpent(grain),
+    }
+}
+
+fn across_tenants(alloc: Global) -> Result<Fault, Fail> {
+    let from = tenant(alloc, "red")?;
+    let to = tenant(alloc, "blue")?;
+    Ok(Fault::AcrossTenants { from, to })
+}
+
 /// The fault of a code that names a tenant, a kind or a grain; that of 70 for another code.
 fn named_fault(alloc: Global, code: u8) -> Result<Fault, Fail> {
     match code {
-        21 => Ok(Fault::UnknownTenant(tenant(alloc, "red")?)),
+        21 | 41 | 43 => Ok(fault_of_tenant(code, tenant(alloc, "red")?)),
         22 => Ok(Fault::UnknownKind(kind(alloc, "clock")?)),
-        40 => Ok(Fault::AcrossTenants {
-            from: tenant(alloc, "red")?,
-            to: tenant(alloc, "blue")?,
-        }),
-        41 => Ok(Fault::NoActivation(tenant(alloc, "red")?)),
-        42 => Ok(Fault::MailboxFull(grain(alloc, RED_A)?)),
-        43 => Ok(Fault::NoNumber(tenant(alloc, "red")?)),
-        54 => Ok(Fault::StateChanged(grain(alloc, RED_A)?)),
-        56 => Ok(Fault::VersionsSpent(grain(alloc, RED_A)?)),
+        40 => across_tenants(alloc),
+        42 | 54 | 56 => Ok(fault_of_grain(code, grain(alloc, RED_A)?)),
         _ => Ok(Fault::NoMemory),
     }
 }
@@ -75,17 +92,33 @@ fn copied_fault(fault: &Fault) -> Result<Fault, Fail> {
     Ok(copy_of_fault(fault)?)
 }
 
+/// A fault is the wanted one, with this code and this text.
+fn is_fault(
+    alloc: Global,
+    fault: &Fault,
+    wanted: &Fault,
+    code: u8,
+    text: &str,
+) -> Result<(), Fail> {
+    same((*fault == *wanted, fault.code()), (true, code))?;
+    same(fault.text(alloc)?.as_str(), text)
+}
+
 /// A copy of a fault is the same, with this code and this text.
 fn shows(alloc: Global, fault: &Fault, code: u8, text: &str) -> Result<(), Fail> {
     let copy = copied_fault(fault)?;
-    same((copy == *fault, copy.code()), (true, code))?;
-    same(copy.text(alloc)?.as_str(), text)
+    let shown = is_fault(alloc, &copy, fault, code, text);
+    drop(copy);
+    shown
 }
 
 #[test]
 fn faults(rt: HostRuntime) -> Result<(), Fail> {
     for (code, text) in &FAULTS {
-        shows(rt.alloc(), &fault(rt.alloc(), *code)?, *code, text)?;
+        let fault = fault(rt.alloc(), *code)?;
+        let shown = shows(rt.alloc(), &fault, *code, text);
+        drop(fault);
+        shown?;
     }
     Ok(())
 }
@@ -114,7 +147,10 @@ static REFUSALS: [(Refusal, u8); 5] = [
 ];
 
 fn code_of(refusal: &Refusal) -> u8 {
-    refusal.fault().code()
+    let fault = refusal.fault();
+    let code = fault.code();
+    drop(fault);
+    code
 }
 
 #[test]
@@ -207,27 +243,40 @@ fn copied_step(step: &Step) -> Result<Step, Fail> {
     Ok(copy_of_step(step)?)
 }
 
+/// The step is this owner's, and a failed load if that is its form.
+fn is_step(step: &Step, form: Form, owner: &str) -> Result<(), Fail> {
+    let has_failed = matches!(*step, Step::Load { failed: true, .. });
+    let found = (step.owner().unwrap_or("nobody"), has_failed);
+    same(found, (owner, matches!(form, Form::Load)))
+}
+
 /// A copy of the step is this owner's, and a failed load is one still.
 fn is_of(step: &Step, form: Form, owner: &str) -> Result<(), Fail> {
     let copy = copied_step(step)?;
-    let has_failed = matches!(copy, Step::Load { failed: true, .. });
-    same(copy.owner().unwrap_or("nobody"), owner)?;
-    same(has_failed, matches!(form, Form::Load))
+    let found = is_step(&copy, form, owner);
+    drop(copy);
+    found
 }
 
 #[test]
 fn owners_of_steps(rt: HostRuntime) -> Result<(), Fail> {
     for (form, owner) in &OWNERS {
-        is_of(&step(rt.alloc(), *form)?, *form, *owner)?;
+        let step = step(rt.alloc(), *form)?;
+        let found = is_of(&step, *form, *owner);
+        drop(step);
+        found?;
     }
     Ok(())
 }
 
 /// A value for a client of red.
 fn value(alloc: Global) -> Result<Reply, Fail> {
-    let outcome = Ok(state(alloc, "3")?);
+    let state = state(alloc, "3")?;
     let recipient = Party::Client(caller(alloc, "red/c1")?, 1);
-    Ok(Reply { recipient, outcome })
+    Ok(Reply {
+        recipient,
+        outcome: Ok(state),
+    })
 }
 
 /// A fault for a grain of blue.
@@ -245,20 +294,31 @@ fn copied_party(party: &Party) -> Result<Party, Fail> {
     Ok(copy_of_party(party)?)
 }
 
-/// A party is this one, and of this tenant.
+/// A copy of a party is the wanted one, and of this tenant.
 fn is_party(party: &Party, wanted: &Party, tenant: &str) -> Result<(), Fail> {
-    same((party.tenant(), *party == *wanted), (tenant, true))
+    let copy = copied_party(party)?;
+    let found = same((copy.tenant(), copy == *wanted), (tenant, true));
+    drop(copy);
+    found
 }
 
 /// A reply is this tenant's, and a copy of it is for the same.
 fn is_for(reply: &Reply, tenant: &str) -> Result<(), Fail> {
     same(reply.tenant(), tenant)?;
     let copy = copied_reply(reply)?;
-    is_party(&copied_party(&copy.recipient)?, &reply.recipient, tenant)
+    let found = is_party(&copy.recipient, &reply.recipient, tenant);
+    drop(copy);
+    found
 }
 
 #[test]
 fn replies(rt: HostRuntime) -> Result<(), Fail> {
-    is_for(&value(rt.alloc())?, "red")?;
-    is_for(&refusal(rt.alloc())?, "blue")
+    let told = value(rt.alloc())?;
+    let is_told = is_for(&told, "red");
+    drop(told);
+    is_told?;
+    let refused = refusal(rt.alloc())?;
+    let is_refused = is_for(&refused, "blue");
+    drop(refused);
+    is_refused
 }

@@ -74,7 +74,11 @@ fn table_fault(fault: &TableFault) -> (&str, &str) {
 fn is_refused(alloc: Global, list: List, wanted: (&str, &str)) -> Result<(), Fail> {
     match TenantTable::new(alloc, list) {
         Ok(_) => same(("made", ""), wanted),
-        Err(fault) => same(table_fault(&fault), wanted),
+        Err(fault) => {
+            let found = same(table_fault(&fault), wanted);
+            drop(fault);
+            found
+        }
     }
 }
 
@@ -173,16 +177,22 @@ static CALLS: [Call; 5] = [
 
 fn are_answered(alloc: Global, table: &TenantTable) -> Result<(), Fail> {
     for (caller, called, wanted) in &CALLS {
+        let called = grain(alloc, *called)?;
         let caller = tenant(alloc, *caller)?;
-        is_answered(alloc, table, &caller, &grain(alloc, *called)?, *wanted)?;
+        let answered = is_answered(alloc, table, &caller, &called, *wanted);
+        drop(caller);
+        drop(called);
+        answered?;
     }
     Ok(())
 }
 
+/// Tenants whose names begin alike.
+static ALIKE: [(&str, Limits); 2] = [("red", LIMITS), ("reddish", LIMITS)];
+
 #[test]
 fn names_that_begin_alike_are_told_apart(rt: HostRuntime) -> Result<(), Fail> {
-    let rows = [("red", LIMITS), ("reddish", LIMITS)];
-    let table = table(rt.alloc(), tenants(rt.alloc(), 0, &rows)?)?;
+    let table = table(rt.alloc(), tenants(rt.alloc(), 0, &ALIKE)?)?;
     are_answered(rt.alloc(), &table)
 }
 

@@ -110,13 +110,16 @@ fn line_verdict(alloc: Global, place: Place, line: &str) -> Result<usize, Fail> 
     Ok(found.saturating_sub(place.1))
 }
 
-#[test]
-fn lines_have_a_form_or_are_at_fault(rt: HostRuntime) -> Result<(), Fail> {
-    for (place, line) in &LINES {
-        same_at(*line, line_verdict(rt.alloc(), *place, *line)?, 2)?;
-    }
-    for (place, line) in &REFUSED {
-        same_at(*line, line_verdict(rt.alloc(), *place, *line)?, 1)?;
+/// Each line has this verdict.
+fn have_verdict(alloc: Global, lines: &[(Place, &str)], wanted: usize) -> Result<(), Fail> {
+    for (place, line) in lines {
+        same_at(*line, line_verdict(alloc, *place, *line)?, wanted)?;
     }
     Ok(())
+}
+
+#[test]
+fn lines_have_a_form_or_are_at_fault(rt: HostRuntime) -> Result<(), Fail> {
+    have_verdict(rt.alloc(), &LINES, 2)?;
+    have_verdict(rt.alloc(), &REFUSED, 1)
 }

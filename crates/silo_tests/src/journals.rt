@@ -28,6 +28,11 @@ pub fn verdict(alloc: Global, bytes: &[u8]) -> Result<usize, Fail> {
     }
 }
 
+/// The line at fault in bytes is this one.
+fn is_verdict(alloc: Global, bytes: &[u8], line: usize) -> Result<(), Fail> {
+    same(verdict(alloc, bytes)?, line)
+}
+
 /// The journal of a text.
 fn journal(alloc: Global, text: &str) -> Result<Journal, Fail> {
     Ok(read_journal(alloc, text.as_bytes())?)
@@ -129,7 +134,7 @@ fn journals_are_read_and_written(rt: HostRuntime) -> Result<(), Fail> {
 fn a_cut_is_at_the_first_line_that_is_not_whole(rt: HostRuntime) -> Result<(), Fail> {
     let mut line = 1usize;
     for end in 0..WORKED.len() {
-        same(verdict(rt.alloc(), &WORKED.as_bytes()[..end])?, line)?;
+        is_verdict(rt.alloc(), &WORKED.as_bytes()[..end], line)?;
         if WORKED.as_bytes()[end] == b'\n' {
             line = line.saturating_add(1);
         }
@@ -180,6 +185,6 @@ fn a_wrong_line_is_named(rt: HostRuntime) -> Result<(), Fail> {
     for (old, new, line) in &CHANGES {
         same_at(*new, changed_verdict(rt.alloc(), *old, *new)?, *line)?;
     }
-    same(verdict(rt.alloc(), EACH_KIND.as_bytes())?, 0)?;
-    same(verdict(rt.alloc(), b"\xFF\n")?, 1)
+    is_verdict(rt.alloc(), EACH_KIND.as_bytes(), 0)?;
+    is_verdict(rt.alloc(), b"\xFF\n", 1)
 }

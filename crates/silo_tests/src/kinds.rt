@@ -219,7 +219,10 @@ fn finished(alloc: Global, opened: OpenedTurn) -> Result<FinishedTurn<Kinds>, Fa
     let bump = Bump::new(alloc);
     match run_turn(alloc, &bump, &Kinds, opened) {
         Ok(finished) => Ok(finished),
-        Err(_) => Err(Fail::from(AllocError)),
+        Err(back) => {
+            drop(back);
+            Err(Fail::from(AllocError))
+        }
     }
 }
 
@@ -262,11 +265,10 @@ fn is_of_row(alloc: Global, turn: &FinishedTurn<Kinds>, row: &Row) -> Result<(),
 fn methods_answer_or_refuse(rt: HostRuntime) -> Result<(), Fail> {
     for row in &ROWS {
         let (id, before, method, args, _, _) = *row;
-        is_of_row(
-            rt.alloc(),
-            &turn(rt.alloc(), id, before, method, args)?,
-            row,
-        )?;
+        let turn = turn(rt.alloc(), id, before, method, args)?;
+        let found = is_of_row(rt.alloc(), &turn, row);
+        drop(turn);
+        found?;
     }
     Ok(())
 }
@@ -321,11 +323,10 @@ fn asks(alloc: Global, turn: &FinishedTurn<Kinds>, row: &Asked) -> Result<(), Fa
 fn methods_ask_the_storage_and_send(rt: HostRuntime) -> Result<(), Fail> {
     for row in &ASKED {
         let (id, before, method, args, _, _) = *row;
-        asks(
-            rt.alloc(),
-            &turn(rt.alloc(), id, before, method, args)?,
-            row,
-        )?;
+        let turn = turn(rt.alloc(), id, before, method, args)?;
+        let found = asks(rt.alloc(), &turn, row);
+        drop(turn);
+        found?;
     }
     Ok(())
 }
@@ -365,7 +366,10 @@ fn put(alloc: Global, sheet: Parts) -> Result<(Option<MethodFault>, usize), Fail
     let sheet = read_state(alloc, &joined(alloc, sheet)?)?;
     let args = "{\"name\":\"bcd\",\"value\":null}";
     let opened = opened(alloc, "sheet/red:a", sheet, "put", args)?;
-    Ok(length_after(&finished(alloc, opened)?))
+    let turn = finished(alloc, opened)?;
+    let found = length_after(&turn);
+    drop(turn);
+    Ok(found)
 }
 
 #[test]
@@ -381,8 +385,15 @@ fn given_back(alloc: Global, opened: OpenedTurn) -> u64 {
     let bump = Bump::new(alloc);
     bump.set_allocation_limit(Some(0));
     match run_turn(alloc, &bump, &Kinds, opened) {
-        Ok(_) => 0,
-        Err(back) => back.number,
+        Ok(turn) => {
+            drop(turn);
+            0
+        }
+        Err(back) => {
+            let number = back.number;
+            drop(back);
+            number
+        }
     }
 }
 

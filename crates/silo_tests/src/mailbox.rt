@@ -46,31 +46,46 @@ fn number_of(request: Option<&Request>) -> u64 {
     }
 }
 
-/// 0 if the request was taken, or else the number of the one that came back.
-fn pushed(mailbox: &mut Mailbox, request: Request) -> u64 {
-    match mailbox.push(request) {
-        Ok(()) => 0,
-        Err(back) => back.number,
+/// 0 if a request of that number was taken, or else the number of the one that came back.
+fn pushed(alloc: Global, mailbox: &mut Mailbox, number: u64, reading: bool) -> Result<u64, Fail> {
+    match mailbox.push(request(alloc, number, reading)?) {
+        Ok(()) => Ok(0),
+        Err(back) => {
+            let number = back.number;
+            drop(back);
+            Ok(number)
+        }
     }
 }
 
 /// The number of the turn that begins on a state, or 0.
 fn begun(mailbox: &mut Mailbox, grain: &GrainId, state: &StateBytes) -> Result<u64, Fail> {
     match mailbox.begin(grain, state)? {
-        Some(turn) => Ok(turn.number),
+        Some(turn) => {
+            let number = turn.number;
+            drop(turn);
+            Ok(number)
+        }
         None => Ok(0),
     }
 }
 
 fn begin(alloc: Global, mailbox: &mut Mailbox) -> Result<u64, Fail> {
     let grain = grain(alloc, "counter/red:a")?;
-    begun(mailbox, &grain, &state(alloc, "3")?)
+    let state = state(alloc, "3")?;
+    let number = begun(mailbox, &grain, &state);
+    drop(state);
+    number
 }
 
 /// The number of the turn that ends, or 0.
 fn finish(mailbox: &mut Mailbox, number: u64) -> u64 {
     match mailbox.finish(number) {
-        Ok(request) => request.number,
+        Ok(request) => {
+            let number = request.number;
+            drop(request);
+            number
+        }
         Err(_) => 0,
     }
 }
@@ -85,8 +100,8 @@ fn is_from(alloc: Global, request: Option<&Request>, client: &str) -> Result<u64
 /// What the mailbox answers, as a number: that of a request, a count, or 1 for yes.
 fn answer(alloc: Global, mailbox: &mut Mailbox, call: Call) -> Result<u64, Fail> {
     match call {
-        Call::PushReader(number) => Ok(pushed(mailbox, request(alloc, number, true)?)),
-        Call::PushWriter(number) => Ok(pushed(mailbox, request(alloc, number, false)?)),
+        Call::PushReader(number) => pushed(alloc, mailbox, number, true),
+        Call::PushWriter(number) => pushed(alloc, mailbox, number, false),
         Call::FrontIsFrom(client) => is_from(alloc, mailbox.at(0), client),
         Call::Begin => begin(alloc, mailbox),
         Call::Finish(number) => Ok(finish(mailbox, number)),
@@ -111,7 +126,9 @@ fn answers_each(alloc: Global, mailbox: &mut Mailbox, calls: &[(Call, u64)]) -> 
 /// Makes the calls, of a mailbox for four.
 fn run(alloc: Global, calls: &[(Call, u64)]) -> Result<(), Fail> {
     let mut mailbox = Mailbox::new(alloc, 4)?;
-    answers_each(alloc, &mut mailbox, calls)
+    let answered = answers_each(alloc, &mut mailbox, calls);
+    drop(mailbox);
+    answered
 }
 
 /// Readers are open together, and no writer beside them.

@@ -115,9 +115,10 @@ fn texts_are_read_or_their_faults_told(rt: HostRuntime) -> Result<(), Fail> {
 fn is_grain(alloc: Global, grain: &GrainId) -> Result<(), Fail> {
     let parts = (grain.kind(), grain.tenant(), grain.name());
     same(parts, ("counter", "red", "a/b:c"))?;
-    same(grain.text(), "counter/red:a/b:c")?;
-    same(grain.to_kind(alloc)?.text(), "counter")?;
-    same(grain.to_tenant(alloc)?.text(), "red")
+    let kind = grain.to_kind(alloc)?;
+    let tenant = grain.to_tenant(alloc)?;
+    let texts = (grain.text(), kind.text(), tenant.text());
+    same(texts, ("counter/red:a/b:c", "counter", "red"))
 }
 
 /// The caller is `red/c1`.
@@ -127,19 +128,10 @@ fn is_caller(alloc: Global, caller: &Caller) -> Result<(), Fail> {
     same(caller.to_tenant(alloc)?.text(), "red")
 }
 
-/// Copies of each form are equal.
-fn copies_are_equal(alloc: Global) -> Result<(), Fail> {
-    same_copy(&grain(alloc, "counter/red:a")?)?;
-    same_copy(&caller(alloc, "red/c1")?)?;
-    same_copy(&tenant(alloc, "red")?)?;
-    same_copy(&kind(alloc, "counter")?)
-}
-
 #[test]
-fn parts_and_copies(rt: HostRuntime) -> Result<(), Fail> {
+fn parts_of_grains_and_callers(rt: HostRuntime) -> Result<(), Fail> {
     is_grain(rt.alloc(), &grain(rt.alloc(), "counter/red:a/b:c")?)?;
-    is_caller(rt.alloc(), &caller(rt.alloc(), "red/c1")?)?;
-    copies_are_equal(rt.alloc())
+    is_caller(rt.alloc(), &caller(rt.alloc(), "red/c1")?)
 }
 
 /// Grains, each with its place among them.
@@ -177,21 +169,26 @@ fn keys_of_an_ordered_map(rt: HostRuntime) -> Result<(), Fail> {
     same(ascending(&places(rt.alloc())?), 5)
 }
 
-/// Whether one is below the other, and whether a hashed map that has one finds the other.
-fn compared<K: Ord + Hash + Drop>(alloc: Global, one: K, other: &K) -> Result<(bool, bool), Fail> {
-    let is_less = one < *other;
+/// Whether one is below the other, and whether a hashed map that has one finds the other. Fails if a copy of one isn't equal.
+fn compared<K: Ord + Hash + Clone + Drop>(
+    alloc: Global,
+    one: K,
+    other: K,
+) -> Result<(bool, bool), Fail> {
+    same_copy(&one)?;
+    let is_less = one < other;
     let mut map = HashMap::new(alloc);
     map.insert(one, 1)?;
-    Ok((is_less, map.get(other).is_some()))
+    Ok((is_less, map.get(&other).is_some()))
 }
 
 /// The same of two texts of a form.
 fn compared_as(alloc: Global, form: Form, one: &str, other: &str) -> Result<(bool, bool), Fail> {
     match form {
-        Form::Grain => compared(alloc, grain(alloc, one)?, &grain(alloc, other)?),
-        Form::Caller => compared(alloc, caller(alloc, one)?, &caller(alloc, other)?),
-        Form::Tenant => compared(alloc, tenant(alloc, one)?, &tenant(alloc, other)?),
-        Form::Kind => compared(alloc, kind(alloc, one)?, &kind(alloc, other)?),
+        Form::Grain => compared(alloc, grain(alloc, one)?, grain(alloc, other)?),
+        Form::Caller => compared(alloc, caller(alloc, one)?, caller(alloc, other)?),
+        Form::Tenant => compared(alloc, tenant(alloc, one)?, tenant(alloc, other)?),
+        Form::Kind => compared(alloc, kind(alloc, one)?, kind(alloc, other)?),
     }
 }
 
@@ -213,7 +210,7 @@ static COMPARED: [(Form, &str, &str, (bool, bool)); 8] = [
 ];
 
 #[test]
-fn orders_and_keys_of_a_hashed_map(rt: HostRuntime) -> Result<(), Fail> {
+fn copies_orders_and_keys_of_a_hashed_map(rt: HostRuntime) -> Result<(), Fail> {
     for (form, one, other, wanted) in &COMPARED {
         let found = compared_as(rt.alloc(), *form, *one, *other)?;
         same_at(*one, found, *wanted)?;

@@ -38,7 +38,11 @@ fn number(alloc: Global, value: u8) -> Result<StateBytes, CodecFault> {
 
 fn version_of(read: Result<Option<Row>, StoreFault>) -> Answer {
     match read {
-        Ok(Some(row)) => Ok(Some(row.version)),
+        Ok(Some(row)) => {
+            let version = row.version;
+            drop(row);
+            Ok(Some(version))
+        }
         Ok(None) => Ok(None),
         Err(fault) => Err(fault),
     }
@@ -57,7 +61,11 @@ fn number_in(row: &Row) -> Option<u64> {
 
 fn number_of(read: Result<Option<Row>, StoreFault>) -> Answer {
     match read {
-        Ok(Some(row)) => Ok(number_in(&row)),
+        Ok(Some(row)) => {
+            let number = number_in(&row);
+            drop(row);
+            Ok(number)
+        }
         Ok(None) => Ok(None),
         Err(fault) => Err(fault),
     }
@@ -107,6 +115,17 @@ fn answers_each<S: GrainStorage>(
     Ok(())
 }
 
+/// The same of the row of the grain with this text.
+fn answers_of<S: GrainStorage>(
+    alloc: Global,
+    storage: &mut S,
+    text: &str,
+    calls: &[(Call, Answer)],
+) -> Result<(), Fail> {
+    let grain = grain(alloc, text)?;
+    answers_each(alloc, storage, &grain, calls)
+}
+
 /// Each write, clearing and poke gives the next version, if it expects the one that is there.
 static VERSIONS: [(Call, Answer); 11] = [
     (Call::Version, Ok(None)),
@@ -125,6 +144,8 @@ static VERSIONS: [(Call, Answer); 11] = [
 /// Other grains, which are poked once.
 static OTHERS: [&str; 3] = ["sheet/red:s", "counter/red:b", "counter/blue:z"];
 
+static POKED: [(Call, Answer); 1] = [(Call::Poke(1), Ok(Some(1)))];
+
 /// The texts of rows' grains, each with a space behind it.
 fn texts(alloc: Global, rows: &[(GrainId, Row)]) -> Result<String, Fail> {
     let mut texts = String::new(alloc);
@@ -141,10 +162,9 @@ fn listed(alloc: Global, storage: &MemoryStorage) -> Result<String, Fail> {
 
 /// The rows of several grains are kept apart, and listed in order.
 fn keeps_rows(alloc: Global, storage: &mut MemoryStorage) -> Result<(), Fail> {
-    answers_each(alloc, storage, &grain(alloc, "counter/red:a")?, &VERSIONS)?;
+    answers_of(alloc, storage, "counter/red:a", &VERSIONS)?;
     for text in &OTHERS {
-        let poked = [(Call::Poke(1), Ok(Some(1)))];
-        answers_each(alloc, storage, &grain(alloc, *text)?, &poked)?;
+        answers_of(alloc, storage, *text, &POKED)?;
     }
     same(
         listed(alloc, storage)?.as_str(),
@@ -241,9 +261,8 @@ static FUSED: [(u64, &[(Call, Answer)]); 5] = [
 ];
 
 fn fused(alloc: Global, fails_at: u64, calls: &[(Call, Answer)]) -> Result<(), Fail> {
-    let grain = grain(alloc, "counter/red:a")?;
     let mut storage = FusedStorage::new(MemoryStorage::new(alloc), fails_at);
-    answers_each(alloc, &mut storage, &grain, calls)
+    answers_of(alloc, &mut storage, "counter/red:a", calls)
 }
 
 #[test]

@@ -29,17 +29,26 @@ pub fn parsed(alloc: Global, json: &str) -> Result<Value, Fail> {
 
 /// The value of JSON.
 pub fn datum(alloc: Global, json: &str) -> Result<Datum, Fail> {
-    Ok(from_json(alloc, &parsed(alloc, json)?)?)
+    let json = parsed(alloc, json)?;
+    let value = from_json(alloc, &json);
+    drop(json);
+    Ok(value?)
 }
 
 /// The state of JSON.
 pub fn state(alloc: Global, json: &str) -> Result<StateBytes, Fail> {
-    Ok(encode_state(alloc, &datum(alloc, json)?)?)
+    let value = datum(alloc, json)?;
+    let state = encode_state(alloc, &value);
+    drop(value);
+    Ok(state?)
 }
 
 /// The message of a method and JSON.
 pub fn message(alloc: Global, method: &str, json: &str) -> Result<Message, Fail> {
-    Ok(encode(alloc, method, &datum(alloc, json)?)?)
+    let value = datum(alloc, json)?;
+    let message = encode(alloc, method, &value);
+    drop(value);
+    Ok(message?)
 }
 
 /// The state that bytes spell.
