@@ -256,22 +256,13 @@ fn numbers_got<
     R: AllocGlobal + Threads + Wait + Sync,
     L: GrainLogic + Copy + Send + Drop,
     G: TurnGate + Sync,
->(
-    rt: &R,
-    logic: L,
-    asked: &[(&str, &str)],
-    workers: usize,
-    gate: &G,
-) -> Result<Vec<i64>, Fail> {
+>(rt: &R, logic: L, asked: &[(&str, &str)], workers: usize, gate: &G) -> Result<Vec<i64>, Fail> {
     let answers = got(rt, logic, asked, workers, gate)?;
     numbers_of(rt.alloc(), &answers)
 }
 
 /// A client of red and one of blue, each with its counter.
-const TWO: [(&str, &str); 2] = [
-    ("red/c1", "counter/red:a"),
-    ("blue/c1", "counter/blue:a"),
-];
+const TWO: [(&str, &str); 2] = [("red/c1", "counter/red:a"), ("blue/c1", "counter/blue:a")];
 
 #[test]
 fn two_turns_are_open_at_once(rt: HostRuntime) -> Result<(), Fail> {

@@ -58,7 +58,12 @@ fn text_of(alloc: Global, said: &Line) -> Result<String, AllocError> {
 }
 
 /// What is printed of a line, read that way.
-fn text_by(alloc: Global, way: Way, room: &mut LineRoom, line: &[u8]) -> Result<String, AllocError> {
+fn text_by(
+    alloc: Global,
+    way: Way,
+    room: &mut LineRoom,
+    line: &[u8],
+) -> Result<String, AllocError> {
     let said = read_by(way, alloc, room, without_end(line))?;
     text_of(alloc, &said)
 }
