@@ -16,6 +16,7 @@ use crate::tenant::Tenant;
 use crate::words;
 use std::alloc::{AllocError, Global};
 use std::cmp::Ordering;
+use std::fmt;
 use std::hash::{Hash, Hasher};
 use std::marker::Model;
 use std::sync::Arc;
@@ -150,6 +151,15 @@ impl GrainId {
         // Read, so that the proof sees that the parts are well formed.
         let _text = &self.placed.text;
         Tenant::of_word(alloc, self.tenant())
+    }
+}
+
+/// Its text.
+impl fmt::Display for GrainId {
+    ghost output = { λ grain. Some (grain_text grain) };
+
+    fn fmt<W: fmt::Write>(&self, f: &mut fmt::Formatter<W>) -> fmt::Result {
+        f.write_str(self.text())
     }
 }
 

@@ -14,6 +14,7 @@ use crate::fault::IdFault;
 use crate::words;
 use std::alloc::{AllocError, Global};
 use std::cmp::Ordering;
+use std::fmt;
 use std::hash::{Hash, Hasher};
 use std::marker::Model;
 use std::sync::ArcStr;
@@ -69,6 +70,15 @@ impl Kind {
         ensures well_formed { IsTrue (is_word self.now) }
     {
         self.text.as_str()
+    }
+}
+
+/// Its text.
+impl fmt::Display for Kind {
+    ghost output = { λ kind. Some kind };
+
+    fn fmt<W: fmt::Write>(&self, f: &mut fmt::Formatter<W>) -> fmt::Result {
+        f.write_str(self.text())
     }
 }
 

@@ -2,8 +2,8 @@
 //!
 //! A layer above may rely on this: a value is made by reading a text by the grammar, contracts see
 //! it as the bytes of its parts, and equality, order and hash are those of the parts. A value holds
-//! one text, so a clone makes one allocation and a comparison none. The grammar and the order are
-//! in `specs/Words.antt`, `specs/Names.antt` and `specs/Reading.antt`; `laws` has the round trip,
+//! one text, which all clones share, so a clone and a comparison take no memory. The grammar and the
+//! order are in `specs/Words.antt`, `specs/Names.antt` and `specs/Reading.antt`; `laws` has the round trip,
 //! and `proofs/Order.antt`, `proofs/Maps.antt` and `proofs/ByGrain.antt` have the lemmas for the
 //! layers above.
 #![tactic(auto)]
@@ -12,8 +12,8 @@ mod caller;
 mod fault;
 mod grain;
 mod kind;
-mod lately;
 pub mod laws;
+mod name_cache;
 mod tenant;
 mod words;
 
@@ -21,5 +21,5 @@ pub use caller::Caller;
 pub use fault::IdFault;
 pub use grain::GrainId;
 pub use kind::Kind;
-pub use lately::LatelyRead;
+pub use name_cache::NameCache;
 pub use tenant::Tenant;

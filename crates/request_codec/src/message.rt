@@ -13,7 +13,7 @@ ghost use Rattle.request_codec.specs.declared.fault.CodecFault.TheVariants as fa
 
 use crate::bytes::text_of;
 use crate::fault::CodecFault;
-use crate::kept::{Kept, keep, keep_copy, show};
+use crate::shared_bytes::{SharedBytes, keep, keep_copy, show};
 use crate::value_end::is_message;
 use std::alloc::{AllocError, Global};
 use std::marker::Model;
@@ -22,12 +22,12 @@ use std::sync::Arc;
 /// Bytes that spell a method and one value: at most 65,536 of them, the value no deeper than 32.
 #[derive(Debug, Drop)]
 pub struct Message {
-    kept: Arc<Kept>,
+    kept: Arc<SharedBytes>,
 }
 
 impl Model for Message {
     ghost use Rattle.std.specs.Arc.{arc_value};
-    ghost use Rattle.request_codec.specs.Kept.{kept_bytes};
+    ghost use Rattle.request_codec.specs.SharedBytes.{bytes_of_shared};
     ghost use Rattle.std.specs.Prelude.{IsSome};
     ghost use Rattle.request_codec.specs.Call.{Call, coded_call};
 
@@ -37,9 +37,9 @@ impl Model for Message {
 
     ghost use Rattle.request_codec.specs.Call.{message_call, call_of};
 
-    ghost view = { λ m. call_of (kept_bytes (arc_value m.kept)) };
+    ghost view = { λ m. call_of (bytes_of_shared (arc_value m.kept)) };
 
-    ghost invariant = { λ m. IsSome (message_call (kept_bytes (arc_value m.kept))) };
+    ghost invariant = { λ m. IsSome (message_call (bytes_of_shared (arc_value m.kept))) };
 }
 
 /// The same bytes, which spell the call that is shown of them.

@@ -12,7 +12,9 @@ ghost use Rattle.request_codec.specs.Answers.{Reads};
 ghost use Rattle.request_codec.specs.declared.fault.CodecFault.TheVariants as faults;
 
 use crate::fault::CodecFault;
-use crate::held::{Held, copy_held, hold, hold_copy, hold_integer, hold_text, show};
+use crate::small_bytes::{
+    SmallBytes, copy_held, hold, hold_copy, hold_integer, hold_text, hold_text_in, show, text_block,
+};
 use crate::value_end::is_state;
 use itoa::Buffer;
 use std::alloc::{AllocError, Global};
@@ -21,11 +23,11 @@ use std::marker::Model;
 /// Bytes that spell one value: at most 262,144 of them, the value no deeper than 32.
 #[derive(Debug, Drop)]
 pub struct StateBytes {
-    held: Held,
+    held: SmallBytes,
 }
 
 impl Model for StateBytes {
-    ghost use Rattle.request_codec.specs.Held.{held_bytes};
+    ghost use Rattle.request_codec.specs.SmallBytes.{bytes_of_small};
     ghost use Rattle.std.specs.Prelude.{IsSome};
     ghost use Rattle.request_codec.specs.Tree.{Tree};
     ghost use Rattle.request_codec.specs.Code.{coded_tree};
@@ -36,9 +38,24 @@ impl Model for StateBytes {
 
     ghost use Rattle.request_codec.specs.Call.{state_value, value_of_state};
 
-    ghost view = { λ s. value_of_state (held_bytes s.held) };
+    ghost view = { λ s. value_of_state (bytes_of_small s.held) };
 
-    ghost invariant = { λ s. IsSome (state_value (held_bytes s.held)) };
+    ghost invariant = { λ s. IsSome (state_value (bytes_of_small s.held)) };
+}
+
+/// Room for the decimal text of any number, to be taken before the number is known.
+#[derive(Debug, Drop)]
+pub struct DecimalRoom {
+    block: Box<[u8; 25]>,
+}
+
+impl DecimalRoom {
+    /// Room for up to 20 digits.
+    pub fn new(alloc: Global) -> Result<DecimalRoom, AllocError> {
+        Ok(DecimalRoom {
+            block: text_block(alloc)?,
+        })
+    }
 }
 
 /// The same bytes, which spell the value that is shown of them.
@@ -93,6 +110,16 @@ impl StateBytes {
         Ok(StateBytes {
             held: hold_text(alloc, buffer.format(number).as_bytes())?,
         })
+    }
+
+    /// The state that is the decimal text of a number, by room that is there. Takes no memory.
+    pub fn decimal_in(room: DecimalRoom, number: u64) -> StateBytes
+        ensures { result ≡ text (decimal number) }
+    {
+        let mut buffer = Buffer::new();
+        StateBytes {
+            held: hold_text_in(room.block, buffer.format(number).as_bytes()),
+        }
     }
 
     /// The bytes, which spell the value.

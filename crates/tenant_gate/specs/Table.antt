@@ -1,5 +1,5 @@
 -- The tenants that a silo serves, each with its limits, in the order in which they were given.
-use Rattle.std.specs.Prelude.{ℕ, Bool, not, ◌&&◌, nat_le, nat_lt, List, [], ◌∷◌, ◌++◌, length, map, Option, Some, None, option_map, if◌then◌else◌, find, ◌==◌, is_some}
+use Rattle.std.specs.Prelude.{ℕ, Bool, not, ◌&&◌, nat_le, nat_lt, List, [], ◌∷◌, ◌++◌, length, map, Option, Some, None, option_map, Result, Ok, Err, if◌then◌else◌, find, ◌==◌}
 use Rattle.std.specs.List.{list_any}
 use Rattle.std.specs.Option.{option_or}
 use Rattle.std.specs.Map.{lookup}
@@ -10,7 +10,10 @@ use Rattle.tenant_gate.specs.declared.limits.Limits.{Limits}
 use Rattle.tenant_gate.specs.declared.fault.TableFault.{TableFault}
 use Rattle.tenant_gate.specs.declared.fault.TableFault.TheVariants as faults
 use Rattle.tenant_gate.specs.declared.fault.GateFault.{GateFault}
-use Rattle.tenant_gate.specs.declared.fault.GateFault.TheVariants as refusals
+use Rattle.tenant_gate.specs.declared.fault.GateFault.TheVariants as gate_fault
+use Rattle.tenant_gate.specs.declared.gate.GateRefusal.{GateRefusal}
+use Rattle.tenant_gate.specs.declared.gate.GateRefusal.TheVariants as refusal
+use Rattle.tenant_gate.specs.Gate.{judged}
 
 abbrev pub Table : Type 0
 Table = List (List ℕ × Limits)
@@ -58,9 +61,12 @@ table_fault table =
 abbrev pub limits_of : Table → List ℕ → Option Limits
 limits_of table tenant = lookup (same_text tenant) table
 
+-- the fault that names whom the gate refused; none where the caller passed
+abbrev pub refused : {A : Type 0} → List ℕ → Grain → Result A GateRefusal → Option GateFault
+refused caller grain (Ok kept) = None
+refused caller grain (Err refusal.UnknownTenant) = Some (gate_fault.Unknown caller)
+refused caller grain (Err refusal.AcrossTenants) = Some (gate_fault.Across caller grain.tenant)
+
 -- Why a tenant may not call a grain: it is unknown, or the grain is another tenant's; none where it may.
 abbrev pub call_fault : Table → List ℕ → Grain → Option GateFault
-call_fault table caller grain =
-    if not (is_some (limits_of table caller)) then Some (refusals.Unknown caller)
-    else if same_text caller grain.tenant then None
-    else Some (refusals.Across caller grain.tenant)
+call_fault table caller grain = refused caller grain (judged (limits_of table caller) caller grain)

@@ -6,19 +6,25 @@ ghost use Rattle.tenant_gate.specs.declared.fault.GateFault.TheVariants as refus
 
 use grain_id::Tenant;
 use std::alloc::AllocError;
+use thiserror::Error;
 
 /// Why a list of tenants is no table.
-#[derive(Debug, Drop)]
+#[derive(Debug, Drop, Error)]
 pub enum TableFault {
     /// There is no tenant.
+    #[error("there is no tenant")]
     Empty,
     /// There are more than 1,000 tenants.
+    #[error("there are more than 1,000 tenants")]
     TooMany,
     /// The first tenant that repeats an earlier one.
+    #[error("tenant {0} stands there twice")]
     Twice(Tenant),
     /// The first tenant whose limits are out of range.
+    #[error("the limits of tenant {0} are out of range")]
     Range(Tenant),
     /// Memory was refused.
+    #[error("out of memory")]
     Memory,
 }
 
@@ -31,13 +37,16 @@ impl From<AllocError> for TableFault {
 }
 
 /// Why a tenant may not call a grain.
-#[derive(Debug, Drop)]
+#[derive(Debug, Drop, Error)]
 pub enum GateFault {
     /// The silo doesn't know the caller's tenant.
+    #[error("tenant {0} is unknown")]
     Unknown(Tenant),
     /// The caller's tenant, and the tenant of the grain, which is another one.
+    #[error("tenant {0} may not call a grain of tenant {1}")]
     Across(Tenant, Tenant),
     /// Memory for the names in the fault was refused.
+    #[error("out of memory")]
     Memory,
 }
 

@@ -9,6 +9,7 @@ ghost use Rattle.tenant_gate.specs.Answers.{TableAnswers, CallAnswers};
 ghost use Rattle.tenant_gate.specs.Index.{IndexAnswers};
 
 use crate::fault::{GateFault, TableFault};
+use crate::gate::{GateRefusal, judge};
 use crate::limits::{Limits, MAX_TENANTS};
 use grain_id::{GrainId, Tenant};
 use indexmap::IndexMap;
@@ -94,13 +95,13 @@ impl TenantTable {
     ) -> Result<(), GateFault>
         ensures { CallAnswers (call_fault self.now caller.now target.now) result }
     {
-        if self.limits(caller.text()).is_none() {
-            return Err(GateFault::Unknown(caller.clone()?));
+        match judge(self.limits(caller.text()), caller.text(), target) {
+            Ok(_limits) => Ok(()),
+            Err(GateRefusal::UnknownTenant) => Err(GateFault::Unknown(caller.clone()?)),
+            Err(GateRefusal::AcrossTenants) => {
+                Err(GateFault::Across(caller.clone()?, target.to_tenant(alloc)?))
+            }
         }
-        if caller.text() != target.tenant() {
-            return Err(GateFault::Across(caller.clone()?, target.to_tenant(alloc)?));
-        }
-        Ok(())
     }
 }
 

@@ -1,6 +1,6 @@
 //! Bytes that are being written, up to a limit.
 
-ghost use Rattle.std.specs.Prelude.{◌≡◌, ◌<◌, ◌≤◌, ◌^◌, length, MatchResult};
+ghost use Rattle.std.specs.Prelude.{◌≡◌, ◌<◌, ◌≤◌, ◌^◌, length, MatchResult, OnErr};
 ghost use Rattle.request_codec.specs.Written.{Puts, text_spelling, start_spelling};
 ghost use Rattle.request_codec.specs.Start.{begun};
 ghost use Rattle.request_codec.specs.declared.fault.CodecFault.TheVariants as faults;
@@ -8,11 +8,12 @@ ghost use Rattle.request_codec.specs.declared.fault.CodecFault.TheVariants as fa
 use crate::bytes::start::Start;
 use crate::fault::CodecFault;
 
-/// Puts the bytes at the end, if they fit below the limit.
+/// Puts the bytes at the end, if they fit below the limit; otherwise nothing changes.
 #[inline(always)]
 pub fn put(out: &mut Vec<u8>, limit: usize, bytes: &[u8]) -> Result<(), CodecFault>
     requires { length out.old.items ≤ limit }
-    ensures { Puts limit out.old.items out.new.items result bytes.now }
+    ensures puts { Puts limit out.old.items out.new.items result bytes.now }
+    ensures unchanged { OnErr result (out.new.items ≡ out.old.items) }
 {
     if bytes.len() > limit - out.len() {
         return Err(CodecFault::TooLong);
@@ -33,7 +34,7 @@ pub fn counted(count: usize, limit: usize) -> Result<u32, CodecFault>
     Ok(count as u32)
 }
 
-/// Puts a text at the end: its length and its bytes.
+/// Puts a text at the end: its length and its bytes. After a fault a part of them may stand there.
 #[inline(always)]
 pub fn put_text(out: &mut Vec<u8>, limit: usize, text: &str) -> Result<(), CodecFault>
     requires room { length out.old.items ≤ limit }
@@ -45,7 +46,7 @@ pub fn put_text(out: &mut Vec<u8>, limit: usize, text: &str) -> Result<(), Codec
     put(out, limit, text.as_bytes())
 }
 
-/// Puts the start of a value at the end.
+/// Puts the start of a value at the end. After a fault a part of it may stand there.
 #[tactic(auto, unfolding(crate::specs::Written::spelling))]
 #[inline(always)]
 pub fn put_start(out: &mut Vec<u8>, limit: usize, start: Start<'_>) -> Result<(), CodecFault>

@@ -1,6 +1,6 @@
 //! Names that were read lately, so that the next reading of the same text shares them.
 
-ghost use Rattle.std.specs.Prelude.{◌<◌, IfOk, IfSome};
+ghost use Rattle.std.specs.Prelude.{◌≡◌, ◌<◌, IfOk, IfSome, None, replicate};
 ghost use Rattle.grain_id.specs.Names.{IsTextOfGrain, IsTextOfNoGrain, IsTextOfClient, IsTextOfNoClient};
 ghost use Rattle.grain_id.specs.Reading.{Gives, IfFaulty, grain_read, caller_read};
 
@@ -15,7 +15,7 @@ const PLACES: usize = 16_384;
 /// Names that were read lately, each at the place of its text's hash. A name takes the place of the
 /// one before it. It takes 16 bytes a place, 512 kB in all, as it is made.
 #[derive(Drop)]
-pub struct LatelyRead {
+pub struct NameCache {
     grains: Vec<Option<GrainId>>,
     callers: Vec<Option<Caller>>,
 }
@@ -69,19 +69,22 @@ fn caller_at(
     }
 }
 
-impl LatelyRead {
-    /// No name was read yet.
-    pub fn new(alloc: Global) -> Result<LatelyRead, AllocError> {
+impl NameCache {
+    /// No name was read yet: each place is empty.
+    pub fn new(alloc: Global) -> Result<NameCache, AllocError>
+        ensures grains { IfOk result (λ cache. cache.grains.items ≡ replicate 16384 None) }
+        ensures callers { IfOk result (λ cache. cache.callers.items ≡ replicate 16384 None) }
+    {
         let mut grains = Vec::with_capacity(alloc, PLACES)?;
         let mut callers = Vec::with_capacity(alloc, PLACES)?;
         'places: for _ in 0..PLACES {
             grains.push(None)?;
             callers.push(None)?;
         }
-        Ok(LatelyRead { grains, callers })
+        Ok(NameCache { grains, callers })
     }
 
-    /// Reads a grain, as `GrainId::read` does, and shares one that was read lately.
+    /// Reads a grain, as `GrainId::read` does, and shares one that was read name_cache.
     ///
     /// # Errors
     ///
@@ -102,7 +105,7 @@ impl LatelyRead {
         Ok(grain)
     }
 
-    /// Reads a caller, as `Caller::read` does, and shares one that was read lately.
+    /// Reads a caller, as `Caller::read` does, and shares one that was read name_cache.
     ///
     /// # Errors
     ///
