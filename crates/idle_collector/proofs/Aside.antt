@@ -8,7 +8,7 @@ use Rattle.std.specs.FinMap as map
 use Rattle.grain_id.specs.Names.{Grain, grain_cmp}
 use Rattle.grain_id.proofs.Order.{grain_cmp_total, grain_cmp_exact, grain_eq_decides, eq_by_cmp-Decides}
 use Rattle.grain_id.proofs.Maps as maps
-use Rattle.idle_collector.specs.declared.latest.Latest.{Latest}
+use Rattle.idle_collector.specs.declared.latest_note.LatestNote.{LatestNote}
 use Rattle.idle_collector.specs.Aside.{is_of, with_latest, IsApart, due_of}
 use Rattle.idle_collector.specs.Notes.{Notes, noted, forgotten, is_due, HoldsDue}
 use Rattle.idle_collector.proofs.Lasts.{taken_back}
@@ -23,7 +23,7 @@ noted-noted : (n : Notes) (id : Grain) (first last : ℕ) → noted (noted n id 
 noted-noted n id first last = ap (λ lasts. record { age = n.age; lasts = lasts }) (maps.insert-insert grain_cmp_total grain_cmp_exact n.lasts id first last)
 
 -- of the grain of the latest note
-pub latest-noted : (latest : Option Latest) (n : Notes) (id : Grain) (last : ℕ) → is_of id latest ≡ true → noted n id last ≡ noted (with_latest latest n) id last
+pub latest-noted : (latest : Option LatestNote) (n : Notes) (id : Grain) (last : ℕ) → is_of id latest ≡ true → noted n id last ≡ noted (with_latest latest n) id last
 latest-noted None n id last e = absurd (true≢false (sym e))
 latest-noted (Some note) n id last e =
     let same = (grain_eq_decides note.id id).0 e in
@@ -40,7 +40,7 @@ noted-forgotten n id last = ap (λ lasts. record { age = n.age; lasts = lasts })
 -- ---- a note that is dropped
 
 -- the latest one
-pub latest-forgotten : (latest : Option Latest) (n : Notes) (id : Grain) → IsApart latest n → is_of id latest ≡ true → n ≡ forgotten (with_latest latest n) id
+pub latest-forgotten : (latest : Option LatestNote) (n : Notes) (id : Grain) → IsApart latest n → is_of id latest ≡ true → n ≡ forgotten (with_latest latest n) id
 latest-forgotten None n id apart e = absurd (true≢false (sym e))
 latest-forgotten (Some note) n id apart e =
     let same = (grain_eq_decides note.id id).0 e in
@@ -50,13 +50,13 @@ none_either : (b : Bool) → ◌≡◌ {A = Option ℕ} (cond b None None) None
 none_either true = refl
 none_either false = refl
 
-pub apart-forgotten : (latest : Option Latest) (n : Notes) (id : Grain) → IsApart latest n → IsApart latest (forgotten n id)
+pub apart-forgotten : (latest : Option LatestNote) (n : Notes) (id : Grain) → IsApart latest n → IsApart latest (forgotten n id)
 apart-forgotten None n id apart = tt
 apart-forgotten (Some note) n id apart =
     map.get-remove grain_cmp_total n.lasts id note.id ∙ ap (cond (eq_by_cmp grain_cmp note.id id) None) apart ∙ none_either (eq_by_cmp grain_cmp note.id id)
 
 -- another one
-pub others-forgotten : (latest : Option Latest) (n : Notes) (id : Grain) → is_of id latest ≡ false → with_latest latest (forgotten n id) ≡ forgotten (with_latest latest n) id
+pub others-forgotten : (latest : Option LatestNote) (n : Notes) (id : Grain) → is_of id latest ≡ false → with_latest latest (forgotten n id) ≡ forgotten (with_latest latest n) id
 others-forgotten None n id e = refl
 others-forgotten (Some note) n id e = ap (λ lasts. record { age = n.age; lasts = lasts }) (maps.alike grain_cmp_total grain_cmp_exact _ _ (λ q.
     map.get-insert grain_cmp_total (map.remove n.lasts id) note.id note.last q
@@ -80,7 +80,7 @@ one_more age now last true due (Some x) h e = absurd (let none : Some x ≡ None
 one_more age now last false true o h e = omega arith
 one_more age now last false false o h e = omega arith
 
-pub latest-due : (latest : Option Latest) (n : Notes) (now : ℕ) (held : List Grain) → IsApart latest n → HoldsDue n now held → HoldsDue (with_latest latest n) now (held ++ due_of n.age now latest)
+pub latest-due : (latest : Option LatestNote) (n : Notes) (now : ℕ) (held : List Grain) → IsApart latest n → HoldsDue n now held → HoldsDue (with_latest latest n) now (held ++ due_of n.age now latest)
 latest-due None n now held apart holds q = ap (count_by (eq_by_cmp grain_cmp q)) (append-nil held) ∙ holds q
 latest-due (Some note) n now held apart holds q =
     let due = nat_le n.age (now - note.last) in

@@ -48,10 +48,6 @@ get-all n (g ∷ gs) m q =
     ∙ ap (cond (list_any (grain_eq q) gs) (Some m)) (get-noted n g m q ∙ ap (λ b. cond b (Some m) (map.get n.lasts q)) (sym (turned g q)))
     ∙ either (grain_eq q g) (list_any (grain_eq q) gs) (Some m) (map.get n.lasts q)
 
--- at another moment there are the same notes of no grains
-pub none-noted : (n : Notes) (gs : List Grain) (first last : ℕ) → gs ≡ [] → all_noted n gs last ≡ all_noted n gs first
-none-noted n gs first last none = ap (λ (gs : List Grain). all_noted n gs last) none ∙ ap (λ (gs : List Grain). all_noted n gs first) (sym none)
-
 -- ---- one grain more
 
 -- the grains, one more among them
@@ -98,13 +94,6 @@ all-without n old new k m apart there less = alike _ _ (age-all n new m ∙ sym 
     ∙ last_of (grain_eq k q) (list_any (grain_eq q) old) (Some m) (map.get n.lasts q) (not_filed n old k apart there q)
     ∙ ap (cond (grain_eq k q) None) (sym (get-all n old m q))
     ∙ sym (get-forgotten (all_noted n old m) k q))
-
-was_there : (b c : Bool) → cond b false c ≡ true → c ≡ true
-was_there true c e = absurd (true≢false (sym e))
-was_there false c e = e
-
-pub apart-without : (n : Notes) (old new : List Grain) (k : Grain) → Without old k new → AreApart old n → AreApart new n
-apart-without n old new k less apart q e = apart q (was_there (grain_eq k q) (list_any (grain_eq q) old) (sym (less q) ∙ e))
 
 -- ---- a grain that isn't there
 

@@ -4,9 +4,9 @@ ghost use Rattle.std.specs.Prelude.{◌≡◌, OnOk, OnErr, IfOk};
 ghost use Rattle.std.specs.FinMap.{empty};
 ghost use Rattle.idle_collector.specs.Notes.{noted, forgotten, due};
 
-use crate::latest;
-use crate::latest::Latest;
-use crate::recent::Recent;
+use crate::latest_moment::LatestMoment;
+use crate::latest_note;
+use crate::latest_note::LatestNote;
 use grain_id::GrainId;
 use std::alloc::{AllocError, Global};
 use std::marker::Model;
@@ -15,8 +15,8 @@ use std::marker::Model;
 /// aside, and filed when another grain is noted: mostly it is forgotten before.
 #[derive(Drop)]
 pub struct Collector {
-    latest: Option<Latest>,
-    filed: Recent,
+    latest: Option<LatestNote>,
+    filed: LatestMoment,
 }
 
 impl Model for Collector {
@@ -40,7 +40,7 @@ impl Collector {
     {
         Collector {
             latest: None,
-            filed: Recent::new(alloc, age),
+            filed: LatestMoment::new(alloc, age),
         }
     }
 
@@ -60,13 +60,13 @@ impl Collector {
         ensures noted { OnOk result (self.new ≡ noted self.old id last) }
         ensures unchanged { OnErr result (self.new ≡ self.old) }
     {
-        if latest::is_of(&self.latest, &id) {
-            self.latest = Some(Latest { id, last });
+        if latest_note::is_of(&self.latest, &id) {
+            self.latest = Some(LatestNote { id, last });
             return Ok(());
         }
-        latest::file(&mut self.latest, &mut self.filed)?;
+        latest_note::file(&mut self.latest, &mut self.filed)?;
         self.filed.forget(&id);
-        self.latest = Some(Latest { id, last });
+        self.latest = Some(LatestNote { id, last });
         Ok(())
     }
 
@@ -74,7 +74,7 @@ impl Collector {
     pub fn forget(&mut self, id: &GrainId)
         ensures { self.new ≡ forgotten self.old id.now }
     {
-        if latest::is_of(&self.latest, id) {
+        if latest_note::is_of(&self.latest, id) {
             self.latest = None;
             return;
         }
@@ -91,7 +91,7 @@ impl Collector {
         ensures { IfOk result (λ grains. grains.items ≡ due self.now now) }
     {
         let mut grains = self.filed.first_due(alloc, now)?;
-        latest::add_due(&self.latest, self.filed.age(), now, &mut grains)?;
+        latest_note::add_due(&self.latest, self.filed.age(), now, &mut grains)?;
         grains.sort_unstable();
         Ok(grains)
     }

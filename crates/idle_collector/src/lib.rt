@@ -10,9 +10,9 @@
 //! due ones.
 #![tactic(auto)]
 
+mod by_moment;
 mod collector;
-mod filed;
-mod latest;
-mod recent;
+mod latest_moment;
+mod latest_note;
 
 pub use collector::Collector;

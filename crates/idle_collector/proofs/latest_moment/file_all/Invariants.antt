@@ -1,6 +1,6 @@
 use Rattle.std.proofs.Common.{◌≡◌, length}
 use Rattle.idle_collector.specs.OneMoment.{all_noted, AreApart}
-use Rattle.idle_collector.proofs.recent.file_all.Given as goal
+use Rattle.idle_collector.proofs.latest_moment.file_all.Given as goal
 
 -- the notes are the same all along
 abbrev pub invariant-loop-id : goal.invariant-loop-id

@@ -1,7 +1,7 @@
 use Rattle.std.proofs.Common.{ap, sym, ◌∙◌}
 use Rattle.idle_collector.specs.Notes.{Notes}
 use Rattle.idle_collector.proofs.OneMoment.{age-all}
-use Rattle.idle_collector.proofs.recent.Recent.age.Goals as goal
+use Rattle.idle_collector.proofs.latest_moment.LatestMoment.age.Goals as goal
 
 pub returns : goal.returns
 returns c =

@@ -1,7 +1,7 @@
 use Rattle.std.proofs.Common.{◌≡◌, ◌++◌}
 use Rattle.slab.specs.Slab.{get}
 use Rattle.idle_collector.proofs.Prefix.{front}
-use Rattle.idle_collector.proofs.filed.Filed.first_due.Given as goal
+use Rattle.idle_collector.proofs.by_moment.ByMoment.first_due.Given as goal
 
 -- the grains so far, and then those at the front of the notes that are left
 abbrev pub invariant-loop-last : goal.invariant-loop-last

@@ -3,19 +3,19 @@
 ghost use Rattle.std.specs.Prelude.{◌≡◌, ◌++◌, None, OnOk, OnErr};
 ghost use Rattle.idle_collector.specs.Aside.{is_of, with_latest, due_of};
 
-use crate::recent::Recent;
+use crate::latest_moment::LatestMoment;
 use grain_id::GrainId;
 use std::alloc::AllocError;
 
 /// A note: of which grain, and when it was last used.
 #[derive(Drop)]
-pub struct Latest {
+pub struct LatestNote {
     pub id: GrainId,
     pub last: u64,
 }
 
 /// Whether a note is held aside, and is of this grain.
-pub fn is_of(latest: &Option<Latest>, id: &GrainId) -> bool
+pub fn is_of(latest: &Option<LatestNote>, id: &GrainId) -> bool
     ensures { result ≡ is_of id.now latest.now }
 {
     match latest {
@@ -29,7 +29,7 @@ pub fn is_of(latest: &Option<Latest>, id: &GrainId) -> bool
 /// # Errors
 ///
 /// Out of memory: nothing changed.
-pub fn file(latest: &mut Option<Latest>, filed: &mut Recent) -> Result<(), AllocError>
+pub fn file(latest: &mut Option<LatestNote>, filed: &mut LatestMoment) -> Result<(), AllocError>
     ensures filed { OnOk result (filed.new ≡ with_latest latest.old filed.old) }
     ensures none { OnOk result (latest.new ≡ None) }
     ensures still_aside { OnErr result (latest.new ≡ latest.old) }
@@ -48,7 +48,7 @@ pub fn file(latest: &mut Option<Latest>, filed: &mut Recent) -> Result<(), Alloc
 ///
 /// Out of memory.
 pub fn add_due(
-    latest: &Option<Latest>,
+    latest: &Option<LatestNote>,
     age: u64,
     now: u64,
     grains: &mut Vec<GrainId>,

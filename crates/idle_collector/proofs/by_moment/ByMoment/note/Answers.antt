@@ -9,7 +9,7 @@ use Rattle.grain_id.proofs.Order.{grain_eq_decides}
 use Rattle.idle_collector.specs.Ties.{time_cmp}
 use Rattle.idle_collector.proofs.Lasts.{found, noted_again, shown-noted, shown-same}
 use Rattle.idle_collector.proofs.Ties.{tied-same, tied-first, tied-moved}
-use Rattle.idle_collector.proofs.filed.Filed.note.Goals as goal
+use Rattle.idle_collector.proofs.by_moment.ByMoment.note.Goals as goal
 
 -- ---- a noted grain gets another moment
 

@@ -2,7 +2,7 @@ use Rattle.std.proofs.Common.{◌≡◌, ◌-◌, ◌++◌, [], cond, sym, ◌�
 use Rattle.std.specs.Prelude.{nat_le}
 use Rattle.idle_collector.specs.Notes.{Notes, HoldsDue}
 use Rattle.idle_collector.proofs.OneMoment.{due-all}
-use Rattle.idle_collector.proofs.recent.Recent.first_due.Goals as goal
+use Rattle.idle_collector.proofs.latest_moment.LatestMoment.first_due.Goals as goal
 
 pub returns : goal.returns
 returns c =

@@ -3,7 +3,7 @@ use Rattle.grain_id.specs.Names.{Grain}
 use Rattle.idle_collector.specs.Notes.{Notes, forgotten}
 use Rattle.idle_collector.specs.OneMoment.{all_noted, AreApart}
 use Rattle.idle_collector.proofs.OneMoment.{all-without, all-but, apart-but}
-use Rattle.idle_collector.proofs.recent.Recent.forget.Goals as goal
+use Rattle.idle_collector.proofs.latest_moment.LatestMoment.forget.Goals as goal
 
 pub returns-then-not-swap_remove : goal.returns-then-not-swap_remove
 returns-then-not-swap_remove c =

@@ -1,7 +1,7 @@
 use Rattle.std.proofs.Common.{sym}
 use Rattle.idle_collector.proofs.Lasts.{shown-forgotten}
 use Rattle.idle_collector.proofs.Ties.{tied-gone}
-use Rattle.idle_collector.proofs.filed.Filed.forget.Goals as goal
+use Rattle.idle_collector.proofs.by_moment.ByMoment.forget.Goals as goal
 
 pub invariant_of-self : goal.invariant_of-self
 invariant_of-self c =

@@ -8,21 +8,21 @@ ghost use Rattle.std.specs.FinMap.{empty};
 ghost use Rattle.idle_collector.specs.Notes.{noted, forgotten, HoldsDue};
 ghost use Rattle.idle_collector.specs.OneMoment.{all_noted, AreApart};
 
-use crate::filed::Filed;
+use crate::by_moment::ByMoment;
 use grain_id::GrainId;
 use indexmap::IndexSet;
 use std::alloc::{AllocError, Global};
 use std::marker::Model;
 
-/// The notes of one moment, and those that are filed.
+/// The notes of the moment that came last, and those that are filed.
 #[derive(Drop)]
-pub struct Recent {
+pub struct LatestMoment {
     last: u64,
     grains: IndexSet<GrainId>,
-    filed: Filed,
+    filed: ByMoment,
 }
 
-impl Model for Recent {
+impl Model for LatestMoment {
     ghost use Rattle.idle_collector.specs.Notes.{Notes, coded_notes};
     ghost use Rattle.idle_collector.specs.OneMoment.{all_noted, AreApart};
 
@@ -40,7 +40,11 @@ impl Model for Recent {
 /// # Errors
 ///
 /// Out of memory: some of them may be filed.
-fn file_all(last: u64, grains: &mut IndexSet<GrainId>, filed: &mut Filed) -> Result<(), AllocError>
+fn file_all(
+    last: u64,
+    grains: &mut IndexSet<GrainId>,
+    filed: &mut ByMoment,
+) -> Result<(), AllocError>
     requires { AreApart grains.old.keys filed.old }
     ensures notes { all_noted filed.new grains.new.keys last ≡ all_noted filed.old grains.old.keys last }
     ensures apart { AreApart grains.new.keys filed.new }
@@ -61,7 +65,7 @@ fn file_all(last: u64, grains: &mut IndexSet<GrainId>, filed: &mut Filed) -> Res
 fn go_on(
     at: &mut u64,
     grains: &mut IndexSet<GrainId>,
-    filed: &mut Filed,
+    filed: &mut ByMoment,
     last: u64,
 ) -> Result<(), AllocError>
     requires { AreApart grains.old.keys filed.old }
@@ -95,15 +99,15 @@ fn add_due(
     Ok(())
 }
 
-impl Recent {
+impl LatestMoment {
     /// Nothing is noted. A grain is due once it has been unused for the age, in milliseconds.
-    pub fn new(alloc: Global, age: u64) -> Recent
+    pub fn new(alloc: Global, age: u64) -> LatestMoment
         ensures { result ≡ record { age = age; lasts = empty } }
     {
-        Recent {
+        LatestMoment {
             last: 0,
             grains: IndexSet::new(alloc),
-            filed: Filed::new(alloc, age),
+            filed: ByMoment::new(alloc, age),
         }
     }
 

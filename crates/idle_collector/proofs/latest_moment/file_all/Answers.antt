@@ -2,7 +2,7 @@ use Rattle.std.proofs.Common.{◌≡◌, ap, sym, ◌∙◌, subst, refl}
 use Rattle.idle_collector.specs.Notes.{noted}
 use Rattle.idle_collector.specs.OneMoment.{all_noted, AreApart}
 use Rattle.idle_collector.proofs.OneMoment.{filed-next}
-use Rattle.idle_collector.proofs.recent.file_all.Goals as goal
+use Rattle.idle_collector.proofs.latest_moment.file_all.Goals as goal
 
 pub loop-id-preserved-in_ok-note : goal.loop-id-preserved-in_ok-note
 loop-id-preserved-in_ok-note c =

@@ -18,14 +18,14 @@ use std::marker::Model;
 /// The notes that are filed. Each grain has a place of a slab for as long as its note is filed, and
 /// stands in the order of time by its moment and its place.
 #[derive(Drop)]
-pub struct Filed {
+pub struct ByMoment {
     age: u64,
     lasts: IndexMap<GrainId, (u64, usize)>,
     grains: Slab<GrainId>,
     by_last: BTreeSet<(u64, usize)>,
 }
 
-impl Model for Filed {
+impl Model for ByMoment {
     ghost use Rattle.std.specs.FinMap.{from_entries};
     ghost use Rattle.std.specs.Map.{lookup};
     ghost use Rattle.std.specs.BTreeSet.{contains};
@@ -75,12 +75,12 @@ fn leave(grains: &mut Slab<GrainId>, by_last: &mut BTreeSet<(u64, usize)>, last:
     grains.try_remove(place);
 }
 
-impl Filed {
+impl ByMoment {
     /// Nothing is noted. A grain is due once it has been unused for the age, in milliseconds.
-    pub fn new(alloc: Global, age: u64) -> Filed
+    pub fn new(alloc: Global, age: u64) -> ByMoment
         ensures { result ≡ record { age = age; lasts = empty } }
     {
-        Filed {
+        ByMoment {
             age,
             lasts: IndexMap::new(alloc),
             grains: Slab::new(alloc),

@@ -6,8 +6,8 @@ use Rattle.slab.specs.Slab.{get}
 use Rattle.grain_id.specs.Names.{Grain}
 use Rattle.idle_collector.specs.Ties.{time_cmp}
 use Rattle.idle_collector.proofs.Prefix.{front, front-stops, front-holds}
-use Rattle.idle_collector.proofs.filed.Filed.first_due.Goals as goal
-use Rattle.idle_collector.proofs.filed.Filed.first_due.Goals.{in-None, in-Some+then-unused-self}
+use Rattle.idle_collector.proofs.by_moment.ByMoment.first_due.Goals as goal
+use Rattle.idle_collector.proofs.by_moment.ByMoment.first_due.Goals.{in-None, in-Some+then-unused-self}
 
 pub returns : goal.returns
 returns c =

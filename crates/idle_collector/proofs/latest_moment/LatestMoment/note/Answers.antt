@@ -2,7 +2,7 @@ use Rattle.std.proofs.Common.{ap, sym, ◌∙◌, subst}
 use Rattle.idle_collector.specs.Notes.{Notes, noted}
 use Rattle.idle_collector.specs.OneMoment.{all_noted, AreApart}
 use Rattle.idle_collector.proofs.OneMoment.{With, all-with, apart-with}
-use Rattle.idle_collector.proofs.recent.Recent.note.Goals as goal
+use Rattle.idle_collector.proofs.latest_moment.LatestMoment.note.Goals as goal
 
 pub invariant_of-self-2 : goal.invariant_of-self-2
 invariant_of-self-2 c =
