@@ -9,13 +9,13 @@ use Rattle.request_codec.specs.Tree.{Tree}
 use Rattle.grain_kinds.specs.Logic.{Logic, Plan, Outgoing}
 use Rattle.grain_kinds.specs.Planned.{storage_call}
 use Rattle.grain_kinds.specs.declared.turn.OpenedTurn.{OpenedTurn}
-use Rattle.grain_kinds.specs.declared.turn.Planned.{Planned}
+use Rattle.grain_kinds.specs.declared.turn.OwnedPlan.{OwnedPlan}
 
 abbrev pub sent : Grain × Call → Outgoing
 sent s = record { target = s.0; call = s.1 }
 
 -- The state stays where there is no other.
-abbrev pub planned_shown : Tree → Planned → Plan
+abbrev pub planned_shown : Tree → OwnedPlan → Plan
 planned_shown state p = record {
   state = unwrap_or p.state state;
   outcome = p.outcome;

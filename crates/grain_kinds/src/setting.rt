@@ -8,7 +8,7 @@ ghost use Rattle.grain_kinds.specs.Sheet.{put_plan};
 
 use crate::fault::MethodFault;
 use crate::plan::StoreCall;
-use crate::turn::Planned;
+use crate::turn::OwnedPlan;
 use crate::writing::state_of;
 use request_codec::StateBytes;
 use std::alloc::{AllocError, Global};
@@ -22,7 +22,7 @@ pub(crate) fn set_planned(
     state: &StateBytes,
     name: &str,
     value: Node<'_>,
-) -> Result<Planned, AllocError>
+) -> Result<OwnedPlan, AllocError>
     requires state_fits { FitsState state.now }
     requires value_fits { FitsField (node_value value) }
     ensures { IfOk result (λ planned. planned_shown state.now planned ≡ put_plan state.now (name.now, node_value value.entry)) }
@@ -31,7 +31,7 @@ pub(crate) fn set_planned(
         Some(made) => (Some(made), Ok(state_of(alloc, Node::Null)?)),
         None => (None, Err(MethodFault::TooLarge)),
     };
-    Ok(Planned {
+    Ok(OwnedPlan {
         state: next,
         outcome,
         store: StoreCall::None,

@@ -32,7 +32,7 @@ pub struct OpenedTurn {
 
 /// What a turn came to, in bytes of its own.
 #[derive(Drop)]
-pub(crate) struct Planned {
+pub(crate) struct OwnedPlan {
     /// The state after the turn, if it is another one.
     pub state: Option<StateBytes>,
     pub outcome: Result<StateBytes, MethodFault>,
@@ -44,7 +44,7 @@ pub(crate) struct Planned {
 #[derive(Drop)]
 pub struct FinishedTurn<L: GrainLogic> {
     opened: OpenedTurn,
-    planned: Planned,
+    planned: OwnedPlan,
     of: PhantomData<L>,
 }
 
@@ -76,7 +76,7 @@ fn planned_by<L: GrainLogic>(
     bump: &Bump,
     logic: &L,
     opened: &OpenedTurn,
-) -> Result<Planned, AllocError>
+) -> Result<OwnedPlan, AllocError>
     ensures { IfOk result (λ planned. planned_shown opened.now.state planned ≡ turn_plan L.logic opened.now) }
 {
     let room = room_for(opened);

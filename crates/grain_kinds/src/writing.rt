@@ -11,7 +11,7 @@ ghost use Rattle.grain_kinds.specs.Planned.{send_shown, outcome_shown, plan_show
 
 use crate::fault::MethodFault;
 use crate::plan::{Plan, Send};
-use crate::turn::Planned;
+use crate::turn::OwnedPlan;
 use grain_id::GrainId;
 use request_codec::limits::STATE_ROOM;
 use request_codec::{CodecFault, Message, StateBytes};
@@ -92,11 +92,11 @@ fn sends_of(alloc: Global, sends: Vec<Send<'_>>) -> Result<Vec<(GrainId, Message
 }
 
 /// All that a plan holds. The new state is written into room for that many bytes at first.
-pub(crate) fn written(alloc: Global, room: usize, plan: Plan<'_>) -> Result<Planned, AllocError>
+pub(crate) fn written(alloc: Global, room: usize, plan: Plan<'_>) -> Result<OwnedPlan, AllocError>
     requires { NodesFit plan }
     ensures { IfOk result (λ planned. (state : Tree) → planned_shown state planned ≡ plan_shown state plan.entry) }
 {
-    Ok(Planned {
+    Ok(OwnedPlan {
         state: next_of(alloc, room, plan.state)?,
         outcome: outcome_of(alloc, plan.outcome)?,
         store: plan.store,

@@ -3,7 +3,8 @@
 //! A layer above may rely on this: the generated types of `Step`, `Reply` and `Fault` are the
 //! definitions' own types, so two steps are equal exactly if their parts are, and a clone equals
 //! its source; a fault's code and text, and the fault of a refused line, are those of
-//! `specs/Fault.antt`; a step's owner and the tenant of a party are those of `specs/Owner.antt`; a
+//! `specs/Fault.antt`; a step's owner and the tenant of a party are those of `specs/Owner.antt`, who
+//! asks by a step is that of `specs/Asker.antt`, and the grain that it names that of `specs/Named.antt`; a
 //! step whose storage call failed is that of `specs/Failed.antt`, and [`same_but_failed`] leaves that
 //! mark aside; a fault's text is visible ASCII and spaces (`specs/Visible.antt`).
 #![tactic(auto)]

@@ -8,8 +8,11 @@ use crate::refusal::Refusal;
 use grain_id::{Caller, GrainId};
 use request_codec::{Message, SharedState};
 use std::alloc::AllocError;
+use thiserror::Error;
 
+mod asker;
 mod failed;
+mod named;
 mod owner;
 mod same;
 
@@ -99,12 +102,14 @@ pub enum Answer {
 }
 
 /// Why a step has no answer.
-#[derive(Clone, Copy, Debug, PartialEq, Eq)]
+#[derive(Clone, Copy, Debug, PartialEq, Eq, Error)]
 pub enum StepFault {
     /// Memory was refused: nothing changed.
+    #[error("out of memory")]
     Memory,
     /// What was handed in to close a turn is not of that turn's own message and state: nothing
     /// changed.
+    #[error("result is of another turn")]
     Stranger,
 }
 

@@ -4,13 +4,16 @@ ghost use Rattle.std.specs.Prelude.{◌≡◌};
 ghost use Rattle.turn_arena.specs.declared.fault.ArenaFault.TheVariants as faults;
 
 use std::alloc::{AllocError, AllocFailed};
+use thiserror::Error;
 
 /// Why there is no tree.
-#[derive(Clone, Copy, Debug, PartialEq, Eq)]
+#[derive(Clone, Copy, Debug, PartialEq, Eq, Error)]
 pub enum ArenaFault {
     /// Nothing spells the bytes.
+    #[error("nothing spells the bytes")]
     NotAMessage,
     /// Memory was refused.
+    #[error("out of memory")]
     Memory,
 }
 

@@ -1,6 +1,6 @@
 //! Values as trees of borrowed nodes, whose parts lie in the arena of one turn.
 //!
-//! A layer above may rely on this: a `Node` shows the value that `specs/Shape.antt` gives of it; reading
+//! A layer above may rely on this: a `Node` shows the value that `specs/NodeValue.antt` gives of it; reading
 //! answers a tree exactly where something spells the bytes, and the names of each of its maps ascend
 //! strictly; the tree operations copy nodes and no tree; writing gives the spelling of the value.
 //! What spells a value is in `request_codec`.

@@ -14,9 +14,11 @@ use request_codec::StateBytes;
 use std::alloc::{AllocError, Global};
 use std::collections::VecDeque;
 use std::marker::Model;
+use thiserror::Error;
 
 /// No turn of that number is open.
-#[derive(Clone, Copy, Debug, PartialEq, Eq)]
+#[derive(Clone, Copy, Debug, PartialEq, Eq, Error)]
+#[error("no turn of that number is open")]
 pub struct NoTurn;
 
 /// The requests of one grain.

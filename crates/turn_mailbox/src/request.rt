@@ -6,6 +6,7 @@ ghost use Rattle.turn_mailbox.specs.Contents.{is_from};
 use grain_id::Caller;
 use request_codec::Message;
 use silo_event::Party;
+use std::alloc::AllocError;
 
 /// A request that was accepted.
 #[derive(Debug, Drop)]
@@ -16,6 +17,19 @@ pub struct Request {
     pub reading: bool,
     pub sender: Party,
     pub message: Message,
+}
+
+impl Clone for Request {
+    ghost is_clone = { λ request copy. copy ≡ request };
+
+    fn clone(&self) -> Result<Request, AllocError> {
+        Ok(Request {
+            number: self.number,
+            reading: self.reading,
+            sender: self.sender.clone()?,
+            message: self.message.clone()?,
+        })
+    }
 }
 
 impl Request {

@@ -106,6 +106,7 @@ pub fn same_but_failed(step: &Step, other: &Step) -> bool
         ) => grain == other_grain && turn == other_turn,
         (Step::Tick { now }, Step::Tick { now: other_now }) => now == other_now,
         (Step::Sweep, Step::Sweep) => true,
+        // Steps of two kinds. A kind with no arm of its own would come here too, which the clause refuses.
         _ => false,
     }
 }
