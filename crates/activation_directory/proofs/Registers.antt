@@ -1,9 +1,12 @@
 -- What a directory shows, after each change of its parts.
-use Rattle.std.proofs.Common.{◌≡◌, ℕ, ◌+◌, ◌-◌, cond, List, [], Option, Some, None, refl, ap, sym, ◌∙◌, subst}
+use Rattle.std.proofs.Common.{◌≡◌, ℕ, ◌+◌, ◌-◌, cond, IsSome, List, [], Option, Some, None, refl, ap, sym, ◌∙◌, subst}
 use Rattle.std.specs.FinMap as map
 use Rattle.std.specs.Map.{lookup, keys_of}
 use Rattle.std.specs.List.{IsDistinct}
-use Rattle.std.specs.Prelude.{string_bytes}
+use Rattle.std.specs.Prelude.{string_bytes, slice_get, option_map}
+use Rattle.std.proofs.lemmas.Map.Entries.{place_from_lookup}
+use Rattle.std.proofs.lemmas.Option.{slice_get-map}
+use Rattle.grain_id.proofs.Order.{grain_eq_decides}
 use Rattle.std.specs.Cmp.Lexicographic.{slice_cmp}
 use Rattle.std.specs.Ordering.{nat_cmp, is_eq}
 use Rattle.std.specs.declared.string.String.{String}
@@ -14,7 +17,7 @@ use Rattle.grain_id.specs.Names.{Grain, grain_cmp, grain_eq}
 use Rattle.activation_directory.specs.Places.{placed, at_place, ArePlaced}
 use Rattle.activation_directory.proofs.Places.{get-placed, map-written, placed-none, placed-regrown, slots-regrown, map-inserted, placed-inserted, map-removed, placed-removed, some_of}
 use Rattle.activation_directory.specs.declared.activation.Activation.{Activation}
-use Rattle.activation_directory.specs.Register.{Register}
+use Rattle.activation_directory.specs.Register.{Register, StandsIn}
 use Rattle.activation_directory.specs.Counts.{Numbers, kept, count_in, NumbersTo}
 use Rattle.activation_directory.specs.Kept.{shown, IsDirectory}
 use Rattle.activation_directory.specs.Lending.{with_activation}
@@ -23,6 +26,17 @@ use Rattle.activation_directory.proofs.Sizes.{grains, count_in-empty, counted-in
 -- a look-up of the place, and then of what stands there
 pub get-shown : (s : Slab Activation) (es : List (Grain × ℕ)) → ArePlaced grain_eq es s → (q : Grain) → map.get (shown es s).activations q ≡ at_place s (lookup (grain_eq q) es)
 get-shown s es ok q = get-placed grains s es ok.unique q
+
+placed_at : (s : Slab Activation) (o : Option ℕ) → IsSome (at_place s o) → (place : ℕ) × (o ≡ Some place)
+placed_at s None h = absurd (cc (h))
+placed_at s (Some place) h = (place, refl)
+
+-- each grain that has an activation stands at one of the places
+pub stands : (s : Slab Activation) (es : List (Grain × ℕ)) → ArePlaced grain_eq es s → (id : Grain) → IsSome (map.get (shown es s).activations id) → StandsIn (shown es s).order id
+stands s es ok id there =
+    let found = placed_at s (lookup (grain_eq id) es) (subst IsSome (get-shown s es ok id) there) in
+    let place = place_from_lookup (grain_eq id) es found.0 found.1 in
+    (place.0, slice_get-map (λ (e : Grain × ℕ). e.0) es place.0 ∙ ap (option_map (λ (e : Grain × ℕ). e.0)) place.2 ∙ ap (λ k. Some k) (sym ((grain_eq_decides id place.1).0 place.3)))
 
 pub shown-written : (s : Slab Activation) (es : List (Grain × ℕ)) → ArePlaced grain_eq es s → (id : Grain) (place : ℕ) → lookup (grain_eq id) es ≡ Some place → (w : Activation) → shown es (with_value s place w) ≡ with_activation (shown es s) id w
 shown-written s es ok id place at w = λ i. record { activations = map-written grains es s ok id place at w i; order = keys_of es }

@@ -8,15 +8,15 @@ use Rattle.activation_directory.specs.Places.{placed, ArePlaced}
 use Rattle.activation_directory.specs.declared.activation.Activation.{Activation}
 use Rattle.activation_directory.specs.Register.{Register}
 use Rattle.activation_directory.specs.Counts.{Numbers, kept, count_in}
-use Rattle.activation_directory.specs.declared.latest.Latest.{Latest}
-use Rattle.activation_directory.specs.Latest.{LeadsTo}
+use Rattle.activation_directory.specs.declared.latest_place.LatestPlace.{LatestPlace}
+use Rattle.activation_directory.specs.LatestPlace.{LeadsTo}
 
 -- what an index and a slab show
 abbrev pub shown : List (Grain × ℕ) → Slab Activation → Register
 shown places activations = record { activations = from_entries (placed activations places); order = keys_of places }
 
 -- The grains lead to the activations, one each, each tenant's number is that of its grains, and the grain that was looked up last leads where it did.
-pub record IsDirectory (places : List (Grain × ℕ)) (activations : Slab Activation) (numbers : Numbers) (latest : Option Latest) : Type 0 where
+pub record IsDirectory (places : List (Grain × ℕ)) (activations : Slab Activation) (numbers : Numbers) (latest : Option LatestPlace) : Type 0 where
   pub placed_all : ArePlaced grain_eq places activations
   pub counted : (tenant : List ℕ) → kept numbers tenant ≡ count_in (shown places activations).activations tenant
   pub latest_leads : LeadsTo latest places

@@ -3,4 +3,4 @@ pub mod Register
 pub mod Counts
 pub mod Kept
 pub mod Lending
-pub mod Latest
+pub mod LatestPlace

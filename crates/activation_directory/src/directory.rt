@@ -1,14 +1,18 @@
 //! Which activation a grain has.
 
-ghost use Rattle.std.specs.Prelude.{◌≡◌, ◌<◌, ◌^◌, [], Some, None, OnOk, OnErr, IfErr, IfNone, IfSome, slice_get, length};
+ghost use Rattle.std.specs.Prelude.{◌≡◌, ◌<◌, ◌^◌, ◌++◌, ◌∷◌, [], Some, None, OnOk, OnErr, IfErr, IfNone, IfSome, IsSome, slice_get, length};
 ghost use Rattle.std.specs.Option.{option_copied, option_copied_mut, option_map};
+ghost use Rattle.std.specs.List.{IsDistinct};
 ghost use Rattle.std.specs.FinMap as map;
 ghost use Rattle.std.specs.Borrow.{sem};
+ghost use Rattle.indexmap.specs.IndexMap.{swap_remove_by};
+ghost use Rattle.grain_id.specs.Names.{Grain, grain_eq};
 ghost use Rattle.activation_directory.specs.Counts.{count_in};
+ghost use Rattle.activation_directory.specs.Register.{StandsIn};
 
 use crate::activation::Activation;
-use crate::latest::Latest;
-use crate::{counts, latest};
+use crate::latest_place::LatestPlace;
+use crate::{counts, latest_place};
 use grain_id::GrainId;
 use indexmap::IndexMap;
 use slab::Slab;
@@ -24,7 +28,7 @@ pub struct Directory {
     places: IndexMap<GrainId, usize>,
     activations: Slab<Activation>,
     numbers: BTreeMap<String, usize>,
-    latest: Option<Latest>,
+    latest: Option<LatestPlace>,
 }
 
 impl Model for Directory {
@@ -62,7 +66,7 @@ impl Directory {
     pub fn get(&self, id: &GrainId) -> Option<&Activation>
         ensures { option_copied result ≡ map.get self.now.activations id.now }
     {
-        let place = latest::place_of(&self.latest, &self.places, id)?;
+        let place = latest_place::place_of(&self.latest, &self.places, id)?;
         self.activations.get(place)
     }
 
@@ -71,12 +75,12 @@ impl Directory {
         ensures* writes_back { sem 𝓛 (LendsActivation self.entry id.now result) }
         ensures value { option_copied_mut result ≡ map.get self.old.activations id.now }
     {
-        let place = latest::place_of(&self.latest, &self.places, id)?;
-        latest::remember(&mut self.latest, id, place);
+        let place = latest_place::place_of(&self.latest, &self.places, id)?;
+        latest_place::remember(&mut self.latest, id, place);
         self.activations.get_mut(place)
     }
 
-    /// Adds an activation of a grain that has none.
+    /// Adds an activation of a grain that has none, as the last of the order.
     ///
     /// # Errors
     ///
@@ -89,6 +93,7 @@ impl Directory {
     ) -> Result<(), (GrainId, Activation)>
         requires { map.get self.old.activations id ≡ None }
         ensures entered { OnOk result (self.new.activations ≡ map.insert self.old.activations id activation) }
+        ensures order { OnOk result (self.new.order ≡ self.old.order ++ id ∷ []) }
         ensures given_back { IfErr result (λ pair. pair ≡ (id, activation)) }
         ensures unchanged { OnErr result (self.new ≡ self.old) }
     {
@@ -112,10 +117,11 @@ impl Directory {
         }
     }
 
-    /// Takes the grain's activation out. Takes no memory.
+    /// Takes the grain's activation out, and moves the last grain of the order to its place. Takes no memory.
     pub fn remove(&mut self, id: &GrainId) -> Option<Activation>
         ensures found { result ≡ map.get self.old.activations id.now }
         ensures removed { self.new.activations ≡ map.remove self.old.activations id.now }
+        ensures order { self.new.order ≡ swap_remove_by (grain_eq id.now) self.old.order }
         ensures unchanged { IfNone result (self.new ≡ self.old) }
     {
         let place = self.places.swap_remove(id)?;
@@ -133,17 +139,18 @@ impl Directory {
         counts::of(&self.numbers, tenant)
     }
 
-    /// How many grains have an activation.
+    /// How many grains have an activation, which is how many stand in the order, each of them once.
     pub fn len(&self) -> usize
         ensures activations { result ≡ map.len self.now.activations }
         ensures order { result ≡ length self.now.order }
+        ensures once { IsDistinct grain_eq self.now.order }
+        ensures all { (id : Grain) → IsSome (map.get self.now.activations id) → StandsIn self.now.order id }
     {
         self.places.len()
     }
 
     /// The grain and its activation at that place of the order. The places below `len` show each grain
-    /// once; the order is that of the calls of `insert`, but `remove` moves the last to the place that
-    /// was left.
+    /// that has one once, as the clauses of `len` say.
     pub fn at(&self, place: usize) -> Option<(&GrainId, &Activation)>
         ensures id { option_map (λ entry. entry.0.now) result ≡ slice_get self.now.order place }
         ensures activation { IfSome result (λ entry. map.get self.now.activations entry.0.now ≡ Some entry.1.now) }

@@ -1,11 +1,13 @@
-use Rattle.std.proofs.Common.{◌≡◌, ◌+◌, ◌≤◌, ◌<◌, ℕ, List, Some, None, cond, ap, sym, ◌∙◌, subst, arith, length}
+use Rattle.std.proofs.Common.{◌≡◌, ◌++◌, ◌∷◌, [], ◌+◌, ◌≤◌, ◌<◌, ℕ, List, Some, None, cond, ap, sym, ◌∙◌, subst, arith, length}
 use Rattle.std.specs.FinMap as map
-use Rattle.std.specs.Map.{lookup}
+use Rattle.std.specs.Map.{lookup, keys_of}
+use Rattle.indexmap.specs.IndexMap.{insert_entry}
+use Rattle.activation_directory.proofs.Order.{added, absent_of}
 use Rattle.grain_id.specs.Names.{Grain, grain_eq}
 use Rattle.activation_directory.specs.Register.{Register}
 use Rattle.activation_directory.specs.Counts.{kept, count_in, NumbersTo}
 use Rattle.activation_directory.proofs.Sizes.{count-bound}
-use Rattle.activation_directory.proofs.Registers.{activations-inserted, directory-inserted}
+use Rattle.activation_directory.proofs.Registers.{get-shown, activations-inserted, directory-inserted}
 use Rattle.activation_directory.proofs.directory.Directory.insert.Goals as goal
 
 pub add_one-requires-clause-fits : goal.add_one-requires-clause-fits
@@ -32,3 +34,13 @@ returns-clause-entered c =
     activations-inserted inside.places.entries c.insert.new.self.entries inside.activations c.reserve.new.self c.insert_reserved-place.new.self c.self.invariant.placed_all c.reserve.ensures.rest_kept c.in-Ok.ensures.unique c.args.id place c.args.activation leads
     c.insert_reserved-place.ensures.was_vacant c.insert_reserved-place.ensures.updates
     ∙ ap (λ d. map.insert d.activations c.args.id c.args.activation) c.self.view_is
+
+pub returns-clause-order : goal.returns-clause-order
+returns-clause-order c =
+    let inside = c.self.inside in
+    let es = inside.places.entries in
+    let none = absent_of inside.activations (lookup (grain_eq c.args.id) es) (c.self.invariant.placed_all.filled c.args.id) (sym (get-shown inside.activations es c.self.invariant.placed_all c.args.id) ∙ ap (λ d. map.get d.activations c.args.id) c.self.view_is ∙ c.requires) in
+    ap keys_of c.in-Ok.ensures.entries
+    ∙ ap (λ fs. keys_of (insert_entry grain_eq fs c.args.id c.insert_reserved-place.result)) c.reserve-2.ensures.entries
+    ∙ added grain_eq es c.args.id c.insert_reserved-place.result none
+    ∙ ap (λ d. d.order ++ c.args.id ∷ []) c.self.view_is

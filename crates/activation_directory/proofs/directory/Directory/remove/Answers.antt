@@ -1,6 +1,9 @@
 use Rattle.std.proofs.Common.{rules, ◌≡◌, ◌+◌, ◌-◌, ◌≤◌, ◌<◌, ℕ, List, Some, None, cond, ap, sym, ◌∙◌, subst}
 use Rattle.std.specs.FinMap as map
 use Rattle.slab.specs.Slab as slab
+use Rattle.std.specs.Map.{keys_of}
+use Rattle.indexmap.specs.IndexMap.{swap_remove_by}
+use Rattle.indexmap.proofs.SetLemmas.{keys_swap_remove_entry}
 use Rattle.grain_id.specs.Names.{Grain, grain_cmp, grain_eq}
 use Rattle.grain_id.proofs.ByGrain.{remove-absent}
 use Rattle.activation_directory.specs.Places.{placed, at_place}
@@ -52,3 +55,9 @@ returns-clause-unchanged c =
     let at = sym c.in_ok-place.ensures.value in
     let there = some_of (slab.get c.self.inside.activations c.in_ok-place.place) (c.self.invariant.placed_all.filled c.args.id.now c.in_ok-place.place at) in
     rw (c.try_remove.ensures.value ∙ there.1) tt
+
+pub returns-clause-order : goal.returns-clause-order
+returns-clause-order c =
+    ap keys_of c.swap_remove.ensures.entries
+    ∙ keys_swap_remove_entry (grain_eq c.args.id.now) c.self.inside.places.entries
+    ∙ ap (λ d. swap_remove_by (grain_eq c.args.id.now) d.order) c.self.view_is

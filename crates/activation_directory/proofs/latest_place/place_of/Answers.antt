@@ -2,11 +2,11 @@ use Rattle.std.proofs.Common.{◌≡◌, ℕ, Bool, true, false, cond, List, Opt
 use Rattle.std.specs.Map.{lookup}
 use Rattle.grain_id.specs.Names.{Grain, grain_eq}
 use Rattle.grain_id.proofs.Order.{grain_eq_decides}
-use Rattle.activation_directory.specs.declared.latest.Latest.{Latest}
-use Rattle.activation_directory.specs.Latest.{place_in, LeadsTo}
-use Rattle.activation_directory.proofs.latest.place_of.Goals as goal
+use Rattle.activation_directory.specs.declared.latest_place.LatestPlace.{LatestPlace}
+use Rattle.activation_directory.specs.LatestPlace.{place_in, LeadsTo}
+use Rattle.activation_directory.proofs.latest_place.place_of.Goals as goal
 
-leads : (latest : Option Latest) (es : List (Grain × ℕ)) (id : Grain) (place : ℕ) → LeadsTo latest es → place_in id latest ≡ Some place → Some place ≡ lookup (grain_eq id) es
+leads : (latest : Option LatestPlace) (es : List (Grain × ℕ)) (id : Grain) (place : ℕ) → LeadsTo latest es → place_in id latest ≡ Some place → Some place ≡ lookup (grain_eq id) es
 leads None es id place there e = absurd cc
 leads (Some latest) es id place there e = by (grain_eq latest.id id) refl e
   where

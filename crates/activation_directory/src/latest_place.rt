@@ -3,20 +3,20 @@
 ghost use Rattle.std.specs.Prelude.{◌≡◌, ℕ, List, Some};
 ghost use Rattle.std.specs.Map.{lookup};
 ghost use Rattle.grain_id.specs.Names.{Grain, grain_eq};
-ghost use Rattle.activation_directory.specs.Latest.{place_in, LeadsTo};
+ghost use Rattle.activation_directory.specs.LatestPlace.{place_in, LeadsTo};
 
 use grain_id::GrainId;
 use indexmap::IndexMap;
 
 /// A grain, and the place to which it leads.
 #[derive(Drop)]
-pub struct Latest {
+pub struct LatestPlace {
     pub id: GrainId,
     pub place: usize,
 }
 
 /// The place, if the grain is the one that was looked up last.
-fn place_in(latest: &Option<Latest>, id: &GrainId) -> Option<usize>
+fn place_in(latest: &Option<LatestPlace>, id: &GrainId) -> Option<usize>
     ensures { result ≡ place_in id.now latest.now }
 {
     let Some(found) = latest else {
@@ -30,7 +30,7 @@ fn place_in(latest: &Option<Latest>, id: &GrainId) -> Option<usize>
 
 /// The place to which the grain leads, with no look-up by hash if it was looked up last.
 pub fn place_of(
-    latest: &Option<Latest>,
+    latest: &Option<LatestPlace>,
     places: &IndexMap<GrainId, usize>,
     id: &GrainId,
 ) -> Option<usize>
@@ -45,13 +45,13 @@ pub fn place_of(
 
 /// The grain was looked up, and leads to this place. If no clone of its name can be made, another
 /// grain stays the one that was looked up last.
-pub fn remember(latest: &mut Option<Latest>, id: &GrainId, place: usize)
+pub fn remember(latest: &mut Option<LatestPlace>, id: &GrainId, place: usize)
     ensures { (index : List (Grain × ℕ)) → LeadsTo latest.old index → lookup (grain_eq id.now) index ≡ Some place → LeadsTo latest.new index }
 {
     if place_in(latest, id).is_some() {
         return;
     }
     if let Ok(id) = id.clone() {
-        *latest = Some(Latest { id, place });
+        *latest = Some(LatestPlace { id, place });
     }
 }
