@@ -1,18 +1,17 @@
-pub mod Lines
-pub mod Numbers
-pub mod Words
-pub mod Cuts
-pub mod FieldsBack
-pub mod StepsBack
-pub mod LinesBack
-pub mod OwnText
-pub mod Plain
-pub mod LinesPlain
-pub mod Drafts
-pub mod Added
-pub mod DraftJournals
-pub mod LinesCut
-pub mod Faults
-pub mod Breaks
-pub mod JournalReads
-pub mod OneText
+mod Alone
+mod SiloJournal
+mod OneTable
+mod Steps
+mod Lists
+mod RowsApart
+mod Owners
+mod StepOwners
+mod RepliesWalked
+mod RowsWalked
+mod FirstDifference
+mod Tables
+mod Lines
+mod Reports
+mod Strided
+mod PartsMerged
+mod PartsGiven

@@ -1,30 +1,21 @@
-//! Laws over the definitions alone. Each is the contract of a function that does nothing.
+//! Laws of journals and of their audit, over the definitions alone. No code runs: a law is the contract
+//! of a function that does nothing.
 
-ghost use Rattle.std.specs.Prelude.{◌≡◌, ℕ, List, true};
-ghost use Rattle.std.specs.List.{list_all};
-ghost use Rattle.tenant_audit.specs.declared.line.Line.{Line};
-ghost use Rattle.tenant_audit.specs.RecordedFault.{is_text_byte};
-ghost use Rattle.tenant_audit.specs.Rules.{IsLine, KeepsRules};
-ghost use Rattle.tenant_audit.specs.Text.{History, line_text, journal_text};
-ghost use Rattle.tenant_audit.specs.FirstFault.{IsFirstFault, IsNoJournal};
+ghost use Rattle.std.specs.Prelude.{◌≡◌};
+ghost use Rattle.journal_text.specs.Rules.{KeepsRules};
+ghost use Rattle.journal_text.specs.Text.{History, journal_text};
+ghost use Rattle.audit_model.specs.Report.{NoDifference};
 
-/// No two lines of a journal have the same text.
-pub fn one_line()
-    ensures { (l m : Line) → IsLine l → IsLine m → line_text l ≡ line_text m → l ≡ m }
-{}
-
-/// The text of a line is of visible ASCII and spaces.
-pub fn plain_line()
-    ensures { (l : Line) → IsLine l → list_all is_text_byte (line_text l) ≡ true }
-{}
-
-/// No two journals have the same text.
+/// No two journals that keep the rules have the same text.
 pub fn one_text()
     ensures { (j k : History) → KeepsRules j → KeepsRules k → journal_text j ≡ journal_text k → j ≡ k }
-{}
+{
+    journal_text::laws::one_text();
+}
 
-/// Of some bytes at most one line is the first at fault, and then they are no journal's.
-pub fn one_first_fault()
-    ensures one { (bytes : List ℕ) (m n : ℕ) → IsFirstFault bytes m → IsFirstFault bytes n → m ≡ n }
-    ensures no_journal { (bytes : List ℕ) (n : ℕ) → IsFirstFault bytes n → IsNoJournal bytes }
-{}
+/// The journal of a silo that opened with no rows has no difference.
+pub fn no_difference()
+    ensures { NoDifference }
+{
+    audit_model::laws::no_difference();
+}

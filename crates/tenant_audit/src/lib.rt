@@ -1,26 +1,33 @@
-//! Journals as text: what a silo did, written whole and read whole.
+//! The journal of a silo as text, and the audit of a journal: each tenant's steps are taken again by a
+//! machine of the tenant's own, and what was recorded is compared with what the machine shows.
 //!
-//! A layer above may rely on this: a journal is seen as its tenants with their limits, its age, its
-//! steps, its recorded replies and its recorded rows, and it keeps the rules of a journal's text. The
-//! text of a journal is in `specs/Text.antt`, the rules in `specs/Rules.antt`, and which line of other
-//! bytes is at fault in `specs/FirstFault.antt`.
+//! A layer above may rely on this: a [`TenantMachine`] is seen as the machine of `silo_model`, the
+//! [`Report`] of [`audit`] is the one report that `audit_model` defines, and the journal of a silo that
+//! opened with no rows has no difference.
 #![tactic(auto)]
 
-mod draft;
-mod fault;
-mod field_reader;
-mod journal;
-mod journal_reader;
-mod journal_writer;
+mod comparison;
+mod difference;
+mod gate;
 pub mod laws;
-mod line;
-mod line_reader;
-mod line_writer;
-mod recorded;
-mod step_reader;
+mod machine;
+mod parts;
+mod plain_audit;
+mod replies;
+mod report;
+mod report_lines;
+mod rows;
+mod silo_journal;
+mod table;
+mod tenants;
+mod threads;
 
-pub use fault::JournalFault;
-pub use journal::Journal;
-pub use journal_reader::read_journal;
-pub use journal_writer::journal_of_parts;
-pub use recorded::{RecordedFault, RecordedReply};
+pub use difference::Difference;
+pub use gate::{AuditGate, FreeAuditGate};
+pub use journal_text::{Journal, JournalFault, read_journal};
+pub use machine::TenantMachine;
+pub use plain_audit::audit_under;
+pub use report::{Report, TenantReport};
+pub use report_lines::{has_difference, report_text};
+pub use silo_journal::write_journal;
+pub use threads::{AuditFault, MAX_WORKERS, audit, audit_with};

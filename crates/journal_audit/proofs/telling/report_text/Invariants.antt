@@ -1,8 +1,0 @@
-use Rattle.std.proofs.Common.{◌≡◌, flat_map, string_bytes, take}
-use Rattle.journal_audit.specs.Reported.{tenant_report_of}
-use Rattle.journal_audit.specs.ReportText.{report_line}
-use Rattle.journal_audit.proofs.telling.report_text.Given as goal
-
--- the text has the lines so far
-abbrev pub invariant-reports : goal.invariant-reports
-invariant-reports l = string_bytes l.text ≡ flat_map (λ r. report_line (tenant_report_of r)) (take l.report-index l.reports)

@@ -1,6 +1,0 @@
-use Rattle.std.proofs.Common.{take}
-use Rattle.journal_audit.specs.Owners.{Gains, reply_owners}
-use Rattle.journal_audit.proofs.tenants.add_replies.Given as goal
-
-abbrev pub invariant-replies : goal.invariant-replies
-invariant-replies l = Gains l.initial.owners.keys (reply_owners (take l.reply-index l.replies)) l.owners.keys

@@ -1,6 +1,0 @@
-use Rattle.std.proofs.Common.{take}
-use Rattle.journal_audit.specs.Owners.{Gains, row_owners}
-use Rattle.journal_audit.proofs.tenants.add_rows.Given as goal
-
-abbrev pub invariant-rows : goal.invariant-rows
-invariant-rows l = Gains l.initial.owners.keys (row_owners (take l.grain-index l.rows)) l.owners.keys

@@ -1,0 +1,80 @@
+-- Bytes are cut behind a line by their first LF.
+use Rattle.std.proofs.Common.{◌≡◌, ◌≢◌, ℕ, ◌+◌, ◌<◌, Bool, true, not, ◌&&◌, eqb, zero, suc, List, [], ◌∷◌, ◌++◌, length, take, drop, refl, ap, sym, subst, ◌∙◌, arith}
+use Rattle.std.specs.Prelude.{slice_index}
+use Rattle.std.specs.Str.{IsAscii, IsUtf8}
+use Rattle.std.specs.List.{list_all}
+use Rattle.std.specs.Cmp.{first_so, second_so}
+use Rattle.std.proofs.lemmas.Str.{IsUtf8-from_ascii}
+use Rattle.std.proofs.lemmas.List.{take-append-drop}
+use Rattle.std.proofs.Math.Seq.{drop-cons}
+use Rattle.journal_text.specs.declared.line.Line.{Line}
+use Rattle.journal_text.specs.RecordedFault.{is_text_byte}
+use Rattle.journal_text.specs.Text.{line_text}
+use Rattle.journal_text.specs.Rules.{IsLine}
+use Rattle.journal_text.specs.JournalAnswers.{HasNoBreak}
+use Rattle.journal_text.proofs.LinesPlain.{line_plain}
+use Rattle.journal_text.proofs.LinesCut.{first_cut}
+
+is_no_break : ℕ → Bool
+is_no_break b = not (eqb b 10)
+
+both : (a b : Bool) → a ≡ true → b ≡ true → (a && b) ≡ true
+both a b at bt = ap (λ x. x && b) at ∙ bt
+
+unequal : (b : ℕ) → b ≢ 10 → is_no_break b ≡ true
+unfolding is_no_break
+unequal b apart = grind (arith, apart)
+
+breaks_nowhere : (xs : List ℕ) → HasNoBreak xs → list_all is_no_break xs ≡ true
+breaks_nowhere [] none = refl
+breaks_nowhere (x ∷ xs) none = both (is_no_break x) (list_all is_no_break xs) (unequal x (none 0 (omega arith))) (breaks_nowhere xs (λ k below. none (suc k) (omega (arith, below))))
+
+plain_byte : (b : ℕ) → is_text_byte b ≡ true → is_no_break b ≡ true
+unfolding is_no_break
+plain_byte b is = grind (arith, is)
+
+plain_breaks_nowhere : (xs : List ℕ) → list_all is_text_byte xs ≡ true → list_all is_no_break xs ≡ true
+plain_breaks_nowhere [] all = refl
+plain_breaks_nowhere (x ∷ xs) all = both (is_no_break x) (list_all is_no_break xs) (plain_byte x (first_so (is_text_byte x) (list_all is_text_byte xs) all)) (plain_breaks_nowhere xs (second_so (is_text_byte x) (list_all is_text_byte xs) all))
+
+-- a text without LF that is cut where one of visible ASCII and spaces is
+pub same_cut : (xs us ys vs : List ℕ) → HasNoBreak xs → list_all is_text_byte us ≡ true → xs ++ 10 ∷ ys ≡ us ++ 10 ∷ vs → xs ≡ us
+unfolding is_no_break
+same_cut xs us ys vs none plain same = (first_cut is_no_break refl xs us ys vs (breaks_nowhere xs none) (plain_breaks_nowhere us plain) same).0
+
+there : (xs ys : List ℕ) → slice_index (xs ++ 10 ∷ ys) (length xs) ≡ 10
+there [] ys = refl
+there (x ∷ xs) ys = there xs ys
+
+inside : (xs ys : List ℕ) → length xs < length (xs ++ 10 ∷ ys)
+inside [] ys = omega arith
+inside (x ∷ xs) ys = omega (arith, inside xs ys)
+
+-- bytes without LF begin with no text and an LF
+pub no_cut : (bytes text behind : List ℕ) → HasNoBreak bytes → bytes ≡ text ++ 10 ∷ behind → ⊥
+no_cut bytes text behind none same = subst HasNoBreak same none (length text) (inside text behind) (there text behind)
+
+-- bytes up to an LF, and behind it
+pub parted : (bytes : List ℕ) (at : ℕ) → at < length bytes → slice_index bytes at ≡ 10 → bytes ≡ take at bytes ++ 10 ∷ drop (at + 1) bytes
+parted bytes at within here =
+    let next : suc at ≡ at + 1 = omega arith in
+    sym (take-append-drop at bytes) ∙ ap (λ t. take at bytes ++ t) (drop-cons bytes at 0 within ∙ ap (λ b. b ∷ drop (suc at) bytes) here ∙ ap (λ k. 10 ∷ drop k bytes) next)
+
+small : (b : ℕ) → is_text_byte b ≡ true → b < 128
+small b is = grind (arith, is)
+
+ascii : (xs : List ℕ) → list_all is_text_byte xs ≡ true → IsAscii xs
+ascii [] all i = omega arith
+ascii (x ∷ xs) all zero = small x (first_so (is_text_byte x) (list_all is_text_byte xs) all)
+ascii (x ∷ xs) all (suc i) = ascii xs (second_so (is_text_byte x) (list_all is_text_byte xs) all) i
+
+-- bytes up to their first LF that are no UTF-8 are no text of visible ASCII and spaces
+pub no_text_cut : (bytes : List ℕ) (at : ℕ) → at < length bytes → HasNoBreak (take at bytes) → slice_index bytes at ≡ 10 → ¬ (IsUtf8 (take at bytes)) → (text behind : List ℕ) → list_all is_text_byte text ≡ true → bytes ≡ text ++ 10 ∷ behind → ⊥
+no_text_cut bytes at within none here no_utf8 text behind plain same =
+    let same_text : take at bytes ≡ text = same_cut (take at bytes) text (drop (at + 1) bytes) behind none plain (sym (parted bytes at within here) ∙ same) in
+    no_utf8 (subst IsUtf8 (sym same_text) (IsUtf8-from_ascii text (ascii text plain)))
+
+-- a text that is no line's and is cut from bytes
+pub no_line_cut : (bytes text behind : List ℕ) → HasNoBreak text → bytes ≡ text ++ 10 ∷ behind → ((l : Line) → IsLine l → text ≡ line_text l → ⊥) → (l : Line) (other : List ℕ) → IsLine l → bytes ≡ line_text l ++ 10 ∷ other → ⊥
+no_line_cut bytes text behind none whole no_line l other is same =
+    no_line l is (same_cut text (line_text l) behind other none (line_plain l is).all (sym whole ∙ same))

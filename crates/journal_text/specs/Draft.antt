@@ -1,0 +1,81 @@
+-- A journal as far as it is read, and what may stand behind that.
+use Rattle.std.specs.Prelude.{◌≡◌, ℕ, ◌≤◌, Bool, true, false, not, ◌&&◌, ◌==◌, nat_lt, List, [], ◌∷◌, ◌++◌, length, map, All, IsTrue, Option, Some, None, Result, Ok, Err}
+use Rattle.std.specs.declared.alloc.AllocError.{AllocError}
+use Rattle.std.specs.List.{list_any}
+use Rattle.grain_id.specs.Names.{Grain, same_text}
+use Rattle.tenant_gate.specs.Table.{Table, most_tenants, names_of, first_repeat}
+use Rattle.grain_storage.specs.declared.row.Row.{Row}
+use Rattle.journal_text.specs.Text.{History, tenant_line, row_line}
+use Rattle.journal_text.specs.Rules.{IsLine, comes_after, are_ascending}
+use Rattle.journal_text.specs.Candidates.{only_if}
+use Rattle.journal_text.specs.declared.line.Line.{Line}
+use Rattle.journal_text.specs.declared.line.Line.TheVariants as line
+
+-- the lines behind the head and the age
+abbrev pub body : History → List Line
+body d = map tenant_line d.tenants ++ map line.Step d.steps ++ map line.Reply d.replies ++ map row_line d.rows
+
+-- the lines that are read
+abbrev pub lines_so_far : History → List Line
+lines_so_far d = line.Head ∷ line.Age d.age ∷ body d
+
+-- the first two lines
+abbrev pub start_lines : ℕ → List Line
+start_lines age = line.Head ∷ line.Age age ∷ []
+
+-- What a draft keeps.
+pub record IsDraft (d : History) : Type 0 where
+  pub few : length d.tenants ≤ 1000
+  pub distinct : first_repeat [] (names_of d.tenants) ≡ None
+  pub ascending : IsTrue (are_ascending None d.rows)
+  pub tenants_first : d.tenants ≡ [] → (d.steps ≡ []) × (d.replies ≡ []) × (d.rows ≡ [])
+  pub lines : All IsLine (lines_so_far d)
+
+abbrev pub is_empty : {A : Type 0} → List A → Bool
+is_empty [] = true
+is_empty (x ∷ xs) = false
+
+-- whether one of the tenants has that name
+abbrev pub has_tenant : Table → List ℕ → Bool
+has_tenant tenants name = list_any (λ entry. same_text name entry.0) tenants
+
+-- the last of the rows' grains, or the one before them
+abbrev pub last_grain : Option Grain → List (Grain × Row) → Option Grain
+last_grain before [] = before
+last_grain before (row ∷ rows) = last_grain (Some row.0) rows
+
+-- a tenant stands among the tenants: there is none of its name, and room for one more
+abbrev pub tenant_fits : History → List ℕ → Bool
+tenant_fits d name = is_empty d.steps && is_empty d.replies && is_empty d.rows && nat_lt (length d.tenants) most_tenants && not (has_tenant d.tenants name)
+
+-- a step stands behind the tenants, before the replies and the rows
+abbrev pub step_fits : History → Bool
+step_fits d = not (is_empty d.tenants) && is_empty d.replies && is_empty d.rows
+
+-- a reply stands behind the tenants, before the rows
+abbrev pub reply_fits : History → Bool
+reply_fits d = not (is_empty d.tenants) && is_empty d.rows
+
+-- a row stands behind the tenants, and behind the rows whose grains come before its own
+abbrev pub row_fits : History → Grain → Bool
+row_fits d grain = not (is_empty d.tenants) && comes_after (last_grain None d.rows) grain
+
+-- the close stands behind the tenants, with the number of steps
+abbrev pub close_fits : History → ℕ → Bool
+close_fits d steps = not (is_empty d.tenants) && (steps == length d.steps)
+
+-- the draft with a line more, if the line may stand there
+unfoldable pub added : History → Line → Option History
+added d (line.Tenant tenant limits) = only_if (tenant_fits d tenant) (record d { tenants = d.tenants ++ (tenant, limits) ∷ [] })
+added d (line.Step s) = only_if (step_fits d) (record d { steps = d.steps ++ s ∷ [] })
+added d (line.Reply reply) = only_if (reply_fits d) (record d { replies = d.replies ++ reply ∷ [] })
+added d (line.Row grain row) = only_if (row_fits d grain) (record d { rows = d.rows ++ (grain, row) ∷ [] })
+added d line.Head = None
+added d (line.Age age) = None
+added d (line.Close steps) = None
+
+-- What adding a line answers: whether it was added. After a refusal of memory the draft is given up.
+abbrev pub AddAnswers : History → Line → Result Bool AllocError → History → Type 0
+AddAnswers d l (Ok true) e = added d l ≡ Some e
+AddAnswers d l (Ok false) e = added d l ≡ None
+AddAnswers d l (Err refused) e = Unit {0}

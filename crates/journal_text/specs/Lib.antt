@@ -1,0 +1,10 @@
+pub mod Form
+pub mod RecordedFault
+pub mod RecordedReply
+pub mod Text
+pub mod Rules
+pub mod FirstFault
+pub mod Draft
+pub mod Answers
+pub mod JournalAnswers
+pub mod Candidates

@@ -1,0 +1,79 @@
+-- The rules that a journal keeps.
+use Rattle.std.specs.Prelude.{◌≡◌, ℕ, ◌<◌, ◌≤◌, ◌^◌, Bool, true, ◌&&◌, List, [], ◌∷◌, All, Option, Some, None, Result, Ok, Err, IsTrue, IfSome}
+use Rattle.std.specs.Ordering.{is_lt}
+use Rattle.grain_id.specs.Names.{Grain, grain_cmp, is_grain, is_client}
+use Rattle.grain_id.specs.Words.{is_word}
+use Rattle.tenant_gate.specs.Age.{IsAge}
+use Rattle.tenant_gate.specs.Table.{Table, table_fault, are_in_range}
+use Rattle.grain_storage.specs.declared.row.Row.{Row}
+use Rattle.silo_event.specs.declared.reply.Party.{Party}
+use Rattle.silo_event.specs.declared.reply.Party.TheVariants as party
+use Rattle.silo_event.specs.declared.step.Step.{Step}
+use Rattle.silo_event.specs.declared.step.Step.TheVariants.{Refuse, Call as Calling, Poke, Status, Deliver, Activate, Load, Begin, Store, End, Abandon, Tick, Sweep}
+use Rattle.request_codec.specs.Tree.{Tree}
+use Rattle.journal_text.specs.Form.{HasMessage, HasState}
+use Rattle.journal_text.specs.RecordedFault.{CodeAndText, is_recorded_fault}
+use Rattle.journal_text.specs.Text.{History, journal_lines}
+use Rattle.journal_text.specs.declared.line.Line.{Line}
+use Rattle.journal_text.specs.declared.line.Line.TheVariants as line
+
+-- a client's number, a turn's number, or a moment
+abbrev pub IsNumber : ℕ → Type 0
+IsNumber n = n < 2 ^ 63
+
+abbrev pub IsParty : Party → Type 0
+IsParty (party.Client client id) = IsTrue (is_client client) × IsNumber id
+IsParty (party.Grain grain) = IsTrue (is_grain grain)
+
+abbrev pub IsOutcome : Result Tree CodeAndText → Type 0
+IsOutcome (Ok value) = HasState value
+IsOutcome (Err fault) = IsTrue (is_recorded_fault fault)
+
+abbrev pub IsRow : Row → Type 0
+IsRow row = (1 ≤ row.version) × (row.version < 2 ^ 64) × IfSome row.content HasState
+
+-- The step's names are well formed, its numbers in their ranges, and its message or its state has bytes.
+abbrev pub IsStep : Step → Type 0
+IsStep (Refuse caller id code) = IsTrue (is_client caller) × IsNumber id
+IsStep (Calling caller id grain message) = IsTrue (is_client caller) × IsNumber id × IsTrue (is_grain grain) × HasMessage message
+IsStep (Poke failed caller id grain state) = IsTrue (is_client caller) × IsNumber id × IsTrue (is_grain grain) × HasState state
+IsStep (Status caller id) = IsTrue (is_client caller) × IsNumber id
+IsStep (Deliver grain) = IsTrue (is_grain grain)
+IsStep (Activate grain) = IsTrue (is_grain grain)
+IsStep (Load grain failed) = IsTrue (is_grain grain)
+IsStep (Begin grain) = IsTrue (is_grain grain)
+IsStep (Store grain turn failed) = IsTrue (is_grain grain) × IsNumber turn
+IsStep (End grain turn) = IsTrue (is_grain grain) × IsNumber turn
+IsStep (Abandon grain turn) = IsTrue (is_grain grain) × IsNumber turn
+IsStep (Tick now) = IsNumber now
+IsStep Sweep = Unit {0}
+
+-- What the line holds may stand in a journal.
+abbrev pub IsLine : Line → Type 0
+IsLine line.Head = Unit {0}
+IsLine (line.Age age) = IsAge age
+IsLine (line.Tenant tenant limits) = IsTrue (is_word tenant) × IsTrue (are_in_range limits)
+IsLine (line.Step s) = IsStep s
+IsLine (line.Reply reply) = IsParty reply.recipient × IsOutcome reply.outcome
+IsLine (line.Row grain row) = IsTrue (is_grain grain) × IsRow row
+IsLine (line.Close steps) = steps < 2 ^ 64
+
+-- the grain comes after the last one, if there is one
+abbrev pub comes_after : Option Grain → Grain → Bool
+comes_after None grain = true
+comes_after (Some last) grain = is_lt (grain_cmp last grain)
+
+-- the rows' grains come one after another, the first after the last one before them
+abbrev pub are_ascending : Option Grain → List (Grain × Row) → Bool
+are_ascending last [] = true
+are_ascending last (row ∷ rows) = comes_after last row.0 && are_ascending (Some row.0) rows
+
+-- 1 to 1,000 tenants, none twice, with limits in their ranges
+abbrev pub IsTable : Table → Type 0
+IsTable tenants = table_fault tenants ≡ None
+
+-- Its tenants are a table, its rows ascend, and each of its lines holds what may stand in a journal.
+pub record KeepsRules (j : History) : Type 0 where
+  pub is_table : IsTable j.tenants
+  pub ascending : IsTrue (are_ascending None j.rows)
+  pub lines : All IsLine (journal_lines j)

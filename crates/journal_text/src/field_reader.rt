@@ -1,0 +1,171 @@
+//! The fields of a line.
+
+ghost use Rattle.std.specs.Prelude.{◌≡◌, ◌↔◌, ◌≤◌, ◌<◌, ◌^◌, IfOk, IsTrue, option_map, slice_index};
+ghost use Rattle.grain_id.specs.Names.{is_client, is_grain};
+ghost use Rattle.grain_id.specs.Reading.{cut_at};
+ghost use Rattle.hex.specs.Hex.{IsBytes};
+ghost use Rattle.journal_text.specs.Form.{HasMessage, HasState};
+ghost use Rattle.journal_text.specs.Answers.{Reads};
+ghost use Rattle.journal_text.specs.Candidates.{wide_of, number_of, bytes_of, mark_of, client_of, grain_of, message_of, state_of, refusal_of};
+
+use crate::fault::LineFault;
+use grain_id::{Caller, GrainId, IdFault, NameCache};
+use hex::FromHexError;
+use request_codec::{CodecFault, Message, StateBytes};
+use silo_event::Refusal;
+use std::alloc::Global;
+
+/// What stands before the first space, and what stands after it.
+fn split(text: &str) -> Option<(&str, &str)>
+    ensures { option_map (λ parts. (parts.0.now, parts.1.now)) result ≡ cut_at 32 text.now }
+{
+    text.split_once(' ')
+}
+
+/// The first field, and the fields behind the space after it.
+pub(crate) fn cut(text: &str) -> Result<(&str, &str), LineFault>
+    ensures { Reads (λ parts. (parts.0.now, parts.1.now)) result (cut_at 32 text.now) }
+{
+    match split(text) {
+        Some(parts) => Ok(parts),
+        None => Err(LineFault::NoForm),
+    }
+}
+
+/// Whether a storage call failed.
+pub(crate) fn parse_mark(field: &str) -> Result<bool, LineFault>
+    ensures { Reads (λ read. read) result (mark_of field.now) }
+{
+    match field {
+        "ok" => Ok(false),
+        "failed" => Ok(true),
+        _ => Err(LineFault::NoForm),
+    }
+}
+
+/// Why a line was refused.
+pub(crate) fn parse_refusal(field: &str) -> Result<Refusal, LineFault>
+    ensures { Reads (λ read. read) result (refusal_of field.now) }
+{
+    match field {
+        "11" => Ok(Refusal::TooLong),
+        "12" => Ok(Refusal::TooDeep),
+        "13" => Ok(Refusal::NotWhole),
+        "20" => Ok(Refusal::NotWellFormed),
+        "63" => Ok(Refusal::TooLarge),
+        _ => Err(LineFault::NoForm),
+    }
+}
+
+/// The caller of that text.
+pub(crate) fn parse_caller(
+    alloc: Global,
+    names: &mut NameCache,
+    field: &str,
+) -> Result<Caller, LineFault>
+    ensures gives { Reads (λ read. read) result (client_of field.now) }
+    ensures well_formed { IfOk result (λ caller. IsTrue (is_client caller)) }
+{
+    match names.read_caller(alloc, field) {
+        Ok(caller) => Ok(caller),
+        Err(IdFault::Memory) => Err(LineFault::Memory),
+        Err(IdFault::Kind | IdFault::Tenant | IdFault::Name | IdFault::Client) => {
+            Err(LineFault::NoForm)
+        }
+    }
+}
+
+/// The grain of that text.
+pub(crate) fn parse_grain(
+    alloc: Global,
+    names: &mut NameCache,
+    field: &str,
+) -> Result<GrainId, LineFault>
+    ensures gives { Reads (λ read. read) result (grain_of field.now) }
+    ensures well_formed { IfOk result (λ grain. IsTrue (is_grain grain)) }
+{
+    match names.read_grain(alloc, field) {
+        Ok(grain) => Ok(grain),
+        Err(IdFault::Memory) => Err(LineFault::Memory),
+        Err(IdFault::Kind | IdFault::Tenant | IdFault::Name | IdFault::Client) => {
+            Err(LineFault::NoForm)
+        }
+    }
+}
+
+/// Whether the text begins with a digit above 0.
+fn begins_above_zero(text: &str) -> bool
+    ensures { IsTrue result ↔ ((49 ≤ slice_index text.now 0) × (slice_index text.now 0 ≤ 57)) }
+{
+    matches!(text.as_bytes(), [b'1'..=b'9', ..])
+}
+
+/// The number whose decimal text it is.
+pub(crate) fn parse_u64(field: &str) -> Result<u64, LineFault>
+    ensures { Reads (λ read. read) result (wide_of field.now) }
+{
+    if field == "0" {
+        return Ok(0);
+    }
+    if !begins_above_zero(field) {
+        return Err(LineFault::NoForm);
+    }
+    match field.parse::<u64>() {
+        Ok(number) => Ok(number),
+        Err(_) => Err(LineFault::NoForm),
+    }
+}
+
+/// The greatest id, turn and moment.
+const MAX_NUMBER: u64 = 9_223_372_036_854_775_807;
+
+/// The id, the turn or the moment whose decimal text it is.
+pub(crate) fn parse_number(field: &str) -> Result<u64, LineFault>
+    ensures gives { Reads (λ read. read) result (number_of field.now) }
+    ensures in_range { IfOk result (λ number. number < 2 ^ 63) }
+{
+    let number = parse_u64(field)?;
+    if number <= MAX_NUMBER {
+        Ok(number)
+    } else {
+        Err(LineFault::NoForm)
+    }
+}
+
+/// The bytes of a hexadecimal text.
+fn parse_bytes(alloc: Global, field: &str) -> Result<Vec<u8>, LineFault>
+    ensures gives { Reads (λ read. read.items) result (bytes_of field.now) }
+    ensures in_range { IfOk result (λ read. IsBytes read.items) }
+{
+    match hex::decode(alloc, field) {
+        Ok(bytes) => Ok(bytes),
+        Err(FromHexError::OutOfMemory) => Err(LineFault::Memory),
+        Err(_) => Err(LineFault::NoForm),
+    }
+}
+
+/// The message whose bytes these are in hexadecimal.
+pub(crate) fn parse_message(alloc: Global, field: &str) -> Result<Message, LineFault>
+    ensures gives { Reads (λ read. read) result (message_of field.now) }
+    ensures spelled { IfOk result HasMessage }
+{
+    let bytes = parse_bytes(alloc, field)?;
+    match Message::read(alloc, &bytes) {
+        Ok(message) => Ok(message),
+        Err(CodecFault::Memory) => Err(LineFault::Memory),
+        Err(_) => Err(LineFault::NoForm),
+    }
+}
+
+/// The state whose bytes these are in hexadecimal.
+pub(crate) fn parse_state(alloc: Global, field: &str) -> Result<StateBytes, LineFault>
+    ensures gives { Reads (λ read. read) result (state_of field.now) }
+    ensures spelled { IfOk result HasState }
+{
+    let bytes = parse_bytes(alloc, field)?;
+    match StateBytes::read(alloc, &bytes) {
+        Ok(state) => Ok(state),
+        Err(CodecFault::Memory) => Err(LineFault::Memory),
+        Err(_) => Err(LineFault::NoForm),
+    }
+}

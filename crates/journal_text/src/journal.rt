@@ -1,0 +1,78 @@
+//! Journals.
+
+ghost use Rattle.std.specs.Prelude.{◌≡◌, IsTrue, None};
+ghost use Rattle.journal_text.specs.Rules.{IsTable, are_ascending};
+ghost use Rattle.tenant_gate.specs.Age.{IsAge};
+
+use crate::recorded::RecordedReply;
+use grain_id::{GrainId, Tenant};
+use grain_storage::Row;
+use silo_event::Step;
+use std::marker::Model;
+use tenant_gate::{Age, Limits};
+
+/// What a silo was, did and showed in the end. It keeps the rules of a journal's text.
+#[derive(Drop)]
+pub struct Journal {
+    pub(crate) tenants: Vec<(Tenant, Limits)>,
+    pub(crate) age: Age,
+    pub(crate) steps: Vec<Step>,
+    pub(crate) replies: Vec<RecordedReply>,
+    pub(crate) rows: Vec<(GrainId, Row)>,
+}
+
+impl Model for Journal {
+    ghost use Rattle.journal_text.specs.Text.{History, history};
+    ghost use Rattle.journal_text.specs.Rules.{KeepsRules};
+    ghost use Rattle.std.specs.Coded.{codes};
+    ghost use Rattle.request_codec.specs.Code.{coded_tree};
+
+    ghost Value = { History };
+
+    ghost coded = { Prim.hlevel (codes, coded_tree) };
+
+    ghost view = { λ j. history j.tenants.items j.age j.steps.items j.replies.items j.rows.items };
+
+    ghost invariant = { λ j. KeepsRules (history j.tenants.items j.age j.steps.items j.replies.items j.rows.items) };
+}
+
+impl Journal {
+    /// The tenants with their limits, in the order of the silo's table: 1 to 1,000 of them, none
+    /// twice.
+    pub fn tenants(&self) -> &[(Tenant, Limits)]
+        ensures tenants { result.now ≡ self.now.tenants }
+        ensures is_table { IsTable self.now.tenants }
+    {
+        self.tenants.as_slice()
+    }
+
+    /// How long an idle grain stayed, 1 to 86,400,000 milliseconds.
+    pub fn age(&self) -> Age
+        ensures age { result ≡ self.now.age }
+        ensures in_range { IsAge self.now.age }
+    {
+        self.age
+    }
+
+    /// The steps that the silo took, in order.
+    pub fn steps(&self) -> &[Step]
+        ensures { result.now ≡ self.now.steps }
+    {
+        self.steps.as_slice()
+    }
+
+    /// The replies that the silo gave, in order.
+    pub fn replies(&self) -> &[RecordedReply]
+        ensures { result.now ≡ self.now.replies }
+    {
+        self.replies.as_slice()
+    }
+
+    /// The rows that the silo held in the end, grains ascending.
+    pub fn rows(&self) -> &[(GrainId, Row)]
+        ensures rows { result.now ≡ self.now.rows }
+        ensures ascending { IsTrue (are_ascending None self.now.rows) }
+    {
+        self.rows.as_slice()
+    }
+}

@@ -1,0 +1,191 @@
+//! Whole journals, read.
+
+ghost use Rattle.std.specs.Prelude.{◌≡◌, ◌↔◌, ℕ, ◌++◌, ◌∷◌, ◌+◌, ◌^◌, ◌<◌, IfOk, IfSome, IsTrue, None, length, option_map, slice_index, take};
+ghost use Rattle.journal_text.specs.declared.line.Line.TheVariants as lines;
+ghost use Rattle.journal_text.specs.JournalAnswers.{HasNoBreak, CutsLine, BeginsWithLine, BeginsWithHead, BeginsWithAge, ReadsStart, ReadsJournal};
+ghost use Rattle.journal_text.specs.Text.{line_text, lines_text};
+ghost use Rattle.tenant_gate.specs.Age.{IsAge};
+ghost use Rattle.journal_text.specs.Draft.{start_lines, lines_so_far, IsDraft};
+
+use crate::draft::Draft;
+use crate::fault::{JournalFault, LineFault};
+use crate::journal::Journal;
+use crate::line::Line;
+use crate::line_reader::{LineScratch, parse_line};
+use memchr::memchr;
+use std::alloc::{AllocError, Global};
+use tenant_gate::Age;
+
+/// The place of the first LF.
+fn break_at(bytes: &[u8]) -> Option<usize>
+    ensures none { result ≡ None → HasNoBreak bytes.now }
+    ensures some { IfSome result (λ at. (at < length bytes.now) × HasNoBreak (take at bytes.now) × (slice_index bytes.now at ≡ 10)) }
+{
+    memchr(b'\n', bytes)
+}
+
+/// The text before the first LF, and the bytes behind it, if there is an LF and a text before it.
+fn cut_line(bytes: &[u8]) -> Option<(&str, &[u8])>
+    ensures { CutsLine bytes.now (option_map (λ cut. (cut.0.now, cut.1.now)) result) }
+{
+    let Some(at) = break_at(bytes) else {
+        return None;
+    };
+    match str::from_utf8(&bytes[..at]) {
+        Ok(text) => Some((text, &bytes[at + 1..])),
+        Err(_) => None,
+    }
+}
+
+/// The line that the bytes begin with, and the bytes behind its LF, if they begin with a whole line.
+fn next_line<'a>(
+    alloc: Global,
+    scratch: &mut LineScratch,
+    bytes: &'a [u8],
+) -> Result<Option<(Line, &'a [u8])>, AllocError>
+    ensures { IfOk result (λ found. BeginsWithLine bytes.now (option_map (λ next. (next.0, next.1.now)) found)) }
+{
+    let Some((text, behind)) = cut_line(bytes) else {
+        return Ok(None);
+    };
+    match parse_line(alloc, scratch, text) {
+        Ok(line) => Ok(Some((line, behind))),
+        Err(LineFault::NoForm) => Ok(None),
+        Err(LineFault::Memory) => Err(AllocError),
+    }
+}
+
+/// Whether the line is the head.
+fn is_head(line: &Line) -> bool
+    ensures { IsTrue result ↔ (line.now ≡ lines.Head) }
+{
+    matches!(line, Line::Head)
+}
+
+/// The age of an age's line.
+fn age_of(line: &Line) -> Option<Age>
+    ensures some { IfSome result (λ age. line.now ≡ lines.Age age) }
+    ensures none { result ≡ None → (age : ℕ) → line.now ≡ lines.Age age → ⊥ }
+{
+    match line {
+        Line::Age(age) => Some(*age),
+        _ => None,
+    }
+}
+
+/// What stands behind the head, if the bytes begin with it.
+fn next_head<'a>(
+    alloc: Global,
+    scratch: &mut LineScratch,
+    bytes: &'a [u8],
+) -> Result<Option<&'a [u8]>, AllocError>
+    ensures { IfOk result (λ found. BeginsWithHead bytes.now (option_map (λ behind. behind.now) found)) }
+{
+    let Some((line, behind)) = next_line(alloc, scratch, bytes)? else {
+        return Ok(None);
+    };
+    let fits = is_head(&line);
+    drop(line);
+    if fits { Ok(Some(behind)) } else { Ok(None) }
+}
+
+/// The age, and what stands behind its line, if the bytes begin with one.
+fn next_age<'a>(
+    alloc: Global,
+    scratch: &mut LineScratch,
+    bytes: &'a [u8],
+) -> Result<Option<(Age, &'a [u8])>, AllocError>
+    ensures { IfOk result (λ found. BeginsWithAge bytes.now (option_map (λ next. (next.0, next.1.now)) found)) }
+{
+    let Some((line, behind)) = next_line(alloc, scratch, bytes)? else {
+        return Ok(None);
+    };
+    let age = age_of(&line);
+    drop(line);
+    match age {
+        Some(age) => Ok(Some((age, behind))),
+        None => Ok(None),
+    }
+}
+
+/// The age, and the bytes behind the first two lines.
+fn read_start<'a>(
+    alloc: Global,
+    scratch: &mut LineScratch,
+    bytes: &'a [u8],
+) -> Result<(Age, &'a [u8]), JournalFault>
+    ensures { ReadsStart (λ next. (next.0, next.1.now)) bytes.now result }
+{
+    let Some(rest) = next_head(alloc, scratch, bytes)? else {
+        return Err(JournalFault::At { line: 1 });
+    };
+    match next_age(alloc, scratch, rest) {
+        Ok(Some((age, behind))) => Ok((age, behind)),
+        Ok(None) => Err(JournalFault::At { line: 2 }),
+        Err(_) => Err(JournalFault::Memory),
+    }
+}
+
+/// The journal of a draft, if its last line, which has that number, may stand there and nothing
+/// stands behind it.
+fn closed(draft: Draft, steps: u64, behind: &[u8], number: usize) -> Result<Journal, JournalFault>
+    requires is_line { steps < 2 ^ 64 }
+    requires is_draft { IsDraft draft }
+    requires counted { number ≡ length (lines_so_far draft) + 1 }
+    requires room { number + 1 < 2 ^ 64 }
+    ensures { ReadsJournal (lines_text (lines_so_far draft) ++ (line_text (lines.Close steps) ++ 10 ∷ behind.now)) result }
+{
+    if !draft.close_fits(steps) {
+        return Err(JournalFault::At { line: number });
+    }
+    if !behind.is_empty() {
+        return Err(JournalFault::At { line: number + 1 });
+    }
+    Ok(draft.finish())
+}
+
+/// The journal whose lines behind the head and the age these are.
+fn read_parts(
+    alloc: Global,
+    scratch: &mut LineScratch,
+    age: Age,
+    bytes: &[u8],
+) -> Result<Journal, JournalFault>
+    requires { IsAge age }
+    ensures { ReadsJournal (lines_text (start_lines age) ++ bytes.now) result }
+{
+    let mut draft = Draft::new(alloc, age);
+    let mut rest = bytes;
+    let mut number = 3;
+    'lines: loop {
+        let Some((line, behind)) = next_line(alloc, scratch, rest)? else {
+            return Err(JournalFault::At { line: number });
+        };
+        match line {
+            Line::Close(steps) => return closed(draft, steps, behind, number),
+            line => {
+                if !draft.add(line)? {
+                    return Err(JournalFault::At { line: number });
+                }
+            }
+        }
+        rest = behind;
+        number += 1;
+    }
+}
+
+/// The journal whose text these bytes are. Takes time that grows with the number of the bytes.
+///
+/// # Errors
+///
+/// `At` with the first line that fits no form in its place, counted from 1, or with one past the
+/// last line if the end is missing. `Memory` if memory is refused.
+pub fn read_journal(alloc: Global, bytes: &[u8]) -> Result<Journal, JournalFault>
+    ensures { ReadsJournal bytes.now result }
+{
+    let mut scratch = LineScratch::new(alloc)?;
+    match read_start(alloc, &mut scratch, bytes) {
+        Ok((age, rest)) => read_parts(alloc, &mut scratch, age, rest),
+        Err(fault) => Err(fault),
+    }
+}

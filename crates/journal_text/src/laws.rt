@@ -1,0 +1,30 @@
+//! Laws over the definitions alone. Each is the contract of a function that does nothing.
+
+ghost use Rattle.std.specs.Prelude.{◌≡◌, ℕ, List, true};
+ghost use Rattle.std.specs.List.{list_all};
+ghost use Rattle.journal_text.specs.declared.line.Line.{Line};
+ghost use Rattle.journal_text.specs.RecordedFault.{is_text_byte};
+ghost use Rattle.journal_text.specs.Rules.{IsLine, KeepsRules};
+ghost use Rattle.journal_text.specs.Text.{History, line_text, journal_text};
+ghost use Rattle.journal_text.specs.FirstFault.{IsFirstFault, IsNoJournal};
+
+/// No two lines of a journal have the same text.
+pub fn one_line()
+    ensures { (l m : Line) → IsLine l → IsLine m → line_text l ≡ line_text m → l ≡ m }
+{}
+
+/// The text of a line is of visible ASCII and spaces.
+pub fn plain_line()
+    ensures { (l : Line) → IsLine l → list_all is_text_byte (line_text l) ≡ true }
+{}
+
+/// No two journals have the same text.
+pub fn one_text()
+    ensures { (j k : History) → KeepsRules j → KeepsRules k → journal_text j ≡ journal_text k → j ≡ k }
+{}
+
+/// Of some bytes at most one line is the first at fault, and then they are no journal's.
+pub fn one_first_fault()
+    ensures one { (bytes : List ℕ) (m n : ℕ) → IsFirstFault bytes m → IsFirstFault bytes n → m ≡ n }
+    ensures no_journal { (bytes : List ℕ) (n : ℕ) → IsFirstFault bytes n → IsNoJournal bytes }
+{}

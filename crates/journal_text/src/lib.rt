@@ -1,0 +1,26 @@
+//! Journals as text: what a silo did, written whole and read whole.
+//!
+//! A layer above may rely on this: a journal is seen as its tenants with their limits, its age, its
+//! steps, its recorded replies and its recorded rows, and it keeps the rules of a journal's text. The
+//! text of a journal is in `specs/Text.antt`, the rules in `specs/Rules.antt`, and which line of other
+//! bytes is at fault in `specs/FirstFault.antt`.
+#![tactic(auto)]
+
+mod draft;
+mod fault;
+mod field_reader;
+mod journal;
+mod journal_reader;
+mod journal_writer;
+pub mod laws;
+mod line;
+mod line_reader;
+mod line_writer;
+mod recorded;
+mod step_reader;
+
+pub use fault::JournalFault;
+pub use journal::Journal;
+pub use journal_reader::read_journal;
+pub use journal_writer::journal_of_parts;
+pub use recorded::{RecordedFault, RecordedReply};

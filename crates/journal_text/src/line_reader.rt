@@ -1,0 +1,346 @@
+//! The lines of a journal, read.
+
+ghost use Rattle.std.specs.Prelude.{◌≡◌, ◌≤◌, ◌<◌, ◌^◌, ◌++◌, ◌∷◌, [], ℕ, List, Some, IfOk, IfSome, IsTrue};
+ghost use Rattle.grain_id.specs.Names.{is_grain};
+ghost use Rattle.grain_id.specs.Words.{is_word};
+ghost use Rattle.tenant_gate.specs.Table.{are_in_range};
+ghost use Rattle.journal_text.specs.Answers.{Reads};
+ghost use Rattle.journal_text.specs.Candidates.{age_of, limits_of, word_of, tenant_of, recipient_of, outcome_of, reply_of, content_of, version_of, row_of, head_of, step_line, step_of, named_of, candidate_of};
+ghost use Rattle.journal_text.specs.Rules.{IsLine, IsParty, IsOutcome, IsRow};
+ghost use Rattle.tenant_gate.specs.Age.{IsAge};
+ghost use Rattle.journal_text.specs.Form.{HasState};
+ghost use Rattle.grain_id.specs.Names.{same_text};
+ghost use Rattle.journal_text.specs.Text.{line_text};
+ghost use Rattle.journal_text.specs.Answers.{ReadsLine};
+
+use crate::fault::LineFault;
+use crate::field_reader::{cut, parse_caller, parse_grain, parse_number, parse_state, parse_u64};
+use crate::line::Line;
+use crate::line_writer::push_line;
+use crate::recorded::{RecordedFault, RecordedReply, parse_recorded_fault};
+use crate::step_reader::parse_step;
+use grain_id::{GrainId, IdFault, NameCache, Tenant};
+use grain_storage::Row;
+use request_codec::StateBytes;
+use silo_event::{Party, Step};
+use std::alloc::{AllocError, Global};
+use tenant_gate::{Age, Limits, MAX_ACTIVATIONS, MAX_MAILBOX};
+
+/// What is used again for each line.
+#[derive(Drop)]
+pub(crate) struct LineScratch {
+    /// The names that were read last.
+    names: NameCache,
+    /// The text of the line that was read, written again.
+    written: String,
+}
+
+impl LineScratch {
+    pub(crate) fn new(alloc: Global) -> Result<LineScratch, AllocError> {
+        Ok(LineScratch {
+            names: NameCache::new(alloc)?,
+            written: String::new(alloc),
+        })
+    }
+}
+
+/// What stands behind `age`.
+fn parse_age(field: &str) -> Result<Age, LineFault>
+    ensures gives { Reads (λ read. read) result (age_of field.now) }
+    ensures in_range { IfOk result IsAge }
+{
+    match Age::new(parse_u64(field)?) {
+        Some(age) => Ok(age),
+        None => Err(LineFault::NoForm),
+    }
+}
+
+/// The tenant of that name.
+fn parse_tenant_name(alloc: Global, field: &str) -> Result<Tenant, LineFault>
+    ensures gives { Reads (λ read. read) result (word_of field.now) }
+    ensures well_formed { IfOk result (λ tenant. IsTrue (is_word tenant)) }
+{
+    match Tenant::read(alloc, field) {
+        Ok(tenant) => Ok(tenant),
+        Err(IdFault::Memory) => Err(LineFault::Memory),
+        Err(IdFault::Kind | IdFault::Tenant | IdFault::Name | IdFault::Client) => {
+            Err(LineFault::NoForm)
+        }
+    }
+}
+
+/// The limits of these numbers.
+fn parse_limits(activations: u64, mailbox: u64) -> Result<Limits, LineFault>
+    ensures gives { Reads (λ read. read) result (limits_of activations mailbox) }
+    ensures in_range { IfOk result (λ limits. IsTrue (are_in_range limits)) }
+{
+    if activations > u64::from(MAX_ACTIVATIONS) || mailbox > u64::from(MAX_MAILBOX) {
+        return Err(LineFault::NoForm);
+    }
+    let limits = Limits {
+        activations: activations as u32,
+        mailbox: mailbox as u32,
+    };
+    if limits.are_in_range() {
+        Ok(limits)
+    } else {
+        Err(LineFault::NoForm)
+    }
+}
+
+/// What stands behind `tenant`.
+fn parse_tenant(alloc: Global, fields: &str) -> Result<(Tenant, Limits), LineFault>
+    ensures gives { Reads (λ read. read) result (tenant_of fields.now) }
+    ensures well_formed { IfOk result (λ read. IsTrue (is_word read.0) × IsTrue (are_in_range read.1)) }
+{
+    let (name, fields) = cut(fields)?;
+    let (activations, mailbox) = cut(fields)?;
+    let tenant = parse_tenant_name(alloc, name)?;
+    let activations = parse_u64(activations)?;
+    let mailbox = parse_u64(mailbox)?;
+    let limits = parse_limits(activations, mailbox)?;
+    Ok((tenant, limits))
+}
+
+/// Whom a reply is for.
+fn parse_recipient(
+    alloc: Global,
+    names: &mut NameCache,
+    who: &str,
+    number: &str,
+) -> Result<Party, LineFault>
+    ensures gives { Reads (λ read. read) result (recipient_of who.now number.now) }
+    ensures well_formed { IfOk result IsParty }
+{
+    match number {
+        "-" => {
+            let grain = parse_grain(alloc, names, who)?;
+            Ok(Party::Grain(grain))
+        }
+        _ => {
+            let caller = parse_caller(alloc, names, who)?;
+            let id = parse_number(number)?;
+            Ok(Party::Client(caller, id))
+        }
+    }
+}
+
+/// A value, or the fault in its place.
+fn parse_outcome(
+    alloc: Global,
+    word: &str,
+    fields: &str,
+) -> Result<Result<StateBytes, RecordedFault>, LineFault>
+    ensures gives { Reads (λ read. read) result (outcome_of word.now fields.now) }
+    ensures well_formed { IfOk result IsOutcome }
+{
+    match word {
+        "ok" => {
+            let value = parse_state(alloc, fields)?;
+            Ok(Ok(value))
+        }
+        "no" => {
+            let fault = parse_recorded_fault(alloc, fields)?;
+            Ok(Err(fault))
+        }
+        _ => Err(LineFault::NoForm),
+    }
+}
+
+/// What stands behind `reply`.
+fn parse_reply(
+    alloc: Global,
+    names: &mut NameCache,
+    fields: &str,
+) -> Result<RecordedReply, LineFault>
+    ensures gives { Reads (λ read. read) result (reply_of fields.now) }
+    ensures well_formed { IfOk result (λ read. IsParty read.recipient × IsOutcome read.outcome) }
+{
+    let (who, fields) = cut(fields)?;
+    let (number, fields) = cut(fields)?;
+    let (word, fields) = cut(fields)?;
+    let recipient = parse_recipient(alloc, names, who, number)?;
+    let outcome = parse_outcome(alloc, word, fields)?;
+    Ok(RecordedReply { recipient, outcome })
+}
+
+/// The content of a row.
+fn parse_content(alloc: Global, field: &str) -> Result<Option<StateBytes>, LineFault>
+    ensures gives { Reads (λ read. read) result (content_of field.now) }
+    ensures spelled { IfOk result (λ content. IfSome content HasState) }
+{
+    match field {
+        "-" => Ok(None),
+        _ => {
+            let state = parse_state(alloc, field)?;
+            Ok(Some(state))
+        }
+    }
+}
+
+/// The version of a row.
+fn parse_version(field: &str) -> Result<u64, LineFault>
+    ensures gives { Reads (λ read. read) result (version_of field.now) }
+    ensures above { IfOk result (λ version. (1 ≤ version) × (version < 2 ^ 64)) }
+{
+    let version = parse_u64(field)?;
+    if 1 <= version {
+        Ok(version)
+    } else {
+        Err(LineFault::NoForm)
+    }
+}
+
+/// What stands behind `row`.
+fn parse_row(
+    alloc: Global,
+    names: &mut NameCache,
+    fields: &str,
+) -> Result<(GrainId, Row), LineFault>
+    ensures gives { Reads (λ read. read) result (row_of fields.now) }
+    ensures well_formed { IfOk result (λ read. IsTrue (is_grain read.0) × IsRow read.1) }
+{
+    let (grain, fields) = cut(fields)?;
+    let (version, content) = cut(fields)?;
+    let grain = parse_grain(alloc, names, grain)?;
+    let version = parse_version(version)?;
+    let content = parse_content(alloc, content)?;
+    Ok((grain, Row { version, content }))
+}
+
+/// What stands behind `silo-journal`.
+fn parse_head(fields: &str) -> Result<Line, LineFault>
+    ensures gives { Reads (λ read. read) result (head_of fields.now) }
+    ensures is_line { IfOk result IsLine }
+{
+    match fields {
+        "1" => Ok(Line::Head),
+        _ => Err(LineFault::NoForm),
+    }
+}
+
+/// The line of a step that has fields.
+fn parse_step_line(
+    alloc: Global,
+    names: &mut NameCache,
+    word: &str,
+    fields: &str,
+) -> Result<Line, LineFault>
+    ensures gives { Reads (λ read. read) result (step_line (step_of word.now fields.now)) }
+    ensures is_line { IfOk result IsLine }
+{
+    let step = parse_step(alloc, names, word, fields)?;
+    Ok(Line::Step(step))
+}
+
+/// What a word and the fields behind it may be the line of.
+fn parse_named(
+    alloc: Global,
+    names: &mut NameCache,
+    word: &str,
+    fields: &str,
+) -> Result<Line, LineFault>
+    ensures gives { Reads (λ read. read) result (named_of word.now fields.now) }
+    ensures is_line { IfOk result IsLine }
+{
+    match word {
+        "silo-journal" => parse_head(fields),
+        "age" => {
+            let age = parse_age(fields)?;
+            Ok(Line::Age(age))
+        }
+        "tenant" => {
+            let (tenant, limits) = parse_tenant(alloc, fields)?;
+            Ok(Line::Tenant(tenant, limits))
+        }
+        "reply" => {
+            let reply = parse_reply(alloc, names, fields)?;
+            Ok(Line::Reply(reply))
+        }
+        "row" => {
+            let (grain, row) = parse_row(alloc, names, fields)?;
+            Ok(Line::Row(grain, row))
+        }
+        "close" => {
+            let steps = parse_u64(fields)?;
+            Ok(Line::Close(steps))
+        }
+        _ => parse_step_line(alloc, names, word, fields),
+    }
+}
+
+/// What the text may be the line of. A text that isn't one may be read as something too.
+#[tactic(auto, unfolding(crate::specs::Candidates::candidate_of))]
+fn parse_candidate(alloc: Global, names: &mut NameCache, text: &str) -> Result<Line, LineFault>
+    ensures gives { Reads (λ read. read) result (candidate_of text.now) }
+    ensures is_line { IfOk result IsLine }
+{
+    match text {
+        "sweep" => Ok(Line::Step(Step::Sweep)),
+        _ => {
+            let (word, fields) = cut(text)?;
+            parse_named(alloc, names, word, fields)
+        }
+    }
+}
+
+/// The bytes of a text but its last.
+fn but_last(text: &str) -> &[u8]
+    ensures { (front : List ℕ) (last : ℕ) → text.now ≡ front ++ last ∷ [] → result.now ≡ front }
+{
+    match text.as_bytes().split_last() {
+        Some((_, front)) => front,
+        None => text.as_bytes(),
+    }
+}
+
+/// Whether the text is the line's, which is written again.
+fn is_text_of(
+    alloc: Global,
+    written: &mut String,
+    line: &Line,
+    text: &str,
+) -> Result<bool, AllocError>
+    ensures { IfOk result (λ same. same ≡ same_text (line_text line.now) text.now) }
+{
+    written.clear();
+    push_line(alloc, written, line)?;
+    Ok(but_last(written.as_str()) == text.as_bytes())
+}
+
+/// The line that was read of a text, if the text is its own.
+fn confirmed(alloc: Global, written: &mut String, line: Line, text: &str) -> Result<Line, LineFault>
+    requires gives { candidate_of text.now ≡ Some line }
+    requires is_line { IsLine line }
+    ensures { ReadsLine text.now result }
+{
+    let Ok(same) = is_text_of(alloc, written, &line, text) else {
+        drop(line);
+        return Err(LineFault::Memory);
+    };
+    if same {
+        Ok(line)
+    } else {
+        drop(line);
+        Err(LineFault::NoForm)
+    }
+}
+
+/// The line whose text this is, without its LF.
+///
+/// # Errors
+///
+/// `NoForm` if it is the text of no line, `Memory` if memory is refused.
+pub(crate) fn parse_line(
+    alloc: Global,
+    scratch: &mut LineScratch,
+    text: &str,
+) -> Result<Line, LineFault>
+    ensures { ReadsLine text.now result }
+{
+    match parse_candidate(alloc, &mut scratch.names, text) {
+        Ok(line) => confirmed(alloc, &mut scratch.written, line, text),
+        Err(LineFault::NoForm) => Err(LineFault::NoForm),
+        Err(LineFault::Memory) => Err(LineFault::Memory),
+    }
+}

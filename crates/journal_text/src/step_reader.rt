@@ -1,0 +1,181 @@
+//! The steps of a journal's lines, read of their fields.
+
+ghost use Rattle.std.specs.Prelude.{◌≡◌, ◌<◌, ◌^◌, IfOk, IsTrue};
+ghost use Rattle.grain_id.specs.Names.{is_grain};
+ghost use Rattle.journal_text.specs.Answers.{Reads};
+ghost use Rattle.journal_text.specs.Candidates.{refuse_of, call_of, poke_of, status_of, load_of, store_of, turn_of, tick_of, step_of};
+ghost use Rattle.journal_text.specs.Rules.{IsStep, IsNumber};
+
+use crate::fault::LineFault;
+use crate::field_reader::{
+    cut, parse_caller, parse_grain, parse_mark, parse_message, parse_number, parse_refusal,
+    parse_state,
+};
+use grain_id::{GrainId, NameCache};
+use request_codec::SharedState;
+use silo_event::{Moment, Step};
+use std::alloc::Global;
+
+/// What stands behind `refuse`.
+fn parse_refuse(alloc: Global, names: &mut NameCache, fields: &str) -> Result<Step, LineFault>
+    ensures gives { Reads (λ read. read) result (refuse_of fields.now) }
+    ensures is_step { IfOk result IsStep }
+{
+    let (caller, fields) = cut(fields)?;
+    let (id, code) = cut(fields)?;
+    let caller = parse_caller(alloc, names, caller)?;
+    let id = parse_number(id)?;
+    let code = parse_refusal(code)?;
+    Ok(Step::Refuse { caller, id, code })
+}
+
+/// What stands behind `call`.
+fn parse_call(alloc: Global, names: &mut NameCache, fields: &str) -> Result<Step, LineFault>
+    ensures gives { Reads (λ read. read) result (call_of fields.now) }
+    ensures is_step { IfOk result IsStep }
+{
+    let (caller, fields) = cut(fields)?;
+    let (id, fields) = cut(fields)?;
+    let (grain, message) = cut(fields)?;
+    let caller = parse_caller(alloc, names, caller)?;
+    let id = parse_number(id)?;
+    let grain = parse_grain(alloc, names, grain)?;
+    let message = parse_message(alloc, message)?;
+    Ok(Step::Call {
+        caller,
+        id,
+        grain,
+        message,
+    })
+}
+
+/// What stands behind `status`.
+fn parse_status(alloc: Global, names: &mut NameCache, fields: &str) -> Result<Step, LineFault>
+    ensures gives { Reads (λ read. read) result (status_of fields.now) }
+    ensures is_step { IfOk result IsStep }
+{
+    let (caller, id) = cut(fields)?;
+    let caller = parse_caller(alloc, names, caller)?;
+    let id = parse_number(id)?;
+    Ok(Step::Status { caller, id })
+}
+
+/// What stands behind `poke`.
+fn parse_poke(alloc: Global, names: &mut NameCache, fields: &str) -> Result<Step, LineFault>
+    ensures gives { Reads (λ read. read) result (poke_of fields.now) }
+    ensures is_step { IfOk result IsStep }
+{
+    let (caller, fields) = cut(fields)?;
+    let (id, fields) = cut(fields)?;
+    let (grain, fields) = cut(fields)?;
+    let (mark, state) = cut(fields)?;
+    let caller = parse_caller(alloc, names, caller)?;
+    let id = parse_number(id)?;
+    let grain = parse_grain(alloc, names, grain)?;
+    let failed = parse_mark(mark)?;
+    let state = parse_state(alloc, state)?;
+    Ok(Step::Poke {
+        failed,
+        caller,
+        id,
+        grain,
+        state: SharedState::new(alloc, state)?,
+    })
+}
+
+/// What stands behind `load`.
+fn parse_load(alloc: Global, names: &mut NameCache, fields: &str) -> Result<Step, LineFault>
+    ensures gives { Reads (λ read. read) result (load_of fields.now) }
+    ensures is_step { IfOk result IsStep }
+{
+    let (grain, mark) = cut(fields)?;
+    let grain = parse_grain(alloc, names, grain)?;
+    let failed = parse_mark(mark)?;
+    Ok(Step::Load { grain, failed })
+}
+
+/// What stands behind `store`.
+fn parse_store(alloc: Global, names: &mut NameCache, fields: &str) -> Result<Step, LineFault>
+    ensures gives { Reads (λ read. read) result (store_of fields.now) }
+    ensures is_step { IfOk result IsStep }
+{
+    let (grain, fields) = cut(fields)?;
+    let (turn, mark) = cut(fields)?;
+    let grain = parse_grain(alloc, names, grain)?;
+    let turn = parse_number(turn)?;
+    let failed = parse_mark(mark)?;
+    Ok(Step::Store {
+        grain,
+        turn,
+        failed,
+    })
+}
+
+/// A grain and a turn, behind `end` and `abandon`.
+fn parse_turn(
+    alloc: Global,
+    names: &mut NameCache,
+    fields: &str,
+) -> Result<(GrainId, u64), LineFault>
+    ensures gives { Reads (λ read. read) result (turn_of fields.now) }
+    ensures well_formed { IfOk result (λ read. IsTrue (is_grain read.0) × IsNumber read.1) }
+{
+    let (grain, turn) = cut(fields)?;
+    let grain = parse_grain(alloc, names, grain)?;
+    let turn = parse_number(turn)?;
+    Ok((grain, turn))
+}
+
+/// What stands behind `tick`.
+fn parse_tick(field: &str) -> Result<Step, LineFault>
+    ensures gives { Reads (λ read. read) result (tick_of field.now) }
+    ensures is_step { IfOk result IsStep }
+{
+    let now = parse_number(field)?;
+    match Moment::new(now) {
+        Some(now) => Ok(Step::Tick { now }),
+        None => Err(LineFault::NoForm),
+    }
+}
+
+/// The step of a word and the fields behind it.
+pub(crate) fn parse_step(
+    alloc: Global,
+    names: &mut NameCache,
+    word: &str,
+    fields: &str,
+) -> Result<Step, LineFault>
+    ensures gives { Reads (λ read. read) result (step_of word.now fields.now) }
+    ensures is_step { IfOk result IsStep }
+{
+    match word {
+        "refuse" => parse_refuse(alloc, names, fields),
+        "call" => parse_call(alloc, names, fields),
+        "poke" => parse_poke(alloc, names, fields),
+        "status" => parse_status(alloc, names, fields),
+        "deliver" => {
+            let grain = parse_grain(alloc, names, fields)?;
+            Ok(Step::Deliver { grain })
+        }
+        "activate" => {
+            let grain = parse_grain(alloc, names, fields)?;
+            Ok(Step::Activate { grain })
+        }
+        "load" => parse_load(alloc, names, fields),
+        "begin" => {
+            let grain = parse_grain(alloc, names, fields)?;
+            Ok(Step::Begin { grain })
+        }
+        "store" => parse_store(alloc, names, fields),
+        "end" => {
+            let (grain, turn) = parse_turn(alloc, names, fields)?;
+            Ok(Step::End { grain, turn })
+        }
+        "abandon" => {
+            let (grain, turn) = parse_turn(alloc, names, fields)?;
+            Ok(Step::Abandon { grain, turn })
+        }
+        "tick" => parse_tick(fields),
+        _ => Err(LineFault::NoForm),
+    }
+}

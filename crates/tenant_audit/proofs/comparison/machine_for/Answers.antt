@@ -1,0 +1,25 @@
+use Rattle.std.proofs.Common.{◌≡◌, ℕ, List, IsTrue, ap, sym, ◌∙◌, subst}
+use Rattle.std.specs.Prelude.{IfSome}
+use Rattle.std.proofs.lemmas.Result.{IfOk-weaker}
+use Rattle.tenant_gate.specs.Table.{are_in_range}
+use Rattle.tenant_gate.proofs.Faults.{limits_of-in_range}
+use Rattle.tenant_audit.specs.Machines.{start_with}
+use Rattle.tenant_audit.proofs.FirstDifference.{starts}
+use Rattle.tenant_audit.proofs.Tables.{limits_there}
+use Rattle.tenant_audit.proofs.comparison.machine_for.Goals as goal
+
+pub new-requires : goal.new-requires
+new-requires g c =
+    let j = c.args.journal.now in
+    let listed = limits_there c.args.tenant.now c.tenants.result.now j.tenants c.limits_in-limits.result c.limits_in-limits.ensures c.tenants.ensures.tenants in
+    subst (λ found. IfSome found (λ limits. IsTrue (are_in_range limits))) (sym listed) (limits_of-in_range j.tenants c.tenants.ensures.is_table c.args.tenant.now)
+
+pub returns : goal.returns
+returns g c =
+    let j = c.args.journal.now in
+    let tenant = c.args.tenant.now in
+    let limits = c.limits_in-limits.result in
+    let listed = limits_there tenant c.tenants.result.now j.tenants limits c.limits_in-limits.ensures c.tenants.ensures.tenants in
+    let started : start_with c.in_ok-clone.field-0 limits c.age.result ≡ start_with tenant limits j.age =
+    ap (λ (t : List ℕ). start_with t limits c.age.result) c.in_ok-clone.ensures.cases ∙ ap (λ (a : ℕ). start_with tenant limits a) c.age.ensures.age in
+    IfOk-weaker c.new.result _ _ (λ m h. starts j tenant limits m (h ∙ started) listed) c.new.ensures

@@ -1,7 +1,0 @@
-use Rattle.std.proofs.Common.{subst}
-use Rattle.tenant_audit.specs.Rules.{KeepsRules}
-use Rattle.tenant_audit.proofs.OneText.{journal_age}
-use Rattle.tenant_audit.proofs.journal.Journal.age.Goals as goal
-
-pub returns-clause-in_range : goal.returns-clause-in_range
-returns-clause-in_range c = journal_age c.args.self.now (subst KeepsRules c.self.view_is c.self.invariant)

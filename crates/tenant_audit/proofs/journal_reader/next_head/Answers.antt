@@ -1,9 +1,0 @@
-use Rattle.std.proofs.Common.{None}
-use Rattle.tenant_audit.specs.declared.line.Line.TheVariants as line
-use Rattle.tenant_audit.specs.JournalAnswers.{BeginsWithLine}
-use Rattle.tenant_audit.proofs.journal_reader.next_head.Goals as goal
-
-pub returns-in_default : goal.returns-in_default
-returns-in_default c behind same =
-    let none : BeginsWithLine c.args.bytes.now None = rw c.in_default.is at c.in_ok-line.ensures in
-    none line.Head behind tt same

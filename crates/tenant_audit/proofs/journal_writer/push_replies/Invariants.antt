@@ -1,8 +1,0 @@
-use Rattle.std.proofs.Common.{◌≡◌, ◌++◌, map, drop, string_bytes}
-use Rattle.tenant_audit.specs.declared.line.Line.TheVariants as line
-use Rattle.tenant_audit.specs.RecordedReply.{recorded_of}
-use Rattle.tenant_audit.specs.Text.{lines_text}
-use Rattle.tenant_audit.proofs.journal_writer.push_replies.Given as goal
-
-abbrev pub invariant-replies : goal.invariant-replies
-invariant-replies l = string_bytes l.text ++ lines_text (map line.Reply (map recorded_of (drop l.reply-index l.replies))) ≡ string_bytes l.initial.text ++ lines_text (map line.Reply (map recorded_of l.replies))

@@ -1,8 +1,0 @@
-use Rattle.std.proofs.Common.{sym, ap, ◌∙◌}
-use Rattle.std.proofs.lemmas.Option.{same_Some}
-use Rattle.tenant_audit.specs.Candidates.{candidate_of}
-use Rattle.tenant_audit.proofs.LinesBack.{line_back}
-use Rattle.tenant_audit.proofs.laws.one_line.Goals as goal
-
-pub returns : goal.returns
-returns c l m is also same = same_Some l m (sym (line_back l is) ∙ ap candidate_of same ∙ line_back m also)

@@ -1,0 +1,13 @@
+use Rattle.tenant_audit.proofs.Reports.{tenants_more, each_more}
+use Rattle.tenant_audit.proofs.plain_audit.reports_under.Goals as goal
+
+pub tenants-preserved : goal.tenants-preserved
+tenants-preserved g c =
+    let reports = c.tenants.reports.items in
+    let more = c.push.new.self.items in
+    let r = c.in_ok-report_on.field-0 in
+    let pushed = c.in_ok-push.ensures.items in
+    record {
+      tenants = tenants_more reports more r pushed c.tenants.yielded c.in-Some.tenant c.tenants.invariant.tenants c.in_ok-report_on.ensures.tenant;
+      each = each_more reports more r pushed g.L.GrainLogic.logic c.args.journal.now c.tenants.invariant.each c.in_ok-report_on.ensures.report;
+    }

@@ -1,0 +1,97 @@
+//! The reports that one thread makes, and how they are put together.
+
+ghost use Rattle.std.specs.Prelude.{◌≡◌, ℕ, ◌<◌, ◌+◌, ◌++◌, ◌∷◌, [], IfOk, OnOk, length, map, slice_index_or, ◌%◌, ◌==◌, if◌then◌else◌};
+ghost use Rattle.std.specs.declared.alloc.Global.{Global as Heap};
+ghost use Rattle.std.specs.declared.collections.VecDeque.{VecDeque as Deque};
+ghost use Rattle.tenant_audit.specs.Parts.{AreReports, AreParts, IsPart, TakesFirst};
+ghost use Rattle.tenant_audit.specs.declared.report.TenantReport.{TenantReport as Reported};
+
+use crate::gate::AuditGate;
+use crate::report::{TenantReport, report_on};
+use grain_id::Tenant;
+use grain_kinds::Kinds;
+use journal_text::Journal;
+use std::alloc::{AllocError, Global};
+use std::collections::VecDeque;
+
+/// Which tenants a thread reports: those whose places, counted from 0, leave `place` by `stride`.
+#[derive(Clone, Copy, Debug)]
+pub struct Share {
+    pub place: usize,
+    pub stride: usize,
+}
+
+/// Adds the report of the tenant at the index, if the share has that one.
+fn keep<G: AuditGate>(
+    alloc: Global,
+    reports: &mut VecDeque<TenantReport>,
+    journal: &Journal,
+    tenants: &[Tenant],
+    gate: &G,
+    share: Share,
+    index: usize,
+) -> Result<(), AllocError>
+    requires stride { 0 < share.stride }
+    requires index { index < length tenants.now }
+    ensures tenants { OnOk result (map (λ (r : Reported). r.tenant) reports.new.items ≡ map (λ (r : Reported). r.tenant) reports.old.items ++ (if index % share.stride == share.place then slice_index_or tenants.now index [] ∷ [] else [])) }
+    ensures each { OnOk result (AreReports journal.now reports.old.items → AreReports journal.now reports.new.items) }
+{
+    if index % share.stride == share.place {
+        let tenant = &tenants[index];
+        gate.entered(tenant);
+        reports.push_back(report_on(alloc, journal, tenant.clone()?, Kinds)?)?;
+    }
+    Ok(())
+}
+
+/// The reports of the tenants of a share, in order.
+pub fn part<G: AuditGate>(
+    alloc: Global,
+    journal: &Journal,
+    tenants: &[Tenant],
+    gate: &G,
+    share: Share,
+) -> Result<VecDeque<TenantReport>, AllocError>
+    requires { 0 < share.stride }
+    ensures { IfOk result (λ reports. IsPart journal.now tenants.now share.stride share.place 0 reports.items) }
+{
+    let mut reports = VecDeque::new(alloc);
+    'places: for index in 0..tenants.len() {
+        keep(alloc, &mut reports, journal, tenants, gate, share, index)?;
+    }
+    Ok(reports)
+}
+
+/// Takes the first report out of the part that has the index.
+fn take_next(parts: &mut Vec<VecDeque<TenantReport>>, index: usize) -> TenantReport
+    requires some { 0 < length parts.old.items }
+    requires first { (d : Deque Reported Heap) → 0 < length (slice_index_or parts.old.items (index % length parts.old.items) d).items }
+    ensures taken { TakesFirst parts.old.items (index % length parts.old.items) result parts.new.items }
+    ensures len { length parts.new.items ≡ length parts.old.items }
+{
+    let place = index % parts.len();
+    let Some(report) = parts[place].pop_front() else {
+        unreachable!()
+    };
+    report
+}
+
+/// The reports of all tenants in order, from the parts.
+pub fn merge(
+    alloc: Global,
+    journal: &Journal,
+    tenants: &[Tenant],
+    mut parts: Vec<VecDeque<TenantReport>>,
+) -> Result<Vec<TenantReport>, AllocError>
+    requires some { 0 < length parts.items }
+    requires each { AreParts journal.now tenants.now 0 parts.items }
+    ensures tenants { IfOk result (λ all. map (λ (r : Reported). r.tenant) all.items ≡ tenants.now) }
+    ensures each { IfOk result (λ all. AreReports journal.now all.items) }
+{
+    let _ = journal;
+    let mut all = Vec::with_capacity(alloc, tenants.len())?;
+    'places: for index in 0..tenants.len() {
+        all.push(take_next(&mut parts, index))?;
+    }
+    Ok(all)
+}

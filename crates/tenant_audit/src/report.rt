@@ -1,0 +1,111 @@
+//! What an audit reports of one tenant.
+
+ghost use Rattle.std.specs.Prelude.{◌≡◌, IfOk, length, filter, map};
+ghost use Rattle.silo_model.specs.Run.{restricted_to};
+ghost use Rattle.silo_model.specs.Whole.{is_of};
+ghost use Rattle.audit_model.specs.Parts.{is_told};
+ghost use Rattle.audit_model.specs.Report.{IsTenantReport};
+ghost use Rattle.tenant_audit.specs.ReportView.{tenant_report_of};
+
+use crate::comparison::first_difference;
+use crate::difference::{Difference, is_for};
+use grain_id::{GrainId, Tenant};
+use grain_kinds::GrainLogic;
+use grain_storage::Row;
+use journal_text::{Journal, RecordedReply};
+use silo_event::Step;
+use std::alloc::{AllocError, Global};
+use std::marker::Model;
+
+/// What an audit says of one tenant: how many steps of the journal concern it, how many replies and rows
+/// of it were recorded, and the first difference, if there is one.
+#[derive(Debug, Drop)]
+pub struct TenantReport {
+    pub tenant: Tenant,
+    pub steps: usize,
+    pub replies: usize,
+    pub rows: usize,
+    pub difference: Option<Difference>,
+}
+
+/// What an audit says of a journal: what is reported of each tenant, the table's in its order, and then
+/// the others of whom the journal has a step, a reply or a row, ascending.
+#[derive(Debug, Drop)]
+pub struct Report {
+    tenants: Vec<TenantReport>,
+}
+
+impl Model for Report {
+    ghost use Rattle.std.specs.Prelude.{List, map};
+    ghost use Rattle.std.specs.Coded.{codes};
+    ghost use Rattle.audit_model.specs.Report.{TenantReport as Told};
+    ghost use Rattle.tenant_audit.specs.ReportView.{tenant_report_of};
+
+    ghost Value = { List Told };
+
+    ghost coded = { Prim.hlevel codes };
+
+    ghost view = { λ r. map tenant_report_of r.tenants.items };
+}
+
+impl Report {
+    /// The report that has these of each tenant.
+    pub(crate) fn new(tenants: Vec<TenantReport>) -> Report
+        ensures { result ≡ map tenant_report_of tenants.items }
+    {
+        Report { tenants }
+    }
+
+    /// What is reported of each tenant, in order.
+    pub fn tenants(&self) -> &[TenantReport]
+        ensures { map tenant_report_of result.now ≡ self.now }
+    {
+        self.tenants.as_slice()
+    }
+}
+
+/// How many of the steps concern the tenant.
+fn steps_for(steps: &[Step], tenant: &Tenant) -> usize
+    ensures { result ≡ length (restricted_to tenant.now steps.now) }
+{
+    steps.iter().filter(|step| is_for(step, tenant)).count()
+}
+
+/// How many of the replies are to the tenant's callers and grains.
+fn replies_for(replies: &[RecordedReply], tenant: &Tenant) -> usize
+    ensures { result ≡ length (filter (is_told tenant.now) replies.now) }
+{
+    replies
+        .iter()
+        .filter(|reply| reply.recipient.tenant() == tenant.text())
+        .count()
+}
+
+/// How many of the rows are of the tenant's grains.
+fn rows_for(rows: &[(GrainId, Row)], tenant: &Tenant) -> usize
+    ensures { result ≡ length (filter (λ row. is_of tenant.now row.0) rows.now) }
+{
+    rows.iter()
+        .filter(|row| row.0.tenant() == tenant.text())
+        .count()
+}
+
+/// What is reported of one tenant.
+pub fn report_on<L: GrainLogic + Drop>(
+    alloc: Global,
+    journal: &Journal,
+    tenant: Tenant,
+    logic: L,
+) -> Result<TenantReport, AllocError>
+    ensures report { IfOk result (λ report. IsTenantReport L.logic journal.now (tenant_report_of report)) }
+    ensures tenant { IfOk result (λ report. report.tenant ≡ tenant) }
+{
+    let difference = first_difference(alloc, journal, &tenant, logic)?;
+    Ok(TenantReport {
+        steps: steps_for(journal.steps(), &tenant),
+        replies: replies_for(journal.replies(), &tenant),
+        rows: rows_for(journal.rows(), &tenant),
+        difference,
+        tenant,
+    })
+}
