@@ -4,7 +4,7 @@ use Rattle.std.specs.Prelude.{◌||◌, map as map_list}
 use Rattle.std.specs.List.{AllByRecursion, list_any}
 use Rattle.std.proofs.lemmas.Map.Keys.{IsDistinct-head, IsDistinct-tail, IsDistinct-cons}
 use Rattle.grain_id.specs.Names.{Client}
-use Rattle.silo_lanes.specs.Lanes.{Lane, AreDistinct, same_lane}
+use Rattle.lane_model.specs.Lanes.{Lane, AreDistinct, same_lane}
 
 none_of : (b : Bool) (c : Bool) → b ≡ false → c ≡ false → b || c ≡ false
 none_of b c p q = ap (λ x. x || c) p ∙ q

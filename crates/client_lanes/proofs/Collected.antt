@@ -9,10 +9,10 @@ use Rattle.std.proofs.lemmas.List.{append-nil}
 use Rattle.grain_id.specs.Names.{Client, Grain, client_cmp, client_eq}
 use Rattle.silo_event.specs.declared.reply.Party.TheVariants as party
 use Rattle.silo_event.specs.declared.reply.Reply.{Reply}
-use Rattle.silo_lanes.specs.Asking.{is_of_client}
-use Rattle.silo_lanes.specs.Lanes.{Lane, same_lane}
-use Rattle.silo_lanes.specs.Serving.{replies_to}
-use Rattle.client_lanes.specs.Told.{told_to, told_by, only_to}
+use Rattle.silo_model.specs.Pending.{is_of_client}
+use Rattle.lane_model.specs.Lanes.{Lane, same_lane}
+use Rattle.lane_model.specs.Serving.{replies_to}
+use Rattle.client_lanes.specs.RepliesByClient.{told_to, told_by, only_to}
 use Rattle.client_lanes.proofs.Keys.{tied_clients, tests_alike}
 
 -- ---- by client

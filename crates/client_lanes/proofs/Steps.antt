@@ -7,9 +7,9 @@ use Rattle.std.proofs.lemmas.Bool.{false_from_ne_true}
 use Rattle.grain_id.specs.Names.{Client}
 use Rattle.silo_event.specs.Failed.{as_failed}
 use Rattle.silo_event.specs.declared.step.Step.{Step}
-use Rattle.silo_lanes.specs.Lanes.{Lane, AreDistinct, LanesStand, Remaining, TellsApart, is_used_up, others_after, remaining_after, remaining_at_end, remaining_of}
-use Rattle.silo_lanes.proofs.ToldApart.{steps_told_apart}
-use Rattle.silo_lanes.proofs.PassOfLanes.{pass_decides}
+use Rattle.lane_model.specs.Lanes.{Lane, AreDistinct, LanesStand, Remaining, TellsApart, is_used_up, others_after, remaining_after, remaining_at_end, remaining_of}
+use Rattle.lane_model.proofs.ToldApart.{steps_told_apart}
+use Rattle.lane_model.proofs.PassOfLanes.{pass_decides}
 use Rattle.client_lanes.specs.Passing.{Takes, Passes}
 
 module _ (remaining after : Remaining) (k : Option Client) (s : Step) where

@@ -3,7 +3,7 @@ use Rattle.std.specs.Prelude.{◌≡◌, ◌<◌, ℕ, true, false, List, length
 use Rattle.std.specs.List.{AllPass}
 use Rattle.grain_id.specs.Names.{Client}
 use Rattle.silo_event.specs.declared.step.Step.{Step}
-use Rattle.silo_lanes.specs.Lanes.{may_give}
+use Rattle.lane_model.specs.Lanes.{may_give}
 use Rattle.client_lanes.specs.declared.lane.LaneFault.{LaneFault}
 use Rattle.client_lanes.specs.declared.lane.LaneFault.TheVariants.{Foreign}
 

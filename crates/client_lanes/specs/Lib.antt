@@ -1,3 +1,3 @@
 pub mod Foreign
 pub mod Passing
-pub mod Told
+pub mod RepliesByClient

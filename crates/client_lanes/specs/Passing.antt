@@ -7,7 +7,7 @@ use Rattle.std.specs.Global.{Global}
 use Rattle.std.specs.FinMap.{from_entries}
 use Rattle.grain_id.specs.Names.{Client}
 use Rattle.silo_event.specs.declared.step.Step.{Step}
-use Rattle.silo_lanes.specs.Lanes.{Remaining, TellsApart, lane_of, remaining_after}
+use Rattle.lane_model.specs.Lanes.{Remaining, TellsApart, lane_of, remaining_after}
 
 -- the steps that stand there, in order
 abbrev pub steps_at : VecDeque (Bor Step) Global → List Step

@@ -6,10 +6,9 @@ ghost use Rattle.std.specs.BTreeMap.{IsOrdered, values};
 ghost use Rattle.std.specs.List.{list_all};
 ghost use Rattle.std.specs.Option.{option_cmp};
 ghost use Rattle.grain_id.specs.Names.{client_cmp};
-ghost use Rattle.silo_lanes.specs.Lanes.{AreDistinct, LanesStand, done_steps_of, has_failed as failed_step, is_used_up, remaining_of, without_ticks_below};
+ghost use Rattle.lane_model.specs.Lanes.{AreDistinct, LanesStand, done_steps_of, has_failed as failed_step, is_used_up, remaining_of, without_ticks_below};
 ghost use Rattle.client_lanes.specs.Passing.{Passes, Takes, left_in, steps_at};
 
-use crate::asking::{asker_of, has_failed};
 use crate::lane::Lane;
 use grain_id::Caller;
 use silo_event::{Step, same_but_failed};
@@ -112,13 +111,28 @@ fn take_next(left: &mut Left<'_>, step: &Step) -> Result<bool, AllocError>
     ensures { IfOk result (λ next. Passes (left_in left.old) step.now next (left_in left.new)) }
 {
     match step {
+        Step::Refuse { caller, .. } => take_asked(left, caller, step),
+        Step::Call { caller, .. } => take_asked(left, caller, step),
+        Step::Poke { caller, .. } => take_asked(left, caller, step),
+        Step::Status { caller, .. } => take_asked(left, caller, step),
+        Step::Deliver { .. } => Ok(true),
+        Step::Activate { .. } => Ok(true),
+        Step::Load { .. } => Ok(true),
+        Step::Begin { .. } => Ok(true),
+        Step::Store { .. } => Ok(true),
+        Step::End { .. } => Ok(true),
+        Step::Abandon { .. } => Ok(true),
         Step::Tick { .. } => Ok(take_first(left, &None, step)),
         Step::Sweep => Ok(take_first(left, &None, step)),
-        _ => match asker_of(step) {
-            Some(caller) => Ok(take_first(left, &Some(caller.clone()?), step)),
-            None => Ok(true),
-        },
     }
+}
+
+/// Takes a step from what is left of this client's lane, and says whether it was the next there.
+fn take_asked(left: &mut Left<'_>, caller: &Caller, step: &Step) -> Result<bool, AllocError>
+    ensures { IfOk result (λ next. Takes (left_in left.old) (Some caller.now) step.now next (left_in left.new)) }
+{
+    let giver = Some(caller.clone()?);
+    Ok(take_first(left, &giver, step))
 }
 
 /// Takes a step from what is left of this lane, and says whether it was the next there.
@@ -160,7 +174,7 @@ pub fn failed_in(journal: &[Step]) -> usize
     let mut failed = 0;
     let mut rest = journal;
     'steps: while let Some((step, others)) = rest.split_first() {
-        if has_failed(step) {
+        if step.has_failed() {
             failed += 1;
         }
         rest = others;

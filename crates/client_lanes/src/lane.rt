@@ -2,14 +2,15 @@
 
 ghost use Rattle.std.specs.Prelude.{◌≡◌, ◌↔◌, ◌++◌, ◌∷◌, [], IsTrue, IsOk, IfOk, IfErr, OnOk, OnErr, if◌then◌else◌};
 ghost use Rattle.std.specs.List.{list_any};
-ghost use Rattle.silo_lanes.specs.Lanes.{AreDistinct, IsLane, may_give, same_lane};
+ghost use Rattle.lane_model.specs.Lanes.{AreDistinct, IsLane, may_give, same_lane};
 ghost use Rattle.client_lanes.specs.Foreign.{FindsForeign, IsFirstForeign};
 
-use crate::asking::may_give;
+use crate::giving::may_give;
 use grain_id::Caller;
 use silo_event::Step;
 use std::alloc::{AllocError, Global};
 use std::marker::Model;
+use thiserror::Error;
 
 /// What a client asks in order; or, of nobody, ticks and sweeps. Each step is one that the lane may
 /// give.
@@ -22,7 +23,7 @@ pub struct Lane {
 impl Model for Lane {
     ghost use Rattle.std.specs.Coded.{codes};
     ghost use Rattle.request_codec.specs.Code.{coded_tree};
-    ghost use Rattle.silo_lanes.specs.Lanes as lanes;
+    ghost use Rattle.lane_model.specs.Lanes as lanes;
 
     ghost Value = { lanes.Lane };
 
@@ -34,9 +35,10 @@ impl Model for Lane {
 }
 
 /// Why steps are no lane.
-#[derive(Clone, Copy, Debug, PartialEq, Eq)]
+#[derive(Clone, Copy, Debug, PartialEq, Eq, Error)]
 pub enum LaneFault {
     /// The step at this place, from 0, is the first that the lane may not give.
+    #[error("the lane may not give the step at place {0}, from 0")]
     Foreign(usize),
 }
 

@@ -37,3 +37,7 @@ pub mod RepliesInOrder
 pub mod ReadersTogether
 pub mod IdleEntries
 pub mod Lawful
+pub mod WorkAtGrains
+pub mod QuietCounts
+pub mod Sends
+pub mod OwnSends

@@ -7,12 +7,14 @@ ghost use Rattle.silo_model.specs.FirstCall.{FirstCallAnswered};
 ghost use Rattle.silo_model.specs.Gates.{GateIsTables};
 ghost use Rattle.silo_model.specs.Laws.{FailingIsPossible, ReplayIsRun, AgreeingLists, OwnPart, OtherParts, NotNow, RunsOn, JournalsReplay, JournalsGrow, PartsLead};
 ghost use Rattle.silo_model.specs.Parts.{StepAnswersInParts, RunsAnswer};
+ghost use Rattle.silo_model.specs.Pending.{QuietByCounts};
 ghost use Rattle.silo_model.specs.Readers.{ReadersTogether};
 ghost use Rattle.silo_model.specs.Replies.{RepliesInOrder};
 ghost use Rattle.silo_model.specs.Saved.{SavedComesBack};
 ghost use Rattle.silo_model.specs.Sent.{SentArrives};
 ghost use Rattle.silo_model.specs.Settled.{JournalsSettle, RunsSettle};
 ghost use Rattle.silo_model.specs.Stores.{StoresAtOneRow};
+ghost use Rattle.silo_model.specs.Todo.{SendsAreOwn, WorkIsDone};
 
 /// What a run of the whole shows to each tenant is the run of the tenant's own machine, with the
 /// other tenants' steps struck out.
@@ -144,4 +146,20 @@ pub fn readers_together()
 /// every row: so the laws are said of a silo that lets go of what isn't used.
 pub fn idle_goes()
     ensures { IdleGoes }
+{}
+
+/// What is to do with a grain's entry, or is to be delivered of what it sent, would be done now.
+pub fn work_is_done()
+    ensures { WorkIsDone }
+{}
+
+/// What a grain sent is in the account of its own tenant, in every whole that a journal leads to.
+pub fn sends_are_own()
+    ensures { SendsAreOwn }
+{}
+
+/// Each tenant's part is quiet exactly if no request waits or is open, and no send is left, of
+/// anyone.
+pub fn quiet_by_counts()
+    ensures { QuietByCounts }
 {}

@@ -1,7 +1,7 @@
 use Rattle.std.proofs.Common.{◌++◌, List, [], ◌∷◌, ap, ◌∙◌, append_assoc}
 use Rattle.std.specs.FinMap as finite
-use Rattle.silo_lanes.specs.Lanes.{Lane}
-use Rattle.silo_lanes.proofs.Pass.{lanes_total}
+use Rattle.lane_model.specs.Lanes.{Lane}
+use Rattle.lane_model.proofs.Pass.{lanes_total}
 use Rattle.client_lanes.specs.Passing.{steps_at}
 use Rattle.client_lanes.proofs.Keys.{lanes_exact}
 use Rattle.client_lanes.proofs.Shown.{shown-insert}

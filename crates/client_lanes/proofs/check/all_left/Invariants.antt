@@ -1,5 +1,5 @@
 use Rattle.std.proofs.Common.{◌≡◌, ◌++◌, List, length}
-use Rattle.silo_lanes.specs.Lanes.{Lane, remaining_of}
+use Rattle.lane_model.specs.Lanes.{Lane, remaining_of}
 use Rattle.client_lanes.specs.Passing.{left_in}
 use Rattle.client_lanes.proofs.check.all_left.Given as goal
 

@@ -1,6 +1,6 @@
 use Rattle.std.proofs.Common.{◌≡◌, ◌++◌, length}
 use Rattle.std.specs.Prelude.{map as map_list}
-use Rattle.silo_lanes.specs.Lanes.{without_ticks_below}
+use Rattle.lane_model.specs.Lanes.{without_ticks_below}
 use Rattle.client_lanes.proofs.check.done_ticks.Given as goal
 
 abbrev pub invariant-steps : goal.invariant-steps

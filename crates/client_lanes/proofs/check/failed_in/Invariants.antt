@@ -1,6 +1,6 @@
 use Rattle.std.proofs.Common.{◌≡◌, ◌+◌, ◌≤◌, length}
 use Rattle.std.specs.Prelude.{count_by}
-use Rattle.silo_lanes.specs.Lanes.{has_failed}
+use Rattle.lane_model.specs.Lanes.{has_failed}
 use Rattle.client_lanes.proofs.check.failed_in.Given as goal
 
 abbrev pub invariant-steps : goal.invariant-steps

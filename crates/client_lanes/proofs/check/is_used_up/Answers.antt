@@ -2,7 +2,7 @@ use Rattle.std.proofs.Common.{List, ap, sym, ◌∙◌}
 use Rattle.std.specs.Prelude.{◌==◌, length, map as map_list}
 use Rattle.std.specs.List.{list_all}
 use Rattle.silo_event.specs.declared.step.Step.{Step}
-use Rattle.silo_lanes.proofs.Pass.{lanes_total}
+use Rattle.lane_model.proofs.Pass.{lanes_total}
 use Rattle.client_lanes.specs.Passing.{steps_at}
 use Rattle.client_lanes.proofs.Keys.{lanes_exact}
 use Rattle.client_lanes.proofs.Shown.{entries-shown}

@@ -1,6 +1,6 @@
 use Rattle.std.proofs.Common.{◌≡◌, Bool, length}
 use Rattle.silo_event.specs.declared.step.Step.{Step}
-use Rattle.silo_lanes.specs.Lanes.{TellsApart, remaining_at_end, remaining_of}
+use Rattle.lane_model.specs.Lanes.{TellsApart, remaining_at_end, remaining_of}
 use Rattle.client_lanes.specs.Passing.{left_in}
 use Rattle.client_lanes.proofs.check.lanes_stand.Given as goal
 

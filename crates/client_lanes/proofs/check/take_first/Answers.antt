@@ -3,7 +3,7 @@ use Rattle.std.specs.Prelude.{option_map, map as map_list}
 use Rattle.std.specs.Borrow.{Bor}
 use Rattle.std.specs.FinMap as finite
 use Rattle.silo_event.specs.declared.step.Step.{Step}
-use Rattle.silo_lanes.proofs.Pass.{lanes_total}
+use Rattle.lane_model.proofs.Pass.{lanes_total}
 use Rattle.client_lanes.specs.Passing.{left_in, steps_at}
 use Rattle.client_lanes.proofs.Keys.{lanes_exact}
 use Rattle.client_lanes.proofs.Shown.{get-shown, shown-insert}

@@ -1,6 +1,6 @@
 use Rattle.std.proofs.Common.{refl, ap, sym, subst, ◌∙◌, true≢false}
 use Rattle.std.specs.List.{IsDistinct, list_any}
-use Rattle.silo_lanes.specs.Lanes.{Lane, AreDistinct, same_lane}
+use Rattle.lane_model.specs.Lanes.{Lane, AreDistinct, same_lane}
 use Rattle.client_lanes.proofs.Apart.{repeats, one_more, others_distinct}
 use Rattle.client_lanes.proofs.Steps.{no_more}
 use Rattle.client_lanes.proofs.lane.distinct.Goals as goal

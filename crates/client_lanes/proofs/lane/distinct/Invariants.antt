@@ -1,5 +1,5 @@
 use Rattle.std.proofs.Common.{length}
-use Rattle.silo_lanes.specs.Lanes.{AreDistinct}
+use Rattle.lane_model.specs.Lanes.{AreDistinct}
 use Rattle.client_lanes.proofs.lane.distinct.Given as goal
 
 abbrev pub invariant-lanes : goal.invariant-lanes

@@ -2,7 +2,7 @@ use Rattle.std.proofs.Common.{◌≡◌, true, sym, subst, ◌∙◌}
 use Rattle.std.specs.List.{All}
 use Rattle.std.proofs.lemmas.List.Elements.{All-push}
 use Rattle.silo_event.specs.declared.step.Step.{Step}
-use Rattle.silo_lanes.specs.Lanes.{may_give}
+use Rattle.lane_model.specs.Lanes.{may_give}
 use Rattle.client_lanes.proofs.lane.Lane.push.Goals as goal
 
 pub invariant_of-self-2 : goal.invariant_of-self-2

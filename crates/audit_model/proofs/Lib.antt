@@ -1,0 +1,5 @@
+pub mod Differences
+pub mod Reports
+pub mod Tenants
+pub mod EachReport
+mod Owned

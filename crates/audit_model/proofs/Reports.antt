@@ -1,0 +1,157 @@
+-- A journal has one report; that of a silo has no difference; and what a report without difference says.
+use Rattle.std.proofs.Common.{◌≡◌, ℕ, Bool, true, false, cond, List, [], ◌∷◌, length, Some, None, unwrap_or, refl, ap, sym, ◌∙◌, subst, true≢false}
+use Rattle.std.specs.Prelude.{filter, map as map_list}
+use Rattle.std.specs.List.{AllByRecursion}
+use Rattle.std.specs.List.Sorted.{IsStrictlySortedBy}
+use Rattle.std.specs.Map.{keys_of}
+use Rattle.std.specs.declared.cmp.Ordering.{Ordering}
+use Rattle.std.specs.declared.cmp.Ordering.TheVariants.{Less, Equal, Greater}
+use Rattle.std.specs.Ordering.{is_lt}
+use Rattle.std.specs.FinMap as map
+use Rattle.std.specs.FinMap.Entries.{find-where_key}
+use Rattle.std.proofs.lemmas.List.Elements.{recursion_from_All}
+use Rattle.std.proofs.lemmas.List.Kept.{IsStrictlySortedBy-filter}
+use Rattle.std.proofs.lemmas.Option.{same_Some}
+use Rattle.std.proofs.lemmas.Bool.{and_parts}
+use Rattle.grain_id.specs.Names.{Grain, grain_cmp}
+use Rattle.grain_id.proofs.Order.{grain_cmp_total, grain_cmp_exact}
+use Rattle.grain_id.proofs.ByGrain.{alike, get-part}
+use Rattle.grain_storage.specs.declared.row.Row.{Row}
+use Rattle.grain_storage.specs.Memory.{rows_of}
+use Rattle.grain_storage.specs.Rows.{Rows}
+use Rattle.grain_storage.proofs.Ascending.{entries-rows_of}
+use Rattle.silo_event.specs.declared.reply.Reply.{Reply}
+use Rattle.silo_event.specs.declared.step.Step.{Step}
+use Rattle.grain_kinds.specs.Logic.{Logic}
+use Rattle.silo_model.specs.Machine.{Machine}
+use Rattle.silo_model.specs.Step.{machine_step}
+use Rattle.silo_model.specs.Whole.{Whole, is_of, is_to, shown_to}
+use Rattle.silo_model.specs.Run.{machine_run}
+use Rattle.silo_model.specs.Opening.{start_of}
+use Rattle.silo_model.specs.Journal.{machine_all_done}
+use Rattle.silo_model.proofs.Changes.{bound}
+use Rattle.silo_model.proofs.Journals.{parts_lead}
+use Rattle.journal_text.specs.RecordedReply.{recorded_of}
+use Rattle.journal_text.specs.Rules.{comes_after, are_ascending}
+use Rattle.journal_text.specs.Text.{History}
+use Rattle.audit_model.specs.Parts.{all_recorded, setup_of, steps_for, is_told, replies_for, rows_for}
+use Rattle.audit_model.specs.Report.{TenantReport, IsFirstDifference, IsTenantReport, OneReport, NoDifference, NoneIsMachines}
+use Rattle.audit_model.proofs.Differences.{head_same, tail_same, one_difference}
+
+-- ---- a journal has one report
+
+module _ (logic : Logic) (journal : History) where
+  same_report : (r o : TenantReport) → r.tenant ≡ o.tenant → IsTenantReport logic journal r → IsTenantReport logic journal o → r ≡ o
+  same_report r o same is others = λ i. record {
+    tenant = same i;
+    steps = (is.steps ∙ ap (λ t. length (steps_for t journal)) same ∙ sym others.steps) i;
+    replies = (is.replies ∙ ap (λ t. length (replies_for t journal)) same ∙ sym others.replies) i;
+    rows = (is.rows ∙ ap (λ t. length (rows_for t journal)) same ∙ sym others.rows) i;
+    difference = one_difference logic (start_of (setup_of journal) r.tenant) (steps_for r.tenant journal) (replies_for r.tenant journal) (rows_of (rows_for r.tenant journal)) r.difference o.difference
+        is.difference
+        (subst (λ t. IsFirstDifference logic journal t o.difference) (sym same) others.difference)
+        i;
+  }
+
+  same_reports : (reports others : List TenantReport) → map_list (λ (r : TenantReport). r.tenant) reports ≡ map_list (λ (r : TenantReport). r.tenant) others
+      → AllByRecursion (IsTenantReport logic journal) reports → AllByRecursion (IsTenantReport logic journal) others → reports ≡ others
+  same_reports [] [] same each each_too = refl
+  same_reports [] (o ∷ others) same each each_too = absurd cc
+  same_reports (r ∷ reports) [] same each each_too = absurd cc
+  same_reports (r ∷ reports) (o ∷ others) same each each_too =
+      λ i. same_report r o (head_same r.tenant o.tenant _ _ same) each.0 each_too.0 i ∷ same_reports reports others (tail_same r.tenant o.tenant _ _ same) each.1 each_too.1 i
+
+pub one_report : OneReport
+one_report logic journal reports others is is_too =
+    same_reports logic journal reports others (is.tenants ∙ sym is_too.tenants) (recursion_from_All _ reports is.each) (recursion_from_All _ others is_too.each)
+
+-- ---- the journal of a silo
+
+-- the replies to a tenant that are recorded are those to it, recorded
+told_recorded : (tenant : List ℕ) (replies : List Reply) → filter (is_told tenant) (all_recorded replies) ≡ all_recorded (filter (is_to tenant) replies)
+told_recorded tenant [] = refl
+told_recorded tenant (r ∷ replies) = by_tenant (is_to tenant r) (told_recorded tenant replies)
+  where
+    by_tenant : (b : Bool) → filter (is_told tenant) (all_recorded replies) ≡ all_recorded (filter (is_to tenant) replies)
+        → cond b (recorded_of r ∷ filter (is_told tenant) (all_recorded replies)) (filter (is_told tenant) (all_recorded replies)) ≡ all_recorded (cond b (r ∷ filter (is_to tenant) replies) (filter (is_to tenant) replies))
+    by_tenant true rest = ap (λ rs. recorded_of r ∷ rs) rest
+    by_tenant false rest = rest
+
+shown_replies : (tenant : List ℕ) (w : Whole) → filter (is_to tenant) w.replies ≡ (shown_to tenant w).replies
+unfolding shown_to
+shown_replies tenant w = refl
+
+shown_rows : (tenant : List ℕ) (w : Whole) → map.retain_keys w.rows (is_of tenant) ≡ (shown_to tenant w).rows
+unfolding shown_to
+shown_rows tenant w = refl
+
+-- the rows of some grains, of all rows in a list
+part_of_rows : (rows : Rows) (p : Grain → Bool) → rows_of (filter (λ row. p row.0) (map.entries rows)) ≡ map.retain_keys rows p
+part_of_rows rows p =
+    alike _ _ (λ q.
+    map.get-from_entries grain_cmp_total (filter (λ row. p row.0) (map.entries rows)) q
+    ∙ find-where_key grain_cmp p q (λ x tied. ap p (sym (grain_cmp_exact q x tied))) (map.entries rows)
+    ∙ ap (λ o. cond (p q) o None) (sym (map.get-entries rows q))
+    ∙ sym (get-part rows p q))
+
+pub no_difference : NoDifference
+no_difference logic journal w tenant leads records = (
+  shown_to tenant w,
+  parts_lead logic (setup_of journal) journal.steps w tenant leads,
+  (
+    ap (filter (is_told tenant)) records.replies ∙ told_recorded tenant w.replies ∙ ap all_recorded (shown_replies tenant w),
+    ap (λ rows. rows_of (filter (λ (row : Grain × Row). is_of tenant row.0) rows)) records.rows ∙ part_of_rows w.rows (is_of tenant) ∙ shown_rows tenant w,
+  ),
+)
+
+-- ---- rows that ascend
+
+pub is_less : (r : Ordering) → is_lt r ≡ true → r ≡ Less
+is_less Less e = refl
+is_less Equal e = absurd (true≢false (sym e))
+is_less Greater e = absurd (true≢false (sym e))
+
+all_above : (a b : Grain) (grains : List Grain) → grain_cmp a b ≡ Less → AllByRecursion (λ g. grain_cmp b g ≡ Less) grains → AllByRecursion (λ g. grain_cmp a g ≡ Less) grains
+all_above a b [] below all = tt
+all_above a b (g ∷ grains) below all = (grain_cmp_total.trans a b g below all.0, all_above a b grains below all.1)
+
+ascend_after : (last : Grain) (rows : List (Grain × Row)) → are_ascending (Some last) rows ≡ true → AllByRecursion (λ g. grain_cmp last g ≡ Less) (keys_of rows) × IsStrictlySortedBy grain_cmp (keys_of rows)
+unfolding IsStrictlySortedBy
+ascend_after last [] e = (tt, tt)
+ascend_after last (row ∷ rows) e =
+    let parts = and_parts (comes_after (Some last) row.0) (are_ascending (Some row.0) rows) e in
+    let rest = ascend_after row.0 rows parts.1 in
+    let below = is_less (grain_cmp last row.0) parts.0 in
+    ((below, all_above last row.0 (keys_of rows) below rest.0), rest)
+
+-- each of the rows is above all before it
+pub ascend : (rows : List (Grain × Row)) → are_ascending None rows ≡ true → IsStrictlySortedBy grain_cmp (keys_of rows)
+unfolding IsStrictlySortedBy
+ascend [] e = tt
+ascend (row ∷ rows) e = ascend_after row.0 rows e
+
+pub keys_filter : (p : Grain → Bool) (rows : List (Grain × Row)) → keys_of (filter (λ row. p row.0) rows) ≡ filter p (keys_of rows)
+keys_filter p [] = refl
+keys_filter p (row ∷ rows) = by_test (p row.0) (keys_filter p rows)
+  where
+    by_test : (b : Bool) → keys_of (filter (λ r. p r.0) rows) ≡ filter p (keys_of rows) → keys_of (cond b (row ∷ filter (λ r. p r.0) rows) (filter (λ r. p r.0) rows)) ≡ cond b (row.0 ∷ filter p (keys_of rows)) (filter p (keys_of rows))
+    by_test true rest = ap (λ gs. row.0 ∷ gs) rest
+    by_test false rest = rest
+
+own_ascend : (tenant : List ℕ) (journal : History) → are_ascending None journal.rows ≡ true → map.entries (rows_of (rows_for tenant journal)) ≡ rows_for tenant journal
+own_ascend tenant journal ascending =
+    entries-rows_of (rows_for tenant journal)
+    (subst (IsStrictlySortedBy grain_cmp) (sym (keys_filter (is_of tenant) journal.rows)) (IsStrictlySortedBy-filter grain_cmp (is_of tenant) (keys_of journal.rows) (ascend journal.rows ascending)))
+
+-- ---- a report without difference
+
+done_run : (logic : Logic) (m end : Machine) (steps : List Step) → machine_all_done logic m steps ≡ Some end → end ≡ machine_run logic m steps
+done_run logic m end [] e = sym (same_Some m end e)
+done_run logic m end (s ∷ steps) e =
+    let next = bound (λ x. machine_all_done logic x steps) (machine_step logic m s) end e in
+    done_run logic next.0 end steps next.2 ∙ ap (λ o. machine_run logic (unwrap_or o m) steps) (sym next.1)
+
+pub none_is_machines : NoneIsMachines
+none_is_machines logic journal tenant ascending none =
+    let same = done_run logic (start_of (setup_of journal) tenant) none.0 (steps_for tenant journal) none.1 in
+    (none.2.0 ∙ ap (λ (m : Machine). all_recorded m.replies) same, sym (own_ascend tenant journal ascending) ∙ ap map.entries none.2.1 ∙ ap (λ (m : Machine). map.entries m.rows) same)

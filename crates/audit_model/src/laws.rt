@@ -1,0 +1,43 @@
+//! Laws over the definitions alone. No code runs: a law is the contract of a function that does
+//! nothing, so that it is proved with the crate.
+
+ghost use Rattle.audit_model.specs.Report.{EachReport, NoDifference, NoneIsMachines, OneReport, OwnersReported, StartsAsRecorded, TenantsInOrder};
+
+/// A journal has a report.
+pub fn each_report()
+    ensures { EachReport }
+{}
+
+/// A journal has no two reports.
+pub fn one_report()
+    ensures { OneReport }
+{}
+
+/// The journal of a silo that opened with no rows has no difference.
+pub fn no_difference()
+    ensures { NoDifference }
+{}
+
+/// If a tenant has no difference, the replies and the rows that were recorded of it are its
+/// machine's.
+pub fn none_is_machines()
+    ensures { NoneIsMachines }
+{}
+
+/// A report has each tenant once: the table's in its order, and then the others that have a step, a
+/// reply or a row, ascending.
+pub fn tenants_in_order()
+    ensures { TenantsInOrder }
+{}
+
+/// A report has each tenant of whom the journal has a step of its own, a reply or a row; and of those
+/// whom the table doesn't have, no other.
+pub fn owners_reported()
+    ensures { OwnersReported }
+{}
+
+/// A tenant's machine starts with the journal's age, and with the limits that its table has of the
+/// tenant.
+pub fn starts_as_recorded()
+    ensures { StartsAsRecorded }
+{}

@@ -1,0 +1,11 @@
+use Rattle.std.proofs.Common.{◌≡◌, ◌++◌, Some, length}
+use Rattle.grain_id.specs.Names.{Client}
+use Rattle.lane_model.specs.Serving.{replies_to}
+use Rattle.client_lanes.specs.RepliesByClient.{told_to}
+use Rattle.client_lanes.proofs.replies_by_client.told_by_client.Given as goal
+
+abbrev pub invariant-replies : goal.invariant-replies
+invariant-replies l = (client : Client) → told_to l.told client ++ replies_to (Some client) l.rest ≡ replies_to (Some client) l.fn.replies
+
+abbrev pub decreases-replies : goal.decreases-replies
+decreases-replies l = length l.rest

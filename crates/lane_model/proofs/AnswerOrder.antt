@@ -1,0 +1,243 @@
+-- In a paced journal each client is answered in the order in which it asked.
+use Rattle.std.proofs.Common.{◌≡◌, ℕ, ◌+◌, ◌≤◌, Bool, true, false, cond, List, [], ◌∷◌, ◌++◌, Option, Some, None, unwrap_or, refl, ap, sym, ◌∙◌, subst, arith, true≢false}
+use Rattle.std.specs.Prelude.{nat_le, filter, sum_by, option_map, if◌then◌else◌}
+use Rattle.std.proofs.lemmas.List.Sums.{sum_by-cons, sum_by-append}
+use Rattle.std.proofs.lemmas.List.Elements.{filter-append}
+use Rattle.std.proofs.lemmas.List.{append-nil, append_assoc}
+use Rattle.std.proofs.lemmas.Grind.{flat_map-append}
+use Rattle.std.proofs.lemmas.Option.{same_Some, none-some}
+use Rattle.std.proofs.lemmas.Bool.{and_parts, not-true}
+use Rattle.grain_id.specs.Names.{Grain, Client, client_eq, same_text}
+use Rattle.grain_id.proofs.Order.{client_eq_decides, same_text_decides}
+use Rattle.silo_event.specs.Owner.{owner_of, tenant_of}
+use Rattle.silo_event.specs.declared.reply.Party.{Party}
+use Rattle.silo_event.specs.declared.reply.Party.TheVariants as party
+use Rattle.silo_event.specs.declared.reply.Reply.{Reply}
+use Rattle.silo_event.specs.declared.step.Step.{Step}
+use Rattle.silo_event.specs.declared.step.Step.TheVariants.{Tick, Sweep}
+use Rattle.grain_kinds.specs.Logic.{Logic}
+use Rattle.grain_kinds.specs.Laws.{ReadersAskNothing}
+use Rattle.silo_model.specs.Machine.{Machine}
+use Rattle.silo_model.specs.Effect.{Effect, context_at, applied}
+use Rattle.silo_model.specs.Step.{grain_of, effect_of, swept, shared_step, step_by, machine_step}
+use Rattle.silo_model.specs.Whole.{Whole, is_to, shown_to}
+use Rattle.silo_model.specs.Run.{machine_run, concerns, restricted_to}
+use Rattle.silo_model.specs.Opening.{Setup, start_of}
+use Rattle.silo_model.proofs.Runs.{machine_after}
+use Rattle.silo_model.proofs.Fair.{pend}
+use Rattle.silo_model.proofs.Moves.{sent}
+use Rattle.silo_model.proofs.StepMoves.{IsFairMachine, machine_moves}
+use Rattle.silo_model.proofs.FairRuns.{start_fair, start_balance, run_fair}
+use Rattle.silo_model.specs.Pending.{has_pending}
+use Rattle.lane_model.specs.Asking.{asking_of, asker_of, id_asked, id_of, ids_asked, ids_told}
+use Rattle.lane_model.specs.Pacing.{machine_of, may_ask, paced_from, is_paced, AnsweredInOrder}
+use Rattle.lane_model.proofs.Askers.{weigh, weigh_quiet, asked_weight, told_weight, none_pending, no_number, is_front, apart_asks_nothing, asks_always}
+use Rattle.lane_model.proofs.PacedGrowth.{one_on, part_is_run}
+
+-- ---- a step adds its replies at the end
+
+pub record AddsReplies (m new : Machine) : Type 0 where
+  pub added : List Reply
+  pub replies : new.replies ≡ m.replies ++ added
+
+adds_none : (m new : Machine) → new.replies ≡ m.replies → AddsReplies m new
+adds_none m new same = record { added = []; replies = same ∙ sym (append-nil m.replies) }
+
+applied_adds : (m : Machine) (grain : Option Grain) (e : Effect) → AddsReplies m (applied m grain e)
+unfolding applied
+applied_adds m grain e = record { added = e.replies; replies = refl }
+
+tick_adds : (m new : Machine) (now : ℕ) (b : Bool) → (if b then Some (record m { clock = now }) else None) ≡ Some new → AddsReplies m new
+tick_adds m new now true h = adds_none m new (ap (λ (x : Machine). x.replies) (sym (same_Some (record m { clock = now }) new h)))
+tick_adds m new now false h = absurd (none-some new h)
+
+shared_adds : (m new : Machine) (s : Step) → shared_step m s ≡ Some new → AddsReplies m new
+shared_adds m new (Tick now) h = tick_adds m new now (nat_le m.clock now) h
+shared_adds m new Sweep h = adds_none m new (ap (λ (x : Machine). x.replies) (sym (same_Some (swept m) new h)))
+shared_adds m new _ h = absurd (none-some new h)
+
+module _ (logic : Logic) (m new : Machine) (s : Step) where
+  adds_by_effect : (grain : Option Grain) (r : Option Effect) → option_map (applied m grain) r ≡ Some new → AddsReplies m new
+  adds_by_effect grain None h = absurd (none-some new h)
+  adds_by_effect grain (Some e) h = subst (AddsReplies m) (same_Some (applied m grain e) new h) (applied_adds m grain e)
+
+  adds_by_owner : (o : Option (List ℕ)) → step_by logic m s o ≡ Some new → AddsReplies m new
+  adds_by_owner None h = shared_adds m new s h
+  adds_by_owner (Some owner) h = adds_by_effect (grain_of m.account s) (effect_of logic (context_at m (grain_of m.account s)) s) h
+
+  pub step_adds : machine_step logic m s ≡ Some new → AddsReplies m new
+  unfolding machine_step
+  step_adds h = adds_by_owner (owner_of s) h
+
+-- ---- what a client is still owed
+
+-- Of the numbers under which the client asked, in order, the first were told; what is left, at most one, waits or is open.
+pub record Owed (client : Client) (steps : List Step) (m : Machine) : Type 0 where
+  pub owed : List ℕ
+  pub short : sum_by (λ x. 1) owed ≤ 1
+  pub order : ids_asked client steps ≡ ids_told client m.replies ++ owed
+  pub weighs : (f : ℕ → ℕ) → pend (sent (weigh client f)) m.entries ≡ sum_by f owed
+
+asked_more : (client : Client) (steps : List Step) (s : Step) → ids_asked client (steps ++ s ∷ []) ≡ ids_asked client steps ++ id_asked client (asking_of s)
+asked_more client steps s = flat_map-append (λ r. id_asked client (asking_of r)) steps (s ∷ []) ∙ ap (λ ids. ids_asked client steps ++ ids) (append-nil (id_asked client (asking_of s)))
+
+-- a step that isn't the client's, and leaves the machine
+owed_still : (client : Client) (steps : List Step) (m : Machine) (s : Step) → id_asked client (asking_of s) ≡ [] → Owed client steps m → Owed client (steps ++ s ∷ []) m
+owed_still client steps m s nothing old = record {
+  owed = old.owed;
+  short = old.short;
+  order = asked_more client steps s ∙ ap (λ ids. ids_asked client steps ++ ids) nothing ∙ append-nil (ids_asked client steps) ∙ old.order;
+  weighs = old.weighs;
+}
+
+module _ (logic : Logic) (law : ReadersAskNothing logic) (client : Client) (steps : List Step) (m : Machine) (s : Step) (fair : IsFairMachine logic m) (old : Owed client steps m)
+    (paced : asker_of s ≡ Some client → has_pending client m ≡ false) where
+  abbrev asks : List ℕ
+  asks = id_asked client (asking_of s)
+
+  none_owed : has_pending client m ≡ false → sum_by (λ x. 1) old.owed ≡ 0
+  none_owed none = sym (old.weighs (λ x. 1)) ∙ none_pending client (λ x. 1) m none
+
+  short_if : (asking : Client × ℕ) → asking_of s ≡ Some asking → (b : Bool) → client_eq asking.0 client ≡ b → sum_by (λ x. 1) old.owed + sum_by (λ x. 1) (cond b (asking.1 ∷ []) []) ≤ 1
+  short_if asking is true same =
+      let asker : asker_of s ≡ Some client = ap (option_map (λ (a : Client × ℕ). a.0)) is ∙ ap Some ((client_eq_decides asking.0 client).0 same) in
+      omega (arith, none_owed (paced asker), sum_by-cons (λ x. 1) asking.1 [])
+  short_if asking is false same = omega (arith, old.short)
+
+  short_by : (o : Option (Client × ℕ)) → asking_of s ≡ o → sum_by (λ x. 1) old.owed + sum_by (λ x. 1) (id_asked client o) ≤ 1
+  short_by None is = omega (arith, old.short)
+  short_by (Some asking) is = short_if asking is (client_eq asking.0 client) refl
+
+  short_then : sum_by (λ x. 1) (old.owed ++ asks) ≤ 1
+  short_then = omega (arith, short_by (asking_of s) refl, sum_by-append (λ x. 1) old.owed asks)
+
+  module _ (new : Machine) (is : machine_step logic m s ≡ Some new) where
+    adds : AddsReplies m new
+    adds = step_adds logic m new s is
+
+    abbrev told : List ℕ
+    told = ids_told client adds.added
+
+    told_grows : ids_told client new.replies ≡ ids_told client m.replies ++ told
+    told_grows = ap (ids_told client) adds.replies ∙ flat_map-append (λ (r : Reply). id_of client r.recipient) m.replies adds.added
+
+    weights : (f : ℕ → ℕ) → sum_by f told + pend (sent (weigh client f)) new.entries ≡ sum_by f (old.owed ++ asks)
+    weights f =
+        omega (
+          arith,
+          (machine_moves logic law m new s fair is).balance (weigh client f) (weigh_quiet client f),
+          told_weight client f new.replies,
+          told_weight client f m.replies,
+          ap (sum_by f) told_grows,
+          sum_by-append f (ids_told client m.replies) told,
+          old.weighs f,
+          asked_weight client f s,
+          sum_by-append f old.owed asks,
+        )
+
+    owed_next : Owed client (steps ++ s ∷ []) new
+    owed_next =
+        let front = is_front (old.owed ++ asks) told short_then (λ f. omega (arith, weights f)) in
+        record {
+          owed = front.0;
+          short = omega (arith, short_then, ap (sum_by (λ x. 1)) front.1, sum_by-append (λ x. 1) told front.0);
+          order = asked_more client steps s
+              ∙ ap (λ ids. ids ++ asks) old.order
+              ∙ append_assoc (ids_told client m.replies) old.owed asks
+              ∙ ap (λ ids. ids_told client m.replies ++ ids) front.1
+              ∙ sym (append_assoc (ids_told client m.replies) told front.0)
+              ∙ ap (λ ids. ids ++ front.0) (sym told_grows);
+          weighs = λ f. omega (arith, weights f, ap (sum_by f) front.1, sum_by-append f told front.0);
+        }
+
+  owed_after : (r : Option Machine) → machine_step logic m s ≡ r → Owed client (steps ++ s ∷ []) (unwrap_or r m)
+  owed_after None is = owed_still client steps m s (ap (id_asked client) (asks_always logic m s is)) old
+  owed_after (Some new) is = owed_next new is
+
+-- ---- a paced journal
+
+run_more : (logic : Logic) (m : Machine) (steps : List Step) (s : Step) → machine_run logic m (steps ++ s ∷ []) ≡ machine_after logic (machine_run logic m steps) s
+run_more logic m [] s = refl
+run_more logic m (r ∷ steps) s = run_more logic (machine_after logic m r) steps s
+
+module _ (logic : Logic) (law : ReadersAskNothing logic) (setup : Setup) (client : Client) where
+  abbrev at_client : List Step → Machine
+  at_client steps = machine_of logic setup steps client
+
+  at_more : (steps : List Step) (s : Step) (b : Bool) → concerns client.tenant s ≡ b → at_client (steps ++ s ∷ []) ≡ cond b (machine_after logic (at_client steps) s) (at_client steps)
+  at_more steps s b is =
+      ap (machine_run logic (start_of setup client.tenant)) (filter-append (concerns client.tenant) steps (s ∷ []) ∙ ap (λ x. restricted_to client.tenant steps ++ cond x (s ∷ []) []) is)
+      ∙ by_concern b
+    where
+      by_concern : (x : Bool) → machine_run logic (start_of setup client.tenant) (restricted_to client.tenant steps ++ cond x (s ∷ []) []) ≡ cond x (machine_after logic (at_client steps) s) (at_client steps)
+      by_concern true = run_more logic (start_of setup client.tenant) (restricted_to client.tenant steps) s
+      by_concern false = ap (machine_run logic (start_of setup client.tenant)) (append-nil (restricted_to client.tenant steps))
+
+  at_fair : (steps : List Step) → IsFairMachine logic (at_client steps)
+  at_fair steps = run_fair logic law (start_of setup client.tenant) (restricted_to client.tenant steps) (start_fair logic setup client.tenant)
+
+  none_before : (steps : List Step) (s : Step) → may_ask (machine_of logic setup steps) (asker_of s) ≡ true → asker_of s ≡ Some client → has_pending client (at_client steps) ≡ false
+  none_before steps s may is = not-true _ (ap (may_ask (machine_of logic setup steps)) (sym is) ∙ may)
+
+  owed_more : (steps : List Step) (s : Step) → may_ask (machine_of logic setup steps) (asker_of s) ≡ true → Owed client steps (at_client steps) → Owed client (steps ++ s ∷ []) (at_client (steps ++ s ∷ []))
+  owed_more steps s may old = by_concern (concerns client.tenant s) refl
+    where
+      by_concern : (b : Bool) → concerns client.tenant s ≡ b → Owed client (steps ++ s ∷ []) (at_client (steps ++ s ∷ []))
+      by_concern true is =
+          subst (Owed client (steps ++ s ∷ [])) (sym (at_more steps s true is))
+          (owed_after logic law client steps (at_client steps) s (at_fair steps) old (none_before steps s may) (machine_step logic (at_client steps) s) refl)
+      by_concern false is =
+          subst (Owed client (steps ++ s ∷ [])) (sym (at_more steps s false is)) (owed_still client steps (at_client steps) s (apart_asks_nothing client s is) old)
+
+  owed_from : (before steps : List Step) → paced_from logic setup before steps ≡ true → Owed client before (at_client before) → Owed client (before ++ steps) (at_client (before ++ steps))
+  owed_from before [] paced old = subst (λ xs. Owed client xs (at_client xs)) (sym (append-nil before)) old
+  owed_from before (s ∷ steps) paced old =
+      let parts = and_parts (may_ask (machine_of logic setup before) (asker_of s)) _ paced in
+      subst (λ xs. Owed client xs (at_client xs)) (one_on before s steps) (owed_from (before ++ s ∷ []) steps parts.1 (owed_more before s parts.0 old))
+
+  start_owed : Owed client [] (at_client [])
+  unfolding start_of
+  start_owed = record {
+    owed = [];
+    short = omega arith;
+    order = refl;
+    weighs = λ f. omega (arith, start_balance setup client.tenant (weigh client f));
+  }
+
+  pub paced_owed : (journal : List Step) → is_paced logic setup journal ≡ true → Owed client journal (at_client journal)
+  paced_owed journal paced = owed_from [] journal paced start_owed
+
+-- ---- in the words of the law
+
+-- a client's replies are all shown to its tenant
+told_apart : (client : Client) (p : Party) → same_text (tenant_of p) client.tenant ≡ false → id_of client p ≡ []
+told_apart client (party.Grain grain) apart = refl
+told_apart client (party.Client caller id) apart = by_client (client_eq caller client) refl
+  where
+    by_client : (b : Bool) → client_eq caller client ≡ b → cond b (id ∷ []) [] ≡ []
+    by_client true same = absurd (true≢false (sym ((same_text_decides caller.tenant client.tenant).1 (ap (λ (c : Client). c.tenant) ((client_eq_decides caller client).0 same))) ∙ apart))
+    by_client false same = refl
+
+pub told_shown : (client : Client) (replies : List Reply) → ids_told client (filter (is_to client.tenant) replies) ≡ ids_told client replies
+told_shown client [] = refl
+told_shown client (r ∷ replies) = by_tenant (is_to client.tenant r) refl (told_shown client replies)
+  where
+    by_tenant : (b : Bool) → is_to client.tenant r ≡ b → ids_told client (filter (is_to client.tenant) replies) ≡ ids_told client replies
+        → ids_told client (cond b (r ∷ filter (is_to client.tenant) replies) (filter (is_to client.tenant) replies)) ≡ id_of client r.recipient ++ ids_told client replies
+    by_tenant true is rest = ap (λ ids. id_of client r.recipient ++ ids) rest
+    by_tenant false is rest = rest ∙ ap (λ ids. ids ++ ids_told client replies) (sym (told_apart client r.recipient is))
+
+pub shown_replies : (tenant : List ℕ) (w : Whole) → (shown_to tenant w).replies ≡ filter (is_to tenant) w.replies
+unfolding shown_to
+shown_replies tenant w = refl
+
+pub answered_in_order : AnsweredInOrder
+answered_in_order logic law setup journal w client leads paced none =
+    let m : Machine = shown_to client.tenant w in
+    let last : Owed client journal m = subst (Owed client journal) (part_is_run logic setup journal w client.tenant leads) (paced_owed logic law setup client journal paced) in
+    let settled : last.owed ≡ [] = no_number last.owed (sym (last.weighs (λ x. 1)) ∙ none_pending client (λ x. 1) m none) in
+    sym (last.order
+    ∙ ap (λ ids. ids_told client m.replies ++ ids) settled
+    ∙ append-nil (ids_told client m.replies)
+    ∙ ap (ids_told client) (shown_replies client.tenant w)
+    ∙ told_shown client w.replies)

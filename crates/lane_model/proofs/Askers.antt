@@ -1,0 +1,120 @@
+-- What a client asked, what it was told, and what of it still waits or is open.
+use Rattle.std.proofs.Common.{◌≡◌, ℕ, ◌+◌, ◌≤◌, Bool, true, false, cond, List, [], ◌∷◌, ◌++◌, Option, Some, None, refl, ap, sym, ◌∙◌, arith, true≢false}
+use Rattle.std.specs.Prelude.{not, nat_eq, sum_by}
+use Rattle.std.specs.List.{list_any}
+use Rattle.std.proofs.lemmas.List.Sums.{sum_by-cons}
+use Rattle.std.proofs.lemmas.Bool.{eqb-true, eq-eqb, or_parts}
+use Rattle.std.proofs.lemmas.Option.{same_Some, none-some}
+use Rattle.grain_id.specs.Names.{Client, client_eq}
+use Rattle.grain_id.proofs.Order.{client_eq_decides, same_text_decides}
+use Rattle.silo_event.specs.Owner.{owner_of}
+use Rattle.silo_event.specs.declared.reply.Party.{Party}
+use Rattle.silo_event.specs.declared.reply.Party.TheVariants as party
+use Rattle.silo_event.specs.declared.reply.Reply.{Reply}
+use Rattle.silo_event.specs.declared.step.Step.{Step}
+use Rattle.silo_event.specs.declared.step.Step.TheVariants.{Refuse, Call, Poke, Status}
+use Rattle.grain_kinds.specs.Logic.{Logic}
+use Rattle.silo_model.specs.Machine.{Machine, Request}
+use Rattle.silo_model.specs.Step.{effect_of, machine_step}
+use Rattle.silo_model.specs.Run.{concerns, concerns_by}
+use Rattle.silo_model.proofs.Counts.{sum_flat}
+use Rattle.silo_model.proofs.Fair.{pend, one_if}
+use Rattle.silo_model.proofs.Moves.{replied, sent, Quiet, asked_by}
+use Rattle.silo_model.proofs.FairRuns.{pending_weight}
+use Rattle.silo_model.specs.Settled.{all_pending}
+use Rattle.silo_model.specs.Pending.{is_of_client, has_pending}
+use Rattle.lane_model.specs.Asking.{asking_of, id_asked, id_of, ids_told}
+
+-- ---- the weight of a client's numbers
+
+abbrev pub weigh : Client → (ℕ → ℕ) → Party → ℕ
+weigh client f p = sum_by f (id_of client p)
+
+pub weigh_quiet : (client : Client) (f : ℕ → ℕ) → Quiet (weigh client f)
+weigh_quiet client f g = refl
+
+pub asked_weight : (client : Client) (f : ℕ → ℕ) (s : Step) → asked_by (weigh client f) s ≡ sum_by f (id_asked client (asking_of s))
+asked_weight client f (Refuse caller id code) = refl
+asked_weight client f (Call caller id grain message) = refl
+asked_weight client f (Poke failed caller id grain state) = refl
+asked_weight client f (Status caller id) = refl
+asked_weight client f _ = refl
+
+pub told_weight : (client : Client) (f : ℕ → ℕ) (replies : List Reply) → replied (weigh client f) replies ≡ sum_by f (ids_told client replies)
+told_weight client f replies = sym (sum_flat f (λ (r : Reply). id_of client r.recipient) replies)
+
+-- ---- nothing of a client waits or is open
+
+light_by : (client : Client) (f : ℕ → ℕ) (p : Party) → is_of_client client p ≡ false → weigh client f p ≡ 0
+light_by client f (party.Client caller id) apart = ap (λ b. sum_by f (cond b (id ∷ []) [])) apart
+light_by client f (party.Grain grain) apart = refl
+
+light : (client : Client) (f : ℕ → ℕ) (queue : List Request) → list_any (λ q. is_of_client client q.sender) queue ≡ false → sum_by (sent (weigh client f)) queue ≡ 0
+light client f [] none = refl
+light client f (q ∷ queue) none =
+    let parts = or_parts (is_of_client client q.sender) _ none in
+    omega (arith, sum_by-cons (sent (weigh client f)) q queue, light_by client f q.sender parts.0, light client f queue parts.1)
+
+pub none_pending : (client : Client) (f : ℕ → ℕ) (m : Machine) → has_pending client m ≡ false → pend (sent (weigh client f)) m.entries ≡ 0
+none_pending client f m none = sym (pending_weight (sent (weigh client f)) m) ∙ light client f (all_pending m) none
+
+-- ---- lists of at most one number
+
+weighs_one : (n : ℕ) (xs : List ℕ) → sum_by (λ x. 1) (n ∷ xs) ≡ 1 + sum_by (λ x. 1) xs
+weighs_one n xs = sum_by-cons (λ x. 1) n xs
+
+pub no_number : (xs : List ℕ) → sum_by (λ x. 1) xs ≡ 0 → xs ≡ []
+no_number [] e = refl
+no_number (x ∷ xs) e = absurd (omega (arith, e, weighs_one x xs))
+
+-- what weighs no more than a list of at most one number is its front
+pub is_front : (owed added : List ℕ) → sum_by (λ x. 1) owed ≤ 1 → ((f : ℕ → ℕ) → sum_by f added ≤ sum_by f owed) → (rest : List ℕ) × (owed ≡ added ++ rest)
+is_front [] added short less = ([], sym (ap (λ xs. xs ++ []) (no_number added (omega (arith, less (λ x. 1))))))
+is_front (n ∷ ns) [] short less = (n ∷ ns, refl)
+is_front (n ∷ []) (k ∷ []) short less = ([], ap (λ x. x ∷ []) (sym (same (nat_eq k n) refl)))
+  where
+    another : ℕ → ℕ
+    another x = one_if (not (nat_eq x n))
+
+    same : (b : Bool) → nat_eq k n ≡ b → k ≡ n
+    same true is = eqb-true k n is
+    same false is = absurd (omega (arith, less another, sum_by-cons another k [], sum_by-cons another n [], ap (λ b. one_if (not b)) is, ap (λ b. one_if (not b)) (eq-eqb n n refl)))
+is_front (n ∷ []) (k ∷ j ∷ js) short less = absurd (omega (arith, less (λ x. 1), weighs_one k (j ∷ js), weighs_one j js, weighs_one n []))
+is_front (n ∷ o ∷ ns) (k ∷ ks) short less = absurd (omega (arith, short, weighs_one n (o ∷ ns), weighs_one o ns))
+
+-- ---- who asks
+
+asks_own : (s : Step) (caller : Client) (id : ℕ) → asking_of s ≡ Some (caller, id) → owner_of s ≡ Some caller.tenant
+asks_own (Refuse c n code) caller id is = ap (λ (a : Client × ℕ). Some a.0.tenant) (same_Some _ _ is)
+asks_own (Call c n grain message) caller id is = ap (λ (a : Client × ℕ). Some a.0.tenant) (same_Some _ _ is)
+asks_own (Poke failed c n grain state) caller id is = ap (λ (a : Client × ℕ). Some a.0.tenant) (same_Some _ _ is)
+asks_own (Status c n) caller id is = ap (λ (a : Client × ℕ). Some a.0.tenant) (same_Some _ _ is)
+asks_own _ caller id is = absurd (none-some (caller, id) is)
+
+-- what clients ask is always possible
+pub asks_always : (logic : Logic) (m : Machine) (s : Step) → machine_step logic m s ≡ None → asking_of s ≡ None
+unfolding machine_step effect_of
+asks_always logic m (Refuse caller id code) e = absurd (none-some _ (sym e))
+asks_always logic m (Call caller id grain message) e = absurd (none-some _ (sym e))
+asks_always logic m (Poke failed caller id grain state) e = absurd (none-some _ (sym e))
+asks_always logic m (Status caller id) e = absurd (none-some _ (sym e))
+asks_always logic m _ e = refl
+
+-- a step that doesn't concern its tenant isn't the client's
+pub apart_asks_nothing : (client : Client) (s : Step) → concerns client.tenant s ≡ false → id_asked client (asking_of s) ≡ []
+apart_asks_nothing client s apart = by_asking (asking_of s) refl
+  where
+    own_asks : (caller : Client) (id : ℕ) → asking_of s ≡ Some (caller, id) → caller ≡ client → ⊥
+    own_asks caller id is same =
+        true≢false
+        (sym ((same_text_decides caller.tenant client.tenant).1 (ap (λ (c : Client). c.tenant) same))
+        ∙ ap (concerns_by client.tenant) (sym (asks_own s caller id is))
+        ∙ apart)
+
+    by_client : (caller : Client) (id : ℕ) → asking_of s ≡ Some (caller, id) → (b : Bool) → client_eq caller client ≡ b → cond b (id ∷ []) [] ≡ []
+    by_client caller id is true same = absurd (own_asks caller id is ((client_eq_decides caller client).0 same))
+    by_client caller id is false same = refl
+
+    by_asking : (o : Option (Client × ℕ)) → asking_of s ≡ o → id_asked client o ≡ []
+    by_asking None is = refl
+    by_asking (Some asking) is = by_client asking.0 asking.1 is (client_eq asking.0 client) refl

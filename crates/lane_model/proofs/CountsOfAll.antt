@@ -1,0 +1,89 @@
+-- What waits or is open, by counts.
+use Rattle.std.proofs.Common.{◌≡◌, ℕ, ◌+◌, ◌≤◌, Bool, true, false, cond, List, [], ◌∷◌, ◌++◌, length, refl, ap, sym, ◌∙◌, subst, arith, true≢false}
+use Rattle.std.specs.Prelude.{◌||◌, sum_by}
+use Rattle.std.specs.List.{list_any}
+use Rattle.std.proofs.lemmas.List.Sums.{sum_by-cons}
+use Rattle.grain_id.specs.Names.{Client, Grain}
+use Rattle.silo_event.specs.declared.reply.Party.{Party}
+use Rattle.silo_event.specs.declared.reply.Party.TheVariants as party
+use Rattle.silo_event.specs.declared.step.Step.{Step}
+use Rattle.silo_model.specs.Machine.{Machine, Request}
+use Rattle.silo_model.specs.Whole.{Whole, shown_to}
+use Rattle.silo_model.specs.Run.{concerns, restricted_to}
+use Rattle.grain_kinds.specs.Logic.{Logic}
+use Rattle.grain_kinds.specs.Laws.{ReadersAskNothing}
+use Rattle.silo_model.specs.Opening.{Setup, start_of}
+use Rattle.silo_model.specs.Journal.{LeadsTo}
+use Rattle.silo_model.specs.Settled.{all_pending}
+use Rattle.silo_model.proofs.Counts.{sum_one, sum_flat, sum_alike}
+use Rattle.silo_model.proofs.Fair.{pend}
+use Rattle.silo_model.proofs.Moves.{replied, sent, asked_by}
+use Rattle.silo_model.proofs.FairRuns.{start_fair, start_balance, run_balance, pending_weight}
+use Rattle.silo_model.specs.Pending.{is_of_client}
+use Rattle.lane_model.specs.Asking.{asking_of, id_asked, ids_asked, ids_told}
+use Rattle.lane_model.specs.Counting.{PendingByCounts}
+use Rattle.lane_model.proofs.Askers.{weigh, weigh_quiet, asked_weight, told_weight, none_pending, apart_asks_nothing}
+use Rattle.lane_model.proofs.PacedGrowth.{part_is_run}
+use Rattle.lane_model.proofs.AnswerOrder.{told_shown, shown_replies}
+
+-- ---- a client
+
+-- the converse of `light`: what weighs nothing has nothing of the client
+heavy : (client : Client) (p : Party) → is_of_client client p ≡ true → weigh client (λ x. 1) p ≡ 0 → ⊥
+heavy client (party.Client caller id) is none = absurd (omega (arith, none, ap (λ b. sum_by (λ x. 1) (cond b (id ∷ []) [])) is, sum_by-cons (λ x. 1) id []))
+heavy client (party.Grain grain) is none = true≢false (sym is)
+
+light_none : (client : Client) (queue : List Request) → sum_by (sent (weigh client (λ x. 1))) queue ≡ 0 → list_any (λ q. is_of_client client q.sender) queue ≡ false
+light_none client [] none = refl
+light_none client (q ∷ queue) none = by_client (is_of_client client q.sender) refl (light_none client queue (omega (arith, none, sum_by-cons (sent (weigh client (λ x. 1))) q queue)))
+  where
+    by_client : (b : Bool) → is_of_client client q.sender ≡ b → list_any (λ r. is_of_client client r.sender) queue ≡ false → list_any (λ r. is_of_client client r.sender) (q ∷ queue) ≡ false
+    by_client true is rest = absurd (heavy client q.sender is (omega (arith, none, sum_by-cons (sent (weigh client (λ x. 1))) q queue)))
+    by_client false is rest = ap (λ b. b || list_any (λ (r : Request). is_of_client client r.sender) queue) is ∙ rest
+
+-- the client's steps all concern its tenant
+ids_struck : (client : Client) (steps : List Step) → ids_asked client (restricted_to client.tenant steps) ≡ ids_asked client steps
+ids_struck client [] = refl
+ids_struck client (s ∷ steps) = by_concern (concerns client.tenant s) refl (ids_struck client steps)
+  where
+    by_concern : (b : Bool) → concerns client.tenant s ≡ b → ids_asked client (restricted_to client.tenant steps) ≡ ids_asked client steps
+        → ids_asked client (cond b (s ∷ restricted_to client.tenant steps) (restricted_to client.tenant steps)) ≡ id_asked client (asking_of s) ++ ids_asked client steps
+    by_concern true is rest = ap (λ ids. id_asked client (asking_of s) ++ ids) rest
+    by_concern false is rest = rest ∙ ap (λ ids. ids ++ ids_asked client steps) (sym (apart_asks_nothing client s is))
+
+module _ (logic : Logic) (law : ReadersAskNothing logic) (setup : Setup) (journal : List Step) (w : Whole) (client : Client) (leads : LeadsTo logic setup journal w) where
+  abbrev one : Party → ℕ
+  one = weigh client (λ x. 1)
+
+  abbrev part : Machine
+  part = shown_to client.tenant w
+
+  -- what the client was told, and what of it waits or is open, are as much as it asked
+  client_balance : length (ids_told client w.replies) + pend (sent one) part.entries ≡ length (ids_asked client journal)
+  client_balance =
+      let start : Machine = start_of setup client.tenant in
+      let struck : List Step = restricted_to client.tenant journal in
+      let balance : replied one part.replies + pend (sent one) part.entries ≡ sum_by (asked_by one) struck = subst (λ (x : Machine). replied one x.replies + pend (sent one) x.entries ≡ sum_by (asked_by one) struck) (part_is_run logic setup journal w client.tenant leads)
+      (omega (arith, run_balance logic law one (weigh_quiet client (λ x. 1)) start struck (start_fair logic setup client.tenant), start_balance setup client.tenant one)) in
+      let asked : sum_by (asked_by one) struck ≡ length (ids_asked client journal) = sum_alike (asked_by one) (λ s. sum_by (λ x. 1) (id_asked client (asking_of s))) struck (asked_weight client (λ x. 1))
+      ∙ sym (sum_flat (λ x. 1) (λ s. id_asked client (asking_of s)) struck)
+      ∙ ap (sum_by (λ x. 1)) (ids_struck client journal)
+      ∙ sum_one (ids_asked client journal) in
+      let told : replied one part.replies ≡ length (ids_told client w.replies) = told_weight client (λ x. 1) part.replies
+      ∙ ap (λ replies. sum_by (λ x. 1) (ids_told client replies)) (shown_replies client.tenant w)
+      ∙ ap (sum_by (λ x. 1)) (told_shown client w.replies)
+      ∙ sum_one (ids_told client w.replies) in
+      omega (arith, balance, asked, told)
+
+  -- it was told no more often than it asked
+  pub told_within : length (ids_told client w.replies) ≤ length (ids_asked client journal)
+  told_within = omega (arith, client_balance)
+
+pub pending_by_counts : PendingByCounts
+pending_by_counts logic law setup journal w client leads =
+    let f : Party → ℕ = weigh client (λ x. 1) in
+    let m : Machine = shown_to client.tenant w in
+    let balance = client_balance logic law setup journal w client leads in (
+      λ none. omega (arith, balance, none_pending client (λ x. 1) m none),
+      λ same. light_none client (all_pending m) (omega (arith, balance, same, pending_weight (sent f) m)),
+    )

@@ -1,0 +1,163 @@
+-- What clients are told where their lanes have been served, and what a paced journal says of each of its steps.
+use Rattle.std.proofs.Common.{◌≡◌, Bool, true, false, cond, List, [], ◌∷◌, ◌++◌, length, Option, Some, None, refl, ap, sym, ◌∙◌, subst, arith, true≢false}
+use Rattle.std.specs.Prelude.{not, map as map_list}
+use Rattle.std.specs.List.{list_any}
+use Rattle.std.proofs.lemmas.List.{append-nil, length-append, length-map}
+use Rattle.std.proofs.lemmas.Bool.{and_parts, and_from, not-true}
+use Rattle.grain_id.specs.Names.{Client}
+use Rattle.silo_event.specs.Failed.{as_failed}
+use Rattle.silo_event.specs.declared.reply.Party.{Party}
+use Rattle.silo_event.specs.declared.reply.Party.TheVariants as party
+use Rattle.silo_event.specs.declared.reply.Reply.{Reply}
+use Rattle.silo_event.specs.declared.step.Step.{Step}
+use Rattle.silo_event.specs.declared.step.Step.TheVariants.{Refuse, Call, Poke, Status}
+use Rattle.grain_kinds.specs.Logic.{Logic}
+use Rattle.silo_model.specs.Machine.{Machine, Request}
+use Rattle.silo_model.specs.Opening.{Setup}
+use Rattle.silo_model.specs.Pending.{is_of_client, has_pending, IsQuiet}
+use Rattle.lane_model.specs.Asking.{asking_of, asker_of, id_asked, id_of, ids_asked, ids_told}
+use Rattle.lane_model.specs.Pacing.{machine_of, may_ask, paced_from, PacedAtEach}
+use Rattle.lane_model.specs.Lanes.{Lane, lane_of, is_given_by, given_by, done_steps_by, done_steps_of, LaneStands}
+use Rattle.lane_model.specs.Serving.{replies_to, LanesAnswered}
+use Rattle.lane_model.proofs.PacedGrowth.{one_on}
+use Rattle.lane_model.proofs.AnswerOrder.{answered_in_order}
+
+-- ---- numbers of a lane
+
+-- whether the storage failed is left aside
+pub asking_failed : (s : Step) → asking_of (as_failed s) ≡ asking_of s
+asking_failed (Refuse caller id code) = refl
+asking_failed (Call caller id grain message) = refl
+asking_failed (Poke failed caller id grain state) = refl
+asking_failed (Status caller id) = refl
+asking_failed _ = refl
+
+ids_failed : (client : Client) (steps : List Step) → ids_asked client (map_list as_failed steps) ≡ ids_asked client steps
+ids_failed client [] = refl
+ids_failed client (s ∷ steps) = λ i. id_asked client (asking_failed s i) ++ ids_failed client steps i
+
+-- a step of another lane asks nothing for the client
+apart_lane : (client : Client) (s : Step) → is_given_by (Some client) (lane_of s) ≡ false → id_asked client (asking_of s) ≡ []
+apart_lane client (Refuse caller id code) apart = ap (λ b. cond b (id ∷ []) []) apart
+apart_lane client (Call caller id grain message) apart = ap (λ b. cond b (id ∷ []) []) apart
+apart_lane client (Poke failed caller id grain state) apart = ap (λ b. cond b (id ∷ []) []) apart
+apart_lane client (Status caller id) apart = ap (λ b. cond b (id ∷ []) []) apart
+apart_lane client _ apart = refl
+
+ids_given : (client : Client) (steps : List Step) → ids_asked client (given_by (Some client) steps) ≡ ids_asked client steps
+ids_given client [] = refl
+ids_given client (s ∷ steps) = by_lane (is_given_by (Some client) (lane_of s)) refl (ids_given client steps)
+  where
+    by_lane : (b : Bool) → is_given_by (Some client) (lane_of s) ≡ b → ids_asked client (given_by (Some client) steps) ≡ ids_asked client steps
+        → ids_asked client (cond b (s ∷ given_by (Some client) steps) (given_by (Some client) steps)) ≡ id_asked client (asking_of s) ++ ids_asked client steps
+    by_lane true is rest = ap (λ ids. id_asked client (asking_of s) ++ ids) rest
+    by_lane false is rest = rest ∙ ap (λ ids. ids ++ ids_asked client steps) (sym (apart_lane client s is))
+
+-- the client's numbers in the journal are those of its lane
+ids_in : (client : Client) (lane : Lane) (journal : List Step) → lane.from ≡ Some client → LaneStands lane journal → ids_asked client journal ≡ ids_asked client lane.steps
+ids_in client lane journal from stands =
+    sym (ids_given client journal)
+    ∙ ap (λ f. ids_asked client (given_by f journal)) (sym from)
+    ∙ sym (ids_failed client (given_by lane.from journal))
+    ∙ ap (ids_asked client) stands
+    ∙ ids_failed client (done_steps_of lane)
+    ∙ ap (λ f. ids_asked client (done_steps_by f lane.steps)) from
+
+-- ---- numbers of a client's replies
+
+apart_party : (client : Client) (p : Party) → is_of_client client p ≡ false → id_of client p ≡ []
+apart_party client (party.Client caller id) apart = ap (λ b. cond b (id ∷ []) []) apart
+apart_party client (party.Grain grain) apart = refl
+
+ids_replied : (client : Client) (replies : List Reply) → ids_told client (replies_to (Some client) replies) ≡ ids_told client replies
+ids_replied client [] = refl
+ids_replied client (r ∷ replies) = by_party (is_of_client client r.recipient) refl (ids_replied client replies)
+  where
+    by_party : (b : Bool) → is_of_client client r.recipient ≡ b → ids_told client (replies_to (Some client) replies) ≡ ids_told client replies
+        → ids_told client (cond b (r ∷ replies_to (Some client) replies) (replies_to (Some client) replies)) ≡ id_of client r.recipient ++ ids_told client replies
+    by_party true is rest = ap (λ ids. id_of client r.recipient ++ ids) rest
+    by_party false is rest = rest ∙ ap (λ ids. ids ++ ids_told client replies) (sym (apart_party client r.recipient is))
+
+-- ---- what is left as quiet has nothing of a client
+
+pub quiet_pending : (client : Client) (m : Machine) → IsQuiet m → has_pending client m ≡ false
+quiet_pending client m quiet = ap (λ qs. list_any (λ (q : Request). is_of_client client q.sender) qs) quiet.nothing_pending
+
+-- ---- as many replies as steps
+
+one_asked : (client : Client) (s : Step) → is_given_by (Some client) (lane_of s) ≡ true → length (id_asked client (asking_of s)) ≡ 1
+one_asked client (Refuse caller id code) own = ap (λ b. length (cond b (id ∷ []) [])) own
+one_asked client (Call caller id grain message) own = ap (λ b. length (cond b (id ∷ []) [])) own
+one_asked client (Poke failed caller id grain state) own = ap (λ b. length (cond b (id ∷ []) [])) own
+one_asked client (Status caller id) own = ap (λ b. length (cond b (id ∷ []) [])) own
+one_asked client _ own = absurd (true≢false (sym own))
+
+one_each_asked : (client : Client) (steps : List Step) → length (ids_asked client (given_by (Some client) steps)) ≡ length (given_by (Some client) steps)
+one_each_asked client [] = refl
+one_each_asked client (s ∷ steps) = by_lane (is_given_by (Some client) (lane_of s)) refl (one_each_asked client steps)
+  where
+    by_lane : (b : Bool) → is_given_by (Some client) (lane_of s) ≡ b → length (ids_asked client (given_by (Some client) steps)) ≡ length (given_by (Some client) steps)
+        → length (ids_asked client (cond b (s ∷ given_by (Some client) steps) (given_by (Some client) steps))) ≡ length (cond b (s ∷ given_by (Some client) steps) (given_by (Some client) steps))
+    by_lane true own rest = omega (arith, length-append (id_asked client (asking_of s)) (ids_asked client (given_by (Some client) steps)), one_asked client s own, rest)
+    by_lane false own rest = rest
+
+one_told : (client : Client) (p : Party) → is_of_client client p ≡ true → length (id_of client p) ≡ 1
+one_told client (party.Client caller id) own = ap (λ b. length (cond b (id ∷ []) [])) own
+one_told client (party.Grain grain) own = absurd (true≢false (sym own))
+
+one_each_told : (client : Client) (replies : List Reply) → length (ids_told client (replies_to (Some client) replies)) ≡ length (replies_to (Some client) replies)
+one_each_told client [] = refl
+one_each_told client (r ∷ replies) = by_party (is_of_client client r.recipient) refl (one_each_told client replies)
+  where
+    by_party : (b : Bool) → is_of_client client r.recipient ≡ b → length (ids_told client (replies_to (Some client) replies)) ≡ length (replies_to (Some client) replies)
+        → length (ids_told client (cond b (r ∷ replies_to (Some client) replies) (replies_to (Some client) replies))) ≡ length (cond b (r ∷ replies_to (Some client) replies) (replies_to (Some client) replies))
+    by_party true own rest = omega (arith, length-append (id_of client r.recipient) (ids_told client (replies_to (Some client) replies)), one_told client r.recipient own, rest)
+    by_party false own rest = rest
+
+-- the client asks in the journal as often as its lane has steps
+asks_all : (client : Client) (lane : Lane) (journal : List Step) → lane.from ≡ Some client → LaneStands lane journal → length (ids_asked client journal) ≡ length lane.steps
+asks_all client lane journal from stands =
+    ap length (sym (ids_given client journal))
+    ∙ one_each_asked client journal
+    ∙ ap (λ f. length (given_by f journal)) (sym from)
+    ∙ sym (length-map (given_by lane.from journal) as_failed)
+    ∙ ap length stands
+    ∙ length-map (done_steps_of lane) as_failed
+    ∙ ap (λ f. length (done_steps_by f lane.steps)) from
+
+pub lanes_answered : LanesAnswered
+lanes_answered logic law setup lanes journal w at_opening now answers served lane client stands from =
+    let told = ids_replied client w.replies ∙ answered_in_order logic law setup journal w client served.leads served.paced (quiet_pending client _ (served.quiet client.tenant)) in
+    record {
+      as_many = ap (λ f. length (replies_to f w.replies)) from ∙ sym (one_each_told client w.replies) ∙ ap length told ∙ asks_all client lane journal from stands;
+      in_order = ap (λ f. ids_told client (replies_to f w.replies)) from ∙ told ∙ ids_in client lane journal from stands;
+    }
+
+-- ---- each step of a paced journal
+
+module _ (logic : Logic) (setup : Setup) where
+  abbrev HasNone : List Step → Client → Type 0
+  HasNone before client = has_pending client (machine_of logic setup before client) ≡ false
+
+  none_at : (pre before after : List Step) (s : Step) (client : Client) → paced_from logic setup pre (before ++ s ∷ after) ≡ true → asker_of s ≡ Some client → HasNone (pre ++ before) client
+  none_at pre [] after s client paced asks =
+      let now : HasNone pre client = not-true _ (ap (may_ask (machine_of logic setup pre)) (sym asks) ∙ (and_parts _ _ paced).0) in
+      subst (λ steps. HasNone steps client) (sym (append-nil pre)) now
+  none_at pre (r ∷ before) after s client paced asks = subst (λ steps. HasNone steps client) (one_on pre r before) (none_at (pre ++ r ∷ []) before after s client (and_parts _ _ paced).1 asks)
+
+  may_by : (machine : Client → Machine) (o : Option Client) → ((client : Client) → o ≡ Some client → has_pending client (machine client) ≡ false) → may_ask machine o ≡ true
+  may_by machine None none = refl
+  may_by machine (Some client) none = ap not (none client refl)
+
+  paced_where : (pre steps : List Step) → ((before after : List Step) (s : Step) (client : Client) → steps ≡ before ++ s ∷ after → asker_of s ≡ Some client → HasNone (pre ++ before) client) → paced_from logic setup pre steps ≡ true
+  paced_where pre [] each = refl
+  paced_where pre (s ∷ steps) each =
+      and_from _ _
+      (may_by (machine_of logic setup pre) (asker_of s) (λ client asks. subst (λ xs. HasNone xs client) (append-nil pre) (each [] steps s client refl asks)))
+      (paced_where (pre ++ s ∷ []) steps (λ before after r client parts asks. subst (λ xs. HasNone xs client) (sym (one_on pre s before)) (each (s ∷ before) after r client (ap (λ xs. s ∷ xs) parts) asks)))
+
+pub paced_at_each : PacedAtEach
+paced_at_each logic setup journal = (
+  λ paced before after s client parts asks. none_at logic setup [] before after s client (subst (λ xs. paced_from logic setup [] xs ≡ true) parts paced) asks,
+  λ each. paced_where logic setup [] journal each,
+)

@@ -1,0 +1,11 @@
+pub mod Askers
+pub mod PacedGrowth
+pub mod AnswerOrder
+pub mod ToldApart
+pub mod Pass
+pub mod PassOfLanes
+pub mod LaneAnswers
+pub mod CountsOfAll
+pub mod Candidates
+pub mod FirstCall
+pub mod TicksDone

@@ -1,0 +1,143 @@
+-- Lanes stand in a journal exactly where the pass over it says so.
+use Rattle.std.proofs.Common.{◌≡◌, Bool, true, false, cond, List, [], ◌∷◌, ◌++◌, Option, Some, None, refl, ap, sym, ◌∙◌, subst, true≢false}
+use Rattle.std.specs.Prelude.{◌||◌, map as map_list, option_and_then}
+use Rattle.std.specs.List.{list_any, AllByRecursion}
+use Rattle.std.specs.Option.{option_cmp}
+use Rattle.std.specs.Ordering.{eq_by_cmp}
+use Rattle.std.specs.FinMap as map
+use Rattle.std.specs.FinMap.Entries.{find}
+use Rattle.std.proofs.lemmas.Map.Keys.{IsDistinct-head, IsDistinct-tail}
+use Rattle.std.proofs.lemmas.List.Elements.{recursion_from_All, All-from_recursion}
+use Rattle.std.proofs.lemmas.Bool.{false_from_ne_true}
+use Rattle.grain_id.specs.Names.{Client, client_cmp}
+use Rattle.silo_event.specs.declared.step.Step.{Step}
+use Rattle.lane_model.specs.Lanes.{Lane, lane_of, same_lane, is_given_by, given_by, AreDistinct, done_steps_of, LaneStands, has_giver, Remaining, remaining_of, remaining_after, remaining_at_end, PassDecides}
+use Rattle.lane_model.proofs.Pass.{lanes_total, same_lane_decides, itself, tied_lane, lane_itself, lane_apart, FitsOne, Fits, pass_fits}
+
+-- what the lanes of a list have at their own places
+abbrev found_in : List Lane → Option Client → Option (List Step)
+found_in lanes from = find (option_cmp client_cmp) from (map_list (λ (lane : Lane). (lane.from, done_steps_of lane)) lanes)
+
+found_rests : (lanes : List Lane) (from : Option Client) → map.get (remaining_of lanes) from ≡ found_in lanes from
+found_rests lanes from = map.get-from_entries lanes_total (map_list (λ (lane : Lane). (lane.from, done_steps_of lane)) lanes) from
+
+later_found : (lane : Lane) (lanes others : List Lane) → AllByRecursion (λ from. same_lane lane.from from ≡ false) (map_list (λ (l : Lane). l.from) others)
+    → AllByRecursion (λ (l : Lane). found_in lanes l.from ≡ Some (done_steps_of l)) others → AllByRecursion (λ (l : Lane). found_in (lane ∷ lanes) l.from ≡ Some (done_steps_of l)) others
+later_found lane lanes [] apart all = tt
+later_found lane lanes (l ∷ others) apart all =
+    (ap (λ b. cond b (Some (done_steps_of lane)) (found_in lanes l.from)) (lane_apart lane.from l.from apart.0) ∙ all.0, later_found lane lanes others apart.1 all.1)
+
+each_found : (lanes : List Lane) → AreDistinct lanes → AllByRecursion (λ (l : Lane). found_in lanes l.from ≡ Some (done_steps_of l)) lanes
+each_found [] distinct = tt
+each_found (lane ∷ lanes) distinct =
+    let froms : List (Option Client) = map_list (λ (l : Lane). l.from) lanes in (
+      ap (λ b. cond b (Some (done_steps_of lane)) (found_in lanes lane.from)) (lane_itself lane.from),
+      later_found lane lanes lanes (IsDistinct-head same_lane lane.from froms distinct) (each_found lanes (IsDistinct-tail same_lane lane.from froms distinct)),
+    )
+
+none_found : (lanes : List Lane) (from : Option Client) → list_any (λ (l : Lane). same_lane from l.from) lanes ≡ false → found_in lanes from ≡ None
+none_found [] from none = refl
+none_found (lane ∷ lanes) from none = by_first (same_lane from lane.from) refl none (none_found lanes from)
+  where
+    by_first : (b : Bool) → same_lane from lane.from ≡ b → (b || list_any (λ (l : Lane). same_lane from l.from) lanes) ≡ false → (list_any (λ (l : Lane). same_lane from l.from) lanes ≡ false → found_in lanes from ≡ None)
+        → found_in (lane ∷ lanes) from ≡ None
+    by_first true is h rest = absurd (true≢false h)
+    by_first false is h rest =
+        ap (λ b. cond b (Some (done_steps_of lane)) (found_in lanes from)) (false_from_ne_true _ (λ tied. true≢false (sym ((same_lane_decides from lane.from).1 (tied_lane from lane.from tied)) ∙ is)))
+        ∙ rest h
+
+-- ---- what fits stands
+
+lanes_stand : (lanes all : List Lane) (journal : List Step) → Fits (remaining_of all) journal → AllByRecursion (λ (l : Lane). found_in all l.from ≡ Some (done_steps_of l)) lanes → AllByRecursion (λ l. LaneStands l journal) lanes
+lanes_stand [] all journal fits found = tt
+lanes_stand (lane ∷ lanes) all journal fits found =
+    (subst (λ r. FitsOne r (given_by lane.from journal)) (found_rests all lane.from ∙ found.0) (fits lane.from), lanes_stand lanes all journal fits found.1)
+
+-- a lane that isn't in the list gave nothing
+abbrev NoneElse : List Lane → List Step → Type 0
+NoneElse lanes journal = (from : Option Client) → list_any (λ (l : Lane). same_lane from l.from) lanes ≡ false → given_by from journal ≡ []
+
+none_else : (lanes : List Lane) (journal : List Step) → Fits (remaining_of lanes) journal → NoneElse lanes journal
+none_else lanes journal fits from none = subst (λ r. FitsOne r (given_by from journal)) (found_rests lanes from ∙ none_found lanes from none) (fits from)
+
+steps_given : (lanes : List Lane) (journal : List Step) → NoneElse lanes journal → AllByRecursion (λ s. has_giver lanes (lane_of s) ≡ true) journal
+steps_given lanes [] none = tt
+steps_given lanes (s ∷ journal) none = (by_giver (lane_of s) (λ from. none from), steps_given lanes journal (λ from h. without from (is_given_by from (lane_of s)) (none from h)))
+  where
+    without : (from : Option Client) (b : Bool) → cond b (s ∷ given_by from journal) (given_by from journal) ≡ [] → given_by from journal ≡ []
+    without from true e = absurd cc
+    without from false e = e
+
+    no_cons : (k : Option Client) (b : Bool) → b ≡ true → cond b (s ∷ given_by k journal) (given_by k journal) ≡ [] → ⊥
+    no_cons k true is e = absurd cc
+    no_cons k false is e = absurd (true≢false (sym is))
+
+    by_giver : (o : Option (Option Client)) → ((from : Option Client) → list_any (λ (l : Lane). same_lane from l.from) lanes ≡ false → cond (is_given_by from o) (s ∷ given_by from journal) (given_by from journal) ≡ []) → has_giver lanes o ≡ true
+    by_giver None h = refl
+    by_giver (Some k) h = by_listed (list_any (λ (l : Lane). same_lane k l.from) lanes) refl
+      where
+        by_listed : (b : Bool) → list_any (λ (l : Lane). same_lane k l.from) lanes ≡ b → b ≡ true
+        by_listed true is = refl
+        by_listed false is = absurd (no_cons k (same_lane k k) (itself k) (h k is))
+
+-- ---- what stands fits
+
+gave_none : (lanes : List Lane) (journal : List Step) → AllByRecursion (λ s. has_giver lanes (lane_of s) ≡ true) journal → NoneElse lanes journal
+gave_none lanes [] all from none = refl
+gave_none lanes (s ∷ journal) all from none = by_giver (lane_of s) all.0 (gave_none lanes journal all.1 from none)
+  where
+    by_same : (k : Option Client) (b : Bool) → same_lane k from ≡ b → list_any (λ (l : Lane). same_lane k l.from) lanes ≡ true → given_by from journal ≡ [] → cond b (s ∷ given_by from journal) (given_by from journal) ≡ []
+    by_same k true is listed rest =
+        absurd (true≢false (sym (ap (λ f. list_any (λ (l : Lane). same_lane f l.from) lanes) (sym ((same_lane_decides k from).0 is)) ∙ listed) ∙ none))
+    by_same k false is listed rest = rest
+
+    by_giver : (o : Option (Option Client)) → has_giver lanes o ≡ true → given_by from journal ≡ [] → cond (is_given_by from o) (s ∷ given_by from journal) (given_by from journal) ≡ []
+    by_giver None listed rest = rest
+    by_giver (Some k) listed rest = by_same k (same_lane k from) refl listed rest
+
+fits_found : (lanes : List Lane) (journal : List Step) (from : Option Client) → AllByRecursion (λ l. LaneStands l journal) lanes → (list_any (λ (l : Lane). same_lane from l.from) lanes ≡ false → given_by from journal ≡ [])
+    → FitsOne (found_in lanes from) (given_by from journal)
+fits_found [] journal from each none = none refl
+fits_found (lane ∷ lanes) journal from each none = by_tie (eq_by_cmp (option_cmp client_cmp) from lane.from) refl (λ h. fits_found lanes journal from each.1 h)
+  where
+    by_tie : (b : Bool) → eq_by_cmp (option_cmp client_cmp) from lane.from ≡ b → ((list_any (λ (l : Lane). same_lane from l.from) lanes ≡ false → given_by from journal ≡ []) → FitsOne (found_in lanes from) (given_by from journal))
+        → FitsOne (cond b (Some (done_steps_of lane)) (found_in lanes from)) (given_by from journal)
+    by_tie true is rest = subst (λ f. FitsOne (Some (done_steps_of lane)) (given_by f journal)) (sym (tied_lane from lane.from is)) each.0
+    by_tie false is rest =
+        rest (λ others. none (ap (λ b. b || list_any (λ (l : Lane). same_lane from l.from) lanes) (false_from_ne_true _ (λ same. apart ((same_lane_decides from lane.from).0 same))) ∙ others))
+      where
+        apart : from ≡ lane.from → ⊥
+        apart same = true≢false (sym (subst (λ f. eq_by_cmp (option_cmp client_cmp) from f ≡ true) same (lane_itself from)) ∙ is)
+
+-- ---- the pass goes on by one step
+
+pub left_more : (same : Step → Step → Bool) (remaining : Remaining) (journal : List Step) (s : Step)
+    → remaining_at_end same remaining (journal ++ s ∷ []) ≡ option_and_then (λ left. remaining_after same left s (lane_of s)) (remaining_at_end same remaining journal)
+left_more same remaining [] s = only (remaining_after same remaining s (lane_of s))
+  where
+    only : (o : Option Remaining) → option_and_then (λ left. Some left) o ≡ o
+    only None = refl
+    only (Some left) = refl
+left_more same remaining (r ∷ journal) s = on (remaining_after same remaining r (lane_of r)) (λ left. left_more same left journal s)
+  where
+    on : (o : Option Remaining) → ((left : Remaining) → remaining_at_end same left (journal ++ s ∷ []) ≡ option_and_then (λ x. remaining_after same x s (lane_of s)) (remaining_at_end same left journal))
+        → option_and_then (λ left. remaining_at_end same left (journal ++ s ∷ [])) o ≡ option_and_then (λ x. remaining_after same x s (lane_of s)) (option_and_then (λ left. remaining_at_end same left journal) o)
+    on None more = refl
+    on (Some left) more = more left
+
+-- ---- the law
+
+pub pass_decides : PassDecides
+pass_decides same decides lanes journal distinct =
+    let pass = pass_fits same decides journal (remaining_of lanes) in (
+      λ is.
+          let fits : Fits (remaining_of lanes) journal = pass.0 is in
+          record {
+            each = All-from_recursion _ lanes (lanes_stand lanes lanes journal fits (each_found lanes distinct));
+            given = All-from_recursion _ journal (steps_given lanes journal (none_else lanes journal fits));
+          },
+      λ stand.
+          pass.1 (λ from.
+          subst (λ r. FitsOne r (given_by from journal)) (sym (found_rests lanes from))
+          (fits_found lanes journal from (recursion_from_All _ lanes stand.each) (gave_none lanes journal (recursion_from_All _ journal stand.given) from))),
+    )

@@ -1,0 +1,49 @@
+-- Which ticks and sweeps a machine does.
+use Rattle.std.proofs.Common.{◌≡◌, ℕ, Bool, true, false, cond, List, [], ◌∷◌, ◌++◌, Some, None, unwrap_or, refl, ap, sym, ◌∙◌, true≢false}
+use Rattle.std.specs.Prelude.{nat_le, nat_lt}
+use Rattle.std.specs.List.{list_all}
+use Rattle.std.proofs.lemmas.Bool.{and_parts, le-ltb, leb-false, leb-true, lt-ltb}
+use Rattle.std.proofs.lemmas.List.Sums.{list_all-from_AllPass}
+use Rattle.silo_event.specs.declared.step.Step.{Step}
+use Rattle.silo_event.specs.declared.step.Step.TheVariants.{Tick, Sweep}
+use Rattle.grain_kinds.specs.Logic.{Logic}
+use Rattle.silo_model.specs.Machine.{Machine}
+use Rattle.silo_model.specs.Idle.{kept_entries}
+use Rattle.silo_model.specs.Step.{machine_step}
+use Rattle.silo_model.specs.Run.{done_by, if_possible}
+use Rattle.lane_model.specs.Lanes.{may_give, without_ticks_below, TicksAreDone}
+
+-- a tick is below the clock, or it isn't
+below : (clock now : ℕ) → (b : Bool) → nat_le clock now ≡ b → nat_lt now clock ≡ cond b false true
+below clock now true is = le-ltb now clock (leb-true clock now is)
+below clock now false is = lt-ltb now clock (leb-false clock now is)
+
+module _ (logic : Logic) where
+  abbrev done : Machine → List Step → List Step
+  done m steps = done_by (machine_step logic) m steps
+
+  tick_done : (m : Machine) (now : ℕ) (steps : List Step) → ((x : Machine) → done x steps ≡ without_ticks_below x.clock steps) → done m (Tick now ∷ steps) ≡ without_ticks_below m.clock (Tick now ∷ steps)
+  unfolding machine_step
+  tick_done m now steps rest = by_clock (nat_le m.clock now) refl
+    where
+      by_clock : (b : Bool) → nat_le m.clock now ≡ b
+          → if_possible (Tick now) (cond b (Some (record m { clock = now })) None) ++ done_by (machine_step logic) (unwrap_or (cond b (Some (record m { clock = now })) None) m) steps
+          ≡ cond (nat_lt now m.clock) (without_ticks_below m.clock steps) (Tick now ∷ without_ticks_below now steps)
+      by_clock true is = ap (λ xs. Tick now ∷ xs) (rest (record m { clock = now })) ∙ ap (λ c. cond c (without_ticks_below m.clock steps) (Tick now ∷ without_ticks_below now steps)) (sym (below m.clock now true is))
+      by_clock false is = rest m ∙ ap (λ c. cond c (without_ticks_below m.clock steps) (Tick now ∷ without_ticks_below now steps)) (sym (below m.clock now false is))
+
+  sweep_done : (m : Machine) (steps : List Step) → ((x : Machine) → done x steps ≡ without_ticks_below x.clock steps) → done m (Sweep ∷ steps) ≡ without_ticks_below m.clock (Sweep ∷ steps)
+  unfolding machine_step
+  sweep_done m steps rest = ap (λ xs. Sweep ∷ xs) (rest (record m { entries = kept_entries m.clock m.age m.entries }))
+
+  one_done : (m : Machine) (s : Step) (steps : List Step) → may_give None s ≡ true → ((x : Machine) → done x steps ≡ without_ticks_below x.clock steps) → done m (s ∷ steps) ≡ without_ticks_below m.clock (s ∷ steps)
+  one_done m (Tick now) steps own rest = tick_done m now steps rest
+  one_done m Sweep steps own rest = sweep_done m steps rest
+  one_done m _ steps own rest = absurd (true≢false (sym own))
+
+  each_done : (steps : List Step) → list_all (may_give None) steps ≡ true → (m : Machine) → done m steps ≡ without_ticks_below m.clock steps
+  each_done [] own m = refl
+  each_done (s ∷ steps) own m = let parts = and_parts (may_give None s) (list_all (may_give None) steps) own in one_done m s steps parts.0 (each_done steps parts.1)
+
+pub ticks_are_done : TicksAreDone
+ticks_are_done logic m steps own = each_done logic steps (list_all-from_AllPass (may_give None) steps own) m

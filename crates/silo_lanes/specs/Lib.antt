@@ -1,6 +1,0 @@
-pub mod Asking
-pub mod Pacing
-pub mod Lanes
-pub mod Serving
-pub mod Todo
-pub mod Counting

@@ -1,0 +1,124 @@
+-- What a grain sent is in the account of its own tenant, and a step adds to it only what its own grain sends.
+use Rattle.std.proofs.Common.{◌≡◌, ℕ, Bool, true, false, List, [], ◌∷◌, Option, Some, None, refl, ap, sym, ◌∙◌, subst, true≢false}
+use Rattle.std.specs.Prelude.{◌||◌, is_some, nat_le, option_map, if◌then◌else◌}
+use Rattle.std.specs.Ordering.{eq_by_cmp}
+use Rattle.std.specs.Cmp.{Equal-is}
+use Rattle.std.specs.FinMap as map
+use Rattle.std.proofs.lemmas.Option.{same_Some, none-some}
+use Rattle.grain_id.specs.Names.{Grain, grain_eq, text_cmp}
+use Rattle.grain_id.proofs.Order.{grain_eq_decides, text_cmp_total, text_cmp_exact}
+use Rattle.tenant_gate.specs.declared.limits.Limits.{Limits}
+use Rattle.tenant_gate.specs.Table.{limits_of}
+use Rattle.silo_event.specs.Owner.{owner_of}
+use Rattle.silo_event.specs.declared.step.Step.{Step}
+use Rattle.silo_event.specs.declared.step.Step.TheVariants.{Deliver, End, Tick, Sweep}
+use Rattle.grain_kinds.specs.Logic.{Logic}
+use Rattle.silo_model.specs.Machine.{Account}
+use Rattle.silo_model.specs.Effect.{Effect, change_option, change_at, context_at}
+use Rattle.silo_model.specs.Sends.{first_from}
+use Rattle.silo_model.specs.Whole.{Whole, shown_to, spread, whole_swept, whole_shared_step, whole_step}
+use Rattle.silo_model.specs.Opening.{Setup, fresh_account, opening}
+use Rattle.silo_model.specs.Journal.{all_done}
+use Rattle.silo_model.specs.Pending.{sends_of}
+use Rattle.silo_model.specs.Todo.{delivery_of, is_among, sender_by, OwnSends, SendsAreOwn}
+use Rattle.silo_model.proofs.Changes.{bound, get-change_same, get-change_other}
+use Rattle.silo_model.proofs.Isolation.{place_in, Did, did, shared_by}
+use Rattle.silo_model.proofs.Opening.{get-fresh_accounts}
+use Rattle.silo_model.proofs.Sends.{has_sent, mapped, effect_less}
+
+-- ---- what is to be delivered
+
+pub delivers : (g : Grain) (account : Option Account) → is_some (delivery_of g account) ≡ has_sent g (sends_of account)
+delivers g None = refl
+delivers g (Some a) = mapped (λ found. Deliver g) (first_from g a.sends)
+
+shared_accounts : (w after : Whole) (s : Step) → whole_shared_step w s ≡ Some after → after.accounts ≡ w.accounts
+shared_accounts w after (Tick now) h = by_clock (nat_le w.clock now) h
+  where
+    by_clock : (b : Bool) → (if b then Some (record w { clock = now }) else None) ≡ Some after → after.accounts ≡ w.accounts
+    by_clock true h = ap (λ (x : Whole). x.accounts) (sym (same_Some (record w { clock = now }) after h))
+    by_clock false h = absurd (none-some after h)
+shared_accounts w after Sweep h = ap (λ (x : Whole). x.accounts) (sym (same_Some (whole_swept w) after h))
+shared_accounts w after _ h = absurd (none-some after h)
+
+seen_account : (w : Whole) (tenant : List ℕ) (place : Option Grain) → (context_at (shown_to tenant w) place).account ≡ map.get w.accounts tenant
+unfolding context_at shown_to
+seen_account w tenant place = refl
+
+spread_accounts : (w : Whole) (owner : List ℕ) (place : Option Grain) (e : Effect) → (spread w owner place e).accounts ≡ change_at w.accounts owner e.account
+unfolding spread
+spread_accounts w owner place e = refl
+
+module _ (logic : Logic) (w after : Whole) (s : Step) (step : whole_step logic w s ≡ Some after) (tenant : List ℕ) where
+  -- the owner's account is changed, and another's stays
+  changed_account : (owner : List ℕ) (is : owner_of s ≡ Some owner) → map.get after.accounts tenant ≡ map.get (change_at w.accounts owner (did logic w after s owner is step).what.account) tenant
+  changed_account owner is =
+      let d = did logic w after s owner is step in
+      ap (λ (x : Whole). map.get x.accounts tenant) (sym d.leaves) ∙ ap (λ accounts. map.get accounts tenant) (spread_accounts w owner (place_in w owner s) d.what)
+
+  pub account_stays : (owner : List ℕ) → owner_of s ≡ Some owner → eq_by_cmp text_cmp tenant owner ≡ false → map.get after.accounts tenant ≡ map.get w.accounts tenant
+  account_stays owner is apart =
+      changed_account owner is ∙ get-change_other text_cmp_total text_cmp_exact w.accounts owner tenant (did logic w after s owner is step).what.account apart
+
+-- of the owner's account nothing is sent that wasn't; another's stays
+pub sends_stay : (logic : Logic) (w after : Whole) (s : Step) (g : Grain) (tenant : List ℕ) (o : Option (List ℕ)) → owner_of s ≡ o → whole_step logic w s ≡ Some after → is_among (sender_by s) g ≡ false
+    → has_sent g (sends_of (map.get after.accounts tenant)) ≡ true → has_sent g (sends_of (map.get w.accounts tenant)) ≡ true
+sends_stay logic w after s g tenant None is step apart h = ap (λ accounts. has_sent g (sends_of (map.get accounts tenant))) (sym (shared_accounts w after s (sym (shared_by logic w s is) ∙ step))) ∙ h
+sends_stay logic w after s g tenant (Some owner) is step apart h = by_tenant (eq_by_cmp text_cmp tenant owner) refl
+  where
+    d : Did logic w s owner after
+    d = did logic w after s owner is step
+
+    fewer : has_sent g (sends_of (change_option (map.get w.accounts owner) d.what.account)) ≡ true → has_sent g (sends_of (map.get w.accounts owner)) ≡ true
+    fewer = subst (λ account. has_sent g (sends_of (change_option account d.what.account)) ≡ true → has_sent g (sends_of account) ≡ true) (seen_account w owner (place_in w owner s))
+        (effect_less logic (context_at (shown_to owner w) (place_in w owner s)) g d.what s apart d.does)
+
+    by_tenant : (b : Bool) → eq_by_cmp text_cmp tenant owner ≡ b → has_sent g (sends_of (map.get w.accounts tenant)) ≡ true
+    by_tenant true tied =
+        let own : tenant ≡ owner = text_cmp_exact tenant owner ((Equal-is (text_cmp tenant owner)).0 tied) in
+        let there : map.get after.accounts tenant ≡ change_option (map.get w.accounts owner) d.what.account = changed_account logic w after s step tenant owner is
+        ∙ ap (map.get (change_at w.accounts owner d.what.account)) own
+        ∙ get-change_same text_cmp_total text_cmp_exact w.accounts owner d.what.account in
+        ap (λ t. has_sent g (sends_of (map.get w.accounts t))) own ∙ fewer (ap (λ o. has_sent g (sends_of o)) (sym there) ∙ h)
+    by_tenant false other = ap (λ o. has_sent g (sends_of o)) (sym (account_stays logic w after s step tenant owner is other)) ∙ h
+
+-- ---- whose account has it
+
+or_first : (b : Bool) → (b || false) ≡ true → b ≡ true
+or_first true h = refl
+or_first false h = h
+
+sender_owns : (s : Step) (g : Grain) → is_among (sender_by s) g ≡ true → owner_of s ≡ Some g.tenant
+sender_owns (End grain turn) g is = ap (λ (x : Grain). Some x.tenant) ((grain_eq_decides grain g).0 (or_first (grain_eq grain g) is))
+sender_owns _ g is = absurd (true≢false (sym is))
+
+module _ (logic : Logic) (w after : Whole) (s : Step) (step : whole_step logic w s ≡ Some after) (own : OwnSends w) (tenant : List ℕ) (g : Grain) (some : is_some (delivery_of g (map.get after.accounts tenant)) ≡ true) where
+  own_sent : is_among (sender_by s) g ≡ true → (b : Bool) → eq_by_cmp text_cmp tenant g.tenant ≡ b → g.tenant ≡ tenant
+  own_sent is true tied = sym (text_cmp_exact tenant g.tenant ((Equal-is (text_cmp tenant g.tenant)).0 tied))
+  own_sent is false apart = own tenant g (ap (λ o. is_some (delivery_of g o)) (sym (account_stays logic w after s step tenant g.tenant (sender_owns s g is) apart)) ∙ some)
+
+  own_by : (b : Bool) → is_among (sender_by s) g ≡ b → g.tenant ≡ tenant
+  own_by true is = own_sent is (eq_by_cmp text_cmp tenant g.tenant) refl
+  own_by false apart = own tenant g (delivers g (map.get w.accounts tenant) ∙ sends_stay logic w after s g tenant (owner_of s) refl step apart (sym (delivers g (map.get after.accounts tenant)) ∙ some))
+
+own_grow : (logic : Logic) (w after : Whole) (s : Step) → whole_step logic w s ≡ Some after → OwnSends w → OwnSends after
+own_grow logic w after s step own tenant g some = own_by logic w after s step own tenant g some (is_among (sender_by s) g) refl
+
+-- ---- where a silo opens
+
+pub none_there : (g : Grain) (o : Option Account) (limits : Option Limits) → o ≡ option_map fresh_account limits → is_some (delivery_of g o) ≡ true → false ≡ true
+none_there g o None is h = ap (λ x. is_some (delivery_of g x)) (sym is) ∙ h
+none_there g o (Some l) is h = ap (λ x. is_some (delivery_of g x)) (sym is) ∙ h
+
+own_at_opening : (setup : Setup) → OwnSends (opening setup)
+unfolding opening
+own_at_opening setup tenant g some = absurd (true≢false (sym (none_there g (map.get (opening setup).accounts tenant) (limits_of setup.tenants tenant) (get-fresh_accounts setup.tenants tenant) some)))
+
+all_done_own : (logic : Logic) (w after : Whole) (steps : List Step) → OwnSends w → all_done logic w steps ≡ Some after → OwnSends after
+all_done_own logic w after [] own e = subst OwnSends (same_Some w after e) own
+all_done_own logic w after (s ∷ steps) own e =
+    let next = bound (λ x. all_done logic x steps) (whole_step logic w s) after e in
+    all_done_own logic next.0 after steps (own_grow logic w next.0 s next.1 own) next.2
+
+pub sends_are_own : SendsAreOwn
+sends_are_own logic setup journal w leads = all_done_own logic (opening setup) w journal (own_at_opening setup) leads

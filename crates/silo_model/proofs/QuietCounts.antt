@@ -1,0 +1,83 @@
+-- A silo is quiet exactly if nothing waits or is open, and nothing is left of what was sent.
+use Rattle.std.proofs.Common.{◌≡◌, ℕ, ◌+◌, ◌≤◌, Bool, true, false, cond, List, [], ◌∷◌, length, Option, Some, None, refl, ap, sym, ◌∙◌, arith}
+use Rattle.std.proofs.lemmas.List.Sums.{sum_by-append}
+use Rattle.std.proofs.lemmas.Option.{none-some}
+use Rattle.std.specs.FinMap as map
+use Rattle.grain_id.specs.Names.{Grain}
+use Rattle.grain_id.proofs.Order.{grain_cmp_total, text_cmp_total, text_cmp_exact}
+use Rattle.grain_id.proofs.ByGrain.{get-part}
+use Rattle.silo_model.specs.Machine.{Machine, Account, Entry, Entries, Request}
+use Rattle.silo_model.specs.Whole.{Whole, is_of, shown_to}
+use Rattle.silo_model.specs.Settled.{pending_at, all_pending}
+use Rattle.silo_model.specs.Pending.{sends_of, AllQuiet, pending_in, sent_in, QuietByCounts}
+use Rattle.silo_model.proofs.Contexts.{get-own}
+use Rattle.silo_model.proofs.Counts.{at, total, total-remove, total_alike, sum_zero, sum_one, sum_alike}
+use Rattle.silo_model.proofs.Fair.{held, pend, within_all}
+use Rattle.silo_model.proofs.FairRuns.{pending_weight}
+
+no_items : {A : Type 0} (xs : List A) → length xs ≡ 0 → xs ≡ []
+no_items [] e = refl
+no_items (x ∷ xs) e = absurd (omega (arith, e))
+
+all_weigh : (m : Machine) → pend (λ q. 1) m.entries ≡ length (all_pending m)
+all_weigh m = sym (pending_weight (λ q. 1) m) ∙ sum_one (all_pending m)
+
+pub one_weighs : (e : Entry) → length (pending_at e) ≡ held (λ q. 1) e
+one_weighs e = sym (sum_one (pending_at e)) ∙ sum_by-append (λ (q : Request). 1) e.queue (map.values e.turns)
+
+pub in_weighs : (w : Whole) → pending_in w ≡ pend (λ q. 1) w.entries
+in_weighs w = sum_alike (λ e. length (pending_at e)) (held (λ q. 1)) (map.values w.entries) one_weighs
+
+pub zero_entries : (f : Entry → ℕ) (entries : Entries) → ((g : Grain) (e : Entry) → map.get entries g ≡ Some e → f e ≡ 0) → total f entries ≡ 0
+zero_entries f entries none = total_alike grain_cmp_total f (λ e. 0) entries none ∙ sum_zero (map.values entries)
+
+shown_entry : (w : Whole) (g : Grain) (e : Entry) → map.get w.entries g ≡ Some e → map.get (shown_to g.tenant w).entries g ≡ Some e
+unfolding shown_to
+shown_entry w g e found = get-own w.entries g.tenant g refl ∙ found
+
+entry_shown : (w : Whole) (tenant : List ℕ) (g : Grain) (e : Entry) → map.get (shown_to tenant w).entries g ≡ Some e → map.get w.entries g ≡ Some e
+unfolding shown_to
+entry_shown w tenant g e found = kept (is_of tenant g) (map.get w.entries g) (sym (get-part w.entries (is_of tenant) g) ∙ found)
+  where
+    kept : (b : Bool) (o : Option Entry) → cond b o None ≡ Some e → o ≡ Some e
+    kept true o h = h
+    kept false o h = absurd (none-some e h)
+
+shown_account : (w : Whole) (tenant : List ℕ) → (shown_to tenant w).account ≡ map.get w.accounts tenant
+unfolding shown_to
+shown_account w tenant = refl
+
+entries_quiet : (w : Whole) → AllQuiet w → pending_in w ≡ 0
+entries_quiet w quiet = in_weighs w ∙ zero_entries (held (λ q. 1)) w.entries (λ g e found.
+    let m : Machine = shown_to g.tenant w in
+    omega (arith, within_all (λ q. 1) m.entries g e (shown_entry w g e found), all_weigh m, ap length (quiet g.tenant).nothing_pending))
+
+sends_quiet : (w : Whole) → AllQuiet w → sent_in w ≡ 0
+sends_quiet w quiet =
+    total_alike text_cmp_total (λ (a : Account). length a.sends) (λ a. 0) w.accounts (λ t a found. ap length (ap sends_of (sym found ∙ sym (shown_account w t)) ∙ (quiet t).nothing_sent))
+    ∙ sum_zero (map.values w.accounts)
+
+-- the weight of one account is within that of all
+within_accounts : (w : Whole) (tenant : List ℕ) (a : Account) → map.get w.accounts tenant ≡ Some a → length a.sends ≤ sent_in w
+within_accounts w tenant a found =
+    let f : Account → ℕ = λ x. length x.sends in
+    omega (arith, ap (λ o. total f (map.remove w.accounts tenant) + at f o) (sym found) ∙ total-remove text_cmp_total text_cmp_exact f w.accounts tenant)
+
+account_quiet : (w : Whole) → sent_in w ≡ 0 → (tenant : List ℕ) (account : Option Account) → map.get w.accounts tenant ≡ account → sends_of account ≡ []
+account_quiet w none tenant None found = refl
+account_quiet w none tenant (Some a) found = no_items a.sends (omega (arith, none, within_accounts w tenant a found))
+
+part_quiet : (w : Whole) → pending_in w ≡ 0 → (tenant : List ℕ) → all_pending (shown_to tenant w) ≡ []
+part_quiet w none tenant =
+    let m : Machine = shown_to tenant w in
+    no_items (all_pending m) (sym (all_weigh m) ∙ zero_entries (held (λ q. 1)) m.entries (λ g e found.
+    omega (arith, within_all (λ q. 1) w.entries g e (entry_shown w tenant g e found), in_weighs w, none)))
+
+pub quiet_by_counts : QuietByCounts
+quiet_by_counts w = (
+  λ quiet. (entries_quiet w quiet, sends_quiet w quiet),
+  λ none tenant. record {
+    nothing_pending = part_quiet w none.0 tenant;
+    nothing_sent = ap sends_of (shown_account w tenant) ∙ account_quiet w none.1 tenant (map.get w.accounts tenant) refl;
+  },
+)

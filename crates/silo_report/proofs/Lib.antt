@@ -1,4 +1,0 @@
-pub mod Differences
-pub mod Reports
-pub mod Tenants
-pub mod EachReport
