@@ -1,6 +1,0 @@
-use Rattle.std.proofs.Common.{◌∙◌}
-use Rattle.silo_body.proofs.Shows.{quiet_mail}
-use Rattle.silo_body.proofs.change.is_quiet.Goals as goal
-
-pub returns : goal.returns
-returns c = c.is_idle.ensures ∙ quiet_mail c.args.activation.now

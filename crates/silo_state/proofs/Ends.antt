@@ -1,0 +1,99 @@
+-- What closing a turn by its own plan comes to, as a step of the whole.
+use Rattle.std.proofs.Common.{◌≡◌, ℕ, Bool, true, false, List, [], ◌∷◌, ◌++◌, Option, Some, None, refl, ap, sym, ◌∙◌}
+use Rattle.std.specs.Prelude.{Ok, option_and_then}
+use Rattle.std.specs.FinMap as map
+use Rattle.std.specs.FinMap.{FinMap}
+use Rattle.grain_id.specs.Names.{Grain, text_cmp}
+use Rattle.grain_kinds.specs.Logic.{Logic, Outgoing, StorageCall, asks_nothing, reads_row, writes_row, clears_row}
+use Rattle.grain_kinds.specs.Finished.{turn_plan}
+use Rattle.grain_kinds.specs.declared.turn.OpenedTurn.{OpenedTurn}
+use Rattle.idle_collector.specs.Notes.{Notes}
+use Rattle.silo_event.specs.declared.reply.Party.{Party}
+use Rattle.silo_event.specs.declared.reply.Reply.{Reply}
+use Rattle.silo_event.specs.declared.step.Answer.TheVariants.{Done}
+use Rattle.silo_event.specs.declared.step.Step.TheVariants.{End}
+use Rattle.silo_model.specs.Machine.{Account, Entry, Entries, Phase, waiting, loading, ready}
+use Rattle.silo_model.specs.Effect.{change_at}
+use Rattle.silo_model.specs.Calls.{reply_to}
+use Rattle.silo_model.specs.Turns.{plan_of, sent_by, with_sends, outcome_of}
+use Rattle.silo_model.specs.Whole.{whole_step}
+use Rattle.silo_model.proofs.TurnSteps.{end_absent, end_closed, end_waiting, end_loading, end_reads, end_writes, end_clears, end_turn}
+use Rattle.silo_state.specs.Held.{Held}
+use Rattle.silo_state.specs.Moves.{Moves}
+use Rattle.silo_state.specs.Sends.{with_more}
+use Rattle.silo_state.specs.Entries.{ClosesEntry}
+use Rattle.silo_state.specs.Closings.{ClosesTold}
+use Rattle.silo_state.specs.Finds.{open_in, IsOwn, asks}
+use Rattle.silo_state.proofs.Idle.{the_same, told_age}
+
+-- what a turn sends comes to the account in one way
+more_sent : (g : Grain) (account : Option Account) (outgoing : List Outgoing) → with_sends g account outgoing ≡ with_more account (sent_by g outgoing)
+more_sent g account [] = refl
+more_sent g None (o ∷ outgoing) = refl
+more_sent g (Some a) (o ∷ outgoing) = refl
+
+-- no such turn is open
+pub end_none : (logic : Logic) (h : Held) (g : Grain) (turn : ℕ) → option_and_then (λ e. open_in e turn e.phase) (map.get h.whole.entries g) ≡ None → whole_step logic h.whole (End g turn) ≡ None
+end_none logic h g turn none = by (map.get h.whole.entries g) refl none
+  where
+    by_phase : (e : Entry) → map.get h.whole.entries g ≡ Some e → (phase : Phase) → e.phase ≡ phase → open_in e turn phase ≡ None → whole_step logic h.whole (End g turn) ≡ None
+    by_phase e found waiting is none = end_waiting logic h.whole g turn e found is
+    by_phase e found loading is none = end_loading logic h.whole g turn e found is
+    by_phase e found (ready state version) is none = end_closed logic h.whole g turn e found none
+
+    by : (found : Option Entry) → map.get h.whole.entries g ≡ found → option_and_then (λ e. open_in e turn e.phase) found ≡ None → whole_step logic h.whole (End g turn) ≡ None
+    by None is none = end_absent logic h.whole g turn is
+    by (Some e) is none = by_phase e is e.phase refl none
+
+module _ (logic : Logic) (h : Held) (g : Grain) (turn : ℕ) (version : Option ℕ) (idle_after : Bool) (input : OpenedTurn) (own : IsOwn g (map.get h.whole.entries g) turn version idle_after input) where
+  pub planned : plan_of logic g own.state own.request ≡ turn_plan logic input
+  planned = λ i. logic.plan (sym own.is_of.kind_is i) (sym own.is_of.message_is i).method (sym own.is_of.state_is i) (sym own.is_of.message_is i).argument
+
+  -- the turn asks for the storage
+  pub end_asks : asks (turn_plan logic input).storage ≡ true → whole_step logic h.whole (End g turn) ≡ None
+  end_asks = by (turn_plan logic input).storage refl
+    where
+      by : (c : StorageCall) → (turn_plan logic input).storage ≡ c → asks c ≡ true → whole_step logic h.whole (End g turn) ≡ None
+      by asks_nothing is e = absurd cc
+      by reads_row is e = end_reads logic h.whole g turn own.entry own.is_open.found_is own.request own.is_open.open_turn own.state version own.is_open.phase_is (turn_plan logic input) planned is
+      by writes_row is e = end_writes logic h.whole g turn own.entry own.is_open.found_is own.request own.is_open.open_turn own.state version own.is_open.phase_is (turn_plan logic input) planned is
+      by clears_row is e = end_clears logic h.whole g turn own.entry own.is_open.found_is own.request own.is_open.open_turn own.state version own.is_open.phase_is (turn_plan logic input) planned is
+
+  nothing_asked : (c : StorageCall) → asks c ≡ false → c ≡ asks_nothing
+  nothing_asked asks_nothing e = refl
+  nothing_asked reads_row e = absurd cc
+  nothing_asked writes_row e = absurd cc
+  nothing_asked clears_row e = absurd cc
+
+  -- the entry and the request that are closed are those that were found
+  module _ (phase : Option Phase) (last : ℕ) (sender : Party) (idle : Bool) (new : Entries) (d : ClosesEntry h.whole.entries g turn phase last sender idle new) where
+    pub same_entry : d.before ≡ own.entry
+    same_entry = the_same d.before own.entry (sym d.found ∙ own.is_open.found_is)
+
+    pub same_request : d.request ≡ own.request
+    same_request = the_same d.request own.request (sym d.open_turn ∙ ap (λ (e : Entry). map.get e.turns turn) same_entry ∙ own.is_open.open_turn)
+
+    pub same_phase : d.before.phase ≡ ready own.state version
+    same_phase = ap (λ (e : Entry). e.phase) same_entry ∙ own.is_open.phase_is
+
+    pub same_plan : plan_of logic g own.state d.request ≡ turn_plan logic input
+    same_plan = ap (plan_of logic g own.state) same_request ∙ planned
+
+  -- the plan's state stands, its sends go out, and its outcome is the reply
+  pub end_moves : (accounts : FinMap text_cmp Account) (mid final : Notes) (new : Entries) (replies : List Reply) → asks (turn_plan logic input).storage ≡ false → mid.age ≡ h.whole.age
+      → ClosesTold h.whole.entries mid h.whole.replies g turn (Some (ready (turn_plan logic input).state version)) idle_after h.whole.clock (outcome_of (turn_plan logic input).outcome) new final replies
+      → accounts ≡ change_at h.whole.accounts g.tenant (with_more (map.get h.whole.accounts g.tenant) (sent_by g (turn_plan logic input).sends))
+      → Moves logic h (End g turn) (Ok Done) (record h { whole = record h.whole { accounts = accounts; age = final.age; entries = new; replies = replies } })
+  end_moves accounts mid final new replies silent aged t sent =
+      let plan = turn_plan logic input in
+      let phase = Some (ready plan.state version) in
+      let d = t.closes in (
+        end_turn logic h.whole g turn d.before d.found d.request d.open_turn own.state version (same_phase phase h.whole.clock t.sender t.idle new d) plan (same_plan phase h.whole.clock t.sender t.idle new d) (nothing_asked plan.storage silent)
+            ∙ (λ i. Some (record h.whole {
+              accounts = sym (sent ∙ ap (change_at h.whole.accounts g.tenant) (sym (more_sent g (map.get h.whole.accounts g.tenant) plan.sends))) i;
+              age = sym (told_age mid final g idle_after t.idle t.settled ∙ aged) i;
+              entries = sym d.put i;
+              replies = sym (t.told_is ∙ ap (λ s. h.whole.replies ++ reply_to s (outcome_of plan.outcome)) d.sender_is) i;
+            })),
+        refl,
+      )

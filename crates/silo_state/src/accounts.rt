@@ -1,0 +1,131 @@
+//! The accounts of the known tenants.
+
+ghost use Rattle.std.specs.Prelude.{◌≡◌, IfNone, IfOk, IfSome, OnOk, OnErr, map as map_list, ℕ, List, Some, if◌then◌else◌};
+ghost use Rattle.std.specs.Option.{option_copied, option_copied_mut};
+ghost use Rattle.std.specs.Borrow.{sem};
+ghost use Rattle.std.specs.FinMap as map;
+ghost use Rattle.indexmap.specs.IndexMap.{get_by_text};
+ghost use Rattle.grain_id.specs.Names.{same_text};
+ghost use Rattle.silo_model.specs.Effect.{change_at};
+ghost use Rattle.silo_model.specs.Opening.{fresh_account, fresh_accounts};
+ghost use Rattle.silo_state.specs.Sends.{HasSent, NothingSent, send_of, with_more};
+
+use crate::account::{Account, Sent};
+use grain_id::{GrainId, Tenant};
+use indexmap::IndexMap;
+use std::alloc::{AllocError, Global};
+use std::collections::VecDeque;
+use std::marker::Model;
+use tenant_gate::Limits;
+
+mod changes;
+
+/// The accounts of the known tenants, found by the hash of the tenant's name.
+#[derive(Drop)]
+pub struct Accounts {
+    by_name: IndexMap<String, Account>,
+}
+
+impl Model for Accounts {
+    ghost use Rattle.std.specs.Coded.{codes};
+    ghost use Rattle.std.specs.FinMap.{FinMap};
+    ghost use Rattle.grain_id.specs.Names.{text_cmp};
+    ghost use Rattle.request_codec.specs.Code.{coded_tree};
+    ghost use Rattle.silo_model.specs.Codes.{by_text_code};
+    ghost use Rattle.silo_model.specs.Machine as model;
+    ghost use Rattle.silo_state.specs.Accounts.{by_bytes};
+
+    ghost Value = { FinMap text_cmp model.Account };
+
+    ghost coded = { Prim.hlevel (codes, by_text_code, coded_tree) };
+
+    ghost view = { λ a. by_bytes a.by_name };
+}
+
+impl Accounts {
+    ghost use Rattle.silo_state.specs.Lending.{LendsAccount};
+
+    /// A fresh account for each of the tenants, by the first limits of each.
+    pub fn new(alloc: Global, tenants: &[(Tenant, Limits)]) -> Result<Accounts, AllocError>
+        ensures { IfOk result (λ a. a ≡ fresh_accounts tenants.now) }
+    {
+        let mut by_name = IndexMap::new(alloc);
+        for (tenant, limits) in tenants {
+            if !by_name.contains_key(tenant.text()) {
+                add(alloc, &mut by_name, tenant, *limits)?;
+            }
+        }
+        Ok(Accounts { by_name })
+    }
+
+    /// The tenant's account, or nothing if the tenant isn't known.
+    pub fn get(&self, tenant: &str) -> Option<&Account>
+        ensures { option_copied result ≡ map.get self.now tenant.now }
+    {
+        self.by_name.get(tenant)
+    }
+
+    /// The tenant's account, which may be changed where it stands.
+    pub fn get_mut(&mut self, tenant: &str) -> Option<&mut Account>
+        ensures* writes_back { sem 𝓛 (LendsAccount self.entry tenant.now result) }
+        ensures value { option_copied_mut result ≡ map.get self.old tenant.now }
+    {
+        self.by_name.get_mut(tenant)
+    }
+
+    /// A grain that sent something that is left to deliver, or none if there is none. It walks over
+    /// all accounts.
+    pub fn first_sender(&self) -> Option<&GrainId>
+        ensures found { IfSome result (λ grain. HasSent self.now grain.now) }
+        ensures none { IfNone result (NothingSent self.now) }
+    {
+        'places: for place in 0..self.by_name.len() {
+            let Some((_, account)) = self.by_name.get_index(place) else {
+                unreachable!()
+            };
+            if let Some(grain) = account.first_sender() {
+                return Some(grain);
+            }
+        }
+        None
+    }
+
+    /// Grains of the tenant sent these, after what they sent before.
+    ///
+    /// # Errors
+    ///
+    /// Out of memory: nothing changed.
+    pub fn send(
+        &mut self,
+        alloc: Global,
+        tenant: &str,
+        sent: VecDeque<Sent>,
+    ) -> Result<(), AllocError>
+        ensures done { OnOk result (self.new ≡ change_at self.old tenant.now (with_more (map.get self.old tenant.now) (map_list send_of sent.items))) }
+        ensures unchanged { OnErr result (self.new ≡ self.old) }
+    {
+        if sent.is_empty() {
+            return Ok(());
+        }
+        let Some(account) = self.get_mut(tenant) else {
+            return Ok(());
+        };
+        account.send(alloc, sent)
+    }
+}
+
+/// Adds the account of a tenant that has none.
+fn add(
+    alloc: Global,
+    by_name: &mut IndexMap<String, Account>,
+    tenant: &Tenant,
+    limits: Limits,
+) -> Result<(), AllocError>
+    ensures { OnOk result ((name : List ℕ) → get_by_text by_name.new name ≡ (if same_text tenant.now name then Some (fresh_account limits) else get_by_text by_name.old name)) }
+{
+    by_name.insert(
+        String::from_str(alloc, tenant.text())?,
+        Account::new(alloc, limits),
+    )?;
+    Ok(())
+}

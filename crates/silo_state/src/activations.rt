@@ -1,0 +1,115 @@
+//! The activations of all grains, as entries.
+
+ghost use Rattle.std.specs.Prelude.{◌≡◌, ◌<◌, ◌^◌, IfOk, OnOk, OnErr, IfSome, None};
+ghost use Rattle.std.specs.Option.{is_some, option_copied, option_map};
+ghost use Rattle.std.specs.FinMap as map;
+ghost use Rattle.silo_model.specs.Contexts.{active_in};
+ghost use Rattle.silo_state.specs.Shown.{entry_of};
+ghost use Rattle.silo_state.specs.Marks.{AreMarked};
+ghost use Rattle.silo_state.specs.Entries.{Activates, Begins, opened_turn};
+
+use crate::change;
+use activation_directory::{Activation, Directory};
+use grain_id::GrainId;
+use grain_kinds::{GrainLogic, OpenedTurn};
+use silo_event::Answer;
+use std::alloc::{AllocError, Global};
+use std::marker::{Model, PhantomData};
+
+mod accept;
+mod close;
+mod walk;
+
+/// The activations of all grains. Each request is marked as one that only reads exactly if the logic
+/// says so of its method.
+#[derive(Drop)]
+pub struct Activations<L: GrainLogic> {
+    directory: Directory,
+    of: PhantomData<L>,
+}
+
+impl<L: GrainLogic> Model for Activations<L> {
+    ghost use Rattle.std.specs.Coded.{codes};
+    ghost use Rattle.request_codec.specs.Code.{coded_tree};
+    ghost use Rattle.silo_model.specs.Codes.{by_grain_code, by_number_code};
+    ghost use Rattle.silo_model.specs.Machine.{Entries};
+    ghost use Rattle.silo_state.specs.Shown.{entries_of};
+    ghost use Rattle.silo_state.specs.Marks.{AllMarked};
+
+    ghost Value = { Entries };
+
+    ghost coded = { Prim.hlevel (codes, by_grain_code, by_number_code, coded_tree) };
+
+    ghost view = { λ a. entries_of a.directory.activations };
+
+    ghost invariant = { λ a. AllMarked L.logic a.directory.activations };
+}
+
+impl<L: GrainLogic> Activations<L> {
+    /// No grain has an activation.
+    pub fn new(alloc: Global) -> Activations<L>
+        ensures { result ≡ map.empty }
+    {
+        Activations {
+            directory: Directory::new(alloc),
+            of: PhantomData,
+        }
+    }
+
+    /// The grain's activation.
+    pub fn get(&self, grain: &GrainId) -> Option<&Activation>
+        ensures entry { option_map entry_of (option_copied result) ≡ map.get self.now grain.now }
+        ensures marked { IfSome result (λ a. AreMarked L.logic grain.now a.now.mailbox) }
+    {
+        self.directory.get(grain)
+    }
+
+    /// How many grains of a tenant have an activation.
+    pub fn count(&self, tenant: &str) -> usize
+        ensures count { result ≡ active_in self.now tenant.now }
+        ensures bound { result < 2 ^ 63 }
+    {
+        self.directory.count(tenant)
+    }
+
+    /// The grain's activation begins to load, if it waits.
+    pub fn activate(&mut self, grain: &GrainId) -> Answer
+        ensures { Activates self.old grain.now result self.new }
+    {
+        let Some(activation) = self.directory.get_mut(grain) else {
+            return Answer::NotNow;
+        };
+        change::start(activation)
+    }
+
+    /// The grain's first waiting request becomes an open turn, if it may.
+    ///
+    /// # Errors
+    ///
+    /// Out of memory: nothing changed.
+    pub fn begin(&mut self, grain: &GrainId) -> Result<Option<OpenedTurn>, AllocError>
+        ensures begins { IfOk result (λ turn. Begins L.logic self.old grain.now (is_some turn) self.new) }
+        ensures turn { IfOk result (λ turn. turn ≡ opened_turn L.logic grain.now (map.get self.old grain.now)) }
+        ensures unchanged { OnErr result (self.new ≡ self.old) }
+    {
+        let Some(activation) = self.directory.get_mut(grain) else {
+            return Ok(None);
+        };
+        change::begin(grain, activation)
+    }
+
+    /// The same, with no turn handed out: whether one was opened.
+    ///
+    /// # Errors
+    ///
+    /// Out of memory: nothing changed.
+    pub fn open(&mut self, grain: &GrainId) -> Result<bool, AllocError>
+        ensures begins { IfOk result (λ opened. Begins L.logic self.old grain.now opened self.new) }
+        ensures unchanged { OnErr result (self.new ≡ self.old) }
+    {
+        let Some(activation) = self.directory.get_mut(grain) else {
+            return Ok(false);
+        };
+        change::open(activation)
+    }
+}

@@ -1,0 +1,38 @@
+//! How a request comes to an activation, or to a new one.
+
+ghost use Rattle.std.specs.Prelude.{◌≡◌, OnOk, OnErr, IfOk};
+ghost use Rattle.silo_state.specs.Arrivals.{arrived, IsFirst};
+
+use activation_directory::{Activation, Phase};
+use std::alloc::{AllocError, Global};
+use turn_mailbox::{Mailbox, Request};
+
+/// One request more waits, from this moment on.
+pub fn arrive(activation: &mut Activation, request: Request, clock: u64) -> Result<(), AllocError>
+    ensures arrived { OnOk result (activation.new ≡ arrived activation.old activation.new.mailbox.capacity request clock) }
+    ensures unchanged { OnErr result (activation.new ≡ activation.old) }
+{
+    activation.mailbox.make_room()?;
+    match activation.mailbox.push(request) {
+        Ok(()) => {}
+        Err(_) => unreachable!(),
+    }
+    activation.last = clock;
+    Ok(())
+}
+
+/// An activation that waits to be activated, with one request. Its mailbox grows as more wait.
+pub fn first(alloc: Global, request: Request, clock: u64) -> Result<Activation, AllocError>
+    ensures { IfOk result (λ a. IsFirst request clock a) }
+{
+    let mut mailbox = Mailbox::new(alloc, 1)?;
+    match mailbox.push(request) {
+        Ok(()) => {}
+        Err(_) => unreachable!(),
+    }
+    Ok(Activation {
+        phase: Phase::Waiting,
+        mailbox,
+        last: clock,
+    })
+}

@@ -1,0 +1,154 @@
+//! What becomes of one activation.
+
+ghost use Rattle.std.specs.Prelude.{◌≡◌, IfOk, OnOk, OnErr};
+ghost use Rattle.silo_state.specs.Changes.{Starts, turn_at, opens_at, mail_begun, EndsTurn};
+ghost use Rattle.silo_state.specs.Shown.{phase_of, entry_of};
+ghost use Rattle.silo_state.specs.Notes.{may_be_idle, is_idle};
+ghost use Rattle.silo_state.specs.Reads.{is_loading, is_quiet};
+ghost use Rattle.silo_state.specs.Work.{step_at, work_at};
+
+use activation_directory::{Activation, Phase};
+use grain_id::GrainId;
+use grain_kinds::OpenedTurn;
+use silo_event::{Answer, Party, Step};
+use std::alloc::AllocError;
+
+/// What is to do with a grain's activation.
+#[derive(Clone, Copy, Debug, PartialEq, Eq)]
+pub enum PossibleStep {
+    /// It begins to load.
+    Activate,
+    /// It gets its state.
+    Load,
+    /// Its first waiting request becomes an open turn.
+    Begin,
+}
+
+impl PossibleStep {
+    /// The step that does it.
+    pub fn at(self, grain: GrainId) -> Step
+        ensures { result ≡ step_at grain self }
+    {
+        match self {
+            PossibleStep::Activate => Step::Activate { grain },
+            PossibleStep::Load => Step::Load {
+                grain,
+                failed: false,
+            },
+            PossibleStep::Begin => Step::Begin { grain },
+        }
+    }
+}
+
+/// What is to do with it, if anything is: at most one of the three is possible.
+pub fn possible_work(activation: &Activation) -> Option<PossibleStep>
+    ensures { result ≡ work_at activation.now.mailbox activation.now.phase }
+{
+    match activation.phase {
+        Phase::Waiting => Some(PossibleStep::Activate),
+        Phase::Loading => Some(PossibleStep::Load),
+        Phase::Ready { .. } => {
+            if activation.mailbox.may_begin() {
+                Some(PossibleStep::Begin)
+            } else {
+                None
+            }
+        }
+    }
+}
+
+/// It begins to load, if it waits.
+pub fn start(activation: &mut Activation) -> Answer
+    ensures { Starts activation.old result activation.new }
+{
+    match activation.phase {
+        Phase::Waiting => {
+            activation.phase = Phase::Loading;
+            Answer::Done
+        }
+        _ => Answer::NotNow,
+    }
+}
+
+/// Its first waiting request becomes an open turn, if it is ready and the request may begin.
+pub fn begin(grain: &GrainId, activation: &mut Activation) -> Result<Option<OpenedTurn>, AllocError>
+    ensures turn { IfOk result (λ turn. turn ≡ turn_at grain.now activation.old.mailbox activation.old.phase) }
+    ensures begun { OnOk result (activation.new ≡ record activation.old { mailbox = mail_begun activation.old.mailbox activation.old.phase }) }
+    ensures unchanged { OnErr result (activation.new ≡ activation.old) }
+{
+    match &activation.phase {
+        Phase::Waiting => Ok(None),
+        Phase::Loading => Ok(None),
+        Phase::Ready { state, .. } => activation.mailbox.begin(grain, state),
+    }
+}
+
+/// The same, with no turn handed out: whether one was opened.
+pub fn open(activation: &mut Activation) -> Result<bool, AllocError>
+    ensures opened { IfOk result (λ opened. opened ≡ opens_at activation.old.mailbox activation.old.phase) }
+    ensures begun { OnOk result (activation.new ≡ record activation.old { mailbox = mail_begun activation.old.mailbox activation.old.phase }) }
+    ensures unchanged { OnErr result (activation.new ≡ activation.old) }
+{
+    match activation.phase {
+        Phase::Waiting => Ok(false),
+        Phase::Loading => Ok(false),
+        Phase::Ready { .. } => activation.mailbox.open(),
+    }
+}
+
+/// Closes its turn of that number: who asked for it, if it is open. The activation is then in this
+/// phase, if one is given, and was last used at this moment.
+pub fn close(
+    activation: &mut Activation,
+    turn: u64,
+    phase: Option<Phase>,
+    last: u64,
+) -> Option<Party>
+    ensures { EndsTurn activation.old turn phase last result activation.new }
+{
+    let Ok(request) = activation.mailbox.finish(turn) else {
+        return None;
+    };
+    if let Some(phase) = phase {
+        activation.phase = phase;
+    }
+    activation.last = last;
+    Some(request.sender)
+}
+
+/// Whether it is ready, and no request waits.
+pub fn may_be_idle(activation: &Activation) -> bool
+    ensures { result ≡ may_be_idle (entry_of activation.now) }
+{
+    match activation.phase {
+        Phase::Ready { .. } => activation.mailbox.len() == 0,
+        _ => false,
+    }
+}
+
+/// Whether it is ready, no request waits and no turn is open.
+pub fn is_idle(activation: &Activation) -> bool
+    ensures { result ≡ is_idle (entry_of activation.now) }
+{
+    match activation.phase {
+        Phase::Ready { .. } => activation.mailbox.is_idle(),
+        _ => false,
+    }
+}
+
+/// Whether it loads.
+pub fn is_loading(activation: &Activation) -> bool
+    ensures { result ≡ is_loading (phase_of activation.now.phase) }
+{
+    match activation.phase {
+        Phase::Loading => true,
+        _ => false,
+    }
+}
+
+/// Whether no request waits and no turn is open.
+pub fn is_quiet(activation: &Activation) -> bool
+    ensures { result ≡ is_quiet (entry_of activation.now) }
+{
+    activation.mailbox.is_idle()
+}

@@ -1,0 +1,27 @@
+//! What a silo holds of all its tenants, and what each kind of step does to it.
+//!
+//! A layer above may rely on this: a silo's state is seen as the whole of `silo_model` and the count of the
+//! storage's failed calls, and each call is one kind of step: what it answers and leaves is what the
+//! model says (`specs/Moves.antt`). How the parts that the state is made of are seen is in
+//! `specs/Shown.antt`, which requests are marked as readers in `specs/Marks.antt`, and which entries the
+//! collector has notes of in `specs/Notes.antt`.
+#![tactic(auto)]
+
+mod account;
+mod accounts;
+mod activations;
+mod arrival;
+mod change;
+mod closing;
+mod finding;
+mod notes;
+mod reading;
+mod state;
+mod status;
+mod storing;
+mod telling;
+mod values;
+mod version;
+
+pub use change::PossibleStep;
+pub use state::SiloState;

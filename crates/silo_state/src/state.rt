@@ -1,0 +1,120 @@
+//! What a silo holds of all its tenants.
+
+ghost use Rattle.std.specs.Prelude.{◌≡◌, IfOk};
+ghost use Rattle.silo_model.specs.Opening.{opening};
+
+use crate::accounts::Accounts;
+use crate::activations::Activations;
+use grain_id::Tenant;
+use grain_kinds::GrainLogic;
+use grain_storage::GrainStorage;
+use idle_collector::Collector;
+use silo_event::{Moment, Reply};
+use std::alloc::{AllocError, Global};
+use std::marker::Model;
+use tenant_gate::Limits;
+
+mod ask;
+mod call;
+mod clock;
+mod entry;
+mod send;
+mod step;
+mod store;
+mod turn;
+mod work;
+
+/// All tenants' accounts, activations and rows, and the replies in the order in which they were made.
+/// The collector has notes of exactly the activations that are idle.
+#[derive(Drop)]
+pub struct SiloState<S: GrainStorage, L: GrainLogic> {
+    accounts: Accounts,
+    clock: Moment,
+    activations: Activations<L>,
+    collector: Collector,
+    storage: S,
+    logic: L,
+    replies: Vec<Reply>,
+}
+
+impl<S: GrainStorage, L: GrainLogic> Model for SiloState<S, L> {
+    ghost use Rattle.std.specs.Coded.{codes};
+    ghost use Rattle.request_codec.specs.Code.{coded_tree};
+    ghost use Rattle.request_codec.specs.contracts.state.StateBytes as state;
+    ghost use Rattle.silo_model.specs.Codes.{by_grain_code, by_text_code, by_number_code};
+    ghost use Rattle.silo_state.specs.Held.{Held};
+    ghost use Rattle.silo_state.specs.Notes.{AreNoted};
+
+    ghost Value = { Held };
+
+    ghost coded = { Prim.hlevel (codes, by_grain_code, by_text_code, by_number_code, coded_tree, state.the_row.coded) };
+
+    ghost view = { λ b. record {
+      whole = record {
+        accounts = b.accounts;
+        age = b.collector.age;
+        clock = b.clock;
+        entries = b.activations;
+        rows = S.rows b.storage;
+        replies = b.replies.items;
+      };
+      failures = S.failed b.storage;
+    } };
+
+    ghost invariant = { λ b. AreNoted b.activations b.collector.lasts };
+}
+
+/// The moment at which the clock begins.
+fn beginning() -> Moment
+    ensures { result ≡ 0 }
+{
+    match Moment::new(0) {
+        Some(moment) => moment,
+        None => unreachable!(),
+    }
+}
+
+impl<S: GrainStorage + Drop, L: GrainLogic + Drop> SiloState<S, L> {
+    /// Nothing is asked yet, and nothing answered. These tenants are known, with these limits; of a tenant
+    /// that stands twice the first are its own. The rows are those of the storage.
+    ///
+    /// # Errors
+    ///
+    /// Out of memory.
+    pub fn new(
+        alloc: Global,
+        tenants: &[(Tenant, Limits)],
+        age: u64,
+        storage: S,
+        logic: L,
+    ) -> Result<SiloState<S, L>, AllocError>
+        ensures { IfOk result (λ b. b ≡ record { whole = opening (record { tenants = tenants.now; age = age; rows = S.rows storage }); failures = S.failed storage }) }
+    {
+        Ok(SiloState {
+            accounts: Accounts::new(alloc, tenants)?,
+            clock: beginning(),
+            activations: Activations::new(alloc),
+            collector: Collector::new(alloc, age),
+            storage,
+            logic,
+            replies: Vec::new(alloc),
+        })
+    }
+}
+
+impl<S: GrainStorage, L: GrainLogic> SiloState<S, L> {
+    /// All replies, in the order in which they were made.
+    pub fn replies(&self) -> &[Reply]
+        ensures { result.now ≡ self.now.whole.replies }
+    {
+        self.replies.as_slice()
+    }
+
+    /// Where the rows are kept.
+    pub fn storage(&self) -> &S
+        ensures rows { S.rows result.now ≡ self.now.whole.rows }
+        ensures failures { S.failed result.now ≡ self.now.failures }
+    {
+        &self.storage
+    }
+}

@@ -1,0 +1,131 @@
+//! Any step.
+
+ghost use Rattle.std.specs.Prelude.{IfOk};
+ghost use Rattle.std.specs.FinMap as map;
+ghost use Rattle.silo_event.specs.declared.step.Step.TheVariants as step;
+ghost use Rattle.silo_state.specs.Finds.{IsOwnIfOpen};
+ghost use Rattle.silo_state.specs.Moves.{Moves};
+
+use crate::finding;
+use crate::finding::GrainAtClose;
+use crate::state::SiloState;
+use bumpalo::Bump;
+use grain_id::GrainId;
+use grain_kinds::{FinishedTurn, GrainLogic, run_turn};
+use grain_storage::GrainStorage;
+use silo_event::{Answer, Step, StepFault};
+use std::alloc::{AllocError, Global};
+
+impl<S: GrainStorage, L: GrainLogic> SiloState<S, L> {
+    /// Takes a step of any kind. The turn of an `End` or a `Store` is run here, in an arena of its own,
+    /// so that it is no stranger.
+    ///
+    /// # Errors
+    ///
+    /// Out of memory: nothing changed.
+    pub fn step(&mut self, alloc: Global, step: &Step) -> Result<Answer, StepFault>
+        ensures { Moves L.logic self.old step.now result self.new }
+    {
+        match step {
+            Step::Refuse { caller, id, code } => self.refuse(caller, *id, *code),
+            Step::Call {
+                caller,
+                id,
+                grain,
+                message,
+            } => self.call(alloc, caller, *id, grain, message),
+            Step::Poke {
+                failed,
+                caller,
+                id,
+                grain,
+                state,
+            } => self.poke(alloc, caller, *id, grain, state.state(), *failed),
+            Step::Status { caller, id } => self.status(alloc, caller, *id),
+            Step::Deliver { grain } => self.deliver(alloc, grain),
+            Step::Activate { grain } => Ok(self.activate(grain)),
+            Step::Load { grain, failed } => self.load(alloc, grain, *failed),
+            Step::Begin { grain } => self.open(grain),
+            Step::Store {
+                grain,
+                turn,
+                failed,
+            } => self.run_store(alloc, grain, *turn, *failed),
+            Step::End { grain, turn } => self.run_end(alloc, grain, *turn),
+            Step::Abandon { grain, turn } => self.abandon(grain, *turn),
+            Step::Tick { now } => Ok(self.tick(*now)),
+            Step::Sweep => self.sweep(alloc),
+        }
+    }
+
+    /// The first waiting request of a ready grain becomes an open turn.
+    fn open(&mut self, grain: &GrainId) -> Result<Answer, StepFault>
+        ensures { Moves L.logic self.old (step.Begin grain.now) result self.new }
+    {
+        if self.activations.open(grain)? {
+            Ok(Answer::Done)
+        } else {
+            Ok(Answer::NotNow)
+        }
+    }
+
+    /// The open turn of that number, run in an arena of its own, and how its grain stands.
+    fn run(
+        &self,
+        alloc: Global,
+        grain: &GrainId,
+        turn: u64,
+    ) -> Result<Option<(FinishedTurn<L>, GrainAtClose)>, AllocError>
+        ensures { IfOk result (λ found. IsOwnIfOpen grain.now (map.get self.now.whole.entries grain.now) turn found) }
+    {
+        let Some(activation) = self.activations.get(grain) else {
+            return Ok(None);
+        };
+        let Some((opened, at_close)) = finding::open_turn(grain, activation, turn)? else {
+            return Ok(None);
+        };
+        let bump = Bump::new(alloc);
+        match run_turn(alloc, &bump, &self.logic, opened) {
+            Ok(finished) => Ok(Some((finished, at_close))),
+            Err(_opened) => Err(AllocError),
+        }
+    }
+
+    /// An open turn that asks for nothing of the storage runs and is closed.
+    fn run_end(&mut self, alloc: Global, grain: &GrainId, turn: u64) -> Result<Answer, StepFault>
+        ensures { Moves L.logic self.old (step.End grain.now turn) result self.new }
+    {
+        let Some((finished, at_close)) = self.run(alloc, grain, turn)? else {
+            return Ok(Answer::NotNow);
+        };
+        let GrainAtClose {
+            version,
+            idle_after,
+        } = at_close;
+        let answer = self.end_own(alloc, grain, turn, version, idle_after, &finished);
+        drop(finished);
+        answer
+    }
+
+    /// An open turn that asks for the storage runs and is closed.
+    fn run_store(
+        &mut self,
+        alloc: Global,
+        grain: &GrainId,
+        turn: u64,
+        failed: bool,
+    ) -> Result<Answer, StepFault>
+        ensures { Moves L.logic self.old (step.Store grain.now turn failed) result self.new }
+    {
+        let Some((finished, at_close)) = self.run(alloc, grain, turn)? else {
+            return Ok(Answer::NotNow);
+        };
+        let GrainAtClose {
+            version,
+            idle_after,
+        } = at_close;
+        let answer = self.store_own(alloc, grain, turn, version, idle_after, &finished, failed);
+        drop(finished);
+        answer
+    }
+}
