@@ -3,3 +3,5 @@ pub mod Moved
 pub mod Runs
 pub mod Alone
 pub mod Opened
+pub mod Quiet
+pub mod Walked

@@ -1,4 +1,4 @@
--- Where a silo's journal leads once its body has taken a step.
+-- Where a silo's journal leads once its state has taken a step.
 use Rattle.std.proofs.Common.{◌≡◌, List, [], ◌++◌, sym, subst}
 use Rattle.std.specs.Prelude.{Ok}
 use Rattle.std.proofs.lemmas.List.{append-nil}
@@ -10,8 +10,8 @@ use Rattle.grain_kinds.specs.Logic.{Logic}
 use Rattle.silo_model.specs.Opening.{Setup}
 use Rattle.silo_model.specs.Journal.{LeadsTo}
 use Rattle.silo_model.proofs.Journals.{journals_grow, not_now}
-use Rattle.silo_body.specs.Held.{Held}
-use Rattle.silo_body.specs.Moves.{Moves}
+use Rattle.silo_state.specs.Held.{Held}
+use Rattle.silo_state.specs.Moves.{Moves}
 use Rattle.silo_core.specs.History.{StepAnswersInParts}
 use Rattle.silo_core.specs.Runs.{noted}
 use Rattle.silo_core.proofs.Steps.{done_parts}

@@ -8,7 +8,7 @@ use Rattle.silo_event.specs.declared.step.StepFault.TheVariants.{Memory, Strange
 use Rattle.grain_kinds.specs.Logic.{Logic}
 use Rattle.grain_kinds.specs.declared.turn.OpenedTurn.{OpenedTurn}
 use Rattle.silo_model.specs.Whole.{Whole}
-use Rattle.silo_body.specs.Finds.{IsStranger}
+use Rattle.silo_state.specs.Finds.{IsStranger}
 use Rattle.silo_core.specs.History.{History, Answered}
 
 -- The turn that the input names is open, and its own message or state isn't the input's.

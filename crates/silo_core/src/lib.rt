@@ -16,4 +16,4 @@ mod silo;
 pub use rows::stored_of;
 pub use setup::Setup;
 pub use silo::{RunReport, Silo};
-pub use silo_body::Work;
+pub use silo_state::PossibleStep;

@@ -16,14 +16,15 @@ use crate::{replies, rows};
 use grain_id::{GrainId, Tenant};
 use grain_kinds::GrainLogic;
 use grain_storage::{GrainStorage, Row};
-use silo_body::Body;
 use silo_event::{Answer, Reply, Step};
+use silo_state::SiloState;
 use std::alloc::{AllocError, Global};
 use std::marker::Model;
 use tenant_gate::{Age, TenantTable};
 
 mod run;
 mod steps;
+mod todo;
 mod work;
 
 pub use run::RunReport;
@@ -36,14 +37,14 @@ pub struct Silo<S: GrainStorage, L: GrainLogic> {
     age: Age,
     opening: Vec<(GrainId, Row)>,
     opening_failures: u64,
-    body: Body<S, L>,
+    state: SiloState<S, L>,
     journal: Vec<Step>,
 }
 
 impl<S: GrainStorage, L: GrainLogic> Model for Silo<S, L> {
     ghost use Rattle.std.specs.Coded.{codes};
     ghost use Rattle.request_codec.specs.Code.{coded_tree};
-    ghost use Rattle.request_codec.specs.contracts.state.StateBytes as state;
+    ghost use Rattle.request_codec.specs.contracts.state.StateBytes as state_bytes;
     ghost use Rattle.silo_model.specs.Codes.{by_grain_code, by_text_code, by_number_code};
     ghost use Rattle.silo_model.specs.Journal.{LeadsTo};
     ghost use Rattle.silo_core.specs.History.{History};
@@ -51,16 +52,16 @@ impl<S: GrainStorage, L: GrainLogic> Model for Silo<S, L> {
 
     ghost Value = { History };
 
-    ghost coded = { Prim.hlevel (codes, by_grain_code, by_text_code, by_number_code, coded_tree, state.the_row.coded) };
+    ghost coded = { Prim.hlevel (codes, by_grain_code, by_text_code, by_number_code, coded_tree, state_bytes.the_row.coded) };
 
     ghost view = { λ s. record {
       setup = setup_of s.tenants s.age s.opening.items;
-      whole = s.body.whole;
+      whole = s.state.whole;
       journal = s.journal.items;
-      failures = record { at_opening = s.opening_failures; now = s.body.failures };
+      failures = record { at_opening = s.opening_failures; now = s.state.failures };
     } };
 
-    ghost invariant = { λ s. LeadsTo L.logic (setup_of s.tenants s.age s.opening.items) s.journal.items s.body.whole × AreListed s.opening.items };
+    ghost invariant = { λ s. LeadsTo L.logic (setup_of s.tenants s.age s.opening.items) s.journal.items s.state.whole × AreListed s.opening.items };
 }
 
 impl<S: GrainStorage + Drop, L: GrainLogic + Drop> Silo<S, L> {
@@ -83,13 +84,13 @@ impl<S: GrainStorage + Drop, L: GrainLogic + Drop> Silo<S, L> {
         } = setup;
         let opening = storage.list(alloc)?;
         let opening_failures = storage.failures();
-        let body = Body::new(alloc, &tenants, age.millis(), storage, logic)?;
+        let state = SiloState::new(alloc, tenants.list(), age.millis(), storage, logic)?;
         Ok(Silo {
             tenants,
             age,
             opening,
             opening_failures,
-            body,
+            state,
             journal: Vec::new(alloc),
         })
     }
@@ -129,7 +130,7 @@ impl<S: GrainStorage, L: GrainLogic> Silo<S, L> {
     pub fn failures(&self) -> u64
         ensures { result ≡ self.now.failures.now }
     {
-        self.body.storage().failures()
+        self.state.storage().failures()
     }
 
     /// Where the rows are kept.
@@ -137,14 +138,14 @@ impl<S: GrainStorage, L: GrainLogic> Silo<S, L> {
         ensures rows { S.rows result.now ≡ self.now.whole.rows }
         ensures failures { S.failed result.now ≡ self.now.failures.now }
     {
-        self.body.storage()
+        self.state.storage()
     }
 
     /// All replies, in the order in which they were made.
     pub fn replies(&self) -> &[Reply]
         ensures { result.now ≡ self.now.whole.replies }
     {
-        self.body.replies()
+        self.state.replies()
     }
 
     /// The replies to a tenant's callers and grains, in order.
@@ -155,7 +156,7 @@ impl<S: GrainStorage, L: GrainLogic> Silo<S, L> {
     pub fn replies_of(&self, alloc: Global, tenant: &Tenant) -> Result<Vec<Reply>, AllocError>
         ensures { IfOk result (λ found. found.items ≡ (shown_to tenant.now self.now.whole).replies) }
     {
-        replies::sent_to(alloc, self.body.replies(), tenant)
+        replies::sent_to(alloc, self.state.replies(), tenant)
     }
 
     /// The stored rows of all tenants, grains ascending.
@@ -166,7 +167,7 @@ impl<S: GrainStorage, L: GrainLogic> Silo<S, L> {
     pub fn rows(&self, alloc: Global) -> Result<Vec<(GrainId, Row)>, AllocError>
         ensures { IfOk result (λ list. list.items ≡ entries self.now.whole.rows) }
     {
-        self.body.storage().list(alloc)
+        self.state.storage().list(alloc)
     }
 
     /// The stored rows of a tenant's grains, grains ascending.
@@ -177,7 +178,7 @@ impl<S: GrainStorage, L: GrainLogic> Silo<S, L> {
     pub fn rows_of(&self, alloc: Global, tenant: &Tenant) -> Result<Vec<(GrainId, Row)>, AllocError>
         ensures { IfOk result (λ list. list.items ≡ entries (shown_to tenant.now self.now.whole).rows) }
     {
-        let all = self.body.storage().list(alloc)?;
+        let all = self.state.storage().list(alloc)?;
         rows::stored_of(alloc, all, tenant)
     }
 

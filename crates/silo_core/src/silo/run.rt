@@ -1,6 +1,6 @@
 //! Lists of steps.
 
-ghost use Rattle.std.specs.Prelude.{◌≡◌, ◌<◌, ◌↔◌, ℕ, List, [], IsTrue, ◌++◌, take, vec_len};
+ghost use Rattle.std.specs.Prelude.{◌≡◌, ◌<◌, ◌≤◌, ◌↔◌, ℕ, List, [], IsTrue, ◌++◌, take, vec_len};
 ghost use Rattle.silo_model.specs.Answers.{AreAnswers, AreMachineAnswers};
 ghost use Rattle.silo_model.specs.Exclusive.{Exclusive};
 ghost use Rattle.silo_model.specs.Opening.{start_of};
@@ -31,6 +31,7 @@ impl<S: GrainStorage, L: GrainLogic> Silo<S, L> {
     /// calls of the storage failed.
     pub fn run(&mut self, alloc: Global, steps: Vec<Step>) -> RunReport
         ensures stopped { IsTrue result.stopped ↔ (vec_len result.answers < vec_len steps) }
+        ensures one_each { vec_len result.answers ≤ vec_len steps }
         ensures answers { AreAnswers L.logic self.old.whole (take (vec_len result.answers) steps.items) result.answers.items }
 
         // The steps that were answered, each as it was taken, are done one after another.

@@ -8,8 +8,8 @@
 ghost use Rattle.std.specs.Prelude.{◌≡◌, Ok, IfOk, IfErr, OnErr};
 ghost use Rattle.std.specs.FinMap as map;
 ghost use Rattle.silo_event.specs.declared.step.Step.TheVariants as step;
-ghost use Rattle.silo_body.specs.Entries.{opened_turn};
-ghost use Rattle.silo_body.specs.Moves.{done_if};
+ghost use Rattle.silo_state.specs.Entries.{opened_turn};
+ghost use Rattle.silo_state.specs.Moves.{done_if};
 ghost use Rattle.silo_core.specs.History.{Answered, StepAnswersInParts};
 ghost use Rattle.silo_core.specs.Turns.{AnsweredTurn};
 
@@ -128,7 +128,7 @@ impl<S: GrainStorage, L: GrainLogic> Silo<S, L> {
         ensures parts { IfOk result (λ turn. StepAnswersInParts L.logic self.old.whole (step.Begin grain) (Ok (done_if turn)) self.new.whole) }
     {
         self.journal.reserve(1)?;
-        let Some(turn) = self.body.begin(&grain)? else {
+        let Some(turn) = self.state.begin(&grain)? else {
             return Ok(None);
         };
         self.journal.push_reserved(Step::Begin { grain });
@@ -153,7 +153,7 @@ impl<S: GrainStorage, L: GrainLogic> Silo<S, L> {
         self.journal.reserve(1)?;
         let grain = finished.grain().clone()?;
         let turn = finished.number();
-        let answer = self.body.store(alloc, &grain, turn, finished, failed)?;
+        let answer = self.state.store(alloc, &grain, turn, finished, failed)?;
         note(
             &mut self.journal,
             answer,
@@ -178,7 +178,7 @@ impl<S: GrainStorage, L: GrainLogic> Silo<S, L> {
         self.journal.reserve(1)?;
         let grain = finished.grain().clone()?;
         let turn = finished.number();
-        let answer = self.body.end(alloc, &grain, turn, finished)?;
+        let answer = self.state.end(alloc, &grain, turn, finished)?;
         note(&mut self.journal, answer, Step::End { grain, turn });
         Ok(answer)
     }
@@ -228,7 +228,7 @@ impl<S: GrainStorage, L: GrainLogic> Silo<S, L> {
                 return Err(StepFault::Memory);
             }
         }
-        match self.body.step(alloc, &step) {
+        match self.state.step(alloc, &step) {
             Ok(answer) => {
                 note(&mut self.journal, answer, step);
                 Ok(answer)

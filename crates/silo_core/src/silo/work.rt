@@ -5,34 +5,34 @@ ghost use Rattle.std.specs.Prelude.{◌≡◌, option_map};
 ghost use Rattle.std.specs.FinMap as map;
 ghost use Rattle.std.specs.Option.{option_copied};
 ghost use Rattle.silo_model.specs.Sends.{first_target};
-ghost use Rattle.silo_lanes.specs.Todo.{work_on};
-ghost use Rattle.silo_body.specs.Work.{step_at, is_settled};
+ghost use Rattle.silo_model.specs.Todo.{work_on};
+ghost use Rattle.silo_state.specs.Work.{step_at, is_settled};
 
 use crate::silo::Silo;
 use grain_id::GrainId;
 use grain_kinds::GrainLogic;
 use grain_storage::GrainStorage;
-use silo_body::Work;
+use silo_state::PossibleStep;
 
 impl<S: GrainStorage, L: GrainLogic> Silo<S, L> {
     /// What is to do with the grain's activation, if anything is.
-    pub fn work_on(&self, grain: &GrainId) -> Option<Work>
+    pub fn work_on(&self, grain: &GrainId) -> Option<PossibleStep>
         ensures { option_map (step_at grain.now) result ≡ work_on L.logic grain.now (map.get self.now.whole.entries grain.now) }
     {
-        self.body.work_on(grain)
+        self.state.work_on(grain)
     }
 
     /// The target of the first call that the grain sent, and that is not yet delivered.
     pub fn first_target(&self, grain: &GrainId) -> Option<&GrainId>
         ensures { option_copied result ≡ first_target (map.get self.now.whole.accounts grain.now.tenant) grain.now }
     {
-        self.body.first_target(grain)
+        self.state.first_target(grain)
     }
 
     /// Whether no request waits at the grain, and no turn of it is open.
     pub fn is_settled(&self, grain: &GrainId) -> bool
         ensures { result ≡ is_settled (map.get self.now.whole.entries grain.now) }
     {
-        self.body.is_settled(grain)
+        self.state.is_settled(grain)
     }
 }

@@ -6,7 +6,7 @@ use Rattle.silo_model.specs.Opening.{Setup, opening}
 use Rattle.silo_model.specs.Whole.{Whole, shown_to}
 use Rattle.silo_model.proofs.Journals.{journals_begin}
 use Rattle.silo_model.proofs.Opening.{opening_shown}
-use Rattle.silo_body.specs.Held.{Held}
+use Rattle.silo_state.specs.Held.{Held}
 use Rattle.silo_core.specs.Shown.{rows_in, setup_of}
 use Rattle.silo_core.proofs.Opened.{listed, are_listed}
 use Rattle.silo_core.proofs.silo.Silo.new.Given as given
@@ -22,16 +22,16 @@ module _ (g : given.Over) (c : goal.After-new-2 g) where
   abbrev opened : Setup
   opened = setup_of c.args.setup.tenants c.args.setup.age c.in_ok-opening.opening.items
 
-  opens : c.in_ok-body.body.whole ≡ opening opened
+  opens : c.in_ok-state.state.whole ≡ opening opened
   opens =
-      ap (λ (h : Held). h.whole) c.in_ok-body.ensures
-      ∙ (λ i. opening (record { tenants = c.args.setup.tenants; age = c.millis.ensures.value i; rows = sym same_rows i }))
+      ap (λ (h : Held). h.whole) c.in_ok-state.ensures
+      ∙ (λ i. opening (record { tenants = c.list-2.ensures.list i; age = c.millis.ensures.value i; rows = sym same_rows i }))
 
 pub invariant_of-result : goal.invariant_of-result
 invariant_of-result g c =
     let logic = g.L.GrainLogic.logic in
     let setup = opened g c in (
-      subst (λ (journal : List Step). LeadsTo logic setup journal c.in_ok-body.body.whole) (sym c.new-2.ensures.items)
+      subst (λ (journal : List Step). LeadsTo logic setup journal c.in_ok-state.state.whole) (sym c.new-2.ensures.items)
           (subst (λ (w : Whole). LeadsTo logic setup [] w) (sym (opens g c)) (journals_begin logic setup)),
       are_listed (rows g c) c.in_ok-opening.opening.items c.in_ok-opening.ensures,
     )

@@ -1,4 +1,5 @@
-use Rattle.std.proofs.Common.{◌≡◌, ℕ, List, [], vec_len, take, ap, sym, subst, ◌∙◌}
+use Rattle.std.proofs.Common.{◌≡◌, ℕ, List, [], vec_len, take, ap, sym, subst, ◌∙◌, arith}
+use Rattle.std.proofs.lemmas.List.{length-take}
 use Rattle.std.proofs.lemmas.Option.{same_Some}
 use Rattle.silo_event.specs.declared.step.Step.{Step}
 use Rattle.silo_model.specs.Answers.{AreAnswers}
@@ -73,3 +74,6 @@ returns-clause-settled g c = λ new tenant.
     let logic = g.L.GrainLogic.logic in
     subst (λ (w : Whole). Settled (restricted_to tenant (taken g c)) (shown_to tenant w)) (sym (runs g c new))
     (runs_settle logic (lawful_readers logic g.met.L.GrainLogic.lawful) c.args.self.now.setup tenant (taken g c))
+
+pub returns-clause-one_each : goal.returns-clause-one_each
+returns-clause-one_each g c = omega (arith, c.take_each.ensures.taken.each_answered, length-take (vec_len c.take_each.result.answers) c.args.steps.items)

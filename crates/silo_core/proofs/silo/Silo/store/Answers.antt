@@ -16,7 +16,7 @@ invariant_of-self-2 g c =
     let s = step.Store c.in_ok-grain.grain c.number-turn.result c.args.failed in
     let answer = c.in_ok-answer.answer in
     let grown : c.note.new.journal.items ≡ a.journal.items ++ noted s answer = c.note.ensures ∙ ap (λ (j : List Step). j ++ noted s answer) c.in_ok-reserve.ensures.items in
-    (moves_lead logic setup a.journal.items c.note.new.journal.items a.body c.store.new.self s answer c.self.invariant.0 c.in_ok-answer.ensures.moves grown, c.self.invariant.1)
+    (moves_lead logic setup a.journal.items c.note.new.journal.items a.state c.store.new.self s answer c.self.invariant.0 c.in_ok-answer.ensures.moves grown, c.self.invariant.1)
 
 pub returns-clause-parts : goal.returns-clause-parts
 returns-clause-parts g c =
@@ -28,4 +28,4 @@ returns-clause-parts g c =
     let answer = c.in_ok-answer.answer in
     let same : s ≡ named = λ i. step.Store ((c.in_ok-grain.ensures.cases ∙ c.grain.ensures) i) (c.number-turn.ensures i) c.args.failed in
     subst (λ (h : History). StepAnswersInParts logic h.whole named (Ok answer) c.store.new.self.whole) c.self.view_is
-    (subst (λ (r : Step). StepAnswersInParts logic a.body.whole r (Ok answer) c.store.new.self.whole) same (moved_parts logic setup a.journal.items a.body c.store.new.self s answer c.self.invariant.0 c.in_ok-answer.ensures.moves))
+    (subst (λ (r : Step). StepAnswersInParts logic a.state.whole r (Ok answer) c.store.new.self.whole) same (moved_parts logic setup a.journal.items a.state c.store.new.self s answer c.self.invariant.0 c.in_ok-answer.ensures.moves))

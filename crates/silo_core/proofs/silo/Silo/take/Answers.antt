@@ -12,4 +12,4 @@ invariant_of-self-in-Ok-step g c =
     let setup = setup_of a.tenants a.age a.opening.items in
     let answer = c.in-Ok-step.answer in
     let grown : c.note.new.journal.items ≡ a.journal.items ++ noted c.args.step answer = c.note.ensures ∙ ap (λ (j : List Step). j ++ noted c.args.step answer) c.in-Ok.ensures.items in
-    (moves_lead logic setup a.journal.items c.note.new.journal.items a.body c.step.new.self c.args.step answer c.self.invariant.0 c.in-Ok-step.ensures grown, c.self.invariant.1)
+    (moves_lead logic setup a.journal.items c.note.new.journal.items a.state c.step.new.self c.args.step answer c.self.invariant.0 c.in-Ok-step.ensures grown, c.self.invariant.1)
