@@ -11,17 +11,17 @@ use Rattle.silo_event.specs.declared.step.Step.{Step}
 use Rattle.silo_model.specs.Opening.{Setup, start_of}
 use Rattle.silo_model.specs.Run.{machine_run, restricted_to}
 use Rattle.silo_model.specs.Whole.{Whole, shown_to}
-use Rattle.silo_lanes.specs.Lanes.{Lane, LaneStands}
-use Rattle.silo_lanes.specs.Serving.{AreServed, IsAnswered}
-use Rattle.silo_lanes.proofs.LaneAnswers.{lanes_answered}
-use Rattle.silo_lanes.proofs.PacedGrowth.{part_is_run}
+use Rattle.lane_model.specs.Lanes.{Lane, LaneStands}
+use Rattle.lane_model.specs.Serving.{AreServed, IsAnswered}
+use Rattle.lane_model.proofs.LaneAnswers.{lanes_answered}
+use Rattle.lane_model.proofs.PacedGrowth.{part_is_run}
 use Rattle.silo_core.specs.History.{History}
 use Rattle.tenant_gate.specs.Table.{Table}
-use Rattle.worker_host.specs.Opened.{AreAnswered, AreCopies, IsOpenedSo}
-use Rattle.worker_host.specs.declared.report.Opened.{Opened}
+use Rattle.worker_host.specs.SetupCopy.{AreAnswered, AreCopies, IsOpenedSo}
+use Rattle.worker_host.specs.declared.report.SetupCopy.{SetupCopy}
 
 -- copies of what a silo was opened with, and of the setup: so the silo was opened with the setup
-module _ (opened : Opened) (h : History) (tenants : Table) (age : ℕ) (rows : Rows) (failures : ℕ) (so : IsOpenedSo opened h) (copies : AreCopies opened tenants age rows failures) where
+module _ (opened : SetupCopy) (h : History) (tenants : Table) (age : ℕ) (rows : Rows) (failures : ℕ) (so : IsOpenedSo opened h) (copies : AreCopies opened tenants age rows failures) where
   pub setup_is : h.setup ≡ record { tenants = tenants; age = age; rows = rows }
   setup_is =
       let same_tenants = sym so.tenants_are ∙ copies.tenants_are in
@@ -32,11 +32,11 @@ module _ (opened : Opened) (h : History) (tenants : Table) (age : ℕ) (rows : R
   pub failures_were : h.failures.at_opening ≡ failures
   failures_were = sym so.failures_are ∙ copies.failures_are
 
-module _ (logic : Logic) (setup : Setup) (lanes : List Lane) (journal : List Step) (w : Whole) (failures : ℕ) (answers : List (List Reply)) (served : AreServed logic setup lanes journal w failures answers) where
+module _ (logic : Logic) (setup : Setup) (lanes : List Lane) (journal : List Step) (w : Whole) (at_opening now : ℕ) (answers : List (List Reply)) (served : AreServed logic setup lanes journal w at_opening now answers) where
   pub all_answered : ReadersAskNothing logic → AreAnswered lanes w.replies
   all_answered law =
       All-weaker (λ (lane : Lane). LaneStands lane journal) (λ (lane : Lane). (client : Client) → lane.from ≡ Some client → IsAnswered lane client w.replies)
-      (λ lane stands client from. lanes_answered logic law setup lanes journal w failures answers served lane client stands from) lanes served.stand.each
+      (λ lane stands client from. lanes_answered logic law setup lanes journal w at_opening now answers served lane client stands from) lanes served.stand.each
 
   pub parts_are_runs : (tenant : List ℕ) → shown_to tenant w ≡ machine_run logic (start_of setup tenant) (restricted_to tenant journal)
   parts_are_runs tenant = sym (part_is_run logic setup journal w tenant served.leads)

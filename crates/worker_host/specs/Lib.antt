@@ -1,1 +1,3 @@
-pub mod Opened
+pub mod SetupCopy
+pub mod Working
+pub mod Looking

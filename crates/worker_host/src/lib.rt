@@ -6,11 +6,13 @@
 //! their clients' pace, nothing is left to do, and each lane has its answers.
 #![tactic(auto)]
 
-mod board;
+mod candidates;
 mod gate;
-mod paced;
+mod owed;
 mod report;
+mod schedule;
 mod work;
+mod working;
 
 pub use client_lanes::{Lane, LaneFault, distinct};
 pub use gate::{FreeGate, TurnGate};

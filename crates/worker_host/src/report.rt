@@ -1,13 +1,13 @@
 //! What serving answers, and what is looked at once the workers have ended.
 
-ghost use Rattle.std.specs.Prelude.{◌≡◌, ◌-◌, IfOk, IsTrue, OnOk, map as map_list, true};
-ghost use Rattle.silo_lanes.specs.Asking.{AllQuiet};
-ghost use Rattle.silo_lanes.specs.Lanes.{AreDistinct};
-ghost use Rattle.silo_lanes.specs.Pacing.{is_paced};
-ghost use Rattle.silo_lanes.specs.Serving.{AreServed};
-ghost use Rattle.worker_host.specs.Opened.{AreAnswered, AreCopies, HasFailed, IsOpenedSo};
+ghost use Rattle.std.specs.Prelude.{◌≡◌, IfOk, IsTrue, OnOk, map as map_list, true};
+ghost use Rattle.silo_model.specs.Pending.{AllQuiet};
+ghost use Rattle.lane_model.specs.Lanes.{AreDistinct};
+ghost use Rattle.lane_model.specs.Pacing.{is_paced};
+ghost use Rattle.lane_model.specs.Serving.{AreServed};
+ghost use Rattle.worker_host.specs.SetupCopy.{AreAnswered, AreCopies, HasFailed, IsOpenedSo};
 
-use crate::board::Board;
+use crate::schedule::Schedule;
 use client_lanes::{Lane, answers, failed_in, lanes_stand};
 use grain_id::{GrainId, Tenant};
 use grain_kinds::GrainLogic;
@@ -16,15 +16,19 @@ use silo_core::{Setup, Silo};
 use silo_event::Reply;
 use std::alloc::{AllocError, Global};
 use tenant_gate::{Age, Limits};
+use thiserror::Error;
 
 /// Why lanes weren't served.
-#[derive(Clone, Copy, Debug, PartialEq, Eq)]
+#[derive(Clone, Copy, Debug, PartialEq, Eq, Error)]
 pub enum ServeFault {
     /// Memory was refused.
+    #[error("out of memory")]
     Memory,
     /// No thread could be started.
+    #[error("no thread could be started")]
     NoWorker,
     /// What the workers left isn't what serving the lanes leaves.
+    #[error("what the workers left isn't what serving the lanes leaves")]
     Strayed,
 }
 
@@ -47,14 +51,14 @@ pub struct ServeReport<S: GrainStorage, L: GrainLogic> {
 
 /// What a silo was opened with: copies that were made before the workers began.
 #[derive(Drop)]
-pub struct Opened {
+pub struct SetupCopy {
     pub tenants: Vec<(Tenant, Limits)>,
     pub age: u64,
     pub rows: Vec<(GrainId, Row)>,
     pub failures: u64,
 }
 
-impl Opened {
+impl SetupCopy {
     /// What a silo is opened with, of this setup.
     ///
     /// # Errors
@@ -63,7 +67,7 @@ impl Opened {
     pub fn copied<S: GrainStorage, L: GrainLogic>(
         alloc: Global,
         setup: &Setup<S, L>,
-    ) -> Result<Opened, AllocError>
+    ) -> Result<SetupCopy, AllocError>
         ensures { IfOk result (λ opened. AreCopies opened setup.now.tenants setup.now.age (S.rows setup.now.storage) (S.failed setup.now.storage)) }
     {
         let mut tenants = Vec::new(alloc);
@@ -71,7 +75,7 @@ impl Opened {
         for (tenant, limits) in list {
             tenants.push((tenant.clone()?, *limits))?;
         }
-        Ok(Opened {
+        Ok(SetupCopy {
             tenants,
             age: setup.age.millis(),
             rows: setup.storage.list(alloc)?,
@@ -133,7 +137,7 @@ fn same_rows(rows: &[(GrainId, Row)], others: &[(GrainId, Row)]) -> bool
 }
 
 /// Whether the silo was opened so.
-fn is_opened_so<S: GrainStorage, L: GrainLogic>(silo: &Silo<S, L>, opened: &Opened) -> bool
+fn is_opened_so<S: GrainStorage, L: GrainLogic>(silo: &Silo<S, L>, opened: &SetupCopy) -> bool
     ensures { IsTrue result → IsOpenedSo opened.now silo.now }
 {
     if silo.age() != opened.age {
@@ -174,14 +178,14 @@ fn must_hold(holds: bool) -> Result<(), ServeFault>
 fn served_answers<S: GrainStorage, L: GrainLogic>(
     alloc: Global,
     silo: &Silo<S, L>,
-    opened: &Opened,
+    opened: &SetupCopy,
     lanes: &[Lane],
 ) -> Result<Vec<Vec<Reply>>, ServeFault>
     requires distinct { AreDistinct lanes.now }
     requires paced { is_paced L.logic silo.now.setup silo.now.journal ≡ true }
     requires quiet { AllQuiet silo.now.whole }
     ensures opened { OnOk result (IsOpenedSo opened.now silo.now) }
-    ensures served { IfOk result (λ answers. AreServed L.logic silo.now.setup lanes.now silo.now.journal silo.now.whole (silo.now.failures.now - silo.now.failures.at_opening) (map_list (λ v. v.items) answers.items)) }
+    ensures served { IfOk result (λ answers. AreServed L.logic silo.now.setup lanes.now silo.now.journal silo.now.whole silo.now.failures.at_opening silo.now.failures.now (map_list (λ v. v.items) answers.items)) }
 {
     must_hold(lanes_stand(alloc, lanes, silo.journal())?)?;
     must_hold(is_opened_so(silo, opened))?;
@@ -192,20 +196,20 @@ fn served_answers<S: GrainStorage, L: GrainLogic>(
 /// Looks once at what the workers left.
 pub fn settle<S: GrainStorage + Drop, L: GrainLogic + Drop>(
     alloc: Global,
-    board: Board<S, L>,
-    opened: &Opened,
+    schedule: Schedule<S, L>,
+    opened: &SetupCopy,
     lanes: &[Lane],
 ) -> Result<ServeReport<S, L>, ServeFault>
     requires { AreDistinct lanes.now }
     ensures opened { IfOk result (λ report. IsOpenedSo opened.now report.silo) }
-    ensures served { IfOk result (λ report. AreServed L.logic report.silo.setup lanes.now report.silo.journal report.silo.whole (report.silo.failures.now - report.silo.failures.at_opening) (map_list (λ v. v.items) report.answers.items)) }
+    ensures served { IfOk result (λ report. AreServed L.logic report.silo.setup lanes.now report.silo.journal report.silo.whole report.silo.failures.at_opening report.silo.failures.now (map_list (λ v. v.items) report.answers.items)) }
     ensures answered { IfOk result (λ report. AreAnswered lanes.now report.silo.whole.replies) }
 {
-    let Some(mut paced) = board.into_silo() else {
+    let Some(mut working) = schedule.into_silo() else {
         return Err(ServeFault::Memory);
     };
-    must_hold(paced.is_quiet())?;
-    let silo = paced.into_silo();
+    must_hold(working.is_quiet())?;
+    let silo = working.into_silo();
     let answers = served_answers(alloc, &silo, opened, lanes)?;
     Ok(ServeReport { silo, answers })
 }

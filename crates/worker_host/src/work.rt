@@ -1,23 +1,22 @@
 //! Serving lanes by threads.
 
-ghost use Rattle.std.specs.Prelude.{◌≡◌, ◌≤◌, ◌-◌, ℕ, List, IfOk, map as map_list};
+ghost use Rattle.std.specs.Prelude.{◌≡◌, ◌≤◌, ℕ, List, IfOk, map as map_list};
 ghost use Rattle.silo_model.specs.Opening.{start_of};
 ghost use Rattle.silo_model.specs.Run.{machine_run, restricted_to};
 ghost use Rattle.silo_model.specs.Whole.{shown_to};
-ghost use Rattle.silo_lanes.specs.Lanes.{AreDistinct};
-ghost use Rattle.silo_lanes.specs.Serving.{AreServed};
-ghost use Rattle.worker_host.specs.Opened.{AreAnswered};
+ghost use Rattle.lane_model.specs.Lanes.{AreDistinct};
+ghost use Rattle.lane_model.specs.Serving.{AreServed};
+ghost use Rattle.worker_host.specs.SetupCopy.{AreAnswered};
 
-use crate::board::{Board, Seats, Task};
 use crate::gate::TurnGate;
-use crate::paced::PacedSilo;
-use crate::report::{Opened, ServeFault, ServeReport, settle};
+use crate::report::{ServeFault, ServeReport, SetupCopy, settle};
+use crate::schedule::{LanePlaces, Schedule, Task};
+use crate::working::WorkingSilo;
 use bumpalo::Bump;
 use client_lanes::Lane;
 use grain_kinds::{FinishedTurn, GrainLogic, OpenedTurn, run_turn};
 use grain_storage::GrainStorage;
 use silo_core::Setup;
-use silo_work::WatchedSilo;
 use std::alloc::Global;
 use std::sync::{Condvar, Mutex, Wait};
 use std::thread;
@@ -28,12 +27,12 @@ use std::thread::Threads;
 fn next_turn<'b, S: GrainStorage, L: GrainLogic, R: Wait>(
     rt: &R,
     alloc: Global,
-    board: &'b Mutex<Board<S, L>>,
+    schedule: &'b Mutex<Schedule<S, L>>,
     changed: &Condvar,
     lanes: &[Lane],
     finished: &Option<Result<FinishedTurn<L>, OpenedTurn>>,
 ) -> Option<OpenedTurn> {
-    let mut held = board.lock(rt);
+    let mut held = schedule.lock(rt);
     if let Some(finished) = finished {
         held.close(alloc, finished);
     }
@@ -63,7 +62,7 @@ fn next_turn<'b, S: GrainStorage, L: GrainLogic, R: Wait>(
 fn work<S: GrainStorage, L: GrainLogic + Drop, G: TurnGate, R: Wait>(
     rt: &R,
     alloc: Global,
-    board: &Mutex<Board<S, L>>,
+    schedule: &Mutex<Schedule<S, L>>,
     changed: &Condvar,
     lanes: &[Lane],
     gate: &G,
@@ -72,7 +71,7 @@ fn work<S: GrainStorage, L: GrainLogic + Drop, G: TurnGate, R: Wait>(
     let mut arena = Bump::new(alloc);
     let mut finished = None;
     for _ in rt.forever() {
-        let Some(turn) = next_turn(rt, alloc, board, changed, lanes, &finished) else {
+        let Some(turn) = next_turn(rt, alloc, schedule, changed, lanes, &finished) else {
             break;
         };
         gate.entered(&turn.grain, turn.number);
@@ -93,7 +92,7 @@ fn run_workers<
 >(
     rt: &'x R,
     alloc: Global,
-    board: &'x Mutex<Board<S, L>>,
+    schedule: &'x Mutex<Schedule<S, L>>,
     changed: &'x Condvar,
     lanes: &'x [Lane],
     workers: usize,
@@ -104,7 +103,7 @@ fn run_workers<
         let mut started = false;
         for _ in 0..workers {
             if scope
-                .spawn(move || work(rt, alloc, board, changed, lanes, gate, logic))
+                .spawn(move || work(rt, alloc, schedule, changed, lanes, gate, logic))
                 .is_ok()
             {
                 started = true;
@@ -116,6 +115,9 @@ fn run_workers<
 
 /// Serves the lanes by so many threads, 1 to 64, over one silo of the setup. A lane gives its next step
 /// when its last has its reply; a tick or a sweep, when it was applied.
+///
+/// What isn't promised: that a turn isn't abandoned without need, that two threads run, or that it
+/// returns.
 ///
 /// # Errors
 ///
@@ -142,7 +144,7 @@ pub fn serve<
     ensures failures { IfOk result (λ report. report.silo.failures.at_opening ≡ S.failed setup.storage) }
 
     // The lanes were served.
-    ensures served { IfOk result (λ report. AreServed L.logic report.silo.setup lanes.now report.silo.journal report.silo.whole (report.silo.failures.now - report.silo.failures.at_opening) (map_list (λ v. v.items) report.answers.items)) }
+    ensures served { IfOk result (λ report. AreServed L.logic report.silo.setup lanes.now report.silo.journal report.silo.whole report.silo.failures.at_opening report.silo.failures.now (map_list (λ v. v.items) report.answers.items)) }
 
     // Each client was told as often as its lane asks, in the lane's order.
     ensures answered { IfOk result (λ report. AreAnswered lanes.now report.silo.whole.replies) }
@@ -150,14 +152,14 @@ pub fn serve<
     // Each tenant's part is the run of its own machine over the journal.
     ensures parts { IfOk result (λ report. (tenant : List ℕ) → shown_to tenant report.silo.whole ≡ machine_run L.logic (start_of report.silo.setup tenant) (restricted_to tenant report.silo.journal)) }
 {
-    let opened = Opened::copied(alloc, &setup)?;
-    let seats = Seats::new(alloc, lanes)?;
+    let opened = SetupCopy::copied(alloc, &setup)?;
+    let places = LanePlaces::new(alloc, lanes)?;
     let logic = setup.logic;
-    let silo = PacedSilo::new(WatchedSilo::new(alloc, setup)?);
-    let board = Mutex::new(Board::new(silo, seats));
+    let silo = WorkingSilo::new(alloc, setup)?;
+    let schedule = Mutex::new(Schedule::new(silo, places));
     let changed = Condvar::new();
-    if !run_workers(rt, alloc, &board, &changed, lanes, workers, gate, logic) {
+    if !run_workers(rt, alloc, &schedule, &changed, lanes, workers, gate, logic) {
         return Err(ServeFault::NoWorker);
     }
-    settle(alloc, board.into_inner(), &opened, lanes)
+    settle(alloc, schedule.into_inner(), &opened, lanes)
 }

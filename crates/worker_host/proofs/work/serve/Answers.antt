@@ -1,4 +1,4 @@
-use Rattle.std.specs.Prelude.{map as map_list, ◌-◌}
+use Rattle.std.specs.Prelude.{map as map_list}
 use Rattle.std.proofs.lemmas.Result.{IfOk-weaker}
 use Rattle.worker_host.proofs.Served.{setup_is, failures_were, parts_are_runs}
 use Rattle.worker_host.proofs.work.serve.Goals as goal
@@ -17,5 +17,5 @@ pub returns-clause-parts : goal.returns-clause-parts
 returns-clause-parts g c =
     let logic = g.L.GrainLogic.logic in
     IfOk-weaker c.settle.result _ _
-    (λ report served. parts_are_runs logic report.silo.setup c.args.lanes.now report.silo.journal report.silo.whole (report.silo.failures.now - report.silo.failures.at_opening) (map_list (λ v. v.items) report.answers.items) served)
+    (λ report served. parts_are_runs logic report.silo.setup c.args.lanes.now report.silo.journal report.silo.whole report.silo.failures.at_opening report.silo.failures.now (map_list (λ v. v.items) report.answers.items) served)
     c.settle.ensures.served

@@ -1,0 +1,300 @@
+//! A silo at work: with the grains at which something may be to do, and a journal that is paced.
+
+ghost use Rattle.std.specs.Prelude.{◌≡◌, ◌↔◌, [], true, false, IfOk, IfErr, IsTrue, OnErr, Ok, None};
+ghost use Rattle.std.specs.FinMap as map;
+ghost use Rattle.std.specs.Option.{option_copied, option_to_list};
+ghost use Rattle.silo_event.specs.declared.step.Answer.TheVariants as answer;
+ghost use Rattle.silo_event.specs.declared.step.Step.TheVariants as step;
+ghost use Rattle.silo_model.specs.Journal.{LeadsTo};
+ghost use Rattle.silo_model.specs.Opening.{opening};
+ghost use Rattle.silo_model.specs.Pending.{AllQuiet, has_pending};
+ghost use Rattle.silo_model.specs.Todo.{IsTodo, sender_by};
+ghost use Rattle.silo_model.specs.Whole.{shown_to};
+ghost use Rattle.lane_model.specs.Asking.{asker_of};
+ghost use Rattle.lane_model.specs.Pacing.{is_paced};
+ghost use Rattle.silo_state.specs.Entries.{opened_turn};
+ghost use Rattle.silo_state.specs.Moves.{done_if};
+ghost use Rattle.silo_core.specs.History.{Answered};
+ghost use Rattle.silo_core.specs.Turns.{AnsweredTurn};
+ghost use Rattle.worker_host.specs.Working.{closing_step, may_ask_in, was_done};
+
+use crate::owed::Owing;
+use crate::{candidates, owed};
+use grain_id::{Caller, GrainId};
+use grain_kinds::{FinishedTurn, GrainLogic, OpenedTurn};
+use grain_storage::GrainStorage;
+use silo_core::{Setup, Silo};
+use silo_event::{Answer, Reply, Step, StepFault};
+use std::alloc::{AllocError, Global};
+use std::collections::{BTreeMap, VecDeque};
+use std::marker::Model;
+
+/// A silo with the grains at which something may be to do, those that may have sent something, those
+/// at which something may wait or be open, and how many answers each client is owed. Just before each
+/// step of its journal by which a client asks, no request of the client waits or is open.
+#[derive(Drop)]
+pub struct WorkingSilo<S: GrainStorage, L: GrainLogic> {
+    silo: Silo<S, L>,
+    entries: VecDeque<GrainId>,
+    senders: VecDeque<GrainId>,
+    busy: VecDeque<GrainId>,
+    owing: Owing,
+}
+
+impl<S: GrainStorage, L: GrainLogic> Model for WorkingSilo<S, L> {
+    ghost use Rattle.std.specs.Coded.{codes};
+    ghost use Rattle.request_codec.specs.Code.{coded_tree};
+    ghost use Rattle.request_codec.specs.contracts.state.StateBytes as state;
+    ghost use Rattle.silo_model.specs.Codes.{by_grain_code, by_text_code, by_number_code};
+    ghost use Rattle.silo_core.specs.History.{History};
+    ghost use Rattle.worker_host.specs.Working.{IsWorking};
+
+    ghost Value = { History };
+
+    ghost coded = { Prim.hlevel (codes, by_grain_code, by_text_code, by_number_code, coded_tree, state.the_row.coded) };
+
+    ghost view = { λ w. w.silo };
+
+    ghost invariant = { λ w. IsWorking L.logic w.silo w.entries.items w.senders.items w.busy.items w.owing };
+}
+
+/// Whether a step with this answer was done.
+fn was_done(answer: &Result<Answer, StepFault>) -> bool
+    ensures { result ≡ was_done answer.now }
+{
+    matches!(answer, Ok(Answer::Done | Answer::Failed))
+}
+
+/// The grain that may send something by the turn's closing, if it isn't the storage that closes it.
+fn sender_of<L: GrainLogic>(finished: &FinishedTurn<L>, stores: bool) -> Option<&GrainId>
+    ensures { option_to_list (option_copied result) ≡ sender_by (closing_step stores finished.now) }
+{
+    if stores {
+        return None;
+    }
+    Some(finished.grain())
+}
+
+/// Closes an open turn: by what the storage answers, or by its plan.
+fn close_turn<S: GrainStorage, L: GrainLogic>(
+    silo: &mut Silo<S, L>,
+    alloc: Global,
+    finished: &FinishedTurn<L>,
+    stores: bool,
+) -> Result<Answer, StepFault>
+    ensures { AnsweredTurn L.logic silo.old (closing_step stores finished.now) finished.now result silo.new }
+{
+    if stores {
+        return silo.store(alloc, finished, false);
+    }
+    silo.end(alloc, finished)
+}
+
+impl<S: GrainStorage + Drop, L: GrainLogic + Drop> WorkingSilo<S, L> {
+    /// A silo at its opening.
+    ///
+    /// # Errors
+    ///
+    /// Out of memory.
+    pub fn new(alloc: Global, setup: Setup<S, L>) -> Result<WorkingSilo<S, L>, AllocError>
+        ensures setup { IfOk result (λ w. w.setup ≡ record { tenants = setup.tenants; age = setup.age; rows = S.rows setup.storage }) }
+        ensures opening { IfOk result (λ w. (w.whole ≡ opening w.setup) × (w.journal ≡ [])) }
+        ensures failures { IfOk result (λ w. w.failures ≡ record { at_opening = S.failed setup.storage; now = S.failed setup.storage }) }
+    {
+        Ok(WorkingSilo {
+            silo: Silo::new(alloc, setup)?,
+            entries: VecDeque::new(alloc),
+            senders: VecDeque::new(alloc),
+            busy: VecDeque::new(alloc),
+            owing: BTreeMap::new(alloc),
+        })
+    }
+}
+
+impl<S: GrainStorage, L: GrainLogic> WorkingSilo<S, L> {
+    /// All replies.
+    pub fn replies(&self) -> &[Reply]
+        ensures { result.now ≡ self.now.whole.replies }
+    {
+        self.silo.replies()
+    }
+
+    /// The silo alone.
+    pub fn into_silo(self) -> Silo<S, L>
+        ensures same { result ≡ self }
+        ensures paced { is_paced L.logic result.setup result.journal ≡ true }
+    {
+        let WorkingSilo { silo, .. } = self;
+        silo
+    }
+
+    /// An `Activate`, `Load`, `Begin` or `Deliver` that would be done now, or none exactly if there is
+    /// none.
+    ///
+    /// # Errors
+    ///
+    /// Out of memory.
+    pub fn todo(&mut self) -> Result<Option<Step>, AllocError>
+        ensures todo { IfOk result (λ found. IsTodo L.logic self.old.whole found) }
+        ensures unchanged { self.new ≡ self.old }
+    {
+        if let Some(step) = candidates::next_work(&self.silo, &mut self.entries)? {
+            return Ok(Some(step));
+        }
+        candidates::next_delivery(&self.silo, &mut self.senders)
+    }
+
+    /// Whether something may be to do: it is looked at by `todo`. If not, nothing is.
+    pub fn may_have_todo(&self) -> bool
+        ensures { result ≡ false → IsTodo L.logic self.now.whole None }
+    {
+        !self.entries.is_empty() || !self.senders.is_empty()
+    }
+
+    /// Whether a request of the client waits or is open.
+    pub fn has_pending(&self, client: &Caller) -> bool
+        ensures pending { result ≡ has_pending client.now (shown_to client.now.tenant self.now.whole) }
+
+        // What the tenant is shown is where the journal leads.
+        ensures leads { LeadsTo L.logic self.now.setup self.now.journal self.now.whole }
+    {
+        owed::owes(&self.owing, client)
+    }
+
+    /// Whether no request waits, no turn is open, and no send is left.
+    pub fn is_quiet(&mut self) -> bool
+        ensures quiet { IsTrue result ↔ AllQuiet self.old.whole }
+        ensures unchanged { self.new ≡ self.old }
+    {
+        candidates::drop_settled(&self.silo, &mut self.busy);
+        candidates::drop_delivered(&self.silo, &mut self.senders);
+        self.busy.is_empty() && self.senders.is_empty()
+    }
+
+    /// Takes a step by which nobody asks, or a client of whom nothing waits or is open.
+    ///
+    /// # Errors
+    ///
+    /// Out of memory: nothing changed.
+    fn apply(&mut self, alloc: Global, step: Step) -> Result<Answer, StepFault>
+        requires { may_ask_in self.old.whole (asker_of step) ≡ true }
+        ensures { Answered L.logic self.old step result self.new }
+    {
+        let Ok(()) = candidates::note(
+            &mut self.entries,
+            &mut self.senders,
+            &mut self.busy,
+            candidates::changed_by(&self.silo, &step),
+            candidates::sender_by(&step),
+        ) else {
+            drop(step);
+            return Err(StepFault::Memory);
+        };
+        let Ok(asker) = owed::ask(&mut self.owing, &step) else {
+            drop(step);
+            return Err(StepFault::Memory);
+        };
+        let seen = self.silo.replies().len();
+        let answer = self.silo.apply(alloc, step);
+        let done = was_done(&answer);
+        owed::settle(&mut self.owing, &asker, done, self.silo.replies(), seen);
+        answer
+    }
+
+    /// Whether nobody asks by the step, or nothing waits or is open of the client who does.
+    fn may_take(&self, step: &Step) -> bool
+        ensures { result ≡ may_ask_in self.now.whole (asker_of step.now) }
+    {
+        match step.asker() {
+            Some(caller) => !self.has_pending(caller),
+            None => true,
+        }
+    }
+
+    /// Takes a step of any kind, unless a client asks by it of whom something waits or is open: then it
+    /// isn't taken now.
+    ///
+    /// # Errors
+    ///
+    /// Out of memory: nothing changed.
+    pub fn take(&mut self, alloc: Global, step: Step) -> Result<Answer, StepFault>
+        ensures taken { may_ask_in self.old.whole (asker_of step) ≡ true → Answered L.logic self.old step result self.new }
+        ensures refused { may_ask_in self.old.whole (asker_of step) ≡ false → result ≡ Ok answer.NotNow }
+        ensures unchanged { may_ask_in self.old.whole (asker_of step) ≡ false → self.new ≡ self.old }
+    {
+        if !self.may_take(&step) {
+            drop(step);
+            return Ok(Answer::NotNow);
+        }
+        self.apply(alloc, step)
+    }
+
+    /// The first waiting request of a ready grain becomes an open turn, if the turn rule allows it.
+    ///
+    /// # Errors
+    ///
+    /// Out of memory: nothing changed.
+    pub fn begin(&mut self, alloc: Global, grain: GrainId) -> Result<Option<OpenedTurn>, StepFault>
+        ensures answered { IfOk result (λ turn. Answered L.logic self.old (step.Begin grain) (Ok (done_if turn)) self.new) }
+        ensures turn { IfOk result (λ turn. turn ≡ opened_turn L.logic grain (map.get self.old.whole.entries grain)) }
+        ensures unchanged { OnErr result (self.new ≡ self.old) }
+        ensures fault { IfErr result (λ fault. fault ≡ StepFault.Memory) }
+    {
+        candidates::note(
+            &mut self.entries,
+            &mut self.senders,
+            &mut self.busy,
+            Some(&grain),
+            None,
+        )?;
+        let seen = self.silo.replies().len();
+        let turn = self.silo.begin(alloc, grain)?;
+        owed::tell_new(&mut self.owing, self.silo.replies(), seen);
+        Ok(turn)
+    }
+
+    /// Closes an open turn: by what the storage answers, or by its plan.
+    fn close(
+        &mut self,
+        alloc: Global,
+        finished: &FinishedTurn<L>,
+        stores: bool,
+    ) -> Result<Answer, StepFault>
+        ensures { AnsweredTurn L.logic self.old (closing_step stores finished.now) finished.now result self.new }
+    {
+        candidates::note(
+            &mut self.entries,
+            &mut self.senders,
+            &mut self.busy,
+            Some(finished.grain()),
+            sender_of(finished, stores),
+        )?;
+        let seen = self.silo.replies().len();
+        let answer = close_turn(&mut self.silo, alloc, finished, stores)?;
+        owed::tell_new(&mut self.owing, self.silo.replies(), seen);
+        Ok(answer)
+    }
+
+    /// The open turn that asks for the storage is closed.
+    ///
+    /// # Errors
+    ///
+    /// Out of memory; `Stranger`, if the turn is open and its own message or state isn't the finished
+    /// turn's. Nothing changed.
+    pub fn store(&mut self, alloc: Global, finished: &FinishedTurn<L>) -> Result<Answer, StepFault>
+        ensures { AnsweredTurn L.logic self.old (step.Store finished.now.grain finished.now.number false) finished.now result self.new }
+    {
+        self.close(alloc, finished, true)
+    }
+
+    /// The open turn that asks for nothing of the storage is closed.
+    ///
+    /// # Errors
+    ///
+    /// As of `store`.
+    pub fn end(&mut self, alloc: Global, finished: &FinishedTurn<L>) -> Result<Answer, StepFault>
+        ensures { AnsweredTurn L.logic self.old (step.End finished.now.grain finished.now.number) finished.now result self.new }
+    {
+        self.close(alloc, finished, false)
+    }
+}
