@@ -18,7 +18,7 @@ use Rattle.request_codec.specs.Formed.{FieldsFormed}
 use Rattle.line_parser.specs.Lenient.{lenient_value, lenient_fields, is_not_whole, fields_not_whole}
 use Rattle.request_codec.specs.Written.{text_spelling, spelling, fields_spelling}
 use Rattle.line_parser.specs.Argument.{too_deep, is_deep, AddsFaults, PutsValue, PutsFields}
-use Rattle.line_parser.specs.Fields.{Came, came_bytes, came_spelling, members_of, HoldsFields, AreBehind, AreSorted, field_spelling}
+use Rattle.line_parser.specs.Fields.{PlacedField, placed_bytes, placed_spelling, members_of, HoldsFields, AreBehind, AreSorted, field_spelling}
 use Rattle.line_parser.specs.declared.fields.Fields.{Fields}
 use Rattle.line_parser.specs.declared.faults.Faults.{Faults}
 use Rattle.line_parser.proofs.Noted.{or_false, or_more, adds_both, adds_as, deep_max, nothing_added}
@@ -29,18 +29,18 @@ use Rattle.line_parser.proofs.GrammarLoops.{member_read, members_over}
 
 -- ---- what is noted of fields, in any order
 
-abbrev came_deep : ℕ → Came → Bool
-came_deep depth c = is_deep depth (json_depth c.value)
+abbrev field_too_deep : ℕ → PlacedField → Bool
+field_too_deep depth c = is_deep depth (json_depth c.value)
 
-abbrev came_split : Came → Bool
-came_split c = is_not_whole c.value
+abbrev field_not_whole : PlacedField → Bool
+field_not_whole c = is_not_whole c.value
 
 -- whether one of them is too deep; the depth is that of a field
-abbrev some_deep : ℕ → List Came → Bool
-some_deep depth cs = list_any (came_deep depth) cs || is_deep depth 0
+abbrev any_too_deep : ℕ → List PlacedField → Bool
+any_too_deep depth cs = list_any (field_too_deep depth) cs || is_deep depth 0
 
-abbrev some_split : List Came → Bool
-some_split cs = list_any came_split cs
+abbrev any_not_whole : List PlacedField → Bool
+any_not_whole cs = list_any field_not_whole cs
 
 or_last : (x y a : Bool) → ((x || y) || a) ≡ ((x || (a || false)) || y)
 or_last true y a = refl
@@ -49,28 +49,28 @@ or_last false true false = refl
 or_last false false true = refl
 or_last false false false = refl
 
-deep_more : (depth : ℕ) (cs : List Came) (c : Came) → (some_deep depth cs || came_deep depth c) ≡ some_deep depth (cs ++ c ∷ [])
-deep_more depth cs c = or_last (list_any (came_deep depth) cs) (is_deep depth 0) (came_deep depth c) ∙ ap (λ b. b || is_deep depth 0) (sym (list_any-append (came_deep depth) cs (c ∷ [])))
+deep_more : (depth : ℕ) (cs : List PlacedField) (c : PlacedField) → (any_too_deep depth cs || field_too_deep depth c) ≡ any_too_deep depth (cs ++ c ∷ [])
+deep_more depth cs c = or_last (list_any (field_too_deep depth) cs) (is_deep depth 0) (field_too_deep depth c) ∙ ap (λ b. b || is_deep depth 0) (sym (list_any-append (field_too_deep depth) cs (c ∷ [])))
 
-split_more : (cs : List Came) (c : Came) → (some_split cs || came_split c) ≡ some_split (cs ++ c ∷ [])
-split_more cs c = ap (λ b. some_split cs || b) (sym (or_false (came_split c))) ∙ sym (list_any-append came_split cs (c ∷ []))
+not_whole_more : (cs : List PlacedField) (c : PlacedField) → (any_not_whole cs || field_not_whole c) ≡ any_not_whole (cs ++ c ∷ [])
+not_whole_more cs c = ap (λ b. any_not_whole cs || b) (sym (or_false (field_not_whole c))) ∙ sym (list_any-append field_not_whole cs (c ∷ []))
 
-deep_is : (depth : ℕ) (cs : List Came) → some_deep depth cs ≡ is_deep depth (json_members_depth (members_of cs))
+deep_is : (depth : ℕ) (cs : List PlacedField) → any_too_deep depth cs ≡ is_deep depth (json_members_depth (members_of cs))
 deep_is depth [] = refl
-deep_is depth (c ∷ cs) = or_more (came_deep depth c) (list_any (came_deep depth) cs) (is_deep depth 0) ∙ ap (λ b. came_deep depth c || b) (deep_is depth cs) ∙ deep_max depth (json_depth c.value) (json_members_depth (members_of cs))
+deep_is depth (c ∷ cs) = or_more (field_too_deep depth c) (list_any (field_too_deep depth) cs) (is_deep depth 0) ∙ ap (λ b. field_too_deep depth c || b) (deep_is depth cs) ∙ deep_max depth (json_depth c.value) (json_members_depth (members_of cs))
 
-split_is : (cs : List Came) → some_split cs ≡ fields_not_whole (members_of cs)
-split_is [] = refl
-split_is (c ∷ cs) = ap (λ b. came_split c || b) (split_is cs)
+not_whole_is : (cs : List PlacedField) → any_not_whole cs ≡ fields_not_whole (members_of cs)
+not_whole_is [] = refl
+not_whole_is (c ∷ cs) = ap (λ b. field_not_whole c || b) (not_whole_is cs)
 
 -- ---- how they are spelled
 
-spelled_is : (cs : List Came) → fields_spelling (lenient_fields (members_of cs)) ≡ came_spelling cs
+spelled_is : (cs : List PlacedField) → fields_spelling (lenient_fields (members_of cs)) ≡ placed_spelling cs
 unfolding spelling
 spelled_is [] = refl
-spelled_is (c ∷ cs) = sym (append_assoc (text_spelling c.name) (spelling (lenient_value c.value)) _) ∙ ap (λ l. came_bytes c ++ l) (spelled_is cs)
+spelled_is (c ∷ cs) = sym (append_assoc (text_spelling c.name) (spelling (lenient_value c.value)) _) ∙ ap (λ l. placed_bytes c ++ l) (spelled_is cs)
 
-count_is : (cs : List Came) → fields_count (lenient_fields (members_of cs)) ≡ length cs
+count_is : (cs : List PlacedField) → fields_count (lenient_fields (members_of cs)) ≡ length cs
 count_is [] = refl
 count_is (c ∷ cs) = ap suc (count_is cs)
 
@@ -84,22 +84,22 @@ pub record FieldsRead (depth : ℕ) (initial now : List Token) (before after : L
   pub turns : ℕ
   pub enough : length now ≤ turns
   pub shorter : length now ≤ length initial
-  pub came : List Came
+  pub placed : List PlacedField
   pub json : Members
   pub read : converted (λ ms. of_members ms no_members) (members (value depth) (length initial) initial) ≡ converted (λ ms. of_members ms json) (members (value depth) turns now)
   pub formed : FieldsFormed (lenient_fields json)
-  pub collects : Collects came json
-  pub noted : AddsFaults noted_before noted_after (some_deep depth came) (some_split came)
-  pub holds : HoldsFields came fields
-  pub put : AreBehind came (length before + 5) (begun before) after
-  pub some : length came ≤ length after
+  pub collects : Collects placed json
+  pub noted : AddsFaults noted_before noted_after (any_too_deep depth placed) (any_not_whole placed)
+  pub holds : HoldsFields placed fields
+  pub put : AreBehind placed (length before + 5) (begun before) after
+  pub some : length placed ≤ length after
 
 pub fields_start : (depth : ℕ) (ts : List Token) (before after : List ℕ) (fields : Fields) (f : Faults) → after ≡ begun before → HoldsFields [] fields → (depth < too_deep → f.too_deep ≡ true) → FieldsRead depth ts ts before after fields f f
 fields_start depth ts before after fields f e h deep = record {
   turns = length ts;
   enough = omega arith;
   shorter = omega arith;
-  came = [];
+  placed = [];
   json = no_members;
   read = refl;
   formed = tt;
@@ -115,8 +115,8 @@ fields_start depth ts before after fields f e h deep = record {
 }
 
 -- the field that was put last
-abbrev pub came_last : List ℕ → Data → ℕ → Came
-came_last k d from = record { name = k; value = d; start = from }
+abbrev pub last_placed : List ℕ → Data → ℕ → PlacedField
+last_placed k d from = record { name = k; value = d; start = from }
 
 pub last_bytes : (depth : ℕ) (s r : List Token) (mid named after : List ℕ) (old new : Faults) (k : List ℕ) → named ≡ mid ++ text_spelling k → (v : PutsValue depth s r named after old new) → after ≡ mid ++ field_spelling k v.json
 last_bytes depth s r mid named after old new k name v = v.bytes ∙ ap (λ l. l ++ spelling (lenient_value v.json)) name ∙ append_assoc mid (text_spelling k) (spelling (lenient_value v.json))
@@ -125,37 +125,37 @@ pub last_count : (mid after : List ℕ) (k : List ℕ) (d : Data) (from n : ℕ)
 last_count mid after k d from n all is long = omega (arith, long, is, ap length all, length-append mid (field_spelling k d))
 
 pub fields_next : (depth : ℕ) (initial ts s r : List Token) (before mid named after : List ℕ) (old fields : Fields) (first noted_old noted_new : Faults) (k : List ℕ) (from : ℕ) (f : FieldsRead depth initial ts before mid old first noted_old) → read_key ts ≡ Some (Some k, s) → IsUtf8 k → named ≡ mid ++ text_spelling k → (v : PutsValue depth s r named after noted_old noted_new)
-    → from ≡ length mid → HoldsFields (f.came ++ came_last k v.json from ∷ []) fields → FieldsRead depth initial r before after fields first noted_new
+    → from ≡ length mid → HoldsFields (f.placed ++ last_placed k v.json from ∷ []) fields → FieldsRead depth initial r before after fields first noted_new
 fields_next depth initial ts s r before mid named after old fields first noted_old noted_new k from f key valid name v is holds =
     let less = read_key-shorter ts (Some k) s key in
     let some_turn : 0 < f.turns = omega (arith, f.enough, less) in
     let longer_now = longer named after v.json v.bytes in
-    let c = came_last k v.json from in
+    let c = last_placed k v.json from in
     let all = last_bytes depth s r mid named after noted_old noted_new k name v in
     record {
       turns = f.turns - 1;
       enough = omega (arith, f.enough, less, v.shorter);
       shorter = omega (arith, f.shorter, less, v.shorter);
-      came = f.came ++ c ∷ [];
+      placed = f.placed ++ c ∷ [];
       json = put k v.json f.json;
       read = f.read ∙ member_read (value depth) f.json f.turns k ts s r v.json some_turn key v.read;
       formed = formed_put k v.json f.json valid v.formed f.formed;
-      collects = collects_more f.came f.json c f.collects;
-      noted = adds_as first noted_new _ _ _ _ (adds_both first noted_old noted_new _ _ _ _ f.noted v.noted) (deep_more depth f.came c) (split_more f.came c);
+      collects = collects_more f.placed f.json c f.collects;
+      noted = adds_as first noted_new _ _ _ _ (adds_both first noted_old noted_new _ _ _ _ f.noted v.noted) (deep_more depth f.placed c) (not_whole_more f.placed c);
       holds = holds;
-      put = one_behind f.came c (begun before) mid after (length before + 5) f.put is all;
-      some = omega (arith, f.some, length-append f.came (c ∷ []), longer_now, ap length name, length-append mid (text_spelling k));
+      put = one_behind f.placed c (begun before) mid after (length before + 5) f.put is all;
+      some = omega (arith, f.some, length-append f.placed (c ∷ []), longer_now, ap length name, length-append mid (text_spelling k));
     }
 
 pub fields_stop : (depth : ℕ) (initial ts r : List Token) (before after sorted new : List ℕ) (fields : Fields) (first noted : Faults) (at count : ℕ) → (f : FieldsRead depth initial ts before after fields first noted) → read_key ts ≡ Some (None, r)
-    → AreSorted f.came (begun before) sorted → at ≡ length before + 1 → count ≡ length f.came → SetsCount at count sorted new → PutsFields depth initial r before new first noted
+    → AreSorted f.placed (begun before) sorted → at ≡ length before + 1 → count ≡ length f.placed → SetsCount at count sorted new → PutsFields depth initial r before new first noted
 fields_stop depth initial ts r before after sorted new fields first noted at count f over s is n set =
-    let same : f.json ≡ members_of s.sorted = put_in_order f.came s.sorted f.json f.collects f.formed s.same s.ascend in
-    let spelled : came_spelling s.sorted ≡ fields_spelling (lenient_fields f.json) = sym (spelled_is s.sorted) ∙ ap (λ ms. fields_spelling (lenient_fields ms)) (sym same) in
+    let same : f.json ≡ members_of s.sorted = put_in_order f.placed s.sorted f.json f.collects f.formed s.same s.ascend in
+    let spelled : placed_spelling s.sorted ≡ fields_spelling (lenient_fields f.json) = sym (spelled_is s.sorted) ∙ ap (λ ms. fields_spelling (lenient_fields ms)) (sym same) in
     let all : sorted ≡ before ++ (6 ∷ 0 ∷ 0 ∷ 0 ∷ 0 ∷ fields_spelling (lenient_fields f.json)) = s.bytes ∙ ap (λ l. begun before ++ l) spelled ∙ append_assoc before (6 ∷ 0 ∷ 0 ∷ 0 ∷ 0 ∷ []) _ in
-    let counted : count ≡ fields_count (lenient_fields f.json) = n ∙ sym (length_permutation f.came s.sorted s.same) ∙ sym (count_is s.sorted) ∙ ap (λ ms. fields_count (lenient_fields ms)) (sym same) in
-    let deep = ap (λ b. b || is_deep depth 0) (list_any-IsPermutation (came_deep depth) f.came s.sorted s.same) ∙ deep_is depth s.sorted ∙ ap (λ ms. is_deep depth (json_members_depth ms)) (sym same) in
-    let split = list_any-IsPermutation came_split f.came s.sorted s.same ∙ split_is s.sorted ∙ ap fields_not_whole (sym same) in
+    let counted : count ≡ fields_count (lenient_fields f.json) = n ∙ sym (length_permutation f.placed s.sorted s.same) ∙ sym (count_is s.sorted) ∙ ap (λ ms. fields_count (lenient_fields ms)) (sym same) in
+    let deep = ap (λ b. b || is_deep depth 0) (list_any-IsPermutation (field_too_deep depth) f.placed s.sorted s.same) ∙ deep_is depth s.sorted ∙ ap (λ ms. is_deep depth (json_members_depth ms)) (sym same) in
+    let split = list_any-IsPermutation field_not_whole f.placed s.sorted s.same ∙ not_whole_is s.sorted ∙ ap fields_not_whole (sym same) in
     record {
       json = f.json;
       read = f.read ∙ members_over (value depth) f.json f.turns ts r f.enough over;

@@ -14,9 +14,9 @@ use Rattle.line_parser.specs.Lenient.{lenient_value, lenient_members, is_not_who
 use Rattle.request_codec.specs.Written.{spelling, members_spelling}
 use Rattle.request_codec.proofs.Spelled.{length-spelling, some_length}
 use Rattle.line_parser.specs.Argument.{too_deep, is_deep, AddsFaults, PutsValue, PutsItems}
-use Rattle.line_parser.specs.Slots.{name_text, HoldsSlots, TakesMember, HasSlots}
-use Rattle.line_parser.specs.declared.slots.Name.{Name}
-use Rattle.line_parser.specs.declared.slots.Slots.{Slots}
+use Rattle.line_parser.specs.LineMembers.{name_text, HoldsLineMembers, TakesMember, HasLineMembers}
+use Rattle.line_parser.specs.declared.line_members.Name.{Name}
+use Rattle.line_parser.specs.declared.line_members.LineMembers.{LineMembers}
 use Rattle.line_parser.specs.declared.faults.Faults.{Faults}
 use Rattle.line_parser.proofs.Noted.{or_false, or_more, adds_both, adds_as, deep_max, nothing_added}
 use Rattle.line_parser.proofs.GrammarLoops.{item_read, items_over, member_read, members_over, parse_map-twice, converted-object, whole_read}
@@ -128,15 +128,15 @@ items_stop depth initial ts r before after new at count first noted s over is se
 
 -- ---- the members of a line
 
-pub record MembersRead (initial now : List Token) (slots : Slots) (bytes : List ℕ) : Type 0 where
+pub record MembersRead (initial now : List Token) (line : LineMembers) (bytes : List ℕ) : Type 0 where
   pub found : Members
   pub turns : ℕ
   pub enough : length now ≤ turns
   pub read : converted (λ ms. of_members ms no_members) (members (value 126) (length initial) initial) ≡ converted (λ ms. of_members ms found) (members (value 126) turns now)
-  pub holds : HoldsSlots found slots bytes
+  pub holds : HoldsLineMembers found line bytes
 
-pub members_start : (ts : List Token) (slots : Slots) (bytes : List ℕ) → HoldsSlots no_members slots bytes → MembersRead ts ts slots bytes
-members_start ts slots bytes h = record {
+pub members_start : (ts : List Token) (line : LineMembers) (bytes : List ℕ) → HoldsLineMembers no_members line bytes → MembersRead ts ts line bytes
+members_start ts line bytes h = record {
   found = no_members;
   turns = length ts;
   enough = omega arith;
@@ -144,7 +144,7 @@ members_start ts slots bytes h = record {
   holds = h;
 }
 
-pub members_next : (initial ts s r : List Token) (old new : Slots) (before after : List ℕ) (name : Name) (k : List ℕ) → MembersRead initial ts old before → read_key ts ≡ Some (Some k, s) → k ≡ name_text name → TakesMember name s r old before new after
+pub members_next : (initial ts s r : List Token) (old new : LineMembers) (before after : List ℕ) (name : Name) (k : List ℕ) → MembersRead initial ts old before → read_key ts ≡ Some (Some k, s) → k ≡ name_text name → TakesMember name s r old before new after
     → MembersRead initial r new after
 members_next initial ts s r old new before after name k m key is t =
     let less = read_key-shorter ts (Some k) s key in
@@ -154,11 +154,11 @@ members_next initial ts s r old new before after name k m key is t =
       turns = m.turns - 1;
       enough = omega (arith, m.enough, less, t.shorter);
       read = m.read ∙ member_read (value 126) m.found m.turns k ts s r t.json some_turn key t.read;
-      holds = subst (λ n. HoldsSlots (put n t.json m.found) new after) (sym is) (t.holds m.found m.holds);
+      holds = subst (λ n. HoldsLineMembers (put n t.json m.found) new after) (sym is) (t.holds m.found m.holds);
     }
 
-pub members_stop : (initial ts : List Token) (slots : Slots) (bytes : List ℕ) (all : List Token) → all ≡ begin_object ∷ initial → MembersRead initial ts slots bytes → read_key ts ≡ Some (None, []) → HasSlots all slots bytes
-members_stop initial ts slots bytes all first m over = record {
+pub members_stop : (initial ts : List Token) (line : LineMembers) (bytes : List ℕ) (all : List Token) → all ≡ begin_object ∷ initial → MembersRead initial ts line bytes → read_key ts ≡ Some (None, []) → HasLineMembers all line bytes
+members_stop initial ts line bytes all first m over = record {
   found = m.found;
   read = whole_read (value 127 all) (object m.found)
       (ap (λ l. converted of_json (value 127 l)) first ∙ ap (converted of_json) (value-begin_object 127 initial (omega arith)) ∙ converted-object (members (value 126) (length initial) initial) ∙ ap (parse_map object) (m.read ∙ members_over (value 126) m.found m.turns ts [] m.enough over));

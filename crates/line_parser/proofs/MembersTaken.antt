@@ -13,10 +13,10 @@ use Rattle.serde_json.specs.Data.{Data, string, number, boolean, unsigned, Membe
 use Rattle.serde_json.specs.Events.{members_len}
 use Rattle.serde_json.specs.Find.{get_member}
 use Rattle.silo_event.specs.declared.refusal.Refusal.{Refusal}
-use Rattle.line_parser.specs.Slots.{name_text, IsNatural, Held, a_text, a_number, a_truth, a_value, IsHeld, Holds, put_bytes, slot_of, HoldsSlots, TakesMember, TakesValue}
-use Rattle.line_parser.specs.declared.slots.Name.{Name}
-use Rattle.line_parser.specs.declared.slots.Name.TheVariants.{Op, From, Grain, Method, Id, Turn, Now, Failed, Args, State}
-use Rattle.line_parser.specs.declared.slots.Slots.{Slots}
+use Rattle.line_parser.specs.LineMembers.{name_text, IsNatural, Held, a_text, a_number, a_truth, a_value, IsHeld, Holds, put_bytes, slot_of, HoldsLineMembers, TakesMember, TakesValue}
+use Rattle.line_parser.specs.declared.line_members.Name.{Name}
+use Rattle.line_parser.specs.declared.line_members.Name.TheVariants.{Op, From, Grain, Method, Id, Turn, Now, Failed, Args, State}
+use Rattle.line_parser.specs.declared.line_members.LineMembers.{LineMembers}
 
 abbrev pub order : List ℕ → List ℕ → Ordering
 order = slice_cmp nat_cmp
@@ -96,13 +96,13 @@ all_held k x json found [] is h = tt
 all_held k x json found (n ∷ ns) is h = (one_held k x json found n.0 n.1 (order n.0 k) refl is h.0, all_held k x json found ns is h.1)
 
 -- all slots
-abbrev listed : Slots → List ℕ → List Named
+abbrev listed : LineMembers → List ℕ → List Named
 listed s l = (name_text Op, slot_of Op s l) ∷ (name_text From, slot_of From s l) ∷ (name_text Grain, slot_of Grain s l) ∷ (name_text Method, slot_of Method s l) ∷ (name_text Id, slot_of Id s l) ∷ (name_text Turn, slot_of Turn s l) ∷ (name_text Now, slot_of Now s l) ∷ (name_text Failed, slot_of Failed s l) ∷ (name_text Args, slot_of Args s l) ∷ (name_text State, slot_of State s l) ∷ []
 
-into_list : (found : Members) (s : Slots) (l : List ℕ) → ((name : Name) → Holds (slot_of name s l) (get_member (name_text name) found)) → AllHeld found (listed s l)
+into_list : (found : Members) (s : LineMembers) (l : List ℕ) → ((name : Name) → Holds (slot_of name s l) (get_member (name_text name) found)) → AllHeld found (listed s l)
 into_list found s l each = (each Op, (each From, (each Grain, (each Method, (each Id, (each Turn, (each Now, (each Failed, (each Args, (each State, tt))))))))))
 
-out_of_list : (found : Members) (s : Slots) (l : List ℕ) → AllHeld found (listed s l) → (name : Name) → Holds (slot_of name s l) (get_member (name_text name) found)
+out_of_list : (found : Members) (s : LineMembers) (l : List ℕ) → AllHeld found (listed s l) → (name : Name) → Holds (slot_of name s l) (get_member (name_text name) found)
 out_of_list found s l h Op = h.0
 out_of_list found s l h From = h.1.0
 out_of_list found s l h Grain = h.1.1.0
@@ -114,10 +114,10 @@ out_of_list found s l h Failed = h.1.1.1.1.1.1.1.0
 out_of_list found s l h Args = h.1.1.1.1.1.1.1.1.0
 out_of_list found s l h State = h.1.1.1.1.1.1.1.1.1.0
 
-abbrev Fills : Name → Held → Slots → List ℕ → Slots → List ℕ → Type 0
+abbrev Fills : Name → Held → LineMembers → List ℕ → LineMembers → List ℕ → Type 0
 Fills name x old before new after = listed new after ≡ filled (name_text name) x (listed old before)
 
-member_taken : (name : Name) (x : Held) (json : Data) (old new : Slots) (before after : List ℕ) (ts rest : List Token) → converted of_json (value 126 ts) ≡ Some (json, rest) → length rest < length ts
+member_taken : (name : Name) (x : Held) (json : Data) (old new : LineMembers) (before after : List ℕ) (ts rest : List Token) → converted of_json (value 126 ts) ≡ Some (json, rest) → length rest < length ts
     → IsHeld x json → slot_of name old before ≡ None → Fills name x old before new after → new.count ≡ old.count + 1 → TakesMember name ts rest old before new after
 member_taken name x json old new before after ts rest read shorter is empty fills more =
     let k = name_text name in record {
@@ -132,7 +132,7 @@ member_taken name x json old new before after ts rest read shorter is empty fill
       shorter = shorter;
     }
 
-pub nothing_held : (l : List ℕ) → HoldsSlots no_members (record { op = None; from = None; grain = None; method = None; id = None; turn = None; moment = None; failed = None; args = false; state = false; refusal = None; count = 0 }) l
+pub nothing_held : (l : List ℕ) → HoldsLineMembers no_members (record { op = None; from = None; grain = None; method = None; id = None; turn = None; moment = None; failed = None; args = false; state = false; refusal = None; count = 0 }) l
 nothing_held l = record { each = out_of_list no_members _ l ((refl, (refl, (refl, (refl, (refl, (refl, (refl, (refl, (refl, (refl, tt))))))))))); count = refl }
 
 -- ---- a member's value
@@ -150,21 +150,21 @@ read_truth b old new e = ap (converted of_json) (ap (value 126) e ∙ value_is 1
 one_less : (t : Token) (old new : List Token) → old ≡ t ∷ new → length new < length old
 one_less t old new e = omega (arith, ap length e)
 
-pub text_taken : (name : Name) (s : List ℕ) (old new : Slots) (l : List ℕ) (ts rest : List Token) → ts ≡ Token.string s ∷ rest → slot_of name old l ≡ None → Fills name (a_text s) old l new l → new.count ≡ old.count + 1
+pub text_taken : (name : Name) (s : List ℕ) (old new : LineMembers) (l : List ℕ) (ts rest : List Token) → ts ≡ Token.string s ∷ rest → slot_of name old l ≡ None → Fills name (a_text s) old l new l → new.count ≡ old.count + 1
     → TakesMember name ts rest old l new l
 text_taken name s old new l ts rest token = member_taken name (a_text s) (string s) old new l l ts rest (read_string s ts rest token) (one_less (Token.string s) ts rest token) refl
 
-pub natural_taken : (name : Name) (n : ℕ) (old new : Slots) (l : List ℕ) (ts rest : List Token) → IsNatural ts n rest → slot_of name old l ≡ None → Fills name (a_number n) old l new l → new.count ≡ old.count + 1
+pub natural_taken : (name : Name) (n : ℕ) (old new : LineMembers) (l : List ℕ) (ts rest : List Token) → IsNatural ts n rest → slot_of name old l ≡ None → Fills name (a_number n) old l new l → new.count ≡ old.count + 1
     → TakesMember name ts rest old l new l
 natural_taken name n old new l ts rest is = member_taken name (a_number n) (number (unsigned n)) old new l l ts rest (read_natural n ts rest is) (one_less (Token.number is.text) ts rest is.token) (refl, is.fits)
 
-pub truth_taken : (name : Name) (b : Bool) (old new : Slots) (l : List ℕ) (ts rest : List Token) → ts ≡ Token.boolean b ∷ rest → slot_of name old l ≡ None → Fills name (a_truth b) old l new l → new.count ≡ old.count + 1
+pub truth_taken : (name : Name) (b : Bool) (old new : LineMembers) (l : List ℕ) (ts rest : List Token) → ts ≡ Token.boolean b ∷ rest → slot_of name old l ≡ None → Fills name (a_truth b) old l new l → new.count ≡ old.count + 1
     → TakesMember name ts rest old l new l
 truth_taken name b old new l ts rest token = member_taken name (a_truth b) (boolean b) old new l l ts rest (read_truth b ts rest token) (one_less (Token.boolean b) ts rest token) refl
 
 -- ---- what a slot was given is taken
 
-pub text_put : {A T E : Type 0} (given name : Name) (f : A → List ℕ) (make : Option A → Slots) (was slot : Option A) (r : Result T E) (old : Slots) (l : List ℕ) (ts rest : List Token) → given ≡ name
+pub text_put : {A T E : Type 0} (given name : Name) (f : A → List ℕ) (make : Option A → LineMembers) (was slot : Option A) (r : Result T E) (old : LineMembers) (l : List ℕ) (ts rest : List Token) → given ≡ name
     → OnOk r (was ≡ None) → OnOk r (IsSome slot) → OnOk r (IfSome slot (λ t. ts ≡ Token.string (f t) ∷ rest)) → (was ≡ None → slot_of name old l ≡ None) → ((t : A) → Fills name (a_text (f t)) old l (make (Some t)) l)
     → ((o : Option A) → (make o).count ≡ old.count + 1) → OnOk r (TakesMember given ts rest old l (make slot) l)
 text_put given name f make was None (Ok x) old l ts rest is empty full token none fills more = absurd cc
@@ -172,7 +172,7 @@ text_put given name f make was (Some t) (Ok x) old l ts rest is empty full token
     subst (λ n. TakesMember n ts rest old l (make (Some t)) l) (sym is) (text_taken name (f t) old (make (Some t)) l ts rest token (none empty) (fills t) (more (Some t)))
 text_put given name f make was slot (Err e) old l ts rest is empty full token none fills more = tt
 
-pub natural_put : {T E : Type 0} (given name : Name) (make : Option ℕ → Slots) (was slot : Option ℕ) (r : Result T E) (old : Slots) (l : List ℕ) (ts rest : List Token) → given ≡ name
+pub natural_put : {T E : Type 0} (given name : Name) (make : Option ℕ → LineMembers) (was slot : Option ℕ) (r : Result T E) (old : LineMembers) (l : List ℕ) (ts rest : List Token) → given ≡ name
     → OnOk r (was ≡ None) → OnOk r (IsSome slot) → OnOk r (IfSome slot (λ t. IsNatural ts t rest)) → (was ≡ None → slot_of name old l ≡ None) → ((t : ℕ) → Fills name (a_number t) old l (make (Some t)) l)
     → ((o : Option ℕ) → (make o).count ≡ old.count + 1) → OnOk r (TakesMember given ts rest old l (make slot) l)
 natural_put given name make was None (Ok x) old l ts rest is empty full token none fills more = absurd cc
@@ -180,7 +180,7 @@ natural_put given name make was (Some t) (Ok x) old l ts rest is empty full toke
     subst (λ n. TakesMember n ts rest old l (make (Some t)) l) (sym is) (natural_taken name t old (make (Some t)) l ts rest token (none empty) (fills t) (more (Some t)))
 natural_put given name make was slot (Err e) old l ts rest is empty full token none fills more = tt
 
-pub truth_put : {T E : Type 0} (given name : Name) (make : Option Bool → Slots) (was slot : Option Bool) (r : Result T E) (old : Slots) (l : List ℕ) (ts rest : List Token) → given ≡ name
+pub truth_put : {T E : Type 0} (given name : Name) (make : Option Bool → LineMembers) (was slot : Option Bool) (r : Result T E) (old : LineMembers) (l : List ℕ) (ts rest : List Token) → given ≡ name
     → OnOk r (was ≡ None) → OnOk r (IsSome slot) → OnOk r (IfSome slot (λ t. ts ≡ Token.boolean t ∷ rest)) → (was ≡ None → slot_of name old l ≡ None) → ((t : Bool) → Fills name (a_truth t) old l (make (Some t)) l)
     → ((o : Option Bool) → (make o).count ≡ old.count + 1) → OnOk r (TakesMember given ts rest old l (make slot) l)
 truth_put given name make was None (Ok x) old l ts rest is empty full token none fills more = absurd cc
@@ -188,7 +188,7 @@ truth_put given name make was (Some t) (Ok x) old l ts rest is empty full token 
     subst (λ n. TakesMember n ts rest old l (make (Some t)) l) (sym is) (truth_taken name t old (make (Some t)) l ts rest token (none empty) (fills t) (more (Some t)))
 truth_put given name make was slot (Err e) old l ts rest is empty full token none fills more = tt
 
-value_taken : (name : Name) (old new : Slots) (before after : List ℕ) (ts rest : List Token) (why : Option Refusal) → TakesValue ts rest why after → slot_of name old before ≡ None → Fills name (a_value why after) old before new after
+value_taken : (name : Name) (old new : LineMembers) (before after : List ℕ) (ts rest : List Token) (why : Option Refusal) → TakesValue ts rest why after → slot_of name old before ≡ None → Fills name (a_value why after) old before new after
     → new.count ≡ old.count + 1 → TakesMember name ts rest old before new after
 value_taken name old new before after ts rest why v = member_taken name (a_value why after) v.json old new before after ts rest v.read v.shorter v.asked
 
@@ -197,17 +197,17 @@ not_put : (b : Bool) (w why : Option Refusal) (before after : List ℕ) → b �
 not_put b w why before after e = ap (λ x. put_bytes x why after) e ∙ sym (ap (λ x. put_bytes x w before) e)
 
 -- all slots, the last two apart
-abbrev listed_with : Slots → Option Held → Option Held → List Named
+abbrev listed_with : LineMembers → Option Held → Option Held → List Named
 listed_with s args state = (name_text Op, slot_of Op s []) ∷ (name_text From, slot_of From s []) ∷ (name_text Grain, slot_of Grain s []) ∷ (name_text Method, slot_of Method s []) ∷ (name_text Id, slot_of Id s []) ∷ (name_text Turn, slot_of Turn s [])
     ∷ (name_text Now, slot_of Now s []) ∷ (name_text Failed, slot_of Failed s []) ∷ (name_text Args, args) ∷ (name_text State, state) ∷ []
 
-pub args_taken : (old : Slots) (count : ℕ) (before after : List ℕ) (ts rest : List Token) (why : Option Refusal) → TakesValue ts rest why after → (old.args ≡ false) × (old.state ≡ false) → count ≡ old.count + 1
+pub args_taken : (old : LineMembers) (count : ℕ) (before after : List ℕ) (ts rest : List Token) (why : Option Refusal) → TakesValue ts rest why after → (old.args ≡ false) × (old.state ≡ false) → count ≡ old.count + 1
     → TakesMember Args ts rest old before (record old { args = true; refusal = why; count = count }) after
 args_taken old count before after ts rest why v none more =
     value_taken Args old (record old { args = true; refusal = why; count = count }) before after ts rest why v (ap (λ b. put_bytes b old.refusal before) none.0)
     (ap (λ o. listed_with old (Some (a_value why after)) o) (not_put old.state old.refusal why before after none.1)) more
 
-pub state_taken : (old : Slots) (count : ℕ) (before after : List ℕ) (ts rest : List Token) (why : Option Refusal) → TakesValue ts rest why after → (old.args ≡ false) × (old.state ≡ false) → count ≡ old.count + 1
+pub state_taken : (old : LineMembers) (count : ℕ) (before after : List ℕ) (ts rest : List Token) (why : Option Refusal) → TakesValue ts rest why after → (old.args ≡ false) × (old.state ≡ false) → count ≡ old.count + 1
     → TakesMember State ts rest old before (record old { state = true; refusal = why; count = count }) after
 state_taken old count before after ts rest why v none more =
     value_taken State old (record old { state = true; refusal = why; count = count }) before after ts rest why v (ap (λ b. put_bytes b old.refusal before) none.1)

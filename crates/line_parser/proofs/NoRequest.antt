@@ -7,8 +7,8 @@ use Rattle.json.proofs.Grammar.{read_key-shorter, value-begin_object, members_no
 use Rattle.serde_json.specs.Data.{Members, no_members, object}
 use Rattle.serde_json.specs.Read.{of_members, converted}
 use Rattle.line_parser.specs.Form.{step_of_json}
-use Rattle.line_parser.specs.Slots.{named, asked_by}
-use Rattle.line_parser.specs.declared.slots.Slots.{Slots}
+use Rattle.line_parser.specs.LineMembers.{named, asked_by}
+use Rattle.line_parser.specs.declared.line_members.LineMembers.{LineMembers}
 use Rattle.line_parser.proofs.ItemsRead.{MembersRead}
 use Rattle.line_parser.proofs.GrammarLoops.{members_over}
 use Rattle.line_parser.proofs.OtherMembers.{other_stays, no_step}
@@ -31,7 +31,7 @@ no_form None h = refl
 no_form (Some (ms, [])) h = last_read (of_members ms no_members) h
 no_form (Some (ms, t ∷ ts)) h = refl
 
-module _ (initial ts : List Token) (slots : Slots) (bytes : List ℕ) (all : List Token) (first : all ≡ begin_object ∷ initial) (m : MembersRead initial ts slots bytes) where
+module _ (initial ts : List Token) (line : LineMembers) (bytes : List ℕ) (all : List Token) (first : all ≡ begin_object ∷ initial) (m : MembersRead initial ts line bytes) where
   -- what is left of the members
   abbrev left : Option (Members × List Token)
   left = converted (λ ms. of_members ms m.found) (members (value 126) m.turns ts)

@@ -14,7 +14,7 @@ use Rattle.request_codec.specs.Tree.{integer, list, map, member, field}
 use Rattle.request_codec.specs.Json.{value_of_json, members_of_json, fields_of_json, json_depth}
 use Rattle.line_parser.specs.Lenient.{lenient_value, lenient_members, lenient_fields, integer_or_null, is_not_whole, are_not_whole, fields_not_whole}
 use Rattle.line_parser.specs.Argument.{too_deep, is_deep, AddsFaults, PutsValue, why_by, why_of}
-use Rattle.line_parser.specs.Slots.{IsAsked, TakesValue}
+use Rattle.line_parser.specs.LineMembers.{IsAsked, TakesValue}
 use Rattle.line_parser.specs.declared.faults.Faults.{Faults}
 
 -- ---- the value of JSON

@@ -15,7 +15,7 @@ use Rattle.request_codec.specs.Spelling.{IsBelowFirst}
 use Rattle.request_codec.specs.Formed.{IsFormed, FieldsFormed}
 use Rattle.request_codec.proofs.Entries.{is_less}
 use Rattle.line_parser.specs.Lenient.{lenient_value, lenient_fields}
-use Rattle.line_parser.specs.Fields.{Came, members_of, place_of, Ascend}
+use Rattle.line_parser.specs.Fields.{PlacedField, members_of, place_of, Ascend}
 
 abbrev IsBelow : List ℕ → List ℕ → Type 0
 IsBelow name other = slice_cmp nat_cmp name other ≡ Less
@@ -114,16 +114,16 @@ still_named k d (member l e ms) j x h =
 
 -- ---- the fields that came, and the members that were put of them
 
-has_left : (cs : List Came) (c : Came) (k : List ℕ) (d : Data) → Has (members_of cs) k d → Has (members_of (cs ++ c ∷ [])) k d
+has_left : (cs : List PlacedField) (c : PlacedField) (k : List ℕ) (d : Data) → Has (members_of cs) k d → Has (members_of (cs ++ c ∷ [])) k d
 has_left [] c k d h = absurd h
 has_left (f ∷ cs) c k d (inl i) = inl i
 has_left (f ∷ cs) c k d (inr h) = inr (has_left cs c k d h)
 
-has_last : (cs : List Came) (c : Came) (k : List ℕ) (d : Data) → Is c.name c.value k d → Has (members_of (cs ++ c ∷ [])) k d
+has_last : (cs : List PlacedField) (c : PlacedField) (k : List ℕ) (d : Data) → Is c.name c.value k d → Has (members_of (cs ++ c ∷ [])) k d
 has_last [] c k d i = inl i
 has_last (f ∷ cs) c k d i = inr (has_last cs c k d i)
 
-has_cases : (cs : List Came) (c : Came) (k : List ℕ) (d : Data) → Has (members_of (cs ++ c ∷ [])) k d → Has (members_of cs) k d ⊎ Is c.name c.value k d
+has_cases : (cs : List PlacedField) (c : PlacedField) (k : List ℕ) (d : Data) → Has (members_of (cs ++ c ∷ [])) k d → Has (members_of cs) k d ⊎ Is c.name c.value k d
 has_cases [] c k d (inl i) = inr i
 has_cases [] c k d (inr h) = absurd h
 has_cases (f ∷ cs) c k d (inl i) = inl (inl i)
@@ -133,9 +133,9 @@ has_cases (f ∷ cs) c k d (inr h) = elim (has_cases cs c k d h) [
 ]
 
 -- Each member is a field that came, and each name that came is there.
-pub record Collects (came : List Came) (json : Members) : Type 0 where
-  pub from : (k : List ℕ) (d : Data) → Has json k d → Has (members_of came) k d
-  pub named : (k : List ℕ) (d : Data) → Has (members_of came) k d → (e : Data) × Has json k e
+pub record Collects (placed : List PlacedField) (json : Members) : Type 0 where
+  pub from : (k : List ℕ) (d : Data) → Has json k d → Has (members_of placed) k d
+  pub named : (k : List ℕ) (d : Data) → Has (members_of placed) k d → (e : Data) × Has json k e
 
 pub collects_none : Collects [] no_members
 collects_none = record {
@@ -143,13 +143,13 @@ collects_none = record {
   named = λ k d h. absurd h;
 }
 
-pub collects_more : (came : List Came) (json : Members) (c : Came) → Collects came json → Collects (came ++ c ∷ []) (put c.name c.value json)
-collects_more came json c h = record {
+pub collects_more : (placed : List PlacedField) (json : Members) (c : PlacedField) → Collects placed json → Collects (placed ++ c ∷ []) (put c.name c.value json)
+collects_more placed json c h = record {
   from = λ k d g. elim (put_from c.name c.value json k d g) [
-    | inl i ↦ has_last came c k d i
-    | inr r ↦ has_left came c k d (h.from k d r)
+    | inl i ↦ has_last placed c k d i
+    | inr r ↦ has_left placed c k d (h.from k d r)
   ];
-  named = λ k d g. elim (has_cases came c k d g) [
+  named = λ k d g. elim (has_cases placed c k d g) [
     | inl r ↦ let (e, s) = h.named k d r in still_named c.name c.value json k e s
     | inr i ↦ (c.value, subst (λ n. Has (put c.name c.value json) n c.value) (sym i.0) (has_put c.name c.value json))
   ];
@@ -166,11 +166,11 @@ formed_in_order : (ms : Members) → FieldsFormed (lenient_fields ms) → InOrde
 formed_in_order no_members h = tt
 formed_in_order (member k d ms) (u, v, b, h) = (b, formed_in_order ms h)
 
-first_above : (last : List ℕ) (cs : List Came) → Ascend (Some last) (map place_of cs) → IsBelowFirst last (lenient_fields (members_of cs))
+first_above : (last : List ℕ) (cs : List PlacedField) → Ascend (Some last) (map place_of cs) → IsBelowFirst last (lenient_fields (members_of cs))
 first_above last [] h = tt
 first_above last (c ∷ cs) h = h.0
 
-ascending_in_order : (last : Option (List ℕ)) (cs : List Came) → Ascend last (map place_of cs) → InOrder (members_of cs)
+ascending_in_order : (last : Option (List ℕ)) (cs : List PlacedField) → Ascend last (map place_of cs) → InOrder (members_of cs)
 ascending_in_order last [] h = tt
 ascending_in_order last (c ∷ cs) (a, h) = (first_above c.name cs h, ascending_in_order (Some c.name) cs h)
 
@@ -211,23 +211,23 @@ one_order (member k d ms) (member l e ns) (a, o) (b, p) to back =
 
 -- ---- the fields in another order
 
-all_there : (cs : List Came) → All (λ c. Has (members_of cs) c.name c.value) cs
+all_there : (cs : List PlacedField) → All (λ c. Has (members_of cs) c.name c.value) cs
 all_there [] = All-nil _
 all_there (c ∷ cs) = All-cons (λ f. Has (members_of (c ∷ cs)) f.name f.value) c cs (inl (refl, refl)) (All-weaker (λ f. Has (members_of cs) f.name f.value) (λ f. Has (members_of (c ∷ cs)) f.name f.value) (λ f h. inr h) cs (all_there cs))
 
-each_is : (ms : Members) (cs : List Came) → All (λ c. Has ms c.name c.value) cs → (k : List ℕ) (d : Data) → Has (members_of cs) k d → Has ms k d
+each_is : (ms : Members) (cs : List PlacedField) → All (λ c. Has ms c.name c.value) cs → (k : List ℕ) (d : Data) → Has (members_of cs) k d → Has ms k d
 each_is ms [] all k d h = absurd h
 each_is ms (c ∷ cs) all k d (inl (i, v)) = subst (λ n. Has ms n d) (sym i) (subst (Has ms c.name) (sym v) (All-head (λ f. Has ms f.name f.value) c cs all))
 each_is ms (c ∷ cs) all k d (inr h) = each_is ms cs (All-tail (λ f. Has ms f.name f.value) c cs all) k d h
 
-has_moved : (cs ds : List Came) → IsPermutation cs ds → (k : List ℕ) (d : Data) → Has (members_of cs) k d → Has (members_of ds) k d
+has_moved : (cs ds : List PlacedField) → IsPermutation cs ds → (k : List ℕ) (d : Data) → Has (members_of cs) k d → Has (members_of ds) k d
 has_moved cs ds p = each_is (members_of ds) cs (All-permutation (λ c. Has (members_of ds) c.name c.value) ds cs (IsPermutation-sym cs ds p) (all_there ds))
 
 -- the members that were put are the fields in the order of their names
-pub put_in_order : (came sorted : List Came) (json : Members) → Collects came json → FieldsFormed (lenient_fields json) → IsPermutation came sorted → Ascend None (map place_of sorted) → json ≡ members_of sorted
-put_in_order came sorted json h formed p a =
+pub put_in_order : (placed sorted : List PlacedField) (json : Members) → Collects placed json → FieldsFormed (lenient_fields json) → IsPermutation placed sorted → Ascend None (map place_of sorted) → json ≡ members_of sorted
+put_in_order placed sorted json h formed p a =
     let order = ascending_in_order None sorted a in
-    let there = λ (k : List ℕ) (d : Data) (g : Has json k d). has_moved came sorted p k d (h.from k d g) in
+    let there = λ (k : List ℕ) (d : Data) (g : Has json k d). has_moved placed sorted p k d (h.from k d g) in
     one_order json (members_of sorted) (formed_in_order json formed) order there (λ k d g.
-    let (e, s) = h.named k d (has_moved sorted came (IsPermutation-sym came sorted p) k d g) in
+    let (e, s) = h.named k d (has_moved sorted placed (IsPermutation-sym placed sorted p) k d g) in
     subst (Has json k) (sym (one_value (members_of sorted) k d e order g (there k e s))) s)

@@ -9,9 +9,9 @@ use Rattle.std.proofs.lemmas.Map.Lookups.{exact_bytes}
 use Rattle.serde_json.specs.Data.{Data, Members, no_members, member}
 use Rattle.serde_json.specs.Events.{members_len}
 use Rattle.serde_json.specs.Find.{get_member}
-use Rattle.line_parser.specs.Slots.{name_text, named}
-use Rattle.line_parser.specs.declared.slots.Name.{Name}
-use Rattle.line_parser.specs.declared.slots.Name.TheVariants.{Op, From, Grain, Method, Id, Turn, Now, Failed, Args, State}
+use Rattle.line_parser.specs.LineMembers.{name_text, named}
+use Rattle.line_parser.specs.declared.line_members.Name.{Name}
+use Rattle.line_parser.specs.declared.line_members.Name.TheVariants.{Op, From, Grain, Method, Id, Turn, Now, Failed, Args, State}
 use Rattle.line_parser.proofs.MembersTaken.{order, apart}
 
 abbrev pub Has : Members → List ℕ → Type 0

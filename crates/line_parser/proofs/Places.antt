@@ -9,7 +9,7 @@ use Rattle.std.proofs.lemmas.List.Recursion.{is_sum_by}
 use Rattle.std.proofs.lemmas.List.Sorted.{IsPermutation-refl, IsPermutation-trans, IsPermutation-swap, IsPermutation-map, IsPermutation-keeps, IsPermutation-append_left, IsPermutation-append_right, IsPermutation-append_comm, All-permutation, sum_by-IsPermutation}
 use Rattle.std.proofs.Math.Seq.{take-append_seam, drop-append_seam}
 use Rattle.request_codec.specs.Reading.{is_above}
-use Rattle.line_parser.specs.Fields.{Came, came_bytes, came_spelling, Place, place_of, place_kept, Ascend, LieWithin, bytes_at, HoldsFields, Stands, AreBehind, Moved, PutsSorted, AreSorted}
+use Rattle.line_parser.specs.Fields.{PlacedField, placed_bytes, placed_spelling, Place, place_of, place_kept, Ascend, LieWithin, bytes_at, HoldsFields, Stands, AreBehind, Moved, PutsSorted, AreSorted}
 use Rattle.line_parser.specs.declared.fields.Fields.{Fields}
 use Rattle.line_parser.specs.declared.fields.Known.{Known}
 
@@ -52,7 +52,7 @@ map-swap f (d ∷ ys) i j h g =
     ∙ ap₂ (λ l x. set l j x) (first ∙ ap (set (map f (d ∷ ys)) i) (sym (get_or-map f (d ∷ ys) j d (f d) g))) (sym (get_or-map f (d ∷ ys) i d (f d) h))
 
 -- what is another order of places is that of the fields in some order
-moved : (cs : List Came) (ps : List Place) → IsPermutation (map place_of cs) ps → Moved cs ps
+moved : (cs : List PlacedField) (ps : List Place) → IsPermutation (map place_of cs) ps → Moved cs ps
 moved cs = IsPermutation-keeps (map place_of cs) (Moved cs) (record { fields = cs; same = IsPermutation-refl cs; are = refl }) (λ ps i j a b m.
     let long : length m.fields ≡ length ps = sym (length-map m.fields place_of) ∙ ap length m.are in
     let p : i < length m.fields = omega (arith, long) in
@@ -65,90 +65,90 @@ moved cs = IsPermutation-keeps (map place_of cs) (Moved cs) (record { fields = c
 
 -- ---- what stands at the places
 
-stands_range : (out : List ℕ) (c : Came) → Stands out c → slice_range out c.start (c.start + length (came_bytes c)) ≡ came_bytes c
+stands_range : (out : List ℕ) (c : PlacedField) → Stands out c → slice_range out c.start (c.start + length (placed_bytes c)) ≡ placed_bytes c
 stands_range out c s =
-    let n = length (came_bytes c) in
+    let n = length (placed_bytes c) in
     let size : c.start + n - c.start ≡ n = omega arith in
-    ap₂ take size (ap₂ drop (sym s.at_start) s.bytes ∙ drop-append_seam s.ahead (came_bytes c ++ s.behind)) ∙ take-append_seam (came_bytes c) s.behind
+    ap₂ take size (ap₂ drop (sym s.at_start) s.bytes ∙ drop-append_seam s.ahead (placed_bytes c ++ s.behind)) ∙ take-append_seam (placed_bytes c) s.behind
 
-stands_within : (out : List ℕ) (c : Came) → Stands out c → c.start + length (came_bytes c) ≤ length out
-stands_within out c s = omega (arith, s.at_start, ap length s.bytes, length-append s.ahead (came_bytes c ++ s.behind), length-append (came_bytes c) s.behind)
+stands_within : (out : List ℕ) (c : PlacedField) → Stands out c → c.start + length (placed_bytes c) ≤ length out
+stands_within out c s = omega (arith, s.at_start, ap length s.bytes, length-append s.ahead (placed_bytes c ++ s.behind), length-append (placed_bytes c) s.behind)
 
-lie_within : (out : List ℕ) (cs : List Came) → All (Stands out) cs → LieWithin (length out) (map place_of cs)
+lie_within : (out : List ℕ) (cs : List PlacedField) → All (Stands out) cs → LieWithin (length out) (map place_of cs)
 lie_within out [] all = tt
 lie_within out (c ∷ cs) all = (stands_within out c (All-head (Stands out) c cs all), lie_within out cs (All-tail (Stands out) c cs all))
 
-bytes_there : (out : List ℕ) (cs : List Came) → All (Stands out) cs → bytes_at out (map place_of cs) ≡ came_spelling cs
+bytes_there : (out : List ℕ) (cs : List PlacedField) → All (Stands out) cs → bytes_at out (map place_of cs) ≡ placed_spelling cs
 bytes_there out [] all = refl
 bytes_there out (c ∷ cs) all = ap₂ (λ x y. x ++ y) (stands_range out c (All-head (Stands out) c cs all)) (bytes_there out cs (All-tail (Stands out) c cs all))
 
-length_spelled : (cs : List Came) → length (came_spelling cs) ≡ sum_by (λ c. length (came_bytes c)) cs
-length_spelled = is_sum_by (λ cs. length (came_spelling cs)) (λ c. length (came_bytes c)) refl (λ c cs. length-append (came_bytes c) (came_spelling cs))
+length_spelled : (cs : List PlacedField) → length (placed_spelling cs) ≡ sum_by (λ c. length (placed_bytes c)) cs
+length_spelled = is_sum_by (λ cs. length (placed_spelling cs)) (λ c. length (placed_bytes c)) refl (λ c cs. length-append (placed_bytes c) (placed_spelling cs))
 
-same_length : (cs ds : List Came) → IsPermutation cs ds → length (came_spelling ds) ≡ length (came_spelling cs)
-same_length cs ds p = length_spelled ds ∙ sum_by-IsPermutation (λ c. length (came_bytes c)) cs ds p ∙ sym (length_spelled cs)
+same_length : (cs ds : List PlacedField) → IsPermutation cs ds → length (placed_spelling ds) ≡ length (placed_spelling cs)
+same_length cs ds p = length_spelled ds ∙ sum_by-IsPermutation (λ c. length (placed_bytes c)) cs ds p ∙ sym (length_spelled cs)
 
 -- ---- the fields are sorted
 
 -- The table was sorted: it has the places of the fields in some order.
-pub sorted_places : (came : List Came) (fields : Fields) (sorted : List Known) → HoldsFields came fields → IsPermutation (fields.few.items ++ fields.more.items) sorted → Moved came (map place_kept sorted)
-sorted_places came fields sorted h p = moved came (map place_kept sorted) (IsPermutation-trans _ _ _ h.kept (IsPermutation-map place_kept (fields.few.items ++ fields.more.items) sorted p))
+pub sorted_places : (placed : List PlacedField) (fields : Fields) (sorted : List Known) → HoldsFields placed fields → IsPermutation (fields.few.items ++ fields.more.items) sorted → Moved placed (map place_kept sorted)
+sorted_places placed fields sorted h p = moved placed (map place_kept sorted) (IsPermutation-trans _ _ _ h.kept (IsPermutation-map place_kept (fields.few.items ++ fields.more.items) sorted p))
 
-pub sorted_within : (came : List Came) (front out : List ℕ) (start : ℕ) (ps : List Place) → AreBehind came start front out → Moved came ps → LieWithin (length out) ps
-sorted_within came front out start ps b m = subst (LieWithin (length out)) m.are (lie_within out m.fields (All-permutation (Stands out) came m.fields m.same b.stand))
+pub sorted_within : (placed : List PlacedField) (front out : List ℕ) (start : ℕ) (ps : List Place) → AreBehind placed start front out → Moved placed ps → LieWithin (length out) ps
+sorted_within placed front out start ps b m = subst (LieWithin (length out)) m.are (lie_within out m.fields (All-permutation (Stands out) placed m.fields m.same b.stand))
 
-bytes_moved : (came : List Came) (front out : List ℕ) (start : ℕ) (ps : List Place) → AreBehind came start front out → (m : Moved came ps) → bytes_at out ps ≡ came_spelling m.fields
-bytes_moved came front out start ps b m = ap (bytes_at out) (sym m.are) ∙ bytes_there out m.fields (All-permutation (Stands out) came m.fields m.same b.stand)
+bytes_moved : (placed : List PlacedField) (front out : List ℕ) (start : ℕ) (ps : List Place) → AreBehind placed start front out → (m : Moved placed ps) → bytes_at out ps ≡ placed_spelling m.fields
+bytes_moved placed front out start ps b m = ap (bytes_at out) (sym m.are) ∙ bytes_there out m.fields (All-permutation (Stands out) placed m.fields m.same b.stand)
 
 -- they are as long in order as they are now
-pub sorted_long : (came : List Came) (front out sorted : List ℕ) (start : ℕ) → AreBehind came start front out → PutsSorted came out sorted → start + length sorted ≡ length out
-sorted_long came front out sorted start b p =
-    omega (arith, ap length p.bytes, ap length (bytes_moved came front out start p.places b p.moved), same_length came p.moved.fields p.moved.same, ap length b.bytes, length-append front (came_spelling came), b.at_start)
+pub sorted_long : (placed : List PlacedField) (front out sorted : List ℕ) (start : ℕ) → AreBehind placed start front out → PutsSorted placed out sorted → start + length sorted ≡ length out
+sorted_long placed front out sorted start b p =
+    omega (arith, ap length p.bytes, ap length (bytes_moved placed front out start p.places b p.moved), same_length placed p.moved.fields p.moved.same, ap length b.bytes, length-append front (placed_spelling placed), b.at_start)
 
 -- ..and stand then where they stood
-pub are_sorted : (came : List Came) (front out sorted new : List ℕ) (start : ℕ) → AreBehind came start front out → PutsSorted came out sorted → new ≡ take start out ++ sorted → AreSorted came front new
-are_sorted came front out sorted new start b p is =
-    let ahead : take start out ≡ front = ap₂ take (sym b.at_start) b.bytes ∙ take-append_seam front (came_spelling came) in
+pub are_sorted : (placed : List PlacedField) (front out sorted new : List ℕ) (start : ℕ) → AreBehind placed start front out → PutsSorted placed out sorted → new ≡ take start out ++ sorted → AreSorted placed front new
+are_sorted placed front out sorted new start b p is =
+    let ahead : take start out ≡ front = ap₂ take (sym b.at_start) b.bytes ∙ take-append_seam front (placed_spelling placed) in
     record {
       sorted = p.moved.fields;
       same = p.moved.same;
       ascend = subst (Ascend None) (sym p.moved.are) p.ascend;
-      bytes = is ∙ ap₂ (λ x y. x ++ y) ahead (p.bytes ∙ bytes_moved came front out start p.places b p.moved);
+      bytes = is ∙ ap₂ (λ x y. x ++ y) ahead (p.bytes ∙ bytes_moved placed front out start p.places b p.moved);
     }
 
 -- fields whose names ascend are sorted as they came
-pub sorted_already : (came : List Came) (fields : Fields) (front out : List ℕ) (start : ℕ) → HoldsFields came fields → fields.ascend ≡ true → AreBehind came start front out → AreSorted came front out
-sorted_already came fields front out start h is b = record {
-  sorted = came;
-  same = IsPermutation-refl came;
-  ascend = subst (Ascend None) (append-nil (map place_of came)) (h.ascend is [] tt);
+pub sorted_already : (placed : List PlacedField) (fields : Fields) (front out : List ℕ) (start : ℕ) → HoldsFields placed fields → fields.ascend ≡ true → AreBehind placed start front out → AreSorted placed front out
+sorted_already placed fields front out start h is b = record {
+  sorted = placed;
+  same = IsPermutation-refl placed;
+  ascend = subst (Ascend None) (append-nil (map place_of placed)) (h.ascend is [] tt);
   bytes = b.bytes;
 }
 
 -- ---- one more field
 
-spelling-append : (cs ds : List Came) → came_spelling (cs ++ ds) ≡ came_spelling cs ++ came_spelling ds
+spelling-append : (cs ds : List PlacedField) → placed_spelling (cs ++ ds) ≡ placed_spelling cs ++ placed_spelling ds
 spelling-append [] ds = refl
-spelling-append (c ∷ cs) ds = ap (λ l. came_bytes c ++ l) (spelling-append cs ds) ∙ sym (append_assoc (came_bytes c) (came_spelling cs) (came_spelling ds))
+spelling-append (c ∷ cs) ds = ap (λ l. placed_bytes c ++ l) (spelling-append cs ds) ∙ sym (append_assoc (placed_bytes c) (placed_spelling cs) (placed_spelling ds))
 
-stands_still : (out more : List ℕ) (c : Came) → Stands out c → Stands (out ++ more) c
+stands_still : (out more : List ℕ) (c : PlacedField) → Stands out c → Stands (out ++ more) c
 stands_still out more c s = record {
   ahead = s.ahead;
   behind = s.behind ++ more;
   at_start = s.at_start;
-  bytes = ap (λ l. l ++ more) s.bytes ∙ append_assoc s.ahead _ more ∙ ap (λ l. s.ahead ++ l) (append_assoc (came_bytes c) s.behind more);
+  bytes = ap (λ l. l ++ more) s.bytes ∙ append_assoc s.ahead _ more ∙ ap (λ l. s.ahead ++ l) (append_assoc (placed_bytes c) s.behind more);
 }
 
 -- its bytes were put behind the others
-pub one_behind : (came : List Came) (c : Came) (front out new : List ℕ) (start : ℕ) → AreBehind came start front out → c.start ≡ length out → new ≡ out ++ came_bytes c → AreBehind (came ++ c ∷ []) start front new
-one_behind came c front out new start b at grown = record {
+pub one_behind : (placed : List PlacedField) (c : PlacedField) (front out new : List ℕ) (start : ℕ) → AreBehind placed start front out → c.start ≡ length out → new ≡ out ++ placed_bytes c → AreBehind (placed ++ c ∷ []) start front new
+one_behind placed c front out new start b at grown = record {
   at_start = b.at_start;
-  bytes = grown ∙ ap (λ l. l ++ came_bytes c) b.bytes ∙ append_assoc front (came_spelling came) (came_bytes c) ∙ ap (λ l. front ++ (came_spelling came ++ l)) (sym (append-nil (came_bytes c))) ∙ ap (λ l. front ++ l) (sym (spelling-append came (c ∷ [])));
-  stand = subst (λ l. All (Stands l) (came ++ c ∷ [])) (sym grown) (All-push (Stands (out ++ came_bytes c)) came c (All-weaker (Stands out) (Stands (out ++ came_bytes c)) (stands_still out (came_bytes c)) came b.stand) (record {
+  bytes = grown ∙ ap (λ l. l ++ placed_bytes c) b.bytes ∙ append_assoc front (placed_spelling placed) (placed_bytes c) ∙ ap (λ l. front ++ (placed_spelling placed ++ l)) (sym (append-nil (placed_bytes c))) ∙ ap (λ l. front ++ l) (sym (spelling-append placed (c ∷ [])));
+  stand = subst (λ l. All (Stands l) (placed ++ c ∷ [])) (sym grown) (All-push (Stands (out ++ placed_bytes c)) placed c (All-weaker (Stands out) (Stands (out ++ placed_bytes c)) (stands_still out (placed_bytes c)) placed b.stand) (record {
     ahead = out;
     behind = [];
     at_start = sym at;
-    bytes = ap (λ l. out ++ l) (sym (append-nil (came_bytes c)));
+    bytes = ap (λ l. out ++ l) (sym (append-nil (placed_bytes c)));
   }));
 }
 
@@ -157,11 +157,11 @@ in_front few more k =
     let turned = IsPermutation-append_right few (more ++ k ∷ []) (k ∷ more) (IsPermutation-append_comm more (k ∷ [])) in
     subst (λ l. IsPermutation l ((few ++ k ∷ []) ++ more)) (sym (append_assoc few more (k ∷ []))) (subst (IsPermutation (few ++ (more ++ k ∷ []))) (sym (append_assoc few (k ∷ []) more)) turned)
 
-kept_more : (came : List Came) (c : Came) (all new : List Known) (k : Known) → IsPermutation (map place_of came) (map place_kept all) → place_kept k ≡ place_of c → IsPermutation (all ++ k ∷ []) new → IsPermutation (map place_of (came ++ c ∷ [])) (map place_kept new)
-kept_more came c all new k h is p =
-    let one : IsPermutation (map place_of came ++ place_of c ∷ []) (map place_kept all ++ place_of c ∷ []) = IsPermutation-append_left (place_of c ∷ []) (map place_of came) (map place_kept all) h in
+kept_more : (placed : List PlacedField) (c : PlacedField) (all new : List Known) (k : Known) → IsPermutation (map place_of placed) (map place_kept all) → place_kept k ≡ place_of c → IsPermutation (all ++ k ∷ []) new → IsPermutation (map place_of (placed ++ c ∷ [])) (map place_kept new)
+kept_more placed c all new k h is p =
+    let one : IsPermutation (map place_of placed ++ place_of c ∷ []) (map place_kept all ++ place_of c ∷ []) = IsPermutation-append_left (place_of c ∷ []) (map place_of placed) (map place_kept all) h in
     let same : map place_kept all ++ place_of c ∷ [] ≡ map place_kept (all ++ k ∷ []) = ap (λ x. map place_kept all ++ x ∷ []) (sym is) ∙ sym (map-append place_kept all (k ∷ [])) in
-    IsPermutation-trans _ _ _ (subst (λ l. IsPermutation l (map place_kept (all ++ k ∷ []))) (sym (map-append place_of came (c ∷ []))) (subst (IsPermutation (map place_of came ++ place_of c ∷ [])) same one)) (IsPermutation-map place_kept (all ++ k ∷ []) new p)
+    IsPermutation-trans _ _ _ (subst (λ l. IsPermutation l (map place_kept (all ++ k ∷ []))) (sym (map-append place_of placed (c ∷ []))) (subst (IsPermutation (map place_of placed ++ place_of c ∷ [])) same one)) (IsPermutation-map place_kept (all ++ k ∷ []) new p)
 
 -- which of the two parts of the table has one more
 abbrev pub Grows : Fields → Fields → Known → Type 0
@@ -172,11 +172,11 @@ grown_table old new k (inl (few, more)) = subst (IsPermutation ((old.few.items +
 grown_table old new k (inr (few, more)) = subst (IsPermutation ((old.few.items ++ old.more.items) ++ k ∷ [])) (append_assoc old.few.items old.more.items (k ∷ []) ∙ sym (ap₂ (λ x y. x ++ y) few more)) (IsPermutation-refl _)
 
 -- the table with one more
-pub one_held : (came : List Came) (c : Came) (old new : Fields) (k : Known) → HoldsFields came old → Grows old new k → place_kept k ≡ place_of c
-    → (new.ascend ≡ true → (old.ascend ≡ true) × (is_above (option_map (λ t. t.now) old.last) c.name ≡ true)) → option_map (λ t. t.now) new.last ≡ Some c.name → HoldsFields (came ++ c ∷ []) new
-one_held came c old new k h grows is goes last = record {
-  kept = kept_more came c (old.few.items ++ old.more.items) (new.few.items ++ new.more.items) k h.kept is (grown_table old new k grows);
+pub one_held : (placed : List PlacedField) (c : PlacedField) (old new : Fields) (k : Known) → HoldsFields placed old → Grows old new k → place_kept k ≡ place_of c
+    → (new.ascend ≡ true → (old.ascend ≡ true) × (is_above (option_map (λ t. t.now) old.last) c.name ≡ true)) → option_map (λ t. t.now) new.last ≡ Some c.name → HoldsFields (placed ++ c ∷ []) new
+one_held placed c old new k h grows is goes last = record {
+  kept = kept_more placed c (old.few.items ++ old.more.items) (new.few.items ++ new.more.items) k h.kept is (grown_table old new k grows);
   ascend = λ now more up.
       let (so_far, above) = goes now in
-      subst (Ascend None) (sym (ap (λ l. l ++ more) (map-append place_of came (c ∷ [])) ∙ append_assoc (map place_of came) (place_of c ∷ []) more)) (h.ascend so_far (place_of c ∷ more) (above, subst (λ o. Ascend o more) last up));
+      subst (Ascend None) (sym (ap (λ l. l ++ more) (map-append place_of placed (c ∷ [])) ∙ append_assoc (map place_of placed) (place_of c ∷ []) more)) (h.ascend so_far (place_of c ∷ more) (above, subst (λ o. Ascend o more) last up));
 }

@@ -19,10 +19,10 @@ use Rattle.silo_event.specs.declared.refusal.Refusal.TheVariants as refusal
 use Rattle.line_parser.specs.Form.{natural, where_so, text_at, natural_at, truth_at, unless_refused, within_or, value_asked, message_asked, state_asked, form_of}
 use Rattle.line_parser.specs.Step.{form_text, of_form, said_by, FindsIn, Finds}
 use Rattle.silo_event.specs.declared.step.Step.{Step}
-use Rattle.line_parser.specs.declared.slots.Slots.{Slots}
+use Rattle.line_parser.specs.declared.line_members.LineMembers.{LineMembers}
 use Rattle.line_parser.specs.declared.step.Form.{Form}
 use Rattle.line_parser.specs.declared.step.Form.TheVariants as form
-use Rattle.line_parser.specs.Slots.{a_text, a_number, a_truth, Holds, put_bytes, IsArgument, IsAsked}
+use Rattle.line_parser.specs.LineMembers.{a_text, a_number, a_truth, Holds, put_bytes, IsArgument, IsAsked}
 
 -- ---- members
 
@@ -142,6 +142,6 @@ named_or_none None op d known other = other d
 named_or_none (Some form) op d known other = form_is form op d known
 
 -- what is found of a form's members is found of those of the form given
-pub finds_as : {E : Type 0} (given form : Form) (slots : Slots) (l : List ℕ) (r : Result (Option Step) E) → given ≡ form → IfOk r (λ step. Finds slots (of_form form) step) → IfOk r (λ step. FindsIn slots l (of_form given) step)
-finds_as given form slots l (Ok step) is h = λ found holds. ap (λ f. of_form f (object found)) is ∙ h l found holds
-finds_as given form slots l (Err e) is h = h
+pub finds_as : {E : Type 0} (given form : Form) (members : LineMembers) (l : List ℕ) (r : Result (Option Step) E) → given ≡ form → IfOk r (λ step. Finds members (of_form form) step) → IfOk r (λ step. FindsIn members l (of_form given) step)
+finds_as given form members l (Ok step) is h = λ found holds. ap (λ f. of_form f (object found)) is ∙ h l found holds
+finds_as given form members l (Err e) is h = h

@@ -13,21 +13,21 @@ use Rattle.line_parser.specs.declared.fields.Fields.{Fields}
 abbrev pub field_spelling : List ℕ → Data → List ℕ
 field_spelling name d = text_spelling name ++ spelling (lenient_value d)
 
--- a field: its name, its value, and where its bytes begin
-pub record Came : Type 0 where
+-- a field that was put: its name, its value, and where its bytes begin
+pub record PlacedField : Type 0 where
   pub name : List ℕ
   pub value : Data
   pub start : ℕ
 
-abbrev pub came_bytes : Came → List ℕ
-came_bytes c = field_spelling c.name c.value
+abbrev pub placed_bytes : PlacedField → List ℕ
+placed_bytes c = field_spelling c.name c.value
 
 -- the bytes of fields, one behind the other
-abbrev pub came_spelling : List Came → List ℕ
-came_spelling [] = []
-came_spelling (c ∷ cs) = came_bytes c ++ came_spelling cs
+abbrev pub placed_spelling : List PlacedField → List ℕ
+placed_spelling [] = []
+placed_spelling (c ∷ cs) = placed_bytes c ++ placed_spelling cs
 
-abbrev pub members_of : List Came → Members
+abbrev pub members_of : List PlacedField → Members
 members_of [] = no_members
 members_of (c ∷ cs) = member c.name c.value (members_of cs)
 
@@ -37,8 +37,8 @@ pub record Place : Type 0 where
   pub start : ℕ
   pub count : ℕ
 
-abbrev pub place_of : Came → Place
-place_of c = record { name = c.name; start = c.start; count = length (came_bytes c) }
+abbrev pub place_of : PlacedField → Place
+place_of c = record { name = c.name; start = c.start; count = length (placed_bytes c) }
 
 abbrev pub place_kept : Known → Place
 place_kept k = record { name = k.name.now; start = k.start; count = k.count }
@@ -60,39 +60,39 @@ LieWithin n (p ∷ ps) = (p.start + p.count ≤ n) × LieWithin n ps
 
 -- These fields came, in this order, and the table keeps each of them. If it says that their names ascend, they do, and
 -- still do with more places whose names ascend from the last one on.
-pub record HoldsFields (came : List Came) (fields : Fields) : Type 0 where
-  pub kept : IsPermutation (map place_of came) (map place_kept (fields.few.items ++ fields.more.items))
-  pub ascend : fields.ascend ≡ true → (more : List Place) → Ascend (option_map (λ t. t.now) fields.last) more → Ascend None (map place_of came ++ more)
+pub record HoldsFields (placed : List PlacedField) (fields : Fields) : Type 0 where
+  pub kept : IsPermutation (map place_of placed) (map place_kept (fields.few.items ++ fields.more.items))
+  pub ascend : fields.ascend ≡ true → (more : List Place) → Ascend (option_map (λ t. t.now) fields.last) more → Ascend None (map place_of placed ++ more)
 
 -- the bytes of a field stand at its place
-pub record Stands (out : List ℕ) (c : Came) : Type 0 where
+pub record Stands (out : List ℕ) (c : PlacedField) : Type 0 where
   pub ahead : List ℕ
   pub behind : List ℕ
   pub at_start : length ahead ≡ c.start
-  pub bytes : out ≡ ahead ++ (came_bytes c ++ behind)
+  pub bytes : out ≡ ahead ++ (placed_bytes c ++ behind)
 
 -- The fields stand behind what was there before, in the order in which they came.
-pub record AreBehind (came : List Came) (start : ℕ) (front out : List ℕ) : Type 0 where
+pub record AreBehind (placed : List PlacedField) (start : ℕ) (front out : List ℕ) : Type 0 where
   pub at_start : length front ≡ start
-  pub bytes : out ≡ front ++ came_spelling came
-  pub stand : All (Stands out) came
+  pub bytes : out ≡ front ++ placed_spelling placed
+  pub stand : All (Stands out) placed
 
 -- These are the places of the fields in some order.
-pub record Moved (came : List Came) (places : List Place) : Type 0 where
-  pub fields : List Came
-  pub same : IsPermutation came fields
+pub record Moved (placed : List PlacedField) (places : List Place) : Type 0 where
+  pub fields : List PlacedField
+  pub same : IsPermutation placed fields
   pub are : map place_of fields ≡ places
 
 -- The bytes of the fields were put behind one another, in the order of their names.
-pub record PutsSorted (came : List Came) (out sorted : List ℕ) : Type 0 where
+pub record PutsSorted (placed : List PlacedField) (out sorted : List ℕ) : Type 0 where
   pub places : List Place
-  pub moved : Moved came places
+  pub moved : Moved placed places
   pub ascend : Ascend None places
   pub bytes : sorted ≡ bytes_at out places
 
 -- The fields stand there in the order of their names, and no name stands twice.
-pub record AreSorted (came : List Came) (front out : List ℕ) : Type 0 where
-  pub sorted : List Came
-  pub same : IsPermutation came sorted
+pub record AreSorted (placed : List PlacedField) (front out : List ℕ) : Type 0 where
+  pub sorted : List PlacedField
+  pub same : IsPermutation placed sorted
   pub ascend : Ascend None (map place_of sorted)
-  pub bytes : out ≡ front ++ came_spelling sorted
+  pub bytes : out ≡ front ++ placed_spelling sorted

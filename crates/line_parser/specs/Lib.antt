@@ -4,7 +4,7 @@ pub mod Number
 pub mod Lenient
 pub mod Argument
 pub mod Fields
-pub mod Slots
+pub mod LineMembers
 pub mod Step
-pub mod Unread
+pub mod QuickFault
 pub mod Plain

@@ -2,8 +2,8 @@
 use Rattle.std.specs.Prelude.{◌≡◌, ℕ, List, [], ◌∷◌, ◌++◌, Bool, false, ◌||◌, ◌==◌, nat_le, Option, Some, None}
 use Rattle.std.specs.Char.{is_ascii_digit}
 use Rattle.json.specs.Token.{Token}
-use Rattle.line_parser.specs.Slots.{name_text}
-use Rattle.line_parser.specs.declared.slots.Name.{Name}
+use Rattle.line_parser.specs.LineMembers.{name_text}
+use Rattle.line_parser.specs.declared.line_members.Name.{Name}
 use Rattle.json.specs.Lex.{between, lex, after_value, begins_colon, punctuate, tokens}
 
 -- a member's name with its quotes and its colon

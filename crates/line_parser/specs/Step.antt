@@ -4,8 +4,8 @@ use Rattle.serde_json.specs.Data.{Data, Members, object}
 use Rattle.silo_event.specs.declared.step.Step.{Step}
 use Rattle.silo_event.specs.declared.step.Step.TheVariants as step
 use Rattle.line_parser.specs.Form.{call_of, poke_of, status_of, grain_form, load_of, store_of, turn_form, tick_of, sweep_of}
-use Rattle.line_parser.specs.Slots.{HoldsSlots}
-use Rattle.line_parser.specs.declared.slots.Slots.{Slots}
+use Rattle.line_parser.specs.LineMembers.{HoldsLineMembers}
+use Rattle.line_parser.specs.declared.line_members.LineMembers.{LineMembers}
 use Rattle.line_parser.specs.declared.step.Form.{Form}
 use Rattle.line_parser.specs.declared.step.Form.TheVariants as form
 
@@ -43,10 +43,10 @@ abbrev pub said_by : Option Form → Data → Option Step
 said_by None d = None
 said_by (Some form) d = of_form form d
 
--- this is found, or nothing is, in the object whose members went into the slots, and into the bytes
-abbrev pub FindsIn : {A : Type 0} → Slots → List ℕ → (Data → Option A) → Option A → Type 0
-FindsIn s l f o = (found : Members) → HoldsSlots found s l → f (object found) ≡ o
+-- this is found, or nothing is, in the object whose members were taken, with the bytes of a value elsewhere
+abbrev pub FindsIn : {A : Type 0} → LineMembers → List ℕ → (Data → Option A) → Option A → Type 0
+FindsIn s l f o = (found : Members) → HoldsLineMembers found s l → f (object found) ≡ o
 
 -- the same, whatever the bytes are
-abbrev pub Finds : {A : Type 0} → Slots → (Data → Option A) → Option A → Type 0
+abbrev pub Finds : {A : Type 0} → LineMembers → (Data → Option A) → Option A → Type 0
 Finds s f o = (l : List ℕ) → FindsIn s l f o

@@ -12,8 +12,8 @@ ghost use Rattle.line_parser.specs.Number.{IsNotWhole};
 use crate::faults::Faults;
 use crate::fields::Fields;
 use crate::number::{is_not_whole, whole_number};
+use crate::quick_fault::QuickFault;
 use crate::tokens::Tokens;
-use crate::unread::Unread;
 use json::Token;
 use request_codec::bytes::{Start, put_start, put_text};
 
@@ -60,7 +60,7 @@ fn put_not_whole(
     limit: usize,
     text: &str,
     faults: &mut Faults,
-) -> Result<(), Unread>
+) -> Result<(), QuickFault>
     requires room { length out.old.items ≤ limit }
     requires small { limit < 2 ^ 32 }
     ensures number { OnOk result (IsNotWhole (number_of text.now)) }
@@ -69,7 +69,7 @@ fn put_not_whole(
     ensures faults { OnOk result (AddsFaults faults.old faults.new false true) }
 {
     if !is_not_whole(text) {
-        return Err(Unread::Unusual);
+        return Err(QuickFault::LeftToTree);
     }
     put_start(out, limit, Start::Null)?;
     faults.not_whole = true;
@@ -84,7 +84,7 @@ pub(crate) fn put_value(
     reader: &mut Tokens<'_>,
     depth: usize,
     faults: &mut Faults,
-) -> Result<(), Unread>
+) -> Result<(), QuickFault>
     requires room { length out.old.items ≤ limit }
     requires small { limit < 2 ^ 32 }
     ensures value { OnOk result (PutsValue depth reader.old reader.new out.old.items out.new.items faults.old faults.new) }
@@ -102,7 +102,7 @@ pub(crate) fn put_value(
         Token::String(text) => put_start(out, limit, Start::Text(known(text)))?,
         Token::BeginArray if depth > 0 => return put_items(out, limit, reader, depth - 1, faults),
         Token::BeginObject if depth > 0 => return put_fields(out, limit, reader, depth - 1, faults),
-        _ => return Err(Unread::Unusual),
+        _ => return Err(QuickFault::LeftToTree),
     }
     Ok(())
 }
@@ -116,7 +116,7 @@ fn put_items(
     reader: &mut Tokens<'_>,
     depth: usize,
     faults: &mut Faults,
-) -> Result<(), Unread>
+) -> Result<(), QuickFault>
     requires room { length out.old.items ≤ limit }
     requires small { limit < 2 ^ 32 }
     requires noted { depth < too_deep → IsTrue faults.old.too_deep }
@@ -143,7 +143,7 @@ fn put_fields(
     reader: &mut Tokens<'_>,
     depth: usize,
     faults: &mut Faults,
-) -> Result<(), Unread>
+) -> Result<(), QuickFault>
     requires room { length out.old.items ≤ limit }
     requires small { limit < 2 ^ 32 }
     requires noted { depth < too_deep → IsTrue faults.old.too_deep }

@@ -9,7 +9,7 @@ ghost use Rattle.request_codec.specs.Answers.{spelled_length};
 ghost use Rattle.silo_event.specs.declared.refusal.Refusal.TheVariants as refusal;
 ghost use Rattle.line_parser.specs.Form.{within_or, message_asked, state_asked, grain_asked, step_or_refusal, call_with, poke_with, call_asked, poke_asked};
 
-use grain_id::{Caller, GrainId, IdFault, LatelyRead};
+use grain_id::{Caller, GrainId, IdFault, NameCache};
 use request_codec::{
     CodecFault, Datum, Message, SharedState, StateBytes, encode_json, encode_state, from_json,
 };
@@ -65,7 +65,7 @@ fn read_state(alloc: Global, value: &Value) -> Result<Result<StateBytes, Refusal
 /// The grain of a text, unless the text is no grain's name.
 fn read_grain(
     alloc: Global,
-    names: &mut LatelyRead,
+    names: &mut NameCache,
     text: &str,
 ) -> Result<Result<GrainId, Refusal>, AllocError>
     ensures { IfOk result (λ asked. asked ≡ grain_asked text.now) }
@@ -82,7 +82,7 @@ fn read_grain(
 /// The call with a message, or the refusal of its grain.
 pub(crate) fn call_with(
     alloc: Global,
-    names: &mut LatelyRead,
+    names: &mut NameCache,
     caller: Caller,
     id: u64,
     text: &str,
@@ -104,7 +104,7 @@ pub(crate) fn call_with(
 /// The poke with a state, or the refusal of its grain.
 pub(crate) fn poke_with(
     alloc: Global,
-    names: &mut LatelyRead,
+    names: &mut NameCache,
     caller: Caller,
     id: u64,
     text: &str,
@@ -127,7 +127,7 @@ pub(crate) fn poke_with(
 /// The call of a method with an argument, or its refusal: the message comes before the grain.
 pub(crate) fn ask_call(
     alloc: Global,
-    names: &mut LatelyRead,
+    names: &mut NameCache,
     caller: Caller,
     id: u64,
     text: &str,
@@ -145,7 +145,7 @@ pub(crate) fn ask_call(
 /// The poke of a state, or its refusal: the state comes before the grain.
 pub(crate) fn ask_poke(
     alloc: Global,
-    names: &mut LatelyRead,
+    names: &mut NameCache,
     caller: Caller,
     id: u64,
     text: &str,

@@ -2,9 +2,9 @@
 
 ghost use Rattle.std.specs.Prelude.{◌≡◌, ◌<◌, ◌≤◌, ◌^◌, ◌+◌, ◌++◌, ◌∷◌, [], ℕ, List, length, map, None, OnOk, slice_range};
 ghost use Rattle.serde_json.specs.Data.{Data};
-ghost use Rattle.line_parser.specs.Fields.{Came, HoldsFields, AreBehind, PutsSorted, AreSorted, Ascend, LieWithin, bytes_at, place_kept, field_spelling};
+ghost use Rattle.line_parser.specs.Fields.{PlacedField, HoldsFields, AreBehind, PutsSorted, AreSorted, Ascend, LieWithin, bytes_at, place_kept, field_spelling};
 
-use crate::unread::Unread;
+use crate::quick_fault::QuickFault;
 use arrayvec::ArrayVec;
 use request_codec::bytes::may_follow;
 use std::alloc::{AllocError, Global};
@@ -41,7 +41,7 @@ fn put_part(sorted: &mut Vec<u8>, bytes: &[u8], start: u32, count: u32) -> Resul
 
 /// Puts the bytes of these fields behind one another. A line in which a name isn't above the one before it is
 /// left.
-fn put_in_order(sorted: &mut Vec<u8>, bytes: &[u8], known: &[Known<'_>]) -> Result<(), Unread>
+fn put_in_order(sorted: &mut Vec<u8>, bytes: &[u8], known: &[Known<'_>]) -> Result<(), QuickFault>
     requires { LieWithin (length bytes.now) (map place_kept known.now) }
     ensures ascend { OnOk result (Ascend None (map place_kept known.now)) }
     ensures bytes { OnOk result (sorted.new.items ≡ sorted.old.items ++ bytes_at bytes.now (map place_kept known.now)) }
@@ -50,7 +50,7 @@ fn put_in_order(sorted: &mut Vec<u8>, bytes: &[u8], known: &[Known<'_>]) -> Resu
     for place in 0..known.len() {
         let field = known[place];
         if !may_follow(last, field.name) {
-            return Err(Unread::Unusual);
+            return Err(QuickFault::LeftToTree);
         }
         put_part(sorted, bytes, field.start, field.count)?;
         last = Some(field.name);
@@ -73,7 +73,7 @@ impl<'a> Fields<'a> {
 
     /// How many there are.
     pub(crate) fn count(&self) -> usize
-        ensures { (came : List Came) → HoldsFields came self.now → result ≡ length came }
+        ensures { (placed : List PlacedField) → HoldsFields placed self.now → result ≡ length placed }
     {
         self.few.len() + self.more.len()
     }
@@ -86,8 +86,8 @@ impl<'a> Fields<'a> {
         count: usize,
     ) -> Result<(), AllocError>
         requires small { start + count < 2 ^ 32 }
-        ensures { OnOk result ((came : List Came) (d : Data) → HoldsFields came self.old → length (field_spelling name.now d) ≡ count
-            → HoldsFields (came ++ (record { name = name.now; value = d; start = start }) ∷ []) self.new) }
+        ensures { OnOk result ((placed : List PlacedField) (d : Data) → HoldsFields placed self.old → length (field_spelling name.now d) ≡ count
+            → HoldsFields (placed ++ (record { name = name.now; value = d; start = start }) ∷ []) self.new) }
     {
         let field = Known {
             name,
@@ -103,9 +103,9 @@ impl<'a> Fields<'a> {
     }
 
     /// Puts the bytes of the fields behind one another, in the order of their names.
-    fn put_sorted(&mut self, sorted: &mut Vec<u8>, bytes: &[u8]) -> Result<(), Unread>
-        requires { (came : List Came) × (front : List ℕ) × (start : ℕ) × HoldsFields came self.old × AreBehind came start front bytes.now }
-        ensures { OnOk result ((came : List Came) → HoldsFields came self.old → sorted.old.items ≡ [] → PutsSorted came bytes.now sorted.new.items) }
+    fn put_sorted(&mut self, sorted: &mut Vec<u8>, bytes: &[u8]) -> Result<(), QuickFault>
+        requires { (placed : List PlacedField) × (front : List ℕ) × (start : ℕ) × HoldsFields placed self.old × AreBehind placed start front bytes.now }
+        ensures { OnOk result ((placed : List PlacedField) → HoldsFields placed self.old → sorted.old.items ≡ [] → PutsSorted placed bytes.now sorted.new.items) }
     {
         if self.more.is_empty() {
             self.few.sort_unstable();
@@ -118,10 +118,10 @@ impl<'a> Fields<'a> {
 
     /// Brings the bytes of the fields, which begin at `start`, into the order of their names. A line with
     /// a name twice is left.
-    pub(crate) fn sort(&mut self, out: &mut Vec<u8>, start: usize) -> Result<(), Unread>
-        requires { (came : List Came) × (front : List ℕ) × HoldsFields came self.old × AreBehind came start front out.old.items }
-        ensures sorted { OnOk result ((came : List Came) (front : List ℕ) → HoldsFields came self.old
-            → AreBehind came start front out.old.items → AreSorted came front out.new.items) }
+    pub(crate) fn sort(&mut self, out: &mut Vec<u8>, start: usize) -> Result<(), QuickFault>
+        requires { (placed : List PlacedField) × (front : List ℕ) × HoldsFields placed self.old × AreBehind placed start front out.old.items }
+        ensures sorted { OnOk result ((placed : List PlacedField) (front : List ℕ) → HoldsFields placed self.old
+            → AreBehind placed start front out.old.items → AreSorted placed front out.new.items) }
         ensures len { OnOk result (length out.new.items ≡ length out.old.items) }
     {
         if self.ascend {

@@ -9,7 +9,7 @@ ghost use Rattle.line_parser.specs.Step.{of_form, said_by};
 use crate::asked::{ask_call, ask_poke};
 use crate::members::{caller_at, grain_at, has_members, natural_at, text_at, truth_at};
 use crate::step::{Form, form_of};
-use grain_id::{GrainId, LatelyRead};
+use grain_id::{GrainId, NameCache};
 use serde_json::Value;
 use silo_event::{Moment, Step};
 use std::alloc::{AllocError, Global};
@@ -46,7 +46,7 @@ fn failed_at(value: &Value, count: usize) -> Option<bool>
 /// The call, whose argument is `left_out` where it has none.
 fn read_call_or(
     alloc: Global,
-    names: &mut LatelyRead,
+    names: &mut NameCache,
     value: &Value,
     left_out: &Value,
 ) -> Result<Option<Step>, AllocError>
@@ -75,7 +75,7 @@ fn read_call_or(
 /// The call, with `null` for an argument that is left out.
 fn read_call(
     alloc: Global,
-    names: &mut LatelyRead,
+    names: &mut NameCache,
     value: &Value,
 ) -> Result<Option<Step>, AllocError>
     ensures { IfOk result (λ step. step ≡ call_of (view value.now)) }
@@ -89,7 +89,7 @@ fn read_call(
 #[tactic(auto, unfolding(crate::specs::Form::poke_of))]
 fn read_poke(
     alloc: Global,
-    names: &mut LatelyRead,
+    names: &mut NameCache,
     value: &Value,
 ) -> Result<Option<Step>, AllocError>
     ensures { IfOk result (λ step. step ≡ poke_of (view value.now)) }
@@ -116,7 +116,7 @@ fn read_poke(
 #[tactic(auto, unfolding(crate::specs::Form::status_of))]
 fn read_status(
     alloc: Global,
-    names: &mut LatelyRead,
+    names: &mut NameCache,
     value: &Value,
 ) -> Result<Option<Step>, AllocError>
     ensures { IfOk result (λ step. step ≡ status_of (view value.now)) }
@@ -136,7 +136,7 @@ fn read_status(
 /// The grain of a form with a grain alone.
 fn read_grain(
     alloc: Global,
-    names: &mut LatelyRead,
+    names: &mut NameCache,
     value: &Value,
 ) -> Result<Option<GrainId>, AllocError>
     ensures { IfOk result (λ grain. grain ≡ where_so (has_members 2 (view value.now)) (grain_at (view value.now))) }
@@ -150,7 +150,7 @@ fn read_grain(
 #[tactic(auto, unfolding(crate::specs::Form::load_of))]
 fn read_load(
     alloc: Global,
-    names: &mut LatelyRead,
+    names: &mut NameCache,
     value: &Value,
 ) -> Result<Option<Step>, AllocError>
     ensures { IfOk result (λ step. step ≡ load_of (view value.now)) }
@@ -167,7 +167,7 @@ fn read_load(
 #[tactic(auto, unfolding(crate::specs::Form::store_of))]
 fn read_store(
     alloc: Global,
-    names: &mut LatelyRead,
+    names: &mut NameCache,
     value: &Value,
 ) -> Result<Option<Step>, AllocError>
     ensures { IfOk result (λ step. step ≡ store_of (view value.now)) }
@@ -191,7 +191,7 @@ fn read_store(
 /// The grain and the turn of a form with these alone.
 fn read_turn(
     alloc: Global,
-    names: &mut LatelyRead,
+    names: &mut NameCache,
     value: &Value,
 ) -> Result<Option<(GrainId, u64)>, AllocError>
     ensures { IfOk result (λ found. found ≡ turn_alone (view value.now)) }
@@ -232,7 +232,7 @@ fn read_sweep(value: &Value) -> Option<Step>
 /// The step that the JSON asks for, if it has exactly the members of the form.
 fn read_form(
     alloc: Global,
-    names: &mut LatelyRead,
+    names: &mut NameCache,
     value: &Value,
     form: Form,
 ) -> Result<Option<Step>, AllocError>
@@ -266,7 +266,7 @@ fn read_form(
 /// The step that the JSON asks for, where it has exactly the members of one form.
 pub(crate) fn read_step(
     alloc: Global,
-    names: &mut LatelyRead,
+    names: &mut NameCache,
     value: &Value,
 ) -> Result<Option<Step>, AllocError>
     ensures { IfOk result (λ step. step ≡ step_of_json (view value.now)) }

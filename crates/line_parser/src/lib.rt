@@ -1,6 +1,6 @@
 //! What a line of JSON says: a step, a refusal, or nothing.
 //!
-//! A layer above may rely on this: `read_line` answers exactly what a line says, for all thirteen forms.
+//! A layer above may rely on this: `read_line` answers exactly what a line says, for all twelve forms.
 //! What a line says is in `specs/Meaning.antt`, and the forms are in `specs/Form.antt`.
 #![tactic(auto)]
 
@@ -11,17 +11,17 @@ mod faults;
 mod fields;
 mod forms;
 mod line;
+mod line_members;
 mod members;
 mod named;
 mod number;
 mod plain;
+mod quick_fault;
 mod reading;
 mod request;
 mod scan;
-mod slots;
 mod step;
 mod tokens;
-mod unread;
 
 pub use line::{Line, LineRefusal};
-pub use reading::{LINE_LIMIT, LineRoom, read_any_line, read_line};
+pub use reading::{LINE_LIMIT, LineScratch, read_any_line, read_line};

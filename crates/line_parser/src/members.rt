@@ -5,7 +5,7 @@ ghost use Rattle.serde_json.specs.View.{view};
 ghost use Rattle.line_parser.specs.Form.{text_at, natural_at, truth_at, grain_at, caller_at, has_members};
 
 use crate::named::{read_caller, read_grain};
-use grain_id::{Caller, GrainId, LatelyRead};
+use grain_id::{Caller, GrainId, NameCache};
 use serde_json::Value;
 use std::alloc::{AllocError, Global};
 
@@ -49,7 +49,7 @@ pub(crate) fn has_members(value: &Value, count: usize) -> bool
 /// The grain that `grain` names.
 pub(crate) fn grain_at(
     alloc: Global,
-    names: &mut LatelyRead,
+    names: &mut NameCache,
     value: &Value,
 ) -> Result<Option<GrainId>, AllocError>
     ensures { IfOk result (λ grain. grain ≡ grain_at (view value.now)) }
@@ -63,7 +63,7 @@ pub(crate) fn grain_at(
 /// The caller that `from` names.
 pub(crate) fn caller_at(
     alloc: Global,
-    names: &mut LatelyRead,
+    names: &mut NameCache,
     value: &Value,
 ) -> Result<Option<Caller>, AllocError>
     ensures { IfOk result (λ caller. caller ≡ caller_at (view value.now)) }

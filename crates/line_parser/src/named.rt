@@ -5,14 +5,14 @@ ghost use Rattle.grain_id.specs.Reading.{grain_read, caller_read};
 ghost use Rattle.line_parser.specs.Form.{if_ok, caller_at, grain_at, failed_at};
 ghost use Rattle.line_parser.specs.Step.{Finds};
 
-use crate::slots::Slots;
-use grain_id::{Caller, GrainId, IdFault, LatelyRead};
+use crate::line_members::LineMembers;
+use grain_id::{Caller, GrainId, IdFault, NameCache};
 use std::alloc::{AllocError, Global};
 
 /// The grain of a text, if it is well formed.
 pub(crate) fn read_grain(
     alloc: Global,
-    names: &mut LatelyRead,
+    names: &mut NameCache,
     text: &str,
 ) -> Result<Option<GrainId>, AllocError>
     ensures { IfOk result (λ grain. grain ≡ if_ok (grain_read text.now)) }
@@ -27,7 +27,7 @@ pub(crate) fn read_grain(
 /// The caller of a text, if it is well formed.
 pub(crate) fn read_caller(
     alloc: Global,
-    names: &mut LatelyRead,
+    names: &mut NameCache,
     text: &str,
 ) -> Result<Option<Caller>, AllocError>
     ensures { IfOk result (λ caller. caller ≡ if_ok (caller_read text.now)) }
@@ -42,12 +42,12 @@ pub(crate) fn read_caller(
 /// The client that asks.
 pub(crate) fn caller_of(
     alloc: Global,
-    names: &mut LatelyRead,
-    slots: &Slots<'_>,
+    names: &mut NameCache,
+    members: &LineMembers<'_>,
 ) -> Result<Option<Caller>, AllocError>
-    ensures { IfOk result (λ caller. Finds slots.now caller_at caller) }
+    ensures { IfOk result (λ caller. Finds members.now caller_at caller) }
 {
-    let Some(text) = slots.from else {
+    let Some(text) = members.from else {
         return Ok(None);
     };
     read_caller(alloc, names, text)
@@ -56,27 +56,27 @@ pub(crate) fn caller_of(
 /// The grain that is named.
 pub(crate) fn grain_of(
     alloc: Global,
-    names: &mut LatelyRead,
-    slots: &Slots<'_>,
+    names: &mut NameCache,
+    members: &LineMembers<'_>,
 ) -> Result<Option<GrainId>, AllocError>
-    ensures { IfOk result (λ grain. Finds slots.now grain_at grain) }
+    ensures { IfOk result (λ grain. Finds members.now grain_at grain) }
 {
-    let Some(text) = slots.grain else {
+    let Some(text) = members.grain else {
         return Ok(None);
     };
     read_grain(alloc, names, text)
 }
 
 /// Whether the storage call is to fail: `false` where it is left out, which leaves `count` members.
-pub(crate) fn failed_of(slots: &Slots<'_>, count: usize) -> Option<bool>
+pub(crate) fn failed_of(members: &LineMembers<'_>, count: usize) -> Option<bool>
     requires { count < 16 }
-    ensures { Finds slots.now (failed_at count) result }
+    ensures { Finds members.now (failed_at count) result }
 {
-    if slots.count == count {
+    if members.count == count {
         return Some(false);
     }
-    if slots.count == count + 1 {
-        return slots.failed;
+    if members.count == count + 1 {
+        return members.failed;
     }
     None
 }

@@ -9,11 +9,11 @@ ghost use Rattle.line_parser.specs.Meaning.{json_of_line, meaning_by, meaning_of
 use crate::ascii::is_ascii;
 use crate::forms::read_step;
 use crate::line::{Line, LineRefusal};
-use crate::slots::{Slots, read_slots};
+use crate::line_members::{LineMembers, read_members};
+use crate::quick_fault::QuickFault;
 use crate::step::step_from;
 use crate::tokens::Tokens;
-use crate::unread::Unread;
-use grain_id::LatelyRead;
+use grain_id::NameCache;
 use json::Scratch;
 use serde_json::Value;
 use silo_event::Step;
@@ -38,7 +38,7 @@ fn read_json(alloc: Global, line: &[u8]) -> Result<Option<Value>, AllocError>
 /// The step of a line that has bytes and isn't too long.
 fn read_request(
     alloc: Global,
-    names: &mut LatelyRead,
+    names: &mut NameCache,
     line: &[u8],
 ) -> Result<Option<Step>, AllocError>
     ensures { IfOk result (λ step. step ≡ option_and_then step_of_json (json_of_line line.now)) }
@@ -65,19 +65,19 @@ fn line_of(step: Option<Step>) -> Line
 /// What is used again from line to line: names that were read lately, and memory for the parts of a
 /// line. What a line says doesn't depend on it.
 #[derive(Drop)]
-pub struct LineRoom {
-    names: LatelyRead,
-    scratch: Scratch,
+pub struct LineScratch {
+    names: NameCache,
+    texts: Scratch,
     args: Vec<u8>,
     message: Vec<u8>,
 }
 
-impl LineRoom {
+impl LineScratch {
     /// No name was read yet. The names have room at once, the rest grows to what the lines need.
-    pub fn new(alloc: Global) -> Result<LineRoom, AllocError> {
-        Ok(LineRoom {
-            names: LatelyRead::new(alloc)?,
-            scratch: Scratch::new(alloc),
+    pub fn new(alloc: Global) -> Result<LineScratch, AllocError> {
+        Ok(LineScratch {
+            names: NameCache::new(alloc)?,
+            texts: Scratch::new(alloc),
             args: Vec::new(alloc),
             message: Vec::new(alloc),
         })
@@ -86,7 +86,11 @@ impl LineRoom {
 
 /// What a line says, by its JSON as `serde_json` reads it: any line. `read_line` says the same, and is
 /// mostly faster.
-pub fn read_any_line(alloc: Global, room: &mut LineRoom, line: &[u8]) -> Result<Line, AllocError>
+pub fn read_any_line(
+    alloc: Global,
+    scratch: &mut LineScratch,
+    line: &[u8],
+) -> Result<Line, AllocError>
     ensures { IfOk result (λ said. said ≡ meaning_of line.now) }
 {
     if line.is_empty() {
@@ -95,7 +99,7 @@ pub fn read_any_line(alloc: Global, room: &mut LineRoom, line: &[u8]) -> Result<
     if line.len() > LINE_LIMIT {
         return Ok(Line::Refusal(LineRefusal::TooLong));
     }
-    let step = read_request(alloc, &mut room.names, line)?;
+    let step = read_request(alloc, &mut scratch.names, line)?;
     Ok(line_of(step))
 }
 
@@ -110,38 +114,42 @@ fn text_of(line: &[u8]) -> Option<&str>
 }
 
 /// The step of a line, if it asks for one, in one pass over its tokens.
-fn read_text_step(alloc: Global, room: &mut LineRoom, text: &str) -> Result<Option<Step>, Unread>
+fn read_text_step(
+    alloc: Global,
+    scratch: &mut LineScratch,
+    text: &str,
+) -> Result<Option<Step>, QuickFault>
     ensures { IfOk result (λ step. option_and_then step_of_json (read text.now) ≡ step) }
 {
-    let mut tokens = Tokens::new(text, &mut room.scratch);
-    let mut slots = Slots::none();
-    let all = read_slots(&mut tokens, &mut slots, &mut room.args)?;
+    let mut tokens = Tokens::new(text, &mut scratch.texts);
+    let mut members = LineMembers::none();
+    let all = read_members(&mut tokens, &mut members, &mut scratch.args)?;
     if !all {
         return Ok(None);
     }
     step_from(
         alloc,
-        &mut room.names,
-        &mut room.message,
-        &slots,
-        room.args.as_slice(),
+        &mut scratch.names,
+        &mut scratch.message,
+        &members,
+        scratch.args.as_slice(),
     )
 }
 
 /// What a line says, without its LF. The quick reader tells it without a tree; a line that it leaves
 /// goes to `serde_json`.
-pub fn read_line(alloc: Global, room: &mut LineRoom, line: &[u8]) -> Result<Line, AllocError>
+pub fn read_line(alloc: Global, scratch: &mut LineScratch, line: &[u8]) -> Result<Line, AllocError>
     ensures { IfOk result (λ said. said ≡ meaning_of line.now) }
 {
     if line.is_empty() || line.len() > LINE_LIMIT {
-        return read_any_line(alloc, room, line);
+        return read_any_line(alloc, scratch, line);
     }
     let Some(text) = text_of(line) else {
-        return read_any_line(alloc, room, line);
+        return read_any_line(alloc, scratch, line);
     };
-    match read_text_step(alloc, room, text) {
+    match read_text_step(alloc, scratch, text) {
         Ok(step) => Ok(line_of(step)),
-        Err(Unread::Memory) => Err(AllocError),
-        Err(Unread::Unusual) => read_any_line(alloc, room, line),
+        Err(QuickFault::Memory) => Err(AllocError),
+        Err(QuickFault::LeftToTree) => read_any_line(alloc, scratch, line),
     }
 }

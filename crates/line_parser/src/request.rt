@@ -6,14 +6,14 @@ ghost use Rattle.request_codec.specs.Call.{message_call, state_value};
 ghost use Rattle.request_codec.specs.Limits.{message_limit};
 ghost use Rattle.request_codec.specs.Written.{text_spelling};
 ghost use Rattle.line_parser.specs.Form.{argument_at, message_asked, state_asked, call_of, poke_of, status_of};
-ghost use Rattle.line_parser.specs.Slots.{IsAsked, HoldsSlots};
+ghost use Rattle.line_parser.specs.LineMembers.{IsAsked, HoldsLineMembers};
 ghost use Rattle.line_parser.specs.Step.{FindsIn, Finds};
 
 use crate::asked::{call_with, poke_with};
+use crate::line_members::LineMembers;
 use crate::named::caller_of;
-use crate::slots::Slots;
-use crate::unread::Unread;
-use grain_id::LatelyRead;
+use crate::quick_fault::QuickFault;
+use grain_id::NameCache;
 use request_codec::bytes::{put, put_text};
 use request_codec::limits::{MAX_MESSAGE_BYTES, MAX_STATE_BYTES};
 use request_codec::{Message, StateBytes};
@@ -31,7 +31,7 @@ struct Argument<'t> {
 const MESSAGE_HEAD_BYTES: usize = 5;
 
 /// Writes a message's bytes: those of a method, and those of its argument.
-fn write_message(out: &mut Vec<u8>, method: &str, argument: &[u8]) -> Result<(), Unread>
+fn write_message(out: &mut Vec<u8>, method: &str, argument: &[u8]) -> Result<(), QuickFault>
     ensures { OnOk result ((out.new.items ≡ 1 ∷ (text_spelling method.now ++ argument.now)) × (length out.new.items ≤ message_limit)) }
 {
     out.clear();
@@ -42,7 +42,7 @@ fn write_message(out: &mut Vec<u8>, method: &str, argument: &[u8]) -> Result<(),
 }
 
 /// The message that the bytes spell.
-fn keep_message(alloc: Global, out: &Vec<u8>) -> Result<Message, Unread>
+fn keep_message(alloc: Global, out: &Vec<u8>) -> Result<Message, QuickFault>
     requires { IsSome (message_call out.now.items) }
     ensures { IfOk result (λ m. message_call out.now.items ≡ Some m) }
 {
@@ -57,7 +57,7 @@ fn read_message(
     method: &str,
     refusal: Option<Refusal>,
     argument: &[u8],
-) -> Result<Result<Message, Refusal>, Unread>
+) -> Result<Result<Message, Refusal>, QuickFault>
     requires { (json : Data) × IsAsked refusal json argument.now }
     ensures { IfOk result (λ asked. (json : Data) → IsAsked refusal json argument.now → message_asked method.now json ≡ asked) }
 {
@@ -77,7 +77,7 @@ fn read_state(
     alloc: Global,
     refusal: Option<Refusal>,
     bytes: &[u8],
-) -> Result<Result<StateBytes, Refusal>, Unread>
+) -> Result<Result<StateBytes, Refusal>, QuickFault>
     ensures { IfOk result (λ asked. (json : Data) → IsAsked refusal json bytes.now → state_asked json ≡ asked) }
 {
     if let Some(code) = refusal {
@@ -91,19 +91,19 @@ fn read_state(
 }
 
 /// The argument of a call: null if it is left out; none if the members are none of a call.
-fn argument_of<'t>(slots: &Slots<'_>, bytes: &'t [u8]) -> Option<Argument<'t>>
-    ensures { MatchOption result (FindsIn slots.now bytes.now argument_at None) (λ argument. (found : Members) → HoldsSlots found slots.now bytes.now
+fn argument_of<'t>(members: &LineMembers<'_>, bytes: &'t [u8]) -> Option<Argument<'t>>
+    ensures { MatchOption result (FindsIn members.now bytes.now argument_at None) (λ argument. (found : Members) → HoldsLineMembers found members.now bytes.now
         → (json : Data) × (argument_at (object found) ≡ Some json) × IsAsked argument.refusal json argument.bytes.now) }
 {
-    if slots.count == 5 {
+    if members.count == 5 {
         return Some(Argument {
             refusal: None,
             bytes: &[0],
         });
     }
-    if slots.count == 6 && slots.args {
+    if members.count == 6 && members.args {
         return Some(Argument {
-            refusal: slots.refusal,
+            refusal: members.refusal,
             bytes,
         });
     }
@@ -114,27 +114,27 @@ fn argument_of<'t>(slots: &Slots<'_>, bytes: &'t [u8]) -> Option<Argument<'t>>
 /// long, or its grain isn't well formed.
 pub(crate) fn call_from(
     alloc: Global,
-    names: &mut LatelyRead,
+    names: &mut NameCache,
     out: &mut Vec<u8>,
-    slots: &Slots<'_>,
+    members: &LineMembers<'_>,
     bytes: &[u8],
-) -> Result<Option<Step>, Unread>
-    requires { (found : Members) × HoldsSlots found slots.now bytes.now }
-    ensures { IfOk result (λ step. FindsIn slots.now bytes.now call_of step) }
+) -> Result<Option<Step>, QuickFault>
+    requires { (found : Members) × HoldsLineMembers found members.now bytes.now }
+    ensures { IfOk result (λ step. FindsIn members.now bytes.now call_of step) }
 {
-    let Some(argument) = argument_of(slots, bytes) else {
+    let Some(argument) = argument_of(members, bytes) else {
         return Ok(None);
     };
-    let Some(caller) = caller_of(alloc, names, slots)? else {
+    let Some(caller) = caller_of(alloc, names, members)? else {
         return Ok(None);
     };
-    let Some(id) = slots.id else {
+    let Some(id) = members.id else {
         return Ok(None);
     };
-    let Some(grain) = slots.grain else {
+    let Some(grain) = members.grain else {
         return Ok(None);
     };
-    let Some(method) = slots.method else {
+    let Some(method) = members.method else {
         return Ok(None);
     };
     match read_message(alloc, out, method, argument.refusal, argument.bytes)? {
@@ -150,28 +150,28 @@ pub(crate) fn call_from(
 /// grain isn't well formed.
 pub(crate) fn poke_from(
     alloc: Global,
-    names: &mut LatelyRead,
-    slots: &Slots<'_>,
+    names: &mut NameCache,
+    members: &LineMembers<'_>,
     bytes: &[u8],
-) -> Result<Option<Step>, Unread>
-    ensures { IfOk result (λ step. FindsIn slots.now bytes.now poke_of step) }
+) -> Result<Option<Step>, QuickFault>
+    ensures { IfOk result (λ step. FindsIn members.now bytes.now poke_of step) }
 {
-    if slots.count != 5 {
+    if members.count != 5 {
         return Ok(None);
     }
-    let Some(caller) = caller_of(alloc, names, slots)? else {
+    let Some(caller) = caller_of(alloc, names, members)? else {
         return Ok(None);
     };
-    let Some(id) = slots.id else {
+    let Some(id) = members.id else {
         return Ok(None);
     };
-    let Some(grain) = slots.grain else {
+    let Some(grain) = members.grain else {
         return Ok(None);
     };
-    if !slots.state {
+    if !members.state {
         return Ok(None);
     }
-    match read_state(alloc, slots.refusal, bytes)? {
+    match read_state(alloc, members.refusal, bytes)? {
         Ok(state) => {
             let step = poke_with(alloc, names, caller, id, grain, state)?;
             Ok(Some(step))
@@ -183,18 +183,18 @@ pub(crate) fn poke_from(
 /// The question for a tenant's status, if the members are those of one.
 pub(crate) fn status_from(
     alloc: Global,
-    names: &mut LatelyRead,
-    slots: &Slots<'_>,
-) -> Result<Option<Step>, Unread>
-    ensures { IfOk result (λ step. Finds slots.now status_of step) }
+    names: &mut NameCache,
+    members: &LineMembers<'_>,
+) -> Result<Option<Step>, QuickFault>
+    ensures { IfOk result (λ step. Finds members.now status_of step) }
 {
-    if slots.count != 3 {
+    if members.count != 3 {
         return Ok(None);
     }
-    let Some(caller) = caller_of(alloc, names, slots)? else {
+    let Some(caller) = caller_of(alloc, names, members)? else {
         return Ok(None);
     };
-    let Some(id) = slots.id else {
+    let Some(id) = members.id else {
         return Ok(None);
     };
     Ok(Some(Step::Status { caller, id }))

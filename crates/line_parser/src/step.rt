@@ -3,15 +3,15 @@
 ghost use Rattle.std.specs.Prelude.{◌≡◌, None, IfSome, IfNone, IfOk};
 ghost use Rattle.serde_json.specs.Data.{Data, Members};
 ghost use Rattle.line_parser.specs.Form.{where_so, has_members, grain_at, turn_alone, load_of, store_of, tick_of, sweep_of, form_of, step_of_json};
-ghost use Rattle.line_parser.specs.Slots.{HoldsSlots};
+ghost use Rattle.line_parser.specs.LineMembers.{HoldsLineMembers};
 ghost use Rattle.line_parser.specs.Step.{form_text, of_form, said_by, FindsIn, Finds};
 
+use crate::line_members::LineMembers;
 use crate::named::{failed_of, grain_of};
+use crate::quick_fault::QuickFault;
 use crate::request::{call_from, poke_from, status_from};
 use crate::scan::same_text;
-use crate::slots::Slots;
-use crate::unread::Unread;
-use grain_id::{GrainId, LatelyRead};
+use grain_id::{GrainId, NameCache};
 use silo_event::{Moment, Step};
 use std::alloc::{AllocError, Global};
 
@@ -132,29 +132,29 @@ pub(crate) fn form_of(op: &str) -> Option<Form>
 /// The grain, if there is nothing else beside `op`.
 fn grain_from(
     alloc: Global,
-    names: &mut LatelyRead,
-    slots: &Slots<'_>,
+    names: &mut NameCache,
+    members: &LineMembers<'_>,
 ) -> Result<Option<GrainId>, AllocError>
-    ensures { IfOk result (λ grain. Finds slots.now (λ d. where_so (has_members 2 d) (grain_at d)) grain) }
+    ensures { IfOk result (λ grain. Finds members.now (λ d. where_so (has_members 2 d) (grain_at d)) grain) }
 {
-    if slots.count != 2 {
+    if members.count != 2 {
         return Ok(None);
     }
-    grain_of(alloc, names, slots)
+    grain_of(alloc, names, members)
 }
 
 /// The load of a grain, if the members are those of a load.
 fn load_from(
     alloc: Global,
-    names: &mut LatelyRead,
-    slots: &Slots<'_>,
-) -> Result<Option<Step>, Unread>
-    ensures { IfOk result (λ step. Finds slots.now load_of step) }
+    names: &mut NameCache,
+    members: &LineMembers<'_>,
+) -> Result<Option<Step>, QuickFault>
+    ensures { IfOk result (λ step. Finds members.now load_of step) }
 {
-    let Some(failed) = failed_of(slots, 2) else {
+    let Some(failed) = failed_of(members, 2) else {
         return Ok(None);
     };
-    let Some(grain) = grain_of(alloc, names, slots)? else {
+    let Some(grain) = grain_of(alloc, names, members)? else {
         return Ok(None);
     };
     Ok(Some(Step::Load { grain, failed }))
@@ -163,18 +163,18 @@ fn load_from(
 /// The storage call of a turn, if the members are those of one.
 fn store_from(
     alloc: Global,
-    names: &mut LatelyRead,
-    slots: &Slots<'_>,
-) -> Result<Option<Step>, Unread>
-    ensures { IfOk result (λ step. Finds slots.now store_of step) }
+    names: &mut NameCache,
+    members: &LineMembers<'_>,
+) -> Result<Option<Step>, QuickFault>
+    ensures { IfOk result (λ step. Finds members.now store_of step) }
 {
-    let Some(failed) = failed_of(slots, 3) else {
+    let Some(failed) = failed_of(members, 3) else {
         return Ok(None);
     };
-    let Some(grain) = grain_of(alloc, names, slots)? else {
+    let Some(grain) = grain_of(alloc, names, members)? else {
         return Ok(None);
     };
-    let Some(turn) = slots.turn else {
+    let Some(turn) = members.turn else {
         return Ok(None);
     };
     Ok(Some(Step::Store {
@@ -187,39 +187,39 @@ fn store_from(
 /// The grain and the turn, if there is nothing else beside `op`.
 fn turn_from(
     alloc: Global,
-    names: &mut LatelyRead,
-    slots: &Slots<'_>,
+    names: &mut NameCache,
+    members: &LineMembers<'_>,
 ) -> Result<Option<(GrainId, u64)>, AllocError>
-    ensures { IfOk result (λ found. Finds slots.now turn_alone found) }
+    ensures { IfOk result (λ found. Finds members.now turn_alone found) }
 {
-    if slots.count != 3 {
+    if members.count != 3 {
         return Ok(None);
     }
-    let Some(grain) = grain_of(alloc, names, slots)? else {
+    let Some(grain) = grain_of(alloc, names, members)? else {
         return Ok(None);
     };
-    let Some(turn) = slots.turn else {
+    let Some(turn) = members.turn else {
         return Ok(None);
     };
     Ok(Some((grain, turn)))
 }
 
 /// The tick, if the members are those of a tick.
-fn tick_from(slots: &Slots<'_>) -> Option<Step>
-    ensures { Finds slots.now tick_of result }
+fn tick_from(members: &LineMembers<'_>) -> Option<Step>
+    ensures { Finds members.now tick_of result }
 {
-    if slots.count != 2 {
+    if members.count != 2 {
         return None;
     }
-    let now = Moment::new(slots.moment?)?;
+    let now = Moment::new(members.moment?)?;
     Some(Step::Tick { now })
 }
 
 /// The sweep, if `op` is the only member.
-fn sweep_from(slots: &Slots<'_>) -> Option<Step>
-    ensures { Finds slots.now sweep_of result }
+fn sweep_from(members: &LineMembers<'_>) -> Option<Step>
+    ensures { Finds members.now sweep_of result }
 {
-    if slots.count != 1 {
+    if members.count != 1 {
         return None;
     }
     Some(Step::Sweep)
@@ -229,55 +229,57 @@ fn sweep_from(slots: &Slots<'_>) -> Option<Step>
 #[inline(always)]
 fn read_form(
     alloc: Global,
-    names: &mut LatelyRead,
+    names: &mut NameCache,
     out: &mut Vec<u8>,
-    slots: &Slots<'_>,
+    members: &LineMembers<'_>,
     bytes: &[u8],
     form: Form,
-) -> Result<Option<Step>, Unread>
-    requires { (found : Members) × HoldsSlots found slots.now bytes.now }
-    ensures { IfOk result (λ step. FindsIn slots.now bytes.now (of_form form) step) }
+) -> Result<Option<Step>, QuickFault>
+    requires { (found : Members) × HoldsLineMembers found members.now bytes.now }
+    ensures { IfOk result (λ step. FindsIn members.now bytes.now (of_form form) step) }
 {
     match form {
-        Form::Call => call_from(alloc, names, out, slots, bytes),
-        Form::Poke => poke_from(alloc, names, slots, bytes),
-        Form::Status => status_from(alloc, names, slots),
-        Form::Deliver => Ok(grain_from(alloc, names, slots)?.map(|grain| Step::Deliver { grain })),
-        Form::Activate => Ok(grain_from(alloc, names, slots)?.map(|grain| Step::Activate {
+        Form::Call => call_from(alloc, names, out, members, bytes),
+        Form::Poke => poke_from(alloc, names, members, bytes),
+        Form::Status => status_from(alloc, names, members),
+        Form::Deliver => Ok(grain_from(alloc, names, members)?.map(|grain| Step::Deliver {
             grain,
         })),
-        Form::Load => load_from(alloc, names, slots),
-        Form::Begin => Ok(grain_from(alloc, names, slots)?.map(|grain| Step::Begin { grain })),
-        Form::Store => store_from(alloc, names, slots),
-        Form::End => Ok(turn_from(alloc, names, slots)?.map(|(grain, turn)| Step::End {
+        Form::Activate => Ok(grain_from(alloc, names, members)?.map(|grain| Step::Activate {
             grain,
-            turn,
         })),
-        Form::Abandon => Ok(turn_from(alloc, names, slots)?.map(|(grain, turn)| Step::Abandon {
+        Form::Load => load_from(alloc, names, members),
+        Form::Begin => Ok(grain_from(alloc, names, members)?.map(|grain| Step::Begin { grain })),
+        Form::Store => store_from(alloc, names, members),
+        Form::End => Ok(turn_from(alloc, names, members)?.map(|(grain, turn)| Step::End {
             grain,
             turn,
         })),
-        Form::Tick => Ok(tick_from(slots)),
-        Form::Sweep => Ok(sweep_from(slots)),
+        Form::Abandon => Ok(turn_from(alloc, names, members)?.map(|(grain, turn)| Step::Abandon {
+            grain,
+            turn,
+        })),
+        Form::Tick => Ok(tick_from(members)),
+        Form::Sweep => Ok(sweep_from(members)),
     }
 }
 
 /// The step that the members ask for.
 pub(crate) fn step_from(
     alloc: Global,
-    names: &mut LatelyRead,
+    names: &mut NameCache,
     out: &mut Vec<u8>,
-    slots: &Slots<'_>,
+    members: &LineMembers<'_>,
     bytes: &[u8],
-) -> Result<Option<Step>, Unread>
-    requires { (found : Members) × HoldsSlots found slots.now bytes.now }
-    ensures { IfOk result (λ step. FindsIn slots.now bytes.now step_of_json step) }
+) -> Result<Option<Step>, QuickFault>
+    requires { (found : Members) × HoldsLineMembers found members.now bytes.now }
+    ensures { IfOk result (λ step. FindsIn members.now bytes.now step_of_json step) }
 {
-    let Some(op) = slots.op else {
+    let Some(op) = members.op else {
         return Ok(None);
     };
     let Some(form) = form_of(op) else {
         return Ok(None);
     };
-    read_form(alloc, names, out, slots, bytes, form)
+    read_form(alloc, names, out, members, bytes, form)
 }

@@ -7,14 +7,14 @@ ghost use Rattle.json.specs.Token.{string, number, begin_object};
 ghost use Rattle.json.specs.Lex.{tokens};
 ghost use Rattle.json.specs.Json.{read_key, after_end_array};
 ghost use Rattle.json.specs.Reads.{token_of};
-ghost use Rattle.line_parser.specs.Slots.{begins_object, IsNext};
+ghost use Rattle.line_parser.specs.LineMembers.{begins_object, IsNext};
 
+use crate::line_members::{Next, name_of};
 use crate::plain::{
     has_item, list_end, map_end, map_start, plain_key, plain_name, plain_number, plain_text,
     plain_token,
 };
-use crate::slots::{Next, name_of};
-use crate::unread::Unread;
+use crate::quick_fault::QuickFault;
 use json::{Reader, Scratch, Token};
 use std::marker::Model;
 
@@ -55,14 +55,14 @@ impl<'a> Tokens<'a> {
     /// Goes on with json's reader.
     #[cold]
     #[inline(never)]
-    fn leave_plain(&mut self) -> Result<(), Unread>
+    fn leave_plain(&mut self) -> Result<(), QuickFault>
         ensures { OnOk result (self.new ≡ self.old) }
     {
         if self.reader.is_some() {
             return Ok(());
         }
         let Some(scratch) = self.scratch.take() else {
-            return Err(Unread::Unusual);
+            return Err(QuickFault::LeftToTree);
         };
         self.reader = Some(Reader::new(self.rest, scratch)?);
         Ok(())
@@ -70,22 +70,22 @@ impl<'a> Tokens<'a> {
 
     /// The next token, by json's reader.
     #[inline(never)]
-    fn next_of_any(&mut self) -> Result<Token<'a>, Unread>
+    fn next_of_any(&mut self) -> Result<Token<'a>, QuickFault>
         ensures { IfOk result (λ t. self.old ≡ token_of t ∷ self.new) }
     {
         self.leave_plain()?;
         let Some(reader) = &mut self.reader else {
-            return Err(Unread::Unusual);
+            return Err(QuickFault::LeftToTree);
         };
         match reader.next() {
             Some(token) => Ok(token),
-            None => Err(Unread::Unusual),
+            None => Err(QuickFault::LeftToTree),
         }
     }
 
     /// The next token.
     #[inline(always)]
-    pub(crate) fn next(&mut self) -> Result<Token<'a>, Unread>
+    pub(crate) fn next(&mut self) -> Result<Token<'a>, QuickFault>
         ensures { IfOk result (λ t. self.old ≡ token_of t ∷ self.new) }
     {
         if self.reader.is_none() {
@@ -99,12 +99,12 @@ impl<'a> Tokens<'a> {
 
     /// Takes the start of a map, if it is next, by json's reader.
     #[inline(never)]
-    fn take_start_of_any(&mut self) -> Result<bool, Unread>
+    fn take_start_of_any(&mut self) -> Result<bool, QuickFault>
         ensures { IfOk result (λ taken. MatchBool taken (self.old ≡ begin_object ∷ self.new) (begins_object self.old ≡ false)) }
     {
         self.leave_plain()?;
         let Some(reader) = &mut self.reader else {
-            return Err(Unread::Unusual);
+            return Err(QuickFault::LeftToTree);
         };
         match reader.next() {
             Some(Token::BeginObject) => Ok(true),
@@ -114,7 +114,7 @@ impl<'a> Tokens<'a> {
 
     /// Takes the start of a map, if it is next.
     #[inline(always)]
-    pub(crate) fn take_begin_map(&mut self) -> Result<bool, Unread>
+    pub(crate) fn take_begin_map(&mut self) -> Result<bool, QuickFault>
         ensures { IfOk result (λ taken. MatchBool taken (self.old ≡ begin_object ∷ self.new) (begins_object self.old ≡ false)) }
     {
         if self.reader.is_none() {
@@ -128,12 +128,12 @@ impl<'a> Tokens<'a> {
 
     /// The next name, by json's reader; none at the end of the map.
     #[inline(never)]
-    fn key_of_any(&mut self) -> Result<Option<&'a str>, Unread>
+    fn key_of_any(&mut self) -> Result<Option<&'a str>, QuickFault>
         ensures { IfOk result (λ k. read_key self.old ≡ Some (option_map (λ s. s.now) k, self.new)) }
     {
         self.leave_plain()?;
         let Some(reader) = &mut self.reader else {
-            return Err(Unread::Unusual);
+            return Err(QuickFault::LeftToTree);
         };
         let key = reader.next_key()?;
         Ok(key)
@@ -141,7 +141,7 @@ impl<'a> Tokens<'a> {
 
     /// The next name, or none at the end of the map.
     #[inline(always)]
-    pub(crate) fn next_key(&mut self) -> Result<Option<&'a str>, Unread>
+    pub(crate) fn next_key(&mut self) -> Result<Option<&'a str>, QuickFault>
         ensures { IfOk result (λ k. read_key self.old ≡ Some (option_map (λ s. s.now) k, self.new)) }
     {
         if self.reader.is_none() {
@@ -159,12 +159,12 @@ impl<'a> Tokens<'a> {
 
     /// What a line's object goes on with, by json's reader.
     #[inline(never)]
-    fn next_of_line(&mut self) -> Result<Next, Unread>
+    fn next_of_line(&mut self) -> Result<Next, QuickFault>
         ensures { IfOk result (λ next. IsNext self.old next self.new) }
     {
         self.leave_plain()?;
         let Some(reader) = &mut self.reader else {
-            return Err(Unread::Unusual);
+            return Err(QuickFault::LeftToTree);
         };
         match reader.next_key() {
             Ok(Some(key)) => match name_of(key) {
@@ -178,7 +178,7 @@ impl<'a> Tokens<'a> {
 
     /// What a line's object goes on with.
     #[inline(always)]
-    pub(crate) fn next_member(&mut self) -> Result<Next, Unread>
+    pub(crate) fn next_member(&mut self) -> Result<Next, QuickFault>
         ensures { IfOk result (λ next. IsNext self.old next self.new) }
     {
         if self.reader.is_none() {
@@ -196,7 +196,7 @@ impl<'a> Tokens<'a> {
 
     /// The next token, which has to be a text.
     #[inline(always)]
-    pub(crate) fn next_text(&mut self) -> Result<&'a str, Unread>
+    pub(crate) fn next_text(&mut self) -> Result<&'a str, QuickFault>
         ensures { IfOk result (λ s. self.old ≡ string s.now ∷ self.new) }
     {
         if self.reader.is_none() {
@@ -207,13 +207,13 @@ impl<'a> Tokens<'a> {
         }
         match self.next_of_any()? {
             Token::String(text) => Ok(text),
-            _ => Err(Unread::Unusual),
+            _ => Err(QuickFault::LeftToTree),
         }
     }
 
     /// The text of the next token, which has to be a number.
     #[inline(always)]
-    pub(crate) fn next_number(&mut self) -> Result<&'a str, Unread>
+    pub(crate) fn next_number(&mut self) -> Result<&'a str, QuickFault>
         ensures { IfOk result (λ s. self.old ≡ number s.now ∷ self.new) }
     {
         if self.reader.is_none() {
@@ -224,18 +224,18 @@ impl<'a> Tokens<'a> {
         }
         match self.next_of_any()? {
             Token::Number(text) => Ok(text),
-            _ => Err(Unread::Unusual),
+            _ => Err(QuickFault::LeftToTree),
         }
     }
 
     /// Takes the end of a list, if it is next, by json's reader.
     #[inline(never)]
-    fn take_end_of_any(&mut self) -> Result<bool, Unread>
+    fn take_end_of_any(&mut self) -> Result<bool, QuickFault>
         ensures { IfOk result (λ taken. MatchBool taken (after_end_array self.old ≡ Some self.new) ((after_end_array self.old ≡ None) × (self.new ≡ self.old))) }
     {
         self.leave_plain()?;
         let Some(reader) = &mut self.reader else {
-            return Err(Unread::Unusual);
+            return Err(QuickFault::LeftToTree);
         };
         let taken = reader.take_end_array();
         Ok(taken)
@@ -243,7 +243,7 @@ impl<'a> Tokens<'a> {
 
     /// Takes the end of a list, if it is next.
     #[inline(always)]
-    pub(crate) fn take_end_array(&mut self) -> Result<bool, Unread>
+    pub(crate) fn take_end_array(&mut self) -> Result<bool, QuickFault>
         ensures { IfOk result (λ taken. MatchBool taken (after_end_array self.old ≡ Some self.new) ((after_end_array self.old ≡ None) × (self.new ≡ self.old))) }
     {
         if self.reader.is_none() {
@@ -260,12 +260,12 @@ impl<'a> Tokens<'a> {
 
     /// Whether no token is left, by json's reader.
     #[inline(never)]
-    fn ends_of_any(&mut self) -> Result<bool, Unread>
+    fn ends_of_any(&mut self) -> Result<bool, QuickFault>
         ensures { IfOk result (λ over. MatchBool over (self.old ≡ []) (self.old ≢ [])) }
     {
         self.leave_plain()?;
         let Some(reader) = &mut self.reader else {
-            return Err(Unread::Unusual);
+            return Err(QuickFault::LeftToTree);
         };
         let over = reader.next().is_none();
         Ok(over)
@@ -273,7 +273,7 @@ impl<'a> Tokens<'a> {
 
     /// Whether no token is left. No more may be read then.
     #[inline(always)]
-    pub(crate) fn ends(&mut self) -> Result<bool, Unread>
+    pub(crate) fn ends(&mut self) -> Result<bool, QuickFault>
         ensures { IfOk result (λ over. MatchBool over (self.old ≡ []) (self.old ≢ [])) }
     {
         if self.reader.is_none() {

@@ -9,10 +9,12 @@ use Rattle.line_protocol.specs.declared.calls.ReaderCalls.{ReaderCalls}
 use Rattle.line_protocol.specs.declared.fault.LineFault.{LineFault}
 use Rattle.line_protocol.specs.declared.fault.LineFault.TheVariants as fault
 use Rattle.line_protocol.specs.Calls.{StopsReading}
-use Rattle.line_protocol.specs.Lines.{lines_of, lines_limit}
-use Rattle.line_protocol.specs.LineRuns.{LinesTaken}
+use Rattle.line_protocol.specs.Limits.{lines_limit}
+use Rattle.line_protocol.specs.Lines.{lines_of}
+use Rattle.line_protocol.specs.LineRuns.{LinesTaken, TakesLine}
 use Rattle.line_protocol.specs.Gathered.{ReadsAll, StopsGathering}
 use Rattle.line_protocol.proofs.LinesOfBytes.{LinesTaken-trans, LinesTaken-kept, LinesTaken-self}
+use Rattle.line_protocol.proofs.TakenLines.{TakesLine-lines}
 use Rattle.line_protocol.proofs.Run.{all_taken_here, lines_some}
 
 pub record Gathered (from left : Option (List ℕ)) (all : List Line) : Type 0 where
@@ -25,16 +27,12 @@ gathered_none from all none = record { done = []; taken = LinesTaken-self from; 
 
 module _ (from left next : Option (List ℕ)) (all : List Line) (p : Gathered from left all) where
   -- one line more
-  pub gathered_more : (l : List ℕ) (said : Line) (more : List Line) → LinesTaken left next (l ∷ []) → said ≡ meaning_of l → more ≡ all ++ said ∷ [] → Gathered from next more
+  pub gathered_more : (l : List ℕ) (said : Line) (more : List Line) → TakesLine left next l → said ≡ meaning_of l → more ≡ all ++ said ∷ [] → Gathered from next more
   gathered_more l said more took is grown = record {
     done = p.done ++ l ∷ [];
-    taken = LinesTaken-trans from left next p.done (l ∷ []) p.taken took;
+    taken = LinesTaken-trans from left next p.done (l ∷ []) p.taken (TakesLine-lines left next l took);
     said = grown ∙ (λ i. p.said i ++ is i ∷ []) ∙ sym (map-append meaning_of p.done (l ∷ []));
   }
-
-  -- no line more
-  pub gathered_same : LinesTaken left next [] → Gathered from next all
-  gathered_same h = record { done = p.done; taken = subst (LinesTaken from next) (append-nil p.done) (LinesTaken-trans from left next p.done [] p.taken h); said = p.said }
 
   pub gathered_kept : Keeps left next → Gathered from next all
   gathered_kept h = record { done = p.done; taken = LinesTaken-kept from left next p.done p.taken h; said = p.said }

@@ -1,8 +1,8 @@
-pub mod Texts
 pub mod Plain
 pub mod Pushes
 pub mod Pieces
 pub mod LinesOfBytes
+pub mod TakenLines
 pub mod StepTexts
 pub mod Saids
 pub mod OwnLines

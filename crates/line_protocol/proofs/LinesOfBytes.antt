@@ -1,9 +1,10 @@
 -- Bytes that were taken, and the lines that they are.
-use Rattle.std.proofs.Common.{◌≡◌, ◌≢◌, ℕ, zero, suc, ◌<◌, List, [], ◌∷◌, ◌++◌, length, cond, Option, Some, None, refl, sym, ap, ◌∙◌, subst, arith, append_assoc, append-nil, ne_eqb}
+use Rattle.std.proofs.Common.{◌≡◌, ◌≢◌, ℕ, zero, suc, ◌<◌, ◌≤◌, inl, List, [], ◌∷◌, ◌++◌, length, cond, Option, Some, None, refl, sym, ap, ◌∙◌, subst, arith, append_assoc, append-nil, ne_eqb}
 use Rattle.std.specs.Io.KnownBytes.{Consumes, Keeps, IsAtEnd, prepend_known}
 use Rattle.std.proofs.KnownBytes.{Consumes-trans, Consumes-kept}
-use Rattle.line_protocol.specs.Lines.{onto, lines_of}
-use Rattle.line_protocol.specs.LineRuns.{LinesTaken, HasNoBreak}
+use Rattle.line_protocol.proofs.Pieces.{slice_range_empty}
+use Rattle.line_protocol.specs.Lines.{onto, lines_of, onto_first, whole_lines}
+use Rattle.line_protocol.specs.LineRuns.{left_of, LinesTaken, TakesLine, HasNoBreak}
 
 HasNoBreak-tail : (x : ℕ) (xs : List ℕ) → HasNoBreak (x ∷ xs) → HasNoBreak xs
 HasNoBreak-tail x xs h k lt = h (suc k) (omega arith)
@@ -16,7 +17,7 @@ HasNoBreak-append [] ys h g k lt = g k lt
 HasNoBreak-append (x ∷ xs) ys h g zero lt = h 0 (omega arith)
 HasNoBreak-append (x ∷ xs) ys h g (suc k) lt = HasNoBreak-append xs ys (HasNoBreak-tail x xs h) g k (omega arith)
 
-lines_of-break : (l rest : List ℕ) → HasNoBreak l → lines_of (l ++ 10 ∷ rest) ≡ l ∷ lines_of rest
+pub lines_of-break : (l rest : List ℕ) → HasNoBreak l → lines_of (l ++ 10 ∷ rest) ≡ l ∷ lines_of rest
 lines_of-break [] rest h = refl
 lines_of-break (x ∷ l) rest h =
     ap (λ b. cond b ([] ∷ lines_of (l ++ 10 ∷ rest)) (onto x (lines_of (l ++ 10 ∷ rest)))) (ne_eqb x 10 (head_apart x l h))
@@ -27,6 +28,20 @@ lines_of-last x [] h = ap (λ b. cond b ([] ∷ []) (onto x [])) (ne_eqb x 10 (h
 lines_of-last x (y ∷ l) h =
     ap (λ b. cond b ([] ∷ lines_of (y ∷ l)) (onto x (lines_of (y ∷ l)))) (ne_eqb x 10 (head_apart x (y ∷ l) h))
     ∙ ap (onto x) (lines_of-last y l (HasNoBreak-tail x (y ∷ l) h))
+
+-- ---- those that end with LF
+
+pub whole_lines-break : (l rest : List ℕ) → HasNoBreak l → whole_lines (l ++ 10 ∷ rest) ≡ l ∷ whole_lines rest
+whole_lines-break [] rest h = refl
+whole_lines-break (x ∷ l) rest h =
+    ap (λ b. cond b ([] ∷ whole_lines (l ++ 10 ∷ rest)) (onto_first x (whole_lines (l ++ 10 ∷ rest)))) (ne_eqb x 10 (head_apart x l h))
+    ∙ ap (onto_first x) (whole_lines-break l rest (HasNoBreak-tail x l h))
+
+pub whole_lines-none : (l : List ℕ) → HasNoBreak l → whole_lines l ≡ []
+whole_lines-none [] h = refl
+whole_lines-none (x ∷ l) h =
+    ap (λ b. cond b ([] ∷ whole_lines l) (onto_first x (whole_lines l))) (ne_eqb x 10 (head_apart x l h))
+    ∙ ap (onto_first x) (whole_lines-none l (HasNoBreak-tail x l h))
 
 -- ---- where they are known
 
@@ -47,10 +62,10 @@ LinesTaken-last (Some x) None l h s p e = absurd p
 LinesTaken-last (Some x) (Some y) [] h s p e = absurd (omega arith)
 LinesTaken-last (Some x) (Some y) (w ∷ l) h s p e = ap lines_of (p ∙ ap (λ k. (w ∷ l) ++ k) e ∙ append-nil (w ∷ l)) ∙ lines_of-last w l h ∙ ap (λ k. (w ∷ l) ∷ lines_of k) (sym e)
 
-pub LinesTaken-none : (a b : Option (List ℕ)) → Consumes a b [] → LinesTaken a b []
-LinesTaken-none None b p = tt
-LinesTaken-none (Some x) None p = absurd p
-LinesTaken-none (Some x) (Some y) p = ap lines_of p
+pub Consumes-none : (a b : Option (List ℕ)) → Consumes a b [] → Keeps a b
+Consumes-none None b p = tt
+Consumes-none (Some x) None p = absurd p
+Consumes-none (Some x) (Some y) p = sym p
 
 pub LinesTaken-kept : (a b c : Option (List ℕ)) (ls : List (List ℕ)) → LinesTaken a b ls → Keeps b c → LinesTaken a c ls
 LinesTaken-kept None b c ls p q = tt
@@ -73,12 +88,12 @@ IsAtEnd-left ahead (Some x) e h = ap (λ l. l ++ x) e ∙ h
 -- ---- one turn over what was read ahead
 
 pub step_broken : (k0 k1 : Option (List ℕ)) (seen front back whole : List ℕ) (rest : Option (List ℕ)) → Consumes k0 k1 seen → Keeps k1 (prepend_known whole rest) → HasNoBreak seen → HasNoBreak front
-    → whole ≡ front ++ 10 ∷ back → LinesTaken k0 (prepend_known back rest) ((seen ++ front) ∷ [])
+    → whole ≡ front ++ 10 ∷ back → TakesLine k0 (prepend_known back rest) (seen ++ front)
 step_broken k0 k1 seen front back whole rest p q h g e =
     let split : whole ≡ (front ++ 10 ∷ []) ++ back = e ∙ sym (append_assoc front (10 ∷ []) back) in
     let first = Consumes-kept k0 k1 (prepend_known whole rest) seen p q in
     let both = Consumes-trans k0 (prepend_known whole rest) (prepend_known back rest) seen (front ++ 10 ∷ []) first (front_taken whole (front ++ 10 ∷ []) back rest split) in
-    LinesTaken-broken k0 (prepend_known back rest) (seen ++ front) (HasNoBreak-append seen front h g) (subst (Consumes k0 (prepend_known back rest)) (sym (append_assoc seen front (10 ∷ []))) both)
+    record { one = HasNoBreak-append seen front h g; taken = inl (subst (Consumes k0 (prepend_known back rest)) (sym (append_assoc seen front (10 ∷ []))) both) }
 
 pub step_whole : (k0 k1 : Option (List ℕ)) (seen back whole : List ℕ) (rest : Option (List ℕ)) → Consumes k0 k1 seen → Keeps k1 (prepend_known whole rest) → back ≡ [] → Consumes k0 (prepend_known back rest) (seen ++ whole)
 step_whole k0 k1 seen back whole rest p q e =
@@ -95,6 +110,9 @@ prepend-nil None = refl
 prepend-nil (Some bytes) = refl
 
 -- a line and its LF stand whole in what was read ahead
-pub whole_taken : (front back whole : List ℕ) (rest : Option (List ℕ)) → HasNoBreak front → whole ≡ front ++ 10 ∷ back → LinesTaken (prepend_known whole rest) (prepend_known back rest) (front ∷ [])
-whole_taken front back whole rest h e =
-    LinesTaken-broken (prepend_known whole rest) (prepend_known back rest) front h (front_taken whole (front ++ 10 ∷ []) back rest (e ∙ sym (append_assoc front (10 ∷ []) back)))
+pub whole_taken : (front back whole : List ℕ) (rest : Option (List ℕ)) → HasNoBreak front → whole ≡ front ++ 10 ∷ back → TakesLine (prepend_known whole rest) (prepend_known back rest) front
+whole_taken front back whole rest h e = record { one = h; taken = inl (front_taken whole (front ++ 10 ∷ []) back rest (e ∙ sym (append_assoc front (10 ∷ []) back))) }
+
+-- nothing is read ahead
+pub left_of-none : (bytes : List ℕ) (start end : ℕ) (rest : Option (List ℕ)) → end ≤ start → left_of bytes start end rest ≡ rest
+left_of-none bytes start end rest none = ap (λ (ahead : List ℕ). prepend_known ahead rest) (slice_range_empty bytes start end none) ∙ prepend-nil rest

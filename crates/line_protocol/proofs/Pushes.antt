@@ -1,15 +1,7 @@
 -- What one push leaves in a text.
-use Rattle.std.proofs.Common.{◌≡◌, ◌++◌, ◌∷◌, [], List, ℕ, Result, Ok, Err, cond, is_ok, ap, ◌∙◌, OnOk, append-nil, append_assoc}
+use Rattle.std.proofs.Common.{◌≡◌, ◌++◌, ◌∷◌, [], List, ℕ, Result, Ok, Err, ap, ◌∙◌, OnOk, append-nil, append_assoc}
 use Rattle.json.specs.Token.{Token, string}
 use Rattle.json.specs.Print.{print, print_from, quoted}
-
-pub pushed : {X E : Type 0} (r : Result X E) (new old said meant : List ℕ) → new ≡ cond (is_ok r) (old ++ said) old → said ≡ meant → OnOk r (new ≡ old ++ meant)
-pushed (Ok x) new old said meant e f = e ∙ ap (λ l. old ++ l) f
-pushed (Err x) new old said meant e f = tt
-
-pub written : {X E : Type 0} (r : Result X E) (new old said meant : List ℕ) → OnOk r (new ≡ old ++ said) → said ≡ meant → OnOk r (new ≡ old ++ meant)
-written (Ok x) new old said meant e f = e ∙ ap (λ l. old ++ l) f
-written (Err x) new old said meant e f = tt
 
 -- what one text leaves that a writer of JSON adds
 pub quoted_after : {X E : Type 0} (r : Result X E) (part before new : List ℕ) (none tokens : List Token) → none ≡ [] → OnOk r (tokens ≡ none ++ string part ∷ []) → new ≡ before ++ print tokens → OnOk r (new ≡ before ++ quoted part)

@@ -1,5 +1,5 @@
 -- One line more of a run.
-use Rattle.std.proofs.Common.{◌≡◌, ◌≢◌, ℕ, suc, ◌+◌, ◌<◌, ◌==◌, Bool, true, false, List, [], ◌∷◌, ◌++◌, length, take, cond, Option, Some, None, IfSome, Result, Err, IfErr, refl, sym, ap, ap₂, ◌∙◌, subst, inl, inr, arith, append_assoc, append-nil, length-append, length-take, take_all, ⊎_elim}
+use Rattle.std.proofs.Common.{◌≡◌, ◌≢◌, ℕ, suc, ◌+◌, ◌<◌, ◌≤◌, ◌==◌, Bool, true, false, List, [], ◌∷◌, ◌++◌, length, take, cond, Option, Some, None, IfSome, Result, Err, IfErr, refl, sym, ap, ap₂, ◌∙◌, subst, inl, inr, arith, append_assoc, append-nil, length-append, length-take, take_all, ⊎_elim}
 use Rattle.std.proofs.lemmas.Bool.{cases_lt}
 use Rattle.std.specs.Io.KnownBytes.{Appends, Keeps, IsAtEnd, prepend_known}
 use Rattle.std.proofs.KnownBytes.{Appends-trans, Appends-kept, Appends-nil}
@@ -12,12 +12,14 @@ use Rattle.silo_model.specs.Run.{run_by, whole_run}
 use Rattle.silo_core.specs.History.{History}
 use Rattle.silo_core.specs.Runs.{Takes}
 use Rattle.silo_core.proofs.Runs.{taken_none, taken_one, taken_on}
-use Rattle.line_protocol.specs.Calls.{HasCause, StopsReading}
-use Rattle.line_protocol.specs.Lines.{lines_of, onto, lines_limit}
+use Rattle.line_protocol.specs.Calls.{HasCause, HasNothingAhead, StopsReading}
+use Rattle.line_protocol.specs.Limits.{kept_limit, lines_limit}
+use Rattle.line_protocol.specs.Lines.{lines_of, onto}
 use Rattle.line_parser.specs.Meaning.{line_limit, meaning_of}
 use Rattle.line_protocol.specs.LineTexts.{whole_stepper, said_lines, steps_said, as_taken, lines_text}
-use Rattle.line_protocol.specs.LineRuns.{AnswersLine, AnswersSaid, AnswersLines, AnswersNext, LinesTaken, AnswersAll, StopsBefore, StopsAt, WrittenInPart, StopsAfter, StopsBy, MayTake, LineStopsBy}
+use Rattle.line_protocol.specs.LineRuns.{AnswersLine, AnswersSaid, AnswersLines, AnswersNext, LinesTaken, TakesLine, TakesPart, AreTaken, AreTakenButOne, AnswersAll, left_of, StopsBefore, StopsAt, WrittenInPart, StopsAfter, StopsBy, MayTake, LineStopsBy}
 use Rattle.line_protocol.specs.declared.calls.ReaderCalls.{ReaderCalls}
+use Rattle.line_protocol.specs.declared.line_reader.LineReader.{LineReader}
 use Rattle.line_protocol.specs.declared.written.WriterCalls.{WriterCalls}
 use Rattle.line_protocol.specs.declared.fault.LineFault.{LineFault}
 use Rattle.line_protocol.specs.declared.fault.LineFault.TheVariants as fault
@@ -26,7 +28,8 @@ use Rattle.line_parser.specs.declared.line.Line.TheVariants as line
 use Rattle.line_parser.proofs.Meaning.{said_under, meaning_of-under, long_under}
 use Rattle.line_protocol.proofs.Saids.{said_lines-more, steps_said-more, as_taken-append, steps_said-taken, lines_text-append}
 use Rattle.line_protocol.proofs.OwnLines.{lines_own}
-use Rattle.line_protocol.proofs.LinesOfBytes.{LinesTaken-trans, LinesTaken-kept}
+use Rattle.line_protocol.proofs.LinesOfBytes.{LinesTaken-trans, LinesTaken-kept, left_of-none}
+use Rattle.line_protocol.proofs.TakenLines.{Took, Took-none, Took-kept, Took-more, TakesLine-lines, are_taken, none_beyond, one_beyond}
 
 -- ---- a line that was cut says what the whole line says
 
@@ -39,8 +42,8 @@ said_cut_under limit (b ∷ bytes) =
 said_cut_at : (limit cut : ℕ) (l : List ℕ) → cut ≡ suc limit → said_under limit (take cut l) ≡ said_under limit l
 said_cut_at limit cut l e = ap (λ n. said_under limit (take n l)) e ∙ said_cut_under limit l
 
-pub said_cut : (l : List ℕ) → meaning_of (take 65537 l) ≡ meaning_of l
-said_cut l = meaning_of-under (take 65537 l) ∙ said_cut_at line_limit 65537 l refl ∙ sym (meaning_of-under l)
+pub said_cut : (l : List ℕ) → meaning_of (take kept_limit l) ≡ meaning_of l
+said_cut l = meaning_of-under (take kept_limit l) ∙ said_cut_at line_limit kept_limit l refl ∙ sym (meaning_of-under l)
 
 -- ---- one line more
 
@@ -95,17 +98,19 @@ pub record LinesDone (logic : Logic) (count : ℕ) (from left : Option (List ℕ
   pub done : List (List ℕ)
   pub counted : length done ≡ count
   pub taken : LinesTaken from left done
+  pub took : Took from left done
   pub given : List Answer
   pub text : List ℕ
   pub answers : AnswersSaid logic old (said_lines done) given new text
   pub written : Appends before after text
 
-pub LinesDone-none : (logic : Logic) (from left : Option (List ℕ)) (old : History) (before : Option (List ℕ)) → LeadsTo logic old.setup old.journal old.whole → LinesTaken from left [] → LinesDone logic 0 from left old old before before
-LinesDone-none logic from left old before leads h = record {
+pub LinesDone-none : (logic : Logic) (from left : Option (List ℕ)) (old : History) (before : Option (List ℕ)) → LeadsTo logic old.setup old.journal old.whole → LinesTaken from left [] → Took from left [] → LinesDone logic 0 from left old old before before
+LinesDone-none logic from left old before leads h t = record {
   leads = leads;
   done = [];
   counted = refl;
   taken = h;
+  took = t;
   given = [];
   text = [];
   answers = said_none logic old;
@@ -120,7 +125,7 @@ line_more logic old mid new done l given text last p h =
     (next.more, subst (λ (saids : List Line). AnswersSaid logic old saids (given ++ next.more) new (text ++ last)) (sym (said_lines-more done l)) next.all)
 
 pub LinesDone-more : (logic : Logic) (count : ℕ) (from left next : Option (List ℕ)) (old mid new : History) (before during after : Option (List ℕ)) (l : List ℕ) (said : Line) (last : List ℕ)
-    → LinesDone logic count from left old mid before during → LinesTaken left next (l ∷ []) → said ≡ meaning_of l
+    → LinesDone logic count from left old mid before during → TakesLine left next l → said ≡ meaning_of l
     → AnswersLine logic mid said new last → Appends during after last
     → LinesDone logic (count + 1) from next old new before after
 LinesDone-more logic count from left next old mid new before during after l said last p took e answers wrote =
@@ -129,7 +134,8 @@ LinesDone-more logic count from left next old mid new before during after l said
       leads = p.leads;
       done = p.done ++ l ∷ [];
       counted = omega (arith, p.counted, length-append p.done (l ∷ []));
-      taken = LinesTaken-trans from left next p.done (l ∷ []) p.taken took;
+      taken = LinesTaken-trans from left next p.done (l ∷ []) p.taken (TakesLine-lines left next l took);
+      took = Took-more from left next p.done l p.took took;
       given = p.given ++ all.0;
       text = p.text ++ last;
       answers = all.1;
@@ -139,20 +145,13 @@ LinesDone-more logic count from left next old mid new before during after l said
 -- the same is left to read
 pub LinesDone-kept : (logic : Logic) (count : ℕ) (from left next : Option (List ℕ)) (old new : History) (before after : Option (List ℕ)) → LinesDone logic count from left old new before after → Keeps left next → LinesDone logic count from next old new before after
 LinesDone-kept logic count from left next old new before after p h =
-    record { leads = p.leads; done = p.done; counted = p.counted; taken = LinesTaken-kept from left next p.done p.taken h; given = p.given; text = p.text; answers = p.answers; written = p.written }
+    record { leads = p.leads; done = p.done; counted = p.counted; taken = LinesTaken-kept from left next p.done p.taken h; took = Took-kept from left next p.done p.took h; given = p.given; text = p.text; answers = p.answers; written = p.written }
 
 -- what was written went out
 pub LinesDone-flushed : (logic : Logic) (count : ℕ) (from left : Option (List ℕ)) (old new : History) (before during after : Option (List ℕ)) → LinesDone logic count from left old new before during → Keeps during after
     → LinesDone logic count from left old new before after
 LinesDone-flushed logic count from left old new before during after p h =
-    record { leads = p.leads; done = p.done; counted = p.counted; taken = p.taken; given = p.given; text = p.text; answers = p.answers; written = Appends-kept before during after _ p.written h }
-
--- no line more was taken
-pub LinesDone-same : (logic : Logic) (count : ℕ) (from left next : Option (List ℕ)) (old new : History) (before after : Option (List ℕ)) → LinesDone logic count from left old new before after → LinesTaken left next []
-    → LinesDone logic count from next old new before after
-LinesDone-same logic count from left next old new before after p h =
-    let taken = subst (LinesTaken from next) (append-nil p.done) (LinesTaken-trans from left next p.done [] p.taken h) in
-    record { leads = p.leads; done = p.done; counted = p.counted; taken = taken; given = p.given; text = p.text; answers = p.answers; written = p.written }
+    record { leads = p.leads; done = p.done; counted = p.counted; taken = p.taken; took = p.took; given = p.given; text = p.text; answers = p.answers; written = Appends-kept before during after _ p.written h }
 
 -- what was taken and answered, for all and for each tenant
 lines_answered : (logic : Logic) (count : ℕ) (from left : Option (List ℕ)) (old new : History) (before after : Option (List ℕ)) (p : LinesDone logic count from left old new before after) → AnswersLines logic old p.done p.given new p.text
@@ -179,11 +178,8 @@ LinesDone-all logic count n (Some input) ahead rest old new before after same no
 
 -- ---- a fault
 
-stops_before : (logic : Logic) (count : ℕ) (from left : Option (List ℕ)) (old new : History) (before after : Option (List ℕ)) → LinesDone logic count from left old new before after
-    → IfSome from (λ input. StopsBefore logic (lines_of input) old new before after)
-stops_before logic count None left old new before after p = tt
-stops_before logic count (Some input) None old new before after p = absurd p.taken
-stops_before logic count (Some input) (Some bytes) old new before after p = record {
+stops_before : (logic : Logic) (count : ℕ) (input bytes : List ℕ) (old new : History) (before after : Option (List ℕ)) → LinesDone logic count (Some input) (Some bytes) old new before after → StopsBefore logic (lines_of input) old new before after
+stops_before logic count input bytes old new before after p = record {
   done = p.done;
   rest = lines_of bytes;
   parts = p.taken;
@@ -193,11 +189,8 @@ stops_before logic count (Some input) (Some bytes) old new before after p = reco
   written = p.written;
 }
 
-stops_at : (logic : Logic) (count : ℕ) (from left : Option (List ℕ)) (old new : History) (before after : Option (List ℕ)) → LinesDone logic count from left old new before after
-    → IfSome from (λ input. StopsAt logic (lines_of input) old new before after)
-stops_at logic count None left old new before after p = tt
-stops_at logic count (Some input) None old new before after p = absurd p.taken
-stops_at logic count (Some input) (Some bytes) old new before after p = record {
+stops_at : (logic : Logic) (count : ℕ) (input bytes : List ℕ) (old new : History) (before after : Option (List ℕ)) → LinesDone logic count (Some input) (Some bytes) old new before after → StopsAt logic (lines_of input) old new before after
+stops_at logic count input bytes old new before after p = record {
   done = p.done;
   rest = lines_of bytes;
   parts = p.taken;
@@ -208,6 +201,12 @@ stops_at logic count (Some input) (Some bytes) old new before after p = record {
   next = inl refl;
   written = p.written;
 }
+
+-- what was taken, if nothing is read ahead
+taken_here : (input : List ℕ) (left : Option (List ℕ)) (done : List (List ℕ)) (reading : LineReader) (rest : Option (List ℕ)) → reading.end ≤ reading.start → Took (Some input) left done
+    → TakesPart left (left_of reading.bytes.items reading.start reading.end rest) → AreTaken input rest done
+taken_here input left done reading rest none took part =
+    subst (λ (o : Option (List ℕ)). AreTaken input o done) (left_of-none reading.bytes.items reading.start reading.end rest none) (are_taken input left _ done took part)
 
 -- for a reason beside it
 for_reason : (from : Option (List ℕ)) (P Q : List ℕ → Type 0) → ((input : List ℕ) → P input → Q input) → IfSome from P → IfSome from Q
@@ -241,12 +240,20 @@ stops_flushing logic count (Some input) (Some bytes) old new before after p =
     }
 
 -- while the next line is read, or memory is refused before
-pub stops_reading : (logic : Logic) (e : LineFault) (calls : ReaderCalls) (writing : WriterCalls) (count : ℕ) (from left : Option (List ℕ)) (old new : History) (before after : Option (List ℕ)) → HasCause e calls writing
-    → LinesDone logic count from left old new before after → IfSome from (λ input. StopsBy logic e (lines_of input) calls writing old new before after)
-stops_reading logic fault.Read calls writing count from left old new before after cause p = for_reason from _ _ (λ input stops. (stops, cause)) (stops_before logic count from left old new before after p)
-stops_reading logic fault.TooMuch calls writing count from left old new before after cause p = for_reason from _ _ (λ input stops. (stops, inr cause)) (stops_before logic count from left old new before after p)
-stops_reading logic fault.Memory calls writing count from left old new before after cause p = stops_at logic count from left old new before after p
-stops_reading logic fault.Write calls writing count from left old new before after cause p = for_reason from _ _ (λ input stops. (stops, cause)) (stops_flushing logic count from left old new before after p)
+pub stops_reading : (logic : Logic) (e : LineFault) (reading : LineReader) (rest : Option (List ℕ)) (writing : WriterCalls) (count : ℕ) (from left : Option (List ℕ)) (old new : History) (before after : Option (List ℕ))
+    → HasCause e reading.calls writing → HasNothingAhead e reading.start reading.end → TakesPart left (left_of reading.bytes.items reading.start reading.end rest) → LinesDone logic count from left old new before after
+    → IfSome from (λ input. StopsBy logic e input reading.calls (left_of reading.bytes.items reading.start reading.end rest) rest writing old new before after)
+unfolding stops_before stops_at
+stops_reading logic e reading rest writing count None left old new before after cause none part p = tt
+stops_reading logic e reading rest writing count (Some input) None old new before after cause none part p = absurd p.taken
+stops_reading logic fault.Read reading rest writing count (Some input) (Some bytes) old new before after cause none part p =
+    (stops_before logic count input bytes old new before after p, cause, taken_here input (Some bytes) p.done reading rest none p.took part)
+stops_reading logic fault.TooMuch reading rest writing count (Some input) (Some bytes) old new before after cause none part p =
+    (stops_before logic count input bytes old new before after p, inr (cause, taken_here input (Some bytes) p.done reading rest none p.took part))
+stops_reading logic fault.Memory reading rest writing count (Some input) (Some bytes) old new before after cause none part p =
+    (stops_at logic count input bytes old new before after p, none_beyond input (Some bytes) _ p.done p.took part)
+stops_reading logic fault.Write reading rest writing count (Some input) (Some bytes) old new before after cause none part p =
+    (stops_flushing logic count (Some input) (Some bytes) old new before after p, cause)
 
 -- what ends reading has its cause
 pub cause_of_reading : (e : LineFault) (calls : ReaderCalls) (writing : WriterCalls) → StopsReading e calls → HasCause e calls writing
@@ -262,6 +269,20 @@ cause_of_flushing fault.TooMuch calls writing is failed = absurd cc
 cause_of_flushing fault.Memory calls writing is failed = tt
 cause_of_flushing fault.Write calls writing is failed = failed
 
+-- after a failed read nothing is read ahead
+pub nothing_ahead : (e : LineFault) (reading : LineReader) → reading.end ≤ reading.start → HasNothingAhead e reading.start reading.end
+nothing_ahead fault.Read reading none = none
+nothing_ahead fault.TooMuch reading none = none
+nothing_ahead fault.Memory reading none = tt
+nothing_ahead fault.Write reading none = tt
+
+-- nothing is asked of what is read ahead, where the writer failed
+pub ahead_at_flushing : {T : Type 0} (e : LineFault) (reading : LineReader) → ◌≡◌ {A = Result T LineFault} (Err e) (Err fault.Write) → HasNothingAhead e reading.start reading.end
+ahead_at_flushing fault.Read reading is = absurd cc
+ahead_at_flushing fault.TooMuch reading is = absurd cc
+ahead_at_flushing fault.Memory reading is = tt
+ahead_at_flushing fault.Write reading is = tt
+
 -- bytes that are there are some line
 onto_some : (b : ℕ) (lines : List (List ℕ)) → onto b lines ≢ []
 onto_some b [] h = absurd cc
@@ -276,11 +297,11 @@ lines_some [] some h = absurd (omega arith)
 lines_some (b ∷ bytes) some h = first_some (b == 10) b (lines_of bytes) h
 
 -- there are more lines than an input may have
-pub stops_full : (logic : Logic) (calls : ReaderCalls) (writing : WriterCalls) (count : ℕ) (from : Option (List ℕ)) (ahead : List ℕ) (rest : Option (List ℕ)) (old new : History) (before after : Option (List ℕ)) → count ≡ lines_limit → 0 < length ahead
-    → LinesDone logic count from (prepend_known ahead rest) old new before after → IfSome from (λ input. StopsBy logic fault.TooMuch (lines_of input) calls writing old new before after)
-stops_full logic calls writing count None ahead rest old new before after full some p = tt
-stops_full logic calls writing count (Some input) ahead None old new before after full some p = absurd p.taken
-stops_full logic calls writing count (Some input) ahead (Some bytes) old new before after full some p = (
+pub stops_full : (logic : Logic) (calls : ReaderCalls) (unread left : Option (List ℕ)) (writing : WriterCalls) (count : ℕ) (from : Option (List ℕ)) (ahead : List ℕ) (rest : Option (List ℕ)) (old new : History) (before after : Option (List ℕ)) → count ≡ lines_limit → 0 < length ahead
+    → LinesDone logic count from (prepend_known ahead rest) old new before after → IfSome from (λ input. StopsBy logic fault.TooMuch input calls unread left writing old new before after)
+stops_full logic calls unread left writing count None ahead rest old new before after full some p = tt
+stops_full logic calls unread left writing count (Some input) ahead None old new before after full some p = absurd p.taken
+stops_full logic calls unread left writing count (Some input) ahead (Some bytes) old new before after full some p = (
   record {
     done = p.done;
     rest = lines_of (ahead ++ bytes);
@@ -319,13 +340,10 @@ stops_in_writing logic count (Some input) (Some bytes) (Some others) old mid new
       part = part;
     }
 
-stops_for_memory : (logic : Logic) (count : ℕ) (from left next : Option (List ℕ)) (old mid new : History) (before after : Option (List ℕ)) (l : List ℕ)
-    → LinesDone logic count from left old mid before after → LinesTaken left next (l ∷ []) → MayTake logic mid (meaning_of l) new
-    → IfSome from (λ input. StopsAt logic (lines_of input) old new before after)
-stops_for_memory logic count None left next old mid new before after l p took may = tt
-stops_for_memory logic count (Some input) None next old mid new before after l p took may = absurd p.taken
-stops_for_memory logic count (Some input) (Some bytes) None old mid new before after l p took may = absurd took
-stops_for_memory logic count (Some input) (Some bytes) (Some others) old mid new before after l p took may = record {
+stops_for_memory : (logic : Logic) (count : ℕ) (input bytes others : List ℕ) (old mid new : History) (before after : Option (List ℕ)) (l : List ℕ)
+    → LinesDone logic count (Some input) (Some bytes) old mid before after → LinesTaken (Some bytes) (Some others) (l ∷ []) → MayTake logic mid (meaning_of l) new
+    → StopsAt logic (lines_of input) old new before after
+stops_for_memory logic count input bytes others old mid new before after l p took may = record {
   done = p.done;
   rest = l ∷ lines_of others;
   parts = p.taken ∙ ap (λ ls. p.done ++ ls) took;
@@ -342,20 +360,32 @@ stops_for_memory logic count (Some input) (Some bytes) (Some others) old mid new
         let all = line_more logic old mid new p.done l p.given p.text took_it.0 p.answers took_it.1 in
         (all.0, took_it.0, lines_own logic old new (p.done ++ l ∷ []) (p.given ++ all.0) (p.text ++ took_it.0) p.leads all.1)
 
-pub stops_answering : (logic : Logic) (e : LineFault) (calls : ReaderCalls) (writing : WriterCalls) (count : ℕ) (from left next : Option (List ℕ)) (old mid new : History) (before during after : Option (List ℕ)) (l : List ℕ) (said : Line)
-    → LinesDone logic count from left old mid before during → LinesTaken left next (l ∷ []) → said ≡ meaning_of l → LineStopsBy logic e said writing mid new during after
-    → IfSome from (λ input. StopsBy logic e (lines_of input) calls writing old new before after)
-stops_answering logic fault.Read calls writing count from left next old mid new before during after l said p took e h = absurd h
-stops_answering logic fault.TooMuch calls writing count from left next old mid new before during after l said p took e h = absurd h
-stops_answering logic fault.Memory calls writing count from left next old mid new before during after l said p took e h =
-    stops_for_memory logic count from left next old mid new before after l (LinesDone-flushed logic count from left old mid before during after p h.1) took (subst (λ (s : Line). MayTake logic mid s new) e h.0)
-stops_answering logic fault.Write calls writing count from left next old mid new before during after l said p took e h =
-    for_reason from _ _ (λ input stops. (stops, h.1)) (stops_in_writing logic count from left next old mid new before during after l h.0.0 p took (subst (λ (s : Line). AnswersLine logic mid s new h.0.0) e h.0.1) h.0.2)
+stopped_for_memory : (logic : Logic) (reading : LineReader) (rest : Option (List ℕ)) (writing : WriterCalls) (count : ℕ) (from left next : Option (List ℕ)) (old mid new : History) (before after : Option (List ℕ)) (l : List ℕ)
+    → next ≡ left_of reading.bytes.items reading.start reading.end rest → LinesDone logic count from left old mid before after → TakesLine left next l → MayTake logic mid (meaning_of l) new
+    → IfSome from (λ input. StopsBy logic fault.Memory input reading.calls (left_of reading.bytes.items reading.start reading.end rest) rest writing old new before after)
+unfolding stops_for_memory
+stopped_for_memory logic reading rest writing count None left next old mid new before after l is p took may = tt
+stopped_for_memory logic reading rest writing count (Some input) None next old mid new before after l is p took may = absurd p.taken
+stopped_for_memory logic reading rest writing count (Some input) (Some bytes) None old mid new before after l is p took may = absurd (TakesLine-lines (Some bytes) None l took)
+stopped_for_memory logic reading rest writing count (Some input) (Some bytes) (Some others) old mid new before after l is p took may = (
+  stops_for_memory logic count input bytes others old mid new before after l p (TakesLine-lines (Some bytes) (Some others) l took) may,
+  subst (λ (o : Option (List ℕ)). AreTakenButOne input o p.done) is (one_beyond input (Some bytes) (Some others) p.done l p.took took),
+)
+
+pub stops_answering : (logic : Logic) (e : LineFault) (reading : LineReader) (rest : Option (List ℕ)) (writing : WriterCalls) (count : ℕ) (from left : Option (List ℕ)) (old mid new : History) (before during after : Option (List ℕ)) (l : List ℕ) (said : Line)
+    → LinesDone logic count from left old mid before during → TakesLine left (left_of reading.bytes.items reading.start reading.end rest) l → said ≡ meaning_of l → LineStopsBy logic e said writing mid new during after
+    → IfSome from (λ input. StopsBy logic e input reading.calls (left_of reading.bytes.items reading.start reading.end rest) rest writing old new before after)
+stops_answering logic fault.Read reading rest writing count from left old mid new before during after l said p took e h = absurd h
+stops_answering logic fault.TooMuch reading rest writing count from left old mid new before during after l said p took e h = absurd h
+stops_answering logic fault.Memory reading rest writing count from left old mid new before during after l said p took e h =
+    stopped_for_memory logic reading rest writing count from left _ old mid new before after l refl (LinesDone-flushed logic count from left old mid before during after p h.1) took (subst (λ (s : Line). MayTake logic mid s new) e h.0)
+stops_answering logic fault.Write reading rest writing count from left old mid new before during after l said p took e h =
+    for_reason from _ _ (λ input stops. (stops, h.1)) (stops_in_writing logic count from left _ old mid new before during after l h.0.0 p (TakesLine-lines left _ l took) (subst (λ (s : Line). AnswersLine logic mid s new h.0.0) e h.0.1) h.0.2)
 
 -- what a `?` hands on
 pub handed_on : {T E : Type 0} (r : Result T E) (P : E → Type 0) (e : E) → r ≡ Err e → P e → IfErr r P
 handed_on r P e is h = subst (λ x. IfErr x P) (sym is) h
 
 -- a line that is cut in the same place says the same
-pub same_said : (found shown l : List ℕ) → found ≡ shown → take 65537 shown ≡ take 65537 l → meaning_of found ≡ meaning_of l
+pub same_said : (found shown l : List ℕ) → found ≡ shown → take kept_limit shown ≡ take kept_limit l → meaning_of found ≡ meaning_of l
 same_said found shown l e h = ap meaning_of e ∙ sym (said_cut shown) ∙ ap meaning_of h ∙ said_cut l

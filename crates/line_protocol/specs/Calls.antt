@@ -1,6 +1,7 @@
 -- What a call of a reader comes to, and why reading ends with a fault, its writer's too.
 use Rattle.std.specs.Prelude.{◌≡◌, ◌≤◌, ℕ, Bool, true, false, List, length, take, Option}
 use Rattle.std.specs.Io.KnownBytes.{Keeps, Consumes, IsAtEnd}
+use Rattle.line_protocol.specs.Limits.{calls_limit}
 use Rattle.line_protocol.specs.declared.calls.Call.{Call}
 use Rattle.line_protocol.specs.declared.calls.Call.TheVariants.{Gave, Interrupted, Failed}
 use Rattle.line_protocol.specs.declared.calls.ReaderCalls.{ReaderCalls}
@@ -19,20 +20,23 @@ Called old new buffer (Gave n) = (n ≤ length buffer) × Consumes old new (take
 Called old new buffer Interrupted = Keeps old new
 Called old new buffer Failed = Keeps old new
 
--- calls of a reader, at most
-abbrev pub calls_limit : ℕ
-calls_limit = 1073741824
-
 -- Reading fails only if the last call of the reader failed, and gives up only if all calls were made. No call of a writer is made.
 abbrev pub StopsReading : LineFault → ReaderCalls → Type 0
 StopsReading fault.Read calls = calls.failed ≡ true
-StopsReading fault.TooMuch calls = calls.made ≡ 1073741824
+StopsReading fault.TooMuch calls = calls.made ≡ calls_limit
 StopsReading fault.Memory calls = Unit {0}
 StopsReading fault.Write calls = ⊥
 
 -- The same, and letting out what was written fails only if a call of the writer failed.
 abbrev pub HasCause : LineFault → ReaderCalls → WriterCalls → Type 0
 HasCause fault.Read calls writing = calls.failed ≡ true
-HasCause fault.TooMuch calls writing = calls.made ≡ 1073741824
+HasCause fault.TooMuch calls writing = calls.made ≡ calls_limit
 HasCause fault.Memory calls writing = Unit {0}
 HasCause fault.Write calls writing = writing.failed ≡ true
+
+-- After a fault of reading nothing is read ahead, from `start` to `end`: a call of the reader failed, or would be one too many.
+abbrev pub HasNothingAhead : LineFault → ℕ → ℕ → Type 0
+HasNothingAhead fault.Read start end = end ≤ start
+HasNothingAhead fault.TooMuch start end = end ≤ start
+HasNothingAhead fault.Memory start end = Unit {0}
+HasNothingAhead fault.Write start end = Unit {0}

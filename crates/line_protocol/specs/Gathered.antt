@@ -1,7 +1,7 @@
 -- What every line of an input says.
 use Rattle.std.specs.Prelude.{◌≡◌, ◌<◌, ◌⊎◌, ℕ, List, [], Option, Some, IfSome, length, map, true}
-use Rattle.line_protocol.specs.Calls.{calls_limit}
-use Rattle.line_protocol.specs.Lines.{lines_of, lines_limit}
+use Rattle.line_protocol.specs.Limits.{calls_limit, lines_limit}
+use Rattle.line_protocol.specs.Lines.{lines_of}
 use Rattle.line_parser.specs.Meaning.{meaning_of}
 use Rattle.line_parser.specs.declared.line.Line.{Line}
 use Rattle.line_protocol.specs.declared.calls.ReaderCalls.{ReaderCalls}

@@ -1,6 +1,6 @@
 -- What a run over lines leaves: in the silo, in the reader and in the writer, and as each tenant sees it.
 use Rattle.std.specs.Prelude.{◌≡◌, ◌≢◌, ℕ, ◌<◌, ◌≤◌, List, [], ◌∷◌, ◌++◌, length, slice_index, slice_range, true, Option, Some, None, Ok, ◌⊎◌, ⊤}
-use Rattle.std.specs.Io.KnownBytes.{Appends, Keeps, prepend_known}
+use Rattle.std.specs.Io.KnownBytes.{Appends, Keeps, Consumes, IsAtEnd, prepend_known}
 use Rattle.silo_event.specs.Failed.{marked_step}
 use Rattle.silo_event.specs.declared.step.Answer.{Answer}
 use Rattle.grain_kinds.specs.Logic.{Logic}
@@ -9,8 +9,8 @@ use Rattle.silo_model.specs.Run.{answers_to}
 use Rattle.silo_model.specs.Parts.{AnsweredAlone}
 use Rattle.silo_core.specs.History.{History, Answered}
 use Rattle.silo_core.specs.Runs.{Takes}
-use Rattle.line_protocol.specs.Calls.{calls_limit}
-use Rattle.line_protocol.specs.Lines.{lines_of, lines_limit}
+use Rattle.line_protocol.specs.Limits.{calls_limit, lines_limit}
+use Rattle.line_protocol.specs.Lines.{lines_of, whole_lines}
 use Rattle.line_protocol.specs.Text.{refusal_line}
 use Rattle.line_protocol.specs.LineTexts.{whole_stepper, machine_stepper, said_lines, steps_said, as_taken, ended, line_text, line_texts, lines_text, lines_to, texts_to}
 use Rattle.line_parser.specs.declared.line.Line.{Line}
@@ -63,6 +63,29 @@ LinesTaken (Some bytes) (Some others) lines = lines_of bytes ≡ lines ++ lines_
 
 abbrev pub HasNoBreak : List ℕ → Type 0
 HasNoBreak bytes = (k : ℕ) → k < length bytes → slice_index bytes k ≢ 10
+
+-- one line was taken: with its LF, or the last one of the input without
+pub record TakesLine (old new : Option (List ℕ)) (l : List ℕ) : Type 0 where
+  pub one : HasNoBreak l
+  pub taken : Consumes old new (l ++ 10 ∷ []) ⊎ ((0 < length l) × Consumes old new l × IsAtEnd new)
+
+-- at most the front of a line was taken, and no LF
+pub record TakesPart (old new : Option (List ℕ)) : Type 0 where
+  pub front : List ℕ
+  pub one : HasNoBreak front
+  pub taken : Consumes old new front
+
+-- Of the input this is left, and these are the lines of what was taken: those that end with LF, and at the end of the input also a last one without.
+pub record AreTaken (input : List ℕ) (left : Option (List ℕ)) (lines : List (List ℕ)) : Type 0 where
+  pub taken : List ℕ
+  pub parts : Consumes (Some input) left taken
+  pub all : (lines ≡ whole_lines taken) ⊎ ((lines ≡ lines_of taken) × IsAtEnd left)
+
+-- the same of these lines, and of one more at most
+pub record AreTakenButOne (input : List ℕ) (left : Option (List ℕ)) (lines : List (List ℕ)) : Type 0 where
+  pub last : List (List ℕ)
+  pub at_most_one : length last ≤ 1
+  pub all : AreTaken input left (lines ++ last)
 
 -- ---- a run
 
@@ -127,11 +150,15 @@ abbrev pub IsFull : List (List ℕ) → List (List ℕ) → Type 0
 IsFull done rest = (length done ≡ lines_limit) × (rest ≢ [])
 
 -- Why a run stops, by its fault: the last call of the reader failed; there were too many lines, or all calls of the reader were made; memory was refused; or a call of the writer failed.
-abbrev pub StopsBy : Logic → LineFault → List (List ℕ) → ReaderCalls → WriterCalls → History → History → Option (List ℕ) → Option (List ℕ) → Type 0
-StopsBy logic fault.Read lines calls writing old new before after = StopsBefore logic lines old new before after × (calls.failed ≡ true)
-StopsBy logic fault.TooMuch lines calls writing old new before after = (p : StopsBefore logic lines old new before after) × (IsFull p.done p.rest ⊎ (calls.made ≡ calls_limit))
-StopsBy logic fault.Memory lines calls writing old new before after = StopsAt logic lines old new before after
-StopsBy logic fault.Write lines calls writing old new before after = StopsAfter logic lines old new before after × (writing.failed ≡ true)
+-- And which line failed, by what the reader has left, and by what is left with the bytes that are read ahead. `Read`, and `TooMuch` by calls: the lines that were done are those that were taken, and nothing is read ahead. `Memory`: of the lines that were taken at most the last one wasn't done.
+abbrev pub StopsBy : Logic → LineFault → List ℕ → ReaderCalls → Option (List ℕ) → Option (List ℕ) → WriterCalls → History → History → Option (List ℕ) → Option (List ℕ) → Type 0
+StopsBy logic fault.Read input calls ahead left writing old new before after =
+    (p : StopsBefore logic (lines_of input) old new before after) × (calls.failed ≡ true) × AreTaken input left p.done
+StopsBy logic fault.TooMuch input calls ahead left writing old new before after =
+    (p : StopsBefore logic (lines_of input) old new before after) × (IsFull p.done p.rest ⊎ ((calls.made ≡ calls_limit) × AreTaken input left p.done))
+StopsBy logic fault.Memory input calls ahead left writing old new before after =
+    (p : StopsAt logic (lines_of input) old new before after) × AreTakenButOne input ahead p.done
+StopsBy logic fault.Write input calls ahead left writing old new before after = StopsAfter logic (lines_of input) old new before after × (writing.failed ≡ true)
 
 -- ---- one line of a run
 

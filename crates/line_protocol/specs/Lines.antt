@@ -9,5 +9,12 @@ abbrev pub lines_of : List ℕ → List (List ℕ)
 lines_of [] = []
 lines_of (b ∷ bytes) = if b == 10 then [] ∷ lines_of bytes else onto b (lines_of bytes)
 
-abbrev pub lines_limit : ℕ
-lines_limit = 1000000
+-- a byte more at the front of the first line, if there is one
+abbrev pub onto_first : ℕ → List (List ℕ) → List (List ℕ)
+onto_first b [] = []
+onto_first b (line ∷ lines) = (b ∷ line) ∷ lines
+
+-- the lines of bytes that end with LF: what stands behind the last LF is none
+abbrev pub whole_lines : List ℕ → List (List ℕ)
+whole_lines [] = []
+whole_lines (b ∷ bytes) = if b == 10 then [] ∷ whole_lines bytes else onto_first b (whole_lines bytes)

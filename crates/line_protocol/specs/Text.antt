@@ -66,8 +66,11 @@ fault_of refusal.NotARequest = NotARequest
 fault_of refusal.TooLong = TooLong
 
 -- `{"error":C,"text":T}`
+abbrev pub fault_line : Fault → List ℕ
+fault_line why = codes "{\"error\":" ++ (decimal (fault_code why) ++ (codes ",\"text\":" ++ (quoted (fault_text why) ++ codes "}")))
+
 abbrev pub refusal_line : LineRefusal → List ℕ
-refusal_line r = codes "{\"error\":" ++ (decimal (fault_code (fault_of r)) ++ (codes ",\"text\":" ++ (quoted (fault_text (fault_of r)) ++ codes "}")))
+refusal_line r = fault_line (fault_of r)
 
 abbrev pub not_now_line : List ℕ
 not_now_line = codes "{\"text\":\"not now\"}"

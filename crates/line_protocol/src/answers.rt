@@ -1,29 +1,17 @@
 //! What one line leaves in the silo, and its text.
 
-ghost use Rattle.std.specs.Prelude.{◌≡◌, [], ◌++◌, OnOk, OnErr, string_bytes};
+ghost use Rattle.std.specs.Prelude.{OnOk, OnErr, string_bytes};
 ghost use Rattle.line_parser.specs.Meaning.{meaning_of};
-ghost use Rattle.line_protocol.specs.LineTexts.{texts_of};
 ghost use Rattle.line_protocol.specs.LineRuns.{AnswersLine, MayTake};
 ghost use Rattle.line_parser.specs.declared.line.Line.TheVariants as line;
 
-use crate::replies::{push_not_now, push_refusal, push_reply};
+use crate::replies::{push_not_now, push_refusal, push_replies};
 use grain_kinds::GrainLogic;
 use grain_storage::GrainStorage;
-use line_parser::{Line, LineRoom, read_line};
+use line_parser::{Line, LineScratch, read_line};
 use silo_core::Silo;
-use silo_event::{Answer, Reply, Step, StepFault};
+use silo_event::{Answer, Step, StepFault};
 use std::alloc::{AllocError, Global};
-
-/// Adds the line of each reply, with its LF.
-fn push_replies(alloc: Global, text: &mut String, replies: &[Reply]) -> Result<(), AllocError>
-    ensures { OnOk result (string_bytes text.new ≡ string_bytes text.old ++ texts_of replies.now) }
-{
-    for reply in replies {
-        push_reply(alloc, text, reply)?;
-        text.push_str("\n")?;
-    }
-    Ok(())
-}
 
 /// Takes a step, and puts its text in place of another: the replies that it added, or that it isn't
 /// possible now.
@@ -53,7 +41,7 @@ fn answer_step<S: GrainStorage, L: GrainLogic>(
 /// Takes what a line says, and puts its text in place of another.
 pub(crate) fn answer_line<S: GrainStorage, L: GrainLogic>(
     alloc: Global,
-    room: &mut LineRoom,
+    scratch: &mut LineScratch,
     silo: &mut Silo<S, L>,
     line: &[u8],
     text: &mut String,
@@ -61,14 +49,14 @@ pub(crate) fn answer_line<S: GrainStorage, L: GrainLogic>(
     ensures ok { OnOk result (AnswersLine L.logic silo.old (meaning_of line.now) silo.new (string_bytes text.new)) }
     ensures err { OnErr result (MayTake L.logic silo.old (meaning_of line.now) silo.new) }
 {
-    match read_line(alloc, room, line)? {
+    match read_line(alloc, scratch, line)? {
         Line::Nothing => {
             text.clear();
             Ok(())
         }
         Line::Refusal(refusal) => {
             text.clear();
-            push_refusal(text, refusal)?;
+            push_refusal(alloc, text, refusal)?;
             text.push_str("\n")
         }
         Line::Step(step) => answer_step(alloc, silo, step, text),

@@ -2,6 +2,7 @@
 
 ghost use Rattle.std.specs.Prelude.{◌≡◌, ◌+◌, ◌<◌, ◌≤◌, ℕ, nat_lt, take, vec_len, true, false, IfOk, OnErr};
 ghost use Rattle.std.specs.Io.KnownBytes.{Keeps, Consumes, IsAtEnd};
+ghost use Rattle.line_protocol.specs.Limits.{calls_limit};
 
 use std::io::{ErrorKind, Read};
 
@@ -14,7 +15,7 @@ const CALLS_LIMIT: u64 = 1_073_741_824;
 pub struct ReaderCalls {
     made: u64,
     failed: bool,
-    ghost counted: { made ≤ 1073741824 },
+    ghost counted: { made ≤ calls_limit },
 }
 
 /// What one call of a reader came to.
@@ -54,14 +55,14 @@ impl ReaderCalls {
 
     /// Whether one call more may be made.
     pub(crate) fn is_left(&self) -> bool
-        ensures { result ≡ nat_lt self.now.made 1073741824 }
+        ensures { result ≡ nat_lt self.now.made calls_limit }
     {
         self.made < CALLS_LIMIT
     }
 
     /// One call, over the whole of a buffer that has room.
     pub(crate) fn read<R: Read>(&mut self, reader: &mut R, buffer: &mut Vec<u8>) -> Call
-        requires left { self.old.made < 1073741824 }
+        requires left { self.old.made < calls_limit }
         requires room { 0 < vec_len buffer.old }
         ensures len { vec_len buffer.new ≡ vec_len buffer.old }
         ensures made { self.new.made ≡ self.old.made + 1 }

@@ -2,8 +2,9 @@
 
 ghost use Rattle.std.specs.Prelude.{◌≡◌, ◌≢◌, ℕ, List, ◌+◌, ◌-◌, ◌<◌, ◌≤◌, ◌⊎◌, [], ◌∷◌, ◌++◌, Ok, Err, None, Option, IfSome, IfOk, IfErr, OnOk, OnErr, length, take, slice_index, slice_range, vec_len, true, false};
 ghost use Rattle.std.specs.Io.KnownBytes.{Keeps, Consumes, IsAtEnd};
-ghost use Rattle.line_protocol.specs.LineRuns.{left_of, LinesTaken, HasNoBreak};
-ghost use Rattle.line_protocol.specs.Calls.{HasCause, StopsReading};
+ghost use Rattle.line_protocol.specs.LineRuns.{left_of, TakesLine, TakesPart, HasNoBreak};
+ghost use Rattle.line_protocol.specs.Limits.{kept_limit};
+ghost use Rattle.line_protocol.specs.Calls.{HasCause, HasNothingAhead, StopsReading};
 ghost use Rattle.line_protocol.specs.Place.{IsInside, bytes_at};
 
 use crate::calls::{Call, ReaderCalls};
@@ -57,7 +58,7 @@ impl LineReader {
     }
 
     /// Whether there is a byte to take. Reads until there is one or the input ends; a read that is
-    /// interrupted is made again, and each counts.
+    /// interrupted is made again, and each counts. After an `Err` nothing is read ahead.
     pub(crate) fn fill<R: Read>(&mut self, reader: &mut R) -> Result<bool, LineFault>
         ensures bytes { Keeps (left_of self.old.bytes.items self.old.start self.old.end (R.remaining reader.old))
             (left_of self.new.bytes.items self.new.start self.new.end (R.remaining reader.new)) }
@@ -66,6 +67,7 @@ impl LineReader {
         ensures kept { self.old.start < self.old.end → self.new.calls.made ≡ self.old.calls.made }
         ensures counts { result ≡ Ok true → self.old.end ≤ self.old.start → self.old.calls.made < self.new.calls.made }
         ensures cause { IfErr result (λ e. (e ≢ LineFault.Memory) × StopsReading e self.new.calls) }
+        ensures failed { OnErr result (self.new.end ≤ self.new.start) }
     {
         if self.start < self.end {
             return Ok(true);
@@ -86,19 +88,20 @@ impl LineReader {
     }
 
     /// Moves bytes up to an LF to the line, and says whether an LF was met. The line keeps at most
-    /// one byte more than a line may have.
+    /// one byte more than a line may have. After an `Err` no byte was taken.
     fn take_ready(&mut self, line: &mut Vec<u8>) -> Result<bool, AllocError>
-        requires { vec_len line.old ≤ 65537 }
+        requires { vec_len line.old ≤ kept_limit }
         ensures broken { result ≡ Ok true → (front : List ℕ)
             × (slice_range self.old.bytes.items self.old.start self.old.end
             ≡ front ++ 10 ∷ slice_range self.new.bytes.items self.new.start self.new.end)
             × HasNoBreak front
-            × (line.new.items ≡ take 65537 (line.old.items ++ front)) }
+            × (line.new.items ≡ take kept_limit (line.old.items ++ front)) }
         ensures whole { result ≡ Ok false
             → let front = slice_range self.old.bytes.items self.old.start self.old.end in
             (self.new.end ≤ self.new.start) × HasNoBreak front
-            × (line.new.items ≡ take 65537 (line.old.items ++ front)) }
+            × (line.new.items ≡ take kept_limit (line.old.items ++ front)) }
         ensures calls { self.new.calls ≡ self.old.calls }
+        ensures err { OnErr result (self.new ≡ self.old) }
     {
         let ready = &self.bytes[self.start..self.end];
         let Some(at) = break_at(ready) else {
@@ -111,16 +114,20 @@ impl LineReader {
         Ok(true)
     }
 
-    /// Moves the next line, cut to one byte more than a line may have; `false` at the end.
+    /// Moves the next line, cut to one byte more than a line may have; `false` at the end. After an `Err`
+    /// a part of the line may have been taken.
     fn move_line<R: Read>(&mut self, reader: &mut R, line: &mut Vec<u8>) -> Result<bool, LineFault>
-        ensures line { result ≡ Ok true → (l : List ℕ) × (line.new.items ≡ take 65537 l)
-            × LinesTaken (left_of self.old.bytes.items self.old.start self.old.end (R.remaining reader.old))
-            (left_of self.new.bytes.items self.new.start self.new.end (R.remaining reader.new)) (l ∷ []) }
+        ensures line { result ≡ Ok true → (l : List ℕ) × (line.new.items ≡ take kept_limit l)
+            × TakesLine (left_of self.old.bytes.items self.old.start self.old.end (R.remaining reader.old))
+            (left_of self.new.bytes.items self.new.start self.new.end (R.remaining reader.new)) l }
         ensures end { result ≡ Ok false
-            → LinesTaken (left_of self.old.bytes.items self.old.start self.old.end (R.remaining reader.old))
-            (left_of self.new.bytes.items self.new.start self.new.end (R.remaining reader.new)) []
+            → Keeps (left_of self.old.bytes.items self.old.start self.old.end (R.remaining reader.old))
+            (left_of self.new.bytes.items self.new.start self.new.end (R.remaining reader.new))
             × (self.new.end ≤ self.new.start) × IsAtEnd (R.remaining reader.new) }
+        ensures part { OnErr result (TakesPart (left_of self.old.bytes.items self.old.start self.old.end (R.remaining reader.old))
+            (left_of self.new.bytes.items self.new.start self.new.end (R.remaining reader.new))) }
         ensures cause { IfErr result (λ e. StopsReading e self.new.calls) }
+        ensures failed { IfErr result (λ e. HasNothingAhead e self.new.start self.new.end) }
     {
         line.clear();
         'pieces: while self.fill(reader)? {
@@ -148,7 +155,8 @@ impl LineReader {
         Some((from, from + at))
     }
 
-    /// Takes the next line, where it lies if it can be; `None` at the end.
+    /// Takes the next line, where it lies if it can be; `None` at the end. After an `Err` a part of the
+    /// line may have been taken.
     pub(crate) fn next_line<R: Read>(
         &mut self,
         reader: &mut R,
@@ -156,14 +164,17 @@ impl LineReader {
     ) -> Result<Option<Place>, LineFault>
         ensures inside { IfOk result (λ found. IfSome found (λ place. IsInside place (vec_len self.new.bytes))) }
         ensures line { IfOk result (λ found. IfSome found (λ place. (l : List ℕ)
-            × (take 65537 (bytes_at place self.new.bytes.items line.new.items) ≡ take 65537 l)
-            × LinesTaken (left_of self.old.bytes.items self.old.start self.old.end (R.remaining reader.old))
-            (left_of self.new.bytes.items self.new.start self.new.end (R.remaining reader.new)) (l ∷ []))) }
+            × (take kept_limit (bytes_at place self.new.bytes.items line.new.items) ≡ take kept_limit l)
+            × TakesLine (left_of self.old.bytes.items self.old.start self.old.end (R.remaining reader.old))
+            (left_of self.new.bytes.items self.new.start self.new.end (R.remaining reader.new)) l)) }
         ensures end { result ≡ Ok None
-            → LinesTaken (left_of self.old.bytes.items self.old.start self.old.end (R.remaining reader.old))
-            (left_of self.new.bytes.items self.new.start self.new.end (R.remaining reader.new)) []
+            → Keeps (left_of self.old.bytes.items self.old.start self.old.end (R.remaining reader.old))
+            (left_of self.new.bytes.items self.new.start self.new.end (R.remaining reader.new))
             × (self.new.end ≤ self.new.start) × IsAtEnd (R.remaining reader.new) }
+        ensures part { OnErr result (TakesPart (left_of self.old.bytes.items self.old.start self.old.end (R.remaining reader.old))
+            (left_of self.new.bytes.items self.new.start self.new.end (R.remaining reader.new))) }
         ensures cause { IfErr result (λ e. StopsReading e self.new.calls) }
+        ensures failed { IfErr result (λ e. HasNothingAhead e self.new.start self.new.end) }
     {
         if let Some((from, to)) = self.take_whole() {
             return Ok(Some(Place::InBuffer(from, to)));
@@ -175,7 +186,8 @@ impl LineReader {
         }
     }
 
-    /// Takes the next line. If that takes a read, which may wait, what was written goes out before.
+    /// Takes the next line. If that takes a read, which may wait, what was written goes out before. After
+    /// an `Err` a part of the line may have been taken.
     pub(crate) fn next_flushed<R: Read, W: Write>(
         &mut self,
         reader: &mut R,
@@ -185,15 +197,18 @@ impl LineReader {
     ) -> Result<Option<Place>, LineFault>
         ensures inside { IfOk result (λ found. IfSome found (λ place. IsInside place (vec_len self.new.bytes))) }
         ensures line { IfOk result (λ found. IfSome found (λ place. (l : List ℕ)
-            × (take 65537 (bytes_at place self.new.bytes.items line.new.items) ≡ take 65537 l)
-            × LinesTaken (left_of self.old.bytes.items self.old.start self.old.end (R.remaining reader.old))
-            (left_of self.new.bytes.items self.new.start self.new.end (R.remaining reader.new)) (l ∷ []))) }
+            × (take kept_limit (bytes_at place self.new.bytes.items line.new.items) ≡ take kept_limit l)
+            × TakesLine (left_of self.old.bytes.items self.old.start self.old.end (R.remaining reader.old))
+            (left_of self.new.bytes.items self.new.start self.new.end (R.remaining reader.new)) l)) }
         ensures end { result ≡ Ok None
-            → LinesTaken (left_of self.old.bytes.items self.old.start self.old.end (R.remaining reader.old))
-            (left_of self.new.bytes.items self.new.start self.new.end (R.remaining reader.new)) []
+            → Keeps (left_of self.old.bytes.items self.old.start self.old.end (R.remaining reader.old))
+            (left_of self.new.bytes.items self.new.start self.new.end (R.remaining reader.new))
             × (self.new.end ≤ self.new.start) × IsAtEnd (R.remaining reader.new) }
         ensures written { Keeps (W.contents writer.old) (W.contents writer.new) }
+        ensures part { OnErr result (TakesPart (left_of self.old.bytes.items self.old.start self.old.end (R.remaining reader.old))
+            (left_of self.new.bytes.items self.new.start self.new.end (R.remaining reader.new))) }
         ensures cause { IfErr result (λ e. HasCause e self.new.calls calls.new) }
+        ensures failed { IfErr result (λ e. HasNothingAhead e self.new.start self.new.end) }
         ensures unfailed { OnOk result (calls.new.failed ≡ calls.old.failed) }
     {
         if let Some((from, to)) = self.take_whole() {
@@ -226,8 +241,8 @@ fn break_at(ready: &[u8]) -> Option<usize>
 
 /// Adds bytes to the line, up to one byte more than a line may have.
 fn extend_capped(line: &mut Vec<u8>, front: &[u8]) -> Result<(), AllocError>
-    requires { vec_len line.old ≤ 65537 }
-    ensures { OnOk result (line.new.items ≡ take 65537 (line.old.items ++ front.now)) }
+    requires { vec_len line.old ≤ kept_limit }
+    ensures { OnOk result (line.new.items ≡ take kept_limit (line.old.items ++ front.now)) }
 {
     let room = LINE_LIMIT + 1 - line.len();
     let kept = front.len().min(room);

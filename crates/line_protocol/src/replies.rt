@@ -5,7 +5,8 @@ ghost use Rattle.json.specs.Print.{quoted};
 ghost use Rattle.grain_id.specs.Names.{client_text, grain_text};
 ghost use Rattle.silo_event.specs.Fault.{fault_code, fault_text};
 ghost use Rattle.silo_event.specs.declared.reply.Party.TheVariants as party;
-ghost use Rattle.line_protocol.specs.Text.{line_of, line_to, done_line, refused_line, done_to_grain_line, refused_to_grain_line, refusal_line, not_now_line};
+ghost use Rattle.line_protocol.specs.Text.{line_of, line_to, done_line, refused_line, done_to_grain_line, refused_to_grain_line, fault_line, fault_of, refusal_line, not_now_line};
+ghost use Rattle.line_protocol.specs.LineTexts.{texts_of};
 
 use crate::text::{push, push_natural, push_quoted};
 use crate::value_text::push_state;
@@ -151,13 +152,25 @@ fn push_to_grain(
 
 /// Adds the line of a reply to the text, without its LF. After an `Err` the text may hold a part
 /// of it.
-pub(crate) fn push_reply(alloc: Global, text: &mut String, reply: &Reply) -> Result<(), AllocError>
+pub fn push_reply(alloc: Global, text: &mut String, reply: &Reply) -> Result<(), AllocError>
     ensures { OnOk result (string_bytes text.new ≡ string_bytes text.old ++ line_of reply.now) }
 {
     match &reply.recipient {
         Party::Client(caller, id) => push_to_client(alloc, text, caller, *id, &reply.outcome),
         Party::Grain(grain) => push_to_grain(alloc, text, grain, &reply.outcome),
     }
+}
+
+/// Adds the line of each reply to the text, with its LF. After an `Err` the text may hold some of them,
+/// and a part of one.
+pub fn push_replies(alloc: Global, text: &mut String, replies: &[Reply]) -> Result<(), AllocError>
+    ensures { OnOk result (string_bytes text.new ≡ string_bytes text.old ++ texts_of replies.now) }
+{
+    for reply in replies {
+        push_reply(alloc, text, reply)?;
+        text.push_str("\n")?;
+    }
+    Ok(())
 }
 
 /// The line of a reply, without its LF.
@@ -174,20 +187,42 @@ pub fn refusal_text(alloc: Global, refusal: LineRefusal) -> Result<String, Alloc
     ensures { IfOk result (λ text. string_bytes text ≡ refusal_line refusal) }
 {
     let mut text = String::new(alloc);
-    push_refusal(&mut text, refusal)?;
+    push_refusal(alloc, &mut text, refusal)?;
     Ok(text)
 }
 
-/// Adds the line of a refusal, without its LF.
-pub(crate) fn push_refusal(text: &mut String, refusal: LineRefusal) -> Result<(), AllocError>
-    ensures { OnOk result (string_bytes text.new ≡ string_bytes text.old ++ refusal_line refusal) }
+/// The fault that a refusal of a line stands for.
+fn fault_of(refusal: LineRefusal) -> Fault
+    ensures { result ≡ fault_of refusal }
 {
     match refusal {
-        LineRefusal::NotARequest => text.push_str(
-            "{\"error\":10,\"text\":\"line is not a request\"}",
-        ),
-        LineRefusal::TooLong => text.push_str("{\"error\":11,\"text\":\"line is too long\"}"),
+        LineRefusal::NotARequest => Fault::NotARequest,
+        LineRefusal::TooLong => Fault::TooLong,
     }
+}
+
+/// Adds `{"error":C,"text":T}`.
+fn push_fault(alloc: Global, text: &mut String, fault: &Fault) -> Result<(), AllocError>
+    ensures { OnOk result (string_bytes text.new ≡ string_bytes text.old ++ fault_line fault.now) }
+{
+    push(text, "{\"error\":")?;
+    push_natural(text, u64::from(fault.code()))?;
+    push_why(alloc, text, fault)?;
+    Ok(())
+}
+
+/// Adds the line of a refusal to the text, without its LF. After an `Err` the text may hold a part of it.
+pub fn push_refusal(
+    alloc: Global,
+    text: &mut String,
+    refusal: LineRefusal,
+) -> Result<(), AllocError>
+    ensures { OnOk result (string_bytes text.new ≡ string_bytes text.old ++ refusal_line refusal) }
+{
+    let fault = fault_of(refusal);
+    let pushed = push_fault(alloc, text, &fault);
+    drop(fault);
+    pushed
 }
 
 /// Adds the line of a step that isn't possible now, without its LF.

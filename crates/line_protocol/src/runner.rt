@@ -2,7 +2,7 @@
 
 ghost use Rattle.std.specs.Prelude.{◌≡◌, ◌≤◌, List, ℕ, IfOk, IfErr, IfSome, OnOk};
 ghost use Rattle.std.specs.Io.KnownBytes.{Appends};
-ghost use Rattle.line_protocol.specs.Lines.{lines_of, lines_limit};
+ghost use Rattle.line_protocol.specs.Limits.{lines_limit};
 ghost use Rattle.line_parser.specs.Meaning.{meaning_of};
 ghost use Rattle.line_protocol.specs.LineRuns.{AnswersLine, LineStopsBy, AnswersAll, StopsBy, left_of};
 
@@ -12,7 +12,7 @@ use crate::line_reader::LineReader;
 use crate::written::WriterCalls;
 use grain_kinds::GrainLogic;
 use grain_storage::GrainStorage;
-use line_parser::LineRoom;
+use line_parser::LineScratch;
 use silo_core::Silo;
 use std::alloc::Global;
 use std::io::{Read, Write};
@@ -23,7 +23,7 @@ pub(crate) const LINES_LIMIT: u64 = 1_000_000;
 /// Takes what a line says, and writes its text at once.
 fn write_answer<W: Write, S: GrainStorage, L: GrainLogic>(
     alloc: Global,
-    room: &mut LineRoom,
+    scratch: &mut LineScratch,
     calls: &mut WriterCalls,
     writer: &mut W,
     silo: &mut Silo<S, L>,
@@ -35,7 +35,7 @@ fn write_answer<W: Write, S: GrainStorage, L: GrainLogic>(
     ensures err { IfErr result (λ e. LineStopsBy L.logic e (meaning_of line.now) calls.new silo.old silo.new (W.contents writer.old) (W.contents writer.new)) }
     ensures unfailed { OnOk result (calls.new.failed ≡ calls.old.failed) }
 {
-    answer_line(alloc, room, silo, line, text)?;
+    answer_line(alloc, scratch, silo, line, text)?;
     calls.write_whole(writer, text.as_str().as_bytes())
 }
 
@@ -61,12 +61,14 @@ pub fn run_lines<R: Read, W: Write, S: GrainStorage, L: GrainLogic>(
     ensures ok { IfOk result (λ n. IfSome (left_of lines.old.bytes.items lines.old.start lines.old.end (R.remaining reader.old)) (λ input.
         AnswersAll L.logic input n silo.old silo.new (R.remaining reader.new) (W.contents writer.old) (W.contents writer.new))) }
     ensures err { IfErr result (λ e. IfSome (left_of lines.old.bytes.items lines.old.start lines.old.end (R.remaining reader.old)) (λ input.
-        StopsBy L.logic e (lines_of input) lines.new.calls calls.new silo.old silo.new (W.contents writer.old) (W.contents writer.new))) }
+        StopsBy L.logic e input lines.new.calls (left_of lines.new.bytes.items lines.new.start lines.new.end (R.remaining reader.new)) (R.remaining reader.new)
+        calls.new silo.old silo.new (W.contents writer.old) (W.contents writer.new))) }
     ensures bound { IfOk result (λ n. n ≤ lines_limit) }
     ensures unfailed { OnOk result (calls.new.failed ≡ calls.old.failed) }
 {
+    // Nothing is done by this look: it shows the prover what the silo's type keeps, that its journal leads to what it holds.
     let _ = silo.journal();
-    let mut room = LineRoom::new(alloc)?;
+    let mut scratch = LineScratch::new(alloc)?;
     let mut line = Vec::new(alloc);
     let mut text = String::new(alloc);
     for count in 0..LINES_LIMIT {
@@ -74,7 +76,7 @@ pub fn run_lines<R: Read, W: Write, S: GrainStorage, L: GrainLogic>(
             return Ok(count);
         };
         let found = lines.line_at(place, &line);
-        write_answer(alloc, &mut room, calls, writer, silo, found, &mut text)?;
+        write_answer(alloc, &mut scratch, calls, writer, silo, found, &mut text)?;
     }
     calls.flush(writer)?;
     if lines.fill(reader)? {

@@ -70,7 +70,7 @@ put_fields-fields-preserved t c =
     let from : c.len-from.result ≡ length l.out.items = omega (arith, c.len-from.ensures) in
     let count = last_count l.out.items c.put_value.new.out.items k v.json c.len-from.result (c.len.result - c.len-from.result) all from (omega (arith, c.len.ensures)) in
     record {
-      so_far = fields_next c.args.depth c.args.reader.now l.reader c.next_key.new.self c.put_value.new.reader c.args.out.now.items l.out.items c.put_text.new.out.items c.put_value.new.out.items l.fields c.add.new.self c.args.faults.now l.faults c.put_value.new.faults k c.len-from.result f named c.known.ensures.utf8 text v from (c.in_ok-add.ensures f.came v.json f.holds count);
+      so_far = fields_next c.args.depth c.args.reader.now l.reader c.next_key.new.self c.put_value.new.reader c.args.out.now.items l.out.items c.put_text.new.out.items c.put_value.new.out.items l.fields c.add.new.self c.args.faults.now l.faults c.put_value.new.faults k c.len-from.result f named c.known.ensures.utf8 text v from (c.in_ok-add.ensures f.placed v.json f.holds count);
       within = c.in_ok-put_value.ensures.within;
       place = l.invariant.place;
       depth = l.invariant.depth;
@@ -80,14 +80,14 @@ pub put_fields-sort-requires : goal.put_fields-sort-requires
 put_fields-sort-requires t c =
     let l = c.fields in
     let f = l.invariant.so_far in
-    (f.came, begun c.args.out.now.items, f.holds, subst (λ n. AreBehind f.came n (begun c.args.out.now.items) l.out.items) (sym l.invariant.place) f.put)
+    (f.placed, begun c.args.out.now.items, f.holds, subst (λ n. AreBehind f.placed n (begun c.args.out.now.items) l.out.items) (sym l.invariant.place) f.put)
 
 pub put_fields-returns-clause-value : goal.put_fields-returns-clause-value
 put_fields-returns-clause-value t c =
     let l = c.fields in
     let f = l.invariant.so_far in
-    let sorted = c.in_ok-sort.ensures.sorted f.came (begun c.args.out.now.items) f.holds (subst (λ n. AreBehind f.came n (begun c.args.out.now.items) l.out.items) (sym l.invariant.place) f.put) in
-    fields_stop c.args.depth c.args.reader.now l.reader c.next_key.new.self c.args.out.now.items l.out.items c.sort.new.out.items c.set_count.new.out.items l.fields c.args.faults.now l.faults (c.len-start.result - 4) c.count-count.result f (grind arith) sorted (omega (arith, l.invariant.place)) (c.count-count.ensures f.came f.holds) c.set_count.ensures.bytes
+    let sorted = c.in_ok-sort.ensures.sorted f.placed (begun c.args.out.now.items) f.holds (subst (λ n. AreBehind f.placed n (begun c.args.out.now.items) l.out.items) (sym l.invariant.place) f.put) in
+    fields_stop c.args.depth c.args.reader.now l.reader c.next_key.new.self c.args.out.now.items l.out.items c.sort.new.out.items c.set_count.new.out.items l.fields c.args.faults.now l.faults (c.len-start.result - 4) c.count-count.result f (grind arith) sorted (omega (arith, l.invariant.place)) (c.count-count.ensures f.placed f.holds) c.set_count.ensures.bytes
 
 pub put_value-returns-in_ok-put_start-in-Null-clause-value : goal.put_value-returns-in_ok-put_start-in-Null-clause-value
 put_value-returns-in_ok-put_start-in-Null-clause-value t c =

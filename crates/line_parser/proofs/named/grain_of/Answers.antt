@@ -1,5 +1,5 @@
 use Rattle.std.proofs.Common.{codes, refl, sym}
-use Rattle.line_parser.specs.declared.slots.Name.TheVariants.{Grain}
+use Rattle.line_parser.specs.declared.line_members.Name.TheVariants.{Grain}
 use Rattle.line_parser.proofs.Steps.{text_in}
 use Rattle.line_parser.proofs.Results.{if_ok_as}
 use Rattle.line_parser.proofs.named.grain_of.Goals as goal

@@ -1,6 +1,6 @@
 use Rattle.std.proofs.Common.{Some, codes, refl, sym, ap, ◌∙◌}
 use Rattle.line_parser.specs.Form.{call_of}
-use Rattle.line_parser.specs.declared.slots.Name.TheVariants.{Grain, Id, Method}
+use Rattle.line_parser.specs.declared.line_members.Name.TheVariants.{Grain, Id, Method}
 use Rattle.line_parser.proofs.Steps.{natural_in, text_in}
 use Rattle.line_parser.proofs.request.call_from.Goals as goal
 

@@ -8,7 +8,7 @@ use Rattle.line_parser.proofs.Steps.{where_map, finds_as}
 use Rattle.line_parser.proofs.step.read_form.Goals as goal
 
 pub returns-in-Status : goal.returns-in-Status
-returns-in-Status c = finds_as c.args.form form.Status c.args.slots.now c.args.bytes.now c.status_from.result c.in-Status.is c.status_from.ensures
+returns-in-Status c = finds_as c.args.form form.Status c.args.members.now c.args.bytes.now c.status_from.result c.in-Status.is c.status_from.ensures
 
 pub returns-in_ok-grain_from-in-Deliver : goal.returns-in_ok-grain_from-in-Deliver
 returns-in_ok-grain_from-in-Deliver c found h =
@@ -21,7 +21,7 @@ returns-in_ok-grain_from-in-Activate c found h =
     ap (λ f. of_form f (object found)) c.in-Activate.is ∙ where_map step.Activate _ _ _ (c.in_ok-grain_from-in-Activate.ensures c.args.bytes.now found h) ∙ same
 
 pub returns-in-Load : goal.returns-in-Load
-returns-in-Load c = finds_as c.args.form form.Load c.args.slots.now c.args.bytes.now c.load_from.result c.in-Load.is c.load_from.ensures
+returns-in-Load c = finds_as c.args.form form.Load c.args.members.now c.args.bytes.now c.load_from.result c.in-Load.is c.load_from.ensures
 
 pub returns-in_ok-grain_from-in-Begin : goal.returns-in_ok-grain_from-in-Begin
 returns-in_ok-grain_from-in-Begin c found h =
@@ -29,7 +29,7 @@ returns-in_ok-grain_from-in-Begin c found h =
     ap (λ f. of_form f (object found)) c.in-Begin.is ∙ where_map step.Begin _ _ _ (c.in_ok-grain_from-in-Begin.ensures c.args.bytes.now found h) ∙ same
 
 pub returns-in-Store : goal.returns-in-Store
-returns-in-Store c = finds_as c.args.form form.Store c.args.slots.now c.args.bytes.now c.store_from.result c.in-Store.is c.store_from.ensures
+returns-in-Store c = finds_as c.args.form form.Store c.args.members.now c.args.bytes.now c.store_from.result c.in-Store.is c.store_from.ensures
 
 pub returns-in_ok-turn_from-in-End : goal.returns-in_ok-turn_from-in-End
 returns-in_ok-turn_from-in-End c found h =

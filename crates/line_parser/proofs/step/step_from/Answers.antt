@@ -1,7 +1,7 @@
 use Rattle.std.proofs.Common.{codes, refl, ◌∙◌}
 use Rattle.serde_json.specs.Data.{object}
 use Rattle.line_parser.specs.Form.{step_of_json}
-use Rattle.line_parser.specs.declared.slots.Name.TheVariants.{Op}
+use Rattle.line_parser.specs.declared.line_members.Name.TheVariants.{Op}
 use Rattle.line_parser.proofs.Steps.{text_in}
 use Rattle.line_parser.proofs.Results.{if_ok_as}
 use Rattle.line_parser.proofs.step.step_from.Goals as goal

@@ -1,6 +1,6 @@
 use Rattle.std.proofs.Common.{codes, refl, ◌∙◌}
 use Rattle.line_parser.specs.Form.{store_of}
-use Rattle.line_parser.specs.declared.slots.Name.TheVariants.{Turn}
+use Rattle.line_parser.specs.declared.line_members.Name.TheVariants.{Turn}
 use Rattle.line_parser.proofs.Steps.{natural_in}
 use Rattle.line_parser.proofs.step.store_from.Goals as goal
 

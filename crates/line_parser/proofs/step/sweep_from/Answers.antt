@@ -3,10 +3,10 @@ use Rattle.line_parser.specs.Form.{sweep_of}
 use Rattle.line_parser.proofs.Steps.{counted, not_counted}
 use Rattle.line_parser.proofs.step.sweep_from.Goals as goal
 
-pub returns-then-slots-ne1 : goal.returns-then-slots-ne1
+pub returns-then-members-ne1 : goal.returns-then-members-ne1
 unfolding sweep_of
-returns-then-slots-ne1 c l found h = rw (not_counted _ _ 1 h.count c.if-slots-ne1.true) refl
+returns-then-members-ne1 c l found h = rw (not_counted _ _ 1 h.count c.if-members-ne1.true) refl
 
 pub returns : goal.returns
 unfolding sweep_of
-returns c l found h = rw (counted _ _ 1 h.count c.if-slots-ne1.false) refl
+returns c l found h = rw (counted _ _ 1 h.count c.if-members-ne1.false) refl

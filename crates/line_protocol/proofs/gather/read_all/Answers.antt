@@ -4,7 +4,7 @@ use Rattle.std.proofs.lemmas.Result.{err_from_is_err_and}
 use Rattle.line_protocol.specs.Place.{bytes_at}
 use Rattle.line_protocol.proofs.Pieces.{slice_range_empty, slice_range_some}
 use Rattle.line_protocol.proofs.Run.{same_said, handed_on}
-use Rattle.line_protocol.proofs.Gathering.{gathered_none, gathered_more, gathered_same, gathered_kept, gathered_all, gathered_full, stops_gathering}
+use Rattle.line_protocol.proofs.Gathering.{gathered_none, gathered_more, gathered_kept, gathered_all, gathered_full, stops_gathering}
 use Rattle.line_protocol.proofs.gather.read_all.Goals as goal
 
 pub lines-init : goal.lines-init
@@ -21,7 +21,7 @@ pub returns-in_default-clause-ok : goal.returns-in_default-clause-ok
 returns-in_default-clause-ok g c =
     let end = c.in_ok-place.ensures.end (ap Ok c.in_default.is) in
     let read = c.next_line.new.self in
-    gathered_all _ _ _ _ (slice_range_empty read.bytes.items read.start read.end end.1) end.2 (gathered_same _ _ _ _ c.lines.invariant.0 end.0)
+    gathered_all _ _ _ _ (slice_range_empty read.bytes.items read.start read.end end.1) end.2 (gathered_kept _ _ _ _ c.lines.invariant.0 end.0)
 
 pub returns-clause-ok : goal.returns-clause-ok
 returns-clause-ok g c =

@@ -1,5 +1,5 @@
 use Rattle.std.proofs.Common.{◌-◌, ◌≤◌, vec_len}
-use Rattle.line_protocol.specs.Lines.{lines_limit}
+use Rattle.line_protocol.specs.Limits.{lines_limit}
 use Rattle.line_protocol.specs.LineRuns.{left_of}
 use Rattle.line_protocol.proofs.Gathering.{Gathered}
 use Rattle.line_protocol.proofs.gather.read_all.Given as goal

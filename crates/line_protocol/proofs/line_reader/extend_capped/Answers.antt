@@ -1,4 +1,5 @@
 use Rattle.std.proofs.Common.{◌≡◌, ◌++◌, take, min, ◌-◌, length, ap, ◌∙◌, arith}
+use Rattle.line_protocol.specs.Limits.{kept_limit}
 use Rattle.line_protocol.proofs.Pieces.{capped}
 use Rattle.line_protocol.proofs.line_reader.extend_capped.Goals as goal
 
@@ -6,5 +7,5 @@ pub returns : goal.returns
 returns c =
     let line = c.args.line.now in
     let front = c.args.front.now in
-    let kept : c.min-kept.result ≡ min (length front) (65537 - length line.items) = omega (arith, line.ok.0) in
-    c.in_ok-extend_from_slice.ensures.items ∙ ap (λ n. line.items ++ take n front) kept ∙ capped line.items front 65537 (omega (arith, line.ok.0))
+    let kept : c.min-kept.result ≡ min (length front) (kept_limit - length line.items) = omega (arith, line.ok.0) in
+    c.in_ok-extend_from_slice.ensures.items ∙ ap (λ n. line.items ++ take n front) kept ∙ capped line.items front kept_limit (omega (arith, line.ok.0))

@@ -4,7 +4,7 @@ use Rattle.request_codec.specs.Reading.{is_above}
 use Rattle.line_parser.specs.Fields.{Place}
 use Rattle.line_parser.specs.declared.fields.Fields.{Fields}
 use Rattle.line_parser.specs.declared.fields.Known.{Known}
-use Rattle.line_parser.proofs.FieldsRead.{came_last}
+use Rattle.line_parser.proofs.FieldsRead.{last_placed}
 use Rattle.line_parser.proofs.Places.{Grows, one_held}
 use Rattle.line_parser.proofs.fields.Fields.add.Goals as goal
 use Rattle.line_parser.proofs.fields.Fields.add.Goals.{then-is_err+in_ok-push, else-is_err, then-self, else-self}
@@ -21,7 +21,7 @@ on_ok (Ok x) h p = p
 on_ok (Err e) h p = absurd (true≢false h)
 
 pub returns : goal.returns
-returns c came d h long =
+returns c placed d h long =
     let old = c.args.self.now in
     let field : Known = record { name = c.args.name; start = c.args.start; count = c.args.count } in
     let new : Fields = record { few = c.if-is_err.self.few; more = c.if-is_err.self.more; last = Some c.args.name; ascend = c.if-self.self } in
@@ -37,4 +37,4 @@ returns c came d h long =
       | then-self w ↦ λ now. (sym stays.0 ∙ w.if-self.true, ap (λ o. is_above (option_map (λ t. t.now) o) c.args.name.now) (sym stays.1) ∙ sym w.may_follow-self.ensures ∙ sym w.self-is ∙ now)
       | else-self w ↦ λ now. absurd (true≢false (sym now ∙ w.self-is ∙ w.if-self.false))
     ] in
-    one_held came (came_last c.args.name.now d c.args.start) old new field h grows (ap (place c.args.name.now c.args.start) (sym long)) goes refl
+    one_held placed (last_placed c.args.name.now d c.args.start) old new field h grows (ap (place c.args.name.now c.args.start) (sym long)) goes refl

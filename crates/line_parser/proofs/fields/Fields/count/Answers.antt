@@ -5,7 +5,7 @@ use Rattle.line_parser.specs.Fields.{place_of, place_kept}
 use Rattle.line_parser.proofs.fields.Fields.count.Goals as goal
 
 pub returns : goal.returns
-returns c came h =
+returns c placed h =
     let few = c.args.self.now.few.items in
     let more = c.args.self.now.more.items in
-    omega (arith, length_permutation (map place_of came) (map place_kept (few ++ more)) h.kept, length-map came place_of, length-map (few ++ more) place_kept, length-append few more, c.len.ensures.value, c.len-2.ensures)
+    omega (arith, length_permutation (map place_of placed) (map place_kept (few ++ more)) h.kept, length-map placed place_of, length-map (few ++ more) place_kept, length-append few more, c.len.ensures.value, c.len-2.ensures)

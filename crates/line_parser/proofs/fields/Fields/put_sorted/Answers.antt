@@ -4,7 +4,7 @@ use Rattle.std.proofs.lemmas.Bool.Decides.{nat_tests}
 use Rattle.std.proofs.lemmas.List.Sorted.{IsPermutation-trans, IsPermutation-append_comm}
 use Rattle.arrayvec.specs.ArrayVec.{ArrayVec, with_items}
 use Rattle.arrayvec.proofs.ArrayVecLemmas.{items-with_items}
-use Rattle.line_parser.specs.Fields.{Came, HoldsFields, PutsSorted, Ascend, bytes_at, place_kept}
+use Rattle.line_parser.specs.Fields.{PlacedField, HoldsFields, PutsSorted, Ascend, bytes_at, place_kept}
 use Rattle.line_parser.specs.declared.fields.Fields.{Fields}
 use Rattle.line_parser.specs.declared.fields.Known.{Known}
 use Rattle.line_parser.proofs.Places.{sorted_places, sorted_within}
@@ -27,36 +27,36 @@ none_there : (xs : List Known) → length xs ≡ 0 → xs ≡ []
 none_there [] h = refl
 none_there (x ∷ xs) h = absurd (omega (arith, h))
 
-puts_sorted : (came : List Came) (fields : Fields) (out new : List ℕ) (known : List Known) → HoldsFields came fields → IsPermutation (fields.few.items ++ fields.more.items) known → Ascend None (map place_kept known) → new ≡ bytes_at out (map place_kept known) → PutsSorted came out new
-puts_sorted came fields out new known h moved up bytes = record {
+puts_sorted : (placed : List PlacedField) (fields : Fields) (out new : List ℕ) (known : List Known) → HoldsFields placed fields → IsPermutation (fields.few.items ++ fields.more.items) known → Ascend None (map place_kept known) → new ≡ bytes_at out (map place_kept known) → PutsSorted placed out new
+puts_sorted placed fields out new known h moved up bytes = record {
   places = map place_kept known;
-  moved = sorted_places came fields known h moved;
+  moved = sorted_places placed fields known h moved;
   ascend = up;
   bytes = bytes;
 }
 
 pub put_in_order-requires : goal.put_in_order-requires
 put_in_order-requires c =
-    let (came, front, start, h, b) = c.requires in
+    let (placed, front, start, h, b) = c.requires in
     let none : length c.args.self.now.more.items ≡ 0 = grind (arith, nat_tests) in
     let moved = few_sorted c.args.self.now.few c.args.self.now.more.items c.deref_mut.result.now c.sort_unstable.new.self c.as_slice.result.now c.deref_mut.ensures.value c.sort_unstable.ensures.permutation c.sort_unstable.ensures.len c.as_slice.ensures.value (none_there _ none) in
-    sorted_within came front c.args.bytes.now start (map place_kept c.as_slice.result.now) b (sorted_places came c.args.self.now c.as_slice.result.now h moved)
+    sorted_within placed front c.args.bytes.now start (map place_kept c.as_slice.result.now) b (sorted_places placed c.args.self.now c.as_slice.result.now h moved)
 
 pub returns-then-is_empty : goal.returns-then-is_empty
-returns-then-is_empty c = on_ok₂ c.put_in_order.result c.put_in_order.ensures.ascend c.put_in_order.ensures.bytes λ up bytes came h none_yet.
+returns-then-is_empty c = on_ok₂ c.put_in_order.result c.put_in_order.ensures.ascend c.put_in_order.ensures.bytes λ up bytes placed h none_yet.
     let none : length c.args.self.now.more.items ≡ 0 = grind (arith, nat_tests) in
     let moved = few_sorted c.args.self.now.few c.args.self.now.more.items c.deref_mut.result.now c.sort_unstable.new.self c.as_slice.result.now c.deref_mut.ensures.value c.sort_unstable.ensures.permutation c.sort_unstable.ensures.len c.as_slice.ensures.value (none_there _ none) in
-    puts_sorted came c.args.self.now c.args.bytes.now c.put_in_order.new.sorted.items c.as_slice.result.now h moved up (bytes ∙ ap (λ l. l ++ bytes_at c.args.bytes.now (map place_kept c.as_slice.result.now)) none_yet)
+    puts_sorted placed c.args.self.now c.args.bytes.now c.put_in_order.new.sorted.items c.as_slice.result.now h moved up (bytes ∙ ap (λ l. l ++ bytes_at c.args.bytes.now (map place_kept c.as_slice.result.now)) none_yet)
 
 pub put_in_order-requires-2 : goal.put_in_order-requires-2
 put_in_order-requires-2 c =
-    let (came, front, start, h, b) = c.requires in
+    let (placed, front, start, h, b) = c.requires in
     let whole = c.in_ok-extend_from_slice.ensures.items ∙ ap (λ l. c.args.self.now.more.items ++ l) c.as_slice-2.ensures.value in
     let moved = all_sorted c.args.self.now.few.items c.args.self.now.more.items c.extend_from_slice.new.self.items c.sort_unstable-2.new.self.items c.as_slice-3.result.now whole c.sort_unstable-2.ensures.permutation c.as_slice-3.ensures.value in
-    sorted_within came front c.args.bytes.now start (map place_kept c.as_slice-3.result.now) b (sorted_places came c.args.self.now c.as_slice-3.result.now h moved)
+    sorted_within placed front c.args.bytes.now start (map place_kept c.as_slice-3.result.now) b (sorted_places placed c.args.self.now c.as_slice-3.result.now h moved)
 
 pub returns : goal.returns
-returns c = on_ok₂ c.put_in_order-2.result c.put_in_order-2.ensures.ascend c.put_in_order-2.ensures.bytes λ up bytes came h none_yet.
+returns c = on_ok₂ c.put_in_order-2.result c.put_in_order-2.ensures.ascend c.put_in_order-2.ensures.bytes λ up bytes placed h none_yet.
     let whole = c.in_ok-extend_from_slice.ensures.items ∙ ap (λ l. c.args.self.now.more.items ++ l) c.as_slice-2.ensures.value in
     let moved = all_sorted c.args.self.now.few.items c.args.self.now.more.items c.extend_from_slice.new.self.items c.sort_unstable-2.new.self.items c.as_slice-3.result.now whole c.sort_unstable-2.ensures.permutation c.as_slice-3.ensures.value in
-    puts_sorted came c.args.self.now c.args.bytes.now c.put_in_order-2.new.sorted.items c.as_slice-3.result.now h moved up (bytes ∙ ap (λ l. l ++ bytes_at c.args.bytes.now (map place_kept c.as_slice-3.result.now)) none_yet)
+    puts_sorted placed c.args.self.now c.args.bytes.now c.put_in_order-2.new.sorted.items c.as_slice-3.result.now h moved up (bytes ∙ ap (λ l. l ++ bytes_at c.args.bytes.now (map place_kept c.as_slice-3.result.now)) none_yet)

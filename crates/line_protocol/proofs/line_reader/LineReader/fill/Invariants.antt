@@ -1,5 +1,6 @@
 use Rattle.std.proofs.Common.{◌-◌, ◌≡◌, ◌≤◌}
 use Rattle.std.specs.Io.KnownBytes.{Keeps}
+use Rattle.line_protocol.specs.Limits.{calls_limit}
 use Rattle.line_protocol.proofs.line_reader.LineReader.fill.Given as goal
 
 abbrev pub invariant-tries : goal.invariant-tries
@@ -7,4 +8,4 @@ invariant-tries g l =
     (l.self.start ≡ 0) × (l.self.end ≡ 0) × (l.initial.self.calls.made ≤ l.self.calls.made) × Keeps (g.R.Read.remaining l.initial.reader) (g.R.Read.remaining l.reader)
 
 abbrev pub decreases-tries : goal.decreases-tries
-decreases-tries g l = 1073741824 - l.self.calls.made
+decreases-tries g l = calls_limit - l.self.calls.made

@@ -1,6 +1,7 @@
 use Rattle.std.proofs.Common.{[], ◌∷◌, Ok, refl, take, slice_range, ap, subst, ◌∙◌}
+use Rattle.line_protocol.specs.Limits.{kept_limit}
 use Rattle.line_protocol.specs.declared.line_reader.LineReader.{LineReader}
-use Rattle.line_protocol.specs.LineRuns.{left_of, LinesTaken}
+use Rattle.line_protocol.specs.LineRuns.{left_of, TakesLine, TakesPart}
 use Rattle.line_protocol.proofs.Pieces.{take_twice}
 use Rattle.line_protocol.proofs.LinesOfBytes.{whole_taken}
 use Rattle.line_protocol.proofs.line_reader.LineReader.next_line.Goals as goal
@@ -16,4 +17,4 @@ returns-then-branch-clause-line g c =
     let w = c.in_ok-move_line.ensures.line (ap Ok c.if-branch.true) in
     let same = c.in_default.ensures.none refl in
     let n = c.move_line.new.self in
-    (w.0, ap (take 65537) w.1 ∙ take_twice 65537 w.0, subst (λ (s : LineReader). LinesTaken (left_of s.bytes.items s.start s.end (g.R.Read.remaining c.args.reader.now)) (left_of n.bytes.items n.start n.end (g.R.Read.remaining c.move_line.new.reader)) (w.0 ∷ [])) same w.2)
+    (w.0, ap (take kept_limit) w.1 ∙ take_twice kept_limit w.0, subst (λ (s : LineReader). TakesLine (left_of s.bytes.items s.start s.end (g.R.Read.remaining c.args.reader.now)) (left_of n.bytes.items n.start n.end (g.R.Read.remaining c.move_line.new.reader)) w.0) same w.2)

@@ -1,37 +1,37 @@
 use Rattle.std.proofs.Common.{Bool, true, false, inl, inr, Some, None, refl, ap, ◌∙◌, arith}
 use Rattle.std.specs.Bool.{MatchBool}
-use Rattle.line_parser.specs.Slots.{name_text}
+use Rattle.line_parser.specs.LineMembers.{name_text}
 use Rattle.line_parser.proofs.ItemsRead.{members_start, members_next, members_stop}
 use Rattle.line_parser.proofs.NoRequest.{members_broken, other_member, text_behind}
 use Rattle.line_parser.proofs.NoObject.{asked_by-no_object}
 use Rattle.line_parser.proofs.Results.{if_ok_as}
-use Rattle.line_parser.proofs.slots.read_slots.Goals as goal
+use Rattle.line_parser.proofs.line_members.read_members.Goals as goal
 
 pub returns-then-not-begins : goal.returns-then-not-begins
 returns-then-not-begins c = asked_by-no_object c.args.reader.now (rw c.if-not-begins.true at c.in_ok-begins.ensures)
 
-pub members-init : goal.members-init
-members-init c = record {
+pub further-init : goal.further-init
+further-init c = record {
   so_far = members_start c.take_begin_map.new.self _ c.args.bytes.now.items (c.requires c.args.bytes.now.items);
   first = grind arith;
 }
 
-pub members-preserved : goal.members-preserved
-members-preserved c =
-    let l = c.members in
+pub further-preserved : goal.further-preserved
+further-preserved c =
+    let l = c.further in
     let name = c.in-Member.name in
     record {
-      so_far = members_next c.take_begin_map.new.self l.reader c.next_member.new.self c.take_member.new.reader l.slots c.take_member.new.slots l.bytes.items c.take_member.new.bytes.items name (name_text name) l.invariant.so_far (rw c.in-Member.is at c.in_ok-name.ensures) refl c.in_ok-take_member-in-Member.ensures;
+      so_far = members_next c.take_begin_map.new.self l.reader c.next_member.new.self c.take_member.new.reader l.members c.take_member.new.members l.bytes.items c.take_member.new.bytes.items name (name_text name) l.invariant.so_far (rw c.in-Member.is at c.in_ok-name.ensures) refl c.in_ok-take_member-in-Member.ensures;
       first = l.invariant.first;
     }
 
 pub returns-in-Other : goal.returns-in-Other
 returns-in-Other c =
-    let l = c.members in
+    let l = c.further in
     let begun = c.take_begin_map.new.self in
     elim c.in-Other.is [
-      | inl is ↦ (let other = rw is at c.in_ok-name.ensures in other_member begun l.reader l.slots l.bytes.items c.args.reader.now l.invariant.first l.invariant.so_far other.0 _ other.1 other.2)
-      | inr is ↦ members_broken begun l.reader l.slots l.bytes.items c.args.reader.now l.invariant.first l.invariant.so_far (rw is at c.in_ok-name.ensures)
+      | inl is ↦ (let other = rw is at c.in_ok-name.ensures in other_member begun l.reader l.members l.bytes.items c.args.reader.now l.invariant.first l.invariant.so_far other.0 _ other.1 other.2)
+      | inr is ↦ members_broken begun l.reader l.members l.bytes.items c.args.reader.now l.invariant.first l.invariant.so_far (rw is at c.in_ok-name.ensures)
     ]
 
 match_bool-map : {A B C D : Type 0} (b : Bool) → MatchBool b A B → (A → C) → (B → D) → MatchBool b C D
@@ -40,9 +40,9 @@ match_bool-map false x f g = g x
 
 pub returns : goal.returns
 returns c =
-    let l = c.members in
+    let l = c.further in
     let begun = c.take_begin_map.new.self in
     let next = rw c.in-End.is at c.in_ok-name.ensures in
     if_ok_as c.ends.result c.ends.ensures λ over ends. match_bool-map over ends
-    (λ last. members_stop begun l.reader l.slots l.bytes.items c.args.reader.now l.invariant.first l.invariant.so_far (next ∙ ap (λ ts. Some (None, ts)) last))
-    (text_behind begun l.reader l.slots l.bytes.items c.args.reader.now l.invariant.first l.invariant.so_far _ next)
+    (λ last. members_stop begun l.reader l.members l.bytes.items c.args.reader.now l.invariant.first l.invariant.so_far (next ∙ ap (λ ts. Some (None, ts)) last))
+    (text_behind begun l.reader l.members l.bytes.items c.args.reader.now l.invariant.first l.invariant.so_far _ next)

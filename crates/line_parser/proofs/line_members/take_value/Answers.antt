@@ -1,7 +1,7 @@
 use Rattle.std.proofs.Common.{List, ℕ, subst}
 use Rattle.line_parser.specs.Argument.{PutsValue}
 use Rattle.line_parser.proofs.Noted.{value_asked_for}
-use Rattle.line_parser.proofs.slots.take_value.Goals as goal
+use Rattle.line_parser.proofs.line_members.take_value.Goals as goal
 
 pub returns-clause-value : goal.returns-clause-value
 returns-clause-value c =

@@ -1,6 +1,6 @@
 use Rattle.std.proofs.Common.{string_bytes}
 use Rattle.line_protocol.proofs.StepTexts.{push_more}
-use Rattle.line_protocol.proofs.answers.push_replies.Goals as goal
+use Rattle.line_protocol.proofs.replies.push_replies.Goals as goal
 
 pub loop-reply-preserved : goal.loop-reply-preserved
 loop-reply-preserved c =

@@ -13,11 +13,11 @@ use Rattle.silo_event.specs.declared.step.Step.{Step}
 use Rattle.line_parser.specs.Form.{value_asked, step_of_json}
 use Rattle.line_parser.specs.Lenient.{lenient_value, HasValue}
 use Rattle.request_codec.specs.Written.{spelling}
-use Rattle.line_parser.specs.declared.slots.Name.{Name}
-use Rattle.line_parser.specs.declared.slots.Name.TheVariants.{Op, From, Id, Grain, Method, Turn, Now, Failed, Args, State}
-use Rattle.line_parser.specs.declared.slots.Next.{Next}
-use Rattle.line_parser.specs.declared.slots.Next.TheVariants.{Member, Other, End, Broken}
-use Rattle.line_parser.specs.declared.slots.Slots.{Slots}
+use Rattle.line_parser.specs.declared.line_members.Name.{Name}
+use Rattle.line_parser.specs.declared.line_members.Name.TheVariants.{Op, From, Id, Grain, Method, Turn, Now, Failed, Args, State}
+use Rattle.line_parser.specs.declared.line_members.Next.{Next}
+use Rattle.line_parser.specs.declared.line_members.Next.TheVariants.{Member, Other, End, Broken}
+use Rattle.line_parser.specs.declared.line_members.LineMembers.{LineMembers}
 
 -- the name of a member
 abbrev pub name_text : Name → List ℕ
@@ -97,7 +97,7 @@ put_bytes true why l = Some (a_value why l)
 put_bytes false why l = None
 
 -- the slot of each member; the bytes of a value were put elsewhere
-abbrev pub slot_of : Name → Slots → List ℕ → Option Held
+abbrev pub slot_of : Name → LineMembers → List ℕ → Option Held
 slot_of Op s l = option_map (λ t. a_text t.now) s.op
 slot_of From s l = option_map (λ t. a_text t.now) s.from
 slot_of Grain s l = option_map (λ t. a_text t.now) s.grain
@@ -110,15 +110,15 @@ slot_of Args s l = put_bytes s.args s.refusal l
 slot_of State s l = put_bytes s.state s.refusal l
 
 -- where each member went, and how many there are
-pub record HoldsSlots (found : Members) (s : Slots) (l : List ℕ) : Type 0 where
+pub record HoldsLineMembers (found : Members) (s : LineMembers) (l : List ℕ) : Type 0 where
   pub each : (name : Name) → Holds (slot_of name s l) (get_member (name_text name) found)
   pub count : members_len found ≡ s.count
 
 -- one more member
-pub record TakesMember (name : Name) (old new : List Token) (slots_old : Slots) (bytes_old : List ℕ) (slots_new : Slots) (bytes_new : List ℕ) : Type 0 where
+pub record TakesMember (name : Name) (old new : List Token) (members_old : LineMembers) (bytes_old : List ℕ) (members_new : LineMembers) (bytes_new : List ℕ) : Type 0 where
   pub json : Data
   pub read : converted of_json (value 126 old) ≡ Some (json, new)
-  pub holds : (found : Members) → HoldsSlots found slots_old bytes_old → HoldsSlots (put (name_text name) json found) slots_new bytes_new
+  pub holds : (found : Members) → HoldsLineMembers found members_old bytes_old → HoldsLineMembers (put (name_text name) json found) members_new bytes_new
   pub shorter : length new < length old
 
 -- Of the tokens `old` a value was read, `new` is left, and its bytes are known, or why it is refused.
@@ -138,7 +138,7 @@ abbrev pub asked_by : List Token → Option Step
 asked_by ts = option_and_then step_of_json (option_and_then of_json (option_and_then (λ p. if_last p.0 p.1) (value 127 ts)))
 
 -- the tokens are one object, whose members are known
-pub record HasSlots (ts : List Token) (slots : Slots) (bytes : List ℕ) : Type 0 where
+pub record HasLineMembers (ts : List Token) (members : LineMembers) (bytes : List ℕ) : Type 0 where
   pub found : Members
   pub read : option_and_then of_json (option_and_then (λ p. if_last p.0 p.1) (value 127 ts)) ≡ Some (object found)
-  pub holds : HoldsSlots found slots bytes
+  pub holds : HoldsLineMembers found members bytes

@@ -4,13 +4,13 @@ ghost use Rattle.std.specs.Prelude.{◌≡◌, ◌<◌, ◌^◌, ◌||◌, ℕ, 
 ghost use Rattle.std.specs.Bool.{MatchBool};
 ghost use Rattle.json.specs.Token.{string, boolean};
 ghost use Rattle.serde_json.specs.Data.{no_members};
-ghost use Rattle.line_parser.specs.Slots.{name_text, named, TakesMember, TakesValue, asked_by, HoldsSlots, HasSlots, IsNatural};
+ghost use Rattle.line_parser.specs.LineMembers.{name_text, named, TakesMember, TakesValue, asked_by, HoldsLineMembers, HasLineMembers, IsNatural};
 
 use crate::argument::put_value;
 use crate::faults::Faults;
 use crate::number::whole_number;
+use crate::quick_fault::QuickFault;
 use crate::tokens::Tokens;
-use crate::unread::Unread;
 use json::Token;
 use silo_event::Refusal;
 
@@ -42,7 +42,7 @@ pub(crate) enum Next {
 /// there, which is at most one of them; its bytes are kept elsewhere, and `refusal` says why it is
 /// refused, if it is.
 #[derive(Drop)]
-pub(crate) struct Slots<'a> {
+pub(crate) struct LineMembers<'a> {
     pub(crate) op: Option<&'a str>,
     pub(crate) from: Option<&'a str>,
     pub(crate) grain: Option<&'a str>,
@@ -57,13 +57,13 @@ pub(crate) struct Slots<'a> {
     pub(crate) count: usize,
 }
 
-impl<'a> Slots<'a> {
+impl<'a> LineMembers<'a> {
     /// No member was there yet.
     #[inline(always)]
-    pub(crate) fn none() -> Slots<'a>
-        ensures { (l : List ℕ) → HoldsSlots no_members result l }
+    pub(crate) fn none() -> LineMembers<'a>
+        ensures { (l : List ℕ) → HoldsLineMembers no_members result l }
     {
-        Slots {
+        LineMembers {
             op: None,
             from: None,
             grain: None,
@@ -87,7 +87,7 @@ const MEMBER_DEPTH: usize = 126;
 /// Whether a message or a state is too long is asked once they are known.
 const MAX_VALUE_BYTES: usize = 1_048_576;
 
-#[tactic(auto, unfolding(crate::specs::Slots::named))]
+#[tactic(auto, unfolding(crate::specs::LineMembers::named))]
 /// The member of that name.
 pub(crate) fn name_of(key: &str) -> Option<Name>
     ensures known { IfSome result (λ name. key.now ≡ name_text name) }
@@ -109,13 +109,13 @@ pub(crate) fn name_of(key: &str) -> Option<Name>
 }
 
 /// Puts the next token, which has to be a text, into a slot that has none.
-fn take_text<'a>(slot: &mut Option<&'a str>, reader: &mut Tokens<'a>) -> Result<(), Unread>
+fn take_text<'a>(slot: &mut Option<&'a str>, reader: &mut Tokens<'a>) -> Result<(), QuickFault>
     ensures empty { OnOk result (slot.old ≡ None) }
     ensures full { OnOk result (IsSome slot.new) }
     ensures token { OnOk result (IfSome slot.new (λ s. reader.old ≡ string s.now ∷ reader.new)) }
 {
     if slot.is_some() {
-        return Err(Unread::Unusual);
+        return Err(QuickFault::LeftToTree);
     }
     let text = reader.next_text()?;
     *slot = Some(text);
@@ -123,48 +123,48 @@ fn take_text<'a>(slot: &mut Option<&'a str>, reader: &mut Tokens<'a>) -> Result<
 }
 
 /// Puts the next token, which has to be a whole number, 0 or above, into a slot that has none.
-fn take_natural(slot: &mut Option<u64>, reader: &mut Tokens<'_>) -> Result<(), Unread>
+fn take_natural(slot: &mut Option<u64>, reader: &mut Tokens<'_>) -> Result<(), QuickFault>
     ensures empty { OnOk result (slot.old ≡ None) }
     ensures full { OnOk result (IsSome slot.new) }
     ensures token { OnOk result (IfSome slot.new (λ n. IsNatural reader.old n reader.new)) }
 {
     if slot.is_some() {
-        return Err(Unread::Unusual);
+        return Err(QuickFault::LeftToTree);
     }
     let text = reader.next_number()?;
     let Some(n) = whole_number(text) else {
-        return Err(Unread::Unusual);
+        return Err(QuickFault::LeftToTree);
     };
     if n < 0 {
-        return Err(Unread::Unusual);
+        return Err(QuickFault::LeftToTree);
     }
     *slot = Some(n as u64);
     Ok(())
 }
 
 /// Puts the next token, which has to be a truth value, into a slot that has none.
-fn take_truth(slot: &mut Option<bool>, reader: &mut Tokens<'_>) -> Result<(), Unread>
+fn take_truth(slot: &mut Option<bool>, reader: &mut Tokens<'_>) -> Result<(), QuickFault>
     ensures empty { OnOk result (slot.old ≡ None) }
     ensures full { OnOk result (IsSome slot.new) }
     ensures token { OnOk result (IfSome slot.new (λ b. reader.old ≡ boolean b ∷ reader.new)) }
 {
     if slot.is_some() {
-        return Err(Unread::Unusual);
+        return Err(QuickFault::LeftToTree);
     }
     match reader.next()? {
         Token::Bool(truth) => {
             *slot = Some(truth);
             Ok(())
         }
-        _ => Err(Unread::Unusual),
+        _ => Err(QuickFault::LeftToTree),
     }
 }
 
 /// Whether there was a member whose bytes are kept.
-fn has_value(slots: &Slots<'_>) -> bool
-    ensures { result ≡ (slots.now.args || slots.now.state) }
+fn has_value(members: &LineMembers<'_>) -> bool
+    ensures { result ≡ (members.now.args || members.now.state) }
 {
-    slots.args || slots.state
+    members.args || members.state
 }
 
 /// Puts the next value's bytes in place of others, unless a value was put there before, and answers
@@ -173,12 +173,12 @@ fn take_value(
     taken: bool,
     bytes: &mut Vec<u8>,
     reader: &mut Tokens<'_>,
-) -> Result<Option<Refusal>, Unread>
+) -> Result<Option<Refusal>, QuickFault>
     ensures empty { OnOk result (taken ≡ false) }
     ensures value { IfOk result (λ why. TakesValue reader.old reader.new why bytes.new.items) }
 {
     if taken {
-        return Err(Unread::Unusual);
+        return Err(QuickFault::LeftToTree);
     }
     bytes.clear();
     let mut faults = Faults::none();
@@ -189,32 +189,32 @@ fn take_value(
 /// Takes a member that wasn't there yet.
 #[inline(always)]
 fn take_member<'a>(
-    slots: &mut Slots<'a>,
+    members: &mut LineMembers<'a>,
     bytes: &mut Vec<u8>,
     reader: &mut Tokens<'a>,
     name: Name,
-) -> Result<(), Unread>
-    ensures { OnOk result (TakesMember name reader.old reader.new slots.old bytes.old.items slots.new bytes.new.items) }
+) -> Result<(), QuickFault>
+    ensures { OnOk result (TakesMember name reader.old reader.new members.old bytes.old.items members.new bytes.new.items) }
 {
-    let count = slots.count.checked_add(1).ok_or(Unread::Unusual)?;
-    slots.count = count;
+    let count = members.count.checked_add(1).ok_or(QuickFault::LeftToTree)?;
+    members.count = count;
     match name {
-        Name::Op => take_text(&mut slots.op, reader),
-        Name::From => take_text(&mut slots.from, reader),
-        Name::Grain => take_text(&mut slots.grain, reader),
-        Name::Method => take_text(&mut slots.method, reader),
-        Name::Id => take_natural(&mut slots.id, reader),
-        Name::Turn => take_natural(&mut slots.turn, reader),
-        Name::Now => take_natural(&mut slots.moment, reader),
-        Name::Failed => take_truth(&mut slots.failed, reader),
+        Name::Op => take_text(&mut members.op, reader),
+        Name::From => take_text(&mut members.from, reader),
+        Name::Grain => take_text(&mut members.grain, reader),
+        Name::Method => take_text(&mut members.method, reader),
+        Name::Id => take_natural(&mut members.id, reader),
+        Name::Turn => take_natural(&mut members.turn, reader),
+        Name::Now => take_natural(&mut members.moment, reader),
+        Name::Failed => take_truth(&mut members.failed, reader),
         Name::Args => {
-            slots.refusal = take_value(has_value(slots), bytes, reader)?;
-            slots.args = true;
+            members.refusal = take_value(has_value(members), bytes, reader)?;
+            members.args = true;
             Ok(())
         }
         Name::State => {
-            slots.refusal = take_value(has_value(slots), bytes, reader)?;
-            slots.state = true;
+            members.refusal = take_value(has_value(members), bytes, reader)?;
+            members.state = true;
             Ok(())
         }
     }
@@ -222,21 +222,21 @@ fn take_member<'a>(
 
 /// Takes the members of the object that the tokens are, and answers whether it did: each is known and stands once.
 /// If not, the tokens are surely no request.
-pub(crate) fn read_slots<'a>(
+pub(crate) fn read_members<'a>(
     reader: &mut Tokens<'a>,
-    slots: &mut Slots<'a>,
+    members: &mut LineMembers<'a>,
     bytes: &mut Vec<u8>,
-) -> Result<bool, Unread>
-    requires { (l : List ℕ) → HoldsSlots no_members slots.old l }
-    ensures { IfOk result (λ all. MatchBool all (HasSlots reader.old slots.new bytes.new.items) (asked_by reader.old ≡ None)) }
+) -> Result<bool, QuickFault>
+    requires { (l : List ℕ) → HoldsLineMembers no_members members.old l }
+    ensures { IfOk result (λ all. MatchBool all (HasLineMembers reader.old members.new bytes.new.items) (asked_by reader.old ≡ None)) }
 {
     let begins = reader.take_begin_map()?;
     if !begins {
         return Ok(false);
     }
-    'members: loop {
+    'further: loop {
         match reader.next_member()? {
-            Next::Member(name) => take_member(slots, bytes, reader, name)?,
+            Next::Member(name) => take_member(members, bytes, reader, name)?,
             Next::End => break,
             Next::Other | Next::Broken => return Ok(false),
         }
