@@ -1,4 +1,0 @@
-pub mod Givers
-pub mod Lanes
-pub mod Added
-pub mod Places

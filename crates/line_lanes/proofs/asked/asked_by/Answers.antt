@@ -1,8 +1,0 @@
-use Rattle.std.proofs.Common.{sym, subst}
-use Rattle.silo_lanes.specs.Lanes.{AreDistinct}
-use Rattle.line_lanes.specs.Asked.{steps_of}
-use Rattle.line_lanes.proofs.Lanes.{lanes_distinct}
-use Rattle.line_lanes.proofs.asked.asked_by.Goals as goal
-
-pub returns-clause-distinct : goal.returns-clause-distinct
-returns-clause-distinct c = subst AreDistinct (sym c.lines.invariant.0) (lanes_distinct (steps_of c.lines.yielded))

@@ -1,0 +1,8 @@
+pub mod Givers
+pub mod Lanes
+pub mod Added
+pub mod Places
+mod Collected
+mod Ordered
+mod NoRows
+pub mod Stops

@@ -1,0 +1,83 @@
+//! What the lines of an input ask for.
+
+ghost use Rattle.std.specs.Prelude.{◌≡◌, ◌++◌, ◌∷◌, [], IfOk, List, OnOk, Some};
+ghost use Rattle.silo_event.specs.declared.step.Step.{Step as StepValue};
+ghost use Rattle.lane_model.specs.Lanes.{AreDistinct};
+ghost use Rattle.line_service.specs.Asked.{giver_of, lanes_by, lanes_of, refusals_of};
+ghost use Rattle.line_service.specs.Places.{ArePlaced};
+
+use crate::giver::{copy_of, giver_of};
+use client_lanes::Lane;
+use grain_id::Caller;
+use line_parser::{Line, LineRefusal};
+use silo_event::Step;
+use std::alloc::{AllocError, Global};
+use std::collections::BTreeMap;
+
+/// What the lines of an input ask for: lanes, and refusals of the lines that are of none.
+#[derive(Drop)]
+pub struct LanesAndRefusals {
+    /// The lanes, in the order of their first lines.
+    pub lanes: Vec<Lane>,
+    /// The refusals of the lines that are of no lane, in order.
+    pub refusals: Vec<LineRefusal>,
+}
+
+/// The place of each lane, by whose it is.
+type Places = BTreeMap<Option<Caller>, usize>;
+
+/// The lanes that the lines ask for, and the refusals of the other lines. A step goes to the lane that
+/// gives it; a step that no lane gives, or that has the mark of a failure, is refused as no request. One
+/// pass over the lines, with a look-up for each step.
+///
+/// # Errors
+///
+/// Out of memory.
+pub fn asked_by(alloc: Global, lines: Vec<Line>) -> Result<LanesAndRefusals, AllocError>
+    ensures lanes { IfOk result (λ asked. asked.lanes.items ≡ lanes_of lines.items) }
+    ensures refusals { IfOk result (λ asked. asked.refusals.items ≡ refusals_of lines.items) }
+    ensures distinct { IfOk result (λ asked. AreDistinct asked.lanes.items) }
+{
+    let mut lanes = Vec::new(alloc);
+    let mut refusals = Vec::new(alloc);
+    let mut places = BTreeMap::new(alloc);
+    'lines: for line in lines {
+        match line {
+            Line::Nothing => {}
+            Line::Refusal(refusal) => refusals.push(refusal)?,
+            Line::Step(step) => match giver_of(&step)? {
+                Some(giver) => add_step(alloc, &mut lanes, &mut places, giver, step)?,
+                None => refusals.push(LineRefusal::NotARequest)?,
+            },
+        }
+    }
+    Ok(LanesAndRefusals { lanes, refusals })
+}
+
+/// Adds a step behind those of the lane that gives it. If it is the first of the lane, the lane stands
+/// last.
+fn add_step(
+    alloc: Global,
+    lanes: &mut Vec<Lane>,
+    places: &mut Places,
+    giver: Option<Caller>,
+    step: Step,
+) -> Result<(), AllocError>
+    requires given { giver_of step ≡ Some giver }
+    requires placed { ArePlaced places.now lanes.now.items }
+    ensures lanes { OnOk result ((steps : List StepValue) → lanes.old.items ≡ lanes_by steps → lanes.new.items ≡ lanes_by (steps ++ step ∷ [])) }
+    ensures placed { OnOk result (ArePlaced places.new lanes.new.items) }
+{
+    if let Some(place) = places.get(&giver) {
+        let place = *place;
+        lanes[place].push(step)?;
+        return Ok(());
+    }
+    let from = copy_of(&giver)?;
+    let mut lane = Lane::empty(alloc, from);
+    lane.push(step)?;
+    let place = lanes.len();
+    lanes.push(lane)?;
+    places.insert(giver, place)?;
+    Ok(())
+}

@@ -1,0 +1,108 @@
+//! Serving the lines of an input by threads.
+
+ghost use Rattle.std.specs.Prelude.{◌≡◌, ◌≤◌, [], IfOk, IfErr, IfSome, map as map_list};
+ghost use Rattle.std.specs.FinMap.{entries};
+ghost use Rattle.lane_model.specs.Lanes.{AreDistinct};
+ghost use Rattle.line_protocol.specs.LineRuns.{left_of};
+ghost use Rattle.line_service.specs.Serving.{IsServed, IsServingFault, LeavesServed, StopsServing, setup_of};
+
+use crate::asked::asked_by;
+use crate::fault::ServiceFault;
+use client_lanes::Lane;
+use grain_kinds::Kinds;
+use grain_storage::MemoryStorage;
+use line_parser::LineRefusal;
+use line_protocol::{LineFault, LineReader, read_all};
+use silo_core::Setup;
+use std::alloc::Global;
+use std::io::Read;
+use std::sync::Wait;
+use std::thread::Threads;
+use tenant_gate::{Age, TenantTable};
+use worker_host::{ServeFault, ServeReport, TurnGate, serve};
+
+/// What became of an input: the silo, each lane's answers, and the refusals of lines of no lane.
+#[derive(Drop)]
+pub struct ServedInput {
+    pub refusals: Vec<LineRefusal>,
+    pub report: ServeReport<MemoryStorage, Kinds>,
+}
+
+/// What becomes of a fault of serving.
+fn fault_of_serving(fault: ServeFault) -> ServiceFault
+    ensures { IsServingFault result }
+{
+    match fault {
+        ServeFault::Memory => ServiceFault::Failed(LineFault::Memory),
+        ServeFault::NoWorker => ServiceFault::NoWorker,
+        ServeFault::Strayed => ServiceFault::Strayed,
+    }
+}
+
+/// Serves lanes over no rows.
+fn serve_lanes<H: AllocGlobal + Threads + Wait + Sync, G: TurnGate + Sync>(
+    rt: &H,
+    workers: usize,
+    tenants: TenantTable,
+    age: Age,
+    lanes: &[Lane],
+    gate: &G,
+) -> Result<ServeReport<MemoryStorage, Kinds>, ServeFault>
+    requires workers { (1 ≤ workers) × (workers ≤ 64) }
+    requires distinct { AreDistinct lanes.now }
+    ensures { IfOk result (λ report. LeavesServed (setup_of tenants age) lanes.now report.silo (map_list (λ v. v.items) report.answers.items)) }
+{
+    let alloc = rt.alloc();
+    let setup = Setup {
+        tenants,
+        age,
+        storage: MemoryStorage::new(alloc),
+        logic: Kinds,
+    };
+    let report = serve(rt, alloc, setup, lanes, workers, gate)?;
+    // For the proof: a storage in memory never fails.
+    let _ = report.silo.storage();
+    Ok(report)
+}
+
+/// Reads all lines of an input, and then serves them by so many threads, 1 to 64, over no rows at the
+/// start. Requests go to the lane of their client, ticks and sweeps to nobody's, lanes in the order of
+/// their first lines; a line that no lane gives is refused. What the line reader has read ahead comes
+/// first. The gate is told of each turn before its body runs.
+///
+/// # Errors
+///
+/// Reading comes first, with the faults of `read_all`; then `Memory`, `NoWorker` and `Strayed` as of
+/// `worker_host::serve`. No part of the input has then been answered.
+pub fn serve_input<H: AllocGlobal + Threads + Wait + Sync, R: Read, G: TurnGate + Sync>(
+    rt: &H,
+    workers: usize,
+    tenants: TenantTable,
+    age: Age,
+    lines: &mut LineReader,
+    reader: &mut R,
+    gate: &G,
+) -> Result<ServedInput, ServiceFault>
+    requires workers { (1 ≤ workers) × (workers ≤ 64) }
+    ensures served { IfOk result (λ served. IfSome (left_of lines.old.bytes.items lines.old.start lines.old.end (R.remaining reader.old)) (λ input.
+        IsServed (setup_of tenants age) input (R.remaining reader.new) served.refusals.items served.report.silo (map_list (λ v. v.items) served.report.answers.items))) }
+
+    // The silo was opened with these tenants and this age, and no rows.
+    ensures setup { IfOk result (λ served. served.report.silo.setup ≡ setup_of tenants age) }
+    ensures no_rows { IfOk result (λ served. entries served.report.silo.setup.rows ≡ []) }
+
+    // Nothing was written yet.
+    ensures fault { IfErr result (λ why. StopsServing why (left_of lines.old.bytes.items lines.old.start lines.old.end (R.remaining reader.old)) lines.new.calls) }
+{
+    let said = read_all(rt.alloc(), lines, reader)?;
+    let Ok(asked) = asked_by(rt.alloc(), said) else {
+        return Err(ServiceFault::Failed(LineFault::Memory));
+    };
+    match serve_lanes(rt, workers, tenants, age, asked.lanes.as_slice(), gate) {
+        Ok(report) => Ok(ServedInput {
+            refusals: asked.refusals,
+            report,
+        }),
+        Err(fault) => Err(fault_of_serving(fault)),
+    }
+}

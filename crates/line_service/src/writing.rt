@@ -1,0 +1,90 @@
+//! What is written for lanes that were served.
+
+ghost use Rattle.std.specs.Prelude.{◌≡◌, ◌++◌, true, IfOk, IfErr, OnOk, string_bytes, flat_map, map as map_list};
+ghost use Rattle.std.specs.Io.KnownBytes.{Appends};
+ghost use Rattle.line_protocol.specs.LineTexts.{texts_of};
+ghost use Rattle.line_protocol.specs.declared.fault.LineFault.TheVariants as line;
+ghost use Rattle.line_service.specs.ServedText.{StopsWriting, refusals_text, served_text};
+
+use crate::serving::ServedInput;
+use crate::told::{push_told, reply_line};
+use line_parser::LineRefusal;
+use line_protocol::{LineFault, WriterCalls, refusal_text};
+use silo_event::Reply;
+use std::alloc::{AllocError, Global};
+use std::io::Write;
+
+/// Adds the line of each refusal.
+fn push_refusals(
+    alloc: Global,
+    text: &mut String,
+    refusals: &[LineRefusal],
+) -> Result<(), AllocError>
+    ensures { OnOk result (string_bytes text.new ≡ string_bytes text.old ++ refusals_text refusals.now) }
+{
+    'refusals: for refusal in refusals {
+        let line = refusal_text(alloc, *refusal)?;
+        text.push_str(line.as_str())?;
+        text.push_str("\n")?;
+    }
+    Ok(())
+}
+
+/// Adds the line of each reply.
+fn push_replies(alloc: Global, text: &mut String, replies: &[Reply]) -> Result<(), AllocError>
+    ensures { OnOk result (string_bytes text.new ≡ string_bytes text.old ++ texts_of replies.now) }
+{
+    'replies: for reply in replies {
+        let line = reply_line(alloc, reply)?;
+        text.push_str(line.as_str())?;
+    }
+    Ok(())
+}
+
+/// Adds the lines of each lane's replies.
+fn push_answers(alloc: Global, text: &mut String, answers: &[Vec<Reply>]) -> Result<(), AllocError>
+    ensures { OnOk result (string_bytes text.new ≡ string_bytes text.old ++ flat_map texts_of (map_list (λ v. v.items) answers.now)) }
+{
+    'answers: for replies in answers {
+        push_replies(alloc, text, replies.as_slice())?;
+    }
+    Ok(())
+}
+
+/// The text of what was served.
+fn text_of(alloc: Global, served: &ServedInput) -> Result<String, AllocError>
+    ensures { IfOk result (λ text. string_bytes text ≡ served_text served.now.refusals.items (map_list (λ v. v.items) served.now.report.answers.items) served.now.report.silo.whole.replies) }
+{
+    let mut text = String::new(alloc);
+    push_refusals(alloc, &mut text, served.refusals.as_slice())?;
+    push_answers(alloc, &mut text, served.report.answers.as_slice())?;
+    push_told(alloc, &mut text, served.report.silo.replies())?;
+    Ok(text)
+}
+
+/// Writes what was served: a line for each refusal, in the order of their lines; then the replies of
+/// each lane, lanes in order; then the replies to grains, by grain ascending, in the order of kind,
+/// tenant and name. Takes as much memory as the text has bytes. What was written goes out.
+///
+/// # Errors
+///
+/// `Memory`, and nothing was written; `Write` if a call of the writer failed, and a part of the text was
+/// written, or all of it. `calls` notes that a call failed, so pass one that notes none.
+pub fn write_served<W: Write>(
+    alloc: Global,
+    calls: &mut WriterCalls,
+    served: &ServedInput,
+    writer: &mut W,
+) -> Result<(), LineFault>
+    ensures written { OnOk result (Appends (W.contents writer.old) (W.contents writer.new) (served_text served.now.refusals.items (map_list (λ v. v.items) served.now.report.answers.items) served.now.report.silo.whole.replies)) }
+    ensures stopped { IfErr result (λ why. StopsWriting why (served_text served.now.refusals.items (map_list (λ v. v.items) served.now.report.answers.items) served.now.report.silo.whole.replies) (W.contents writer.old) (W.contents writer.new)) }
+    ensures cause { IfErr result (λ why. why ≡ line.Write → calls.new.failed ≡ true) }
+    ensures unfailed { OnOk result (calls.new.failed ≡ calls.old.failed) }
+{
+    let text = text_of(alloc, served)?;
+    calls.write_whole(writer, text.as_str().as_bytes())?;
+    match calls.flush(writer) {
+        Ok(()) => Ok(()),
+        Err(_) => Err(LineFault::Write),
+    }
+}

@@ -1,4 +1,0 @@
-mod Collected
-mod Ordered
-mod NoRows
-pub mod Stops

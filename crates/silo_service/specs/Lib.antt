@@ -1,3 +1,0 @@
-pub mod ServedText
-pub mod Told
-pub mod Serving
