@@ -2,7 +2,7 @@
 use Rattle.std.proofs.Common.{◌≡◌, ℕ, List, Option, Result, IfErr, refl, sym, subst, ⊎_elim}
 use Rattle.std.proofs.KnownBytes.{Keeps-refl}
 use Rattle.std.proofs.lemmas.Result.{IfErr-weaker}
-use Rattle.tenant_audit.specs.FirstFault.{IsFirstFault}
+use Rattle.journal_text.specs.FirstFault.{IsFirstFault}
 use Rattle.line_protocol.specs.declared.written.WriterCalls.{WriterCalls}
 use Rattle.silo_program.specs.Auditing.{AuditFailsBy, IsAuditFault, IsReadingFault, IsRefusalOf, file_cause}
 use Rattle.silo_program.specs.declared.failure.Cause.{Cause}

@@ -13,12 +13,13 @@ use Rattle.silo_core.specs.History.{History}
 use Rattle.silo_core.specs.Runs.{failed_in}
 use Rattle.line_protocol.specs.Lines.{lines_of}
 use Rattle.line_protocol.specs.LineTexts.{whole_stepper, machine_stepper, said_lines, steps_said, line_texts, lines_text, lines_to, texts_to}
-use Rattle.line_protocol.specs.LineRuns.{AnswersLines, AnswersNext, AnswersAll, StopsBefore, StopsAt, StopsAfter, StopsBy}
-use Rattle.line_protocol.specs.declared.calls.ReaderCalls.{ReaderCalls}
+use Rattle.line_protocol.specs.LineRuns.{AreTakenButOne, left_of, AnswersLines, AnswersNext, AnswersAll, StopsBefore, StopsAt, StopsAfter, StopsBy}
+use Rattle.line_protocol.specs.declared.line_reader.LineReader.{LineReader}
 use Rattle.line_protocol.specs.declared.written.WriterCalls.{WriterCalls}
 use Rattle.line_protocol.specs.declared.fault.LineFault.{LineFault}
 use Rattle.line_protocol.specs.declared.fault.LineFault.TheVariants as line
 use Rattle.line_parser.specs.declared.line.Line.{Line}
+use Rattle.line_protocol.proofs.TakenLines.{Took-none, TakesPart-none, none_beyond}
 use Rattle.line_protocol.proofs.Unfailed.{none_failed, none_failed_before, unmarked, own_unmarked}
 use Rattle.silo_program.specs.Steps.{IsTextOf, AnswersSteps, StopsBetween, StopsFrom, StopsInside, StopsSteps}
 
@@ -102,22 +103,23 @@ module _ (setup : Setup) (old : History) (opens : old.whole ≡ opening setup) w
         part = h.part;
       }
 
-  by_fault : (why : LineFault) (calls : ReaderCalls) (writing : WriterCalls) (input : List ℕ) (new : History) (before after : Option (List ℕ)) → new.failures.now ≡ 0 → StopsBy kinds why (lines_of input) calls writing old new before after
-      → StopsSteps setup why input calls before after writing
-  unfolding before_text
-  by_fault line.Read calls writing input new before after zero h = (before_text input new before after zero h.0, h.1)
-  by_fault line.TooMuch calls writing input new before after zero h = (before_text input new before after zero h.0, h.1)
-  by_fault line.Memory calls writing input new before after zero h = at_text input new before after zero h
-  by_fault line.Write calls writing input new before after zero h = (after_text input new before after zero h.0, h.1)
+  by_fault : (why : LineFault) (reading : LineReader) (left : Option (List ℕ)) (writing : WriterCalls) (input : List ℕ) (new : History) (before after : Option (List ℕ)) → new.failures.now ≡ 0
+      → StopsBy kinds why input reading.calls (left_of reading.bytes.items reading.start reading.end left) left writing old new before after → StopsSteps setup why input left reading before after writing
+  unfolding before_text at_text
+  by_fault line.Read reading left writing input new before after zero h = (before_text input new before after zero h.0, h.1, h.2)
+  by_fault line.TooMuch reading left writing input new before after zero h = (before_text input new before after zero h.0, h.1)
+  by_fault line.Memory reading left writing input new before after zero h = (at_text input new before after zero h.0, h.1)
+  by_fault line.Write reading left writing input new before after zero h = (after_text input new before after zero h.0, h.1)
 
-  fault_text : (why : LineFault) (calls : ReaderCalls) (writing : WriterCalls) (new : History) (from before after : Option (List ℕ)) → new.failures.now ≡ 0
-      → IfSome from (λ input. StopsBy kinds why (lines_of input) calls writing old new before after) → IfSome from (λ input. StopsSteps setup why input calls before after writing)
-  fault_text why calls writing new None before after zero h = tt
-  fault_text why calls writing new (Some input) before after zero h = by_fault why calls writing input new before after zero h
+  fault_text : (why : LineFault) (reading : LineReader) (left : Option (List ℕ)) (writing : WriterCalls) (new : History) (from before after : Option (List ℕ)) → new.failures.now ≡ 0
+      → IfSome from (λ input. StopsBy kinds why input reading.calls (left_of reading.bytes.items reading.start reading.end left) left writing old new before after) → IfSome from (λ input. StopsSteps setup why input left reading before after writing)
+  fault_text why reading left writing new None before after zero h = tt
+  fault_text why reading left writing new (Some input) before after zero h = by_fault why reading left writing input new before after zero h
 
-  pub steps_stopped : (why : LineFault) (calls : ReaderCalls) (writing : WriterCalls) (new : History) (ahead from before after : Option (List ℕ)) → ahead ≡ from → new.failures.now ≡ 0
-      → IfSome ahead (λ input. StopsBy kinds why (lines_of input) calls writing old new before after) → IfSome from (λ input. StopsSteps setup why input calls before after writing)
-  steps_stopped why calls writing new ahead from before after same zero h = subst (λ (o : Option (List ℕ)). IfSome o (λ input. StopsSteps setup why input calls before after writing)) same (fault_text why calls writing new ahead before after zero h)
+  pub steps_stopped : (why : LineFault) (reading : LineReader) (left : Option (List ℕ)) (writing : WriterCalls) (new : History) (ahead from before after : Option (List ℕ)) → ahead ≡ from → new.failures.now ≡ 0
+      → IfSome ahead (λ input. StopsBy kinds why input reading.calls (left_of reading.bytes.items reading.start reading.end left) left writing old new before after) → IfSome from (λ input. StopsSteps setup why input left reading before after writing)
+  steps_stopped why reading left writing new ahead from before after same zero h =
+      subst (λ (o : Option (List ℕ)). IfSome o (λ input. StopsSteps setup why input left reading before after writing)) same (fault_text why reading left writing new ahead before after zero h)
 
 -- ---- all was answered, and then writing failed
 
@@ -138,17 +140,17 @@ all_but_out setup input left before during after kept h = record {
   part = record { front = []; back = []; parts = refl; written = Appends-nil after };
 }
 
-StopsSteps-answered : (setup : Setup) (calls : ReaderCalls) (writing : WriterCalls) (from left before during after : Option (List ℕ)) → writing.failed ≡ true → Keeps during after
-    → IfSome from (λ input. AnswersSteps setup input left before during) → IfSome from (λ input. StopsSteps setup line.Write input calls before after writing)
-StopsSteps-answered setup calls writing None left before during after failed kept h = tt
-StopsSteps-answered setup calls writing (Some input) left before during after failed kept h = (all_but_out setup input left before during after kept h, failed)
+StopsSteps-answered : (setup : Setup) (reading : LineReader) (writing : WriterCalls) (from left before during after : Option (List ℕ)) → writing.failed ≡ true → Keeps during after
+    → IfSome from (λ input. AnswersSteps setup input left before during) → IfSome from (λ input. StopsSteps setup line.Write input left reading before after writing)
+StopsSteps-answered setup reading writing None left before during after failed kept h = tt
+StopsSteps-answered setup reading writing (Some input) left before during after failed kept h = (all_but_out setup input left before during after kept h, failed)
 
-pub steps_not_out : {T : Type 0} (setup : Setup) (calls : ReaderCalls) (writing : WriterCalls) (from left before during after : Option (List ℕ)) (out : Result T LineFault) → OnErr out ((out ≡ Err line.Write) × (writing.failed ≡ true)) → Keeps during after
-    → IfSome from (λ input. AnswersSteps setup input left before during) → IfErr out (λ why. StopsFrom setup why from calls before after writing)
-steps_not_out setup calls writing from left before during after (Ok none) fault kept h = tt
-steps_not_out setup calls writing from left before during after (Err why) fault kept h =
+pub steps_not_out : {T : Type 0} (setup : Setup) (reading : LineReader) (writing : WriterCalls) (from left before during after : Option (List ℕ)) (out : Result T LineFault) → OnErr out ((out ≡ Err line.Write) × (writing.failed ≡ true)) → Keeps during after
+    → IfSome from (λ input. AnswersSteps setup input left before during) → IfErr out (λ why. StopsFrom setup why from left reading before after writing)
+steps_not_out setup reading writing from left before during after (Ok none) fault kept h = tt
+steps_not_out setup reading writing from left before during after (Err why) fault kept h =
     let is : why ≡ line.Write = cc (fault.0) in
-    subst (λ (w : LineFault). StopsFrom setup w from calls before after writing) (sym is) (StopsSteps-answered setup calls writing from left before during after fault.1 kept h)
+    subst (λ (w : LineFault). StopsFrom setup w from left reading before after writing) (sym is) (StopsSteps-answered setup reading writing from left before during after fault.1 kept h)
 
 -- ---- the steps ended with a fault, and then what was written went out
 
@@ -172,15 +174,37 @@ module _ (setup : Setup) (lines : List (List ℕ)) (before during after : Option
     part = record { front = h.part.front; back = h.part.back; parts = h.part.parts; written = Appends-kept h.during during after h.part.front h.part.written kept };
   }
 
-StopsSteps-kept : (setup : Setup) (why : LineFault) (input : List ℕ) (calls : ReaderCalls) (writing : WriterCalls) (before during after : Option (List ℕ)) → Keeps during after
-    → StopsSteps setup why input calls before during writing → StopsSteps setup why input calls before after writing
+StopsSteps-kept : (setup : Setup) (why : LineFault) (input : List ℕ) (left : Option (List ℕ)) (reading : LineReader) (writing : WriterCalls) (before during after : Option (List ℕ)) → Keeps during after
+    → StopsSteps setup why input left reading before during writing → StopsSteps setup why input left reading before after writing
 unfolding StopsBetween-kept
-StopsSteps-kept setup line.Read input calls writing before during after kept h = (StopsBetween-kept setup (lines_of input) before during after kept h.0, h.1)
-StopsSteps-kept setup line.TooMuch input calls writing before during after kept h = (StopsBetween-kept setup (lines_of input) before during after kept h.0, h.1)
-StopsSteps-kept setup line.Memory input calls writing before during after kept h = StopsBetween-kept setup (lines_of input) before during after kept h
-StopsSteps-kept setup line.Write input calls writing before during after kept h = (StopsInside-kept setup (lines_of input) before during after kept h.0, h.1)
+StopsSteps-kept setup line.Read input left reading writing before during after kept h = (StopsBetween-kept setup (lines_of input) before during after kept h.0, h.1, h.2)
+StopsSteps-kept setup line.TooMuch input left reading writing before during after kept h = (StopsBetween-kept setup (lines_of input) before during after kept h.0, h.1)
+StopsSteps-kept setup line.Memory input left reading writing before during after kept h = (StopsBetween-kept setup (lines_of input) before during after kept h.0, h.1)
+StopsSteps-kept setup line.Write input left reading writing before during after kept h = (StopsInside-kept setup (lines_of input) before during after kept h.0, h.1)
 
-pub StopsFrom-kept : (setup : Setup) (why : LineFault) (from : Option (List ℕ)) (calls : ReaderCalls) (writing : WriterCalls) (before during after : Option (List ℕ)) → Keeps during after
-    → StopsFrom setup why from calls before during writing → StopsFrom setup why from calls before after writing
-StopsFrom-kept setup why None calls writing before during after kept h = tt
-StopsFrom-kept setup why (Some input) calls writing before during after kept h = StopsSteps-kept setup why input calls writing before during after kept h
+pub StopsFrom-kept : (setup : Setup) (why : LineFault) (from left : Option (List ℕ)) (reading : LineReader) (writing : WriterCalls) (before during after : Option (List ℕ)) → Keeps during after
+    → StopsFrom setup why from left reading before during writing → StopsFrom setup why from left reading before after writing
+StopsFrom-kept setup why None left reading writing before during after kept h = tt
+StopsFrom-kept setup why (Some input) left reading writing before during after kept h = StopsSteps-kept setup why input left reading writing before during after kept h
+
+-- ---- memory was refused before the first line
+
+-- nothing was taken and nothing written
+none_answered : (setup : Setup) (input : List ℕ) (left before : Option (List ℕ)) (reading : LineReader) (writing : WriterCalls) → left_of reading.bytes.items reading.start reading.end left ≡ Some input
+    → StopsSteps setup line.Memory input left reading before before writing
+none_answered setup input left before reading writing same = (
+  record {
+    done = [];
+    rest = lines_of input;
+    parts = refl;
+    text = [];
+    answers = record { whole = refl; own = λ tenant. refl };
+    written = Appends-nil before;
+  },
+  subst (λ (o : Option (List ℕ)). AreTakenButOne input o []) (sym same) (none_beyond input (Some input) (Some input) [] (Took-none (Some input)) (TakesPart-none (Some input))),
+)
+
+pub steps_not_begun : (setup : Setup) (from before : Option (List ℕ)) (reading : LineReader) (writing : WriterCalls) → left_of reading.bytes.items reading.start reading.end from ≡ from
+    → StopsFrom setup line.Memory from from reading before before writing
+steps_not_begun setup None before reading writing same = tt
+steps_not_begun setup (Some input) before reading writing same = none_answered setup input (Some input) before reading writing same

@@ -2,25 +2,26 @@
 use Rattle.std.proofs.Common.{◌≡◌, ℕ, List, Option}
 use Rattle.std.specs.Prelude.{string_bytes}
 use Rattle.clap.specs.Words.{Text}
-use Rattle.line_protocol.specs.declared.calls.ReaderCalls.{ReaderCalls}
+use Rattle.line_protocol.specs.declared.line_reader.LineReader.{LineReader}
 use Rattle.line_protocol.specs.declared.written.WriterCalls.{WriterCalls}
 use Rattle.silo_program.specs.Ends.{AreRefusedBy, FailsBy, IsFaultOf}
+use Rattle.silo_program.specs.Files.{FileClaims}
 use Rattle.silo_program.specs.Status.{failure_text, status_of, told_text}
 use Rattle.silo_program.specs.Streams.{Tells}
 use Rattle.silo_program.specs.declared.failure.Cause.{Cause}
 use Rattle.silo_program.specs.declared.failure.ProgramFault.{ProgramFault}
 use Rattle.silo_program.specs.declared.failure.ProgramFault.TheVariants as fault
 
-module _ (words : List Text) (may_hold : Text → List ℕ → Type 0) (may_fail : Text → Type 0) (from left : Option (List ℕ)) (reading : ReaderCalls) (before after : Option (List ℕ)) (writing : WriterCalls) (said told : Option (List ℕ)) (telling : WriterCalls) where
+module _ (words : List Text) (files : FileClaims) (from left : Option (List ℕ)) (reading : LineReader) (before after : Option (List ℕ)) (writing : WriterCalls) (said told : Option (List ℕ)) (telling : WriterCalls) where
   -- with status 1 the program failed
-  pub failed_by : (why : ProgramFault) → status_of why ≡ 1 → IsFaultOf words may_hold may_fail why from left reading before after writing → Tells said told telling (told_text why)
-      → (cause : Cause) × FailsBy words may_hold may_fail cause from left reading before after writing × Tells said told telling (failure_text cause)
+  pub failed_by : (why : ProgramFault) → status_of why ≡ 1 → IsFaultOf words files why from left reading before after writing → Tells said told telling (told_text why)
+      → (cause : Cause) × FailsBy words files cause from left reading before after writing × Tells said told telling (failure_text cause)
   failed_by (fault.Failed why) one is tells = (why, is, tells)
   failed_by (fault.Refused text) one is tells = absurd (cc (one))
   failed_by (fault.NoJournal text) one is tells = absurd (cc (one))
 
   -- with status 2 the words are refused
-  pub refused_by : (why : ProgramFault) → status_of why ≡ 2 → IsFaultOf words may_hold may_fail why from left reading before after writing → Tells said told telling (told_text why)
+  pub refused_by : (why : ProgramFault) → status_of why ≡ 2 → IsFaultOf words files why from left reading before after writing → Tells said told telling (told_text why)
       → (text : Text) × AreRefusedBy words text × Tells said told telling text
   refused_by (fault.Failed why) two is tells = absurd (cc (two))
   refused_by (fault.Refused text) two is tells = (string_bytes text, is.0, tells)

@@ -1,23 +1,25 @@
 -- How serving fails, by what failed.
-use Rattle.std.proofs.Common.{◌≡◌, ℕ, List, Option, None, Some, Bor, IfOk, IfErr, Result, true, inl, inr, refl, sym, subst, ⊎_elim}
+use Rattle.std.proofs.Common.{◌≡◌, ℕ, List, Option, None, Some, IfOk, IfErr, Result, true, inl, inr, refl, sym, subst, ⊎_elim}
 use Rattle.std.proofs.KnownBytes.{Keeps-refl}
-use Rattle.std.specs.Prelude.{IfNone, option_map}
 use Rattle.std.proofs.lemmas.Result.{IfErr-weaker, IfOk-weaker}
 use Rattle.clap.specs.Words.{Text}
 use Rattle.silo_model.specs.Opening.{Setup}
 use Rattle.line_protocol.specs.declared.fault.LineFault.{LineFault}
 use Rattle.line_protocol.specs.declared.fault.LineFault.TheVariants as line
 use Rattle.line_protocol.specs.declared.calls.ReaderCalls.{ReaderCalls}
+use Rattle.line_protocol.specs.declared.line_reader.LineReader.{LineReader}
 use Rattle.line_protocol.specs.declared.written.WriterCalls.{WriterCalls}
-use Rattle.silo_service.specs.ServedText.{StopsWriting}
-use Rattle.silo_service.specs.Serving.{StopsServing}
-use Rattle.silo_service.specs.declared.fault.ServiceFault.{ServiceFault}
-use Rattle.silo_service.specs.declared.fault.ServiceFault.TheVariants as service
+use Rattle.line_service.specs.ServedText.{StopsWriting}
+use Rattle.line_service.specs.declared.fault.ServiceFault.{ServiceFault}
+use Rattle.line_service.specs.declared.fault.ServiceFault.TheVariants as service
 use Rattle.silo_words.specs.Words.{AskForServing}
 use Rattle.silo_program.specs.Status.{IsTenantsFault, cause_of}
-use Rattle.silo_words.specs.Tenants.{IsReason}
-use Rattle.silo_program.specs.Serving.{IsKeepingCause, KeepsJournal, LeavesOutcome, Outcome, ServingFailsBy, outcome_text, service_cause}
-use Rattle.silo_program.specs.Ends.{AskForJournal, EndsAs, IsFaultOf, IsServingFault, IsStreamFault, ShowsText}
+use Rattle.silo_words.specs.Tenants.{IsReason, NameTenants}
+use Rattle.tenant_gate.specs.Table.{Table}
+use Rattle.line_service.specs.Serving.{StopsServing, setup_of}
+use Rattle.silo_program.specs.Files.{FileClaims}
+use Rattle.silo_program.specs.Serving.{IsKeepingCause, KeepsJournal, LeavesOutcome, Outcome, ServingFailsBy, WritesAtMost, WritesJournalAtMost, WritesJournalTo, outcome_text, service_cause}
+use Rattle.silo_program.specs.Ends.{AskForJournal, EndsAs, IsFaultOf, IsServingFault, IsStreamFault, LeavesFiles, ShowsText, WritesJournal}
 use Rattle.silo_program.specs.declared.failure.Cause.{Cause}
 use Rattle.silo_program.specs.declared.failure.Cause.TheVariants as cause
 use Rattle.silo_program.specs.declared.failure.End.{End}
@@ -29,23 +31,23 @@ use Rattle.silo_words.specs.declared.tenants.TenantsFault.TheVariants as tenants
 
 -- ---- an input isn't served
 
-module _ (setup : Setup) (may_hold : List ℕ → List ℕ → Type 0) (may_fail : List ℕ → Type 0) (journal : Option (List ℕ)) (from left : Option (List ℕ)) (reading : ReaderCalls) (before : Option (List ℕ)) (writing : WriterCalls) where
-  by_service : (why : ServiceFault) → StopsServing why from reading → ServingFailsBy setup may_hold may_fail journal (service_cause why) from left reading before before writing
-  by_service (service.Failed line.Read) stops = (stops, Keeps-refl before)
-  by_service (service.Failed line.TooMuch) stops = (stops, Keeps-refl before)
+module _ (setup : Setup) (files : FileClaims) (journal : Option (List ℕ)) (from left : Option (List ℕ)) (reading : ReaderCalls) (before : Option (List ℕ)) (writing : WriterCalls) (same : files.same) where
+  by_service : (why : ServiceFault) → StopsServing why from reading → ServingFailsBy setup files journal (service_cause why) from left reading before before writing
+  by_service (service.Failed line.Read) stops = (stops, Keeps-refl before, same)
+  by_service (service.Failed line.TooMuch) stops = (stops, Keeps-refl before, same)
   by_service (service.Failed line.Memory) stops = Keeps-refl before
   by_service (service.Failed line.Write) stops = absurd stops
-  by_service service.NoWorker stops = Keeps-refl before
-  by_service service.Strayed stops = Keeps-refl before
+  by_service service.NoWorker stops = (Keeps-refl before, same)
+  by_service service.Strayed stops = (Keeps-refl before, same)
 
-  pub not_served : (why : ServiceFault) (by : Cause) → by ≡ service_cause why → StopsServing why from reading → ServingFailsBy setup may_hold may_fail journal by from left reading before before writing
-  not_served why by is stops = subst (λ (c : Cause). ServingFailsBy setup may_hold may_fail journal c from left reading before before writing) (sym is) (by_service why stops)
+  pub not_served : (why : ServiceFault) (by : Cause) → by ≡ service_cause why → StopsServing why from reading → ServingFailsBy setup files journal by from left reading before before writing
+  not_served why by is stops = subst (λ (c : Cause). ServingFailsBy setup files journal c from left reading before before writing) (sym is) (by_service why stops)
 
 -- ---- lines were served
 
-module _ (setup : Setup) (may_hold : List ℕ → List ℕ → Type 0) (may_fail : List ℕ → Type 0) (journal : Option (List ℕ)) (from left : Option (List ℕ)) (reading : ReaderCalls) (before after : Option (List ℕ)) (writing : WriterCalls) (outcome : Outcome) (served : LeavesOutcome setup from left outcome) where
+module _ (setup : Setup) (files : FileClaims) (journal : Option (List ℕ)) (from left : Option (List ℕ)) (reading : ReaderCalls) (before after : Option (List ℕ)) (writing : WriterCalls) (outcome : Outcome) (served : LeavesOutcome setup from left outcome) where
   -- but the journal wasn't written
-  pub not_kept : (why : Cause) → IsKeepingCause may_fail journal why → ServingFailsBy setup may_hold may_fail journal why from left reading before before writing
+  pub not_kept : (why : Cause) → IsKeepingCause files.may_fail journal why → ServingFailsBy setup files journal why from left reading before before writing
   not_kept cause.Read is = absurd is
   not_kept cause.Write is = inl (record { fails = is; outcome = outcome; served = served; kept = Keeps-refl before })
   not_kept cause.Memory is = Keeps-refl before
@@ -54,50 +56,67 @@ module _ (setup : Setup) (may_hold : List ℕ → List ℕ → Type 0) (may_fail
   not_kept cause.Strayed is = absurd is
 
   -- but their text wasn't written whole
-  by_fault : (why : LineFault) → KeepsJournal may_hold journal outcome.silo → StopsWriting why (outcome_text outcome) before after → (why ≡ line.Write → writing.failed ≡ true)
-      → ServingFailsBy setup may_hold may_fail journal (cause_of why) from left reading before after writing
+  by_fault : (why : LineFault) → KeepsJournal files journal outcome.silo → StopsWriting why (outcome_text outcome) before after → (why ≡ line.Write → writing.failed ≡ true)
+      → ServingFailsBy setup files journal (cause_of why) from left reading before after writing
   by_fault line.Read kept stops failed = absurd stops
   by_fault line.Write kept stops failed = inr (record { outcome = outcome; served = served; kept = kept; part = record { part = stops; failed = failed refl } })
   by_fault line.Memory kept stops failed = stops
   by_fault line.TooMuch kept stops failed = absurd stops
 
-  pub not_written : (why : LineFault) (by : Cause) → by ≡ cause_of why → KeepsJournal may_hold journal outcome.silo → StopsWriting why (outcome_text outcome) before after → (why ≡ line.Write → writing.failed ≡ true)
-      → ServingFailsBy setup may_hold may_fail journal by from left reading before after writing
-  not_written why by is kept stops failed = subst (λ (c : Cause). ServingFailsBy setup may_hold may_fail journal c from left reading before after writing) (sym is) (by_fault why kept stops failed)
+  pub not_written : (why : LineFault) (by : Cause) → by ≡ cause_of why → KeepsJournal files journal outcome.silo → StopsWriting why (outcome_text outcome) before after → (why ≡ line.Write → writing.failed ≡ true)
+      → ServingFailsBy setup files journal by from left reading before after writing
+  not_written why by is kept stops failed = subst (λ (c : Cause). ServingFailsBy setup files journal c from left reading before after writing) (sym is) (by_fault why kept stops failed)
+
+-- ---- what was written to files
+
+module _ (setup : Setup) (files : FileClaims) (from left : Option (List ℕ)) where
+  pub unwritten : (journal : Option (List ℕ)) → files.same → WritesJournalAtMost setup files journal from left
+  unwritten None same = same
+  unwritten (Some path) same = inl same
+
+  pub journal_written : (journal : Option (List ℕ)) (outcome : Outcome) → LeavesOutcome setup from left outcome → WritesAtMost files journal outcome.silo → WritesJournalAtMost setup files journal from left
+  journal_written None outcome served same = same
+  journal_written (Some path) outcome served is = ⊎_elim (λ same. inl same) (λ written. inr (record { outcome = outcome; served = served; written = written })) is
+
+module _ (words : List Text) (files : FileClaims) (from left : Option (List ℕ)) (workers age : ℕ) (tenants : Table) (arguments : List Text) where
+  -- of what the words ask for
+  pub files_left : (journal : Option Text) → AskForServing words workers age journal arguments → NameTenants arguments tenants → WritesJournalAtMost (setup_of tenants age) files journal from left → LeavesFiles words files from left
+  files_left None asked named same = inl same
+  files_left (Some path) asked named is =
+      ⊎_elim (λ same. inl same)
+      (λ written. inr (record { workers = workers; tenants = tenants; age = age; path = path; asked = record { arguments = arguments; asked = asked; named = named }; served = written })) is
+
+-- no journal is asked for
+pub untouched : (words : List Text) (files : FileClaims) (from left : Option (List ℕ)) → LeavesFiles words files from left → ((path : Text) → ¬ AskForJournal words path) → files.same
+untouched words files from left leaves never =
+    ⊎_elim (λ same. same) (λ (w : WritesJournal words files from left). absurd (never w.path (w.workers, w.age, w.asked.arguments, w.asked.asked))) leaves
 
 -- ---- the tenant arguments are refused
 
-module _ (words : List Text) (may_hold : Text → List ℕ → Type 0) (may_fail : Text → Type 0) (from : Option (List ℕ)) (reading : ReaderCalls) (before : Option (List ℕ)) (writing : WriterCalls) where
+module _ (words : List Text) (files : FileClaims) (from : Option (List ℕ)) (reading : LineReader) (before : Option (List ℕ)) (writing : WriterCalls) (same : files.same) where
   module _ (workers age : ℕ) (journal : Option Text) (arguments : List Text) (asked : AskForServing words workers age journal arguments) where
-    pub tenants_refused : (why : TenantsFault) (told : ProgramFault) → IsReason arguments why → IsTenantsFault why told → IsServingFault words may_hold may_fail told from from reading before before writing
-    tenants_refused tenants.Memory told reason is = subst (λ (f : ProgramFault). IsServingFault words may_hold may_fail f from from reading before before writing) (sym is) (inl (Keeps-refl from, Keeps-refl before))
+    pub tenants_refused : (why : TenantsFault) (told : ProgramFault) → IsReason arguments why → IsTenantsFault why told → IsServingFault words files told from from reading before before writing
+    tenants_refused tenants.Memory told reason is = subst (λ (f : ProgramFault). IsServingFault words files f from from reading before before writing) (sym is) (inl (Keeps-refl from, Keeps-refl before))
     tenants_refused (tenants.Refused number) (fault.Failed why) reason is =
-        subst (λ (c : Cause). IsServingFault words may_hold may_fail (fault.Failed c) from from reading before before writing) (sym is) (inl (Keeps-refl from, Keeps-refl before))
+        subst (λ (c : Cause). IsServingFault words files (fault.Failed c) from from reading before before writing) (sym is) (inl (Keeps-refl from, Keeps-refl before))
     tenants_refused (tenants.Refused number) (fault.Refused text) reason is =
-        (inr (number, record { arguments = arguments; asked = inr (workers, age, journal, asked); first = reason }, is), Keeps-refl from, Keeps-refl before)
+        (inr (number, record { arguments = arguments; asked = inr (workers, age, journal, asked); first = reason }, is), Keeps-refl from, Keeps-refl before, same)
     tenants_refused (tenants.Refused number) (fault.NoJournal text) reason is = absurd is
 
 -- ---- a text was asked for
 
-module _ (words : List Text) (may_hold : Text → List ℕ → Type 0) (from left before after : Option (List ℕ)) where
-  shown : (how : End) → (how ≡ end.Well) × ShowsText words from left before after → EndsAs how words may_hold from left before after
-  shown how is = subst (λ (e : End). EndsAs e words may_hold from left before after) (sym is.0) (inl is.1)
+module _ (words : List Text) (files : FileClaims) (from left before after : Option (List ℕ)) where
+  shown : (how : End) → (how ≡ end.Well) × ShowsText words from left before after → EndsAs how words files from left before after
+  shown how is = subst (λ (e : End). EndsAs e words files from left before after) (sym is.0) (inl is.1)
 
-  pub ends_shown : {E : Type 0} (result : Result End E) → IfOk result (λ how. (how ≡ end.Well) × ShowsText words from left before after) → IfOk result (λ how. EndsAs how words may_hold from left before after)
-  ends_shown result is = IfOk-weaker result (λ how. (how ≡ end.Well) × ShowsText words from left before after) (λ how. EndsAs how words may_hold from left before after) shown is
+  pub ends_shown : {E : Type 0} (result : Result End E) → IfOk result (λ how. (how ≡ end.Well) × ShowsText words from left before after) → IfOk result (λ how. EndsAs how words files from left before after)
+  ends_shown result is = IfOk-weaker result (λ how. (how ≡ end.Well) × ShowsText words from left before after) (λ how. EndsAs how words files from left before after) shown is
 
-module _ (words : List Text) (may_hold : Text → List ℕ → Type 0) (may_fail : Text → Type 0) (from left : Option (List ℕ)) (reading : ReaderCalls) (before after : Option (List ℕ)) (writing : WriterCalls) where
-  stream_fault : (why : ProgramFault) → IsStreamFault words why from left reading before after writing → IsFaultOf words may_hold may_fail why from left reading before after writing
+module _ (words : List Text) (files : FileClaims) (from left : Option (List ℕ)) (reading : LineReader) (before after : Option (List ℕ)) (writing : WriterCalls) (same : files.same) where
+  stream_fault : (why : ProgramFault) → IsStreamFault words why from left reading before after writing → IsFaultOf words files why from left reading before after writing
   stream_fault (fault.Failed why) is = ⊎_elim (λ early. inl early) (λ steps. inr (inl steps)) is
-  stream_fault (fault.Refused text) is = is
+  stream_fault (fault.Refused text) is = (is.0, is.1, is.2, same)
   stream_fault (fault.NoJournal text) is = absurd is
 
-  pub stream_faults : {T : Type 0} (result : Result T ProgramFault) → IfErr result (λ why. IsStreamFault words why from left reading before after writing) → IfErr result (λ why. IsFaultOf words may_hold may_fail why from left reading before after writing)
-  stream_faults result is = IfErr-weaker result (λ why. IsStreamFault words why from left reading before after writing) (λ why. IsFaultOf words may_hold may_fail why from left reading before after writing) stream_fault is
-
--- ---- no journal is asked for
-
-pub untouched : {P : Type 0} (words : List Text) (workers age : ℕ) (journal : Option (Bor (List ℕ))) (arguments : List Text)
-    → AskForServing words workers age (option_map (λ path. path.now) journal) arguments → IfNone journal P → ((path : Text) → ¬ AskForJournal words path) → P
-untouched words workers age None arguments asked none never = none
-untouched words workers age (Some path) arguments asked none never = absurd (never path.now (workers, age, arguments, asked))
+  pub stream_faults : {T : Type 0} (result : Result T ProgramFault) → IfErr result (λ why. IsStreamFault words why from left reading before after writing) → IfErr result (λ why. IsFaultOf words files why from left reading before after writing)
+  stream_faults result is = IfErr-weaker result (λ why. IsStreamFault words why from left reading before after writing) (λ why. IsFaultOf words files why from left reading before after writing) stream_fault is

@@ -5,11 +5,11 @@ use Rattle.std.specs.Option.{is_some}
 use Rattle.std.specs.Io.KnownBytes.{Appends, Keeps}
 use Rattle.grain_kinds.specs.Kinds.{kinds}
 use Rattle.line_protocol.specs.declared.written.WriterCalls.{WriterCalls}
-use Rattle.tenant_audit.specs.FirstFault.{IsFirstFault}
-use Rattle.tenant_audit.specs.Rules.{KeepsRules}
-use Rattle.tenant_audit.specs.Text.{History, journal_text}
-use Rattle.silo_report.specs.Report.{IsReport, TenantReport}
-use Rattle.journal_audit.specs.ReportText.{report_line}
+use Rattle.journal_text.specs.FirstFault.{IsFirstFault}
+use Rattle.journal_text.specs.Rules.{KeepsRules}
+use Rattle.journal_text.specs.Text.{History, journal_text}
+use Rattle.audit_model.specs.Report.{IsReport, TenantReport}
+use Rattle.tenant_audit.specs.ReportText.{report_line}
 use Rattle.silo_program.specs.Status.{no_journal_text}
 use Rattle.silo_program.specs.Streams.{BreaksOff}
 use Rattle.silo_program.specs.declared.failure.Cause.{Cause}

@@ -3,16 +3,17 @@ use Rattle.std.specs.Prelude.{◌≡◌, ◌⊎◌, ℕ, List, Option, Some, str
 use Rattle.std.specs.Io.KnownBytes.{Appends, Keeps}
 use Rattle.clap.specs.Words.{Text}
 use Rattle.tenant_gate.specs.Table.{Table}
-use Rattle.line_protocol.specs.declared.calls.ReaderCalls.{ReaderCalls}
+use Rattle.line_protocol.specs.declared.line_reader.LineReader.{LineReader}
 use Rattle.line_protocol.specs.declared.written.WriterCalls.{WriterCalls}
 use Rattle.line_protocol.specs.declared.fault.LineFault.{LineFault}
-use Rattle.silo_service.specs.Serving.{setup_of}
+use Rattle.line_service.specs.Serving.{setup_of}
 use Rattle.silo_words.specs.Words.{AreRefused, AreTaken, AskForAudit, AskForHelp, AskForServing, AskForSteps, AskForVersion, EndsWithExample, IsOutOfRange}
 use Rattle.silo_program.specs.Status.{cause_of, refused_text, version_text}
 use Rattle.silo_program.specs.Streams.{BreaksOff}
 use Rattle.silo_words.specs.Tenants.{IsFirstRefused, NameTenants}
 use Rattle.silo_program.specs.Steps.{AnswersFrom, StopsFrom}
-use Rattle.silo_program.specs.Serving.{ServesLanes, ServingFailsBy}
+use Rattle.silo_program.specs.Files.{FileClaims}
+use Rattle.silo_program.specs.Serving.{ServesLanes, ServingFailsBy, WritesJournalTo}
 use Rattle.silo_program.specs.Auditing.{AuditFailsBy, AuditsFile, RefusesFile}
 use Rattle.silo_program.specs.declared.failure.Cause.{Cause}
 use Rattle.silo_program.specs.declared.failure.Cause.TheVariants as cause
@@ -92,84 +93,100 @@ pub record ServesSteps (words : List Text) (from left before after : Option (Lis
   pub answered : AnswersFrom (setup_of tenants age) from left before after
 
 -- The words name tenants, and the steps of the input were answered for them up to this fault.
-pub record FailsInSteps (words : List Text) (why : Cause) (from : Option (List ℕ)) (reading : ReaderCalls) (before after : Option (List ℕ)) (writing : WriterCalls) : Type 0 where
+pub record FailsInSteps (words : List Text) (why : Cause) (from left : Option (List ℕ)) (reading : LineReader) (before after : Option (List ℕ)) (writing : WriterCalls) : Type 0 where
   pub tenants : Table
   pub age : ℕ
   pub asked : AskForTenants words tenants age
   pub fault : LineFault
   pub is : why ≡ cause_of fault
-  pub stopped : StopsFrom (setup_of tenants age) fault from reading before after writing
+  pub stopped : StopsFrom (setup_of tenants age) fault from left reading before after writing
 
 -- ---- lines are served
 
 -- The words name tenants, and the lines of the input were served for them.
-pub record ServesInput (words : List Text) (may_hold : Text → List ℕ → Type 0) (from left before after : Option (List ℕ)) : Type 0 where
+pub record ServesInput (words : List Text) (files : FileClaims) (from left before after : Option (List ℕ)) : Type 0 where
   pub workers : ℕ
   pub tenants : Table
   pub age : ℕ
   pub journal : Option Text
   pub asked : AskForThreads words workers tenants age journal
-  pub served : ServesLanes (setup_of tenants age) may_hold journal from left before after
+  pub served : ServesLanes (setup_of tenants age) files journal from left before after
 
 -- The words name tenants, and serving the lines of the input for them failed.
-pub record FailsInServing (words : List Text) (may_hold : Text → List ℕ → Type 0) (may_fail : Text → Type 0) (why : Cause) (from left : Option (List ℕ)) (reading : ReaderCalls) (before after : Option (List ℕ)) (writing : WriterCalls) : Type 0 where
+pub record FailsInServing (words : List Text) (files : FileClaims) (why : Cause) (from left : Option (List ℕ)) (reading : LineReader) (before after : Option (List ℕ)) (writing : WriterCalls) : Type 0 where
   pub workers : ℕ
   pub tenants : Table
   pub age : ℕ
   pub journal : Option Text
   pub asked : AskForThreads words workers tenants age journal
-  pub failed : ServingFailsBy (setup_of tenants age) may_hold may_fail journal why from left reading before after writing
+  pub failed : ServingFailsBy (setup_of tenants age) files journal why from left reading.calls before after writing
+
+-- The words name tenants and a path, the lines of the input were served for them, and their journal was written to this path, once and nothing else.
+pub record WritesJournal (words : List Text) (files : FileClaims) (from left : Option (List ℕ)) : Type 0 where
+  pub workers : ℕ
+  pub tenants : Table
+  pub age : ℕ
+  pub path : Text
+  pub asked : AskForThreads words workers tenants age (Some path)
+  pub served : WritesJournalTo (setup_of tenants age) files path from left
+
+-- No file was written, or the journal that the words ask for was.
+abbrev pub LeavesFiles : List Text → FileClaims → Option (List ℕ) → Option (List ℕ) → Type 0
+LeavesFiles words files from left = files.same ⊎ WritesJournal words files from left
 
 -- ---- a journal is audited
 
--- The words name a file, and its journal was audited. Nothing was read from the input.
-pub record Audits (words : List Text) (may_hold : Text → List ℕ → Type 0) (how : End) (from left before after : Option (List ℕ)) : Type 0 where
+-- The words name a file, and its journal was audited. Nothing was read from the input, and no file was written.
+pub record Audits (words : List Text) (files : FileClaims) (how : End) (from left before after : Option (List ℕ)) : Type 0 where
   pub path : Text
   pub asked : AskForAudit words path
   pub kept : Keeps from left
-  pub audited : AuditsFile (may_hold path) how before after
+  pub unwritten : files.same
+  pub audited : AuditsFile (files.may_hold path) how before after
 
--- The words name a file, and its audit failed. Nothing was read from the input.
-pub record FailsInAudit (words : List Text) (may_hold : Text → List ℕ → Type 0) (may_fail : Text → Type 0) (why : Cause) (from left before after : Option (List ℕ)) (writing : WriterCalls) : Type 0 where
+-- The words name a file, and its audit failed. Nothing was read from the input, and no file was written.
+pub record FailsInAudit (words : List Text) (files : FileClaims) (why : Cause) (from left before after : Option (List ℕ)) (writing : WriterCalls) : Type 0 where
   pub path : Text
   pub asked : AskForAudit words path
   pub kept : Keeps from left
-  pub failed : AuditFailsBy (may_hold path) (may_fail path) why before after writing
+  pub unwritten : files.same
+  pub failed : AuditFailsBy (files.may_hold path) (files.may_fail path) why before after writing
 
--- The words name a file that has no journal, and that was said. Nothing was read from the input.
-pub record RefusesJournal (words : List Text) (may_hold : Text → List ℕ → Type 0) (text : Text) (from left before after : Option (List ℕ)) : Type 0 where
+-- The words name a file that has no journal, and that was said. Nothing was read from the input, and no file was written.
+pub record RefusesJournal (words : List Text) (files : FileClaims) (text : Text) (from left before after : Option (List ℕ)) : Type 0 where
   pub path : Text
   pub asked : AskForAudit words path
   pub kept : Keeps from left
-  pub refused : RefusesFile (may_hold path) text before after
+  pub unwritten : files.same
+  pub refused : RefusesFile (files.may_hold path) text before after
 
 -- ---- how the program ends
 
 -- All is well: the words ask for a text, which was written, or for steps, which were answered, or for lines to be served, which they were, or for an audit, which found no difference. A tenant differs: the words ask for an audit, which found that.
-abbrev pub EndsAs : End → List Text → (Text → List ℕ → Type 0) → Option (List ℕ) → Option (List ℕ) → Option (List ℕ) → Option (List ℕ) → Type 0
-EndsAs end.Well words may_hold from left before after =
-    ShowsText words from left before after ⊎ (ServesSteps words from left before after ⊎ (ServesInput words may_hold from left before after ⊎ Audits words may_hold end.Well from left before after))
-EndsAs end.Differs words may_hold from left before after = Audits words may_hold end.Differs from left before after
+abbrev pub EndsAs : End → List Text → FileClaims → Option (List ℕ) → Option (List ℕ) → Option (List ℕ) → Option (List ℕ) → Type 0
+EndsAs end.Well words files from left before after =
+    ShowsText words from left before after ⊎ (ServesSteps words from left before after ⊎ (ServesInput words files from left before after ⊎ Audits words files end.Well from left before after))
+EndsAs end.Differs words files from left before after = Audits words files end.Differs from left before after
 
 -- What was done before the program failed by this: nothing yet, or a part of what the words ask for.
-abbrev pub FailsBy : List Text → (Text → List ℕ → Type 0) → (Text → Type 0) → Cause → Option (List ℕ) → Option (List ℕ) → ReaderCalls → Option (List ℕ) → Option (List ℕ) → WriterCalls → Type 0
-FailsBy words may_hold may_fail why from left reading before after writing =
-    FailsEarly words why from left before after writing ⊎ (FailsInSteps words why from reading before after writing ⊎ (FailsInServing words may_hold may_fail why from left reading before after writing ⊎ FailsInAudit words may_hold may_fail why from left before after writing))
+abbrev pub FailsBy : List Text → FileClaims → Cause → Option (List ℕ) → Option (List ℕ) → LineReader → Option (List ℕ) → Option (List ℕ) → WriterCalls → Type 0
+FailsBy words files why from left reading before after writing =
+    FailsEarly words why from left before after writing ⊎ (FailsInSteps words why from left reading before after writing ⊎ (FailsInServing words files why from left reading before after writing ⊎ FailsInAudit words files why from left before after writing))
 
 -- Why a text isn't shown, or steps aren't taken.
-abbrev pub IsStreamFault : List Text → ProgramFault → Option (List ℕ) → Option (List ℕ) → ReaderCalls → Option (List ℕ) → Option (List ℕ) → WriterCalls → Type 0
-IsStreamFault words (fault.Failed why) from left reading before after writing = FailsEarly words why from left before after writing ⊎ FailsInSteps words why from reading before after writing
+abbrev pub IsStreamFault : List Text → ProgramFault → Option (List ℕ) → Option (List ℕ) → LineReader → Option (List ℕ) → Option (List ℕ) → WriterCalls → Type 0
+IsStreamFault words (fault.Failed why) from left reading before after writing = FailsEarly words why from left before after writing ⊎ FailsInSteps words why from left reading before after writing
 IsStreamFault words (fault.Refused text) from left reading before after writing = AreRefusedBy words (string_bytes text) × Keeps from left × Keeps before after
 IsStreamFault words (fault.NoJournal text) from left reading before after writing = ⊥
 
 -- Why lines aren't served.
-abbrev pub IsServingFault : List Text → (Text → List ℕ → Type 0) → (Text → Type 0) → ProgramFault → Option (List ℕ) → Option (List ℕ) → ReaderCalls → Option (List ℕ) → Option (List ℕ) → WriterCalls → Type 0
-IsServingFault words may_hold may_fail (fault.Failed why) from left reading before after writing = FailsEarly words why from left before after writing ⊎ FailsInServing words may_hold may_fail why from left reading before after writing
-IsServingFault words may_hold may_fail (fault.Refused text) from left reading before after writing = AreRefusedBy words (string_bytes text) × Keeps from left × Keeps before after
-IsServingFault words may_hold may_fail (fault.NoJournal text) from left reading before after writing = ⊥
+abbrev pub IsServingFault : List Text → FileClaims → ProgramFault → Option (List ℕ) → Option (List ℕ) → LineReader → Option (List ℕ) → Option (List ℕ) → WriterCalls → Type 0
+IsServingFault words files (fault.Failed why) from left reading before after writing = FailsEarly words why from left before after writing ⊎ FailsInServing words files why from left reading before after writing
+IsServingFault words files (fault.Refused text) from left reading before after writing = AreRefusedBy words (string_bytes text) × Keeps from left × Keeps before after × files.same
+IsServingFault words files (fault.NoJournal text) from left reading before after writing = ⊥
 
--- Why the program doesn't do what the words ask for. If the words are refused, nothing was read and nothing written.
-abbrev pub IsFaultOf : List Text → (Text → List ℕ → Type 0) → (Text → Type 0) → ProgramFault → Option (List ℕ) → Option (List ℕ) → ReaderCalls → Option (List ℕ) → Option (List ℕ) → WriterCalls → Type 0
-IsFaultOf words may_hold may_fail (fault.Failed why) from left reading before after writing = FailsBy words may_hold may_fail why from left reading before after writing
-IsFaultOf words may_hold may_fail (fault.Refused text) from left reading before after writing = AreRefusedBy words (string_bytes text) × Keeps from left × Keeps before after
-IsFaultOf words may_hold may_fail (fault.NoJournal text) from left reading before after writing = RefusesJournal words may_hold (string_bytes text) from left before after
+-- Why the program doesn't do what the words ask for. If the words are refused, nothing was read and nothing written, also no file.
+abbrev pub IsFaultOf : List Text → FileClaims → ProgramFault → Option (List ℕ) → Option (List ℕ) → LineReader → Option (List ℕ) → Option (List ℕ) → WriterCalls → Type 0
+IsFaultOf words files (fault.Failed why) from left reading before after writing = FailsBy words files why from left reading before after writing
+IsFaultOf words files (fault.Refused text) from left reading before after writing = AreRefusedBy words (string_bytes text) × Keeps from left × Keeps before after × files.same
+IsFaultOf words files (fault.NoJournal text) from left reading before after writing = RefusesJournal words files (string_bytes text) from left before after

@@ -1,5 +1,6 @@
 pub mod Status
 pub mod Streams
+pub mod Files
 pub mod Steps
 pub mod Serving
 pub mod Auditing

@@ -6,17 +6,18 @@ use Rattle.grain_kinds.specs.Kinds.{kinds}
 use Rattle.silo_model.specs.Opening.{Setup}
 use Rattle.silo_core.specs.History.{History}
 use Rattle.line_parser.specs.declared.line.LineRefusal.{LineRefusal}
-use Rattle.line_protocol.specs.Calls.{calls_limit}
+use Rattle.line_protocol.specs.Limits.{calls_limit}
 use Rattle.line_protocol.specs.Gathered.{HasTooMany}
 use Rattle.line_protocol.specs.declared.calls.ReaderCalls.{ReaderCalls}
 use Rattle.line_protocol.specs.declared.written.WriterCalls.{WriterCalls}
-use Rattle.tenant_audit.specs.Text.{journal_text}
-use Rattle.silo_report.specs.Report.{IsFirstDifference}
-use Rattle.journal_audit.specs.SiloJournal.{journal_of}
-use Rattle.silo_service.specs.Serving.{IsServed}
-use Rattle.silo_service.specs.ServedText.{served_text}
-use Rattle.silo_service.specs.declared.fault.ServiceFault.{ServiceFault}
-use Rattle.silo_service.specs.declared.fault.ServiceFault.TheVariants as service
+use Rattle.journal_text.specs.Text.{journal_text}
+use Rattle.audit_model.specs.Report.{IsFirstDifference}
+use Rattle.tenant_audit.specs.SiloJournal.{journal_of}
+use Rattle.line_service.specs.Serving.{IsServed}
+use Rattle.line_service.specs.ServedText.{served_text}
+use Rattle.line_service.specs.declared.fault.ServiceFault.{ServiceFault}
+use Rattle.line_service.specs.declared.fault.ServiceFault.TheVariants as service
+use Rattle.silo_program.specs.Files.{FileClaims}
 use Rattle.silo_program.specs.Status.{cause_of}
 use Rattle.silo_program.specs.Streams.{BreaksOff}
 use Rattle.silo_program.specs.declared.failure.Cause.{Cause}
@@ -36,14 +37,31 @@ LeavesOutcome setup from left outcome = IfSome from (λ input. IsServed setup in
 abbrev pub outcome_text : Outcome → List ℕ
 outcome_text outcome = served_text outcome.refusals outcome.answers outcome.silo.whole.replies
 
--- The file may have the journal of the silo, in which no tenant differs from its machine.
-pub record HoldsJournal (may_hold : List ℕ → Type 0) (silo : History) : Type 0 where
-  pub held : may_hold (journal_text (journal_of silo))
+-- The journal of the silo was written to the path, once and nothing else. The file at the path may have it, and in it no tenant differs from its machine.
+pub record HoldsJournal (files : FileClaims) (path : List ℕ) (silo : History) : Type 0 where
+  pub written : files.written path (journal_text (journal_of silo))
+  pub held : files.may_hold path (journal_text (journal_of silo))
   pub no_difference : (tenant : List ℕ) → IsFirstDifference kinds (journal_of silo) tenant None
 
--- the same of the file at the path, if a path is given
-abbrev pub KeepsJournal : (List ℕ → List ℕ → Type 0) → Option (List ℕ) → History → Type 0
-KeepsJournal may_hold journal silo = IfSome journal (λ path. HoldsJournal (may_hold path) silo)
+-- the same, if a path is given
+abbrev pub KeepsJournal : FileClaims → Option (List ℕ) → History → Type 0
+KeepsJournal files journal silo = IfSome journal (λ path. HoldsJournal files path silo)
+
+-- No file was written, or the journal of the silo was, once, to the path that is given.
+abbrev pub WritesAtMost : FileClaims → Option (List ℕ) → History → Type 0
+WritesAtMost files None silo = files.same
+WritesAtMost files (Some path) silo = files.same ⊎ files.written path (journal_text (journal_of silo))
+
+-- The lines of the input were served, and their journal was written to the path, once and nothing else.
+pub record WritesJournalTo (setup : Setup) (files : FileClaims) (path : List ℕ) (from left : Option (List ℕ)) : Type 0 where
+  pub outcome : Outcome
+  pub served : LeavesOutcome setup from left outcome
+  pub written : files.written path (journal_text (journal_of outcome.silo))
+
+-- No file was written, or, if a path is given, the journal of what was served was, once, to this path.
+abbrev pub WritesJournalAtMost : Setup → FileClaims → Option (List ℕ) → Option (List ℕ) → Option (List ℕ) → Type 0
+WritesJournalAtMost setup files None from left = files.same
+WritesJournalAtMost setup files (Some path) from left = files.same ⊎ WritesJournalTo setup files path from left
 
 -- A path is given, and a call at it may fail.
 abbrev pub MayFailAt : (List ℕ → Type 0) → Option (List ℕ) → Type 0
@@ -53,17 +71,17 @@ MayFailAt may_fail (Some path) = may_fail path
 -- ---- how serving ends
 
 -- The lines of the input were served; their journal was written, if a path is given; and then what became of them.
-pub record ServesLanes (setup : Setup) (may_hold : List ℕ → List ℕ → Type 0) (journal : Option (List ℕ)) (from left before after : Option (List ℕ)) : Type 0 where
+pub record ServesLanes (setup : Setup) (files : FileClaims) (journal : Option (List ℕ)) (from left before after : Option (List ℕ)) : Type 0 where
   pub outcome : Outcome
   pub served : LeavesOutcome setup from left outcome
-  pub kept : KeepsJournal may_hold journal outcome.silo
+  pub kept : KeepsJournal files journal outcome.silo
   pub written : Appends before after (outcome_text outcome)
 
 -- The same, but the text of what became of them breaks off: a call of the writer failed.
-pub record WritesOutcomeInPart (setup : Setup) (may_hold : List ℕ → List ℕ → Type 0) (journal : Option (List ℕ)) (from left before after : Option (List ℕ)) (writing : WriterCalls) : Type 0 where
+pub record WritesOutcomeInPart (setup : Setup) (files : FileClaims) (journal : Option (List ℕ)) (from left before after : Option (List ℕ)) (writing : WriterCalls) : Type 0 where
   pub outcome : Outcome
   pub served : LeavesOutcome setup from left outcome
-  pub kept : KeepsJournal may_hold journal outcome.silo
+  pub kept : KeepsJournal files journal outcome.silo
   pub part : BreaksOff before after writing (outcome_text outcome)
 
 -- The lines of the input were served, but their journal wasn't written to the path that is given, where a call may fail, and so nothing was.
@@ -73,12 +91,14 @@ pub record LosesJournal (setup : Setup) (may_fail : List ℕ → Type 0) (journa
   pub served : LeavesOutcome setup from left outcome
   pub kept : Keeps before after
 
--- By what serving fails: reading only if the last call of the reader failed; too much only if there are too many lines, or all calls of the reader were made; writing as above. But for a fault of writing nothing was written.
-abbrev pub ServingFailsBy : Setup → (List ℕ → List ℕ → Type 0) → (List ℕ → Type 0) → Option (List ℕ) → Cause → Option (List ℕ) → Option (List ℕ) → ReaderCalls → Option (List ℕ) → Option (List ℕ) → WriterCalls → Type 0
-ServingFailsBy setup may_hold may_fail journal cause.Read from left reading before after writing = (reading.failed ≡ true) × Keeps before after
-ServingFailsBy setup may_hold may_fail journal cause.TooMuch from left reading before after writing = (HasTooMany from ⊎ (reading.made ≡ calls_limit)) × Keeps before after
-ServingFailsBy setup may_hold may_fail journal cause.Write from left reading before after writing = LosesJournal setup may_fail journal from left before after ⊎ WritesOutcomeInPart setup may_hold journal from left before after writing
-ServingFailsBy setup may_hold may_fail journal why from left reading before after writing = Keeps before after
+-- By what serving fails: reading only if the last call of the reader failed; too much only if there are too many lines, or all calls of the reader were made; writing as above. But for a fault of writing nothing was written, and but for one of writing or of memory no file was.
+abbrev pub ServingFailsBy : Setup → FileClaims → Option (List ℕ) → Cause → Option (List ℕ) → Option (List ℕ) → ReaderCalls → Option (List ℕ) → Option (List ℕ) → WriterCalls → Type 0
+ServingFailsBy setup files journal cause.Read from left reading before after writing = (reading.failed ≡ true) × Keeps before after × files.same
+ServingFailsBy setup files journal cause.TooMuch from left reading before after writing = (HasTooMany from ⊎ (reading.made ≡ calls_limit)) × Keeps before after × files.same
+ServingFailsBy setup files journal cause.Write from left reading before after writing =
+    LosesJournal setup files.may_fail journal from left before after ⊎ WritesOutcomeInPart setup files journal from left before after writing
+ServingFailsBy setup files journal cause.Memory from left reading before after writing = Keeps before after
+ServingFailsBy setup files journal why from left reading before after writing = Keeps before after × files.same
 
 -- ---- its parts
 

@@ -3,11 +3,11 @@ use Rattle.std.specs.Prelude.{◌≡◌, ◌≤◌, ◌⊎◌, ◌++◌, ℕ, Li
 use Rattle.std.specs.Io.KnownBytes.{Appends}
 use Rattle.grain_kinds.specs.Kinds.{kinds}
 use Rattle.silo_model.specs.Opening.{Setup, opening, start_of}
-use Rattle.line_protocol.specs.Calls.{calls_limit}
+use Rattle.line_protocol.specs.Limits.{calls_limit}
 use Rattle.line_protocol.specs.Lines.{lines_of}
 use Rattle.line_protocol.specs.LineTexts.{whole_stepper, machine_stepper, said_lines, line_texts, lines_text, lines_to, texts_to}
-use Rattle.line_protocol.specs.LineRuns.{IsFull, WrittenInPart}
-use Rattle.line_protocol.specs.declared.calls.ReaderCalls.{ReaderCalls}
+use Rattle.line_protocol.specs.LineRuns.{AreTaken, AreTakenButOne, IsFull, WrittenInPart, left_of}
+use Rattle.line_protocol.specs.declared.line_reader.LineReader.{LineReader}
 use Rattle.line_protocol.specs.declared.written.WriterCalls.{WriterCalls}
 use Rattle.line_protocol.specs.declared.fault.LineFault.{LineFault}
 use Rattle.line_protocol.specs.declared.fault.LineFault.TheVariants as line
@@ -50,15 +50,18 @@ pub record StopsInside (setup : Setup) (lines : List (List ℕ)) (before after :
   pub part : WrittenInPart during after last_text
 
 -- What was written before the steps ended with a fault, and when it comes: the last call of the reader failed; a call of the writer failed; there were too many lines, or all calls of the reader were made; or memory was refused.
-abbrev pub StopsSteps : Setup → LineFault → List ℕ → ReaderCalls → Option (List ℕ) → Option (List ℕ) → WriterCalls → Type 0
-StopsSteps setup line.Read input reading before after writing = StopsBetween setup (lines_of input) before after × (reading.failed ≡ true)
-StopsSteps setup line.Write input reading before after writing = StopsInside setup (lines_of input) before after × (writing.failed ≡ true)
-StopsSteps setup line.TooMuch input reading before after writing = (p : StopsBetween setup (lines_of input) before after) × (IsFull p.done p.rest ⊎ (reading.made ≡ calls_limit))
-StopsSteps setup line.Memory input reading before after writing = StopsBetween setup (lines_of input) before after
+-- And which line failed, beside what the reader has left. If reading failed, or all calls were made, the lines whose text was written are those that were taken. If memory was refused, they are all of these but the last one at most.
+abbrev pub StopsSteps : Setup → LineFault → List ℕ → Option (List ℕ) → LineReader → Option (List ℕ) → Option (List ℕ) → WriterCalls → Type 0
+StopsSteps setup line.Read input left reading before after writing = (p : StopsBetween setup (lines_of input) before after) × (reading.calls.failed ≡ true) × AreTaken input left p.done
+StopsSteps setup line.Write input left reading before after writing = StopsInside setup (lines_of input) before after × (writing.failed ≡ true)
+StopsSteps setup line.TooMuch input left reading before after writing =
+    (p : StopsBetween setup (lines_of input) before after) × (IsFull p.done p.rest ⊎ ((reading.calls.made ≡ calls_limit) × AreTaken input left p.done))
+StopsSteps setup line.Memory input left reading before after writing =
+    (p : StopsBetween setup (lines_of input) before after) × AreTakenButOne input (left_of reading.bytes.items reading.start reading.end left) p.done
 
 -- the same of a reader, whose input may be unknown
 abbrev pub AnswersFrom : Setup → Option (List ℕ) → Option (List ℕ) → Option (List ℕ) → Option (List ℕ) → Type 0
 AnswersFrom setup from left before after = IfSome from (λ input. AnswersSteps setup input left before after)
 
-abbrev pub StopsFrom : Setup → LineFault → Option (List ℕ) → ReaderCalls → Option (List ℕ) → Option (List ℕ) → WriterCalls → Type 0
-StopsFrom setup why from reading before after writing = IfSome from (λ input. StopsSteps setup why input reading before after writing)
+abbrev pub StopsFrom : Setup → LineFault → Option (List ℕ) → Option (List ℕ) → LineReader → Option (List ℕ) → Option (List ℕ) → WriterCalls → Type 0
+StopsFrom setup why from left reading before after writing = IfSome from (λ input. StopsSteps setup why input left reading before after writing)

@@ -1,35 +1,26 @@
 //! Auditing the journal of a file.
 
-ghost use Rattle.std.specs.Prelude.{◌≡◌, ℕ, List, Option, map, IfOk, IfErr, OnOk};
+ghost use Rattle.std.specs.Prelude.{◌≡◌, ℕ, List, Option, IfOk, IfErr, OnOk};
 ghost use Rattle.std.specs.Io.KnownBytes.{Appends};
 ghost use Rattle.grain_kinds.specs.Kinds.{kinds};
 ghost use Rattle.line_protocol.specs.declared.written.WriterCalls.{WriterCalls};
-ghost use Rattle.tenant_audit.specs.Rules.{KeepsRules};
-ghost use Rattle.tenant_audit.specs.Text.{journal_text};
-ghost use Rattle.silo_report.specs.Report.{IsReport};
-ghost use Rattle.journal_audit.specs.Reported.{tenant_report_of};
+ghost use Rattle.journal_text.specs.Rules.{KeepsRules};
+ghost use Rattle.journal_text.specs.Text.{journal_text};
+ghost use Rattle.audit_model.specs.Report.{IsReport};
 ghost use Rattle.silo_program.specs.Auditing.{AuditsFile, IsAuditCause, IsAuditFault, IsEndOf, IsReadingFault, IsRefusalOf, IsWritingCause, MayHoldJournal, file_cause, reports_text};
 
 use crate::failure::{Cause, End, ProgramFault, say};
 use crate::files::{FileFault, WholeFiles};
 use crate::streams::Output;
-use grain_id::Tenant;
-use journal_audit::{AuditFault, AuditGate, TenantReport, audit_with, has_difference, report_text};
+use journal_text::{Journal, JournalFault, read_journal};
 use std::alloc::Global;
 use std::io::Write;
 use std::sync::Wait;
 use std::thread::Threads;
-use tenant_audit::{Journal, JournalFault, read_journal};
+use tenant_audit::{AuditFault, AuditGate, Report, audit_with, has_difference, report_text};
 
 /// How many threads audit a journal.
 const AUDIT_WORKERS: usize = 4;
-
-/// A gate that does nothing.
-struct FreeGate;
-
-impl AuditGate for FreeGate {
-    fn entered(&self, _tenant: &Tenant) {}
-}
 
 /// What a fault of a file that is read is to the program.
 fn cause_of_file(fault: FileFault) -> Cause
@@ -75,14 +66,15 @@ fn journal_at<F: WholeFiles>(alloc: Global, files: &F, path: &str) -> Result<Jou
 }
 
 /// What the audit reports of each tenant of the journal.
-fn reports_on<H: AllocGlobal + Threads + Wait + Sync>(
+fn reports_on<H: AllocGlobal + Threads + Wait + Sync, A: AuditGate + Sync>(
     rt: &H,
     journal: &Journal,
-) -> Result<Vec<TenantReport>, Cause>
-    ensures reports { IfOk result (λ reports. IsReport kinds journal.now (map tenant_report_of reports.items)) }
+    gate: &A,
+) -> Result<Report, Cause>
+    ensures reports { IfOk result (λ reports. IsReport kinds journal.now reports) }
     ensures fault { IfErr result (λ cause. IsAuditCause cause) }
 {
-    match audit_with(rt, rt.alloc(), journal, AUDIT_WORKERS, &FreeGate) {
+    match audit_with(rt, rt.alloc(), journal, AUDIT_WORKERS, gate) {
         Ok(reports) => Ok(reports),
         Err(AuditFault::Memory) => Err(Cause::Memory),
         Err(AuditFault::NoWorker) => Err(Cause::NoWorker),
@@ -90,10 +82,10 @@ fn reports_on<H: AllocGlobal + Threads + Wait + Sync>(
 }
 
 /// How an audit ends that reports this.
-fn end_of(reports: &[TenantReport]) -> End
-    ensures { IsEndOf result (map tenant_report_of reports.now) }
+fn end_of(report: &Report) -> End
+    ensures { IsEndOf result report.now }
 {
-    if has_difference(reports) {
+    if has_difference(report) {
         End::Differs
     } else {
         End::Well
@@ -103,18 +95,18 @@ fn end_of(reports: &[TenantReport]) -> End
 /// Writes what is reported of each tenant.
 fn write_reports<W: Write>(
     alloc: Global,
-    reports: &[TenantReport],
+    report: &Report,
     output: &mut Output<W>,
 ) -> Result<End, Cause>
-    ensures written { IfOk result (λ how. IsEndOf how (map tenant_report_of reports.now) × Appends (W.contents output.old.writer) (W.contents output.new.writer) (reports_text (map tenant_report_of reports.now))) }
+    ensures written { IfOk result (λ how. IsEndOf how report.now × Appends (W.contents output.old.writer) (W.contents output.new.writer) (reports_text report.now)) }
     ensures unfailed { OnOk result (output.new.calls.failed ≡ output.old.calls.failed) }
-    ensures fault { IfErr result (λ cause. IsWritingCause cause (W.contents output.old.writer) (W.contents output.new.writer) output.new.calls (reports_text (map tenant_report_of reports.now))) }
+    ensures fault { IfErr result (λ cause. IsWritingCause cause (W.contents output.old.writer) (W.contents output.new.writer) output.new.calls (reports_text report.now)) }
 {
-    let Ok(text) = report_text(alloc, reports) else {
+    let Ok(text) = report_text(alloc, report) else {
         return Err(Cause::Memory);
     };
     if say(output, text.as_str()) {
-        return Ok(end_of(reports));
+        return Ok(end_of(report));
     }
     Err(Cause::Write)
 }
@@ -126,23 +118,23 @@ fn write_reports<W: Write>(
 /// `Failed` with `Read` if the file isn't read, and then `NoJournal` if it has no journal. `Failed` with
 /// `NoWorker` if a thread couldn't be started, with `Write` if a call of the writer failed, and with
 /// `Memory` if memory was refused. But for `Write` nothing was written.
-pub fn audit_file<H: AllocGlobal + Threads + Wait + Sync, F: WholeFiles, W: Write>(
-    rt: &H,
-    path: &str,
-    files: &F,
-    output: &mut Output<W>,
-) -> Result<End, ProgramFault>
+pub fn audit_file<
+    H: AllocGlobal + Threads + Wait + Sync,
+    F: WholeFiles,
+    W: Write,
+    A: AuditGate + Sync,
+>(rt: &H, path: &str, files: &F, output: &mut Output<W>, gate: &A) -> Result<End, ProgramFault>
     ensures audited { IfOk result (λ how. AuditsFile (F.may_hold files.now path.now) how (W.contents output.old.writer) (W.contents output.new.writer)) }
     ensures unfailed { OnOk result (output.new.calls.failed ≡ output.old.calls.failed) }
     ensures fault { IfErr result (λ fault. IsAuditFault (F.may_hold files.now path.now) (F.may_fail files.now path.now) fault (W.contents output.old.writer) (W.contents output.new.writer) output.new.calls) }
 {
     let alloc = rt.alloc();
     let journal = journal_at(alloc, files, path)?;
-    let reports = match reports_on(rt, &journal) {
+    let reports = match reports_on(rt, &journal, gate) {
         Ok(reports) => reports,
         Err(cause) => return Err(ProgramFault::Failed(cause)),
     };
-    match write_reports(alloc, reports.as_slice(), output) {
+    match write_reports(alloc, &reports, output) {
         Ok(how) => Ok(how),
         Err(cause) => Err(ProgramFault::Failed(cause)),
     }

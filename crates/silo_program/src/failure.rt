@@ -9,6 +9,7 @@ ghost use Rattle.silo_program.specs.Streams.{BreaksOff, Tells};
 use crate::streams::Output;
 use line_protocol::LineFault;
 use std::io::{self, ErrorKind, Write};
+use thiserror::Error;
 
 /// How the program ends if it does what it is asked for.
 #[derive(Clone, Copy, Debug, PartialEq, Eq)]
@@ -19,27 +20,36 @@ pub enum End {
 }
 
 /// Why the program fails.
-#[derive(Clone, Copy, Debug, PartialEq, Eq)]
+#[derive(Clone, Copy, Debug, PartialEq, Eq, Error)]
 pub enum Cause {
+    #[error("reading failed")]
     Read,
+    #[error("writing failed")]
     Write,
+    #[error("out of memory")]
     Memory,
     /// The input has too many lines, or needs too many calls of the reader.
+    #[error("too much input")]
     TooMuch,
     /// No thread could be started.
+    #[error("no worker")]
     NoWorker,
     /// What the threads left isn't what serving the lanes leaves.
+    #[error("lanes strayed")]
     Strayed,
 }
 
 /// Why the program doesn't do what it is asked for.
-#[derive(Drop)]
+#[derive(Debug, Drop, Error)]
 pub enum ProgramFault {
     /// It failed.
+    #[error("{0}")]
     Failed(Cause),
     /// The arguments are refused, with what is said of them.
+    #[error("{0}")]
     Refused(String),
     /// The file has no journal, with what is said of it.
+    #[error("{0}")]
     NoJournal(String),
 }
 

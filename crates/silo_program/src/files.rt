@@ -1,16 +1,19 @@
 //! Files that are read whole and written whole: the host's, and one in memory.
 
-ghost use Rattle.std.specs.Prelude.{◌≡◌, ◌≢◌, ◌↔◌, ⊤, ℕ, List, IfOk, IfErr, OnOk, OnErr, IsErrOf, string_bytes};
+ghost use Rattle.std.specs.Prelude.{◌≡◌, ◌≢◌, ◌↔◌, ◌⊎◌, ⊤, ℕ, List, IfOk, IfErr, OnOk, OnErr, IsErrOf, string_bytes};
 
 use std::alloc::Global;
 use std::fs;
 use std::io::ErrorKind;
 use std::rt::Files;
+use thiserror::Error;
 
 /// Why a file was not read or not written.
-#[derive(Clone, Copy, Debug, PartialEq, Eq)]
+#[derive(Clone, Copy, Debug, PartialEq, Eq, Error)]
 pub enum FileFault {
+    #[error("out of memory")]
     Memory,
+    #[error("a call at the path failed")]
     Failed,
 }
 
@@ -22,12 +25,16 @@ pub trait WholeFiles {
     // A call at a path may fail. What claims nothing leaves it out.
     ghost may_fail: { Self → List ℕ → Type 0 } = { λ _ _. ⊤ };
 
+    // What one write of bytes to a path may leave, whether it fails or not. What claims nothing leaves it out.
+    ghost may_leave: { Self → List ℕ → List ℕ → Self → Type 0 } = { λ _ _ _ _. ⊤ };
+
     fn read_whole(&self, alloc: Global, path: &str) -> Result<Vec<u8>, FileFault>
         ensures held { IfOk result (λ bytes. may_hold self.now path.now bytes.items) }
         ensures fault { IfErr result (λ why. why ≡ FileFault.Failed → may_fail self.now path.now) };
 
     fn write_whole(&mut self, alloc: Global, path: &str, bytes: &[u8]) -> Result<(), FileFault>
         ensures held { OnOk result (may_hold self.new path.now bytes.now) }
+        ensures left { may_leave self.old path.now bytes.now self.new }
         ensures fault { IfErr result (λ why. why ≡ FileFault.Failed → may_fail self.old path.now) };
 }
 
@@ -66,6 +73,10 @@ impl WholeFiles for MemoryFile {
 
     ghost may_fail = { λ file path. path ≢ string_bytes file.path };
 
+    // All of it or nothing was written.
+    ghost may_leave = { λ old path bytes new. (new ≡ old)
+        ⊎ ((path ≡ string_bytes old.path) × (new.path ≡ old.path) × (bytes ≡ new.bytes.items)) };
+
     fn read_whole(&self, alloc: Global, path: &str) -> Result<Vec<u8>, FileFault>
         ensures read { IfOk result (λ bytes. (path.now ≡ string_bytes self.now.path) × (bytes.items ≡ self.now.bytes.items)) }
         ensures failed { IsErrOf result FileFault.Failed ↔ (path.now ≢ string_bytes self.now.path) }
@@ -79,6 +90,8 @@ impl WholeFiles for MemoryFile {
     fn write_whole(&mut self, alloc: Global, path: &str, bytes: &[u8]) -> Result<(), FileFault>
         ensures written { OnOk result ((path.now ≡ string_bytes self.new.path) × (bytes.now ≡ self.new.bytes.items)) }
         ensures failed { IsErrOf result FileFault.Failed ↔ (path.now ≢ string_bytes self.old.path) }
+        ensures left { (self.new ≡ self.old)
+            ⊎ ((path.now ≡ string_bytes self.old.path) × (self.new.path ≡ self.old.path) × (bytes.now ≡ self.new.bytes.items)) }
         ensures refused { OnErr result (self.new ≡ self.old) }
     {
         if path != self.path.as_str() {

@@ -16,5 +16,5 @@ mod streams;
 
 pub use failure::{Cause, End, ProgramFault, refuse_words, tell};
 pub use files::{FileFault, HostFiles, MemoryFile, WholeFiles};
-pub use program::run_program;
+pub use program::{answer, run_program};
 pub use streams::{Input, Output};

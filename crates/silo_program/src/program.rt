@@ -1,14 +1,14 @@
 //! What the program does, over any files and streams.
 
-ghost use Rattle.std.specs.Prelude.{◌≡◌, ◌≤◌, ◌⊎◌, List, ℕ, Option, IfOk, IfErr, IfNone, OnOk, map, option_map};
+ghost use Rattle.std.specs.Prelude.{◌≡◌, ◌≤◌, ◌⊎◌, List, ℕ, Option, IfOk, IfErr, OnOk, map, option_map};
 ghost use Rattle.std.specs.Io.KnownBytes.{Appends, Keeps};
 ghost use Rattle.clap.specs.Words.{Text};
-ghost use Rattle.line_protocol.specs.declared.calls.ReaderCalls.{ReaderCalls};
-ghost use Rattle.tenant_gate.specs.Age.{IsAge};
+ghost use Rattle.line_protocol.specs.declared.line_reader.LineReader.{LineReader};
 ghost use Rattle.silo_words.specs.Words.{AskForServing, AskForSteps, IsWhy, texts_of};
 ghost use Rattle.silo_program.specs.Status.{IsTenantsFault, failure_text};
 ghost use Rattle.silo_program.specs.Streams.{BreaksOff, IsFresh, Tells};
-ghost use Rattle.silo_program.specs.Ends.{AreRefusedBy, AskForJournal, EndsAs, FailsBy, IsFaultOf, IsServingFault, IsStreamFault, RefusesJournal, ServesInput, ServesSteps, ShowsText};
+ghost use Rattle.silo_program.specs.Files.{claims};
+ghost use Rattle.silo_program.specs.Ends.{AreRefusedBy, AskForJournal, EndsAs, FailsBy, IsFaultOf, IsServingFault, IsStreamFault, LeavesFiles, RefusesJournal, ServesInput, ServesSteps, ShowsText};
 
 use crate::auditing::audit_file;
 use crate::failure::{Cause, End, ProgramFault, cause_of, say, status_of_end, tell};
@@ -21,6 +21,9 @@ use std::alloc::Global;
 use std::io::{Read, Write};
 use std::sync::Wait;
 use std::thread::Threads;
+use tenant_audit::{AuditGate, FreeAuditGate};
+use tenant_gate::Age;
+use worker_host::{FreeGate, TurnGate};
 
 /// What `--version` shows.
 const VERSION_LINE: &str = "silo 0.1.0\n";
@@ -42,7 +45,7 @@ fn explain_words<W: Write>(fault: WordsFault, output: &mut Output<W>) -> Result<
     ensures shown { (words : List Text) (from : Option (List ℕ)) → IsWhy words fault
         → IfOk result (λ end. (end ≡ End.Well) × ShowsText words from from (W.contents output.old.writer) (W.contents output.new.writer)) }
     ensures unfailed { OnOk result (output.new.calls.failed ≡ output.old.calls.failed) }
-    ensures fault { (words : List Text) (from : Option (List ℕ)) (reading : ReaderCalls) → IsWhy words fault
+    ensures fault { (words : List Text) (from : Option (List ℕ)) (reading : LineReader) → IsWhy words fault
         → IfErr result (λ why. IsStreamFault words why from from reading (W.contents output.old.writer) (W.contents output.new.writer) output.new.calls) }
 {
     match fault {
@@ -70,18 +73,17 @@ fn explain_tenants(alloc: Global, fault: TenantsFault) -> ProgramFault
 /// Takes the steps of the input for the tenants of the arguments.
 fn take_steps<R: Read, W: Write>(
     alloc: Global,
-    age: u64,
+    age: Age,
     arguments: &[&str],
     input: &mut Input<R>,
     output: &mut Output<W>,
 ) -> Result<End, ProgramFault>
-    requires age { IsAge age }
     requires fresh { IsFresh input.old.lines }
     ensures ended { (words : List Text) → AskForSteps words age (map (λ text. text.now) arguments.now)
         → IfOk result (λ end. (end ≡ End.Well) × ServesSteps words (R.remaining input.old.reader) (R.remaining input.new.reader) (W.contents output.old.writer) (W.contents output.new.writer)) }
     ensures unfailed { OnOk result (output.new.calls.failed ≡ output.old.calls.failed) }
     ensures fault { (words : List Text) → AskForSteps words age (map (λ text. text.now) arguments.now)
-        → IfErr result (λ why. IsStreamFault words why (R.remaining input.old.reader) (R.remaining input.new.reader) input.new.lines.calls (W.contents output.old.writer) (W.contents output.new.writer) output.new.calls) }
+        → IfErr result (λ why. IsStreamFault words why (R.remaining input.old.reader) (R.remaining input.new.reader) input.new.lines (W.contents output.old.writer) (W.contents output.new.writer) output.new.calls) }
 {
     let tenants = match read_tenants(alloc, arguments) {
         Ok(tenants) => tenants,
@@ -94,75 +96,109 @@ fn take_steps<R: Read, W: Write>(
 }
 
 /// Serves the lines of the input for the tenants of the arguments.
-fn serve_tenants<H: AllocGlobal + Threads + Wait + Sync, F: WholeFiles, R: Read, W: Write>(
+fn serve_tenants<
+    H: AllocGlobal + Threads + Wait + Sync,
+    F: WholeFiles,
+    R: Read,
+    W: Write,
+    G: TurnGate + Sync,
+>(
     rt: &H,
     workers: usize,
-    age: u64,
+    age: Age,
     journal: Option<&str>,
     arguments: &[&str],
     files: &mut F,
     input: &mut Input<R>,
     output: &mut Output<W>,
+    gate: &G,
 ) -> Result<End, ProgramFault>
     requires workers { (1 ≤ workers) × (workers ≤ 64) }
-    requires age { IsAge age }
     requires fresh { IsFresh input.old.lines }
     ensures ended { (words : List Text) → AskForServing words workers age (option_map (λ path. path.now) journal.entry) (map (λ text. text.now) arguments.now)
-        → IfOk result (λ end. (end ≡ End.Well) × ServesInput words (F.may_hold files.new) (R.remaining input.old.reader) (R.remaining input.new.reader) (W.contents output.old.writer) (W.contents output.new.writer)) }
+        → IfOk result (λ end. (end ≡ End.Well) × ServesInput words (claims F.may_hold F.may_fail F.may_leave files.old files.new)
+        (R.remaining input.old.reader) (R.remaining input.new.reader) (W.contents output.old.writer) (W.contents output.new.writer)) }
     ensures unfailed { OnOk result (output.new.calls.failed ≡ output.old.calls.failed) }
     ensures fault { (words : List Text) → AskForServing words workers age (option_map (λ path. path.now) journal.entry) (map (λ text. text.now) arguments.now)
-        → IfErr result (λ why. IsServingFault words (F.may_hold files.new) (F.may_fail files.old) why (R.remaining input.old.reader) (R.remaining input.new.reader) input.new.lines.calls (W.contents output.old.writer) (W.contents output.new.writer) output.new.calls) }
-    ensures files { IfNone journal.entry (files.new ≡ files.old) }
+        → IfErr result (λ why. IsServingFault words (claims F.may_hold F.may_fail F.may_leave files.old files.new) why
+        (R.remaining input.old.reader) (R.remaining input.new.reader) input.new.lines
+        (W.contents output.old.writer) (W.contents output.new.writer) output.new.calls) }
+    ensures journal { (words : List Text) → AskForServing words workers age (option_map (λ path. path.now) journal.entry) (map (λ text. text.now) arguments.now)
+        → LeavesFiles words (claims F.may_hold F.may_fail F.may_leave files.old files.new)
+        (R.remaining input.old.reader) (R.remaining input.new.reader) }
 {
     let alloc = rt.alloc();
     let tenants = match read_tenants(alloc, arguments) {
         Ok(tenants) => tenants,
-        Err(fault) => return Err(explain_tenants(alloc, fault)),
+        Err(why) => return Err(explain_tenants(alloc, why)),
     };
-    match serve_lines(rt, workers, tenants, age, journal, files, input, output) {
+    match serve_lines(
+        rt, workers, tenants, age, journal, files, input, output, gate,
+    ) {
         Ok(()) => Ok(End::Well),
         Err(why) => Err(ProgramFault::Failed(why)),
     }
 }
 
-/// Does what the words ask for.
-fn answer<H: AllocGlobal + Threads + Wait + Sync, F: WholeFiles, R: Read, W: Write>(
+/// Does what the words ask for, and answers how it ended or why it didn't. The words begin with the program's name, and
+/// nothing of the input is read ahead. The gates are told of each turn that is served, before its body runs, and of each
+/// tenant that is audited: `run_program` has free ones.
+///
+/// # Errors
+///
+/// As `run_program` tells them.
+pub fn answer<
+    H: AllocGlobal + Threads + Wait + Sync,
+    F: WholeFiles,
+    R: Read,
+    W: Write,
+    G: TurnGate + Sync,
+    A: AuditGate + Sync,
+>(
     rt: &H,
     words: &[String],
     files: &mut F,
     input: &mut Input<R>,
     output: &mut Output<W>,
+    turns: &G,
+    audits: &A,
 ) -> Result<End, ProgramFault>
     requires { IsFresh input.old.lines }
-    ensures ended { IfOk result (λ end. EndsAs end (texts_of words.now) (F.may_hold files.new) (R.remaining input.old.reader) (R.remaining input.new.reader) (W.contents output.old.writer) (W.contents output.new.writer)) }
+    ensures ended { IfOk result (λ end. EndsAs end (texts_of words.now) (claims F.may_hold F.may_fail F.may_leave files.old files.new)
+        (R.remaining input.old.reader) (R.remaining input.new.reader) (W.contents output.old.writer) (W.contents output.new.writer)) }
     ensures unfailed { OnOk result (output.new.calls.failed ≡ output.old.calls.failed) }
-    ensures fault { IfErr result (λ why. IsFaultOf (texts_of words.now) (F.may_hold files.new) (F.may_fail files.old) why (R.remaining input.old.reader) (R.remaining input.new.reader) input.new.lines.calls (W.contents output.old.writer) (W.contents output.new.writer) output.new.calls) }
-    ensures files { ((path : Text) → ¬ AskForJournal (texts_of words.now) path) → files.new ≡ files.old }
+    ensures fault { IfErr result (λ why. IsFaultOf (texts_of words.now) (claims F.may_hold F.may_fail F.may_leave files.old files.new) why
+        (R.remaining input.old.reader) (R.remaining input.new.reader) input.new.lines
+        (W.contents output.old.writer) (W.contents output.new.writer) output.new.calls) }
+    ensures journal { LeavesFiles (texts_of words.now) (claims F.may_hold F.may_fail F.may_leave files.old files.new)
+        (R.remaining input.old.reader) (R.remaining input.new.reader) }
 {
     let alloc = rt.alloc();
-    match read_words(alloc, words) {
-        Ok(Task::Steps { age, tenants }) => {
-            take_steps(alloc, age, tenants.as_slice(), input, output)
+    let task = match read_words(alloc, words) {
+        Ok(task) => task,
+        Err(fault) => return explain_words(fault, output),
+    };
+    match &task {
+        Task::Steps { age, tenants } => {
+            take_steps(alloc, *age, tenants.as_slice(), input, output)
         }
-        Ok(
-            Task::Serve {
-                workers,
-                age,
-                journal,
-                tenants,
-            },
-        ) => serve_tenants(
-            rt,
+        Task::Serve {
             workers,
             age,
             journal,
+            tenants,
+        } => serve_tenants(
+            rt,
+            *workers,
+            *age,
+            *journal,
             tenants.as_slice(),
             files,
             input,
             output,
+            turns,
         ),
-        Ok(Task::Audit { path }) => audit_file(rt, path, &*files, output),
-        Err(fault) => explain_words(fault, output),
+        Task::Audit { path } => audit_file(rt, path, &*files, output, audits),
     }
 }
 
@@ -186,12 +222,16 @@ pub fn run_program<
     ensures status { result ≤ 4 }
 
     // What the words ask for was done.
-    ensures well { result ≡ 0 → EndsAs End.Well (texts_of words.now) (F.may_hold files.new) (R.remaining input.old.reader) (R.remaining input.new.reader) (W.contents output.old.writer) (W.contents output.new.writer) }
+    ensures well { result ≡ 0 → EndsAs End.Well (texts_of words.now) (claims F.may_hold F.may_fail F.may_leave files.old files.new)
+        (R.remaining input.old.reader) (R.remaining input.new.reader) (W.contents output.old.writer) (W.contents output.new.writer) }
 
     // An audit was asked for, and a tenant differs.
-    ensures differs { result ≡ 3 → EndsAs End.Differs (texts_of words.now) (F.may_hold files.new) (R.remaining input.old.reader) (R.remaining input.new.reader) (W.contents output.old.writer) (W.contents output.new.writer) }
+    ensures differs { result ≡ 3 → EndsAs End.Differs (texts_of words.now) (claims F.may_hold F.may_fail F.may_leave files.old files.new)
+        (R.remaining input.old.reader) (R.remaining input.new.reader) (W.contents output.old.writer) (W.contents output.new.writer) }
 
-    // No file is written but the journal that was asked for.
+    // In every outcome no file was written, or the journal of what was served was: once, and to the path that was asked for.
+    ensures journal { LeavesFiles (texts_of words.now) (claims F.may_hold F.may_fail F.may_leave files.old files.new)
+        (R.remaining input.old.reader) (R.remaining input.new.reader) }
     ensures files { ((path : Text) → ¬ AskForJournal (texts_of words.now) path) → files.new ≡ files.old }
 
     // No call of the writer failed, and nothing was told then.
@@ -200,19 +240,23 @@ pub fn run_program<
 
     // The program failed, and told by what.
     ensures failed { result ≡ 1 → (why : Cause)
-        × FailsBy (texts_of words.now) (F.may_hold files.new) (F.may_fail files.old) why (R.remaining input.old.reader) (R.remaining input.new.reader) input.new.lines.calls (W.contents output.old.writer) (W.contents output.new.writer) output.new.calls
+        × FailsBy (texts_of words.now) (claims F.may_hold F.may_fail F.may_leave files.old files.new) why
+        (R.remaining input.old.reader) (R.remaining input.new.reader) input.new.lines
+        (W.contents output.old.writer) (W.contents output.new.writer) output.new.calls
         × Tells (E.contents errors.old.writer) (E.contents errors.new.writer) errors.new.calls (failure_text why) }
 
     // The arguments are refused, and what was told says why.
     ensures refused { result ≡ 2 → (text : Text) × AreRefusedBy (texts_of words.now) text × Tells (E.contents errors.old.writer) (E.contents errors.new.writer) errors.new.calls text }
-    ensures idle { result ≡ 2 → Keeps (R.remaining input.old.reader) (R.remaining input.new.reader) × Keeps (W.contents output.old.writer) (W.contents output.new.writer) }
+    ensures idle { result ≡ 2 → Keeps (R.remaining input.old.reader) (R.remaining input.new.reader) × Keeps (W.contents output.old.writer) (W.contents output.new.writer)
+        × (files.new ≡ files.old) }
 
     // An audit was asked for, the file has no journal, and what was told says which line is refused.
     ensures no_journal { result ≡ 4 → (text : Text)
-        × RefusesJournal (texts_of words.now) (F.may_hold files.new) text (R.remaining input.old.reader) (R.remaining input.new.reader) (W.contents output.old.writer) (W.contents output.new.writer)
+        × RefusesJournal (texts_of words.now) (claims F.may_hold F.may_fail F.may_leave files.old files.new) text
+        (R.remaining input.old.reader) (R.remaining input.new.reader) (W.contents output.old.writer) (W.contents output.new.writer)
         × Tells (E.contents errors.old.writer) (E.contents errors.new.writer) errors.new.calls text }
 {
-    match answer(rt, words, files, input, output) {
+    match answer(rt, words, files, input, output, &FreeGate, &FreeAuditGate) {
         Ok(end) => status_of_end(end),
         Err(fault) => tell(errors, &fault),
     }

@@ -1,23 +1,24 @@
 //! Serving the lines of an input by threads, and keeping the journal.
 
-ghost use Rattle.std.specs.Prelude.{◌≡◌, ◌≤◌, [], IfOk, IfErr, IfNone, IfSome, OnOk, map as map_list, option_map};
+ghost use Rattle.std.specs.Prelude.{◌≡◌, ◌≤◌, [], IfOk, IfErr, IfSome, OnOk, map as map_list, option_map};
 ghost use Rattle.std.specs.FinMap.{entries};
-ghost use Rattle.tenant_gate.specs.Age.{IsAge};
-ghost use Rattle.silo_service.specs.Serving.{IsServed, StopsServing, setup_of};
-ghost use Rattle.silo_program.specs.Serving.{IsKeepingCause, KeepsJournal, ServesLanes, ServingFailsBy, service_cause};
+ghost use Rattle.line_service.specs.Serving.{IsServed, StopsServing, setup_of};
+ghost use Rattle.silo_program.specs.Files.{claims};
+ghost use Rattle.silo_program.specs.Serving.{IsKeepingCause, KeepsJournal, ServesLanes, ServingFailsBy, WritesAtMost, WritesJournalAtMost, service_cause};
 ghost use Rattle.silo_program.specs.Streams.{IsFresh};
 
 use crate::failure::{Cause, cause_of};
 use crate::files::{FileFault, WholeFiles};
 use crate::streams::{Input, Output};
-use journal_audit::write_journal;
-use silo_service::{Served, ServiceFault, serve_input, write_served};
+use line_service::{ServedInput, ServiceFault, serve_input, write_served};
 use std::alloc::Global;
 use std::io::{Read, Write};
 use std::mem;
 use std::sync::Wait;
 use std::thread::Threads;
+use tenant_audit::write_journal;
 use tenant_gate::{Age, TenantTable};
+use worker_host::TurnGate;
 
 /// What a fault of the service is to the program.
 fn cause_of_service(fault: ServiceFault) -> Cause
@@ -31,13 +32,14 @@ fn cause_of_service(fault: ServiceFault) -> Cause
 }
 
 /// Reads all lines of the input, and serves them over no rows.
-fn serve_reader<H: AllocGlobal + Threads + Wait + Sync, R: Read>(
+fn serve_reader<H: AllocGlobal + Threads + Wait + Sync, R: Read, G: TurnGate + Sync>(
     rt: &H,
     workers: usize,
     tenants: TenantTable,
     age: Age,
     input: &mut Input<R>,
-) -> Result<Served, ServiceFault>
+    gate: &G,
+) -> Result<ServedInput, ServiceFault>
     requires workers { (1 ≤ workers) × (workers ≤ 64) }
     requires fresh { IsFresh input.old.lines }
     ensures served { IfOk result (λ served. IfSome (R.remaining input.old.reader) (λ bytes.
@@ -52,6 +54,7 @@ fn serve_reader<H: AllocGlobal + Threads + Wait + Sync, R: Read>(
         age,
         &mut input.lines,
         &mut input.reader,
+        gate,
     )
 }
 
@@ -60,12 +63,14 @@ fn keep_journal<F: WholeFiles>(
     alloc: Global,
     files: &mut F,
     journal: Option<&str>,
-    served: &Served,
+    served: &ServedInput,
 ) -> Result<(), Cause>
     requires { entries served.now.report.silo.setup.rows ≡ [] }
-    ensures kept { OnOk result (KeepsJournal (F.may_hold files.new) (option_map (λ path. path.now) journal.entry) served.now.report.silo) }
+    ensures kept { OnOk result (KeepsJournal (claims F.may_hold F.may_fail F.may_leave files.old files.new)
+        (option_map (λ path. path.now) journal.entry) served.now.report.silo) }
+    ensures alone { WritesAtMost (claims F.may_hold F.may_fail F.may_leave files.old files.new)
+        (option_map (λ path. path.now) journal.entry) served.now.report.silo }
     ensures fault { IfErr result (λ why. IsKeepingCause (F.may_fail files.old) (option_map (λ path. path.now) journal.entry) why) }
-    ensures none { IfNone journal.entry (files.new ≡ files.old) }
 {
     let Some(path) = journal else {
         return Ok(());
@@ -87,30 +92,40 @@ fn keep_journal<F: WholeFiles>(
 ///
 /// In this order: `Read` if the last call of the reader failed, or `TooMuch` of the input; `NoWorker` if no thread could
 /// be started, and `Strayed` if the threads left what serving doesn't leave; `Write` if the journal wasn't written, or if
-/// a call of the writer failed. `Memory` if memory was refused. But for the last `Write` nothing was written.
-pub fn serve_lines<H: AllocGlobal + Threads + Wait + Sync, F: WholeFiles, R: Read, W: Write>(
+/// a call of the writer failed. `Memory` if memory was refused. But for the last `Write` nothing was written. To the
+/// file at the path nothing is written before all lines were served, and then the journal once and nothing after it.
+pub fn serve_lines<
+    H: AllocGlobal + Threads + Wait + Sync,
+    F: WholeFiles,
+    R: Read,
+    W: Write,
+    G: TurnGate + Sync,
+>(
     rt: &H,
     workers: usize,
     tenants: TenantTable,
-    age: u64,
+    age: Age,
     journal: Option<&str>,
     files: &mut F,
     input: &mut Input<R>,
     output: &mut Output<W>,
+    gate: &G,
 ) -> Result<(), Cause>
     requires workers { (1 ≤ workers) × (workers ≤ 64) }
-    requires age { IsAge age }
     requires fresh { IsFresh input.old.lines }
-    ensures served { OnOk result (ServesLanes (setup_of tenants age) (F.may_hold files.new) (option_map (λ path. path.now) journal.entry) (R.remaining input.old.reader) (R.remaining input.new.reader) (W.contents output.old.writer) (W.contents output.new.writer)) }
+    ensures served { OnOk result (ServesLanes (setup_of tenants age) (claims F.may_hold F.may_fail F.may_leave files.old files.new) (option_map (λ path. path.now) journal.entry)
+        (R.remaining input.old.reader) (R.remaining input.new.reader) (W.contents output.old.writer) (W.contents output.new.writer)) }
     ensures unfailed { OnOk result (output.new.calls.failed ≡ output.old.calls.failed) }
-    ensures fault { IfErr result (λ why. ServingFailsBy (setup_of tenants age) (F.may_hold files.new) (F.may_fail files.old) (option_map (λ path. path.now) journal.entry) why (R.remaining input.old.reader) (R.remaining input.new.reader) input.new.lines.calls (W.contents output.old.writer) (W.contents output.new.writer) output.new.calls) }
-    ensures files { IfNone journal.entry (files.new ≡ files.old) }
+    ensures fault { IfErr result (λ why. ServingFailsBy (setup_of tenants age) (claims F.may_hold F.may_fail F.may_leave files.old files.new) (option_map (λ path. path.now) journal.entry) why
+        (R.remaining input.old.reader) (R.remaining input.new.reader) input.new.lines.calls
+        (W.contents output.old.writer) (W.contents output.new.writer) output.new.calls) }
+
+    // In every outcome.
+    ensures journal { WritesJournalAtMost (setup_of tenants age) (claims F.may_hold F.may_fail F.may_leave files.old files.new) (option_map (λ path. path.now) journal.entry)
+        (R.remaining input.old.reader) (R.remaining input.new.reader) }
 {
     let alloc = rt.alloc();
-    let Some(age) = Age::new(age) else {
-        unreachable!();
-    };
-    let served = match serve_reader(rt, workers, tenants, age, input) {
+    let served = match serve_reader(rt, workers, tenants, age, input, gate) {
         Ok(served) => served,
         Err(fault) => return Err(cause_of_service(fault)),
     };

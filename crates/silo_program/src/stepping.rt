@@ -1,9 +1,8 @@
 //! Taking the steps of an input.
 
 ghost use Rattle.std.specs.Prelude.{◌≡◌, OnOk, IfOk, IfErr};
-ghost use Rattle.tenant_gate.specs.Age.{IsAge};
 ghost use Rattle.silo_model.specs.Opening.{opening};
-ghost use Rattle.silo_service.specs.Serving.{setup_of};
+ghost use Rattle.line_service.specs.Serving.{setup_of};
 ghost use Rattle.silo_program.specs.Steps.{AnswersFrom, StopsFrom};
 ghost use Rattle.silo_program.specs.Streams.{IsFresh};
 
@@ -41,19 +40,15 @@ fn new_silo(
 fn answer_lines<R: Read, W: Write>(
     alloc: Global,
     tenants: TenantTable,
-    age: u64,
+    age: Age,
     input: &mut Input<R>,
     output: &mut Output<W>,
 ) -> Result<(), LineFault>
-    requires age { IsAge age }
     requires fresh { IsFresh input.old.lines }
     ensures answered { OnOk result (AnswersFrom (setup_of tenants age) (R.remaining input.old.reader) (R.remaining input.new.reader) (W.contents output.old.writer) (W.contents output.new.writer)) }
     ensures unfailed { OnOk result (output.new.calls.failed ≡ output.old.calls.failed) }
-    ensures stopped { IfErr result (λ why. StopsFrom (setup_of tenants age) why (R.remaining input.old.reader) input.new.lines.calls (W.contents output.old.writer) (W.contents output.new.writer) output.new.calls) }
+    ensures stopped { IfErr result (λ why. StopsFrom (setup_of tenants age) why (R.remaining input.old.reader) (R.remaining input.new.reader) input.new.lines (W.contents output.old.writer) (W.contents output.new.writer) output.new.calls) }
 {
-    let Some(age) = Age::new(age) else {
-        unreachable!();
-    };
     let Ok(mut silo) = new_silo(alloc, tenants, age) else {
         return Err(LineFault::Memory);
     };
@@ -65,6 +60,7 @@ fn answer_lines<R: Read, W: Write>(
         &mut output.writer,
         &mut silo,
     );
+    // For the proof: a storage in memory never fails.
     let _ = silo.storage();
 
     // The process ends soon, and gives all of its memory back at once.
@@ -79,15 +75,14 @@ fn answer_lines<R: Read, W: Write>(
 pub fn answer_steps<R: Read, W: Write>(
     alloc: Global,
     tenants: TenantTable,
-    age: u64,
+    age: Age,
     input: &mut Input<R>,
     output: &mut Output<W>,
 ) -> Result<(), LineFault>
-    requires age { IsAge age }
     requires fresh { IsFresh input.old.lines }
     ensures answered { OnOk result (AnswersFrom (setup_of tenants age) (R.remaining input.old.reader) (R.remaining input.new.reader) (W.contents output.old.writer) (W.contents output.new.writer)) }
     ensures unfailed { OnOk result (output.new.calls.failed ≡ output.old.calls.failed) }
-    ensures stopped { IfErr result (λ why. StopsFrom (setup_of tenants age) why (R.remaining input.old.reader) input.new.lines.calls (W.contents output.old.writer) (W.contents output.new.writer) output.new.calls) }
+    ensures stopped { IfErr result (λ why. StopsFrom (setup_of tenants age) why (R.remaining input.old.reader) (R.remaining input.new.reader) input.new.lines (W.contents output.old.writer) (W.contents output.new.writer) output.new.calls) }
 {
     match answer_lines(alloc, tenants, age, input, output) {
         Ok(()) => output.calls.flush(&mut output.writer),

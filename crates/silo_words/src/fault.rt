@@ -7,6 +7,7 @@ ghost use Rattle.silo_words.specs.Words.{EndsWithExample, IsFaultBy};
 use clap::Error;
 use clap::error::ErrorKind;
 use std::alloc::{AllocError, Global};
+use thiserror::Error;
 
 /// What stands at the end of help: two lines that a shell takes as they are.
 pub const EXAMPLE: &str = concat!(
@@ -18,14 +19,18 @@ pub const EXAMPLE: &str = concat!(
 );
 
 /// Why the words ask for nothing.
-#[derive(Drop)]
+#[derive(Debug, Drop, Error)]
 pub enum WordsFault {
+    #[error("out of memory")]
     Memory,
     /// Help was asked for: its text, which ends with the example.
+    #[error("{0}")]
     Help(String),
     /// The version was asked for.
+    #[error("the version was asked for")]
     Version,
     /// The text of what is wrong with the words.
+    #[error("{0}")]
     Wrong(String),
 }
 

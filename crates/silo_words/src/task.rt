@@ -7,7 +7,7 @@ ghost use Rattle.silo_words.specs.Words.{IsAge, IsNoAge, IsNoTaskFor, IsNoWorker
 use crate::fault::WordsFault;
 use clap::ArgMatches;
 use std::alloc::{AllocError, Global};
-use tenant_gate::MAX_AGE_MILLISECONDS;
+use tenant_gate::{Age, MAX_AGE_MILLISECONDS};
 
 /// The age when `--age` is left out.
 const DEFAULT_AGE_MILLISECONDS: u64 = 900_000;
@@ -21,17 +21,16 @@ const MAX_WORKERS: u64 = 64;
 /// What the words ask for. Tenant arguments and paths are as they are written.
 #[derive(Drop)]
 pub enum Task<'a> {
-    /// Read every step from standard input, with the age in milliseconds (1 to 86,400,000).
+    /// Read every step from standard input.
     Steps {
-        age: u64,
+        age: Age,
         tenants: Vec<&'a str>,
     },
 
-    /// Serve the clients on standard input by workers (1 to 64), with the age in milliseconds (1 to
-    /// 86,400,000), and write the journal if it has a path.
+    /// Serve the clients on standard input by workers (1 to 64), and write the journal if it has a path.
     Serve {
         workers: usize,
-        age: u64,
+        age: Age,
         journal: Option<&'a str>,
         tenants: Vec<&'a str>,
     },
@@ -55,12 +54,16 @@ fn number_of(found: &ArgMatches<'_>, option: &str, usual: u64, most: u64) -> Opt
     }
 }
 
-/// The age in milliseconds.
-fn age_of(found: &ArgMatches<'_>) -> Option<u64>
+/// The age.
+fn age_of(found: &ArgMatches<'_>) -> Option<Age>
     ensures some { IfSome result (λ age. IsAge (one_of (codes "age") (rows_of (found_of found.now))) age) }
     ensures none { IfNone result (IsNoAge (rows_of (found_of found.now))) }
 {
-    number_of(found, "age", DEFAULT_AGE_MILLISECONDS, MAX_AGE_MILLISECONDS)
+    let milliseconds = number_of(found, "age", DEFAULT_AGE_MILLISECONDS, MAX_AGE_MILLISECONDS)?;
+    let Some(age) = Age::new(milliseconds) else {
+        unreachable!();
+    };
+    Some(age)
 }
 
 /// How many workers.

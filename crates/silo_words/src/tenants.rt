@@ -9,6 +9,7 @@ ghost use Rattle.silo_words.specs.Tenants.{is_named, HasNoColon, IsLimitText, Is
 use grain_id::{IdFault, Tenant};
 use std::alloc::{AllocError, Global};
 use tenant_gate::{Limits, MAX_ACTIVATIONS, MAX_MAILBOX, MAX_TENANTS, TableFault, TenantTable};
+use thiserror::Error;
 
 /// A tenant and what it may have.
 #[derive(Drop)]
@@ -18,10 +19,12 @@ struct TenantLimits {
 }
 
 /// Why the tenant arguments name no tenants.
-#[derive(Clone, Copy, Debug, PartialEq, Eq)]
+#[derive(Clone, Copy, Debug, PartialEq, Eq, Error)]
 pub enum TenantsFault {
+    #[error("out of memory")]
     Memory,
     /// The number of the first argument that is refused, from 1.
+    #[error("tenant argument {0} is refused")]
     Refused(usize),
 }
 

@@ -1,9 +1,16 @@
 use Rattle.std.proofs.Common.{◌∙◌, sym}
 use Rattle.silo_program.proofs.FaultLemmas.{failed_by, refused_by}
+use Rattle.silo_program.proofs.ServingLemmas.{untouched}
 use Rattle.silo_program.proofs.program.run_program.Goals as goal
 
+pub returns-in-Ok-clause-files : goal.returns-in-Ok-clause-files
+returns-in-Ok-clause-files g c never = untouched _ _ _ _ c.answer.ensures.journal never
+
+pub returns-in-Err-clause-files : goal.returns-in-Err-clause-files
+returns-in-Err-clause-files g c never = untouched _ _ _ _ c.answer.ensures.journal never
+
 pub returns-in-Err-clause-failed : goal.returns-in-Err-clause-failed
-returns-in-Err-clause-failed g c one = failed_by _ _ _ _ _ _ _ _ _ _ _ _ c.in-Err.fault (sym c.tell.ensures.status ∙ one) c.in-Err.ensures.fault c.tell.ensures.told
+returns-in-Err-clause-failed g c one = failed_by _ _ _ _ _ _ _ _ _ _ _ c.in-Err.fault (sym c.tell.ensures.status ∙ one) c.in-Err.ensures.fault c.tell.ensures.told
 
 pub returns-in-Err-clause-refused : goal.returns-in-Err-clause-refused
-returns-in-Err-clause-refused g c two = refused_by _ _ _ _ _ _ _ _ _ _ _ _ c.in-Err.fault (sym c.tell.ensures.status ∙ two) c.in-Err.ensures.fault c.tell.ensures.told
+returns-in-Err-clause-refused g c two = refused_by _ _ _ _ _ _ _ _ _ _ _ c.in-Err.fault (sym c.tell.ensures.status ∙ two) c.in-Err.ensures.fault c.tell.ensures.told

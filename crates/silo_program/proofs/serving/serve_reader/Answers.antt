@@ -1,6 +1,6 @@
 use Rattle.std.proofs.Common.{ℕ, List, Option, IfOk, IfErr, map, subst}
 use Rattle.std.specs.Prelude.{IfSome}
-use Rattle.silo_service.specs.Serving.{IsServed, StopsServing, setup_of}
+use Rattle.line_service.specs.Serving.{IsServed, StopsServing, setup_of}
 use Rattle.silo_program.proofs.serving.serve_reader.Goals as goal
 
 pub returns-clause-served : goal.returns-clause-served

@@ -1,0 +1,16 @@
+-- What files claim of themselves before and after a run.
+use Rattle.std.specs.Prelude.{◌≡◌, ℕ, List}
+
+-- What is known of files: that they are as they were; that one write of the bytes to the path, and nothing else, left them as
+-- they are; that the file at the path may have these bytes now; and that a call at the path could fail before.
+pub record FileClaims : Type 1 where
+  pub same : Type 0
+  pub written : List ℕ → List ℕ → Type 0
+  pub may_hold : List ℕ → List ℕ → Type 0
+  pub may_fail : List ℕ → Type 0
+
+-- the same by what a kind of files claims
+module _ {F : Type 0} (may_hold : F → List ℕ → List ℕ → Type 0) (may_fail : F → List ℕ → Type 0)
+    (may_leave : F → List ℕ → List ℕ → F → Type 0) where
+  abbrev pub claims : F → F → FileClaims
+  claims old new = record { same = new ≡ old; written = λ path bytes. may_leave old path bytes new; may_hold = may_hold new; may_fail = may_fail old }
