@@ -1,0 +1,79 @@
+//! Names and faults as text.
+
+use crate::compare::same;
+use crate::values::{caller, grain, kind, tenant};
+use grain_id::IdFault;
+use grain_storage::StoreFault;
+use request_codec::CodecFault;
+use std::alloc::Global;
+use std::error::Error;
+use std::fmt::Display;
+use std::test::Fail;
+use tenant_gate::{GateFault, GateRefusal, TableFault};
+use turn_arena::ArenaFault;
+
+/// It is shown by this text.
+fn is_shown<T: Display>(alloc: Global, it: &T, wanted: &str) -> Result<(), Fail> {
+    same(it.to_string(alloc)?.as_str(), wanted)
+}
+
+/// An error is shown by this text.
+fn is_told<E: Error>(alloc: Global, fault: &E, wanted: &str) -> Result<(), Fail> {
+    is_shown(alloc, fault, wanted)
+}
+
+#[test]
+fn names_are_shown_by_their_texts(rt: HostRuntime) -> Result<(), Fail> {
+    let alloc = rt.alloc();
+    is_shown(alloc, &tenant(alloc, "red")?, "red")?;
+    is_shown(alloc, &kind(alloc, "counter")?, "counter")?;
+    is_shown(alloc, &grain(alloc, "counter/red:a")?, "counter/red:a")?;
+    is_shown(alloc, &caller(alloc, "red/c1")?, "red/c1")
+}
+
+#[test]
+fn faults_without_names_are_told(rt: HostRuntime) -> Result<(), Fail> {
+    let alloc = rt.alloc();
+    is_told(alloc, &IdFault::Kind, "the kind isn't well formed")?;
+    is_told(alloc, &CodecFault::TooDeep, "the value is deeper than 32")?;
+    is_told(alloc, &ArenaFault::NotAMessage, "nothing spells the bytes")?;
+    is_told(alloc, &StoreFault::Failed, "the storage failed")?;
+    is_told(
+        alloc,
+        &GateRefusal::AcrossTenants,
+        "the grain is another tenant's",
+    )
+}
+
+/// A table with a tenant twice.
+fn twice(alloc: Global, name: &str) -> Result<TableFault, Fail> {
+    Ok(TableFault::Twice(tenant(alloc, name)?))
+}
+
+/// A call from one tenant to another.
+fn across(alloc: Global, from: &str, to: &str) -> Result<GateFault, Fail> {
+    Ok(GateFault::Across(tenant(alloc, from)?, tenant(alloc, to)?))
+}
+
+#[test]
+fn faults_with_names_are_told(rt: HostRuntime) -> Result<(), Fail> {
+    let alloc = rt.alloc();
+    is_told(
+        alloc,
+        &twice(alloc, "red")?,
+        "tenant red stands there twice",
+    )?;
+    is_told(
+        alloc,
+        &across(alloc, "red", "blue")?,
+        "tenant red may not call a grain of tenant blue",
+    )
+}
+
+#[test]
+fn a_fault_is_of_memory_or_of_the_text() -> Result<(), Fail> {
+    same(
+        (IdFault::Memory.is_memory(), IdFault::Name.is_memory()),
+        (true, false),
+    )
+}

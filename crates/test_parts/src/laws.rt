@@ -1,0 +1,14 @@
+//! The laws that the crates state by functions: each is called, and has nothing to do.
+
+#[test]
+fn the_laws_are_stated() {
+    grain_id::laws::reading_gives_back();
+    request_codec::laws::one_spelling();
+    request_codec::laws::no_prefix();
+    grain_kinds::laws::lawful();
+    silo_event::laws::texts_are_visible();
+    journal_text::laws::one_line();
+    journal_text::laws::plain_line();
+    journal_text::laws::one_text();
+    journal_text::laws::one_first_fault();
+}

@@ -1,0 +1,147 @@
+//! As many threads serve lanes as the words ask for, and 4 audit.
+
+use crate::journals::{file_of, words_of};
+use grain_id::{GrainId, Tenant};
+use silo_program::{Input, Output, answer};
+use std::sync::Wait;
+use std::sync::atomic::{AtomicBool, AtomicU64, Ordering};
+use std::test::Fail;
+use std::thread;
+use std::thread::Threads;
+use tenant_audit::AuditGate;
+use worker_host::TurnGate;
+
+/// How often a thread looks for others that are to come.
+const MANY: u32 = 10_000_000;
+
+/// The same where they don't come.
+const FEW: u32 = 100_000;
+
+/// Waits until so many have come, and notes a miss.
+#[derive(Drop)]
+struct Meeting {
+    wanted: u64,
+    polls: u32,
+    come: AtomicU64,
+    missed: AtomicBool,
+}
+
+impl Meeting {
+    fn new(wanted: u64, polls: u32) -> Meeting {
+        Meeting {
+            wanted,
+            polls,
+            come: AtomicU64::new(0),
+            missed: AtomicBool::new(false),
+        }
+    }
+
+    fn meet(&self) {
+        self.come.fetch_add(1, Ordering::SeqCst);
+        for _ in 0..self.polls {
+            if self.come.load(Ordering::SeqCst) >= self.wanted {
+                return;
+            }
+            thread::yield_now();
+        }
+        self.missed.store(true, Ordering::SeqCst);
+    }
+
+    /// Whether so many were there at once.
+    fn was_held(&self) -> bool {
+        self.come.load(Ordering::SeqCst) >= self.wanted && !self.missed.load(Ordering::SeqCst)
+    }
+}
+
+impl TurnGate for Meeting {
+    fn entered(&self, _grain: &GrainId, _turn: u64) {
+        self.meet();
+    }
+}
+
+impl AuditGate for Meeting {
+    fn entered(&self, _tenant: &Tenant) {
+        self.meet();
+    }
+}
+
+/// Four clients, each of whom asks a counter of its own.
+const CALLS: &str = concat!(
+    r#"{"from":"red/c1","id":1,"op":"call","grain":"counter/red:a","method":"get","args":null}"#,
+    "\n",
+    r#"{"from":"red/c2","id":1,"op":"call","grain":"counter/red:b","method":"get","args":null}"#,
+    "\n",
+    r#"{"from":"red/c3","id":1,"op":"call","grain":"counter/red:c","method":"get","args":null}"#,
+    "\n",
+    r#"{"from":"red/c4","id":1,"op":"call","grain":"counter/red:d","method":"get","args":null}"#,
+    "\n"
+);
+
+/// The journal of five tenants who did nothing.
+const QUIET: &str =
+    "silo-journal 1\nage 1\ntenant a 1 1\ntenant b 1 1\ntenant c 1 1\ntenant d 1 1\ntenant e 1 1\nclose 0\n";
+
+/// Whether the program does what the words ask for, and so many turns or tenants are at the gate at once.
+fn meet<H: AllocGlobal + Threads + Wait + Sync>(
+    rt: &H,
+    texts: &[&str],
+    meeting: &Meeting,
+) -> Result<bool, Fail> {
+    let alloc = rt.alloc();
+    let words = words_of(alloc, texts)?;
+    let mut files = file_of(alloc, QUIET)?;
+    let mut input = Input::new(alloc, CALLS.as_bytes())?;
+    let mut output = Output::new(Vec::new(alloc));
+    let ended = answer(
+        rt,
+        &words,
+        &mut files,
+        &mut input,
+        &mut output,
+        meeting,
+        meeting,
+    );
+    if ended.is_err() {
+        return Err(Fail::from("the program failed: no memory, or no thread"));
+    }
+    Ok(meeting.was_held())
+}
+
+/// Whether so many turns are open at once if so many workers are asked for.
+fn turns_meet<H: AllocGlobal + Threads + Wait + Sync>(
+    rt: &H,
+    workers: &str,
+    wanted: u64,
+    polls: u32,
+) -> Result<bool, Fail> {
+    let meeting = Meeting::new(wanted, polls);
+    meet(
+        rt,
+        &["silo", "serve", "--workers", workers, "red:4:4"],
+        &meeting,
+    )
+}
+
+/// Whether so many tenants are audited at once.
+fn tenants_meet<H: AllocGlobal + Threads + Wait + Sync>(
+    rt: &H,
+    wanted: u64,
+    polls: u32,
+) -> Result<bool, Fail> {
+    let meeting = Meeting::new(wanted, polls);
+    meet(rt, &["silo", "audit", "j"], &meeting)
+}
+
+#[test]
+fn as_many_workers_serve_as_are_asked_for(rt: HostRuntime) -> Result<(), Fail> {
+    assert!(rt; turns_meet(&rt, "4", 4, MANY)?);
+    assert!(rt; !turns_meet(&rt, "3", 4, FEW)?);
+    Ok(())
+}
+
+#[test]
+fn four_tenants_are_audited_at_once(rt: HostRuntime) -> Result<(), Fail> {
+    assert!(rt; tenants_meet(&rt, 4, MANY)?);
+    assert!(rt; !tenants_meet(&rt, 5, FEW)?);
+    Ok(())
+}

@@ -1,0 +1,187 @@
+//! The journal that is kept and audited: statuses, texts, and what stands in the file.
+
+use silo_program::{Input, MemoryFile, Output, run_program};
+use std::alloc::Global;
+use std::sync::Wait;
+use std::test::Fail;
+use std::thread::Threads;
+
+/// A counter is asked to add 3.
+const CALL: &str =
+    "{\"from\":\"red/c1\",\"id\":1,\"op\":\"call\",\"grain\":\"counter/red:a\",\"method\":\"add\",\"args\":{\"by\":3}}\n";
+
+/// What it answers.
+const ANSWER: &str = "{\"from\":\"red/c1\",\"id\":1,\"ok\":3}\n";
+
+/// The journal of this one call.
+const JOURNAL: &str =
+    "silo-journal 1\nage 900000\ntenant red 2 4\ncall red/c1 1 counter/red:a 01000000036164640600000001000000026279030000000000000003\nactivate counter/red:a\nload counter/red:a ok\nbegin counter/red:a\nend counter/red:a 1\nreply red/c1 1 ok 030000000000000003\nclose 5\n";
+
+/// The same with another digit at the end of the reply.
+const CHANGED: &str =
+    "silo-journal 1\nage 900000\ntenant red 2 4\ncall red/c1 1 counter/red:a 01000000036164640600000001000000026279030000000000000003\nactivate counter/red:a\nload counter/red:a ok\nbegin counter/red:a\nend counter/red:a 1\nreply red/c1 1 ok 030000000000000004\nclose 5\n";
+
+/// The same without its last line.
+const CUT: &str =
+    "silo-journal 1\nage 900000\ntenant red 2 4\ncall red/c1 1 counter/red:a 01000000036164640600000001000000026279030000000000000003\nactivate counter/red:a\nload counter/red:a ok\nbegin counter/red:a\nend counter/red:a 1\nreply red/c1 1 ok 030000000000000003\n";
+
+/// A run of the program: its words, with the program's name first; the input; and what the file at `j` has before it.
+/// Then its status, and what the file, the output and the errors have after it.
+type Run = (
+    &'static [&'static str],
+    &'static str,
+    &'static str,
+    u8,
+    &'static str,
+    &'static str,
+    &'static str,
+);
+
+static RUNS: [Run; 8] = [
+    (
+        &[
+            "silo",
+            "serve",
+            "--workers",
+            "1",
+            "--journal",
+            "j",
+            "red:2:4",
+        ],
+        CALL,
+        "old",
+        0,
+        JOURNAL,
+        ANSWER,
+        "",
+    ),
+    (
+        &["silo", "serve", "--workers", "1", "red:2:4"],
+        CALL,
+        "old",
+        0,
+        "old",
+        ANSWER,
+        "",
+    ),
+    (
+        &["silo", "serve", "--journal", "k", "red:2:4"],
+        CALL,
+        "old",
+        1,
+        "old",
+        "",
+        "silo: writing failed\n",
+    ),
+    (
+        &["silo", "serve", "--journal", "j", "red:0:4"],
+        CALL,
+        "old",
+        2,
+        "old",
+        "",
+        "silo: tenant argument 1 is refused\n",
+    ),
+    (
+        &["silo", "audit", "j"],
+        "",
+        JOURNAL,
+        0,
+        JOURNAL,
+        "tenant red: 5 steps, 1 replies, 0 rows\n",
+        "",
+    ),
+    (
+        &["silo", "audit", "j"],
+        "",
+        CHANGED,
+        3,
+        CHANGED,
+        "tenant red: reply 1 differs\n",
+        "",
+    ),
+    (
+        &["silo", "audit", "j"],
+        "",
+        CUT,
+        4,
+        CUT,
+        "",
+        "silo: journal line 10 is refused\n",
+    ),
+    (
+        &["silo", "audit", "k"],
+        "",
+        JOURNAL,
+        1,
+        JOURNAL,
+        "",
+        "silo: reading failed\n",
+    ),
+];
+
+/// What a run leaves: its status, and what stands in the file, the output and the errors.
+#[derive(Drop)]
+struct Left {
+    status: u8,
+    file: Vec<u8>,
+    output: Vec<u8>,
+    errors: Vec<u8>,
+}
+
+pub fn words_of(alloc: Global, texts: &[&str]) -> Result<Vec<String>, Fail> {
+    let mut words = Vec::new(alloc);
+    for text in texts {
+        words.push(String::from_str(alloc, *text)?)?;
+    }
+    Ok(words)
+}
+
+/// A file at `j` that has this text.
+pub fn file_of(alloc: Global, text: &str) -> Result<MemoryFile, Fail> {
+    let path = String::from_str(alloc, "j")?;
+    let bytes = Vec::from_slice(alloc, text.as_bytes())?;
+    Ok(MemoryFile { path, bytes })
+}
+
+/// Runs the program on these words, this input and this file at `j`.
+fn left_by<H: AllocGlobal + Threads + Wait + Sync>(
+    rt: &H,
+    texts: &[&str],
+    input: &str,
+    file: &str,
+) -> Result<Left, Fail> {
+    let alloc = rt.alloc();
+    let words = words_of(alloc, texts)?;
+    let mut files = file_of(alloc, file)?;
+    let mut input = Input::new(alloc, input.as_bytes())?;
+    let mut output = Output::new(Vec::new(alloc));
+    let mut errors = Output::new(Vec::new(alloc));
+    let status = run_program(rt, &words, &mut files, &mut input, &mut output, &mut errors);
+    Ok(Left {
+        status,
+        file: files.bytes,
+        output: output.writer,
+        errors: errors.writer,
+    })
+}
+
+/// Whether the run leaves what it should.
+fn leaves<H: AllocGlobal + Threads + Wait + Sync>(rt: &H, run: &Run) -> Result<bool, Fail> {
+    let (words, input, before, status, after, told, failed) = *run;
+    let left = left_by(rt, words, input, before)?;
+    let same = left.status == status
+        && left.file.as_slice() == after.as_bytes()
+        && left.output.as_slice() == told.as_bytes()
+        && left.errors.as_slice() == failed.as_bytes();
+    drop(left);
+    Ok(same)
+}
+
+#[test]
+fn a_journal_is_kept_and_audited(rt: HostRuntime) -> Result<(), Fail> {
+    for run in &RUNS {
+        assert!(rt; leaves(&rt, run)?);
+    }
+    Ok(())
+}

@@ -1,0 +1,391 @@
+//! Worked rows: lines of steps, with what is told and stored after them. Each can be followed by hand.
+//!
+//! The tenants are red and blue, each with 2 activations of 4 waiting requests, and the age is 1,000. The texts come from
+//! functions, since a long text in a test's own body stands in all its goals.
+
+/// Lines, the lines of their replies, and the grains with the versions of their rows.
+#[derive(Clone, Copy)]
+pub struct Worked {
+    pub lines: &'static str,
+    pub told: &'static str,
+    pub stored: &'static str,
+}
+
+/// A counter is asked to add 3.
+pub fn first_call() -> Worked {
+    Worked {
+        lines: r#"{"op":"call","from":"red/c1","id":1,"grain":"counter/red:a","method":"add","args":{"by":3}}
+{"op":"activate","grain":"counter/red:a"}
+{"op":"load","grain":"counter/red:a"}
+{"op":"begin","grain":"counter/red:a"}
+{"op":"end","grain":"counter/red:a","turn":1}
+"#,
+        told: r#"{"from":"red/c1","id":1,"ok":3}
+"#,
+        stored: "",
+    }
+}
+
+/// A row that another wrote ends the activation, and what waits is answered from the row.
+pub fn overwritten() -> Worked {
+    Worked {
+        lines: r#"{"op":"call","from":"red/c1","id":1,"grain":"counter/red:a","method":"add","args":{"by":3}}
+{"op":"activate","grain":"counter/red:a"}
+{"op":"load","grain":"counter/red:a"}
+{"op":"begin","grain":"counter/red:a"}
+{"op":"end","grain":"counter/red:a","turn":1}
+{"op":"call","from":"red/c1","id":2,"grain":"counter/red:a","method":"save","args":null}
+{"op":"begin","grain":"counter/red:a"}
+{"op":"store","grain":"counter/red:a","turn":2}
+{"op":"poke","from":"red/c1","id":3,"grain":"counter/red:a","state":10}
+{"op":"call","from":"red/c1","id":4,"grain":"counter/red:a","method":"save","args":null}
+{"op":"call","from":"red/c1","id":5,"grain":"counter/red:a","method":"get","args":null}
+{"op":"begin","grain":"counter/red:a"}
+{"op":"store","grain":"counter/red:a","turn":3}
+{"op":"activate","grain":"counter/red:a"}
+{"op":"load","grain":"counter/red:a"}
+{"op":"begin","grain":"counter/red:a"}
+{"op":"end","grain":"counter/red:a","turn":4}
+"#,
+        told: r#"{"from":"red/c1","id":1,"ok":3}
+{"from":"red/c1","id":2,"ok":"1"}
+{"from":"red/c1","id":3,"ok":"2"}
+{"error":54,"from":"red/c1","id":4,"text":"stored state of counter/red:a has changed"}
+{"from":"red/c1","id":5,"ok":10}
+"#,
+        stored: "counter/red:a 2\n",
+    }
+}
+
+/// A row is written, cleared and written again.
+pub fn cleared() -> Worked {
+    Worked {
+        lines: r#"{"op":"call","from":"red/c1","id":1,"grain":"counter/red:a","method":"save","args":null}
+{"op":"activate","grain":"counter/red:a"}
+{"op":"load","grain":"counter/red:a"}
+{"op":"begin","grain":"counter/red:a"}
+{"op":"store","grain":"counter/red:a","turn":1}
+{"op":"call","from":"red/c1","id":2,"grain":"counter/red:a","method":"clear","args":null}
+{"op":"begin","grain":"counter/red:a"}
+{"op":"store","grain":"counter/red:a","turn":2}
+{"op":"call","from":"red/c1","id":3,"grain":"counter/red:a","method":"save","args":null}
+{"op":"begin","grain":"counter/red:a"}
+{"op":"store","grain":"counter/red:a","turn":3}
+"#,
+        told: r#"{"from":"red/c1","id":1,"ok":"1"}
+{"from":"red/c1","id":2,"ok":"2"}
+{"from":"red/c1","id":3,"ok":"3"}
+"#,
+        stored: "counter/red:a 3\n",
+    }
+}
+
+/// An idle grain goes when it is as old as the age.
+pub fn collected() -> Worked {
+    Worked {
+        lines: r#"{"op":"tick","now":5000}
+{"op":"call","from":"red/c1","id":1,"grain":"counter/red:a","method":"add","args":{"by":3}}
+{"op":"activate","grain":"counter/red:a"}
+{"op":"load","grain":"counter/red:a"}
+{"op":"begin","grain":"counter/red:a"}
+{"op":"end","grain":"counter/red:a","turn":1}
+{"op":"tick","now":5999}
+{"op":"sweep"}
+{"op":"status","from":"red/c1","id":2}
+{"op":"tick","now":6000}
+{"op":"sweep"}
+{"op":"status","from":"red/c1","id":3}
+{"op":"call","from":"red/c1","id":4,"grain":"counter/red:a","method":"get","args":null}
+{"op":"activate","grain":"counter/red:a"}
+{"op":"load","grain":"counter/red:a"}
+{"op":"begin","grain":"counter/red:a"}
+{"op":"end","grain":"counter/red:a","turn":2}
+"#,
+        told: r#"{"from":"red/c1","id":1,"ok":3}
+{"from":"red/c1","id":2,"ok":{"activations":1,"clock":5999,"requests":1}}
+{"from":"red/c1","id":3,"ok":{"activations":0,"clock":6000,"requests":1}}
+{"from":"red/c1","id":4,"ok":0}
+"#,
+        stored: "",
+    }
+}
+
+/// What a relay sends across tenants is refused, and the relay is told.
+pub fn across() -> Worked {
+    Worked {
+        lines: r#"{"op":"call","from":"red/c1","id":1,"grain":"relay/red:r","method":"join","args":{"grain":"counter/blue:x"}}
+{"op":"activate","grain":"relay/red:r"}
+{"op":"load","grain":"relay/red:r"}
+{"op":"begin","grain":"relay/red:r"}
+{"op":"end","grain":"relay/red:r","turn":1}
+{"op":"call","from":"red/c1","id":2,"grain":"relay/red:r","method":"send","args":{"args":null,"method":"get"}}
+{"op":"begin","grain":"relay/red:r"}
+{"op":"end","grain":"relay/red:r","turn":2}
+{"op":"deliver","grain":"relay/red:r"}
+"#,
+        told: r#"{"from":"red/c1","id":1,"ok":true}
+{"from":"red/c1","id":2,"ok":1}
+{"error":40,"from":"relay/red:r","text":"tenant red may not call a grain of tenant blue"}
+"#,
+        stored: "",
+    }
+}
+
+/// A grain is loaded twice, and the first call of the storage fails.
+pub fn loaded_twice() -> Worked {
+    Worked {
+        lines: r#"{"op":"call","from":"red/c1","id":1,"grain":"counter/red:a","method":"get","args":null}
+{"op":"activate","grain":"counter/red:a"}
+{"op":"load","grain":"counter/red:a"}
+{"op":"call","from":"red/c1","id":2,"grain":"counter/red:a","method":"get","args":null}
+{"op":"activate","grain":"counter/red:a"}
+{"op":"load","grain":"counter/red:a"}
+{"op":"begin","grain":"counter/red:a"}
+{"op":"end","grain":"counter/red:a","turn":2}
+"#,
+        told: r#"{"error":53,"from":"red/c1","id":1,"text":"storage failed"}
+{"from":"red/c1","id":2,"ok":0}
+"#,
+        stored: "",
+    }
+}
+
+/// The row has the last version and 3, and is to be written.
+pub fn spent() -> Worked {
+    Worked {
+        lines: r#"{"op":"call","from":"red/c1","id":1,"grain":"counter/red:a","method":"save","args":null}
+{"op":"activate","grain":"counter/red:a"}
+{"op":"load","grain":"counter/red:a"}
+{"op":"begin","grain":"counter/red:a"}
+{"op":"store","grain":"counter/red:a","turn":1}
+{"op":"call","from":"red/c1","id":2,"grain":"counter/red:a","method":"get","args":null}
+{"op":"begin","grain":"counter/red:a"}
+{"op":"end","grain":"counter/red:a","turn":2}
+"#,
+        told: r#"{"error":56,"from":"red/c1","id":1,"text":"versions of counter/red:a are spent"}
+{"from":"red/c1","id":2,"ok":3}
+"#,
+        stored: "counter/red:a 18446744073709551615\n",
+    }
+}
+
+/// The lines of `cleared`, if the storage's call of that number fails. There is no fifth.
+pub fn cleared_but(number: u64) -> Worked {
+    let (told, stored) = match number {
+        1 => (
+            r#"{"error":53,"from":"red/c1","id":1,"text":"storage failed"}
+{"text":"not now"}
+{"text":"not now"}
+{"text":"not now"}
+{"text":"not now"}
+{"text":"not now"}
+{"text":"not now"}
+"#,
+            "",
+        ),
+        2 => (
+            r#"{"error":53,"from":"red/c1","id":1,"text":"storage failed"}
+{"from":"red/c1","id":2,"ok":null}
+{"from":"red/c1","id":3,"ok":"1"}
+"#,
+            "counter/red:a 1\n",
+        ),
+        3 => (
+            r#"{"from":"red/c1","id":1,"ok":"1"}
+{"error":53,"from":"red/c1","id":2,"text":"storage failed"}
+{"from":"red/c1","id":3,"ok":"2"}
+"#,
+            "counter/red:a 2\n",
+        ),
+        4 => (
+            r#"{"from":"red/c1","id":1,"ok":"1"}
+{"from":"red/c1","id":2,"ok":"2"}
+{"error":53,"from":"red/c1","id":3,"text":"storage failed"}
+"#,
+            "counter/red:a 2\n",
+        ),
+        _ => return cleared(),
+    };
+    Worked {
+        lines: cleared().lines,
+        told,
+        stored,
+    }
+}
+
+/// The lines of `overwritten`, if the storage's call of that number fails: 1 loads, 2 saves, 3 is the poke, 4 saves and
+/// 5 loads again. There is no sixth.
+pub fn overwritten_but(number: u64) -> Worked {
+    let (told, stored) = match number {
+        1 => (
+            r#"{"error":53,"from":"red/c1","id":1,"text":"storage failed"}
+{"text":"not now"}
+{"text":"not now"}
+{"text":"not now"}
+{"text":"not now"}
+{"from":"red/c1","id":3,"ok":"1"}
+{"text":"not now"}
+{"text":"not now"}
+{"text":"not now"}
+"#,
+            "counter/red:a 1\n",
+        ),
+        2 => (
+            r#"{"from":"red/c1","id":1,"ok":3}
+{"error":53,"from":"red/c1","id":2,"text":"storage failed"}
+{"from":"red/c1","id":3,"ok":"1"}
+{"error":54,"from":"red/c1","id":4,"text":"stored state of counter/red:a has changed"}
+{"from":"red/c1","id":5,"ok":10}
+"#,
+            "counter/red:a 1\n",
+        ),
+        3 => (
+            r#"{"from":"red/c1","id":1,"ok":3}
+{"from":"red/c1","id":2,"ok":"1"}
+{"error":53,"from":"red/c1","id":3,"text":"storage failed"}
+{"from":"red/c1","id":4,"ok":"2"}
+{"text":"not now"}
+{"text":"not now"}
+{"from":"red/c1","id":5,"ok":3}
+"#,
+            "counter/red:a 2\n",
+        ),
+        4 => (
+            r#"{"from":"red/c1","id":1,"ok":3}
+{"from":"red/c1","id":2,"ok":"1"}
+{"from":"red/c1","id":3,"ok":"2"}
+{"error":53,"from":"red/c1","id":4,"text":"storage failed"}
+{"text":"not now"}
+{"text":"not now"}
+{"from":"red/c1","id":5,"ok":3}
+"#,
+            "counter/red:a 2\n",
+        ),
+        5 => (
+            r#"{"from":"red/c1","id":1,"ok":3}
+{"from":"red/c1","id":2,"ok":"1"}
+{"from":"red/c1","id":3,"ok":"2"}
+{"error":54,"from":"red/c1","id":4,"text":"stored state of counter/red:a has changed"}
+{"error":53,"from":"red/c1","id":5,"text":"storage failed"}
+{"text":"not now"}
+{"text":"not now"}
+"#,
+            "counter/red:a 2\n",
+        ),
+        _ => return overwritten(),
+    };
+    Worked {
+        lines: overwritten().lines,
+        told,
+        stored,
+    }
+}
+
+/// A call of a counter to add 3, which waits for its turn.
+pub fn add_3() -> &'static str {
+    r#"{"op":"call","from":"red/c1","id":1,"grain":"counter/red:a","method":"add","args":{"by":3}}
+{"op":"activate","grain":"counter/red:a"}
+{"op":"load","grain":"counter/red:a"}
+"#
+}
+
+/// A call of a counter to add 4, which waits for its turn.
+pub fn add_4() -> &'static str {
+    r#"{"op":"call","from":"red/c1","id":1,"grain":"counter/red:a","method":"add","args":{"by":4}}
+{"op":"activate","grain":"counter/red:a"}
+{"op":"load","grain":"counter/red:a"}
+"#
+}
+
+/// A call is refused for its argument, and the turn of another is abandoned.
+pub fn abandoned() -> Worked {
+    Worked {
+        lines: r#"{"op":"call","from":"red/c1","id":1,"grain":"counter/red:a","method":"get","args":1.5}
+{"op":"call","from":"red/c1","id":2,"grain":"counter/red:a","method":"get","args":null}
+{"op":"activate","grain":"counter/red:a"}
+{"op":"load","grain":"counter/red:a"}
+{"op":"begin","grain":"counter/red:a"}
+{"op":"abandon","grain":"counter/red:a","turn":1}
+"#,
+        told: r#"{"error":13,"from":"red/c1","id":1,"text":"number is not a whole number of 64 bits"}
+{"error":70,"from":"red/c1","id":2,"text":"turn met want of memory"}
+"#,
+        stored: "",
+    }
+}
+
+/// A relay sends to its two members, and the one of another tenant is refused.
+pub fn sent() -> Worked {
+    Worked {
+        lines: r#"{"from":"red/c1","id":1,"op":"call","grain":"relay/red:r","method":"join","args":{"grain":"counter/red:a"}}
+{"from":"red/c1","id":2,"op":"call","grain":"relay/red:r","method":"join","args":{"grain":"counter/blue:a"}}
+{"from":"red/c1","id":3,"op":"call","grain":"relay/red:r","method":"send","args":{"args":{"by":2},"method":"add"}}
+{"op":"activate","grain":"relay/red:r"}
+{"op":"load","grain":"relay/red:r"}
+{"op":"begin","grain":"relay/red:r"}
+{"op":"end","grain":"relay/red:r","turn":1}
+{"op":"begin","grain":"relay/red:r"}
+{"op":"end","grain":"relay/red:r","turn":2}
+{"op":"begin","grain":"relay/red:r"}
+{"op":"end","grain":"relay/red:r","turn":3}
+{"op":"deliver","grain":"relay/red:r"}
+{"op":"deliver","grain":"relay/red:r"}
+{"op":"activate","grain":"counter/red:a"}
+{"op":"load","grain":"counter/red:a"}
+{"op":"begin","grain":"counter/red:a"}
+{"op":"end","grain":"counter/red:a","turn":4}
+{"from":"red/c1","id":4,"op":"call","grain":"counter/red:a","method":"get"}
+{"op":"begin","grain":"counter/red:a"}
+{"op":"end","grain":"counter/red:a","turn":5}
+"#,
+        told: r#"{"from":"red/c1","id":1,"ok":true}
+{"from":"red/c1","id":2,"ok":true}
+{"from":"red/c1","id":3,"ok":2}
+{"error":40,"from":"relay/red:r","text":"tenant red may not call a grain of tenant blue"}
+{"from":"red/c1","id":4,"ok":2}
+"#,
+        stored: "",
+    }
+}
+
+/// A counter is asked for what it hasn't, for what doesn't fit, and for more than 64 bits hold.
+pub fn refused_methods() -> Worked {
+    Worked {
+        lines: r#"{"op":"call","from":"red/c1","id":1,"grain":"counter/red:a","method":"fly","args":null}
+{"op":"call","from":"red/c1","id":2,"grain":"counter/red:a","method":"add","args":{"by":"x"}}
+{"op":"call","from":"red/c1","id":3,"grain":"counter/red:a","method":"add","args":{"by":9223372036854775807}}
+{"op":"call","from":"red/c1","id":4,"grain":"counter/red:a","method":"add","args":{"by":1}}
+{"op":"activate","grain":"counter/red:a"}
+{"op":"load","grain":"counter/red:a"}
+{"op":"begin","grain":"counter/red:a"}
+{"op":"end","grain":"counter/red:a","turn":1}
+{"op":"begin","grain":"counter/red:a"}
+{"op":"end","grain":"counter/red:a","turn":2}
+{"op":"begin","grain":"counter/red:a"}
+{"op":"end","grain":"counter/red:a","turn":3}
+{"op":"begin","grain":"counter/red:a"}
+{"op":"end","grain":"counter/red:a","turn":4}
+"#,
+        told: r#"{"error":60,"from":"red/c1","id":1,"text":"method is unknown"}
+{"error":61,"from":"red/c1","id":2,"text":"arguments do not fit"}
+{"from":"red/c1","id":3,"ok":9223372036854775807}
+{"error":62,"from":"red/c1","id":4,"text":"result is out of range"}
+"#,
+        stored: "",
+    }
+}
+
+/// A sheet whose state has no room for a name more is asked to put one.
+pub fn too_large() -> Worked {
+    Worked {
+        lines: r#"{"op":"call","from":"red/c1","id":1,"grain":"sheet/red:s","method":"put","args":{"name":"b","value":null}}
+{"op":"activate","grain":"sheet/red:s"}
+{"op":"load","grain":"sheet/red:s"}
+{"op":"begin","grain":"sheet/red:s"}
+{"op":"end","grain":"sheet/red:s","turn":1}
+"#,
+        told: r#"{"error":63,"from":"red/c1","id":1,"text":"state is too large"}
+"#,
+        stored: "sheet/red:s 1\n",
+    }
+}

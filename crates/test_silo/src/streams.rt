@@ -1,0 +1,107 @@
+//! Lines that are run over a reader or a writer that fails.
+
+use crate::rows::first_call;
+use crate::silos::{TestedSilo, journal, new_silo};
+use line_protocol::{LineFault, LineReader, WriterCalls, run_lines};
+use silo_event::Step;
+use std::alloc::{AllocError, Global};
+use std::io;
+use std::io::{ErrorKind, Read, Write};
+use std::test::Fail;
+
+/// Gives its bytes, and then fails.
+#[derive(Drop)]
+struct FailingReader<'a> {
+    rest: &'a [u8],
+}
+
+impl<'a> Read for FailingReader<'a> {
+    fn read(&mut self, buffer: &mut [u8]) -> io::Result<usize> {
+        if self.rest.is_empty() {
+            return Err(io::Error::from(ErrorKind::TimedOut));
+        }
+        self.rest.read(buffer)
+    }
+}
+
+/// Takes no byte: each write fails.
+#[derive(Drop)]
+struct FailingWriter;
+
+impl Write for FailingWriter {
+    fn write(&mut self, _bytes: &[u8]) -> io::Result<usize> {
+        Err(io::Error::from(ErrorKind::TimedOut))
+    }
+
+    fn flush(&mut self) -> io::Result<()> {
+        Ok(())
+    }
+}
+
+/// Runs the lines of the reader: how that ends, but for want of memory.
+fn ended<R: Read, W: Write>(
+    alloc: Global,
+    silo: &mut TestedSilo,
+    reader: &mut R,
+    writer: &mut W,
+) -> Result<Result<u64, LineFault>, Fail> {
+    let mut lines = LineReader::new(alloc)?;
+    let mut calls = WriterCalls::none();
+    match run_lines(alloc, &mut lines, reader, &mut calls, writer, silo) {
+        Err(LineFault::Memory) => Err(Fail::from(AllocError)),
+        end => Ok(end),
+    }
+}
+
+/// Whether reading fails behind the first row's last LF, and what the row tells was written whole.
+fn is_written(alloc: Global, silo: &mut TestedSilo) -> Result<bool, Fail> {
+    let row = first_call();
+    let mut reader = FailingReader {
+        rest: row.lines.as_bytes(),
+    };
+    let mut written: Vec<u8> = Vec::with_capacity(alloc, row.told.len())?;
+    let end = ended(alloc, silo, &mut reader, &mut written)?;
+    Ok(matches!(end, Err(LineFault::Read)) && written.as_slice() == row.told.as_bytes())
+}
+
+/// The same of a new silo.
+fn is_written_anew(alloc: Global) -> Result<bool, Fail> {
+    let mut silo = new_silo(alloc)?;
+    let written = is_written(alloc, &mut silo);
+    drop(silo);
+    written
+}
+
+#[test]
+fn what_was_read_is_answered_before_reading_fails(rt: HostRuntime) -> Result<(), Fail> {
+    assert!(rt; is_written_anew(rt.alloc())?);
+    Ok(())
+}
+
+/// Whether the silo took as many steps, and the last of them ended a turn.
+fn has_ended_last(silo: &TestedSilo, count: usize) -> bool {
+    let taken = journal(silo);
+    taken.len() == count && matches!(taken.last(), Some(Step::End { .. }))
+}
+
+/// Whether writing the first row's only reply fails, and the silo took the step that was answered.
+fn is_taken(alloc: Global, silo: &mut TestedSilo) -> Result<bool, Fail> {
+    let row = first_call();
+    let mut reader = row.lines.as_bytes();
+    let end = ended(alloc, silo, &mut reader, &mut FailingWriter)?;
+    Ok(matches!(end, Err(LineFault::Write)) && has_ended_last(silo, 5))
+}
+
+/// The same of a new silo.
+fn is_taken_anew(alloc: Global) -> Result<bool, Fail> {
+    let mut silo = new_silo(alloc)?;
+    let taken = is_taken(alloc, &mut silo);
+    drop(silo);
+    taken
+}
+
+#[test]
+fn a_step_whose_answer_is_not_written_was_taken(rt: HostRuntime) -> Result<(), Fail> {
+    assert!(rt; is_taken_anew(rt.alloc())?);
+    Ok(())
+}

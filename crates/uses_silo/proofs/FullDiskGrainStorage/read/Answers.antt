@@ -1,7 +1,0 @@
-use Rattle.std.proofs.Common.{sym, refl}
-use Rattle.std.specs.FinMap.{get-empty}
-use Rattle.grain_id.specs.Names.{grain_cmp}
-use Rattle.uses_silo.proofs.FullDiskGrainStorage.read.Goals as goal
-
-pub returns : goal.returns
-returns c = record { answers = (sym (get-empty grain_cmp c.args.arg3.now), refl, refl) }
