@@ -15,9 +15,9 @@ from .lines import ReaderFailed, WriterFailed, read_line, run_lines
 from .machine import Limits
 from .names import read_caller, read_grain
 from .program import DEFAULT_AGE, run_program, tenants_of
-from .rows import FIRST_CALL, LANES, ROWS, Row
+from .rows import FIRST_CALL, LANES, OVERWRITTEN, ROWS, Row
 from .serve import Lane, are_distinct, lanes_of, serve
-from .short_lines import A, BLUE, RED, at, begin, call, no, ok, run, save, text, up
+from .short_lines import A, BLUE, NOT_NOW, RED, at, begin, call, no, ok, run, save, text, up
 from .silo import DONE, FAILED, Setup, Silo
 from .steps import End, Load, Poke, Step, Tick
 from .storage import CLEARED, LAST_VERSION, Row as StoredRow
@@ -154,6 +154,27 @@ def each_storage_call_fails_once() -> bool:
                for number, out in FAILING.items())
 
 
+HAS_CHANGED = no(4, 54, f"stored state of {A} has changed")
+# a load, a save, a poke, a save that is stale, and a load: what is told if one of them fails, and the row's version then
+FAILING_WITH_A_POKE = {
+    1: (no(1, 53, "storage failed") + NOT_NOW * 4 + ok(3, "1") + NOT_NOW * 3, 1),
+    2: (ok(1, 3) + no(2, 53, "storage failed") + ok(3, "1") + HAS_CHANGED + ok(5, 10), 1),
+    3: (ok(1, 3) + ok(2, "1") + no(3, 53, "storage failed") + ok(4, "2") + NOT_NOW * 2 + ok(5, 3), 2),
+    4: (ok(1, 3) + ok(2, "1") + ok(3, "2") + no(4, 53, "storage failed") + NOT_NOW * 2 + ok(5, 3), 2),
+    5: (ok(1, 3) + ok(2, "1") + ok(3, "2") + HAS_CHANGED + no(5, 53, "storage failed") + NOT_NOW * 2, 2),
+    6: (ok(1, 3) + ok(2, "1") + ok(3, "2") + HAS_CHANGED + ok(5, 10), 2),
+}
+
+
+def a_poke_is_one_storage_call() -> bool:
+    """A row is loaded, saved, poked, saved in vain and loaded, and one of these calls fails; the sixth isn't made."""
+    def holds(number: int, out: list, version: int) -> bool:
+        silo = Silo(Setup(ONE_TENANT, failing=(number,)))
+        return (written(silo, OVERWRITTEN) == out and silo.fuse.failures == (number < 6)
+                and silo.rows()[0][1].version == version)
+    return all(holds(number, *told) for number, told in FAILING_WITH_A_POKE.items())
+
+
 def a_poke_whose_storage_fails() -> bool:
     """The poke is refused with 53 and changes no row; one that is refused before makes no storage call."""
     silo = Silo(Setup(ONE_TENANT, failing=(1,)))
@@ -267,7 +288,8 @@ CALL_ROWS = [
     spelling_of_a_message, names_of_a_map_ascend, spelling_of_states, no_message_within_a_message,
     a_count_above_what_is_there, depth_of_a_message, length_of_a_message, texts_are_utf_8, versions_are_spent,
     a_stale_row_comes_before_spent_versions, an_odd_state_is_kept_by_what_keeps_the_state,
-    a_load_whose_storage_fails, each_storage_call_fails_once, a_poke_whose_storage_fails, a_cleared_row_is_not_null,
-    a_reader_that_fails, a_writer_that_fails, a_lane_has_its_own_steps, any_order_answers_the_lanes_alike,
-    two_hundred_calls_of_two_clients, every_journal_agrees, laws_hold_after_each_step_of_each_row,
+    a_load_whose_storage_fails, each_storage_call_fails_once, a_poke_is_one_storage_call, a_poke_whose_storage_fails,
+    a_cleared_row_is_not_null, a_reader_that_fails, a_writer_that_fails, a_lane_has_its_own_steps,
+    any_order_answers_the_lanes_alike, two_hundred_calls_of_two_clients, every_journal_agrees,
+    laws_hold_after_each_step_of_each_row,
 ]

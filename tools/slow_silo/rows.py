@@ -74,10 +74,12 @@ COUNTERS = [
 
 # ---- storage
 
+OVERWRITTEN = (FIRST_CALL + up(A) + run(A, 1) + call(2, A, "save") + save(A, 2) + poke(3, A, 10)
+               + call(4, A, "save") + call(5, A, "get") + save(A, 3) + up(A) + run(A, 4))
+
 STORAGE = [
     Row("a row that another wrote ends the activation, and what waits is answered from the row", ["steps", "red:2:4"],
-        FIRST_CALL + up(A) + run(A, 1) + call(2, A, "save") + save(A, 2) + poke(3, A, 10)
-        + call(4, A, "save") + call(5, A, "get") + save(A, 3) + up(A) + run(A, 4),
+        OVERWRITTEN,
         ok(1, 3) + ok(2, "1") + ok(3, "2") + no(4, 54, f"stored state of {A} has changed") + ok(5, 10)),
     Row("a row that was cleared keeps its version", ["steps", "red:2:4"],
         call(1, A, "save") + up(A) + save(A, 1) + call(2, A, "clear") + save(A, 2) + call(3, A, "save") + save(A, 3),
