@@ -1,73 +1,36 @@
 -- In a paced journal each client is answered in the order in which it asked.
 use Rattle.std.proofs.Common.{◌≡◌, ℕ, ◌+◌, ◌≤◌, Bool, true, false, cond, List, [], ◌∷◌, ◌++◌, Option, Some, None, unwrap_or, refl, ap, sym, ◌∙◌, subst, arith, true≢false}
-use Rattle.std.specs.Prelude.{nat_le, filter, sum_by, option_map, if◌then◌else◌}
+use Rattle.std.specs.Prelude.{filter, sum_by, option_map}
 use Rattle.std.proofs.lemmas.List.Sums.{sum_by-cons, sum_by-append}
 use Rattle.std.proofs.lemmas.List.Elements.{filter-append}
 use Rattle.std.proofs.lemmas.List.{append-nil, append_assoc}
 use Rattle.std.proofs.lemmas.Grind.{flat_map-append}
-use Rattle.std.proofs.lemmas.Option.{same_Some, none-some}
 use Rattle.std.proofs.lemmas.Bool.{and_parts, not-true}
-use Rattle.grain_id.specs.Names.{Grain, Client, client_eq, same_text}
+use Rattle.grain_id.specs.Names.{Client, client_eq, same_text}
 use Rattle.grain_id.proofs.Order.{client_eq_decides, same_text_decides}
-use Rattle.silo_event.specs.Owner.{owner_of, tenant_of}
+use Rattle.silo_event.specs.Owner.{tenant_of}
 use Rattle.silo_event.specs.declared.reply.Party.{Party}
 use Rattle.silo_event.specs.declared.reply.Party.TheVariants as party
 use Rattle.silo_event.specs.declared.reply.Reply.{Reply}
 use Rattle.silo_event.specs.declared.step.Step.{Step}
-use Rattle.silo_event.specs.declared.step.Step.TheVariants.{Tick, Sweep}
 use Rattle.grain_kinds.specs.Logic.{Logic}
 use Rattle.grain_kinds.specs.Laws.{ReadersAskNothing}
 use Rattle.silo_model.specs.Machine.{Machine}
-use Rattle.silo_model.specs.Effect.{Effect, context_at, applied}
-use Rattle.silo_model.specs.Step.{grain_of, effect_of, swept, shared_step, step_by, machine_step}
+use Rattle.silo_model.specs.Step.{machine_step}
 use Rattle.silo_model.specs.Whole.{Whole, is_to, shown_to}
 use Rattle.silo_model.specs.Run.{machine_run, concerns, restricted_to}
 use Rattle.silo_model.specs.Opening.{Setup, start_of}
 use Rattle.silo_model.proofs.Runs.{machine_after}
 use Rattle.silo_model.proofs.Fair.{pend}
 use Rattle.silo_model.proofs.Moves.{sent}
-use Rattle.silo_model.proofs.StepMoves.{IsFairMachine, machine_moves}
-use Rattle.silo_model.proofs.FairRuns.{start_fair, start_balance, run_fair}
+use Rattle.silo_model.proofs.StepMoves.{IsFairMachine, MachineMoves, machine_moves}
+use Rattle.silo_model.proofs.FairRuns.{asks_always, start_fair, start_balance, run_fair}
 use Rattle.silo_model.specs.Pending.{has_pending}
 use Rattle.lane_model.specs.Asking.{asking_of, asker_of, id_asked, id_of, ids_asked, ids_told}
 use Rattle.lane_model.specs.Pacing.{machine_of, may_ask, paced_from, is_paced, AnsweredInOrder}
-use Rattle.lane_model.proofs.Askers.{weigh, weigh_quiet, asked_weight, told_weight, none_pending, no_number, is_front, apart_asks_nothing, asks_always}
+use Rattle.lane_model.proofs.Askers.{weigh, weigh_quiet, asked_weight, told_weight, none_pending, no_number, is_front, apart_asks_nothing}
+use Rattle.lane_model.proofs.Filtered.{flat_map-filter}
 use Rattle.lane_model.proofs.PacedGrowth.{one_on, part_is_run}
-
--- ---- a step adds its replies at the end
-
-pub record AddsReplies (m new : Machine) : Type 0 where
-  pub added : List Reply
-  pub replies : new.replies ≡ m.replies ++ added
-
-adds_none : (m new : Machine) → new.replies ≡ m.replies → AddsReplies m new
-adds_none m new same = record { added = []; replies = same ∙ sym (append-nil m.replies) }
-
-applied_adds : (m : Machine) (grain : Option Grain) (e : Effect) → AddsReplies m (applied m grain e)
-unfolding applied
-applied_adds m grain e = record { added = e.replies; replies = refl }
-
-tick_adds : (m new : Machine) (now : ℕ) (b : Bool) → (if b then Some (record m { clock = now }) else None) ≡ Some new → AddsReplies m new
-tick_adds m new now true h = adds_none m new (ap (λ (x : Machine). x.replies) (sym (same_Some (record m { clock = now }) new h)))
-tick_adds m new now false h = absurd (none-some new h)
-
-shared_adds : (m new : Machine) (s : Step) → shared_step m s ≡ Some new → AddsReplies m new
-shared_adds m new (Tick now) h = tick_adds m new now (nat_le m.clock now) h
-shared_adds m new Sweep h = adds_none m new (ap (λ (x : Machine). x.replies) (sym (same_Some (swept m) new h)))
-shared_adds m new _ h = absurd (none-some new h)
-
-module _ (logic : Logic) (m new : Machine) (s : Step) where
-  adds_by_effect : (grain : Option Grain) (r : Option Effect) → option_map (applied m grain) r ≡ Some new → AddsReplies m new
-  adds_by_effect grain None h = absurd (none-some new h)
-  adds_by_effect grain (Some e) h = subst (AddsReplies m) (same_Some (applied m grain e) new h) (applied_adds m grain e)
-
-  adds_by_owner : (o : Option (List ℕ)) → step_by logic m s o ≡ Some new → AddsReplies m new
-  adds_by_owner None h = shared_adds m new s h
-  adds_by_owner (Some owner) h = adds_by_effect (grain_of m.account s) (effect_of logic (context_at m (grain_of m.account s)) s) h
-
-  pub step_adds : machine_step logic m s ≡ Some new → AddsReplies m new
-  unfolding machine_step
-  step_adds h = adds_by_owner (owner_of s) h
 
 -- ---- what a client is still owed
 
@@ -112,20 +75,20 @@ module _ (logic : Logic) (law : ReadersAskNothing logic) (client : Client) (step
   short_then = omega (arith, short_by (asking_of s) refl, sum_by-append (λ x. 1) old.owed asks)
 
   module _ (new : Machine) (is : machine_step logic m s ≡ Some new) where
-    adds : AddsReplies m new
-    adds = step_adds logic m new s is
+    moves : MachineMoves logic m s new
+    moves = machine_moves logic law m new s fair is
 
     abbrev told : List ℕ
-    told = ids_told client adds.added
+    told = ids_told client moves.added
 
     told_grows : ids_told client new.replies ≡ ids_told client m.replies ++ told
-    told_grows = ap (ids_told client) adds.replies ∙ flat_map-append (λ (r : Reply). id_of client r.recipient) m.replies adds.added
+    told_grows = ap (ids_told client) moves.replies ∙ flat_map-append (λ (r : Reply). id_of client r.recipient) m.replies moves.added
 
     weights : (f : ℕ → ℕ) → sum_by f told + pend (sent (weigh client f)) new.entries ≡ sum_by f (old.owed ++ asks)
     weights f =
         omega (
           arith,
-          (machine_moves logic law m new s fair is).balance (weigh client f) (weigh_quiet client f),
+          moves.balance (weigh client f) (weigh_quiet client f),
           told_weight client f new.replies,
           told_weight client f m.replies,
           ap (sum_by f) told_grows,
@@ -219,13 +182,7 @@ told_apart client (party.Client caller id) apart = by_client (client_eq caller c
     by_client false same = refl
 
 pub told_shown : (client : Client) (replies : List Reply) → ids_told client (filter (is_to client.tenant) replies) ≡ ids_told client replies
-told_shown client [] = refl
-told_shown client (r ∷ replies) = by_tenant (is_to client.tenant r) refl (told_shown client replies)
-  where
-    by_tenant : (b : Bool) → is_to client.tenant r ≡ b → ids_told client (filter (is_to client.tenant) replies) ≡ ids_told client replies
-        → ids_told client (cond b (r ∷ filter (is_to client.tenant) replies) (filter (is_to client.tenant) replies)) ≡ id_of client r.recipient ++ ids_told client replies
-    by_tenant true is rest = ap (λ ids. id_of client r.recipient ++ ids) rest
-    by_tenant false is rest = rest ∙ ap (λ ids. ids ++ ids_told client replies) (sym (told_apart client r.recipient is))
+told_shown client replies = flat_map-filter (λ r. id_of client r.recipient) (is_to client.tenant) replies (λ r. told_apart client r.recipient)
 
 pub shown_replies : (tenant : List ℕ) (w : Whole) → (shown_to tenant w).replies ≡ filter (is_to tenant) w.replies
 unfolding shown_to

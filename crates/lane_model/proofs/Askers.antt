@@ -12,10 +12,8 @@ use Rattle.silo_event.specs.declared.reply.Party.{Party}
 use Rattle.silo_event.specs.declared.reply.Party.TheVariants as party
 use Rattle.silo_event.specs.declared.reply.Reply.{Reply}
 use Rattle.silo_event.specs.declared.step.Step.{Step}
-use Rattle.silo_event.specs.declared.step.Step.TheVariants.{Refuse, Call, Poke, Status}
-use Rattle.grain_kinds.specs.Logic.{Logic}
+use Rattle.silo_event.specs.declared.step.Step.TheVariants.{Refuse, Call, Poke, Status, Sweep}
 use Rattle.silo_model.specs.Machine.{Machine, Request}
-use Rattle.silo_model.specs.Step.{effect_of, machine_step}
 use Rattle.silo_model.specs.Run.{concerns, concerns_by}
 use Rattle.silo_model.proofs.Counts.{sum_flat}
 use Rattle.silo_model.proofs.Fair.{pend, one_if}
@@ -34,10 +32,7 @@ pub weigh_quiet : (client : Client) (f : ℕ → ℕ) → Quiet (weigh client f)
 weigh_quiet client f g = refl
 
 pub asked_weight : (client : Client) (f : ℕ → ℕ) (s : Step) → asked_by (weigh client f) s ≡ sum_by f (id_asked client (asking_of s))
-asked_weight client f (Refuse caller id code) = refl
-asked_weight client f (Call caller id grain message) = refl
-asked_weight client f (Poke failed caller id grain state) = refl
-asked_weight client f (Status caller id) = refl
+asked_weight client f Sweep = refl
 asked_weight client f _ = refl
 
 pub told_weight : (client : Client) (f : ℕ → ℕ) (replies : List Reply) → replied (weigh client f) replies ≡ sum_by f (ids_told client replies)
@@ -90,15 +85,6 @@ asks_own (Call c n grain message) caller id is = ap (λ (a : Client × ℕ). Som
 asks_own (Poke failed c n grain state) caller id is = ap (λ (a : Client × ℕ). Some a.0.tenant) (same_Some _ _ is)
 asks_own (Status c n) caller id is = ap (λ (a : Client × ℕ). Some a.0.tenant) (same_Some _ _ is)
 asks_own _ caller id is = absurd (none-some (caller, id) is)
-
--- what clients ask is always possible
-pub asks_always : (logic : Logic) (m : Machine) (s : Step) → machine_step logic m s ≡ None → asking_of s ≡ None
-unfolding machine_step effect_of
-asks_always logic m (Refuse caller id code) e = absurd (none-some _ (sym e))
-asks_always logic m (Call caller id grain message) e = absurd (none-some _ (sym e))
-asks_always logic m (Poke failed caller id grain state) e = absurd (none-some _ (sym e))
-asks_always logic m (Status caller id) e = absurd (none-some _ (sym e))
-asks_always logic m _ e = refl
 
 -- a step that doesn't concern its tenant isn't the client's
 pub apart_asks_nothing : (client : Client) (s : Step) → concerns client.tenant s ≡ false → id_asked client (asking_of s) ≡ []

@@ -90,13 +90,6 @@ other_than P g h among none some listed = by_same (grain_eq g h) refl listed
     by_same true is e = absurd (true≢false (sym some ∙ ap P (sym ((grain_eq_decides g h).0 is)) ∙ none))
     by_same false is e = e
 
-pub entry_left_out : (logic : Logic) (w : Whole) (g : Grain) (entries senders : List Grain) → work_on logic g (map.get w.entries g) ≡ None → Covers logic w (record { entries = g ∷ entries; senders = senders })
-    → Covers logic w (record { entries = entries; senders = senders })
-entry_left_out logic w g entries senders none covers = record {
-  entries = λ h some. other_than (λ x. is_some (work_on logic x (map.get w.entries x))) g h (is_among entries h) (ap is_some none) some (covers.entries h some);
-  senders = covers.senders;
-}
-
 pub sender_left_out : (logic : Logic) (w : Whole) (g : Grain) (entries senders : List Grain) → delivery_of g (map.get w.accounts g.tenant) ≡ None → Covers logic w (record { entries = entries; senders = g ∷ senders })
     → Covers logic w (record { entries = entries; senders = senders })
 sender_left_out logic w g entries senders none covers = record {

@@ -1,9 +1,9 @@
 -- What waits or is open, by counts.
-use Rattle.std.proofs.Common.{◌≡◌, ℕ, ◌+◌, ◌≤◌, Bool, true, false, cond, List, [], ◌∷◌, ◌++◌, length, refl, ap, sym, ◌∙◌, subst, arith, true≢false}
+use Rattle.std.proofs.Common.{◌≡◌, ℕ, ◌+◌, ◌≤◌, Bool, true, false, cond, List, [], ◌∷◌, length, refl, ap, sym, ◌∙◌, subst, arith, true≢false}
 use Rattle.std.specs.Prelude.{◌||◌, sum_by}
 use Rattle.std.specs.List.{list_any}
 use Rattle.std.proofs.lemmas.List.Sums.{sum_by-cons}
-use Rattle.grain_id.specs.Names.{Client, Grain}
+use Rattle.grain_id.specs.Names.{Client}
 use Rattle.silo_event.specs.declared.reply.Party.{Party}
 use Rattle.silo_event.specs.declared.reply.Party.TheVariants as party
 use Rattle.silo_event.specs.declared.step.Step.{Step}
@@ -23,6 +23,7 @@ use Rattle.silo_model.specs.Pending.{is_of_client}
 use Rattle.lane_model.specs.Asking.{asking_of, id_asked, ids_asked, ids_told}
 use Rattle.lane_model.specs.Counting.{PendingByCounts}
 use Rattle.lane_model.proofs.Askers.{weigh, weigh_quiet, asked_weight, told_weight, none_pending, apart_asks_nothing}
+use Rattle.lane_model.proofs.Filtered.{flat_map-filter}
 use Rattle.lane_model.proofs.PacedGrowth.{part_is_run}
 use Rattle.lane_model.proofs.AnswerOrder.{told_shown, shown_replies}
 
@@ -43,13 +44,7 @@ light_none client (q ∷ queue) none = by_client (is_of_client client q.sender) 
 
 -- the client's steps all concern its tenant
 ids_struck : (client : Client) (steps : List Step) → ids_asked client (restricted_to client.tenant steps) ≡ ids_asked client steps
-ids_struck client [] = refl
-ids_struck client (s ∷ steps) = by_concern (concerns client.tenant s) refl (ids_struck client steps)
-  where
-    by_concern : (b : Bool) → concerns client.tenant s ≡ b → ids_asked client (restricted_to client.tenant steps) ≡ ids_asked client steps
-        → ids_asked client (cond b (s ∷ restricted_to client.tenant steps) (restricted_to client.tenant steps)) ≡ id_asked client (asking_of s) ++ ids_asked client steps
-    by_concern true is rest = ap (λ ids. id_asked client (asking_of s) ++ ids) rest
-    by_concern false is rest = rest ∙ ap (λ ids. ids ++ ids_asked client steps) (sym (apart_asks_nothing client s is))
+ids_struck client steps = flat_map-filter (λ s. id_asked client (asking_of s)) (concerns client.tenant) steps (apart_asks_nothing client)
 
 module _ (logic : Logic) (law : ReadersAskNothing logic) (setup : Setup) (journal : List Step) (w : Whole) (client : Client) (leads : LeadsTo logic setup journal w) where
   abbrev one : Party → ℕ

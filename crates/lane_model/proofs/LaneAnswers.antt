@@ -1,8 +1,8 @@
 -- What clients are told where their lanes have been served, and what a paced journal says of each of its steps.
-use Rattle.std.proofs.Common.{◌≡◌, Bool, true, false, cond, List, [], ◌∷◌, ◌++◌, length, Option, Some, None, refl, ap, sym, ◌∙◌, subst, arith, true≢false}
+use Rattle.std.proofs.Common.{◌≡◌, true, false, cond, List, [], ◌∷◌, ◌++◌, length, Option, Some, None, refl, ap, sym, ◌∙◌, subst, true≢false}
 use Rattle.std.specs.Prelude.{not, map as map_list}
 use Rattle.std.specs.List.{list_any}
-use Rattle.std.proofs.lemmas.List.{append-nil, length-append, length-map}
+use Rattle.std.proofs.lemmas.List.{append-nil, length-map}
 use Rattle.std.proofs.lemmas.Bool.{and_parts, and_from, not-true}
 use Rattle.grain_id.specs.Names.{Client}
 use Rattle.silo_event.specs.Failed.{as_failed}
@@ -10,7 +10,7 @@ use Rattle.silo_event.specs.declared.reply.Party.{Party}
 use Rattle.silo_event.specs.declared.reply.Party.TheVariants as party
 use Rattle.silo_event.specs.declared.reply.Reply.{Reply}
 use Rattle.silo_event.specs.declared.step.Step.{Step}
-use Rattle.silo_event.specs.declared.step.Step.TheVariants.{Refuse, Call, Poke, Status}
+use Rattle.silo_event.specs.declared.step.Step.TheVariants.{Refuse, Call, Poke, Status, Sweep}
 use Rattle.grain_kinds.specs.Logic.{Logic}
 use Rattle.silo_model.specs.Machine.{Machine, Request}
 use Rattle.silo_model.specs.Opening.{Setup}
@@ -19,6 +19,7 @@ use Rattle.lane_model.specs.Asking.{asking_of, asker_of, id_asked, id_of, ids_as
 use Rattle.lane_model.specs.Pacing.{machine_of, may_ask, paced_from, PacedAtEach}
 use Rattle.lane_model.specs.Lanes.{Lane, lane_of, is_given_by, given_by, done_steps_by, done_steps_of, LaneStands}
 use Rattle.lane_model.specs.Serving.{replies_to, LanesAnswered}
+use Rattle.lane_model.proofs.Filtered.{flat_map-filter, length-filter_each}
 use Rattle.lane_model.proofs.PacedGrowth.{one_on}
 use Rattle.lane_model.proofs.AnswerOrder.{answered_in_order}
 
@@ -26,10 +27,7 @@ use Rattle.lane_model.proofs.AnswerOrder.{answered_in_order}
 
 -- whether the storage failed is left aside
 pub asking_failed : (s : Step) → asking_of (as_failed s) ≡ asking_of s
-asking_failed (Refuse caller id code) = refl
-asking_failed (Call caller id grain message) = refl
-asking_failed (Poke failed caller id grain state) = refl
-asking_failed (Status caller id) = refl
+asking_failed Sweep = refl
 asking_failed _ = refl
 
 ids_failed : (client : Client) (steps : List Step) → ids_asked client (map_list as_failed steps) ≡ ids_asked client steps
@@ -45,13 +43,7 @@ apart_lane client (Status caller id) apart = ap (λ b. cond b (id ∷ []) []) ap
 apart_lane client _ apart = refl
 
 ids_given : (client : Client) (steps : List Step) → ids_asked client (given_by (Some client) steps) ≡ ids_asked client steps
-ids_given client [] = refl
-ids_given client (s ∷ steps) = by_lane (is_given_by (Some client) (lane_of s)) refl (ids_given client steps)
-  where
-    by_lane : (b : Bool) → is_given_by (Some client) (lane_of s) ≡ b → ids_asked client (given_by (Some client) steps) ≡ ids_asked client steps
-        → ids_asked client (cond b (s ∷ given_by (Some client) steps) (given_by (Some client) steps)) ≡ id_asked client (asking_of s) ++ ids_asked client steps
-    by_lane true is rest = ap (λ ids. id_asked client (asking_of s) ++ ids) rest
-    by_lane false is rest = rest ∙ ap (λ ids. ids ++ ids_asked client steps) (sym (apart_lane client s is))
+ids_given client steps = flat_map-filter (λ s. id_asked client (asking_of s)) (λ s. is_given_by (Some client) (lane_of s)) steps (apart_lane client)
 
 -- the client's numbers in the journal are those of its lane
 ids_in : (client : Client) (lane : Lane) (journal : List Step) → lane.from ≡ Some client → LaneStands lane journal → ids_asked client journal ≡ ids_asked client lane.steps
@@ -70,13 +62,8 @@ apart_party client (party.Client caller id) apart = ap (λ b. cond b (id ∷ [])
 apart_party client (party.Grain grain) apart = refl
 
 ids_replied : (client : Client) (replies : List Reply) → ids_told client (replies_to (Some client) replies) ≡ ids_told client replies
-ids_replied client [] = refl
-ids_replied client (r ∷ replies) = by_party (is_of_client client r.recipient) refl (ids_replied client replies)
-  where
-    by_party : (b : Bool) → is_of_client client r.recipient ≡ b → ids_told client (replies_to (Some client) replies) ≡ ids_told client replies
-        → ids_told client (cond b (r ∷ replies_to (Some client) replies) (replies_to (Some client) replies)) ≡ id_of client r.recipient ++ ids_told client replies
-    by_party true is rest = ap (λ ids. id_of client r.recipient ++ ids) rest
-    by_party false is rest = rest ∙ ap (λ ids. ids ++ ids_told client replies) (sym (apart_party client r.recipient is))
+ids_replied client replies =
+    flat_map-filter (λ r. id_of client r.recipient) (λ r. is_of_client client r.recipient) replies (λ r. apart_party client r.recipient)
 
 -- ---- what is left as quiet has nothing of a client
 
@@ -93,26 +80,15 @@ one_asked client (Status caller id) own = ap (λ b. length (cond b (id ∷ []) [
 one_asked client _ own = absurd (true≢false (sym own))
 
 one_each_asked : (client : Client) (steps : List Step) → length (ids_asked client (given_by (Some client) steps)) ≡ length (given_by (Some client) steps)
-one_each_asked client [] = refl
-one_each_asked client (s ∷ steps) = by_lane (is_given_by (Some client) (lane_of s)) refl (one_each_asked client steps)
-  where
-    by_lane : (b : Bool) → is_given_by (Some client) (lane_of s) ≡ b → length (ids_asked client (given_by (Some client) steps)) ≡ length (given_by (Some client) steps)
-        → length (ids_asked client (cond b (s ∷ given_by (Some client) steps) (given_by (Some client) steps))) ≡ length (cond b (s ∷ given_by (Some client) steps) (given_by (Some client) steps))
-    by_lane true own rest = omega (arith, length-append (id_asked client (asking_of s)) (ids_asked client (given_by (Some client) steps)), one_asked client s own, rest)
-    by_lane false own rest = rest
+one_each_asked client steps = length-filter_each (λ s. id_asked client (asking_of s)) (λ s. is_given_by (Some client) (lane_of s)) steps (one_asked client)
 
 one_told : (client : Client) (p : Party) → is_of_client client p ≡ true → length (id_of client p) ≡ 1
 one_told client (party.Client caller id) own = ap (λ b. length (cond b (id ∷ []) [])) own
 one_told client (party.Grain grain) own = absurd (true≢false (sym own))
 
 one_each_told : (client : Client) (replies : List Reply) → length (ids_told client (replies_to (Some client) replies)) ≡ length (replies_to (Some client) replies)
-one_each_told client [] = refl
-one_each_told client (r ∷ replies) = by_party (is_of_client client r.recipient) refl (one_each_told client replies)
-  where
-    by_party : (b : Bool) → is_of_client client r.recipient ≡ b → length (ids_told client (replies_to (Some client) replies)) ≡ length (replies_to (Some client) replies)
-        → length (ids_told client (cond b (r ∷ replies_to (Some client) replies) (replies_to (Some client) replies))) ≡ length (cond b (r ∷ replies_to (Some client) replies) (replies_to (Some client) replies))
-    by_party true own rest = omega (arith, length-append (id_of client r.recipient) (ids_told client (replies_to (Some client) replies)), one_told client r.recipient own, rest)
-    by_party false own rest = rest
+one_each_told client replies =
+    length-filter_each (λ r. id_of client r.recipient) (λ r. is_of_client client r.recipient) replies (λ r. one_told client r.recipient)
 
 -- the client asks in the journal as often as its lane has steps
 asks_all : (client : Client) (lane : Lane) (journal : List Step) → lane.from ≡ Some client → LaneStands lane journal → length (ids_asked client journal) ≡ length lane.steps

@@ -1,3 +1,4 @@
+pub mod Filtered
 pub mod Askers
 pub mod PacedGrowth
 pub mod AnswerOrder

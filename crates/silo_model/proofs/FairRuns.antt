@@ -8,9 +8,11 @@ use Rattle.std.proofs.lemmas.List.Sums.{sum_by-cons, sum_by-append}
 use Rattle.std.proofs.lemmas.Map.Keys.{IsDistinct-cons}
 use Rattle.std.proofs.lemmas.Option.{none-some}
 use Rattle.grain_id.specs.Names.{Client, grain_cmp}
+use Rattle.silo_event.specs.Asker.{asking_of}
 use Rattle.silo_event.specs.declared.reply.Party.{Party}
+use Rattle.silo_event.specs.declared.reply.Party.TheVariants as party
 use Rattle.silo_event.specs.declared.step.Step.{Step}
-use Rattle.silo_event.specs.declared.step.Step.TheVariants.{Refuse, Call, Poke, Status}
+use Rattle.silo_event.specs.declared.step.Step.TheVariants.{Refuse, Call, Poke, Status, Deliver, Sweep}
 use Rattle.grain_kinds.specs.Logic.{Logic}
 use Rattle.grain_kinds.specs.Laws.{ReadersAskNothing}
 use Rattle.silo_model.specs.Machine.{Machine, Entry, Request}
@@ -19,8 +21,9 @@ use Rattle.silo_model.specs.Run.{machine_run, restricted_to}
 use Rattle.silo_model.specs.Opening.{Setup, start_of}
 use Rattle.silo_model.specs.Settled.{asks, is_client_with, pending_at, all_pending, Settled, RunsSettle}
 use Rattle.silo_model.proofs.Opening.{replay_is_run}
+use Rattle.silo_model.proofs.Contexts.{not_true}
 use Rattle.silo_model.proofs.Runs.{machine_after}
-use Rattle.silo_model.proofs.Counts.{total-none, sum_alike, sum_flat, sum_map}
+use Rattle.silo_model.proofs.Counts.{at, total-none, sum_alike, sum_flat, sum_map}
 use Rattle.silo_model.proofs.Fair.{held, pend, one_if, numbered}
 use Rattle.silo_model.proofs.Moves.{replied, sent, Quiet, asked_by}
 use Rattle.silo_model.proofs.StepMoves.{IsFairMachine, machine_moves}
@@ -45,13 +48,18 @@ start_balance setup t w = omega (arith, no_entry_pends (sent w))
 -- ---- runs
 
 -- what clients ask is always possible
-asks_nothing : (logic : Logic) (m : Machine) (w : Party → ℕ) (s : Step) → machine_step logic m s ≡ None → asked_by w s ≡ 0
+pub asks_always : (logic : Logic) (m : Machine) (s : Step) → machine_step logic m s ≡ None → asking_of s ≡ None
 unfolding machine_step effect_of
-asks_nothing logic m w (Refuse caller id code) e = absurd (none-some _ (sym e))
-asks_nothing logic m w (Call caller id grain message) e = absurd (none-some _ (sym e))
-asks_nothing logic m w (Poke failed caller id grain state) e = absurd (none-some _ (sym e))
-asks_nothing logic m w (Status caller id) e = absurd (none-some _ (sym e))
-asks_nothing logic m w _ e = refl
+asks_always logic m (Refuse caller id code) e = absurd (none-some _ (sym e))
+asks_always logic m (Call caller id grain message) e = absurd (none-some _ (sym e))
+asks_always logic m (Poke failed caller id grain state) e = absurd (none-some _ (sym e))
+asks_always logic m (Status caller id) e = absurd (none-some _ (sym e))
+asks_always logic m _ e = refl
+
+-- what is asked weighs as its client does
+asked_client : (w : Party → ℕ) → Quiet w → (s : Step) → asked_by w s ≡ at (λ asking. w (party.Client asking.0 asking.1)) (asking_of s)
+asked_client w quiet (Deliver grain) = quiet grain
+asked_client w quiet _ = refl
 
 module _ (logic : Logic) (law : ReadersAskNothing logic) where
   after_fair : (m : Machine) (s : Step) (r : Option Machine) → machine_step logic m s ≡ r → IsFairMachine logic m → IsFairMachine logic (unwrap_or r m)
@@ -60,7 +68,8 @@ module _ (logic : Logic) (law : ReadersAskNothing logic) where
 
   after_balance : (w : Party → ℕ) → Quiet w → (m : Machine) (s : Step) (r : Option Machine) → machine_step logic m s ≡ r → IsFairMachine logic m
       → replied w (unwrap_or r m).replies + pend (sent w) (unwrap_or r m).entries ≡ replied w m.replies + pend (sent w) m.entries + asked_by w s
-  after_balance w quiet m s None is fair = omega (arith, asks_nothing logic m w s is)
+  after_balance w quiet m s None is fair =
+      omega (arith, asked_client w quiet s, ap (at (λ asking. w (party.Client asking.0 asking.1))) (asks_always logic m s is))
   after_balance w quiet m s (Some new) is fair = (machine_moves logic law m new s fair is).balance w quiet
 
   pub run_fair : (m : Machine) (steps : List Step) → IsFairMachine logic m → IsFairMachine logic (machine_run logic m steps)
@@ -79,24 +88,18 @@ abbrev weigh_client : Client → ℕ → Party → ℕ
 weigh_client client id p = one_if (is_client_with client id p)
 
 asked_as : (client : Client) (id : ℕ) (s : Step) → asked_by (weigh_client client id) s ≡ one_if (asks client id s)
-asked_as client id (Refuse caller n code) = refl
-asked_as client id (Call caller n grain message) = refl
-asked_as client id (Poke failed caller n grain state) = refl
-asked_as client id (Status caller n) = refl
+asked_as client id Sweep = refl
 asked_as client id _ = refl
 
 -- the weight of all that waits or is open
 pub pending_weight : (f : Request → ℕ) (m : Machine) → sum_by f (all_pending m) ≡ pend f m.entries
 pending_weight f m = sum_flat f pending_at (map.values m.entries) ∙ sum_alike (λ e. sum_by f (pending_at e)) (held f) (map.values m.entries) (λ e. sum_by-append f e.queue (map.values e.turns))
 
-nat_apart : (a b : ℕ) → (nat_eq a b ≡ true → ⊥) → nat_eq a b ≡ false
-nat_apart a b apart = elim (nat_eq a b) as (λ x. nat_eq a b ≡ x → x ≡ false) [ true ↦ λ e. absurd (apart e) | false ↦ λ e. refl ] refl
-
 -- no number that is in the list weighs in it
 uncounted : (x : ℕ) (xs : List ℕ) → sum_by (λ y. one_if (nat_eq y x)) xs ≡ 0 → AllByRecursion (λ y. nat_eq x y ≡ false) xs
 uncounted x [] e = tt
 uncounted x (y ∷ ys) e = (
-  nat_apart x y (λ same. heavy (nat_eq y x) (eq-eqb y x (sym (eqb-true x y same))) (sym (sum_by-cons (λ z. one_if (nat_eq z x)) y ys) ∙ e)),
+  not_true (nat_eq x y) (λ same. heavy (nat_eq y x) (eq-eqb y x (sym (eqb-true x y same))) (sym (sum_by-cons (λ z. one_if (nat_eq z x)) y ys) ∙ e)),
   uncounted x ys (rest (one_if (nat_eq y x)) (sym (sum_by-cons (λ z. one_if (nat_eq z x)) y ys) ∙ e)),
 )
   where

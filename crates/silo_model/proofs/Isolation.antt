@@ -11,7 +11,7 @@ use Rattle.silo_event.specs.Owner.{owner_of, tenant_of}
 use Rattle.silo_event.specs.declared.reply.Reply.{Reply}
 use Rattle.silo_event.specs.declared.step.Step.{Step}
 use Rattle.grain_kinds.specs.Logic.{Logic}
-use Rattle.silo_model.specs.Machine.{Machine, Account, Entry}
+use Rattle.silo_model.specs.Machine.{Machine, Entry}
 use Rattle.silo_model.specs.Effect.{Effect, Change, keep, put, drop, context_at, applied}
 use Rattle.silo_model.specs.Step.{grain_of, effect_of, owned_step, shared_step, step_by, machine_step}
 use Rattle.silo_model.specs.Run.{concerns_by, concerns}
@@ -22,7 +22,8 @@ use Rattle.silo_model.proofs.Changes.{WhereChanged, WhereChanged-map, OfPut, OfP
 use Rattle.silo_model.proofs.Contexts.{same_text-apart, not_true, shown_account, step_by_context}
 use Rattle.silo_model.proofs.SharedSteps.{shared_shown, shared_not, shared_sound}
 use Rattle.silo_model.proofs.Sound.{IsEntryOf, IsSound}
-use Rattle.silo_model.proofs.Proper.{AllTo, IsAt, IsProper, Proper, SeesOwn, effect_proper}
+use Rattle.silo_model.proofs.EffectKinds.{role_of, owner_is, Does, effect_kind}
+use Rattle.silo_model.proofs.Proper.{AllTo, IsAt, IsProper, SeesOwn, does_proper}
 
 -- ---- replies
 
@@ -112,21 +113,14 @@ sees_own w tenant (Some g) sound e found =
     let part = in_part (is_of tenant g) (map.get w.entries g) e (sym (get-part w.entries (is_of tenant) g) ∙ found) in
     subst (λ (t : List ℕ). IsEntryOf t e) ((same_text_decides g.tenant tenant).0 part.0) (sound g e part.1)
 
-sees_tenant : (w : Whole) (tenant : List ℕ) (grain : Option Grain) → (context_at (shown_to tenant w) grain).tenant ≡ tenant
+pub did_does : (logic : Logic) (w after : Whole) (s : Step) (owner : List ℕ) (d : Did logic w s owner after)
+    → Does logic (context_at (shown_to owner w) (place_in w owner s)) s (role_of s) (place_in w owner s) d.what
 unfolding context_at shown_to
-sees_tenant w tenant grain = refl
-
-sees_account : (w : Whole) (tenant : List ℕ) (grain : Option Grain) → (context_at (shown_to tenant w) grain).account ≡ map.get w.accounts tenant
-unfolding context_at shown_to
-sees_account w tenant grain = refl
+did_does logic w after s owner d = effect_kind logic _ s d.what d.does
 
 pub did_proper : (logic : Logic) (w after : Whole) (s : Step) (owner : List ℕ) → owner_of s ≡ Some owner → IsSound w → (d : Did logic w s owner after) → IsProper owner (place_in w owner s) d.what
-did_proper logic w after s owner is sound d =
-    let place = place_in w owner s in
-    let at_account : Option Account → Option Effect → Type 0 = λ a e. Proper owner (grain_of a s) e in
-    subst (at_account (map.get w.accounts owner)) d.does
-    (subst (λ a. at_account a (effect_of logic (context_at (shown_to owner w) place) s)) (sees_account w owner place)
-    (effect_proper logic (context_at (shown_to owner w) place) s owner is (sees_tenant w owner place) (sees_own w owner place sound)))
+unfolding context_at shown_to
+did_proper logic w after s owner is sound d = does_proper logic _ s owner (owner_is s ∙ is) refl (sees_own w owner (place_in w owner s) sound) (did_does logic w after s owner d)
 
 -- the machine's step, by what it does
 pub machine_step_by : (logic : Logic) (m : Machine) (s : Step) (owner : List ℕ) (grain : Option Grain) (e : Option Effect)

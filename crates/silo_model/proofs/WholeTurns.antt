@@ -11,20 +11,20 @@ use Rattle.silo_event.specs.declared.step.Step.{Step}
 use Rattle.silo_event.specs.declared.step.Step.TheVariants.{Begin, Tick, Sweep}
 use Rattle.grain_kinds.specs.Logic.{Logic}
 use Rattle.grain_kinds.specs.Laws.{ReadersAskNothing}
-use Rattle.silo_model.specs.Machine.{Entry, Request}
+use Rattle.silo_model.specs.Machine.{Account, Entry, Request}
 use Rattle.silo_model.specs.Effect.{Effect, Change, keep, put, drop, change_option, changed_at, context_at}
 use Rattle.silo_model.specs.Idle.{is_kept, kept_entries}
 use Rattle.silo_model.specs.Step.{grain_of}
 use Rattle.silo_model.specs.Whole.{Whole, shown_to, spread, whole_swept, whole_shared_step, whole_step}
 use Rattle.silo_model.proofs.Changes.{WhereChanged, get-change_same, get-change_other}
 use Rattle.silo_model.proofs.Counts.{get-none}
-use Rattle.silo_model.proofs.Moves.{turn_in, KeepsTurns, ClosesTurn, OpensTurn, TurnsMove, SeesFair}
-use Rattle.silo_model.proofs.StepMoves.{IsFairMachine, sees_fair, effect_moves, due_is_bare}
+use Rattle.silo_model.proofs.Moves.{turn_in, KeepsTurns, ClosesTurn, OpensTurn, TurnsMove, does_moves}
+use Rattle.silo_model.proofs.StepMoves.{IsFairMachine, sees_fair, due_is_bare}
 use Rattle.silo_model.proofs.Contexts.{get-own}
 use Rattle.silo_model.proofs.SharedSteps.{get-kept}
 use Rattle.silo_model.proofs.Sound.{IsSound}
 use Rattle.silo_model.proofs.Proper.{IsAt}
-use Rattle.silo_model.proofs.Isolation.{place_in, Did, did, did_proper, shared_by}
+use Rattle.silo_model.proofs.Isolation.{place_in, Did, did, did_does, did_proper, shared_by}
 
 abbrev pub AllFair : Logic → Whole → Type 0
 AllFair logic w = (tenant : List ℕ) → IsFairMachine logic (shown_to tenant w)
@@ -37,96 +37,62 @@ seen_own : (w : Whole) (owner : List ℕ) (g : Grain) → g.tenant ≡ owner →
 unfolding context_at shown_to
 seen_own w owner g own = get-own w.entries owner g own
 
-seen_account : (w : Whole) (owner : List ℕ) (place : Option Grain) → (context_at (shown_to owner w) place).account ≡ map.get w.accounts owner
-unfolding context_at shown_to
-seen_account w owner place = refl
-
--- an entry stays, or is the one that the step's owner saw, and changes as that does
-record ChangedSeen (w : Whole) (owner : List ℕ) (place : Option Grain) (e : Effect) (h : Grain) : Type 0 where
-  place_is : place ≡ Some h
-  seen : seen_in w owner place ≡ map.get w.entries h
-  new : map.get (spread w owner place e).entries h ≡ change_option (map.get w.entries h) e.entry
-
-module _ (w : Whole) (owner : List ℕ) (e : Effect) (h : Grain) where
-  new_at : (g : Grain) → map.get (spread w owner (Some g) e).entries g ≡ change_option (map.get w.entries g) e.entry
-  unfolding spread
-  new_at g = get-change_same grain_cmp_total grain_cmp_exact w.entries g e.entry
-
-  new_past : (g : Grain) → eq_by_cmp grain_cmp h g ≡ false → map.get (spread w owner (Some g) e).entries h ≡ map.get w.entries h
-  unfolding spread
-  new_past g apart = get-change_other grain_cmp_total grain_cmp_exact w.entries g h e.entry apart
-
-  unchanged : (place : Option Grain) → e.entry ≡ keep → map.get (spread w owner place e).entries h ≡ map.get w.entries h
-  unfolding spread
-  unchanged None is = refl
-  unchanged (Some g) is = ap (λ c. map.get (changed_at w.entries (Some g) c) h) is
-
-  at_own : (g : Grain) → h ≡ g → g.tenant ≡ owner → ChangedSeen w owner (Some g) e h
-  at_own g same own = subst (λ (k : Grain). ChangedSeen w owner (Some g) e k) (sym same) (record { place_is = refl; seen = seen_own w owner g own; new = new_at g })
-
-  by_change : (g : Grain) (c : Change Entry) → e.entry ≡ c → h ≡ g → WhereChanged c (g.tenant ≡ owner) → (map.get (spread w owner (Some g) e).entries h ≡ map.get w.entries h) ⊎ ChangedSeen w owner (Some g) e h
-  by_change g keep is same own = inl (unchanged (Some g) is)
-  by_change g (put x) is same own = inr (at_own g same own)
-  by_change g drop is same own = inr (at_own g same own)
-
-  by_key : (g : Grain) (b : Bool) → eq_by_cmp grain_cmp h g ≡ b → WhereChanged e.entry (g.tenant ≡ owner) → (map.get (spread w owner (Some g) e).entries h ≡ map.get w.entries h) ⊎ ChangedSeen w owner (Some g) e h
-  by_key g true tied own = by_change g e.entry refl ((eq_by_cmp-Decides grain_cmp_total grain_cmp_exact h g).0 tied) own
-  by_key g false apart own = inl (new_past g apart)
-
-  none_placed : map.get (spread w owner None e).entries h ≡ map.get w.entries h
-  unfolding spread
-  none_placed = refl
-
-  changed_or_not : (place : Option Grain) → WhereChanged e.entry (IsAt owner place) → (map.get (spread w owner place e).entries h ≡ map.get w.entries h) ⊎ ChangedSeen w owner place e h
-  changed_or_not None own = inl none_placed
-  changed_or_not (Some g) own = by_key g (eq_by_cmp grain_cmp h g) refl own
-
 -- the turns of a grain, where its entry stays
 stays : {old new : Option Entry} → new ≡ old → KeepsTurns old new
 stays same n q open_turn = ap (λ o. turn_in o n) same ∙ open_turn
 
+-- a grain's turns stay, or the step is at the grain and they move by it
+abbrev Turned : Logic → Step → Grain → Option Entry → Option Entry → Type 0
+Turned logic s h old new = KeepsTurns old new ⊎ (((a : Option Account) × (grain_of a s ≡ Some h)) × TurnsMove logic s old new)
+
 -- ---- a step of a tenant
 
-module _ (logic : Logic) (law : ReadersAskNothing logic) (w after : Whole) (s : Step) (sound : IsSound w) (fair : AllFair logic w) (step : whole_step logic w s ≡ Some after) where
-  module _ (owner : List ℕ) (is : owner_of s ≡ Some owner) where
-    abbrev done : Did logic w s owner after
-    done = did logic w after s owner is step
+module _ (logic : Logic) (s : Step) (w : Whole) (owner : List ℕ) (e : Effect) where
+  -- the turns that the owner sees at the place move by the step
+  abbrev MovesSeen : Option Grain → Type 0
+  MovesSeen place = TurnsMove logic s (seen_in w owner place) (change_option (seen_in w owner place) e.entry)
 
-    abbrev place : Option Grain
-    place = place_in w owner s
+  turns_at : (g : Grain) → g.tenant ≡ owner → MovesSeen (Some g)
+      → TurnsMove logic s (map.get w.entries g) (map.get (spread w owner (Some g) e).entries g)
+  unfolding spread
+  turns_at g own moves =
+      subst (TurnsMove logic s (map.get w.entries g)) (sym (get-change_same grain_cmp_total grain_cmp_exact w.entries g e.entry))
+      (subst (λ o. TurnsMove logic s o (change_option o e.entry)) (seen_own w owner g own) moves)
 
-    moves : TurnsMove logic s (seen_in w owner place) (change_option (seen_in w owner place) done.what.entry)
-    moves =
-        let sight = context_at (shown_to owner w) place in
-        let seen = sees_fair logic (shown_to owner w) place (fair owner) in
-        (effect_moves logic law sight s done.what (subst (λ a. SeesFair logic (grain_of a s) sight.entry) (sym (seen_account w owner place)) seen) done.does).turns
+  module _ (h : Grain) where
+    abbrev TurnedBy : Option Grain → Type 0
+    TurnedBy place = Turned logic s h (map.get w.entries h) (map.get (spread w owner place e).entries h)
 
-    changes : (h : Grain) → (map.get after.entries h ≡ map.get w.entries h) ⊎ ChangedSeen w owner place done.what h
-    changes h = by_case (changed_or_not w owner done.what h place (did_proper logic w after s owner is sound done).entry)
+    move_there : (a : Option Account) (g : Grain) → grain_of a s ≡ Some g → h ≡ g → g.tenant ≡ owner → MovesSeen (Some g)
+        → TurnedBy (Some g)
+    move_there a g at same own moves =
+        subst (λ (k : Grain). Turned logic s k (map.get w.entries k) (map.get (spread w owner (Some g) e).entries k)) (sym same)
+        (inr ((a, at), turns_at g own moves))
+
+    by_change : (a : Option Account) (g : Grain) (c : Change Entry) → grain_of a s ≡ Some g → e.entry ≡ c → h ≡ g
+        → WhereChanged c (g.tenant ≡ owner) → MovesSeen (Some g) → TurnedBy (Some g)
+    unfolding spread
+    by_change a g keep at is same own moves = inl (stays (ap (λ c. map.get (changed_at w.entries (Some g) c) h) is))
+    by_change a g (put x) at is same own moves = move_there a g at same own moves
+    by_change a g drop at is same own moves = move_there a g at same own moves
+
+    turned_at : (a : Option Account) (place : Option Grain) → grain_of a s ≡ place → WhereChanged e.entry (IsAt owner place)
+        → MovesSeen place → TurnedBy place
+    unfolding spread
+    turned_at a None at own moves = inl (stays refl)
+    turned_at a (Some g) at own moves = by_key (eq_by_cmp grain_cmp h g) refl
       where
-        by_case : (map.get (spread w owner place done.what).entries h ≡ map.get w.entries h) ⊎ ChangedSeen w owner place done.what h → (map.get after.entries h ≡ map.get w.entries h) ⊎ ChangedSeen w owner place done.what h
-        by_case (inl same) = inl (sym (ap (λ (x : Whole). map.get x.entries h) done.leaves) ∙ same)
-        by_case (inr changed) = inr changed
+        by_key : (b : Bool) → eq_by_cmp grain_cmp h g ≡ b → TurnedBy (Some g)
+        by_key true tied = by_change a g e.entry at refl ((eq_by_cmp-Decides grain_cmp_total grain_cmp_exact h g).0 tied) own moves
+        by_key false apart = inl (stays (get-change_other grain_cmp_total grain_cmp_exact w.entries g h e.entry apart))
 
-    new_is : (h : Grain) → ChangedSeen w owner place done.what h → map.get after.entries h ≡ change_option (seen_in w owner place) done.what.entry
-    new_is h c = sym (ap (λ (x : Whole). map.get x.entries h) done.leaves) ∙ c.new ∙ ap (λ o. change_option o done.what.entry) (sym c.seen)
-
-    owned_keep : ((old new : Option Entry) → TurnsMove logic s old new → KeepsTurns old new) → (h : Grain) → KeepsTurns (map.get w.entries h) (map.get after.entries h)
-    owned_keep keeps h = by_case (changes h)
-      where
-        by_case : (map.get after.entries h ≡ map.get w.entries h) ⊎ ChangedSeen w owner place done.what h → KeepsTurns (map.get w.entries h) (map.get after.entries h)
-        by_case (inl same) = stays same
-        by_case (inr c) = λ n q open_turn. ap (λ o. turn_in o n) (new_is h c) ∙ keeps _ _ moves n q (ap (λ o. turn_in o n) c.seen ∙ open_turn)
-
-    pub owned_close : (g : Grain) (turn : ℕ) → grain_of (map.get w.accounts owner) s ≡ Some g → ((old new : Option Entry) → TurnsMove logic s old new → ClosesTurn turn old new)
-        → (h : Grain) (n : ℕ) (q : Request) → (h ≡ g → n ≢ turn) → turn_in (map.get w.entries h) n ≡ Some q → turn_in (map.get after.entries h) n ≡ Some q
-    owned_close g turn at closes h n q apart open_turn = by_case (changes h)
-      where
-        by_case : (map.get after.entries h ≡ map.get w.entries h) ⊎ ChangedSeen w owner place done.what h → turn_in (map.get after.entries h) n ≡ Some q
-        by_case (inl same) = stays same n q open_turn
-        by_case (inr c) =
-            ap (λ o. turn_in o n) (new_is h c)
-            ∙ closes _ _ moves n q (apart (same_Some h g (sym c.place_is ∙ at))) (ap (λ o. turn_in o n) c.seen ∙ open_turn)
+module _ (logic : Logic) (law : ReadersAskNothing logic) (w after : Whole) (s : Step) (sound : IsSound w) (fair : AllFair logic w)
+    (step : whole_step logic w s ≡ Some after) where
+  moves_seen : (owner : List ℕ) (d : Did logic w s owner after) → MovesSeen logic s w owner d.what (place_in w owner s)
+  moves_seen owner d =
+      let place = place_in w owner s in
+      let seen = sees_fair logic (shown_to owner w) place (fair owner) in
+      (does_moves logic law (context_at (shown_to owner w) place) s seen (did_does logic w after s owner d)).turns
 
   -- ---- a step of nobody
 
@@ -149,20 +115,37 @@ module _ (logic : Logic) (law : ReadersAskNothing logic) (w after : Whole) (s : 
 
   -- ---- every step
 
-  keep_by : ((old new : Option Entry) → TurnsMove logic s old new → KeepsTurns old new) → (o : Option (List ℕ)) → owner_of s ≡ o → (h : Grain) → KeepsTurns (map.get w.entries h) (map.get after.entries h)
-  keep_by keeps None is h = shared_keep s (sym (shared_by logic w s is) ∙ step) h
-  keep_by keeps (Some owner) is h = owned_keep owner is keeps h
+  turned : (h : Grain) (o : Option (List ℕ)) → owner_of s ≡ o → Turned logic s h (map.get w.entries h) (map.get after.entries h)
+  turned h None is = inl (shared_keep s (sym (shared_by logic w s is) ∙ step) h)
+  turned h (Some owner) is =
+      let d = did logic w after s owner is step in
+      subst (λ (x : Whole). Turned logic s h (map.get w.entries h) (map.get x.entries h)) d.leaves
+      (turned_at logic s w owner d.what h (map.get w.accounts owner) (place_in w owner s) refl
+      (did_proper logic w after s owner is sound d).entry (moves_seen owner d))
 
   -- a step that closes no turn leaves each open
   pub keeps_turns : ((old new : Option Entry) → TurnsMove logic s old new → KeepsTurns old new) → (h : Grain) → KeepsTurns (map.get w.entries h) (map.get after.entries h)
-  keeps_turns keeps h = keep_by keeps (owner_of s) refl h
+  keeps_turns keeps h = by_case (turned h (owner_of s) refl)
+    where
+      by_case : Turned logic s h (map.get w.entries h) (map.get after.entries h)
+          → KeepsTurns (map.get w.entries h) (map.get after.entries h)
+      by_case (inl same) = same
+      by_case (inr moved) = keeps _ _ moved.1
+
+  -- and one that closes a turn each other
+  pub closes_turn : (g : Grain) (turn : ℕ) → ((a : Option Account) → grain_of a s ≡ Some g)
+      → ((old new : Option Entry) → TurnsMove logic s old new → ClosesTurn turn old new)
+      → (h : Grain) (n : ℕ) (q : Request) → (h ≡ g → n ≢ turn) → turn_in (map.get w.entries h) n ≡ Some q
+      → turn_in (map.get after.entries h) n ≡ Some q
+  closes_turn g turn at closes h n q apart open_turn = by_case (turned h (owner_of s) refl)
+    where
+      by_case : Turned logic s h (map.get w.entries h) (map.get after.entries h) → turn_in (map.get after.entries h) n ≡ Some q
+      by_case (inl same) = same n q open_turn
+      by_case (inr moved) = closes _ _ moved.1 n q (apart (same_Some h g (sym moved.0.1 ∙ at moved.0.0))) open_turn
 
 -- a Begin that is done opens the turn of the first that waits
 pub begin_opens : (logic : Logic) → ReadersAskNothing logic → (w after : Whole) (g : Grain) → IsSound w → AllFair logic w → whole_step logic w (Begin g) ≡ Some after → OpensTurn logic g (map.get w.entries g) (map.get after.entries g)
 begin_opens logic law w after g sound fair step =
     let done = did logic w after (Begin g) g.tenant refl step in
-    let own = seen_own w g.tenant g refl in
-    let turns = moves logic law w after (Begin g) sound fair step g.tenant refl in
-    let new : map.get after.entries g ≡ change_option (map.get w.entries g) done.what.entry = sym (ap (λ (x : Whole). map.get x.entries g) done.leaves) ∙ new_at w g.tenant done.what g g in
-    subst (λ o. OpensTurn logic g (map.get w.entries g) o) (sym new)
-    (subst (λ o. OpensTurn logic g o (change_option o done.what.entry)) own turns)
+    subst (λ (x : Whole). OpensTurn logic g (map.get w.entries g) (map.get x.entries g)) done.leaves
+    (turns_at logic (Begin g) w g.tenant done.what g refl (moves_seen logic law w after (Begin g) sound fair step g.tenant done))

@@ -1,18 +1,23 @@
 -- What there is to do at a grain, and where there is nothing.
 use Rattle.std.proofs.Common.{◌≡◌, ℕ, Bool, true, false, cond, List, [], ◌∷◌, Option, Some, None, refl, sym, ◌∙◌, subst}
-use Rattle.std.specs.Prelude.{option_map}
+use Rattle.std.specs.Prelude.{option_map, option_and_then}
 use Rattle.std.proofs.lemmas.Option.{same_Some, none-some}
 use Rattle.std.specs.FinMap as map
 use Rattle.grain_id.specs.Names.{Grain}
 use Rattle.request_codec.specs.Tree.{Tree}
+use Rattle.silo_event.specs.Owner.{owner_of}
 use Rattle.silo_event.specs.declared.step.Step.{Step}
 use Rattle.silo_event.specs.declared.step.Step.TheVariants.{Deliver, Activate, Load, Begin}
 use Rattle.grain_kinds.specs.Logic.{Logic}
 use Rattle.silo_model.specs.Machine.{Account, Entry, Request, Send, Phase, waiting, loading, ready}
-use Rattle.silo_model.specs.Turns.{may_open}
+use Rattle.silo_model.specs.Effect.{Context, on_entry}
+use Rattle.silo_model.specs.Contexts.{context_of}
+use Rattle.silo_model.specs.Step.{grain_of, effect_of}
+use Rattle.silo_model.specs.Turns.{activated, loaded, may_open, opened, opened_if_ready}
 use Rattle.silo_model.specs.Sends.{first_from}
 use Rattle.silo_model.specs.Whole.{Whole, whole_step}
-use Rattle.silo_model.proofs.EntrySteps.{activate_absent, load_absent, begin_absent, activate_waiting, activate_ready, load_ready, load_loading, begin_idle, begin_busy, begin_first}
+use Rattle.silo_model.proofs.Contexts.{step_at_own}
+use Rattle.silo_model.proofs.EntrySteps.{activate_waiting, load_loading, begin_first}
 use Rattle.silo_model.proofs.SendSteps.{deliver_unknown, deliver_nothing, by_called}
 use Rattle.silo_model.specs.Todo.{is_work, IsTodo, begin_at, work_by, work_on, delivery_of, WorkIsDone}
 
@@ -53,27 +58,49 @@ module _ (logic : Logic) (w : Whole) (g : Grain) where
   abbrev NoneOf : Type 0
   NoneOf = (whole_step logic w (Activate g) ≡ None) × ((failed : Bool) → failed ≡ false → whole_step logic w (Load g failed) ≡ None) × (whole_step logic w (Begin g) ≡ None)
 
-  begin_none : (e : Entry) (state : Tree) (version : Option ℕ) → map.get w.entries g ≡ Some e → e.phase ≡ ready state version → (queue : List Request) → e.queue ≡ queue → begin_at logic g e queue ≡ None → whole_step logic w (Begin g) ≡ None
-  begin_none e state version found phase [] is h = begin_idle logic w g e found state version phase is
-  begin_none e state version found phase (first ∷ others) is h = by_test (may_open logic g e first) refl h
+  abbrev seen : Context
+  seen = context_of w g.tenant g
+
+  queue_none : (e : Entry) (queue : List Request) → begin_at logic g e queue ≡ None → opened logic g e queue ≡ None
+  queue_none e [] h = refl
+  queue_none e (first ∷ others) h = by_test (may_open logic g e first) h
     where
-      by_test : (b : Bool) → may_open logic g e first ≡ b → cond b (Some (Begin g)) None ≡ None → whole_step logic w (Begin g) ≡ None
-      by_test true may h = absurd (none-some (Begin g) (sym h))
-      by_test false may h = begin_busy logic w g e found state version first others phase is may
+      by_test : (b : Bool) → cond b (Some (Begin g)) None ≡ None
+          → cond b (Some (on_entry (record e { queue = others; turns = map.insert e.turns first.number first }))) None ≡ None
+      by_test true h = absurd (none-some (Begin g) (sym h))
+      by_test false h = refl
 
-  phase_none : (e : Entry) → map.get w.entries g ≡ Some e → (p : Phase) → e.phase ≡ p → work_by logic g e p ≡ None → NoneOf
-  phase_none e found waiting is h = absurd (none-some (Activate g) (sym h))
-  phase_none e found loading is h = absurd (none-some (Load g false) (sym h))
-  phase_none e found (ready state version) is h =
-      (activate_ready logic w g e found state version is, λ failed _. load_ready logic w g e found failed state version is, begin_none e state version found is e.queue refl h)
+  abbrev NoneBy : Bool → Entry → Phase → Type 0
+  NoneBy failed e p = (activated e p ≡ None) × (loaded logic seen g failed e p ≡ None) × (opened_if_ready logic g e p ≡ None)
 
-  entry_none : (found : Option Entry) → map.get w.entries g ≡ found → work_on logic g found ≡ None → NoneOf
-  entry_none None is h = (activate_absent logic w g is, λ failed _. load_absent logic w g failed is, begin_absent logic w g is)
-  entry_none (Some e) is h = phase_none e is e.phase refl h
+  phase_none : (failed : Bool) (e : Entry) (p : Phase) → work_by logic g e p ≡ None → NoneBy failed e p
+  phase_none failed e waiting h = absurd (none-some (Activate g) (sym h))
+  phase_none failed e loading h = absurd (none-some (Load g false) (sym h))
+  phase_none failed e (ready state version) h = (refl, refl, queue_none e e.queue h)
+
+  abbrev NoneAt : Bool → Option Entry → Type 0
+  NoneAt failed found =
+      (option_and_then (λ e. activated e e.phase) found ≡ None)
+      × (option_and_then (λ e. loaded logic seen g failed e e.phase) found ≡ None)
+      × (option_and_then (λ e. opened_if_ready logic g e e.phase) found ≡ None)
+
+  entry_none : (failed : Bool) (found : Option Entry) → work_on logic g found ≡ None → NoneAt failed found
+  entry_none failed None h = (refl, refl, refl)
+  entry_none failed (Some e) h = phase_none failed e e.phase h
+
+  not_now : (s : Step) → owner_of s ≡ Some g.tenant → grain_of (map.get w.accounts g.tenant) s ≡ Some g → effect_of logic seen s ≡ None
+      → whole_step logic w s ≡ None
+  not_now s owner place does = step_at_own logic w s g.tenant g None owner place refl does
 
   -- so a candidate of which this is None may be left out
   pub nothing_at_entry : work_on logic g (map.get w.entries g) ≡ None → NoneOf
-  nothing_at_entry h = entry_none (map.get w.entries g) refl h
+  unfolding effect_of
+  nothing_at_entry h =
+      let none : (failed : Bool) → NoneAt failed (map.get w.entries g) = λ failed. entry_none failed (map.get w.entries g) h in (
+        not_now (Activate g) refl refl (none false).0,
+        λ failed _. not_now (Load g failed) refl refl (none failed).1,
+        not_now (Begin g) refl refl (none false).2,
+      )
 
   sent_none : (a : Account) → map.get w.accounts g.tenant ≡ Some a → (found : Option (Send × List Send)) → first_from g a.sends ≡ found → option_map (λ f. Deliver g) found ≡ None → whole_step logic w (Deliver g) ≡ None
   sent_none a known None first h = deliver_nothing logic w g a known first
