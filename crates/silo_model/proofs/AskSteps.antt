@@ -1,5 +1,5 @@
 -- What a refused line, a poke and a status come to: by what the whole has of the asker's tenant and at the grain.
-use Rattle.std.proofs.Common.{◌≡◌, ◌≢◌, ℕ, Bool, true, false, ◌++◌, Option, Some, None, refl, ap, sym, ◌∙◌}
+use Rattle.std.proofs.Common.{◌≡◌, ◌≢◌, ℕ, Bool, true, false, ◌++◌, Option, Some, None, refl, ap, ◌∙◌}
 use Rattle.std.specs.Prelude.{Result, Ok, Err, if◌then◌else◌}
 use Rattle.std.specs.FinMap as map
 use Rattle.grain_id.specs.Names.{Grain, Client}
@@ -47,15 +47,11 @@ module _ (logic : Logic) (w : Whole) (caller : Client) (id : ℕ) where
   abbrev tenant_context : Context
   tenant_context = record { tenant = caller.tenant; account = map.get w.accounts caller.tenant; clock = w.clock; active = active_of w caller.tenant; entry = None; row = None }
 
-  sees_tenant : context_at (shown_to caller.tenant w) None ≡ tenant_context
-  unfolding context_at shown_to
-  sees_tenant = refl
-
   status_by : (account : Option Account) → map.get w.accounts caller.tenant ≡ account → whole_step logic w (Status caller id) ≡ Some (spread w caller.tenant None (status_told tenant_context asker account))
-  unfolding effect_of
+  unfolding effect_of context_at shown_to
   status_by account known =
       step_by_context logic w (Status caller id) caller.tenant None (Some (status_told tenant_context asker account)) refl refl
-      (ap (λ (s : Context). Some (status_told s asker s.account)) sees_tenant ∙ ap (λ a. Some (status_told tenant_context asker a)) known)
+      (ap (λ a. Some (status_told tenant_context asker a)) known)
 
   pub status_unknown_tenant : map.get w.accounts caller.tenant ≡ None → whole_step logic w (Status caller id) ≡ Some (told_whole (Err (UnknownTenant caller.tenant)))
   status_unknown_tenant none = status_by None none ∙ ap Some (spread-only_replies w caller.tenant None asker (Err (UnknownTenant caller.tenant)))
@@ -69,14 +65,6 @@ module _ (logic : Logic) (w : Whole) (caller : Client) (id : ℕ) where
     abbrev seen : Context
     seen = context_at (shown_to caller.tenant w) (Some g)
 
-    seen_account : (context_at (shown_to caller.tenant w) (Some g)).account ≡ map.get w.accounts caller.tenant
-    unfolding context_at shown_to
-    seen_account = refl
-
-    seen_tenant : (context_at (shown_to caller.tenant w) (Some g)).tenant ≡ caller.tenant
-    unfolding context_at shown_to
-    seen_tenant = refl
-
     poke_refused : (why : Fault) → gate logic seen seen.account g ≡ Err why → whole_step logic w (Poke failed caller id g state) ≡ Some (told_whole (Err why))
     unfolding effect_of poked
     poke_refused why is =
@@ -85,18 +73,19 @@ module _ (logic : Logic) (w : Whole) (caller : Client) (id : ℕ) where
 
     -- the asker's tenant isn't known
     pub poke_unknown_tenant : map.get w.accounts caller.tenant ≡ None → whole_step logic w (Poke failed caller id g state) ≡ Some (told_whole (Err (UnknownTenant caller.tenant)))
-    poke_unknown_tenant none = poke_refused (UnknownTenant caller.tenant) (gate_unknown_tenant logic seen g (seen_account ∙ none) ∙ ap (λ t. Err (UnknownTenant t)) seen_tenant)
+    unfolding context_at shown_to
+    poke_unknown_tenant none = poke_refused (UnknownTenant caller.tenant) (gate_unknown_tenant logic seen g none)
 
     module _ (a : Account) (known : map.get w.accounts caller.tenant ≡ Some a) where
       -- the grain is another tenant's
       pub poke_across : g.tenant ≢ caller.tenant → whole_step logic w (Poke failed caller id g state) ≡ Some (told_whole (Err (AcrossTenants caller.tenant g.tenant)))
-      poke_across apart =
-          poke_refused (AcrossTenants caller.tenant g.tenant)
-          (gate_across logic seen g a (seen_account ∙ known) (λ same. apart (same ∙ seen_tenant)) ∙ ap (λ t. Err (AcrossTenants t g.tenant)) seen_tenant)
+      unfolding context_at shown_to
+      poke_across apart = poke_refused (AcrossTenants caller.tenant g.tenant) (gate_across logic seen g a known apart)
 
       module _ (own : g.tenant ≡ caller.tenant) where
         pub poke_unknown_kind : logic.knows g.kind ≡ false → whole_step logic w (Poke failed caller id g state) ≡ Some (told_whole (Err (UnknownKind g.kind)))
-        poke_unknown_kind unknown = poke_refused (UnknownKind g.kind) (gate_unknown_kind logic seen g a (seen_account ∙ known) (own ∙ sym seen_tenant) unknown)
+        unfolding context_at shown_to
+        poke_unknown_kind unknown = poke_refused (UnknownKind g.kind) (gate_unknown_kind logic seen g a known own unknown)
 
         abbrev own_seen : Context
         own_seen = context_of w caller.tenant g
@@ -126,11 +115,8 @@ module _ (logic : Logic) (w : Whole) (caller : Client) (id : ℕ) where
           pub poke_spent : failed ≡ false → row_poked (map.get w.rows g) state ≡ Err spent → whole_step logic w (Poke failed caller id g state) ≡ Some (told_whole (Err (VersionsSpent g)))
           poke_spent is answers = poke_answered (Err spent) is answers ∙ ap Some (spread-only_replies w caller.tenant (Some g) asker (Err (VersionsSpent g)))
 
-          spread-poked : (version : Option ℕ) (row : Change Row) → spread w caller.tenant (Some g) (row_told asker g (Ok (version, row))) ≡ record w { rows = change_at w.rows g row; replies = w.replies ++ told (party.Client caller id) (Ok (version_value version)) }
-          unfolding spread
-          spread-poked version row = refl
-
           -- the row is overwritten, and its version is told
           pub poke_done : (version : Option ℕ) (row : Change Row) → failed ≡ false → row_poked (map.get w.rows g) state ≡ Ok (version, row)
               → whole_step logic w (Poke failed caller id g state) ≡ Some (record w { rows = change_at w.rows g row; replies = w.replies ++ told (party.Client caller id) (Ok (version_value version)) })
-          poke_done version row is answers = poke_answered (Ok (version, row)) is answers ∙ ap Some (spread-poked version row)
+          unfolding spread
+          poke_done version row is answers = poke_answered (Ok (version, row)) is answers

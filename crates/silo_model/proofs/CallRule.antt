@@ -73,7 +73,3 @@ module _ (logic : Logic) (s : Context) (g : Grain) where
         pub called_again : (e : Entry) → s.entry ≡ Some e → nat_lt (length e.queue) a.limits.mailbox ≡ true → called logic s sender g call ≡ accepted s sender call a
         called_again e found free =
             called_by (Ok a) (Ok a) passed (admitted_by false left (Some e) found ∙ ap (λ b. if b then Ok a else Err (MailboxFull g)) free)
-
-        -- there is room, in an entry that is new or was there
-        pub called_accepted : room s a g s.entry ≡ Ok a → called logic s sender g call ≡ accepted s sender call a
-        called_accepted free = called_by (Ok a) (Ok a) passed (admitted_by false left s.entry refl ∙ free)

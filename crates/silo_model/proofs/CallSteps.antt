@@ -1,5 +1,5 @@
 -- How a call is accepted or refused: by what the whole has of the caller's tenant and at the grain.
-use Rattle.std.proofs.Common.{◌≡◌, ◌≢◌, ℕ, ◌+◌, ◌==◌, true, false, List, [], ◌∷◌, ◌++◌, Option, Some, None, refl, ap, sym, ◌∙◌}
+use Rattle.std.proofs.Common.{◌≡◌, ◌≢◌, ℕ, ◌+◌, ◌==◌, true, false, List, [], ◌∷◌, ◌++◌, Option, Some, None, refl, ap, ◌∙◌}
 use Rattle.std.specs.Prelude.{Result, Ok, Err, nat_lt, length}
 use Rattle.std.specs.FinMap as map
 use Rattle.std.proofs.lemmas.List.{append-nil}
@@ -14,12 +14,12 @@ use Rattle.silo_event.specs.declared.step.Step.TheVariants.{Call}
 use Rattle.grain_kinds.specs.Logic.{Logic}
 use Rattle.silo_model.specs.Machine.{Account, Entry, Request, waiting}
 use Rattle.silo_model.specs.Effect.{Context, Effect, context_at, only_replies}
-use Rattle.silo_model.specs.Calls.{told, last_number, gate, room, with_request, accepted, called}
+use Rattle.silo_model.specs.Calls.{told, last_number, gate, with_request, accepted, called}
 use Rattle.silo_model.specs.Step.{effect_of}
 use Rattle.silo_model.specs.Whole.{Whole, shown_to, spread, whole_step}
 use Rattle.silo_model.specs.Contexts.{active_of, context_of}
 use Rattle.silo_model.proofs.Contexts.{step_by_context, step_at_own}
-use Rattle.silo_model.proofs.CallRule.{gate_unknown_tenant, gate_across, gate_unknown_kind, gate_passed, called_refused, called_no_number, called_no_activation, called_new, called_full, called_again, called_accepted}
+use Rattle.silo_model.proofs.CallRule.{gate_unknown_tenant, gate_across, gate_unknown_kind, gate_passed, called_refused, called_no_number, called_no_activation, called_new, called_full, called_again}
 
 -- the request that a call becomes, next after the account's last
 abbrev pub next_request : Account → Party → codec.Call → Request
@@ -36,14 +36,6 @@ module _ (logic : Logic) (w : Whole) (caller : Client) (id : ℕ) (g : Grain) (m
   abbrev seen : Context
   seen = context_at (shown_to caller.tenant w) (Some g)
 
-  seen_account : (context_at (shown_to caller.tenant w) (Some g)).account ≡ map.get w.accounts caller.tenant
-  unfolding context_at shown_to
-  seen_account = refl
-
-  seen_tenant : (context_at (shown_to caller.tenant w) (Some g)).tenant ≡ caller.tenant
-  unfolding context_at shown_to
-  seen_tenant = refl
-
   abbrev refused_whole : Fault → Whole
   refused_whole why = record w { replies = w.replies ++ told (party.Client caller id) (Err why) }
 
@@ -58,18 +50,19 @@ module _ (logic : Logic) (w : Whole) (caller : Client) (id : ℕ) (g : Grain) (m
 
   -- the caller's tenant isn't known
   pub call_unknown_tenant : map.get w.accounts caller.tenant ≡ None → whole_step logic w (Call caller id g message) ≡ Some (refused_whole (UnknownTenant caller.tenant))
-  call_unknown_tenant none = refused_by (UnknownTenant caller.tenant) (gate_unknown_tenant logic seen g (seen_account ∙ none) ∙ ap (λ t. Err (UnknownTenant t)) seen_tenant)
+  unfolding context_at shown_to
+  call_unknown_tenant none = refused_by (UnknownTenant caller.tenant) (gate_unknown_tenant logic seen g none)
 
   module _ (a : Account) (known : map.get w.accounts caller.tenant ≡ Some a) where
     -- the grain is another tenant's
     pub call_across : g.tenant ≢ caller.tenant → whole_step logic w (Call caller id g message) ≡ Some (refused_whole (AcrossTenants caller.tenant g.tenant))
-    call_across apart =
-        refused_by (AcrossTenants caller.tenant g.tenant)
-        (gate_across logic seen g a (seen_account ∙ known) (λ same. apart (same ∙ seen_tenant)) ∙ ap (λ t. Err (AcrossTenants t g.tenant)) seen_tenant)
+    unfolding context_at shown_to
+    call_across apart = refused_by (AcrossTenants caller.tenant g.tenant) (gate_across logic seen g a known apart)
 
     module _ (own : g.tenant ≡ caller.tenant) where
       pub call_unknown_kind : logic.knows g.kind ≡ false → whole_step logic w (Call caller id g message) ≡ Some (refused_whole (UnknownKind g.kind))
-      call_unknown_kind unknown = refused_by (UnknownKind g.kind) (gate_unknown_kind logic seen g a (seen_account ∙ known) (own ∙ sym seen_tenant) unknown)
+      unfolding context_at shown_to
+      call_unknown_kind unknown = refused_by (UnknownKind g.kind) (gate_unknown_kind logic seen g a known own unknown)
 
       -- ---- behind the gate, what is seen is what the whole has
       abbrev own_seen : Context
@@ -130,11 +123,3 @@ module _ (logic : Logic) (w : Whole) (caller : Client) (id : ℕ) (g : Grain) (m
               })
           call_again e found free =
               by_own _ (called_again logic own_seen g (party.Client caller id) message a passed left e found free) ∙ ap Some spread-accepted ∙ ap (λ o. Some (accepted_whole o)) found
-
-          -- or in either, where there is room
-          pub call_accepted : room own_seen a g (map.get w.entries g) ≡ Ok a
-              → whole_step logic w (Call caller id g message) ≡ Some (record w {
-                accounts = map.insert w.accounts caller.tenant (record a { count = a.count + 1 });
-                entries = map.insert w.entries g (with_request w.clock (next_request a (party.Client caller id) message) (map.get w.entries g));
-              })
-          call_accepted free = by_own _ (called_accepted logic own_seen g (party.Client caller id) message a passed left free) ∙ ap Some spread-accepted

@@ -1,5 +1,5 @@
 -- When an entry is activated, loaded, and a turn of it begun: by what the whole has at the grain.
-use Rattle.std.proofs.Common.{◌≡◌, ℕ, Bool, true, false, List, [], ◌∷◌, ◌++◌, Option, Some, None, refl, ap, ◌∙◌}
+use Rattle.std.proofs.Common.{◌≡◌, ℕ, Bool, true, false, List, ◌∷◌, ◌++◌, Option, Some, None, refl, ap, ◌∙◌}
 use Rattle.std.specs.Prelude.{Err, flat_map, option_map, option_and_then, if◌then◌else◌}
 use Rattle.std.specs.FinMap as map
 use Rattle.std.proofs.lemmas.List.{append-nil}
@@ -29,17 +29,9 @@ spread-on_entry w tenant g e = λ i. record w { entries = map.insert w.entries g
 
 module _ (logic : Logic) (w : Whole) (g : Grain) where
   -- a grain without an entry
-  pub activate_absent : map.get w.entries g ≡ None → whole_step logic w (Activate g) ≡ None
-  unfolding effect_of
-  activate_absent none = step_at_own logic w (Activate g) g.tenant g None refl refl refl (ap (option_and_then (λ e. activated e e.phase)) none)
-
   pub load_absent : (failed : Bool) → map.get w.entries g ≡ None → whole_step logic w (Load g failed) ≡ None
   unfolding effect_of
   load_absent failed none = step_at_own logic w (Load g failed) g.tenant g None refl refl refl (ap (option_and_then (λ e. loaded logic (context_of w g.tenant g) g failed e e.phase)) none)
-
-  pub begin_absent : map.get w.entries g ≡ None → whole_step logic w (Begin g) ≡ None
-  unfolding effect_of
-  begin_absent none = step_at_own logic w (Begin g) g.tenant g None refl refl refl (ap (option_and_then (λ e. opened_if_ready logic g e e.phase)) none)
 
 module _ (logic : Logic) (w : Whole) (g : Grain) (e : Entry) (found : map.get w.entries g ≡ Some e) where
   -- ---- Activate
@@ -51,15 +43,9 @@ module _ (logic : Logic) (w : Whole) (g : Grain) (e : Entry) (found : map.get w.
   pub activate_does : (new : Entry) → activated e e.phase ≡ Some (on_entry new) → whole_step logic w (Activate g) ≡ Some (record w { entries = map.insert w.entries g new })
   activate_does new h = activate_found (Some (on_entry new)) h ∙ ap Some (spread-on_entry w g.tenant g new)
 
-  pub activate_not : activated e e.phase ≡ None → whole_step logic w (Activate g) ≡ None
-  activate_not h = activate_found None h
-
   -- an entry that waits begins to load
   pub activate_waiting : e.phase ≡ waiting → whole_step logic w (Activate g) ≡ Some (record w { entries = map.insert w.entries g (record e { phase = loading }) })
   activate_waiting is = activate_does (record e { phase = loading }) (ap (activated e) is)
-
-  pub activate_ready : (state : Tree) (version : Option ℕ) → e.phase ≡ ready state version → whole_step logic w (Activate g) ≡ None
-  activate_ready state version is = activate_not (ap (activated e) is)
 
   -- ---- Load
 
@@ -78,13 +64,10 @@ module _ (logic : Logic) (w : Whole) (g : Grain) (e : Entry) (found : map.get w.
       → whole_step logic w (Load g false) ≡ Some (record w { entries = map.insert w.entries g (record e { phase = ready (content_or (logic.empty g.kind) (map.get w.rows g)) (version_of (map.get w.rows g)) }) })
   load_loading is = load_found false (Some (on_entry (record e { phase = ready (content_or (logic.empty g.kind) (map.get w.rows g)) (version_of (map.get w.rows g)) }))) (ap (loaded logic (context_of w g.tenant g) g false e) is) ∙ ap Some (spread-on_entry w g.tenant g _)
 
-  spread-unloaded : spread w g.tenant (Some g) (unloaded e) ≡ record w { entries = map.remove w.entries g; replies = w.replies ++ flat_map (λ q. reply_to q.sender (Err StorageFailed)) e.queue }
-  unfolding spread
-  spread-unloaded = refl
-
   -- where the storage failed, each request that waits is told so, and the entry goes
   pub load_fails : e.phase ≡ loading → whole_step logic w (Load g true) ≡ Some (record w { entries = map.remove w.entries g; replies = w.replies ++ flat_map (λ q. reply_to q.sender (Err StorageFailed)) e.queue })
-  load_fails is = load_found true (Some (unloaded e)) (ap (loaded logic (context_of w g.tenant g) g true e) is) ∙ ap Some spread-unloaded
+  unfolding spread
+  load_fails is = load_found true (Some (unloaded e)) (ap (loaded logic (context_of w g.tenant g) g true e) is)
 
   -- ---- Begin
 
@@ -95,25 +78,8 @@ module _ (logic : Logic) (w : Whole) (g : Grain) (e : Entry) (found : map.get w.
   pub begin_does : (new : Entry) → opened_if_ready logic g e e.phase ≡ Some (on_entry new) → whole_step logic w (Begin g) ≡ Some (record w { entries = map.insert w.entries g new })
   begin_does new h = begin_found (Some (on_entry new)) h ∙ ap Some (spread-on_entry w g.tenant g new)
 
-  pub begin_not : opened_if_ready logic g e e.phase ≡ None → whole_step logic w (Begin g) ≡ None
-  begin_not h = begin_found None h
-
-  pub begin_waiting : e.phase ≡ waiting → whole_step logic w (Begin g) ≡ None
-  begin_waiting is = begin_not (ap (opened_if_ready logic g e) is)
-
-  pub begin_loading : e.phase ≡ loading → whole_step logic w (Begin g) ≡ None
-  begin_loading is = begin_not (ap (opened_if_ready logic g e) is)
-
-  -- no request waits
-  pub begin_idle : (state : Tree) (version : Option ℕ) → e.phase ≡ ready state version → e.queue ≡ [] → whole_step logic w (Begin g) ≡ None
-  begin_idle state version is none = begin_not (ap (opened_if_ready logic g e) is ∙ ap (opened logic g e) none)
-
   abbrev with_turn : Request → List Request → Entry
   with_turn first others = record e { queue = others; turns = map.insert e.turns first.number first }
-
-  -- the first waiting request may not be open beside the turns that are
-  pub begin_busy : (state : Tree) (version : Option ℕ) (first : Request) (others : List Request) → e.phase ≡ ready state version → e.queue ≡ first ∷ others → may_open logic g e first ≡ false → whole_step logic w (Begin g) ≡ None
-  begin_busy state version first others is queue test = begin_not (ap (opened_if_ready logic g e) is ∙ ap (opened logic g e) queue ∙ ap (λ b. if b then Some (on_entry (with_turn first others)) else None) test)
 
   -- the first waiting request becomes an open turn
   pub begin_first : (state : Tree) (version : Option ℕ) (first : Request) (others : List Request) → e.phase ≡ ready state version → e.queue ≡ first ∷ others → may_open logic g e first ≡ true

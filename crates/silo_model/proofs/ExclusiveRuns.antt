@@ -7,7 +7,6 @@ use Rattle.std.proofs.lemmas.Bool.{eq-eqb}
 use Rattle.grain_id.specs.Names.{Grain, grain_eq}
 use Rattle.grain_id.proofs.Order.{grain_eq_decides}
 use Rattle.silo_event.specs.Failed.{as_failed, marked_step}
-use Rattle.silo_event.specs.Owner.{owner_of}
 use Rattle.silo_event.specs.declared.step.Step.{Step}
 use Rattle.silo_event.specs.declared.step.Step.TheVariants.{Begin, Store, End, Abandon}
 use Rattle.silo_event.specs.declared.step.Answer.{Answer}
@@ -29,7 +28,7 @@ use Rattle.silo_model.proofs.Runs.{whole_after, whole_run-append, run_sound}
 use Rattle.silo_model.proofs.Opening.{opening_sound, replay_is_run}
 use Rattle.silo_model.proofs.StepMoves.{IsFairMachine}
 use Rattle.silo_model.proofs.FairRuns.{start_fair, run_fair}
-use Rattle.silo_model.proofs.WholeTurns.{AllFair, owned_close, keeps_turns, begin_opens}
+use Rattle.silo_model.proofs.WholeTurns.{AllFair, keeps_turns, closes_turn, begin_opens}
 
 -- ---- the listed turns are open
 
@@ -179,12 +178,13 @@ module _ (logic : Logic) (law : ReadersAskNothing logic) (setup : Setup) (before
   }
 
   -- a step that closes a turn
-  closing_next : (s : Step) (g : Grain) (turn : ℕ) → owner_of s ≡ Some g.tenant → ((a : Option Account) → grain_of a s ≡ Some g) → ((old new : Option Entry) → TurnsMove logic s old new → ClosesTurn turn old new)
+  closing_next : (s : Step) (g : Grain) (turn : ℕ) → ((a : Option Account) → grain_of a s ≡ Some g)
+      → ((old new : Option Entry) → TurnsMove logic s old new → ClosesTurn turn old new)
       → (r : Option Whole) → whole_step logic w s ≡ r → whole_step logic w s ≢ None → State logic setup (before ++ s ∷ []) (unwrap_or r w) (turns_without g turn turns)
-  closing_next s g turn owner place closes None is done = absurd (done is)
-  closing_next s g turn owner place closes (Some after) is done = record {
+  closing_next s g turn place closes None is done = absurd (done is)
+  closing_next s g turn place closes (Some after) is done = record {
     at = next_at s ∙ ap (λ o. unwrap_or o w) is;
-    listed = listed_without w after g turn turns (owned_close logic law w after s sound fair is g.tenant owner g turn (place (map.get w.accounts g.tenant)) closes) state.listed;
+    listed = listed_without w after g turn turns (closes_turn logic law w after s sound fair is g turn place closes) state.listed;
     alone = alone_filtered logic _ turns state.alone;
   }
 
@@ -210,13 +210,16 @@ module _ (logic : Logic) (law : ReadersAskNothing logic) (setup : Setup) (before
   next (Begin g) answer.Done is = opening_next g (whole_step logic w (Begin g)) refl is
   next (Begin g) answer.Failed is = absurd (true≢false (sym is.0))
   next (Begin g) answer.NotNow is = idle_next (Begin g) is
-  next (Store g n failed) answer.Done is = closing_next (Store g n failed) g n refl (λ a. refl) (λ old new moves. moves) (whole_step logic w (Store g n failed)) refl is
-  next (Store g n failed) answer.Failed is = closing_next (Store g n true) g n refl (λ a. refl) (λ old new moves. moves) (whole_step logic w (Store g n true)) refl is.1
+  next (Store g n failed) answer.Done is =
+      closing_next (Store g n failed) g n (λ a. refl) (λ old new moves. moves) (whole_step logic w (Store g n failed)) refl is
+  next (Store g n failed) answer.Failed is =
+      closing_next (Store g n true) g n (λ a. refl) (λ old new moves. moves) (whole_step logic w (Store g n true)) refl is.1
   next (Store g n failed) answer.NotNow is = idle_next (Store g n failed) is
-  next (End g n) answer.Done is = closing_next (End g n) g n refl (λ a. refl) (λ old new moves. moves) (whole_step logic w (End g n)) refl is
+  next (End g n) answer.Done is = closing_next (End g n) g n (λ a. refl) (λ old new moves. moves) (whole_step logic w (End g n)) refl is
   next (End g n) answer.Failed is = absurd (true≢false (sym is.0))
   next (End g n) answer.NotNow is = idle_next (End g n) is
-  next (Abandon g n) answer.Done is = closing_next (Abandon g n) g n refl (λ a. refl) (λ old new moves. moves) (whole_step logic w (Abandon g n)) refl is
+  next (Abandon g n) answer.Done is =
+      closing_next (Abandon g n) g n (λ a. refl) (λ old new moves. moves) (whole_step logic w (Abandon g n)) refl is
   next (Abandon g n) answer.Failed is = absurd (true≢false (sym is.0))
   next (Abandon g n) answer.NotNow is = idle_next (Abandon g n) is
   next s answer.Done is = keeping_next s (λ old new moves. moves) (whole_step logic w s) refl

@@ -11,7 +11,7 @@ use Rattle.silo_model.specs.Whole.{Whole}
 use Rattle.silo_model.specs.Collected.{IsIdle, IdleGoes}
 use Rattle.silo_model.proofs.SharedSteps.{get-kept}
 use Rattle.silo_model.proofs.ClockSteps.{sweep_is}
-use Rattle.silo_model.proofs.StepMoves.{no_items}
+use Rattle.std.proofs.lemmas.List.{nil_from_length}
 
 -- ---- one entry
 
@@ -38,7 +38,7 @@ module _ (clock age : ℕ) (e : Entry) where
       by_phase waiting is h = absurd (true≢false (sym h))
       by_phase loading is h = absurd (true≢false (sym h))
       by_phase (ready state version) is h = (
-        record { state = state; version = version; phase = is; nothing_waits = no_items e.queue (eqb-true (length e.queue) 0 parts.1); none_open = eqb-true (map.len e.turns) 0 parts.2 },
+        record { state = state; version = version; phase = is; nothing_waits = nil_from_length e.queue (eqb-true (length e.queue) 0 parts.1); none_open = eqb-true (map.len e.turns) 0 parts.2 },
         old parts.3,
       )
         where

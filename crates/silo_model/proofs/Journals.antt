@@ -3,14 +3,13 @@ use Rattle.std.proofs.Common.{◌≡◌, ◌≢◌, ℕ, Bool, true, false, cond
 use Rattle.std.specs.Prelude.{option_and_then}
 use Rattle.std.proofs.lemmas.List.{append-nil}
 use Rattle.std.proofs.lemmas.Option.{same_Some, none-some}
-use Rattle.grain_id.specs.Names.{Grain}
 use Rattle.silo_event.specs.Owner.{owner_of}
 use Rattle.silo_event.specs.declared.reply.Reply.{Reply}
 use Rattle.silo_event.specs.declared.step.Step.{Step}
 use Rattle.grain_kinds.specs.Logic.{Logic}
 use Rattle.silo_model.specs.Machine.{Machine}
 use Rattle.silo_model.specs.Step.{machine_step}
-use Rattle.silo_model.specs.Effect.{Effect, applied}
+use Rattle.silo_model.specs.Effect.{applied}
 use Rattle.silo_model.specs.Whole.{Whole, shown_to, spread, whole_step}
 use Rattle.silo_model.specs.Run.{whole_run, concerns, restricted_to}
 use Rattle.silo_model.specs.Opening.{Setup, opening}
@@ -106,15 +105,8 @@ pub record Adds (w : Whole) (s : Step) (after : Whole) : Type 0 where
   pub to_owner : (owner : List ℕ) → owner_of s ≡ Some owner → AllTo owner added
   pub own_replies : (owner : List ℕ) → owner_of s ≡ Some owner → (shown_to owner after).replies ≡ (shown_to owner w).replies ++ added
 
-spread_replies : (w : Whole) (owner : List ℕ) (g : Option Grain) (e : Effect) → (spread w owner g e).replies ≡ w.replies ++ e.replies
-unfolding spread
-spread_replies w owner g e = refl
-
-applied_replies : (m : Machine) (g : Option Grain) (e : Effect) → (applied m g e).replies ≡ m.replies ++ e.replies
-unfolding applied
-applied_replies m g e = refl
-
 adds_by : (logic : Logic) (w after : Whole) (s : Step) (owner : List ℕ) → IsSound w → owner_of s ≡ Some owner → whole_step logic w s ≡ Some after → Adds w s after
+unfolding spread applied
 adds_by logic w after s owner sound is step =
     let d = isolation.did logic w after s owner is step in
     let place = isolation.place_in w owner s in
@@ -125,9 +117,9 @@ adds_by logic w after s owner sound is step =
     let same : (other : List ℕ) → owner_of s ≡ Some other → owner ≡ other = λ other e. same_Some owner other (sym is ∙ e) in
     record {
       added = d.what.replies;
-      replies = sym (ap (λ (x : Whole). x.replies) d.leaves) ∙ spread_replies w owner place d.what;
+      replies = sym (ap (λ (x : Whole). x.replies) d.leaves);
       to_owner = λ other e. subst P (same other e) proper.replies;
-      own_replies = λ other e. subst Q (same other e) (ap (λ (m : Machine). m.replies) own ∙ applied_replies (shown_to owner w) place d.what);
+      own_replies = λ other e. subst Q (same other e) (ap (λ (m : Machine). m.replies) own);
     }
 
 pub adds_owned : (logic : Logic) (w after : Whole) (s : Step) (o : Option (List ℕ)) → owner_of s ≡ o → IsSound w → whole_step logic w s ≡ Some after → Adds w s after

@@ -2,6 +2,7 @@ pub mod Changes
 pub mod Contexts
 pub mod TurnMaps
 pub mod Sound
+pub mod EffectKinds
 pub mod Proper
 pub mod SharedSteps
 pub mod Isolation
@@ -41,3 +42,4 @@ pub mod WorkAtGrains
 pub mod QuietCounts
 pub mod Sends
 pub mod OwnSends
+pub mod Order

@@ -42,13 +42,6 @@ find-fresh t (e ∷ tenants) =
 pub get-fresh_accounts : (tenants : Table) (t : List ℕ) → map.get (fresh_accounts tenants) t ≡ option_map fresh_account (limits_of tenants t)
 get-fresh_accounts tenants t = map.get-from_entries text_cmp_total (map_list (λ e. (e.0, fresh_account e.1)) tenants) t ∙ find-fresh t tenants
 
-pub fresh_accounts-empty : fresh_accounts [] ≡ map.empty
-fresh_accounts-empty = refl
-
--- the account of the first tenant of a table, beside those of the others
-pub fresh_accounts-first : (t : List ℕ) (limits : Limits) (tenants : Table) → fresh_accounts ((t, limits) ∷ tenants) ≡ map.insert (fresh_accounts tenants) t (fresh_account limits)
-fresh_accounts-first t limits tenants = refl
-
 -- ---- entries
 
 either_none : (b : Bool) (o : Option Entry) → o ≡ None → cond b o None ≡ o

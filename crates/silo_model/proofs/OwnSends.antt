@@ -1,30 +1,31 @@
 -- What a grain sent is in the account of its own tenant, and a step adds to it only what its own grain sends.
 use Rattle.std.proofs.Common.{◌≡◌, ℕ, Bool, true, false, List, [], ◌∷◌, Option, Some, None, refl, ap, sym, ◌∙◌, subst, true≢false}
-use Rattle.std.specs.Prelude.{◌||◌, is_some, nat_le, option_map, if◌then◌else◌}
+use Rattle.std.specs.Prelude.{◌||◌, is_some, option_map}
 use Rattle.std.specs.Ordering.{eq_by_cmp}
 use Rattle.std.specs.Cmp.{Equal-is}
 use Rattle.std.specs.FinMap as map
-use Rattle.std.proofs.lemmas.Option.{same_Some, none-some}
+use Rattle.std.proofs.lemmas.Option.{same_Some}
 use Rattle.grain_id.specs.Names.{Grain, grain_eq, text_cmp}
 use Rattle.grain_id.proofs.Order.{grain_eq_decides, text_cmp_total, text_cmp_exact}
 use Rattle.tenant_gate.specs.declared.limits.Limits.{Limits}
 use Rattle.tenant_gate.specs.Table.{limits_of}
 use Rattle.silo_event.specs.Owner.{owner_of}
 use Rattle.silo_event.specs.declared.step.Step.{Step}
-use Rattle.silo_event.specs.declared.step.Step.TheVariants.{Deliver, End, Tick, Sweep}
+use Rattle.silo_event.specs.declared.step.Step.TheVariants.{Deliver, End}
 use Rattle.grain_kinds.specs.Logic.{Logic}
 use Rattle.silo_model.specs.Machine.{Account}
-use Rattle.silo_model.specs.Effect.{Effect, change_option, change_at, context_at}
+use Rattle.silo_model.specs.Effect.{change_option, change_at, context_at}
 use Rattle.silo_model.specs.Sends.{first_from}
-use Rattle.silo_model.specs.Whole.{Whole, shown_to, spread, whole_swept, whole_shared_step, whole_step}
+use Rattle.silo_model.specs.Whole.{Whole, shown_to, spread, whole_step}
 use Rattle.silo_model.specs.Opening.{Setup, fresh_account, opening}
 use Rattle.silo_model.specs.Journal.{all_done}
 use Rattle.silo_model.specs.Pending.{sends_of}
 use Rattle.silo_model.specs.Todo.{delivery_of, is_among, sender_by, OwnSends, SendsAreOwn}
 use Rattle.silo_model.proofs.Changes.{bound, get-change_same, get-change_other}
-use Rattle.silo_model.proofs.Isolation.{place_in, Did, did, shared_by}
+use Rattle.silo_model.proofs.Isolation.{Did, did, did_does, shared_by}
 use Rattle.silo_model.proofs.Opening.{get-fresh_accounts}
-use Rattle.silo_model.proofs.Sends.{has_sent, mapped, effect_less}
+use Rattle.silo_model.proofs.Sends.{has_sent, mapped, Less, does_less}
+use Rattle.silo_model.proofs.SharedSteps.{shared_leaves}
 
 -- ---- what is to be delivered
 
@@ -32,46 +33,30 @@ pub delivers : (g : Grain) (account : Option Account) → is_some (delivery_of g
 delivers g None = refl
 delivers g (Some a) = mapped (λ found. Deliver g) (first_from g a.sends)
 
-shared_accounts : (w after : Whole) (s : Step) → whole_shared_step w s ≡ Some after → after.accounts ≡ w.accounts
-shared_accounts w after (Tick now) h = by_clock (nat_le w.clock now) h
-  where
-    by_clock : (b : Bool) → (if b then Some (record w { clock = now }) else None) ≡ Some after → after.accounts ≡ w.accounts
-    by_clock true h = ap (λ (x : Whole). x.accounts) (sym (same_Some (record w { clock = now }) after h))
-    by_clock false h = absurd (none-some after h)
-shared_accounts w after Sweep h = ap (λ (x : Whole). x.accounts) (sym (same_Some (whole_swept w) after h))
-shared_accounts w after _ h = absurd (none-some after h)
-
-seen_account : (w : Whole) (tenant : List ℕ) (place : Option Grain) → (context_at (shown_to tenant w) place).account ≡ map.get w.accounts tenant
-unfolding context_at shown_to
-seen_account w tenant place = refl
-
-spread_accounts : (w : Whole) (owner : List ℕ) (place : Option Grain) (e : Effect) → (spread w owner place e).accounts ≡ change_at w.accounts owner e.account
-unfolding spread
-spread_accounts w owner place e = refl
-
 module _ (logic : Logic) (w after : Whole) (s : Step) (step : whole_step logic w s ≡ Some after) (tenant : List ℕ) where
   -- the owner's account is changed, and another's stays
   changed_account : (owner : List ℕ) (is : owner_of s ≡ Some owner) → map.get after.accounts tenant ≡ map.get (change_at w.accounts owner (did logic w after s owner is step).what.account) tenant
-  changed_account owner is =
-      let d = did logic w after s owner is step in
-      ap (λ (x : Whole). map.get x.accounts tenant) (sym d.leaves) ∙ ap (λ accounts. map.get accounts tenant) (spread_accounts w owner (place_in w owner s) d.what)
+  unfolding spread
+  changed_account owner is = ap (λ (x : Whole). map.get x.accounts tenant) (sym (did logic w after s owner is step).leaves)
 
   pub account_stays : (owner : List ℕ) → owner_of s ≡ Some owner → eq_by_cmp text_cmp tenant owner ≡ false → map.get after.accounts tenant ≡ map.get w.accounts tenant
   account_stays owner is apart =
       changed_account owner is ∙ get-change_other text_cmp_total text_cmp_exact w.accounts owner tenant (did logic w after s owner is step).what.account apart
 
+did_less : (logic : Logic) (w after : Whole) (s : Step) (g : Grain) (owner : List ℕ) → is_among (sender_by s) g ≡ false → (d : Did logic w s owner after)
+    → Less g (map.get w.accounts owner) d.what.account
+unfolding context_at shown_to
+did_less logic w after s g owner apart d = does_less logic _ s g apart (did_does logic w after s owner d)
+
 -- of the owner's account nothing is sent that wasn't; another's stays
 pub sends_stay : (logic : Logic) (w after : Whole) (s : Step) (g : Grain) (tenant : List ℕ) (o : Option (List ℕ)) → owner_of s ≡ o → whole_step logic w s ≡ Some after → is_among (sender_by s) g ≡ false
     → has_sent g (sends_of (map.get after.accounts tenant)) ≡ true → has_sent g (sends_of (map.get w.accounts tenant)) ≡ true
-sends_stay logic w after s g tenant None is step apart h = ap (λ accounts. has_sent g (sends_of (map.get accounts tenant))) (sym (shared_accounts w after s (sym (shared_by logic w s is) ∙ step))) ∙ h
+sends_stay logic w after s g tenant None is step apart h =
+    ap (λ accounts. has_sent g (sends_of (map.get accounts tenant))) (sym (shared_leaves w after s (sym (shared_by logic w s is) ∙ step)).accounts) ∙ h
 sends_stay logic w after s g tenant (Some owner) is step apart h = by_tenant (eq_by_cmp text_cmp tenant owner) refl
   where
     d : Did logic w s owner after
     d = did logic w after s owner is step
-
-    fewer : has_sent g (sends_of (change_option (map.get w.accounts owner) d.what.account)) ≡ true → has_sent g (sends_of (map.get w.accounts owner)) ≡ true
-    fewer = subst (λ account. has_sent g (sends_of (change_option account d.what.account)) ≡ true → has_sent g (sends_of account) ≡ true) (seen_account w owner (place_in w owner s))
-        (effect_less logic (context_at (shown_to owner w) (place_in w owner s)) g d.what s apart d.does)
 
     by_tenant : (b : Bool) → eq_by_cmp text_cmp tenant owner ≡ b → has_sent g (sends_of (map.get w.accounts tenant)) ≡ true
     by_tenant true tied =
@@ -79,7 +64,7 @@ sends_stay logic w after s g tenant (Some owner) is step apart h = by_tenant (eq
         let there : map.get after.accounts tenant ≡ change_option (map.get w.accounts owner) d.what.account = changed_account logic w after s step tenant owner is
         ∙ ap (map.get (change_at w.accounts owner d.what.account)) own
         ∙ get-change_same text_cmp_total text_cmp_exact w.accounts owner d.what.account in
-        ap (λ t. has_sent g (sends_of (map.get w.accounts t))) own ∙ fewer (ap (λ o. has_sent g (sends_of o)) (sym there) ∙ h)
+        ap (λ t. has_sent g (sends_of (map.get w.accounts t))) own ∙ did_less logic w after s g owner apart d (ap (λ o. has_sent g (sends_of o)) (sym there) ∙ h)
     by_tenant false other = ap (λ o. has_sent g (sends_of o)) (sym (account_stays logic w after s step tenant owner is other)) ∙ h
 
 -- ---- whose account has it

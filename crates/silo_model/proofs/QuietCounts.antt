@@ -1,5 +1,6 @@
 -- A silo is quiet exactly if nothing waits or is open, and nothing is left of what was sent.
-use Rattle.std.proofs.Common.{◌≡◌, ℕ, ◌+◌, ◌≤◌, Bool, true, false, cond, List, [], ◌∷◌, length, Option, Some, None, refl, ap, sym, ◌∙◌, arith}
+use Rattle.std.proofs.Common.{◌≡◌, ℕ, ◌+◌, ◌≤◌, Bool, true, false, cond, List, [], length, Option, Some, None, refl, ap, sym, ◌∙◌, arith}
+use Rattle.std.proofs.lemmas.List.{nil_from_length}
 use Rattle.std.proofs.lemmas.List.Sums.{sum_by-append}
 use Rattle.std.proofs.lemmas.Option.{none-some}
 use Rattle.std.specs.FinMap as map
@@ -10,14 +11,10 @@ use Rattle.silo_model.specs.Machine.{Machine, Account, Entry, Entries, Request}
 use Rattle.silo_model.specs.Whole.{Whole, is_of, shown_to}
 use Rattle.silo_model.specs.Settled.{pending_at, all_pending}
 use Rattle.silo_model.specs.Pending.{sends_of, AllQuiet, pending_in, sent_in, QuietByCounts}
-use Rattle.silo_model.proofs.Contexts.{get-own}
+use Rattle.silo_model.proofs.Contexts.{get-own, shown_account}
 use Rattle.silo_model.proofs.Counts.{at, total, total-remove, total_alike, sum_zero, sum_one, sum_alike}
 use Rattle.silo_model.proofs.Fair.{held, pend, within_all}
 use Rattle.silo_model.proofs.FairRuns.{pending_weight}
-
-no_items : {A : Type 0} (xs : List A) → length xs ≡ 0 → xs ≡ []
-no_items [] e = refl
-no_items (x ∷ xs) e = absurd (omega (arith, e))
 
 all_weigh : (m : Machine) → pend (λ q. 1) m.entries ≡ length (all_pending m)
 all_weigh m = sym (pending_weight (λ q. 1) m) ∙ sum_one (all_pending m)
@@ -31,7 +28,7 @@ in_weighs w = sum_alike (λ e. length (pending_at e)) (held (λ q. 1)) (map.valu
 pub zero_entries : (f : Entry → ℕ) (entries : Entries) → ((g : Grain) (e : Entry) → map.get entries g ≡ Some e → f e ≡ 0) → total f entries ≡ 0
 zero_entries f entries none = total_alike grain_cmp_total f (λ e. 0) entries none ∙ sum_zero (map.values entries)
 
-shown_entry : (w : Whole) (g : Grain) (e : Entry) → map.get w.entries g ≡ Some e → map.get (shown_to g.tenant w).entries g ≡ Some e
+pub shown_entry : (w : Whole) (g : Grain) (e : Entry) → map.get w.entries g ≡ Some e → map.get (shown_to g.tenant w).entries g ≡ Some e
 unfolding shown_to
 shown_entry w g e found = get-own w.entries g.tenant g refl ∙ found
 
@@ -42,10 +39,6 @@ entry_shown w tenant g e found = kept (is_of tenant g) (map.get w.entries g) (sy
     kept : (b : Bool) (o : Option Entry) → cond b o None ≡ Some e → o ≡ Some e
     kept true o h = h
     kept false o h = absurd (none-some e h)
-
-shown_account : (w : Whole) (tenant : List ℕ) → (shown_to tenant w).account ≡ map.get w.accounts tenant
-unfolding shown_to
-shown_account w tenant = refl
 
 entries_quiet : (w : Whole) → AllQuiet w → pending_in w ≡ 0
 entries_quiet w quiet = in_weighs w ∙ zero_entries (held (λ q. 1)) w.entries (λ g e found.
@@ -65,12 +58,12 @@ within_accounts w tenant a found =
 
 account_quiet : (w : Whole) → sent_in w ≡ 0 → (tenant : List ℕ) (account : Option Account) → map.get w.accounts tenant ≡ account → sends_of account ≡ []
 account_quiet w none tenant None found = refl
-account_quiet w none tenant (Some a) found = no_items a.sends (omega (arith, none, within_accounts w tenant a found))
+account_quiet w none tenant (Some a) found = nil_from_length a.sends (omega (arith, none, within_accounts w tenant a found))
 
 part_quiet : (w : Whole) → pending_in w ≡ 0 → (tenant : List ℕ) → all_pending (shown_to tenant w) ≡ []
 part_quiet w none tenant =
     let m : Machine = shown_to tenant w in
-    no_items (all_pending m) (sym (all_weigh m) ∙ zero_entries (held (λ q. 1)) m.entries (λ g e found.
+    nil_from_length (all_pending m) (sym (all_weigh m) ∙ zero_entries (held (λ q. 1)) m.entries (λ g e found.
     omega (arith, within_all (λ q. 1) w.entries g e (entry_shown w tenant g e found), in_weighs w, none)))
 
 pub quiet_by_counts : QuietByCounts

@@ -1,5 +1,5 @@
 -- How what a grain sent is delivered: by what the whole has of the grain's tenant and at the target.
-use Rattle.std.proofs.Common.{◌≡◌, ◌≢◌, ◌+◌, ◌==◌, true, false, List, ◌++◌, Option, Some, None, refl, ap, sym, ◌∙◌}
+use Rattle.std.proofs.Common.{◌≡◌, ◌≢◌, ◌+◌, ◌==◌, true, false, List, ◌++◌, Option, Some, None, refl, ap, ◌∙◌}
 use Rattle.std.specs.Prelude.{Ok, Err, option_map, option_and_then, nat_lt, length}
 use Rattle.std.specs.FinMap as map
 use Rattle.std.proofs.lemmas.List.{append-nil}
@@ -21,15 +21,11 @@ use Rattle.silo_model.proofs.CallRule.{gate_across, gate_unknown_kind, gate_pass
 use Rattle.silo_model.proofs.CallSteps.{next_request}
 
 module _ (logic : Logic) (w : Whole) (g : Grain) where
-  seen_account : (place : Option Grain) → (context_at (shown_to g.tenant w) place).account ≡ map.get w.accounts g.tenant
-  unfolding context_at shown_to
-  seen_account place = refl
-
   nothing_sent : (account : Option Account) → map.get w.accounts g.tenant ≡ account → option_and_then (delivered logic (context_at (shown_to g.tenant w) None) g) account ≡ None → grain_of account (Deliver g) ≡ None → whole_step logic w (Deliver g) ≡ None
-  unfolding effect_of
+  unfolding effect_of context_at shown_to
   nothing_sent account known does place =
       step_by_context logic w (Deliver g) g.tenant None None refl (ap (λ a. first_target a g) known ∙ place)
-      (ap (option_and_then (delivered logic (context_at (shown_to g.tenant w) None) g)) (seen_account None ∙ known) ∙ does)
+      (ap (option_and_then (delivered logic (context_at (shown_to g.tenant w) None) g)) known ∙ does)
 
   -- the grain's tenant isn't known
   pub deliver_unknown : map.get w.accounts g.tenant ≡ None → whole_step logic w (Deliver g) ≡ None
@@ -55,10 +51,10 @@ module _ (logic : Logic) (w : Whole) (g : Grain) where
       place_is = ap (λ x. first_target x g) known ∙ ap (option_map (λ found. found.0.message.target)) first
 
       pub by_called : (e : Effect) → called logic seen (party.Grain g) target sent.message.call ≡ e → whole_step logic w (Deliver g) ≡ Some (spread w g.tenant (Some target) (on_account rest e))
-      unfolding effect_of
+      unfolding effect_of context_at shown_to
       by_called e is =
           step_by_context logic w (Deliver g) g.tenant (Some target) (Some (on_account rest e)) refl place_is
-          (ap (option_and_then (delivered logic (context_at (shown_to g.tenant w) (Some target)) g)) (seen_account (Some target) ∙ known)
+          (ap (option_and_then (delivered logic (context_at (shown_to g.tenant w) (Some target)) g)) known
           ∙ ap (option_map (delivered_to logic (context_at (shown_to g.tenant w) (Some target)) g a)) first
           ∙ ap (λ (x : Effect). Some (on_account rest x)) is)
 
@@ -66,27 +62,24 @@ module _ (logic : Logic) (w : Whole) (g : Grain) where
       abbrev refused_whole : Fault → Whole
       refused_whole why = record w { accounts = map.insert w.accounts g.tenant rest; replies = w.replies ++ told (party.Grain g) (Err why) }
 
-      spread-refused : (why : Fault) → spread w g.tenant (Some target) (on_account rest (only_replies (told (party.Grain g) (Err why)))) ≡ refused_whole why
-      unfolding spread
-      spread-refused why = refl
-
       refused_by : (why : Fault) → called logic seen (party.Grain g) target sent.message.call ≡ only_replies (told (party.Grain g) (Err why)) → whole_step logic w (Deliver g) ≡ Some (refused_whole why)
-      refused_by why is = by_called _ is ∙ ap Some (spread-refused why)
-
-      seen_tenant : (context_at (shown_to g.tenant w) (Some target)).tenant ≡ g.tenant
-      unfolding context_at shown_to
-      seen_tenant = refl
+      unfolding spread
+      refused_by why is = by_called _ is
 
       -- the target is another tenant's
       pub deliver_across : target.tenant ≢ g.tenant → whole_step logic w (Deliver g) ≡ Some (refused_whole (AcrossTenants g.tenant target.tenant))
+      unfolding context_at shown_to
       deliver_across apart =
-          refused_by _ (called_refused logic seen target (party.Grain g) sent.message.call (AcrossTenants g.tenant target.tenant)
-          (gate_across logic seen target rest refl (λ same. apart (same ∙ seen_tenant)) ∙ ap (λ t. Err (AcrossTenants t target.tenant)) seen_tenant))
+          let why : Fault = AcrossTenants g.tenant target.tenant in
+          refused_by why (called_refused logic seen target (party.Grain g) sent.message.call why (gate_across logic seen target rest refl apart))
 
       module _ (own : target.tenant ≡ g.tenant) where
         pub deliver_unknown_kind : logic.knows target.kind ≡ false → whole_step logic w (Deliver g) ≡ Some (refused_whole (UnknownKind target.kind))
+        unfolding context_at shown_to
         deliver_unknown_kind unknown =
-            refused_by _ (called_refused logic seen target (party.Grain g) sent.message.call (UnknownKind target.kind) (gate_unknown_kind logic seen target rest refl (own ∙ sym seen_tenant) unknown))
+            let why : Fault = UnknownKind target.kind in
+            refused_by why
+            (called_refused logic seen target (party.Grain g) sent.message.call why (gate_unknown_kind logic seen target rest refl own unknown))
 
         -- ---- behind the gate, what is seen is what the whole has
 

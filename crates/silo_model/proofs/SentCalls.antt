@@ -1,9 +1,10 @@
 -- What a turn sends is delivered.
-use Rattle.std.proofs.Common.{◌≡◌, ℕ, ◌+◌, Bool, true, false, List, [], ◌∷◌, ◌++◌, Option, Some, None, refl, ap, ◌∙◌, true≢false}
-use Rattle.std.specs.Prelude.{nat_lt, ◌||◌, option_map, if◌then◌else◌}
+use Rattle.std.proofs.Common.{◌≡◌, ℕ, ◌+◌, Bool, true, false, List, [], ◌∷◌, ◌++◌, Option, Some, None, refl, ap, ◌∙◌}
+use Rattle.std.specs.Prelude.{nat_lt, option_map, if◌then◌else◌}
 use Rattle.std.specs.List.{list_any}
 use Rattle.std.specs.Ordering.{eq_by_cmp}
 use Rattle.std.specs.FinMap as map
+use Rattle.std.proofs.lemmas.Bool.{or_parts}
 use Rattle.grain_id.specs.Names.{Grain, grain_cmp, grain_eq}
 use Rattle.grain_id.proofs.Order.{eq_by_cmp-Decides, grain_cmp_total, grain_cmp_exact, grain_eq_decides, text_cmp_total, text_cmp_exact}
 use Rattle.grain_id.proofs.Maps.{get-insert_same, get-insert_other}
@@ -26,15 +27,11 @@ use Rattle.silo_model.proofs.SendSteps.{deliver_new}
 abbrev found_first : Bool → Send → List Send → Option (Send × List Send) → Option (Send × List Send)
 found_first b s sends rest = if b then Some (s, sends) else option_map (λ found. (found.0, s ∷ found.1)) rest
 
-neither : (a b : Bool) → a || b ≡ false → (a ≡ false) × (b ≡ false)
-neither true b e = absurd (true≢false e)
-neither false b e = (refl, e)
-
 -- behind sends of others, what the grain sends next is its first
 first_from-append : (g : Grain) (sends : List Send) (o : Outgoing) (os : List Outgoing) → list_any (λ s. grain_eq s.source g) sends ≡ false → first_from g (sends ++ sent_by g (o ∷ os)) ≡ Some (record { source = g; message = o }, sends ++ sent_by g os)
 first_from-append g [] o os none = ap (λ b. found_first b (record { source = g; message = o }) (sent_by g os) (first_from g (sent_by g os))) ((grain_eq_decides g g).1 refl)
 first_from-append g (s ∷ sends) o os none =
-    let parts = neither (grain_eq s.source g) (list_any (λ x. grain_eq x.source g) sends) none in
+    let parts = or_parts (grain_eq s.source g) (list_any (λ x. grain_eq x.source g) sends) none in
     ap (λ b. found_first b s (sends ++ sent_by g (o ∷ os)) (first_from g (sends ++ sent_by g (o ∷ os)))) parts.0
     ∙ ap (found_first false s (sends ++ sent_by g (o ∷ os))) (first_from-append g sends o os parts.1)
 

@@ -7,7 +7,6 @@ use Rattle.request_codec.specs.Tree.{Tree}
 use Rattle.grain_storage.specs.declared.row.Row.{Row}
 use Rattle.grain_storage.specs.Rows.{RowFault, stale, spent, version_of, content_or}
 use Rattle.silo_model.specs.Stores.{version_value}
-use Rattle.silo_event.specs.declared.fault.Fault.{Fault}
 use Rattle.silo_event.specs.declared.fault.Fault.TheVariants.{StorageFailed, StateChanged, VersionsSpent, NoMemory}
 use Rattle.silo_event.specs.declared.step.Step.TheVariants.{Store, End, Abandon}
 use Rattle.grain_kinds.specs.Logic.{Logic, Plan, Outgoing, StorageCall, asks_nothing, reads_row, writes_row, clears_row}
@@ -93,14 +92,10 @@ module _ (logic : Logic) (w : Whole) (g : Grain) (turn : ℕ) where
     store_loading failed is = store_found failed None (never _ (map.get e.turns turn) (λ request. ap (stored logic (seen_at w g) g failed e request) is))
 
     module _ (request : Request) (open_turn : map.get e.turns turn ≡ Some request) where
-      spread-abandoned : spread w g.tenant (Some g) (abandoned (seen_at w g) e request)
-          ≡ record w { entries = map.insert w.entries g (record e { turns = map.remove e.turns request.number; last = w.clock }); replies = w.replies ++ reply_to request.sender (Err NoMemory) }
-      unfolding spread
-      spread-abandoned = refl
-
       pub abandon_turn : whole_step logic w (Abandon g turn)
           ≡ Some (record w { entries = map.insert w.entries g (record e { turns = map.remove e.turns request.number; last = w.clock }); replies = w.replies ++ reply_to request.sender (Err NoMemory) })
-      abandon_turn = abandon_found (Some (abandoned (seen_at w g) e request)) (ap (option_and_then (abandoning e)) open_turn) ∙ ap Some spread-abandoned
+      unfolding spread
+      abandon_turn = abandon_found (Some (abandoned (seen_at w g) e request)) (ap (option_and_then (abandoning e)) open_turn)
 
       module _ (state : Tree) (version : Option ℕ) (is : e.phase ≡ ready state version) (plan : Plan) (planned : plan_of logic g state request ≡ plan) where
         -- ---- End
@@ -131,10 +126,6 @@ module _ (logic : Logic) (w : Whole) (g : Grain) (turn : ℕ) where
           replies = w.replies ++ reply_to request.sender (outcome_of plan.outcome);
         }
 
-        spread-ended : spread w g.tenant (Some g) (record (closed (seen_at w g) e request plan.state version keep (outcome_of plan.outcome)) { account = with_sends g (map.get w.accounts g.tenant) plan.sends }) ≡ ended_whole plan.sends
-        unfolding spread
-        spread-ended = refl
-
         -- the plan's state stands, its sends go out, and its outcome is the reply
         pub end_turn : plan.storage ≡ asks_nothing
             → whole_step logic w (End g turn) ≡ Some (record w {
@@ -142,7 +133,8 @@ module _ (logic : Logic) (w : Whole) (g : Grain) (turn : ℕ) where
               entries = map.insert w.entries g (closed_turn w e request plan.state version);
               replies = w.replies ++ reply_to request.sender (outcome_of plan.outcome);
             })
-        end_turn asks = end_planned asks_nothing (Some (record (closed (seen_at w g) e request plan.state version keep (outcome_of plan.outcome)) { account = with_sends g (map.get w.accounts g.tenant) plan.sends })) asks refl ∙ ap Some spread-ended
+        unfolding spread
+        end_turn asks = end_planned asks_nothing _ asks refl
 
         -- a plan that sends nothing leaves the account
         pub end_silent_turn : plan.storage ≡ asks_nothing → plan.sends ≡ []
@@ -173,21 +165,13 @@ module _ (logic : Logic) (w : Whole) (g : Grain) (turn : ℕ) where
             → whole_step logic w (Store g turn false) ≡ Some (spread w g.tenant (Some g) answer)
         store_done storage answer asks h = store_planned false storage (Some answer) asks h
 
-        spread-failed : spread w g.tenant (Some g) (closed (seen_at w g) e request state version keep (Err StorageFailed)) ≡ record w { entries = map.insert w.entries g (closed_turn w e request state version); replies = w.replies ++ reply_to request.sender (Err StorageFailed) }
-        unfolding spread
-        spread-failed = refl
-
         -- the storage failed
         pub store_failed : (storage : StorageCall) (answer : Effect) → plan.storage ≡ storage → stored_by logic (seen_at w g) g e request state version storage ≡ Some answer
             → whole_step logic w (Store g turn true) ≡ Some (record w { entries = map.insert w.entries g (closed_turn w e request state version); replies = w.replies ++ reply_to request.sender (Err StorageFailed) })
-        store_failed storage answer asks h = store_planned true storage (Some answer) asks h ∙ ap Some spread-failed
+        unfolding spread
+        store_failed storage answer asks h = store_planned true storage (Some answer) asks h
 
         -- ---- what the storage may answer
-
-        spread-closed : (new : Tree) (at : Option ℕ) (row : Change Row) (outcome : Result Tree Fault) → spread w g.tenant (Some g) (closed (seen_at w g) e request new at row outcome)
-            ≡ record w { entries = map.insert w.entries g (closed_turn w e request new at); rows = change_at w.rows g row; replies = w.replies ++ reply_to request.sender outcome }
-        unfolding spread
-        spread-closed new at row outcome = refl
 
         -- the row is read again
         pub store_read : plan.storage ≡ reads_row
@@ -195,7 +179,8 @@ module _ (logic : Logic) (w : Whole) (g : Grain) (turn : ℕ) where
               entries = map.insert w.entries g (closed_turn w e request (content_or (logic.empty g.kind) (map.get w.rows g)) (version_of (map.get w.rows g)));
               replies = w.replies ++ reply_to request.sender (Ok (version_value (version_of (map.get w.rows g))));
             })
-        store_read asks = store_done reads_row _ asks refl ∙ ap Some (spread-closed (content_or (logic.empty g.kind) (map.get w.rows g)) (version_of (map.get w.rows g)) keep _)
+        unfolding spread
+        store_read asks = store_done reads_row _ asks refl
 
         -- a write and a clearing differ in the state that the entry has after them
         module _ (storage : StorageCall) (asks : plan.storage ≡ storage) (new : Tree) (r : Result (Option ℕ × Change Row) RowFault)
@@ -210,19 +195,17 @@ module _ (logic : Logic) (w : Whole) (g : Grain) (turn : ℕ) where
                 rows = change_at w.rows g row;
                 replies = w.replies ++ reply_to request.sender (Ok (version_value at));
               })
-          store_changed at row is = by_answer (Ok (at, row)) is ∙ ap Some (spread-closed new at row (Ok (version_value at)))
+          unfolding spread
+          store_changed at row is = by_answer (Ok (at, row)) is
 
           -- it has no version left
           pub store_spent : r ≡ Err spent
               → whole_step logic w (Store g turn false) ≡ Some (record w { entries = map.insert w.entries g (closed_turn w e request state version); replies = w.replies ++ reply_to request.sender (Err (VersionsSpent g)) })
-          store_spent is = by_answer (Err spent) is ∙ ap Some (spread-closed state version keep (Err (VersionsSpent g)))
-
-          spread-ended_activation : (there : Option ℕ) → spread w g.tenant (Some g) (row_changed (seen_at w g) g e request state version new (Err (stale there)))
-              ≡ record w { entries = change_at w.entries g (ends_activation e request e.queue); replies = w.replies ++ reply_to request.sender (Err (StateChanged g)) }
           unfolding spread
-          spread-ended_activation there = refl
+          store_spent is = by_answer (Err spent) is
 
           -- it isn't the one that the entry stands on: the activation ends
           pub store_stale : (there : Option ℕ) → r ≡ Err (stale there)
               → whole_step logic w (Store g turn false) ≡ Some (record w { entries = change_at w.entries g (ends_activation e request e.queue); replies = w.replies ++ reply_to request.sender (Err (StateChanged g)) })
-          store_stale there is = by_answer (Err (stale there)) is ∙ ap Some (spread-ended_activation there)
+          unfolding spread
+          store_stale there is = by_answer (Err (stale there)) is

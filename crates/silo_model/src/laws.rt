@@ -6,6 +6,7 @@ ghost use Rattle.silo_model.specs.Exclusive.{JournalsAreExclusive, RunsAreExclus
 ghost use Rattle.silo_model.specs.FirstCall.{FirstCallAnswered};
 ghost use Rattle.silo_model.specs.Gates.{GateIsTables};
 ghost use Rattle.silo_model.specs.Laws.{FailingIsPossible, ReplayIsRun, AgreeingLists, OwnPart, OtherParts, NotNow, RunsOn, JournalsReplay, JournalsGrow, PartsLead};
+ghost use Rattle.silo_model.specs.Order.{BeginInOrder};
 ghost use Rattle.silo_model.specs.Parts.{StepAnswersInParts, RunsAnswer};
 ghost use Rattle.silo_model.specs.Pending.{QuietByCounts};
 ghost use Rattle.silo_model.specs.Readers.{ReadersTogether};
@@ -162,4 +163,10 @@ pub fn sends_are_own()
 /// anyone.
 pub fn quiet_by_counts()
     ensures { QuietByCounts }
+{}
+
+/// Requests of one grain begin in the order in which they were accepted: what waits stands in that
+/// order, and what is open was accepted before all that waits.
+pub fn begin_in_order()
+    ensures { BeginInOrder }
 {}

@@ -1,0 +1,222 @@
+-- What waits at a grain stands in the order in which it was accepted, and what is open was accepted before it.
+use Rattle.std.proofs.Common.{◌≡◌, ℕ, ◌+◌, ◌<◌, ◌≤◌, Bool, true, false, List, [], ◌∷◌, ◌++◌, Option, Some, None, refl, ap, sym, ◌∙◌, subst, arith}
+use Rattle.std.specs.Prelude.{option_map, nat_le, if◌then◌else◌}
+use Rattle.std.specs.Ordering.{nat_cmp, eq_by_cmp}
+use Rattle.std.specs.Cmp.{nat_cmp_total}
+use Rattle.std.specs.FinMap as map
+use Rattle.std.proofs.lemmas.Option.{same_Some, none-some}
+use Rattle.grain_id.specs.Names.{Grain, grain_cmp}
+use Rattle.grain_id.proofs.Order.{grain_cmp_total, grain_cmp_exact}
+use Rattle.silo_event.specs.Owner.{owner_of}
+use Rattle.silo_event.specs.declared.step.Step.{Step}
+use Rattle.silo_event.specs.declared.step.Step.TheVariants.{Tick, Sweep}
+use Rattle.grain_kinds.specs.Logic.{Logic, Outgoing}
+use Rattle.silo_model.specs.Machine.{Machine, Account, Entry, Request}
+use Rattle.silo_model.specs.Effect.{Context, Effect, Change, keep, change_option, context_at, applied}
+use Rattle.silo_model.specs.Calls.{with_request}
+use Rattle.silo_model.specs.Turns.{with_sends}
+use Rattle.silo_model.specs.Step.{grain_of, effect_of, shared_step, step_by, machine_step}
+use Rattle.silo_model.specs.Whole.{shown_to}
+use Rattle.silo_model.specs.Run.{restricted_to}
+use Rattle.silo_model.specs.Opening.{Setup, start_of}
+use Rattle.silo_model.specs.Journal.{machine_all_done}
+use Rattle.silo_model.specs.Order.{AllBehind, Ascend, BeginInOrder}
+use Rattle.silo_model.proofs.Changes.{bound, OfPutAt, changed_all}
+use Rattle.silo_model.proofs.EffectKinds.{Role, role_of, Does, tells, pokes, accepts, goes_on, unloads, opens, closes, Remains, untouched, without, IsLeft, stays, goes, effect_kind}
+use Rattle.silo_model.proofs.Moves.{count_of}
+use Rattle.silo_model.proofs.Journals.{parts_lead}
+use Rattle.silo_model.proofs.QuietCounts.{shown_entry}
+use Rattle.silo_model.proofs.SharedSteps.{get-kept_there}
+use Rattle.silo_model.proofs.TurnMaps.{get-remove_open}
+
+-- ---- requests up to a number
+
+-- each was among the first that were accepted, so many of them
+abbrev pub AllUpTo : ℕ → List Request → Type 0
+AllUpTo count [] = Unit {0}
+AllUpTo count (q ∷ queue) = (q.number ≤ count) × AllUpTo count queue
+
+all_up : (count after : ℕ) (queue : List Request) → count ≤ after → AllUpTo count queue → AllUpTo after queue
+all_up count after [] grown all = tt
+all_up count after (q ∷ queue) grown all = (omega (arith, grown, all.0), all_up count after queue grown all.1)
+
+up_push : (count : ℕ) (queue : List Request) (q : Request) → AllUpTo count queue → q.number ≤ count → AllUpTo count (queue ++ q ∷ [])
+up_push count [] q all new = (new, tt)
+up_push count (first ∷ queue) q all new = (all.0, up_push count queue q all.1 new)
+
+behind_push : (n : ℕ) (queue : List Request) (q : Request) → AllBehind n queue → n < q.number → AllBehind n (queue ++ q ∷ [])
+behind_push n [] q all new = (new, tt)
+behind_push n (first ∷ queue) q all new = (all.0, behind_push n queue q all.1 new)
+
+-- what is accepted last stands last
+ascend_push : (count : ℕ) (queue : List Request) (q : Request)
+    → Ascend queue → AllUpTo count queue → count < q.number → Ascend (queue ++ q ∷ [])
+ascend_push count [] q all up new = (tt, tt)
+ascend_push count (first ∷ queue) q all up new =
+    (behind_push first.number queue q all.0 (omega (arith, up.0, new)), ascend_push count queue q all.1 up.1 new)
+
+-- ---- an entry
+
+-- an entry in order, of whose tenant so many requests were accepted
+pub record IsOrdered (count : ℕ) (e : Entry) : Type 0 where
+  pub queue : Ascend e.queue
+  pub counted : AllUpTo count e.queue
+  pub turns : (n : ℕ) (turn : Request) → map.get e.turns n ≡ Some turn → (turn.number ≤ count) × AllBehind turn.number e.queue
+
+grown : (count after : ℕ) (e : Entry) → count ≤ after → IsOrdered count e → IsOrdered after e
+grown count after e more is = record {
+  queue = is.queue;
+  counted = all_up count after e.queue more is.counted;
+  turns = λ n turn found. let law = is.turns n turn found in (omega (arith, more, law.0), law.1);
+}
+
+-- one that is asked for the first time, or once more
+asked : (clock count : ℕ) (q : Request) (found : Option Entry) → q.number ≡ count + 1
+    → ((e : Entry) → found ≡ Some e → IsOrdered count e) → IsOrdered (count + 1) (with_request clock q found)
+asked clock count q None next old =
+    record {
+      queue = (tt, tt);
+      counted = (omega (arith, next), tt);
+      turns = λ n turn found. absurd (none-some turn (sym (map.get-empty nat_cmp n) ∙ found));
+    }
+asked clock count q (Some e) next old =
+    let is = old e refl in
+    let new : count < q.number = omega (arith, next) in
+    record {
+      queue = ascend_push count e.queue q is.queue is.counted new;
+      counted = up_push (count + 1) e.queue q (all_up count (count + 1) e.queue (omega arith) is.counted) (omega (arith, next));
+      turns = λ n turn found.
+          let law = is.turns n turn found in
+          (omega (arith, law.0), behind_push turn.number e.queue q law.1 (omega (arith, law.0, new)));
+    }
+
+-- the first that waits becomes an open turn
+module _ (count : ℕ) (e : Entry) (first : Request) (others : List Request) (waits : e.queue ≡ first ∷ others) (is : IsOrdered count e) where
+  abbrev Rest : Request → Type 0
+  Rest turn = (turn.number ≤ count) × AllBehind turn.number others
+
+  front : AllBehind first.number others × Ascend others
+  front = subst Ascend waits is.queue
+
+  counts : (first.number ≤ count) × AllUpTo count others
+  counts = subst (AllUpTo count) waits is.counted
+
+  turn_is : (n : ℕ) (turn : Request) (same : Bool) → (if same then Some first else map.get e.turns n) ≡ Some turn → Rest turn
+  turn_is n turn true found = subst Rest (same_Some first turn found) (counts.0, front.0)
+  turn_is n turn false found = let law = is.turns n turn found in (law.0, (subst (AllBehind turn.number) waits law.1).1)
+
+  begun : IsOrdered count (record e { queue = others; turns = map.insert e.turns first.number first })
+  begun = record {
+    queue = front.1;
+    counted = counts.1;
+    turns = λ n turn found.
+        turn_is n turn (eq_by_cmp nat_cmp n first.number) (sym (map.get-insert nat_cmp_total e.turns first.number first n) ∙ found);
+  }
+
+-- ---- what a step does
+
+of_account : (o : Option Account) (c : Change Account) → Remains o c → count_of (change_option o c) ≡ count_of o
+of_account o keep untouched = refl
+of_account o _ (without a g found is first) = ap count_of (sym is)
+
+of_sends : (g : Grain) (o : Option Account) (sends : List Outgoing) → count_of (change_option o (with_sends g o sends)) ≡ count_of o
+of_sends g o [] = refl
+of_sends g None (m ∷ sends) = refl
+of_sends g (Some a) (m ∷ sends) = refl
+
+-- Nothing that was accepted is forgotten, and the entry that is put is in order.
+pub record Orders (s : Context) (grain : Option Grain) (e : Effect) : Type 0 where
+  pub counts : count_of s.account ≤ count_of (change_option s.account e.account)
+  pub left : OfPutAt (λ (g : Grain). IsOrdered (count_of (change_option s.account e.account))) grain e.entry
+
+module _ (logic : Logic) (s : Context) (step : Step) (old : (x : Entry) → s.entry ≡ Some x → IsOrdered (count_of s.account) x) where
+  by_left : (g : Grain) (e : Entry) (request : Request) (c : Change Entry) (after : ℕ)
+      → IsOrdered (count_of s.account) e → after ≡ count_of s.account → IsLeft logic g e request c → OfPutAt (λ (g : Grain). IsOrdered after) (Some g) c
+  by_left g e request _ after is same (stays phase last ready) =
+      grown (count_of s.account) after (record e { phase = phase; turns = map.remove e.turns request.number; last = last }) (omega (arith, same))
+      (record { queue = is.queue; counted = is.counted; turns = λ n turn found. is.turns n turn (get-remove_open e.turns request.number n turn found) })
+  by_left g e request _ after is same (goes none stores) = tt
+
+  by_kind : (role : Role) (grain : Option Grain) (e : Effect) → Does logic s step role grain e → Orders s grain e
+  by_kind _ _ _ (tells p grain left outcome remains) = record { counts = omega (arith, of_account s.account left remains); left = nothing_put grain }
+    where
+      nothing_put : (grain : Option Grain) → OfPutAt (λ (g : Grain). IsOrdered (count_of (change_option s.account left))) grain keep
+      nothing_put grain = tt
+  by_kind _ _ _ (pokes p g row outcome own touches) = record { counts = omega arith; left = tt }
+  by_kind _ _ _ (accepts p g call left a own remains is) =
+      let same : a.count ≡ count_of s.account = ap count_of (sym is) ∙ of_account s.account left remains in
+      record {
+        counts = omega (arith, same);
+        left = asked s.clock a.count _ s.entry refl (λ x found. subst (λ n. IsOrdered n x) (sym same) (old x found));
+      }
+  by_kind _ _ _ (goes_on g e phase is unready) =
+      let o = old e is in
+      record { counts = omega arith; left = record { queue = o.queue; counted = o.counted; turns = o.turns } }
+  by_kind _ _ _ (unloads g e is unready) = record { counts = omega arith; left = tt }
+  by_kind _ _ _ (opens g e first others is ready waits may) = record { counts = omega arith; left = begun (count_of s.account) e first others waits (old e is) }
+  by_kind _ _ _ (closes g turn e request left sends row outcome is open_turn is_left own touches) =
+      let same = of_sends g s.account sends in
+      record { counts = omega (arith, same); left = by_left g e request left _ (old e is) same is_left }
+
+-- ---- the machine
+
+abbrev pub IsOrderedMachine : Machine → Type 0
+IsOrderedMachine m = (g : Grain) (e : Entry) → map.get m.entries g ≡ Some e → IsOrdered (count_of m.account) e
+
+module _ (logic : Logic) (m new : Machine) (s : Step) (ordered : IsOrderedMachine m) where
+  abbrev place : Option Grain
+  place = grain_of m.account s
+
+  sees : (grain : Option Grain) (x : Entry) → (context_at m grain).entry ≡ Some x → IsOrdered (count_of m.account) x
+  unfolding context_at
+  sees None x found = absurd (none-some x found)
+  sees (Some g) x found = ordered g x found
+
+  done_at : (e : Effect) → Orders (context_at m place) place e → IsOrderedMachine (applied m place e)
+  unfolding context_at applied
+  done_at e orders =
+      changed_all grain_cmp_total grain_cmp_exact (λ (g : Grain). IsOrdered (count_of (change_option m.account e.account)))
+      m.entries place e.entry
+      (λ g x found. grown _ _ x orders.counts (ordered g x found)) orders.left
+
+  by_effect : (r : Option Effect) → effect_of logic (context_at m place) s ≡ r → option_map (applied m place) r ≡ Some new → IsOrderedMachine new
+  unfolding context_at
+  by_effect None is h = absurd (none-some new h)
+  by_effect (Some e) is h =
+      subst IsOrderedMachine (same_Some (applied m place e) new h)
+      (done_at e (by_kind logic (context_at m place) s (sees place) (role_of s) place e (effect_kind logic (context_at m place) s e is)))
+
+  ticked_so : (now : ℕ) (b : Bool) → (if b then Some (record m { clock = now }) else None) ≡ Some new → IsOrderedMachine new
+  ticked_so now true h = subst IsOrderedMachine (same_Some (record m { clock = now }) new h) ordered
+  ticked_so now false h = absurd (none-some new h)
+
+  shared_so : (s : Step) → shared_step m s ≡ Some new → IsOrderedMachine new
+  shared_so (Tick now) h = ticked_so now (nat_le m.clock now) h
+  shared_so Sweep h = subst IsOrderedMachine (same_Some _ new h) (λ g e found. ordered g e (get-kept_there m.clock m.age m.entries g e found))
+  shared_so _ h = absurd (none-some new h)
+
+  by_owner : (o : Option (List ℕ)) → step_by logic m s o ≡ Some new → IsOrderedMachine new
+  by_owner None h = shared_so s h
+  by_owner (Some owner) h = by_effect (effect_of logic (context_at m place) s) refl h
+
+  stays_ordered : machine_step logic m s ≡ Some new → IsOrderedMachine new
+  unfolding machine_step
+  stays_ordered h = by_owner (owner_of s) h
+
+all_ordered : (logic : Logic) (m after : Machine) (steps : List Step) → IsOrderedMachine m
+    → machine_all_done logic m steps ≡ Some after → IsOrderedMachine after
+all_ordered logic m after [] ordered e = subst IsOrderedMachine (same_Some m after e) ordered
+all_ordered logic m after (s ∷ steps) ordered e =
+    let next = bound (λ x. machine_all_done logic x steps) (machine_step logic m s) after e in
+    all_ordered logic next.0 after steps (stays_ordered logic m next.0 s ordered next.1) next.2
+
+starts_ordered : (setup : Setup) (tenant : List ℕ) → IsOrderedMachine (start_of setup tenant)
+unfolding start_of
+starts_ordered setup tenant g e found = absurd (none-some e (sym (map.get-empty grain_cmp g) ∙ found))
+
+pub begin_in_order : BeginInOrder
+begin_in_order logic setup journal w g e leads found =
+    let ordered = all_ordered logic (start_of setup g.tenant) (shown_to g.tenant w) (restricted_to g.tenant journal)
+    (starts_ordered setup g.tenant) (parts_lead logic setup journal w g.tenant leads) in
+    let is = ordered g e (shown_entry w g e found) in
+    record { queue = is.queue; turns = λ n turn at. (is.turns n turn at).1 }
