@@ -62,12 +62,26 @@ impl<L: GrainLogic> Model for FinishedTurn<L> {
     ghost invariant = { λ f. planned_shown f.opened.state f.planned ≡ turn_plan L.logic f.opened };
 }
 
+/// So many bytes, rounded up in steps of a thirty-second to an eighth of them, if they aren't few. Blocks of
+/// states that grow a little are then of the same sizes, so that one fits where another was.
+fn in_steps(bytes: usize) -> usize {
+    let step = match bytes {
+        0..1_024 => return bytes,
+        1_024..4_096 => 128,
+        4_096..16_384 => 512,
+        16_384..65_536 => 2_048,
+        65_536..262_144 => 8_192,
+        _ => 32_768,
+    };
+    bytes.saturating_add(step) - bytes % step
+}
+
 /// How many bytes the state after the turn has about: what a message adds to it is mostly no longer than the message.
 fn room_for(opened: &OpenedTurn) -> usize
     ensures { FitsState opened.now.state }
 {
     let state = opened.state.bytes().len();
-    state.saturating_add(opened.message.bytes().len())
+    in_steps(state.saturating_add(opened.message.bytes().len()))
 }
 
 /// The plan of a turn, in bytes of its own.

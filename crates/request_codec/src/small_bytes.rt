@@ -13,6 +13,9 @@ use std::sync::ArcSlice;
 /// text has 5 more than the text.
 const SHORT: usize = 22;
 
+/// From how many bytes on a block that is nearly full stays as it is.
+const LARGE: usize = 1_024;
+
 /// The most bytes that spell a number's decimal text: 20 digits, and 5 bytes in front of them.
 const DECIMAL: usize = 25;
 
@@ -36,7 +39,14 @@ fn hold_short(bytes: &[u8]) -> SmallBytes
     SmallBytes::Short(count as u8, short)
 }
 
-/// The bytes, held. Shared ones keep no spare room.
+/// Whether so many bytes may stay in a block of this size. A large block that is nearly full stays as it
+/// is: if its end were given back, what is made next would take that, and the hole that the block leaves
+/// one day would be a few bytes too short for the next one of its kind.
+fn may_stay(count: usize, room: usize) -> bool {
+    count >= LARGE && room.saturating_sub(count) <= count / 4
+}
+
+/// The bytes, held. Shared ones keep little spare room, and none if they are few.
 pub(crate) fn hold(bytes: Vec<u8>) -> Result<SmallBytes, AllocError>
     ensures { IfOk result (λ held. bytes_of_small held ≡ bytes.items) }
 {
@@ -44,7 +54,9 @@ pub(crate) fn hold(bytes: Vec<u8>) -> Result<SmallBytes, AllocError>
         return Ok(hold_short(bytes.as_slice()));
     }
     let mut bytes = bytes;
-    bytes.shrink_to_fit();
+    if !may_stay(bytes.len(), bytes.capacity()) {
+        bytes.shrink_to_fit();
+    }
     Ok(SmallBytes::Long(ArcSlice::from_vec(bytes)?))
 }
 
