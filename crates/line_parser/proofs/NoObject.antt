@@ -2,7 +2,7 @@
 use Rattle.std.proofs.Common.{◌≡◌, false, List, [], ◌∷◌, Option, Some, None, option_map, option_and_then, refl, ap, ◌∙◌, arith}
 use Rattle.json.specs.Token.{Token}
 use Rattle.json.specs.Json as json
-use Rattle.json.specs.Json.{parse_map, if_last, items, value}
+use Rattle.json.specs.Json.{parse_map, items, value}
 use Rattle.json.proofs.Grammar.{value_is, value-begin_array}
 use Rattle.serde_json.specs.Data.{Data, null, boolean, number, string, array, object}
 use Rattle.serde_json.specs.Find.{as_object}
@@ -12,7 +12,7 @@ use Rattle.line_parser.specs.Form.{step_of_json}
 use Rattle.line_parser.specs.LineMembers.{begins_object, asked_by}
 use Rattle.line_parser.proofs.GrammarLoops.{whole}
 
-no_form : (d : Data) → as_object d ≡ None → step_of_json d ≡ None
+pub no_form : (d : Data) → as_object d ≡ None → step_of_json d ≡ None
 unfolding step_of_json
 no_form null e = refl
 no_form (boolean b) e = refl

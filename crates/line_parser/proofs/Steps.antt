@@ -1,62 +1,105 @@
 -- The step that an object asks for, once it is known where its members are.
 use Rattle.std.proofs.Common.{false, ◌≡◌, ℕ, ◌+◌, ◌<◌, ◌≤◌, true, ◌==◌, List, [], ◌∷◌, ◌++◌, length, Bool, Option, Some, None, Result, Ok, Err, pos, refl, sym, ap, subst, ◌∙◌, arith, lt-ltb, le-leb, ne_eqb}
-use Rattle.std.specs.Prelude.{◌≢◌, ◌^◌, option_map, option_and_then, IfSome, IfNone, IfOk, IsUtf8}
+use Rattle.std.specs.Prelude.{◌≢◌, ◌^◌, codes, option_map, option_and_then, IfSome, IfNone, IfOk, IsUtf8}
 use Rattle.std.proofs.lemmas.Bool.{lt-leb}
 use Rattle.std.proofs.lemmas.Bool.Decides.{nat_tests}
 use Rattle.serde_json.specs.Data.{Data, null, unsigned, Members, object}
-use Rattle.serde_json.specs.Find.{get_member, as_bool, as_str, as_i64, as_number}
+use Rattle.serde_json.specs.Find.{get, get_member, as_bool, as_str, as_i64, as_number}
 use Rattle.request_codec.specs.Limits.{message_limit, state_limit}
 use Rattle.request_codec.specs.Tree.{Tree}
 use Rattle.request_codec.specs.Call.{asks, message_call, state_value}
 use Rattle.request_codec.specs.Answers.{message_length, spelled_length}
 use Rattle.line_parser.specs.Lenient.{lenient_value}
 use Rattle.request_codec.specs.Written.{text_spelling, spelling}
-use Rattle.request_codec.proofs.Encoded.{encoded_message, encoded_state, same_found}
+use Rattle.request_codec.proofs.Encoded.{encoded_message, same_found}
 use Rattle.request_codec.proofs.JsonDepths.{within_depth}
-use Rattle.request_codec.proofs.Spelled.{length-message, length-spelling}
+use Rattle.request_codec.proofs.Spelled.{length-message, length-spelling, state_spelled}
+use Rattle.request_codec.proofs.Whole.{state_again}
+use Rattle.request_codec.specs.Spelling.{SpellsState}
 use Rattle.silo_event.specs.declared.refusal.Refusal.{Refusal}
 use Rattle.silo_event.specs.declared.refusal.Refusal.TheVariants as refusal
-use Rattle.line_parser.specs.Form.{natural, where_so, text_at, natural_at, truth_at, unless_refused, within_or, value_asked, message_asked, state_asked, form_of}
-use Rattle.line_parser.specs.Step.{form_text, of_form, said_by, FindsIn, Finds}
+use Rattle.line_parser.specs.Form.{natural, where_so, text_at, natural_at, truth_at, has_members, argument_at, unless_refused, within_or, value_asked, message_asked, state_asked, form_of}
+use Rattle.line_parser.specs.Step.{form_text, of_form, said_by, IsValue, IsValueOf, AreMembersOf, FindsIn, Finds}
 use Rattle.silo_event.specs.declared.step.Step.{Step}
 use Rattle.line_parser.specs.declared.line_members.LineMembers.{LineMembers}
+use Rattle.line_parser.specs.declared.line_members.ValueIn.{ValueIn}
+use Rattle.line_parser.specs.declared.line_members.ValueIn.TheVariants.{Bytes, Json}
 use Rattle.line_parser.specs.declared.step.Form.{Form}
 use Rattle.line_parser.specs.declared.step.Form.TheVariants as form
-use Rattle.line_parser.specs.LineMembers.{a_text, a_number, a_truth, Holds, put_bytes, IsArgument, IsAsked}
+use Rattle.line_parser.specs.declared.line_members.Name.TheVariants.{Op, From, Id, Grain, Method, Turn, Now, Failed, Args, State}
+use Rattle.line_parser.specs.LineMembers.{a_text, a_number, a_truth, Holds, put_bytes, IsArgument, IsAsked, HoldsLineMembers}
 
 -- ---- members
 
-pub text_in : {A : Type 0} (o p : Option A) (f : A → List ℕ) (name : List ℕ) (found : Members) → Holds (option_map (λ t. a_text (f t)) o) (get_member name found) → o ≡ p → text_at name (object found) ≡ option_map f p
-text_in None p f name found h e = ap (option_and_then as_str) h ∙ ap (option_map f) e
-text_in (Some t) p f name found h e = ap (option_and_then as_str) (h.1 ∙ ap (λ x. Some x) h.2) ∙ ap (option_map f) e
+text_in : {A : Type 0} (o : Option A) (f : A → List ℕ) (name : List ℕ) (found : Members) → Holds (option_map (λ t. a_text (f t)) o) (get_member name found) → text_at name (object found) ≡ option_map f o
+text_in None f name found h = ap (option_and_then as_str) h
+text_in (Some t) f name found h = ap (option_and_then as_str) (h.1 ∙ ap (λ x. Some x) h.2)
 
 abbrev natural_of : Option Data → Option ℕ
 natural_of o = option_and_then (λ v. option_and_then (λ n. option_and_then natural (as_i64 n)) (as_number v)) o
 
-pub natural_in : (o p : Option ℕ) (name : List ℕ) (found : Members) → Holds (option_map a_number o) (get_member name found) → o ≡ p → natural_at name (object found) ≡ p
-natural_in None p name found h e = ap natural_of h ∙ e
-natural_in (Some n) p name found h e =
+natural_in : (o : Option ℕ) (name : List ℕ) (found : Members) → Holds (option_map a_number o) (get_member name found) → natural_at name (object found) ≡ o
+natural_in None name found h = ap natural_of h
+natural_in (Some n) name found h =
     let fits : as_i64 (unsigned n) ≡ Some (pos n) = rw (lt-ltb _ _ h.2.1) refl in
-    ap natural_of (h.1 ∙ ap (λ x. Some x) h.2.0) ∙ ap (option_and_then natural) fits ∙ e
+    ap natural_of (h.1 ∙ ap (λ x. Some x) h.2.0) ∙ ap (option_and_then natural) fits
 
-pub natural_below : (o : Option ℕ) (n : ℕ) (m : Option Data) → Holds (option_map a_number o) m → o ≡ Some n → n < 2 ^ 63
-natural_below o n m h e = (subst (λ x. Holds (option_map a_number x) m) e h).2.1
+natural_below : (o : Option ℕ) (m : Option Data) → Holds (option_map a_number o) m → IfSome o (λ n. n < 2 ^ 63)
+natural_below None m h = tt
+natural_below (Some n) m h = h.2.1
 
-pub truth_in : (o : Option Bool) (name : List ℕ) (found : Members) → Holds (option_map a_truth o) (get_member name found) → truth_at name (object found) ≡ o
+truth_in : (o : Option Bool) (name : List ℕ) (found : Members) → Holds (option_map a_truth o) (get_member name found) → truth_at name (object found) ≡ o
 truth_in None name found h = ap (option_and_then as_bool) h
 truth_in (Some b) name found h = ap (option_and_then as_bool) (h.1 ∙ ap (λ x. Some x) h.2)
 
-pub put_in : (a b : Bool) (why : Option Refusal) (l : List ℕ) (o : Option Data) → Holds (put_bytes a why l) o → a ≡ b → Holds (put_bytes b why l) o
-put_in a b why l o h e = subst (λ x. Holds (put_bytes x why l) o) e h
+-- the bytes are a value's
+abbrev pub AreBytes : List ℕ → ValueIn → Type 0
+AreBytes l (Bytes b) = b.now ≡ l
+AreBytes l (Json v) = ⊥
+
+value_known : (l : List ℕ) (a : ValueIn) (why : Option Refusal) (json : Data) → AreBytes l a → IsAsked why json l → IsValue a why json
+value_known l (Bytes b) why json same is = subst (IsAsked why json) (sym same) is
+value_known l (Json v) why json same is = absurd same
+
+value_in : (l : List ℕ) (a : ValueIn) (there : Bool) (why : Option Refusal) (o : Option Data) → AreBytes l a → Holds (put_bytes there why l) o → IsValueOf a there why o
+value_in l a true why o same h = (h.0, h.1, value_known l a why h.0 same h.2)
+value_in l a false why o same h = h
+
+-- what went to the slots of an object is what its members are
+pub held_members : (found : Members) (s : LineMembers) (l : List ℕ) (a : ValueIn) → AreBytes l a → HoldsLineMembers found s l → AreMembersOf (object found) s a
+held_members found s l a same h = record {
+  op = text_in s.op (λ t. t.now) (codes "op") found (h.each Op);
+  from = text_in s.from (λ t. t.now) (codes "from") found (h.each From);
+  grain = text_in s.grain (λ t. t.now) (codes "grain") found (h.each Grain);
+  method = text_in s.method (λ t. t.now) (codes "method") found (h.each Method);
+  id = natural_in s.id (codes "id") found (h.each Id);
+  turn = natural_in s.turn (codes "turn") found (h.each Turn);
+  moment = natural_in s.moment (codes "now") found (h.each Now);
+  within = natural_below s.moment _ (h.each Now);
+  failed = truth_in s.failed (codes "failed") found (h.each Failed);
+  args = λ six. value_in l a s.args s.refusal _ same (h.each Args);
+  state = λ five. value_in l a s.state s.refusal _ same (h.each State);
+  count = λ n. ap (λ m. m == n) h.count;
+}
+
+pub value_as : (a : ValueIn) (b c : Bool) (why : Option Refusal) (o : Option Data) → IsValueOf a b why o → b ≡ c → IsValueOf a c why o
+value_as a b c why o h e = subst (λ x. IsValueOf a x why o) e h
+
+pub value_is : (a b : ValueIn) (why : Option Refusal) (json : Data) → IsValue a why json → a ≡ b → IsValue b why json
+value_is a b why json is same = subst (λ v. IsValue v why json) same is
 
 same_count : (n : ℕ) → (n == n) ≡ true
 same_count n = grind (arith, nat_tests)
 
-pub counted : (m k n : ℕ) → m ≡ k → k ≡ n → (m == n) ≡ true
-counted m k n e is = ap (λ i. i == n) (e ∙ is) ∙ same_count n
+pub counted : {b : Bool} (m n : ℕ) → b ≡ (m == n) → m ≡ n → b ≡ true
+counted m n e is = e ∙ ap (λ i. i == n) is ∙ same_count n
 
-pub not_counted : (m k n : ℕ) → m ≡ k → k ≢ n → (m == n) ≡ false
-not_counted m k n e not = ne_eqb m n (λ is. not (sym e ∙ is))
+pub not_counted : {b : Bool} (m n : ℕ) → b ≡ (m == n) → m ≢ n → b ≡ false
+not_counted m n e not = e ∙ ne_eqb m n not
+
+-- the argument of six members
+pub argument_in : (d json : Data) → has_members 5 d ≡ false → has_members 6 d ≡ true → get (codes "args") d ≡ Some json → argument_at d ≡ Some json
+argument_in d json not_five six is = rw (not_five, six) is
 
 pub null_argument : IsArgument null (0 ∷ [])
 unfolding spelling
@@ -77,27 +120,31 @@ message_refused why code method argument json is some =
 pub state_refused : (why : Option Refusal) (code : Refusal) (l : List ℕ) (json : Data) → IsAsked why json l → why ≡ Some code → state_asked json ≡ Err code
 state_refused why code l json is some = ap (λ asked. unless_refused asked (λ v. within_or refusal.TooLarge (spelled_length v) state_limit v)) (refused_as why code json l is some)
 
-pub message_of : (items method argument : List ℕ) (json : Data) → IsUtf8 method → IsArgument json argument → (items ≡ 1 ∷ (text_spelling method ++ argument)) × (length items ≤ message_limit)
-    → message_call items ≡ Some (asks method (lenient_value json))
-message_of items method argument json valid is put =
-    let v = lenient_value json in
-    let bytes : items ≡ 1 ∷ (text_spelling method ++ spelling v) = put.0 ∙ ap (λ (a : List ℕ). 1 ∷ (text_spelling method ++ a)) is.spelled in
-    let short : length (1 ∷ (text_spelling method ++ spelling v)) ≤ message_limit = subst (λ (l : List ℕ). length l ≤ message_limit) bytes put.1 in
-    encoded_message items method v valid (within_depth json v is.deep is.whole.0, is.whole.1) (bytes, short)
+short_message : (method argument : List ℕ) (json : Data) → IsArgument json argument → 5 + length method + length argument ≤ message_limit → message_length method (lenient_value json) ≤ message_limit
+short_message method argument json is short = omega (arith, short, ap length is.spelled, length-spelling (lenient_value json))
 
-pub message_fits : (items method argument : List ℕ) (json : Data) → IsArgument json argument → (items ≡ 1 ∷ (text_spelling method ++ argument)) × (length items ≤ message_limit) → message_asked method json ≡ Ok (asks method (lenient_value json))
-message_fits items method argument json is put =
+pub message_of : (items method argument : List ℕ) (json : Data) → IsUtf8 method → IsArgument json argument → items ≡ 1 ∷ (text_spelling method ++ argument) → 5 + length method + length argument ≤ message_limit
+    → message_call items ≡ Some (asks method (lenient_value json))
+message_of items method argument json valid is put short =
     let v = lenient_value json in
-    let bytes : items ≡ 1 ∷ (text_spelling method ++ spelling v) = put.0 ∙ ap (λ (a : List ℕ). 1 ∷ (text_spelling method ++ a)) is.spelled in
-    let short : message_length method v ≤ message_limit = omega (arith, put.1, ap length bytes, length-message method v) in
-    rw (le-leb _ _ is.deep, is.whole.0, le-leb _ _ short) refl
+    let bytes : items ≡ 1 ∷ (text_spelling method ++ spelling v) = put ∙ ap (λ (a : List ℕ). 1 ∷ (text_spelling method ++ a)) is.spelled in
+    let fits : length (1 ∷ (text_spelling method ++ spelling v)) ≤ message_limit = omega (arith, short_message method argument json is short, length-message method v) in
+    encoded_message items method v valid (within_depth json v is.deep is.whole.0, is.whole.1) (bytes, fits)
+
+pub message_fits : (method argument : List ℕ) (json : Data) → IsArgument json argument → 5 + length method + length argument ≤ message_limit → message_asked method json ≡ Ok (asks method (lenient_value json))
+message_fits method argument json is short = rw (le-leb _ _ is.deep, is.whole.0, le-leb _ _ (short_message method argument json is short)) refl
+
+pub state_spells : (l : List ℕ) (json : Data) → IsArgument json l → length l ≤ state_limit → SpellsState (lenient_value json) l
+state_spells l json is short =
+    let v = lenient_value json in
+    let fits : spelled_length v ≤ state_limit = omega (arith, short, ap length is.spelled, length-spelling v) in
+    subst (SpellsState v) (sym is.spelled) (state_spelled v is.whole.1 (within_depth json v is.deep is.whole.0) fits)
 
 pub state_fits : (l : List ℕ) (state : Tree) (json : Data) → IsArgument json l → length l ≤ state_limit → state_value l ≡ Some state → state_asked json ≡ Ok state
 state_fits l state json is short read =
     let v = lenient_value json in
-    let spelled : length (spelling v) ≤ state_limit = subst (λ (k : List ℕ). length k ≤ state_limit) is.spelled short in
-    let fits : spelled_length v ≤ state_limit = omega (arith, spelled, length-spelling v) in
-    let same : state ≡ v = same_found (state_value l) state v read (encoded_state l v (within_depth json v is.deep is.whole.0, is.whole.1) (is.spelled, spelled)) in
+    let fits : spelled_length v ≤ state_limit = omega (arith, short, ap length is.spelled, length-spelling v) in
+    let same : state ≡ v = same_found (state_value l) state v read (state_again l v (state_spells l json is short)) in
     let asked : state_asked json ≡ Ok v = rw (le-leb _ _ is.deep, is.whole.0, le-leb _ _ fits) refl in
     asked ∙ ap (λ x. Ok x) (sym same)
 
@@ -142,6 +189,6 @@ named_or_none None op d known other = other d
 named_or_none (Some form) op d known other = form_is form op d known
 
 -- what is found of a form's members is found of those of the form given
-pub finds_as : {E : Type 0} (given form : Form) (members : LineMembers) (l : List ℕ) (r : Result (Option Step) E) → given ≡ form → IfOk r (λ step. Finds members (of_form form) step) → IfOk r (λ step. FindsIn members l (of_form given) step)
-finds_as given form members l (Ok step) is h = λ found holds. ap (λ f. of_form f (object found)) is ∙ h l found holds
-finds_as given form members l (Err e) is h = h
+pub finds_as : {E : Type 0} (given form : Form) (members : LineMembers) (a : ValueIn) (r : Result (Option Step) E) → given ≡ form → IfOk r (λ step. Finds members (of_form form) step) → IfOk r (λ step. FindsIn members a (of_form given) step)
+finds_as given form members a (Ok step) is h = λ d holds. ap (λ f. of_form f d) is ∙ h a d holds
+finds_as given form members a (Err e) is h = h

@@ -7,7 +7,7 @@ ghost use Rattle.request_codec.specs.Tree.{depth};
 ghost use Rattle.request_codec.specs.Seen.{value_of};
 ghost use Rattle.request_codec.specs.Answers.{spelled_length};
 ghost use Rattle.silo_event.specs.declared.refusal.Refusal.TheVariants as refusal;
-ghost use Rattle.line_parser.specs.Form.{within_or, message_asked, state_asked, grain_asked, step_or_refusal, call_with, poke_with, call_asked, poke_asked};
+ghost use Rattle.line_parser.specs.Form.{within_or, message_asked, state_asked, grain_asked, step_or_refusal, call_with, poke_with};
 
 use grain_id::{Caller, GrainId, IdFault, NameCache};
 use request_codec::{
@@ -17,8 +17,8 @@ use serde_json::Value;
 use silo_event::{Refusal, Step};
 use std::alloc::{AllocError, Global};
 
-/// The message of a method and its argument, or the first limit that it breaks.
-fn read_message(
+/// The message of a method and an argument in JSON, or the first limit that it breaks.
+pub(crate) fn message_of_json(
     alloc: Global,
     method: &str,
     argument: &Value,
@@ -50,7 +50,10 @@ fn write_state(alloc: Global, value: &Datum) -> Result<Result<StateBytes, Refusa
 }
 
 /// The state that the JSON stands for, or the first limit that it breaks.
-fn read_state(alloc: Global, value: &Value) -> Result<Result<StateBytes, Refusal>, AllocError>
+pub(crate) fn state_of_json(
+    alloc: Global,
+    value: &Value,
+) -> Result<Result<StateBytes, Refusal>, AllocError>
     ensures { IfOk result (λ asked. asked ≡ state_asked (view value.now)) }
 {
     match from_json(alloc, value) {
@@ -120,41 +123,6 @@ pub(crate) fn poke_with(
             grain,
             state: SharedState::new(alloc, state)?,
         }),
-        Err(code) => Ok(Step::Refuse { caller, id, code }),
-    }
-}
-
-/// The call of a method with an argument, or its refusal: the message comes before the grain.
-pub(crate) fn ask_call(
-    alloc: Global,
-    names: &mut NameCache,
-    caller: Caller,
-    id: u64,
-    text: &str,
-    method: &str,
-    argument: &Value,
-) -> Result<Step, AllocError>
-    ensures { IfOk result (λ step. step ≡ call_asked caller id text.now method.now (view argument.now)) }
-{
-    match read_message(alloc, method, argument)? {
-        Ok(message) => call_with(alloc, names, caller, id, text, message),
-        Err(code) => Ok(Step::Refuse { caller, id, code }),
-    }
-}
-
-/// The poke of a state, or its refusal: the state comes before the grain.
-pub(crate) fn ask_poke(
-    alloc: Global,
-    names: &mut NameCache,
-    caller: Caller,
-    id: u64,
-    text: &str,
-    value: &Value,
-) -> Result<Step, AllocError>
-    ensures { IfOk result (λ step. step ≡ poke_asked caller id text.now (view value.now)) }
-{
-    match read_state(alloc, value)? {
-        Ok(state) => poke_with(alloc, names, caller, id, text, state),
         Err(code) => Ok(Step::Refuse { caller, id, code }),
     }
 }

@@ -9,7 +9,6 @@ mod ascii;
 mod asked;
 mod faults;
 mod fields;
-mod forms;
 mod line;
 mod line_members;
 mod members;

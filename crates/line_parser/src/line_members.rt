@@ -12,6 +12,7 @@ use crate::number::whole_number;
 use crate::quick_fault::QuickFault;
 use crate::tokens::Tokens;
 use json::Token;
+use serde_json::Value;
 use silo_event::Refusal;
 
 /// The members that a step may have.
@@ -38,9 +39,15 @@ pub(crate) enum Next {
     Broken,
 }
 
-/// What the members of a line were, each at most once. `args` and `state` say whether they were
-/// there, which is at most one of them; its bytes are kept elsewhere, and `refusal` says why it is
-/// refused, if it is.
+/// Where the value of a member is: in the bytes that spell it, or in JSON.
+#[derive(Clone, Copy)]
+pub(crate) enum ValueIn<'a> {
+    Bytes(&'a [u8]),
+    Json(&'a Value),
+}
+
+/// What the members of a line were. `args` and `state` say whether they were there, which is at most one
+/// of them; its value is kept elsewhere, and `refusal` says why it is refused, if that is known.
 #[derive(Drop)]
 pub(crate) struct LineMembers<'a> {
     pub(crate) op: Option<&'a str>,

@@ -10,7 +10,7 @@ use grain_id::{Caller, GrainId, IdFault, NameCache};
 use std::alloc::{AllocError, Global};
 
 /// The grain of a text, if it is well formed.
-pub(crate) fn read_grain(
+fn read_grain(
     alloc: Global,
     names: &mut NameCache,
     text: &str,
@@ -25,7 +25,7 @@ pub(crate) fn read_grain(
 }
 
 /// The caller of a text, if it is well formed.
-pub(crate) fn read_caller(
+fn read_caller(
     alloc: Global,
     names: &mut NameCache,
     text: &str,

@@ -7,9 +7,9 @@ ghost use Rattle.line_parser.specs.Form.{step_of_json};
 ghost use Rattle.line_parser.specs.Meaning.{json_of_line, meaning_by, meaning_of};
 
 use crate::ascii::is_ascii;
-use crate::forms::read_step;
 use crate::line::{Line, LineRefusal};
-use crate::line_members::{LineMembers, read_members};
+use crate::line_members::{LineMembers, ValueIn, read_members};
+use crate::members::members_of_json;
 use crate::quick_fault::QuickFault;
 use crate::step::step_from;
 use crate::tokens::Tokens;
@@ -33,22 +33,6 @@ fn read_json(alloc: Global, line: &[u8]) -> Result<Option<Value>, AllocError>
         Err(e) if e.is_memory() => Err(AllocError),
         Err(_) => Ok(None),
     }
-}
-
-/// The step of a line that has bytes and isn't too long.
-fn read_request(
-    alloc: Global,
-    names: &mut NameCache,
-    line: &[u8],
-) -> Result<Option<Step>, AllocError>
-    ensures { IfOk result (λ step. step ≡ option_and_then step_of_json (json_of_line line.now)) }
-{
-    let Some(value) = read_json(alloc, line)? else {
-        return Ok(None);
-    };
-    let step = read_step(alloc, names, &value);
-    drop(value);
-    step
 }
 
 /// What a line says, by the step that it asks for.
@@ -84,6 +68,42 @@ impl LineScratch {
     }
 }
 
+/// The step that JSON asks for.
+fn read_step(
+    alloc: Global,
+    scratch: &mut LineScratch,
+    value: &Value,
+) -> Result<Option<Step>, AllocError>
+    ensures { IfOk result (λ step. step_of_json (view value.now) ≡ step) }
+{
+    let Some((members, asked)) = members_of_json(value) else {
+        return Ok(None);
+    };
+    step_from(
+        alloc,
+        &mut scratch.names,
+        &mut scratch.message,
+        &members,
+        asked,
+    )
+}
+
+/// The step of a line that has bytes and isn't too long.
+fn read_request(
+    alloc: Global,
+    scratch: &mut LineScratch,
+    line: &[u8],
+) -> Result<Option<Step>, AllocError>
+    ensures { IfOk result (λ step. option_and_then step_of_json (json_of_line line.now) ≡ step) }
+{
+    let Some(value) = read_json(alloc, line)? else {
+        return Ok(None);
+    };
+    let step = read_step(alloc, scratch, &value);
+    drop(value);
+    step
+}
+
 /// What a line says, by its JSON as `serde_json` reads it: any line. `read_line` says the same, and is
 /// mostly faster.
 pub fn read_any_line(
@@ -99,7 +119,7 @@ pub fn read_any_line(
     if line.len() > LINE_LIMIT {
         return Ok(Line::Refusal(LineRefusal::TooLong));
     }
-    let step = read_request(alloc, &mut scratch.names, line)?;
+    let step = read_request(alloc, scratch, line)?;
     Ok(line_of(step))
 }
 
@@ -127,13 +147,14 @@ fn read_text_step(
     if !all {
         return Ok(None);
     }
-    step_from(
+    let step = step_from(
         alloc,
         &mut scratch.names,
         &mut scratch.message,
         &members,
-        scratch.args.as_slice(),
-    )
+        ValueIn::Bytes(scratch.args.as_slice()),
+    )?;
+    Ok(step)
 }
 
 /// What a line says, without its LF. The quick reader tells it without a tree; a line that it leaves

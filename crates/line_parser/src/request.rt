@@ -1,63 +1,52 @@
 //! What the members of a line ask of a silo for a client.
 
-ghost use Rattle.std.specs.Prelude.{◌≡◌, ◌≤◌, ◌∷◌, ◌++◌, length, IfOk, OnOk, MatchOption, IsSome, None, Some, Ok};
-ghost use Rattle.serde_json.specs.Data.{Data, Members, object};
-ghost use Rattle.request_codec.specs.Call.{message_call, state_value};
-ghost use Rattle.request_codec.specs.Limits.{message_limit};
+ghost use Rattle.std.specs.Prelude.{◌≡◌, ◌<◌, ◌^◌, ◌∷◌, ◌++◌, length, IfOk, OnOk, MatchOption, None, Some};
+ghost use Rattle.serde_json.specs.Data.{Data};
 ghost use Rattle.request_codec.specs.Written.{text_spelling};
 ghost use Rattle.line_parser.specs.Form.{argument_at, message_asked, state_asked, call_of, poke_of, status_of};
-ghost use Rattle.line_parser.specs.LineMembers.{IsAsked, HoldsLineMembers};
-ghost use Rattle.line_parser.specs.Step.{FindsIn, Finds};
+ghost use Rattle.line_parser.specs.LineMembers.{IsAsked};
+ghost use Rattle.line_parser.specs.Step.{IsValue, AreMembersOf, FindsIn, Finds};
 
-use crate::asked::{call_with, poke_with};
-use crate::line_members::LineMembers;
+use crate::asked::{call_with, message_of_json, poke_with, state_of_json};
+use crate::line_members::{LineMembers, ValueIn};
 use crate::named::caller_of;
-use crate::quick_fault::QuickFault;
 use grain_id::NameCache;
-use request_codec::bytes::{put, put_text};
 use request_codec::limits::{MAX_MESSAGE_BYTES, MAX_STATE_BYTES};
-use request_codec::{Message, StateBytes};
+use request_codec::{CodecFault, Message, StateBytes};
 use silo_event::{Refusal, Step};
-use std::alloc::Global;
+use std::alloc::{AllocError, Global};
 
-/// The argument of a call: why it is refused, if it is, and else the bytes that spell it.
+/// The argument of a call, and why it is refused, if that is known.
 #[derive(Clone, Copy)]
 struct Argument<'t> {
     refusal: Option<Refusal>,
-    bytes: &'t [u8],
+    value: ValueIn<'t>,
 }
 
 /// The bytes of a message beside its method and its argument: its version, and how long the method is.
 const MESSAGE_HEAD_BYTES: usize = 5;
 
 /// Writes a message's bytes: those of a method, and those of its argument.
-fn write_message(out: &mut Vec<u8>, method: &str, argument: &[u8]) -> Result<(), QuickFault>
-    ensures { OnOk result ((out.new.items ≡ 1 ∷ (text_spelling method.now ++ argument.now)) × (length out.new.items ≤ message_limit)) }
+fn write_message(out: &mut Vec<u8>, method: &str, argument: &[u8]) -> Result<(), AllocError>
+    requires { length method.now < 2 ^ 32 }
+    ensures { OnOk result (out.new.items ≡ 1 ∷ (text_spelling method.now ++ argument.now)) }
 {
     out.clear();
-    put(out, MAX_MESSAGE_BYTES, &[1])?;
-    put_text(out, MAX_MESSAGE_BYTES, method)?;
-    put(out, MAX_MESSAGE_BYTES, argument)?;
-    Ok(())
-}
-
-/// The message that the bytes spell.
-fn keep_message(alloc: Global, out: &Vec<u8>) -> Result<Message, QuickFault>
-    requires { IsSome (message_call out.now.items) }
-    ensures { IfOk result (λ m. message_call out.now.items ≡ Some m) }
-{
-    Ok(Message::copy_spelling(alloc, out.as_slice())?)
+    out.push(1)?;
+    out.extend_from_slice(&(method.len() as u32).to_be_bytes())?;
+    out.extend_from_slice(method.as_bytes())?;
+    out.extend_from_slice(argument)
 }
 
 /// The message of a method and the bytes of its argument, unless the argument is refused or the message
 /// would be too long.
-fn read_message(
+fn message_of_bytes(
     alloc: Global,
     out: &mut Vec<u8>,
     method: &str,
     refusal: Option<Refusal>,
     argument: &[u8],
-) -> Result<Result<Message, Refusal>, QuickFault>
+) -> Result<Result<Message, Refusal>, AllocError>
     requires { (json : Data) × IsAsked refusal json argument.now }
     ensures { IfOk result (λ asked. (json : Data) → IsAsked refusal json argument.now → message_asked method.now json ≡ asked) }
 {
@@ -68,16 +57,34 @@ fn read_message(
         return Ok(Err(Refusal::TooLong));
     }
     write_message(out, method, argument)?;
-    let message = keep_message(alloc, out)?;
+    let message = Message::copy_spelling(alloc, out.as_slice())?;
     Ok(Ok(message))
 }
 
+/// The message of a method and its argument, or why the call is refused.
+fn read_message(
+    alloc: Global,
+    out: &mut Vec<u8>,
+    method: &str,
+    argument: Argument<'_>,
+) -> Result<Result<Message, Refusal>, AllocError>
+    requires { (json : Data) × IsValue argument.value argument.refusal json }
+    ensures { IfOk result (λ asked. (json : Data) → IsValue argument.entry.value argument.entry.refusal json
+        → message_asked method.now json ≡ asked) }
+{
+    match argument.value {
+        ValueIn::Bytes(bytes) => message_of_bytes(alloc, out, method, argument.refusal, bytes),
+        ValueIn::Json(value) => message_of_json(alloc, method, value),
+    }
+}
+
 /// The state that the bytes spell, unless it is refused or they are too many.
-fn read_state(
+fn state_of_bytes(
     alloc: Global,
     refusal: Option<Refusal>,
     bytes: &[u8],
-) -> Result<Result<StateBytes, Refusal>, QuickFault>
+) -> Result<Result<StateBytes, Refusal>, AllocError>
+    requires { (json : Data) × IsAsked refusal json bytes.now }
     ensures { IfOk result (λ asked. (json : Data) → IsAsked refusal json bytes.now → state_asked json ≡ asked) }
 {
     if let Some(code) = refusal {
@@ -86,25 +93,45 @@ fn read_state(
     if bytes.len() > MAX_STATE_BYTES {
         return Ok(Err(Refusal::TooLarge));
     }
-    let state = StateBytes::read(alloc, bytes)?;
-    Ok(Ok(state))
+    match StateBytes::read(alloc, bytes) {
+        Ok(state) => Ok(Ok(state)),
+        Err(CodecFault::Memory) => Err(AllocError),
+        Err(CodecFault::NotAMessage) => unreachable!(),
+        Err(CodecFault::TooDeep | CodecFault::NotWhole | CodecFault::TooLong) => unreachable!(),
+    }
+}
+
+/// The state of a value, or why the poke is refused.
+fn read_state(
+    alloc: Global,
+    refusal: Option<Refusal>,
+    value: ValueIn<'_>,
+) -> Result<Result<StateBytes, Refusal>, AllocError>
+    requires { (json : Data) × IsValue value refusal json }
+    ensures { IfOk result (λ asked. (json : Data) → IsValue value.entry refusal json → state_asked json ≡ asked) }
+{
+    match value {
+        ValueIn::Bytes(bytes) => state_of_bytes(alloc, refusal, bytes),
+        ValueIn::Json(value) => state_of_json(alloc, value),
+    }
 }
 
 /// The argument of a call: null if it is left out; none if the members are none of a call.
-fn argument_of<'t>(members: &LineMembers<'_>, bytes: &'t [u8]) -> Option<Argument<'t>>
-    ensures { MatchOption result (FindsIn members.now bytes.now argument_at None) (λ argument. (found : Members) → HoldsLineMembers found members.now bytes.now
-        → (json : Data) × (argument_at (object found) ≡ Some json) × IsAsked argument.refusal json argument.bytes.now) }
+fn argument_of<'t>(members: &LineMembers<'_>, value: ValueIn<'t>) -> Option<Argument<'t>>
+    ensures { MatchOption result (FindsIn members.now value.entry argument_at None)
+        (λ argument. (d : Data) → AreMembersOf d members.now value.entry
+        → (json : Data) × (argument_at d ≡ Some json) × IsValue argument.value argument.refusal json) }
 {
     if members.count == 5 {
         return Some(Argument {
             refusal: None,
-            bytes: &[0],
+            value: ValueIn::Bytes(&[0]),
         });
     }
     if members.count == 6 && members.args {
         return Some(Argument {
             refusal: members.refusal,
-            bytes,
+            value,
         });
     }
     None
@@ -117,12 +144,12 @@ pub(crate) fn call_from(
     names: &mut NameCache,
     out: &mut Vec<u8>,
     members: &LineMembers<'_>,
-    bytes: &[u8],
-) -> Result<Option<Step>, QuickFault>
-    requires { (found : Members) × HoldsLineMembers found members.now bytes.now }
-    ensures { IfOk result (λ step. FindsIn members.now bytes.now call_of step) }
+    value: ValueIn<'_>,
+) -> Result<Option<Step>, AllocError>
+    requires { (d : Data) × AreMembersOf d members.now value }
+    ensures { IfOk result (λ step. FindsIn members.now value.entry call_of step) }
 {
-    let Some(argument) = argument_of(members, bytes) else {
+    let Some(argument) = argument_of(members, value) else {
         return Ok(None);
     };
     let Some(caller) = caller_of(alloc, names, members)? else {
@@ -137,7 +164,7 @@ pub(crate) fn call_from(
     let Some(method) = members.method else {
         return Ok(None);
     };
-    match read_message(alloc, out, method, argument.refusal, argument.bytes)? {
+    match read_message(alloc, out, method, argument)? {
         Ok(message) => {
             let step = call_with(alloc, names, caller, id, grain, message)?;
             Ok(Some(step))
@@ -152,9 +179,10 @@ pub(crate) fn poke_from(
     alloc: Global,
     names: &mut NameCache,
     members: &LineMembers<'_>,
-    bytes: &[u8],
-) -> Result<Option<Step>, QuickFault>
-    ensures { IfOk result (λ step. FindsIn members.now bytes.now poke_of step) }
+    value: ValueIn<'_>,
+) -> Result<Option<Step>, AllocError>
+    requires { (d : Data) × AreMembersOf d members.now value }
+    ensures { IfOk result (λ step. FindsIn members.now value.entry poke_of step) }
 {
     if members.count != 5 {
         return Ok(None);
@@ -171,7 +199,7 @@ pub(crate) fn poke_from(
     if !members.state {
         return Ok(None);
     }
-    match read_state(alloc, members.refusal, bytes)? {
+    match read_state(alloc, members.refusal, value)? {
         Ok(state) => {
             let step = poke_with(alloc, names, caller, id, grain, state)?;
             Ok(Some(step))
@@ -185,7 +213,7 @@ pub(crate) fn status_from(
     alloc: Global,
     names: &mut NameCache,
     members: &LineMembers<'_>,
-) -> Result<Option<Step>, QuickFault>
+) -> Result<Option<Step>, AllocError>
     ensures { IfOk result (λ step. Finds members.now status_of step) }
 {
     if members.count != 3 {

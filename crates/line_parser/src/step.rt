@@ -1,14 +1,12 @@
 //! The step that the members of a line ask for.
 
 ghost use Rattle.std.specs.Prelude.{◌≡◌, None, IfSome, IfNone, IfOk};
-ghost use Rattle.serde_json.specs.Data.{Data, Members};
+ghost use Rattle.serde_json.specs.Data.{Data};
 ghost use Rattle.line_parser.specs.Form.{where_so, has_members, grain_at, turn_alone, load_of, store_of, tick_of, sweep_of, form_of, step_of_json};
-ghost use Rattle.line_parser.specs.LineMembers.{HoldsLineMembers};
-ghost use Rattle.line_parser.specs.Step.{form_text, of_form, said_by, FindsIn, Finds};
+ghost use Rattle.line_parser.specs.Step.{form_text, of_form, said_by, AreMembersOf, FindsIn, Finds};
 
-use crate::line_members::LineMembers;
+use crate::line_members::{LineMembers, ValueIn};
 use crate::named::{failed_of, grain_of};
-use crate::quick_fault::QuickFault;
 use crate::request::{call_from, poke_from, status_from};
 use crate::scan::same_text;
 use grain_id::{GrainId, NameCache};
@@ -148,7 +146,7 @@ fn load_from(
     alloc: Global,
     names: &mut NameCache,
     members: &LineMembers<'_>,
-) -> Result<Option<Step>, QuickFault>
+) -> Result<Option<Step>, AllocError>
     ensures { IfOk result (λ step. Finds members.now load_of step) }
 {
     let Some(failed) = failed_of(members, 2) else {
@@ -165,7 +163,7 @@ fn store_from(
     alloc: Global,
     names: &mut NameCache,
     members: &LineMembers<'_>,
-) -> Result<Option<Step>, QuickFault>
+) -> Result<Option<Step>, AllocError>
     ensures { IfOk result (λ step. Finds members.now store_of step) }
 {
     let Some(failed) = failed_of(members, 3) else {
@@ -232,15 +230,15 @@ fn read_form(
     names: &mut NameCache,
     out: &mut Vec<u8>,
     members: &LineMembers<'_>,
-    bytes: &[u8],
+    value: ValueIn<'_>,
     form: Form,
-) -> Result<Option<Step>, QuickFault>
-    requires { (found : Members) × HoldsLineMembers found members.now bytes.now }
-    ensures { IfOk result (λ step. FindsIn members.now bytes.now (of_form form) step) }
+) -> Result<Option<Step>, AllocError>
+    requires { (d : Data) × AreMembersOf d members.now value }
+    ensures { IfOk result (λ step. FindsIn members.now value.entry (of_form form) step) }
 {
     match form {
-        Form::Call => call_from(alloc, names, out, members, bytes),
-        Form::Poke => poke_from(alloc, names, members, bytes),
+        Form::Call => call_from(alloc, names, out, members, value),
+        Form::Poke => poke_from(alloc, names, members, value),
         Form::Status => status_from(alloc, names, members),
         Form::Deliver => Ok(grain_from(alloc, names, members)?.map(|grain| Step::Deliver {
             grain,
@@ -270,10 +268,10 @@ pub(crate) fn step_from(
     names: &mut NameCache,
     out: &mut Vec<u8>,
     members: &LineMembers<'_>,
-    bytes: &[u8],
-) -> Result<Option<Step>, QuickFault>
-    requires { (found : Members) × HoldsLineMembers found members.now bytes.now }
-    ensures { IfOk result (λ step. FindsIn members.now bytes.now step_of_json step) }
+    value: ValueIn<'_>,
+) -> Result<Option<Step>, AllocError>
+    requires { (d : Data) × AreMembersOf d members.now value }
+    ensures { IfOk result (λ step. FindsIn members.now value.entry step_of_json step) }
 {
     let Some(op) = members.op else {
         return Ok(None);
@@ -281,5 +279,5 @@ pub(crate) fn step_from(
     let Some(form) = form_of(op) else {
         return Ok(None);
     };
-    read_form(alloc, names, out, members, bytes, form)
+    read_form(alloc, names, out, members, value, form)
 }

@@ -11,4 +11,4 @@ returns-then-line-gt-LINE_LIMIT c = sym (said_of_long c.args.line.now c.if-line-
 
 pub returns : goal.returns
 returns c =
-    c.line_of.ensures ∙ ap meaning_by c.in_ok-step.ensures ∙ sym (said_of_asked c.args.line.now c.is_empty.ensures c.if-is_empty.false c.if-line-gt-LINE_LIMIT.false)
+    c.line_of.ensures ∙ ap meaning_by (sym c.in_ok-step.ensures) ∙ sym (said_of_asked c.args.line.now c.is_empty.ensures c.if-is_empty.false c.if-line-gt-LINE_LIMIT.false)

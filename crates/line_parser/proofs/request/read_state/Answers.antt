@@ -1,13 +1,13 @@
-use Rattle.line_parser.proofs.Steps.{not_refused, state_refused, state_fits, state_too_large}
+use Rattle.std.proofs.Common.{sym}
+use Rattle.line_parser.proofs.Results.{if_ok_as}
+use Rattle.line_parser.proofs.Steps.{value_is}
 use Rattle.line_parser.proofs.request.read_state.Goals as goal
 
-pub returns-in-Some : goal.returns-in-Some
-returns-in-Some c json is = state_refused c.args.refusal c.in-Some.code c.args.bytes.now json is c.in-Some.is
+pub state_of_bytes-requires : goal.state_of_bytes-requires
+state_of_bytes-requires c = (c.requires.0, value_is _ _ c.args.refusal c.requires.0 c.requires.1 c.in-Bytes.is)
 
-pub returns-then-bytes-gt-MAX_STATE_BYTES : goal.returns-then-bytes-gt-MAX_STATE_BYTES
-returns-then-bytes-gt-MAX_STATE_BYTES c json is =
-    state_too_large c.args.bytes.now json (not_refused c.args.refusal json c.args.bytes.now is c.in_default.is) c.if-bytes-gt-MAX_STATE_BYTES.true
+pub returns-in-Bytes : goal.returns-in-Bytes
+returns-in-Bytes c = if_ok_as c.state_of_bytes.result c.state_of_bytes.ensures λ asked said json is. said json (value_is _ _ c.args.refusal json is c.in-Bytes.is)
 
-pub returns : goal.returns
-returns c json is =
-    state_fits c.args.bytes.now c.in_ok-state.state json (not_refused c.args.refusal json c.args.bytes.now is c.in_default.is) c.if-bytes-gt-MAX_STATE_BYTES.false c.in_ok-state.ensures.reads
+pub returns-in-Json : goal.returns-in-Json
+returns-in-Json c = if_ok_as c.state_of_json.result c.state_of_json.ensures λ asked said json is. rw (value_is _ _ c.args.refusal json is c.in-Json.is) (sym said)

@@ -1,8 +1,0 @@
-use Rattle.std.proofs.Common.{nat_eq, sym, ap, ◌∙◌}
-use Rattle.serde_json.proofs.Views.{members_len-members_view}
-use Rattle.line_parser.specs.Form.{has_count}
-use Rattle.line_parser.proofs.members.has_members.Goals as goal
-
-pub returns-in-Some : goal.returns-in-Some
-returns-in-Some c =
-    ap (λ n. nat_eq n c.args.count) (c.len.ensures.len ∙ sym (members_len-members_view c.in-Some.members.now.entries)) ∙ ap (has_count c.args.count) c.in-Some.ensures
