@@ -3,6 +3,7 @@ pub mod Pushes
 pub mod Pieces
 pub mod LinesOfBytes
 pub mod TakenLines
+pub mod ReadLines
 pub mod StepTexts
 pub mod Saids
 pub mod OwnLines

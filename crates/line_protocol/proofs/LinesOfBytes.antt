@@ -1,10 +1,9 @@
 -- Bytes that were taken, and the lines that they are.
-use Rattle.std.proofs.Common.{◌≡◌, ◌≢◌, ℕ, zero, suc, ◌<◌, ◌≤◌, inl, List, [], ◌∷◌, ◌++◌, length, cond, Option, Some, None, refl, sym, ap, ◌∙◌, subst, arith, append_assoc, append-nil, ne_eqb}
+use Rattle.std.proofs.Common.{◌≡◌, ◌≢◌, ℕ, zero, suc, ◌<◌, inl, List, [], ◌∷◌, ◌++◌, length, cond, Option, Some, None, refl, sym, ap, ◌∙◌, subst, arith, append_assoc, append-nil, ne_eqb}
 use Rattle.std.specs.Io.KnownBytes.{Consumes, Keeps, IsAtEnd, prepend_known}
 use Rattle.std.proofs.KnownBytes.{Consumes-trans, Consumes-kept}
-use Rattle.line_protocol.proofs.Pieces.{slice_range_empty}
 use Rattle.line_protocol.specs.Lines.{onto, lines_of, onto_first, whole_lines}
-use Rattle.line_protocol.specs.LineRuns.{left_of, LinesTaken, TakesLine, HasNoBreak}
+use Rattle.line_protocol.specs.Reading.{Reading, IsFresh, left_of, LinesTaken, TakesLine, HasNoBreak}
 
 HasNoBreak-tail : (x : ℕ) (xs : List ℕ) → HasNoBreak (x ∷ xs) → HasNoBreak xs
 HasNoBreak-tail x xs h k lt = h (suc k) (omega arith)
@@ -113,6 +112,12 @@ prepend-nil (Some bytes) = refl
 pub whole_taken : (front back whole : List ℕ) (rest : Option (List ℕ)) → HasNoBreak front → whole ≡ front ++ 10 ∷ back → TakesLine (prepend_known whole rest) (prepend_known back rest) front
 whole_taken front back whole rest h e = record { one = h; taken = inl (front_taken whole (front ++ 10 ∷ []) back rest (e ∙ sym (append_assoc front (10 ∷ []) back))) }
 
+-- ---- what is read ahead
+
+pub length_some : {A : Type 0} (items : List A) → items ≢ [] → 0 < length items
+length_some [] some = absurd (some refl)
+length_some (x ∷ items) some = omega arith
+
 -- nothing is read ahead
-pub left_of-none : (bytes : List ℕ) (start end : ℕ) (rest : Option (List ℕ)) → end ≤ start → left_of bytes start end rest ≡ rest
-left_of-none bytes start end rest none = ap (λ (ahead : List ℕ). prepend_known ahead rest) (slice_range_empty bytes start end none) ∙ prepend-nil rest
+pub left_of-fresh : (reading : Reading) (rest : Option (List ℕ)) → IsFresh reading → left_of reading rest ≡ rest
+left_of-fresh reading rest fresh = ap (λ (ahead : List ℕ). prepend_known ahead rest) fresh ∙ prepend-nil rest

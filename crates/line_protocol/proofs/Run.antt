@@ -1,7 +1,6 @@
 -- One line more of a run.
-use Rattle.std.proofs.Common.{◌≡◌, ◌≢◌, ℕ, suc, ◌+◌, ◌<◌, ◌≤◌, ◌==◌, Bool, true, false, List, [], ◌∷◌, ◌++◌, length, take, cond, Option, Some, None, IfSome, Result, Err, IfErr, refl, sym, ap, ap₂, ◌∙◌, subst, inl, inr, arith, append_assoc, append-nil, length-append, length-take, take_all, ⊎_elim}
-use Rattle.std.proofs.lemmas.Bool.{cases_lt}
-use Rattle.std.specs.Io.KnownBytes.{Appends, Keeps, IsAtEnd, prepend_known}
+use Rattle.std.proofs.Common.{◌≡◌, ◌≢◌, ℕ, ◌+◌, true, List, [], ◌∷◌, ◌++◌, length, Option, Some, None, IfSome, Result, Err, refl, sym, ap, ap₂, ◌∙◌, subst, inl, inr, arith, append_assoc, append-nil, length-append, ⊎_elim}
+use Rattle.std.specs.Io.KnownBytes.{Appends, Keeps, IsAtEnd}
 use Rattle.std.proofs.KnownBytes.{Appends-trans, Appends-kept, Appends-nil}
 use Rattle.silo_event.specs.declared.step.Answer.{Answer}
 use Rattle.silo_event.specs.declared.step.Step.{Step}
@@ -13,37 +12,23 @@ use Rattle.silo_core.specs.History.{History}
 use Rattle.silo_core.specs.Runs.{Takes}
 use Rattle.silo_core.proofs.Runs.{taken_none, taken_one, taken_on}
 use Rattle.line_protocol.specs.Calls.{HasCause, HasNothingAhead, StopsReading}
-use Rattle.line_protocol.specs.Limits.{kept_limit, lines_limit}
-use Rattle.line_protocol.specs.Lines.{lines_of, onto}
-use Rattle.line_parser.specs.Meaning.{line_limit, meaning_of}
+use Rattle.line_protocol.specs.Limits.{lines_limit}
+use Rattle.line_protocol.specs.Lines.{lines_of}
+use Rattle.line_parser.specs.Meaning.{meaning_of}
 use Rattle.line_protocol.specs.LineTexts.{whole_stepper, said_lines, steps_said, as_taken, lines_text}
-use Rattle.line_protocol.specs.LineRuns.{AnswersLine, AnswersSaid, AnswersLines, AnswersNext, LinesTaken, TakesLine, TakesPart, AreTaken, AreTakenButOne, AnswersAll, left_of, StopsBefore, StopsAt, WrittenInPart, StopsAfter, StopsBy, MayTake, LineStopsBy}
+use Rattle.line_protocol.specs.LineRuns.{AnswersLine, AnswersSaid, AnswersLines, AnswersNext, AnswersAll, StopsBefore, StopsAt, WrittenInPart, StopsAfter, StopsBy, MayTake, LineStopsBy}
+use Rattle.line_protocol.specs.Reading.{Reading, IsFresh, left_of, LinesTaken, TakesLine, TakesPart, AreTaken, AreTakenButOne}
 use Rattle.line_protocol.specs.declared.calls.ReaderCalls.{ReaderCalls}
-use Rattle.line_protocol.specs.declared.line_reader.LineReader.{LineReader}
 use Rattle.line_protocol.specs.declared.written.WriterCalls.{WriterCalls}
 use Rattle.line_protocol.specs.declared.fault.LineFault.{LineFault}
 use Rattle.line_protocol.specs.declared.fault.LineFault.TheVariants as fault
 use Rattle.line_parser.specs.declared.line.Line.{Line}
 use Rattle.line_parser.specs.declared.line.Line.TheVariants as line
-use Rattle.line_parser.proofs.Meaning.{said_under, meaning_of-under, long_under}
 use Rattle.line_protocol.proofs.Saids.{said_lines-more, steps_said-more, as_taken-append, steps_said-taken, lines_text-append}
 use Rattle.line_protocol.proofs.OwnLines.{lines_own}
-use Rattle.line_protocol.proofs.LinesOfBytes.{LinesTaken-trans, LinesTaken-kept, left_of-none}
-use Rattle.line_protocol.proofs.TakenLines.{Took, Took-none, Took-kept, Took-more, TakesLine-lines, are_taken, none_beyond, one_beyond}
-
--- ---- a line that was cut says what the whole line says
-
-said_cut_under : (limit : ℕ) (l : List ℕ) → said_under limit (take (suc limit) l) ≡ said_under limit l
-said_cut_under limit [] = refl
-said_cut_under limit (b ∷ bytes) =
-    ⊎_elim (λ h. ap (λ t. said_under limit (b ∷ t)) (take_all limit bytes (omega arith)))
-    (λ h. long_under limit (b ∷ take limit bytes) (omega (arith, length-take limit bytes)) ∙ sym (long_under limit (b ∷ bytes) (omega arith))) (cases_lt (length bytes) limit)
-
-said_cut_at : (limit cut : ℕ) (l : List ℕ) → cut ≡ suc limit → said_under limit (take cut l) ≡ said_under limit l
-said_cut_at limit cut l e = ap (λ n. said_under limit (take n l)) e ∙ said_cut_under limit l
-
-pub said_cut : (l : List ℕ) → meaning_of (take kept_limit l) ≡ meaning_of l
-said_cut l = meaning_of-under (take kept_limit l) ∙ said_cut_at line_limit kept_limit l refl ∙ sym (meaning_of-under l)
+use Rattle.line_protocol.proofs.LinesOfBytes.{LinesTaken-trans, LinesTaken-kept, left_of-fresh}
+use Rattle.line_protocol.proofs.ReadLines.{all_taken_here, lines_ahead}
+use Rattle.line_protocol.proofs.TakenLines.{Took, Took-kept, Took-more, TakesLine-lines, are_taken, none_beyond, one_beyond}
 
 -- ---- one line more
 
@@ -159,20 +144,17 @@ lines_answered logic count from left old new before after p = lines_own logic ol
 
 -- ---- the end of the input
 
-pub all_taken_here : (input ahead : List ℕ) (rest : Option (List ℕ)) (done : List (List ℕ)) → ahead ≡ [] → IsAtEnd rest → LinesTaken (Some input) (prepend_known ahead rest) done → (rest ≡ Some []) × (lines_of input ≡ done)
-all_taken_here input ahead None done none end h = absurd h
-all_taken_here input ahead (Some bytes) done none end h = (ap Some end, h ∙ ap (λ l. done ++ lines_of l) (ap₂ (λ a b. a ++ b) none end) ∙ append-nil done)
-
-pub LinesDone-all : (logic : Logic) (count n : ℕ) (from : Option (List ℕ)) (ahead : List ℕ) (rest : Option (List ℕ)) (old new : History) (before after : Option (List ℕ)) → n ≡ count → ahead ≡ [] → IsAtEnd rest
-    → LinesDone logic count from (prepend_known ahead rest) old new before after → IfSome from (λ input. AnswersAll logic input n old new rest before after)
-LinesDone-all logic count n None ahead rest old new before after same none end p = tt
-LinesDone-all logic count n (Some input) ahead rest old new before after same none end p =
-    let whole = all_taken_here input ahead rest p.done none end p.taken in record {
+pub LinesDone-all : (logic : Logic) (count n : ℕ) (from : Option (List ℕ)) (reading : Reading) (rest : Option (List ℕ)) (old new : History) (before after : Option (List ℕ))
+    → n ≡ count → IsFresh reading → IsAtEnd rest
+    → LinesDone logic count from (left_of reading rest) old new before after → IfSome from (λ input. AnswersAll logic input n old new rest before after)
+LinesDone-all logic count n None reading rest old new before after same none end p = tt
+LinesDone-all logic count n (Some input) reading rest old new before after same none end p =
+    let whole = all_taken_here input reading rest p.done none end p.taken in record {
       read = whole.0;
       count = same ∙ sym p.counted ∙ ap length (sym whole.1);
       given = p.given;
       text = p.text;
-      answers = subst (λ ls. AnswersLines logic old ls p.given new p.text) (sym whole.1) (lines_answered logic count (Some input) (prepend_known ahead rest) old new before after p);
+      answers = subst (λ ls. AnswersLines logic old ls p.given new p.text) (sym whole.1) (lines_answered logic count (Some input) (left_of reading rest) old new before after p);
       written = p.written;
     }
 
@@ -203,10 +185,10 @@ stops_at logic count input bytes old new before after p = record {
 }
 
 -- what was taken, if nothing is read ahead
-taken_here : (input : List ℕ) (left : Option (List ℕ)) (done : List (List ℕ)) (reading : LineReader) (rest : Option (List ℕ)) → reading.end ≤ reading.start → Took (Some input) left done
-    → TakesPart left (left_of reading.bytes.items reading.start reading.end rest) → AreTaken input rest done
+taken_here : (input : List ℕ) (left : Option (List ℕ)) (done : List (List ℕ)) (reading : Reading) (rest : Option (List ℕ)) → IsFresh reading → Took (Some input) left done
+    → TakesPart left (left_of reading rest) → AreTaken input rest done
 taken_here input left done reading rest none took part =
-    subst (λ (o : Option (List ℕ)). AreTaken input o done) (left_of-none reading.bytes.items reading.start reading.end rest none) (are_taken input left _ done took part)
+    subst (λ (o : Option (List ℕ)). AreTaken input o done) (left_of-fresh reading rest none) (are_taken input left _ done took part)
 
 -- for a reason beside it
 for_reason : (from : Option (List ℕ)) (P Q : List ℕ → Type 0) → ((input : List ℕ) → P input → Q input) → IfSome from P → IfSome from Q
@@ -240,9 +222,9 @@ stops_flushing logic count (Some input) (Some bytes) old new before after p =
     }
 
 -- while the next line is read, or memory is refused before
-pub stops_reading : (logic : Logic) (e : LineFault) (reading : LineReader) (rest : Option (List ℕ)) (writing : WriterCalls) (count : ℕ) (from left : Option (List ℕ)) (old new : History) (before after : Option (List ℕ))
-    → HasCause e reading.calls writing → HasNothingAhead e reading.start reading.end → TakesPart left (left_of reading.bytes.items reading.start reading.end rest) → LinesDone logic count from left old new before after
-    → IfSome from (λ input. StopsBy logic e input reading.calls (left_of reading.bytes.items reading.start reading.end rest) rest writing old new before after)
+pub stops_reading : (logic : Logic) (e : LineFault) (reading : Reading) (rest : Option (List ℕ)) (writing : WriterCalls) (count : ℕ) (from left : Option (List ℕ)) (old new : History) (before after : Option (List ℕ))
+    → HasCause e reading.calls writing → HasNothingAhead e reading.ahead → TakesPart left (left_of reading rest) → LinesDone logic count from left old new before after
+    → IfSome from (λ input. StopsBy logic input reading rest writing old new before after e)
 unfolding stops_before stops_at
 stops_reading logic e reading rest writing count None left old new before after cause none part p = tt
 stops_reading logic e reading rest writing count (Some input) None old new before after cause none part p = absurd p.taken
@@ -270,48 +252,36 @@ cause_of_flushing fault.Memory calls writing is failed = tt
 cause_of_flushing fault.Write calls writing is failed = failed
 
 -- after a failed read nothing is read ahead
-pub nothing_ahead : (e : LineFault) (reading : LineReader) → reading.end ≤ reading.start → HasNothingAhead e reading.start reading.end
+pub nothing_ahead : (e : LineFault) (reading : Reading) → IsFresh reading → HasNothingAhead e reading.ahead
 nothing_ahead fault.Read reading none = none
 nothing_ahead fault.TooMuch reading none = none
 nothing_ahead fault.Memory reading none = tt
 nothing_ahead fault.Write reading none = tt
 
 -- nothing is asked of what is read ahead, where the writer failed
-pub ahead_at_flushing : {T : Type 0} (e : LineFault) (reading : LineReader) → ◌≡◌ {A = Result T LineFault} (Err e) (Err fault.Write) → HasNothingAhead e reading.start reading.end
+pub ahead_at_flushing : {T : Type 0} (e : LineFault) (reading : Reading) → ◌≡◌ {A = Result T LineFault} (Err e) (Err fault.Write) → HasNothingAhead e reading.ahead
 ahead_at_flushing fault.Read reading is = absurd cc
 ahead_at_flushing fault.TooMuch reading is = absurd cc
 ahead_at_flushing fault.Memory reading is = tt
 ahead_at_flushing fault.Write reading is = tt
 
--- bytes that are there are some line
-onto_some : (b : ℕ) (lines : List (List ℕ)) → onto b lines ≢ []
-onto_some b [] h = absurd cc
-onto_some b (l ∷ lines) h = absurd cc
-
-first_some : (t : Bool) (b : ℕ) (lines : List (List ℕ)) → cond t ([] ∷ lines) (onto b lines) ≢ []
-first_some true b lines h = absurd cc
-first_some false b lines h = onto_some b lines h
-
-pub lines_some : (bytes : List ℕ) → 0 < length bytes → lines_of bytes ≢ []
-lines_some [] some h = absurd (omega arith)
-lines_some (b ∷ bytes) some h = first_some (b == 10) b (lines_of bytes) h
-
 -- there are more lines than an input may have
-pub stops_full : (logic : Logic) (calls : ReaderCalls) (unread left : Option (List ℕ)) (writing : WriterCalls) (count : ℕ) (from : Option (List ℕ)) (ahead : List ℕ) (rest : Option (List ℕ)) (old new : History) (before after : Option (List ℕ)) → count ≡ lines_limit → 0 < length ahead
-    → LinesDone logic count from (prepend_known ahead rest) old new before after → IfSome from (λ input. StopsBy logic fault.TooMuch input calls unread left writing old new before after)
-stops_full logic calls unread left writing count None ahead rest old new before after full some p = tt
-stops_full logic calls unread left writing count (Some input) ahead None old new before after full some p = absurd p.taken
-stops_full logic calls unread left writing count (Some input) ahead (Some bytes) old new before after full some p = (
+pub stops_full : (logic : Logic) (reading : Reading) (rest : Option (List ℕ)) (writing : WriterCalls) (count : ℕ) (from : Option (List ℕ)) (old new : History) (before after : Option (List ℕ))
+    → count ≡ lines_limit → reading.ahead ≢ [] → LinesDone logic count from (left_of reading rest) old new before after
+    → IfSome from (λ input. StopsBy logic input reading rest writing old new before after fault.TooMuch)
+stops_full logic reading rest writing count None old new before after full some p = tt
+stops_full logic reading None writing count (Some input) old new before after full some p = absurd p.taken
+stops_full logic reading (Some bytes) writing count (Some input) old new before after full some p = (
   record {
     done = p.done;
-    rest = lines_of (ahead ++ bytes);
+    rest = lines_of (reading.ahead ++ bytes);
     parts = p.taken;
     given = p.given;
     text = p.text;
-    answers = lines_answered logic count (Some input) (Some (ahead ++ bytes)) old new before after p;
+    answers = lines_answered logic count (Some input) (Some (reading.ahead ++ bytes)) old new before after p;
     written = p.written;
   },
-  inl (p.counted ∙ full, lines_some (ahead ++ bytes) (omega (arith, some, length-append ahead bytes))),
+  inl (p.counted ∙ full, lines_ahead reading bytes some),
 )
 
 -- while a line is answered
@@ -360,9 +330,9 @@ stops_for_memory logic count input bytes others old mid new before after l p too
         let all = line_more logic old mid new p.done l p.given p.text took_it.0 p.answers took_it.1 in
         (all.0, took_it.0, lines_own logic old new (p.done ++ l ∷ []) (p.given ++ all.0) (p.text ++ took_it.0) p.leads all.1)
 
-stopped_for_memory : (logic : Logic) (reading : LineReader) (rest : Option (List ℕ)) (writing : WriterCalls) (count : ℕ) (from left next : Option (List ℕ)) (old mid new : History) (before after : Option (List ℕ)) (l : List ℕ)
-    → next ≡ left_of reading.bytes.items reading.start reading.end rest → LinesDone logic count from left old mid before after → TakesLine left next l → MayTake logic mid (meaning_of l) new
-    → IfSome from (λ input. StopsBy logic fault.Memory input reading.calls (left_of reading.bytes.items reading.start reading.end rest) rest writing old new before after)
+stopped_for_memory : (logic : Logic) (reading : Reading) (rest : Option (List ℕ)) (writing : WriterCalls) (count : ℕ) (from left next : Option (List ℕ)) (old mid new : History) (before after : Option (List ℕ)) (l : List ℕ)
+    → next ≡ left_of reading rest → LinesDone logic count from left old mid before after → TakesLine left next l → MayTake logic mid (meaning_of l) new
+    → IfSome from (λ input. StopsBy logic input reading rest writing old new before after fault.Memory)
 unfolding stops_for_memory
 stopped_for_memory logic reading rest writing count None left next old mid new before after l is p took may = tt
 stopped_for_memory logic reading rest writing count (Some input) None next old mid new before after l is p took may = absurd p.taken
@@ -372,20 +342,12 @@ stopped_for_memory logic reading rest writing count (Some input) (Some bytes) (S
   subst (λ (o : Option (List ℕ)). AreTakenButOne input o p.done) is (one_beyond input (Some bytes) (Some others) p.done l p.took took),
 )
 
-pub stops_answering : (logic : Logic) (e : LineFault) (reading : LineReader) (rest : Option (List ℕ)) (writing : WriterCalls) (count : ℕ) (from left : Option (List ℕ)) (old mid new : History) (before during after : Option (List ℕ)) (l : List ℕ) (said : Line)
-    → LinesDone logic count from left old mid before during → TakesLine left (left_of reading.bytes.items reading.start reading.end rest) l → said ≡ meaning_of l → LineStopsBy logic e said writing mid new during after
-    → IfSome from (λ input. StopsBy logic e input reading.calls (left_of reading.bytes.items reading.start reading.end rest) rest writing old new before after)
+pub stops_answering : (logic : Logic) (e : LineFault) (reading : Reading) (rest : Option (List ℕ)) (writing : WriterCalls) (count : ℕ) (from left : Option (List ℕ)) (old mid new : History) (before during after : Option (List ℕ)) (l : List ℕ) (said : Line)
+    → LinesDone logic count from left old mid before during → TakesLine left (left_of reading rest) l → said ≡ meaning_of l → LineStopsBy logic e said writing mid new during after
+    → IfSome from (λ input. StopsBy logic input reading rest writing old new before after e)
 stops_answering logic fault.Read reading rest writing count from left old mid new before during after l said p took e h = absurd h
 stops_answering logic fault.TooMuch reading rest writing count from left old mid new before during after l said p took e h = absurd h
 stops_answering logic fault.Memory reading rest writing count from left old mid new before during after l said p took e h =
     stopped_for_memory logic reading rest writing count from left _ old mid new before after l refl (LinesDone-flushed logic count from left old mid before during after p h.1) took (subst (λ (s : Line). MayTake logic mid s new) e h.0)
 stops_answering logic fault.Write reading rest writing count from left old mid new before during after l said p took e h =
     for_reason from _ _ (λ input stops. (stops, h.1)) (stops_in_writing logic count from left _ old mid new before during after l h.0.0 p (TakesLine-lines left _ l took) (subst (λ (s : Line). AnswersLine logic mid s new h.0.0) e h.0.1) h.0.2)
-
--- what a `?` hands on
-pub handed_on : {T E : Type 0} (r : Result T E) (P : E → Type 0) (e : E) → r ≡ Err e → P e → IfErr r P
-handed_on r P e is h = subst (λ x. IfErr x P) (sym is) h
-
--- a line that is cut in the same place says the same
-pub same_said : (found shown l : List ℕ) → found ≡ shown → take kept_limit shown ≡ take kept_limit l → meaning_of found ≡ meaning_of l
-same_said found shown l e h = ap meaning_of e ∙ sym (said_cut shown) ∙ ap meaning_of h ∙ said_cut l

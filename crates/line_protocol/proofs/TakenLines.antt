@@ -5,7 +5,7 @@ use Rattle.std.proofs.lemmas.List.{nil_from_length}
 use Rattle.std.specs.Io.KnownBytes.{Consumes, Keeps, IsAtEnd}
 use Rattle.std.proofs.KnownBytes.{Consumes-nil, Consumes-kept}
 use Rattle.line_protocol.specs.Lines.{lines_of, whole_lines}
-use Rattle.line_protocol.specs.LineRuns.{LinesTaken, TakesLine, TakesPart, AreTaken, AreTakenButOne, HasNoBreak}
+use Rattle.line_protocol.specs.Reading.{LinesTaken, TakesLine, TakesPart, AreTaken, AreTakenButOne, HasNoBreak}
 use Rattle.line_protocol.proofs.LinesOfBytes.{lines_of-break, whole_lines-break, whole_lines-none, LinesTaken-broken, LinesTaken-last}
 
 -- ---- lines, each with its LF

@@ -1,5 +1,5 @@
 -- What a call of a reader comes to, and why reading ends with a fault, its writer's too.
-use Rattle.std.specs.Prelude.{◌≡◌, ◌≤◌, ℕ, Bool, true, false, List, length, take, Option}
+use Rattle.std.specs.Prelude.{◌≡◌, ◌≤◌, ℕ, Bool, true, false, List, [], length, take, Option}
 use Rattle.std.specs.Io.KnownBytes.{Keeps, Consumes, IsAtEnd}
 use Rattle.line_protocol.specs.Limits.{calls_limit}
 use Rattle.line_protocol.specs.declared.calls.Call.{Call}
@@ -20,7 +20,8 @@ Called old new buffer (Gave n) = (n ≤ length buffer) × Consumes old new (take
 Called old new buffer Interrupted = Keeps old new
 Called old new buffer Failed = Keeps old new
 
--- Reading fails only if the last call of the reader failed, and gives up only if all calls were made. No call of a writer is made.
+-- Reading fails only if the last call of the reader failed, and gives up only if all calls were made. No call of a
+-- writer is made.
 abbrev pub StopsReading : LineFault → ReaderCalls → Type 0
 StopsReading fault.Read calls = calls.failed ≡ true
 StopsReading fault.TooMuch calls = calls.made ≡ calls_limit
@@ -34,9 +35,9 @@ HasCause fault.TooMuch calls writing = calls.made ≡ calls_limit
 HasCause fault.Memory calls writing = Unit {0}
 HasCause fault.Write calls writing = writing.failed ≡ true
 
--- After a fault of reading nothing is read ahead, from `start` to `end`: a call of the reader failed, or would be one too many.
-abbrev pub HasNothingAhead : LineFault → ℕ → ℕ → Type 0
-HasNothingAhead fault.Read start end = end ≤ start
-HasNothingAhead fault.TooMuch start end = end ≤ start
-HasNothingAhead fault.Memory start end = Unit {0}
-HasNothingAhead fault.Write start end = Unit {0}
+-- After a fault of reading nothing is read ahead: a call of the reader failed, or would be one too many.
+abbrev pub HasNothingAhead : LineFault → List ℕ → Type 0
+HasNothingAhead fault.Read ahead = ahead ≡ []
+HasNothingAhead fault.TooMuch ahead = ahead ≡ []
+HasNothingAhead fault.Memory ahead = Unit {0}
+HasNothingAhead fault.Write ahead = Unit {0}

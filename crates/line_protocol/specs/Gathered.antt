@@ -17,7 +17,8 @@ pub record ReadsAll (input : List ℕ) (all : List Line) (left : Option (List �
 abbrev pub HasTooMany : Option (List ℕ) → Type 0
 HasTooMany input = IfSome input (λ bytes. lines_limit < length (lines_of bytes))
 
--- Why reading all lines of an input ends: the last call of the reader failed; there are too many lines, or all calls of the reader were made; or memory was refused. Nothing is written.
+-- Why reading all lines of an input ends: the last call of the reader failed; there are too many lines, or all calls of the
+-- reader were made; or memory was refused. Nothing is written.
 abbrev pub StopsGathering : LineFault → Option (List ℕ) → ReaderCalls → Type 0
 StopsGathering fault.Read input calls = calls.failed ≡ true
 StopsGathering fault.TooMuch input calls = HasTooMany input ⊎ (calls.made ≡ calls_limit)

@@ -1,6 +1,6 @@
 -- What a run over lines leaves: in the silo, in the reader and in the writer, and as each tenant sees it.
-use Rattle.std.specs.Prelude.{◌≡◌, ◌≢◌, ℕ, ◌<◌, ◌≤◌, List, [], ◌∷◌, ◌++◌, length, slice_index, slice_range, true, Option, Some, None, Ok, ◌⊎◌, ⊤}
-use Rattle.std.specs.Io.KnownBytes.{Appends, Keeps, Consumes, IsAtEnd, prepend_known}
+use Rattle.std.specs.Prelude.{◌≡◌, ◌≢◌, ℕ, ◌≤◌, List, [], ◌∷◌, ◌++◌, length, true, Option, Some, Ok, ◌⊎◌}
+use Rattle.std.specs.Io.KnownBytes.{Appends, Keeps}
 use Rattle.silo_event.specs.Failed.{marked_step}
 use Rattle.silo_event.specs.declared.step.Answer.{Answer}
 use Rattle.grain_kinds.specs.Logic.{Logic}
@@ -10,12 +10,13 @@ use Rattle.silo_model.specs.Parts.{AnsweredAlone}
 use Rattle.silo_core.specs.History.{History, Answered}
 use Rattle.silo_core.specs.Runs.{Takes}
 use Rattle.line_protocol.specs.Limits.{calls_limit, lines_limit}
-use Rattle.line_protocol.specs.Lines.{lines_of, whole_lines}
+use Rattle.line_protocol.specs.Lines.{lines_of}
+use Rattle.line_protocol.specs.Reading.{Reading, AreTaken, AreTakenButOne, left_of}
 use Rattle.line_protocol.specs.Text.{refusal_line}
-use Rattle.line_protocol.specs.LineTexts.{whole_stepper, machine_stepper, said_lines, steps_said, as_taken, ended, line_text, line_texts, lines_text, lines_to, texts_to}
+use Rattle.line_protocol.specs.LineTexts.{whole_stepper, machine_stepper, said_lines, steps_said, as_taken}
+use Rattle.line_protocol.specs.LineTexts.{ended, line_text, line_texts, lines_text, lines_to, texts_to}
 use Rattle.line_parser.specs.declared.line.Line.{Line}
 use Rattle.line_parser.specs.declared.line.Line.TheVariants as line
-use Rattle.line_protocol.specs.declared.calls.ReaderCalls.{ReaderCalls}
 use Rattle.line_protocol.specs.declared.written.WriterCalls.{WriterCalls}
 use Rattle.line_protocol.specs.declared.fault.LineFault.{LineFault}
 use Rattle.line_protocol.specs.declared.fault.LineFault.TheVariants as fault
@@ -26,66 +27,36 @@ use Rattle.line_protocol.specs.declared.fault.LineFault.TheVariants as fault
 abbrev pub AnswersLine : Logic → History → Line → History → List ℕ → Type 0
 AnswersLine logic old line.Nothing new text = (new ≡ old) × (text ≡ [])
 AnswersLine logic old (line.Refusal r) new text = (new ≡ old) × (text ≡ ended (refusal_line r))
-AnswersLine logic old (line.Step s) new text = (a : Answer) × Answered logic old s (Ok a) new × (text ≡ line_text (whole_stepper logic) old.whole (line.Step (marked_step s a)))
+AnswersLine logic old (line.Step s) new text =
+    (a : Answer) × Answered logic old s (Ok a) new
+    × (text ≡ line_text (whole_stepper logic) old.whole (line.Step (marked_step s a)))
 
 -- The silo took the steps that are said, each with its answer, and this is the text of all that is said.
-pub record AnswersSaid (logic : Logic) (old : History) (saids : List Line) (given : List Answer) (new : History) (text : List ℕ) : Type 0 where
+pub record AnswersSaid (logic : Logic) (old : History) (saids : List Line) (given : List Answer) (new : History)
+    (text : List ℕ) : Type 0 where
   pub silo : Takes logic old (steps_said saids) given new
   pub text_is : text ≡ lines_text (whole_stepper logic) old.whole (as_taken saids given)
 
--- For one tenant: the answers at its steps are its own machine's over these steps alone, which lead that machine to the tenant's part; and the texts of the lines that concern it are what that machine writes for these lines alone.
+-- For one tenant: the answers at its steps are its own machine's over these steps alone, which lead that machine to the
+-- tenant's part; and the texts of the lines that concern it are what that machine writes for these lines alone.
 pub record AnswersOwn (logic : Logic) (tenant : List ℕ) (w : Whole) (saids : List Line) (given : List Answer) : Type 0 where
   pub silo : AnsweredAlone logic tenant w (steps_said saids) given
   pub texts : texts_to tenant saids (line_texts (whole_stepper logic) w (as_taken saids given))
-      ≡ line_texts (machine_stepper logic) (shown_to tenant w) (as_taken (lines_to tenant saids) (answers_to tenant (steps_said saids) given))
+      ≡ line_texts (machine_stepper logic) (shown_to tenant w)
+      (as_taken (lines_to tenant saids) (answers_to tenant (steps_said saids) given))
 
 -- The silo took these lines, and this is their text; and so it is for every tenant alone.
-pub record AnswersLines (logic : Logic) (old : History) (lines : List (List ℕ)) (given : List Answer) (new : History) (text : List ℕ) : Type 0 where
+pub record AnswersLines (logic : Logic) (old : History) (lines : List (List ℕ)) (given : List Answer) (new : History)
+    (text : List ℕ) : Type 0 where
   pub all : AnswersSaid logic old (said_lines lines) given new text
   pub own : (tenant : List ℕ) → AnswersOwn logic tenant old.whole (said_lines lines) given
 
 -- the same, and one line more
 abbrev pub AnswersNext : Logic → History → List (List ℕ) → List (List ℕ) → List Answer → History → List ℕ → Type 0
 AnswersNext logic old done [] given new text = ⊥
-AnswersNext logic old done (l ∷ rest) given new text = (more : List Answer) × (last : List ℕ) × AnswersLines logic old (done ++ l ∷ []) (given ++ more) new (text ++ last)
-
--- ---- the reader
-
--- the bytes that were read ahead and not taken, and then what the reader has left
-abbrev pub left_of : List ℕ → ℕ → ℕ → Option (List ℕ) → Option (List ℕ)
-left_of bytes start end rest = prepend_known (slice_range bytes start end) rest
-
--- of what was left, these lines were taken, where it is known
-abbrev pub LinesTaken : Option (List ℕ) → Option (List ℕ) → List (List ℕ) → Type 0
-LinesTaken None new lines = ⊤
-LinesTaken (Some bytes) None lines = ⊥
-LinesTaken (Some bytes) (Some others) lines = lines_of bytes ≡ lines ++ lines_of others
-
-abbrev pub HasNoBreak : List ℕ → Type 0
-HasNoBreak bytes = (k : ℕ) → k < length bytes → slice_index bytes k ≢ 10
-
--- one line was taken: with its LF, or the last one of the input without
-pub record TakesLine (old new : Option (List ℕ)) (l : List ℕ) : Type 0 where
-  pub one : HasNoBreak l
-  pub taken : Consumes old new (l ++ 10 ∷ []) ⊎ ((0 < length l) × Consumes old new l × IsAtEnd new)
-
--- at most the front of a line was taken, and no LF
-pub record TakesPart (old new : Option (List ℕ)) : Type 0 where
-  pub front : List ℕ
-  pub one : HasNoBreak front
-  pub taken : Consumes old new front
-
--- Of the input this is left, and these are the lines of what was taken: those that end with LF, and at the end of the input also a last one without.
-pub record AreTaken (input : List ℕ) (left : Option (List ℕ)) (lines : List (List ℕ)) : Type 0 where
-  pub taken : List ℕ
-  pub parts : Consumes (Some input) left taken
-  pub all : (lines ≡ whole_lines taken) ⊎ ((lines ≡ lines_of taken) × IsAtEnd left)
-
--- the same of these lines, and of one more at most
-pub record AreTakenButOne (input : List ℕ) (left : Option (List ℕ)) (lines : List (List ℕ)) : Type 0 where
-  pub last : List (List ℕ)
-  pub at_most_one : length last ≤ 1
-  pub all : AreTaken input left (lines ++ last)
+AnswersNext logic old done (l ∷ rest) given new text =
+    (more : List Answer) × (last : List ℕ)
+    × AnswersLines logic old (done ++ l ∷ []) (given ++ more) new (text ++ last)
 
 -- ---- a run
 
@@ -127,7 +98,8 @@ pub record WrittenInPart (before after : Option (List ℕ)) (bytes : List ℕ) :
   pub parts : bytes ≡ front ++ back
   pub written : Appends before after front
 
--- The silo took the lines before the failing one, and that one, if there is one. The text of the lines before was written whole, and a part of its own.
+-- The silo took the lines before the failing one, and that one, if there is one. The text of the lines before was written
+-- whole, and a part of its own.
 pub record StopsAfter (logic : Logic) (lines : List (List ℕ)) (old new : History) (before after : Option (List ℕ)) : Type 0 where
   pub done : List (List ℕ)
   pub last : List (List ℕ)
@@ -149,16 +121,22 @@ pub record StopsAfter (logic : Logic) (lines : List (List ℕ)) (old new : Histo
 abbrev pub IsFull : List (List ℕ) → List (List ℕ) → Type 0
 IsFull done rest = (length done ≡ lines_limit) × (rest ≢ [])
 
--- Why a run stops, by its fault: the last call of the reader failed; there were too many lines, or all calls of the reader were made; memory was refused; or a call of the writer failed.
--- And which line failed, by what the reader has left, and by what is left with the bytes that are read ahead. `Read`, and `TooMuch` by calls: the lines that were done are those that were taken, and nothing is read ahead. `Memory`: of the lines that were taken at most the last one wasn't done.
-abbrev pub StopsBy : Logic → LineFault → List ℕ → ReaderCalls → Option (List ℕ) → Option (List ℕ) → WriterCalls → History → History → Option (List ℕ) → Option (List ℕ) → Type 0
-StopsBy logic fault.Read input calls ahead left writing old new before after =
-    (p : StopsBefore logic (lines_of input) old new before after) × (calls.failed ≡ true) × AreTaken input left p.done
-StopsBy logic fault.TooMuch input calls ahead left writing old new before after =
-    (p : StopsBefore logic (lines_of input) old new before after) × (IsFull p.done p.rest ⊎ ((calls.made ≡ calls_limit) × AreTaken input left p.done))
-StopsBy logic fault.Memory input calls ahead left writing old new before after =
-    (p : StopsAt logic (lines_of input) old new before after) × AreTakenButOne input ahead p.done
-StopsBy logic fault.Write input calls ahead left writing old new before after = StopsAfter logic (lines_of input) old new before after × (writing.failed ≡ true)
+-- Why a run stops, by its fault: the last call of the reader failed; there were too many lines, or all calls of the reader
+-- were made; memory was refused; or a call of the writer failed.
+-- And which line failed, by what the reader has left, and by what is left with the bytes that are read ahead. `Read`, and
+-- `TooMuch` by calls: the lines that were done are those that were taken, and nothing is read ahead. `Memory`: of the lines
+-- that were taken at most the last one wasn't done.
+module _ (logic : Logic) (input : List ℕ) (reading : Reading) (left : Option (List ℕ)) (writing : WriterCalls) (old new : History)
+    (before after : Option (List ℕ)) where
+  abbrev pub StopsBy : LineFault → Type 0
+  StopsBy fault.Read =
+      (p : StopsBefore logic (lines_of input) old new before after) × (reading.calls.failed ≡ true) × AreTaken input left p.done
+  StopsBy fault.TooMuch =
+      (p : StopsBefore logic (lines_of input) old new before after)
+      × (IsFull p.done p.rest ⊎ ((reading.calls.made ≡ calls_limit) × AreTaken input left p.done))
+  StopsBy fault.Memory =
+      (p : StopsAt logic (lines_of input) old new before after) × AreTakenButOne input (left_of reading left) p.done
+  StopsBy fault.Write = StopsAfter logic (lines_of input) old new before after × (writing.failed ≡ true)
 
 -- ---- one line of a run
 
@@ -171,4 +149,5 @@ abbrev pub LineStopsBy : Logic → LineFault → Line → WriterCalls → Histor
 LineStopsBy logic fault.Read said writing old new before after = ⊥
 LineStopsBy logic fault.TooMuch said writing old new before after = ⊥
 LineStopsBy logic fault.Memory said writing old new before after = MayTake logic old said new × Keeps before after
-LineStopsBy logic fault.Write said writing old new before after = ((text : List ℕ) × AnswersLine logic old said new text × WrittenInPart before after text) × (writing.failed ≡ true)
+LineStopsBy logic fault.Write said writing old new before after =
+    ((text : List ℕ) × AnswersLine logic old said new text × WrittenInPart before after text) × (writing.failed ≡ true)

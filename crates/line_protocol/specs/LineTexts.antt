@@ -1,4 +1,5 @@
--- What is written for lines, and the steps that they say. It is told once, of whatever takes steps and keeps replies: the whole of all tenants, or the machine of one.
+-- What is written for lines, and the steps that they say. It is told once, of whatever takes steps and keeps replies: the
+-- whole of all tenants, or the machine of one.
 use Rattle.std.specs.Prelude.{ℕ, Bool, true, List, [], ◌∷◌, ◌++◌, length, drop, map, filter, Option, Some, None, if◌then◌else◌}
 use Rattle.silo_event.specs.Failed.{marked_step}
 use Rattle.silo_event.specs.declared.reply.Reply.{Reply}
@@ -100,4 +101,5 @@ lines_to tenant saids = filter (line_concerns tenant) saids
 abbrev pub texts_to : List ℕ → List Line → List (List ℕ) → List (List ℕ)
 texts_to tenant [] texts = []
 texts_to tenant (said ∷ saids) [] = []
-texts_to tenant (said ∷ saids) (text ∷ texts) = if line_concerns tenant said then text ∷ texts_to tenant saids texts else texts_to tenant saids texts
+texts_to tenant (said ∷ saids) (text ∷ texts) =
+    if line_concerns tenant said then text ∷ texts_to tenant saids texts else texts_to tenant saids texts

@@ -36,11 +36,13 @@ abbrev mutual
 
 -- `{"from":F,"id":I,"ok":V}`
 abbrev pub done_line : List ℕ → ℕ → Tree → List ℕ
-done_line from id v = codes "{\"from\":" ++ (quoted from ++ (codes ",\"id\":" ++ (decimal id ++ (codes ",\"ok\":" ++ (text_of v ++ codes "}")))))
+done_line from id v = codes "{\"from\":" ++ (quoted from ++ (codes ",\"id\":" ++
+    (decimal id ++ (codes ",\"ok\":" ++ (text_of v ++ codes "}")))))
 
 -- `{"error":C,"from":F,"id":I,"text":T}`
 abbrev pub refused_line : List ℕ → ℕ → ℕ → List ℕ → List ℕ
-refused_line from id code why = codes "{\"error\":" ++ (decimal code ++ (codes ",\"from\":" ++ (quoted from ++ (codes ",\"id\":" ++ (decimal id ++ (codes ",\"text\":" ++ (quoted why ++ codes "}")))))))
+refused_line from id code why = codes "{\"error\":" ++ (decimal code ++
+    (codes ",\"from\":" ++ (quoted from ++ (codes ",\"id\":" ++ (decimal id ++ (codes ",\"text\":" ++ (quoted why ++ codes "}")))))))
 
 -- `{"from":F,"ok":V}`
 abbrev pub done_to_grain_line : List ℕ → Tree → List ℕ
@@ -48,7 +50,8 @@ done_to_grain_line from v = codes "{\"from\":" ++ (quoted from ++ (codes ",\"ok\
 
 -- `{"error":C,"from":F,"text":T}`
 abbrev pub refused_to_grain_line : List ℕ → ℕ → List ℕ → List ℕ
-refused_to_grain_line from code why = codes "{\"error\":" ++ (decimal code ++ (codes ",\"from\":" ++ (quoted from ++ (codes ",\"text\":" ++ (quoted why ++ codes "}")))))
+refused_to_grain_line from code why = codes "{\"error\":" ++ (decimal code ++
+    (codes ",\"from\":" ++ (quoted from ++ (codes ",\"text\":" ++ (quoted why ++ codes "}")))))
 
 abbrev pub line_to : Party → Result Tree Fault → List ℕ
 line_to (party.Client client id) (Ok v) = done_line (client_text client) id v

@@ -1,13 +1,13 @@
 //! What every line of an input says, read before anything is done.
 
-ghost use Rattle.std.specs.Prelude.{◌≡◌, ◌≤◌, IfOk, IfErr, IfSome, vec_len};
+ghost use Rattle.std.specs.Prelude.{◌≤◌, IfOk, IfErr, IfSome, vec_len};
 ghost use Rattle.line_protocol.specs.Limits.{lines_limit};
-ghost use Rattle.line_protocol.specs.LineRuns.{left_of};
 ghost use Rattle.line_protocol.specs.Gathered.{ReadsAll, StopsGathering};
+ghost use Rattle.line_protocol.specs.Reading.{left_of};
 
 use crate::fault::LineFault;
-use crate::line_reader::LineReader;
 use crate::runner::LINES_LIMIT;
+use crate::streams::Input;
 use line_parser::{Line, LineScratch, read_line};
 use std::alloc::Global;
 use std::io::Read;
@@ -17,29 +17,24 @@ use std::io::Read;
 /// # Errors
 ///
 /// Those of `run_lines` but `Write`, since nothing is written.
-pub fn read_all<R: Read>(
-    alloc: Global,
-    lines: &mut LineReader,
-    reader: &mut R,
-) -> Result<Vec<Line>, LineFault>
-    ensures ok { IfOk result (λ all. IfSome (left_of lines.old.bytes.items lines.old.start lines.old.end (R.remaining reader.old)) (λ input.
-        ReadsAll input all.items (R.remaining reader.new))) }
+pub fn read_all<R: Read>(alloc: Global, input: &mut Input<R>) -> Result<Vec<Line>, LineFault>
+    ensures ok { IfOk result (λ all. IfSome (left_of input.old.lines (R.remaining input.old.reader)) (λ bytes.
+        ReadsAll bytes all.items (R.remaining input.new.reader))) }
     ensures bound { IfOk result (λ all. vec_len all ≤ lines_limit) }
-    ensures err { IfErr result (λ e. StopsGathering e (left_of lines.old.bytes.items lines.old.start lines.old.end (R.remaining reader.old)) lines.new.calls) }
+    ensures err { IfErr result (λ e. StopsGathering e (left_of input.old.lines (R.remaining input.old.reader)) input.new.lines.calls) }
 {
     let mut scratch = LineScratch::new(alloc)?;
-    let mut line = Vec::new(alloc);
     let mut all = Vec::new(alloc);
     'lines: while (all.len() as u64) < LINES_LIMIT {
-        let Some(place) = lines.next_line(reader, &mut line)? else {
+        if !input.lines.next_line(&mut input.reader)? {
             return Ok(all);
-        };
-        let said = read_line(alloc, &mut scratch, lines.line_at(place, &line))?;
+        }
+        let said = read_line(alloc, &mut scratch, input.lines.line())?;
         let Ok(()) = all.push(said) else {
             return Err(LineFault::Memory);
         };
     }
-    if lines.fill(reader)? {
+    if input.lines.fill(&mut input.reader)? {
         return Err(LineFault::TooMuch);
     }
     Ok(all)

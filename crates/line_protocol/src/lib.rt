@@ -8,12 +8,14 @@
 #![tactic(auto)]
 
 mod answers;
+mod buffer;
 mod calls;
 mod fault;
 mod gather;
 mod line_reader;
 mod replies;
 mod runner;
+mod streams;
 mod text;
 mod value_text;
 mod written;
@@ -25,4 +27,5 @@ pub use line_parser::{Line, LineRefusal, LineScratch, read_line};
 pub use line_reader::LineReader;
 pub use replies::{push_refusal, push_replies, push_reply, refusal_text, reply_text};
 pub use runner::run_lines;
+pub use streams::{Input, Output};
 pub use written::WriterCalls;

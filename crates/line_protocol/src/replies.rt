@@ -5,7 +5,8 @@ ghost use Rattle.json.specs.Print.{quoted};
 ghost use Rattle.grain_id.specs.Names.{client_text, grain_text};
 ghost use Rattle.silo_event.specs.Fault.{fault_code, fault_text};
 ghost use Rattle.silo_event.specs.declared.reply.Party.TheVariants as party;
-ghost use Rattle.line_protocol.specs.Text.{line_of, line_to, done_line, refused_line, done_to_grain_line, refused_to_grain_line, fault_line, fault_of, refusal_line, not_now_line};
+ghost use Rattle.line_protocol.specs.Text.{line_of, line_to, done_line, refused_line, done_to_grain_line, refused_to_grain_line};
+ghost use Rattle.line_protocol.specs.Text.{fault_line, fault_of, refusal_line, not_now_line};
 ghost use Rattle.line_protocol.specs.LineTexts.{texts_of};
 
 use crate::text::{push, push_natural, push_quoted};
@@ -77,7 +78,8 @@ fn push_refused(
     id: u64,
     fault: &Fault,
 ) -> Result<(), AllocError>
-    ensures { OnOk result (string_bytes text.new ≡ string_bytes text.old ++ refused_line (client_text from.now) id (fault_code fault.now) (fault_text fault.now)) }
+    ensures { OnOk result (string_bytes text.new ≡ string_bytes text.old ++ refused_line (client_text from.now) id
+        (fault_code fault.now) (fault_text fault.now)) }
 {
     push_code(text, fault)?;
     push_client(text, from)?;
@@ -111,7 +113,8 @@ fn push_refused_to_grain(
     from: &GrainId,
     fault: &Fault,
 ) -> Result<(), AllocError>
-    ensures { OnOk result (string_bytes text.new ≡ string_bytes text.old ++ refused_to_grain_line (grain_text from.now) (fault_code fault.now) (fault_text fault.now)) }
+    ensures { OnOk result (string_bytes text.new ≡ string_bytes text.old ++ refused_to_grain_line (grain_text from.now)
+        (fault_code fault.now) (fault_text fault.now)) }
 {
     push_code(text, fault)?;
     push_quoted(alloc, text, from.text())?;

@@ -66,7 +66,8 @@ fn push_members<'b>(
     count: u32,
     limit: u8,
 ) -> Result<&'b [u8], CodecFault>
-    ensures ok { IfOk result (λ rest. AddsMembers (members_at (value_at limit) count bytes.now) rest.now (string_bytes text.old) (string_bytes text.new)) }
+    ensures ok { IfOk result (λ rest. AddsMembers (members_at (value_at limit) count bytes.now) rest.now (string_bytes text.old)
+        (string_bytes text.new)) }
     ensures err { IfErr result (λ e. AddsNone e (members_at (value_at limit) count bytes.now)) }
 {
     push(text, "[")?;
@@ -90,7 +91,8 @@ fn push_fields<'b>(
     count: u32,
     limit: u8,
 ) -> Result<&'b [u8], CodecFault>
-    ensures ok { IfOk result (λ rest. AddsFields (fields_at (value_at limit) count None bytes.now) rest.now (string_bytes text.old) (string_bytes text.new)) }
+    ensures ok { IfOk result (λ rest. AddsFields (fields_at (value_at limit) count None bytes.now) rest.now (string_bytes text.old)
+        (string_bytes text.new)) }
     ensures err { IfErr result (λ e. AddsNone e (fields_at (value_at limit) count None bytes.now)) }
 {
     push(text, "{")?;

@@ -1,6 +1,6 @@
 //! Calls of a writer: bytes that are written whole, or in part.
 
-ghost use Rattle.std.specs.Prelude.{◌≡◌, ◌≤◌, ◌<◌, ◌+◌, ◌++◌, ℕ, List, Err, IfOk, OnOk, OnErr, take, length, true, false};
+ghost use Rattle.std.specs.Prelude.{◌≡◌, ◌≤◌, ◌<◌, ◌+◌, Err, IfOk, OnOk, OnErr, take, length, true, false};
 ghost use Rattle.std.specs.Io.KnownBytes.{Appends, Keeps};
 ghost use Rattle.line_protocol.specs.declared.fault.LineFault.TheVariants as fault;
 
@@ -32,10 +32,12 @@ impl WriterCalls {
     /// Writes bytes, of which there are some, and answers how many: none if the write was interrupted.
     /// One that takes none fails, and so does an interrupted one after `u64::MAX` of them.
     fn write_some<W: Write>(&mut self, writer: &mut W, bytes: &[u8]) -> Result<usize, LineFault>
-        ensures some { IfOk result (λ n. (n ≤ length bytes.now) × Appends (W.contents writer.old) (W.contents writer.new) (take n bytes.now)) }
+        ensures len { IfOk result (λ n. n ≤ length bytes.now) }
+        ensures some { IfOk result (λ n. Appends (W.contents writer.old) (W.contents writer.new) (take n bytes.now)) }
         ensures none { OnErr result (Keeps (W.contents writer.old) (W.contents writer.new)) }
         ensures unfailed { OnOk result (self.new.failed ≡ self.old.failed) }
-        ensures fault { OnErr result ((result ≡ Err fault.Write) × (self.new.failed ≡ true)) }
+        ensures fault { OnErr result (result ≡ Err fault.Write) }
+        ensures failed { OnErr result (self.new.failed ≡ true) }
 
         // A write that isn't interrupted takes some bytes.
         ensures onward { IfOk result (λ n. self.old.interrupted < self.new.interrupted + n) }
@@ -63,7 +65,8 @@ impl WriterCalls {
         ensures whole { OnOk result (Appends (W.contents writer.old) (W.contents writer.new) bytes.now) }
         ensures part { OnErr result (WrittenInPart (W.contents writer.old) (W.contents writer.new) bytes.now) }
         ensures unfailed { OnOk result (self.new.failed ≡ self.old.failed) }
-        ensures fault { OnErr result ((result ≡ Err fault.Write) × (self.new.failed ≡ true)) }
+        ensures fault { OnErr result (result ≡ Err fault.Write) }
+        ensures failed { OnErr result (self.new.failed ≡ true) }
     {
         let mut rest = bytes;
         'writes: while !rest.is_empty() {
@@ -80,7 +83,8 @@ impl WriterCalls {
     pub fn flush<W: Write>(&mut self, writer: &mut W) -> Result<(), LineFault>
         ensures kept { Keeps (W.contents writer.old) (W.contents writer.new) }
         ensures unfailed { OnOk result (self.new.failed ≡ self.old.failed) }
-        ensures fault { OnErr result ((result ≡ Err fault.Write) × (self.new.failed ≡ true)) }
+        ensures fault { OnErr result (result ≡ Err fault.Write) }
+        ensures failed { OnErr result (self.new.failed ≡ true) }
     {
         if writer.flush().is_ok() {
             return Ok(());

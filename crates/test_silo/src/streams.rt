@@ -2,7 +2,7 @@
 
 use crate::rows::first_call;
 use crate::silos::{TestedSilo, journal, new_silo};
-use line_protocol::{LineFault, LineReader, WriterCalls, run_lines};
+use line_protocol::{Input, LineFault, Output, run_lines};
 use silo_event::Step;
 use std::alloc::{AllocError, Global};
 use std::io;
@@ -39,15 +39,14 @@ impl Write for FailingWriter {
 }
 
 /// Runs the lines of the reader: how that ends, but for want of memory.
-fn ended<R: Read, W: Write>(
+fn ended<R: Read + Drop, W: Write>(
     alloc: Global,
     silo: &mut TestedSilo,
-    reader: &mut R,
-    writer: &mut W,
+    reader: R,
+    output: &mut Output<W>,
 ) -> Result<Result<u64, LineFault>, Fail> {
-    let mut lines = LineReader::new(alloc)?;
-    let mut calls = WriterCalls::none();
-    match run_lines(alloc, &mut lines, reader, &mut calls, writer, silo) {
+    let mut input = Input::new(alloc, reader)?;
+    match run_lines(alloc, &mut input, output, silo) {
         Err(LineFault::Memory) => Err(Fail::from(AllocError)),
         end => Ok(end),
     }
@@ -56,12 +55,13 @@ fn ended<R: Read, W: Write>(
 /// Whether reading fails behind the first row's last LF, and what the row tells was written whole.
 fn is_written(alloc: Global, silo: &mut TestedSilo) -> Result<bool, Fail> {
     let row = first_call();
-    let mut reader = FailingReader {
+    let reader = FailingReader {
         rest: row.lines.as_bytes(),
     };
-    let mut written: Vec<u8> = Vec::with_capacity(alloc, row.told.len())?;
-    let end = ended(alloc, silo, &mut reader, &mut written)?;
-    Ok(matches!(end, Err(LineFault::Read)) && written.as_slice() == row.told.as_bytes())
+    let written: Vec<u8> = Vec::with_capacity(alloc, row.told.len())?;
+    let mut output = Output::new(written);
+    let end = ended(alloc, silo, reader, &mut output)?;
+    Ok(matches!(end, Err(LineFault::Read)) && output.writer.as_slice() == row.told.as_bytes())
 }
 
 /// The same of a new silo.
@@ -87,8 +87,8 @@ fn has_ended_last(silo: &TestedSilo, count: usize) -> bool {
 /// Whether writing the first row's only reply fails, and the silo took the step that was answered.
 fn is_taken(alloc: Global, silo: &mut TestedSilo) -> Result<bool, Fail> {
     let row = first_call();
-    let mut reader = row.lines.as_bytes();
-    let end = ended(alloc, silo, &mut reader, &mut FailingWriter)?;
+    let mut output = Output::new(FailingWriter);
+    let end = ended(alloc, silo, row.lines.as_bytes(), &mut output)?;
     Ok(matches!(end, Err(LineFault::Write)) && has_ended_last(silo, 5))
 }
 

@@ -1,7 +1,7 @@
 use Rattle.std.proofs.Common.{◌≡◌, ◌++◌, take, min, ◌-◌, length, ap, ◌∙◌, arith}
 use Rattle.line_protocol.specs.Limits.{kept_limit}
 use Rattle.line_protocol.proofs.Pieces.{capped}
-use Rattle.line_protocol.proofs.line_reader.extend_capped.Goals as goal
+use Rattle.line_protocol.proofs.buffer.extend_capped.Goals as goal
 
 pub returns : goal.returns
 returns c =

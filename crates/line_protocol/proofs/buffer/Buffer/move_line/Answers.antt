@@ -1,11 +1,12 @@
-use Rattle.std.proofs.Common.{◌≡◌, ◌<◌, ◌++◌, [], Ok, inr, length, take, slice_range, ap, subst, ◌∙◌, arith, length-take, vec_len}
+use Rattle.std.proofs.Common.{◌≡◌, ◌<◌, ◌++◌, [], Ok, inr, length, take, ap, subst, ◌∙◌, arith, length-take, vec_len}
 use Rattle.std.proofs.lemmas.List.{nil_from_length}
 use Rattle.std.specs.Io.KnownBytes.{Consumes}
 use Rattle.std.proofs.KnownBytes.{Consumes-kept}
+use Rattle.line_protocol.specs.Buffers.{ahead_in}
 use Rattle.line_protocol.specs.Limits.{kept_limit}
 use Rattle.line_protocol.proofs.Pieces.{some_unless, take_again, slice_range_empty}
 use Rattle.line_protocol.proofs.LinesOfBytes.{HasNoBreak-append, IsAtEnd-left, Consumes-none, step_broken, step_whole}
-use Rattle.line_protocol.proofs.line_reader.LineReader.move_line.Goals as goal
+use Rattle.line_protocol.proofs.buffer.Buffer.move_line.Goals as goal
 
 pub take_ready-requires : goal.take_ready-requires
 take_ready-requires g c = omega (arith, c.pieces.line.ok.0, ap length c.pieces.invariant.2, length-take kept_limit c.pieces.invariant.0)
@@ -24,36 +25,32 @@ pieces-preserved g c =
     let inv = c.pieces.invariant in
     let s = c.fill.new.self in
     let n = c.take_ready.new.self in
-    let w = c.in_ok-take_ready.ensures.whole (ap Ok c.if-branch-2.false) in
-    let whole = slice_range s.bytes.items s.start s.end in (
+    let w = c.in_ok-take_ready.ensures in
+    let unbroken = ap Ok c.if-branch-2.false in
+    let whole = ahead_in s in (
       inv.0 ++ whole,
-      HasNoBreak-append inv.0 whole inv.1 w.1,
-      w.2 ∙ ap (λ l. take kept_limit (l ++ whole)) inv.2 ∙ take_again kept_limit inv.0 whole,
-      step_whole _ _ inv.0 _ whole _ inv.3 c.in_ok-fill.ensures.bytes (slice_range_empty n.bytes.items n.start n.end w.0),
+      HasNoBreak-append inv.0 whole inv.1 (w.whole unbroken),
+      w.kept unbroken ∙ ap (λ l. take kept_limit (l ++ whole)) inv.2 ∙ take_again kept_limit inv.0 whole,
+      step_whole _ _ inv.0 _ whole _ inv.3 c.in_ok-fill.ensures.bytes (slice_range_empty n.bytes.items n.start n.end (w.empty unbroken)),
     )
 
 pub returns-clause-line : goal.returns-clause-line
 returns-clause-line g c ok =
     let inv = c.pieces.invariant in
     let s = c.fill.new.self in
-    let e = c.in_ok-fill.ensures.none (ap Ok c.if-branch.false) in
+    let e = c.in_ok-fill.ensures in
     let full = some_unless (vec_len c.pieces.line) _ c.is_empty.ensures c.if-is_empty.false in
     let some : 0 < length inv.0 = omega (arith, full, c.pieces.line.ok.0, ap length inv.2, length-take kept_limit inv.0) in
     let took = Consumes-kept _ _ _ inv.0 inv.3 c.in_ok-fill.ensures.bytes in (
       inv.0,
       inv.2,
-      record { one = inv.1; taken = inr (some, took, IsAtEnd-left _ _ (slice_range_empty s.bytes.items s.start s.end e.0) e.1) },
+      record { one = inv.1; taken = inr (some, took, IsAtEnd-left _ _ (slice_range_empty s.bytes.items s.start s.end (e.none (ap Ok c.if-branch.false))) (e.end (ap Ok c.if-branch.false))) },
     )
 
-pub returns-then-is_empty-clause-end : goal.returns-then-is_empty-clause-end
-returns-then-is_empty-clause-end g c ok =
+pub returns-then-is_empty-clause-kept : goal.returns-then-is_empty-clause-kept
+returns-then-is_empty-clause-kept g c ok =
     let inv = c.pieces.invariant in
-    let s = c.fill.new.self in
-    let e = c.in_ok-fill.ensures.none (ap Ok c.if-branch.false) in
     let empty : vec_len c.pieces.line ≡ 0 = grind arith in
     let none : inv.0 ≡ [] = nil_from_length inv.0 (omega (arith, empty, c.pieces.line.ok.0, ap length inv.2, length-take kept_limit inv.0)) in
-    let took = Consumes-kept _ _ _ inv.0 inv.3 c.in_ok-fill.ensures.bytes in (
-      Consumes-none _ _ (subst (Consumes _ _) none took),
-      e.0,
-      e.1,
-    )
+    let took = Consumes-kept _ _ _ inv.0 inv.3 c.in_ok-fill.ensures.bytes in
+    Consumes-none _ _ (subst (Consumes _ _) none took)

@@ -1,7 +1,7 @@
 use Rattle.std.proofs.Common.{◌-◌, ◌≡◌, ◌≤◌}
 use Rattle.std.specs.Io.KnownBytes.{Keeps}
 use Rattle.line_protocol.specs.Limits.{calls_limit}
-use Rattle.line_protocol.proofs.line_reader.LineReader.fill.Given as goal
+use Rattle.line_protocol.proofs.buffer.Buffer.fill.Given as goal
 
 abbrev pub invariant-tries : goal.invariant-tries
 invariant-tries g l =
