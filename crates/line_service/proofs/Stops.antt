@@ -1,15 +1,16 @@
 -- Why an input isn't served.
-use Rattle.std.proofs.Common.{ℕ, List, Option}
+use Rattle.std.proofs.Common.{◌≡◌, ℕ, List, Option, sym, subst}
 use Rattle.line_protocol.specs.declared.calls.ReaderCalls.{ReaderCalls}
-use Rattle.line_protocol.specs.declared.fault.LineFault.TheVariants as line
-use Rattle.line_service.specs.Serving.{IsServingFault, StopsServing}
+use Rattle.line_service.specs.Serving.{StopsServing, serving_fault}
 use Rattle.line_service.specs.declared.fault.ServiceFault.{ServiceFault}
-use Rattle.line_service.specs.declared.fault.ServiceFault.TheVariants as service
+use Rattle.worker_host.specs.declared.report.ServeFault.{ServeFault}
+use Rattle.worker_host.specs.declared.report.ServeFault.TheVariants as serve
 
-pub stops_serving : (why : ServiceFault) (input : Option (List ℕ)) (calls : ReaderCalls) → IsServingFault why → StopsServing why input calls
-stops_serving (service.Failed line.Read) input calls is = absurd is
-stops_serving (service.Failed line.Write) input calls is = absurd is
-stops_serving (service.Failed line.Memory) input calls is = tt
-stops_serving (service.Failed line.TooMuch) input calls is = absurd is
-stops_serving service.NoWorker input calls is = tt
-stops_serving service.Strayed input calls is = tt
+-- lanes that were read aren't served
+stops_lanes : (fault : ServeFault) (input : Option (List ℕ)) (calls : ReaderCalls) → StopsServing (serving_fault fault) input calls
+stops_lanes serve.Memory input calls = tt
+stops_lanes serve.NoWorker input calls = tt
+stops_lanes serve.Strayed input calls = tt
+
+pub stops_serving : (why : ServiceFault) (fault : ServeFault) (input : Option (List ℕ)) (calls : ReaderCalls) → why ≡ serving_fault fault → StopsServing why input calls
+stops_serving why fault input calls is = subst (λ (w : ServiceFault). StopsServing w input calls) (sym is) (stops_lanes fault input calls)

@@ -13,4 +13,5 @@ IsPlaceOf givers giver (Some place) = (place < length givers) × ((other : Optio
 
 -- Of each giver the place of its lane stands there.
 abbrev pub ArePlaced : BTreeMap (Option Client) ℕ → List Lane → Type 0
-ArePlaced places lanes = (giver : Option Client) → IsPlaceOf (map_list (λ (lane : Lane). lane.from) lanes) giver (get (option_cmp client_cmp) places giver)
+ArePlaced places lanes = (giver : Option Client) → IsPlaceOf (map_list (λ (lane : Lane). lane.from) lanes) giver
+    (get (option_cmp client_cmp) places giver)

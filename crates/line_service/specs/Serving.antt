@@ -17,6 +17,8 @@ use Rattle.line_protocol.specs.declared.calls.ReaderCalls.{ReaderCalls}
 use Rattle.line_protocol.specs.declared.fault.LineFault.TheVariants as line
 use Rattle.line_service.specs.Asked.{lanes_of, refusals_of}
 use Rattle.worker_host.specs.SetupCopy.{AreAnswered}
+use Rattle.worker_host.specs.declared.report.ServeFault.{ServeFault}
+use Rattle.worker_host.specs.declared.report.ServeFault.TheVariants as serve
 use Rattle.line_service.specs.declared.fault.ServiceFault.{ServiceFault}
 use Rattle.line_service.specs.declared.fault.ServiceFault.TheVariants as service
 
@@ -24,26 +26,28 @@ use Rattle.line_service.specs.declared.fault.ServiceFault.TheVariants as service
 abbrev pub setup_of : Table → ℕ → Setup
 setup_of tenants age = record { tenants = tenants; age = age; rows = empty }
 
--- The lanes were served: the silo was opened with this setup, each lane stands in its journal and has its answers, no step failed, each client was told as often as its lane asks, and each tenant's part is the run of its own machine.
+-- The lanes were served: the silo was opened with this setup, each lane stands in its journal and has its answers, no step
+-- failed, each client was told as often as its lane asks, and each tenant's part is the run of its own machine.
 pub record LeavesServed (setup : Setup) (lanes : List Lane) (silo : History) (answers : List (List Reply)) : Type 0 where
   pub opened : silo.setup ≡ setup
   pub served : AreServed kinds silo.setup lanes silo.journal silo.whole 0 0 answers
   pub told : AreAnswered lanes silo.whole.replies
-  pub parts : (tenant : List ℕ) → shown_to tenant silo.whole ≡ machine_run kinds (start_of silo.setup tenant) (restricted_to tenant silo.journal)
+  pub parts : (tenant : List ℕ) → shown_to tenant silo.whole ≡ machine_run kinds (start_of silo.setup tenant)
+      (restricted_to tenant silo.journal)
 
 -- All of the input was read; the lines of no lane were refused, and the lanes of the others were served.
-pub record IsServed (setup : Setup) (input : List ℕ) (left : Option (List ℕ)) (refusals : List LineRefusal) (silo : History) (answers : List (List Reply)) : Type 0 where
+pub record IsServed (setup : Setup) (input : List ℕ) (left : Option (List ℕ)) (refusals : List LineRefusal) (silo : History)
+    (answers : List (List Reply)) : Type 0 where
   pub lines : List Line
   pub read : ReadsAll input lines left
   pub refused : refusals ≡ refusals_of lines
   pub lanes : LeavesServed setup (lanes_of lines) silo answers
 
--- what serving lanes that were read may fail by
-abbrev pub IsServingFault : ServiceFault → Type 0
-IsServingFault (service.Failed line.Memory) = Unit {0}
-IsServingFault (service.Failed why) = ⊥
-IsServingFault service.NoWorker = Unit {0}
-IsServingFault service.Strayed = Unit {0}
+-- what becomes of a fault of serving lanes that were read
+abbrev pub serving_fault : ServeFault → ServiceFault
+serving_fault serve.Memory = service.Failed line.Memory
+serving_fault serve.NoWorker = service.NoWorker
+serving_fault serve.Strayed = service.Strayed
 
 -- Why an input isn't served: reading all of its lines ended early, or serving them failed.
 abbrev pub StopsServing : ServiceFault → Option (List ℕ) → ReaderCalls → Type 0

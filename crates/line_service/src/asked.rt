@@ -65,7 +65,8 @@ fn add_step(
 ) -> Result<(), AllocError>
     requires given { giver_of step ≡ Some giver }
     requires placed { ArePlaced places.now lanes.now.items }
-    ensures lanes { OnOk result ((steps : List StepValue) → lanes.old.items ≡ lanes_by steps → lanes.new.items ≡ lanes_by (steps ++ step ∷ [])) }
+    ensures lanes { OnOk result ((steps : List StepValue) → lanes.old.items ≡ lanes_by steps → lanes.new.items
+        ≡ lanes_by (steps ++ step ∷ [])) }
     ensures placed { OnOk result (ArePlaced places.new lanes.new.items) }
 {
     if let Some(place) = places.get(&giver) {

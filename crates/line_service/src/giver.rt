@@ -1,6 +1,6 @@
 //! Whose lane gives a step.
 
-ghost use Rattle.std.specs.Prelude.{◌≡◌, IfOk};
+ghost use Rattle.std.specs.Prelude.{◌≡◌, IfOk, Some};
 ghost use Rattle.line_service.specs.Asked.{giver_of};
 
 use grain_id::Caller;
@@ -15,13 +15,27 @@ pub(crate) fn giver_of(step: &Step) -> Result<Option<Option<Caller>>, AllocError
         return Ok(None);
     }
     match step {
+        Step::Refuse { caller, .. } => lane_of_client(caller),
+        Step::Call { caller, .. } => lane_of_client(caller),
+        Step::Poke { caller, .. } => lane_of_client(caller),
+        Step::Status { caller, .. } => lane_of_client(caller),
+        Step::Deliver { .. } => Ok(None),
+        Step::Activate { .. } => Ok(None),
+        Step::Load { .. } => Ok(None),
+        Step::Begin { .. } => Ok(None),
+        Step::Store { .. } => Ok(None),
+        Step::End { .. } => Ok(None),
+        Step::Abandon { .. } => Ok(None),
         Step::Tick { .. } => Ok(Some(None)),
         Step::Sweep => Ok(Some(None)),
-        _ => match step.asker() {
-            Some(caller) => Ok(Some(Some(caller.clone()?))),
-            None => Ok(None),
-        },
     }
+}
+
+/// The lane of this client.
+fn lane_of_client(caller: &Caller) -> Result<Option<Option<Caller>>, AllocError>
+    ensures { IfOk result (λ giver. giver ≡ Some (Some caller.now)) }
+{
+    Ok(Some(Some(caller.clone()?)))
 }
 
 /// A copy of whose a lane is.

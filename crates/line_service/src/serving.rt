@@ -3,8 +3,8 @@
 ghost use Rattle.std.specs.Prelude.{◌≡◌, ◌≤◌, [], IfOk, IfErr, IfSome, map as map_list};
 ghost use Rattle.std.specs.FinMap.{entries};
 ghost use Rattle.lane_model.specs.Lanes.{AreDistinct};
-ghost use Rattle.line_protocol.specs.LineRuns.{left_of};
-ghost use Rattle.line_service.specs.Serving.{IsServed, IsServingFault, LeavesServed, StopsServing, setup_of};
+ghost use Rattle.line_protocol.specs.Reading.{left_of};
+ghost use Rattle.line_service.specs.Serving.{IsServed, LeavesServed, StopsServing, serving_fault, setup_of};
 
 use crate::asked::asked_by;
 use crate::fault::ServiceFault;
@@ -12,7 +12,7 @@ use client_lanes::Lane;
 use grain_kinds::Kinds;
 use grain_storage::MemoryStorage;
 use line_parser::LineRefusal;
-use line_protocol::{LineFault, LineReader, read_all};
+use line_protocol::{Input, LineFault, read_all};
 use silo_core::Setup;
 use std::alloc::Global;
 use std::io::Read;
@@ -30,7 +30,7 @@ pub struct ServedInput {
 
 /// What becomes of a fault of serving.
 fn fault_of_serving(fault: ServeFault) -> ServiceFault
-    ensures { IsServingFault result }
+    ensures { result ≡ serving_fault fault }
 {
     match fault {
         ServeFault::Memory => ServiceFault::Failed(LineFault::Memory),
@@ -50,7 +50,8 @@ fn serve_lanes<H: AllocGlobal + Threads + Wait + Sync, G: TurnGate + Sync>(
 ) -> Result<ServeReport<MemoryStorage, Kinds>, ServeFault>
     requires workers { (1 ≤ workers) × (workers ≤ 64) }
     requires distinct { AreDistinct lanes.now }
-    ensures { IfOk result (λ report. LeavesServed (setup_of tenants age) lanes.now report.silo (map_list (λ v. v.items) report.answers.items)) }
+    ensures { IfOk result (λ report. LeavesServed (setup_of tenants age) lanes.now report.silo
+        (map_list (λ v. v.items) report.answers.items)) }
 {
     let alloc = rt.alloc();
     let setup = Setup {
@@ -67,8 +68,8 @@ fn serve_lanes<H: AllocGlobal + Threads + Wait + Sync, G: TurnGate + Sync>(
 
 /// Reads all lines of an input, and then serves them by so many threads, 1 to 64, over no rows at the
 /// start. Requests go to the lane of their client, ticks and sweeps to nobody's, lanes in the order of
-/// their first lines; a line that no lane gives is refused. What the line reader has read ahead comes
-/// first. The gate is told of each turn before its body runs.
+/// their first lines; a line that no lane gives is refused. What was read ahead comes first. The
+/// gate is told of each turn before its body runs.
 ///
 /// # Errors
 ///
@@ -79,22 +80,22 @@ pub fn serve_input<H: AllocGlobal + Threads + Wait + Sync, R: Read, G: TurnGate 
     workers: usize,
     tenants: TenantTable,
     age: Age,
-    lines: &mut LineReader,
-    reader: &mut R,
+    input: &mut Input<R>,
     gate: &G,
 ) -> Result<ServedInput, ServiceFault>
     requires workers { (1 ≤ workers) × (workers ≤ 64) }
-    ensures served { IfOk result (λ served. IfSome (left_of lines.old.bytes.items lines.old.start lines.old.end (R.remaining reader.old)) (λ input.
-        IsServed (setup_of tenants age) input (R.remaining reader.new) served.refusals.items served.report.silo (map_list (λ v. v.items) served.report.answers.items))) }
+    ensures served { IfOk result (λ served. IfSome (left_of input.old.lines (R.remaining input.old.reader)) (λ bytes.
+        IsServed (setup_of tenants age) bytes (R.remaining input.new.reader) served.refusals.items served.report.silo
+        (map_list (λ v. v.items) served.report.answers.items))) }
 
     // The silo was opened with these tenants and this age, and no rows.
     ensures setup { IfOk result (λ served. served.report.silo.setup ≡ setup_of tenants age) }
     ensures no_rows { IfOk result (λ served. entries served.report.silo.setup.rows ≡ []) }
 
     // Nothing was written yet.
-    ensures fault { IfErr result (λ why. StopsServing why (left_of lines.old.bytes.items lines.old.start lines.old.end (R.remaining reader.old)) lines.new.calls) }
+    ensures fault { IfErr result (λ why. StopsServing why (left_of input.old.lines (R.remaining input.old.reader)) input.new.lines.calls) }
 {
-    let said = read_all(rt.alloc(), lines, reader)?;
+    let said = read_all(rt.alloc(), input)?;
     let Ok(asked) = asked_by(rt.alloc(), said) else {
         return Err(ServiceFault::Failed(LineFault::Memory));
     };

@@ -29,7 +29,8 @@ pub(crate) fn reply_line(alloc: Global, reply: &Reply) -> Result<String, AllocEr
 
 /// Puts a line behind those of the grain.
 fn add_line(told: &mut LinesByGrain, grain: &GrainId, line: String) -> Result<(), AllocError>
-    ensures { OnOk result ((other : Grain) → lines_at told.new other ≡ with_line grain.now (string_bytes line) other (lines_at told.old other)) }
+    ensures { OnOk result ((other : Grain) → lines_at told.new other
+        ≡ with_line grain.now (string_bytes line) other (lines_at told.old other)) }
 {
     if let Some(lines) = told.get_mut(grain) {
         lines.push_str(line.as_str())?;

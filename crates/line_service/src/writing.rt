@@ -9,7 +9,7 @@ ghost use Rattle.line_service.specs.ServedText.{StopsWriting, refusals_text, ser
 use crate::serving::ServedInput;
 use crate::told::{push_told, reply_line};
 use line_parser::LineRefusal;
-use line_protocol::{LineFault, WriterCalls, refusal_text};
+use line_protocol::{LineFault, Output, refusal_text};
 use silo_event::Reply;
 use std::alloc::{AllocError, Global};
 use std::io::Write;
@@ -43,7 +43,8 @@ fn push_replies(alloc: Global, text: &mut String, replies: &[Reply]) -> Result<(
 
 /// Adds the lines of each lane's replies.
 fn push_answers(alloc: Global, text: &mut String, answers: &[Vec<Reply>]) -> Result<(), AllocError>
-    ensures { OnOk result (string_bytes text.new ≡ string_bytes text.old ++ flat_map texts_of (map_list (λ v. v.items) answers.now)) }
+    ensures { OnOk result (string_bytes text.new
+        ≡ string_bytes text.old ++ flat_map texts_of (map_list (λ v. v.items) answers.now)) }
 {
     'answers: for replies in answers {
         push_replies(alloc, text, replies.as_slice())?;
@@ -53,7 +54,8 @@ fn push_answers(alloc: Global, text: &mut String, answers: &[Vec<Reply>]) -> Res
 
 /// The text of what was served.
 fn text_of(alloc: Global, served: &ServedInput) -> Result<String, AllocError>
-    ensures { IfOk result (λ text. string_bytes text ≡ served_text served.now.refusals.items (map_list (λ v. v.items) served.now.report.answers.items) served.now.report.silo.whole.replies) }
+    ensures { IfOk result (λ text. string_bytes text ≡ served_text served.now.refusals.items
+        (map_list (λ v. v.items) served.now.report.answers.items) served.now.report.silo.whole.replies) }
 {
     let mut text = String::new(alloc);
     push_refusals(alloc, &mut text, served.refusals.as_slice())?;
@@ -69,21 +71,25 @@ fn text_of(alloc: Global, served: &ServedInput) -> Result<String, AllocError>
 /// # Errors
 ///
 /// `Memory`, and nothing was written; `Write` if a call of the writer failed, and a part of the text was
-/// written, or all of it. `calls` notes that a call failed, so pass one that notes none.
+/// written, or all of it. The output notes that a call failed, so pass one that notes none.
 pub fn write_served<W: Write>(
     alloc: Global,
-    calls: &mut WriterCalls,
     served: &ServedInput,
-    writer: &mut W,
+    output: &mut Output<W>,
 ) -> Result<(), LineFault>
-    ensures written { OnOk result (Appends (W.contents writer.old) (W.contents writer.new) (served_text served.now.refusals.items (map_list (λ v. v.items) served.now.report.answers.items) served.now.report.silo.whole.replies)) }
-    ensures stopped { IfErr result (λ why. StopsWriting why (served_text served.now.refusals.items (map_list (λ v. v.items) served.now.report.answers.items) served.now.report.silo.whole.replies) (W.contents writer.old) (W.contents writer.new)) }
-    ensures cause { IfErr result (λ why. why ≡ line.Write → calls.new.failed ≡ true) }
-    ensures unfailed { OnOk result (calls.new.failed ≡ calls.old.failed) }
+    ensures written { OnOk result (Appends (W.contents output.old.writer) (W.contents output.new.writer)
+        (served_text served.now.refusals.items (map_list (λ v. v.items) served.now.report.answers.items)
+        served.now.report.silo.whole.replies)) }
+    ensures stopped { IfErr result (λ why. StopsWriting why
+        (served_text served.now.refusals.items (map_list (λ v. v.items) served.now.report.answers.items)
+        served.now.report.silo.whole.replies)
+        (W.contents output.old.writer) (W.contents output.new.writer)) }
+    ensures cause { IfErr result (λ why. why ≡ line.Write → output.new.calls.failed ≡ true) }
+    ensures unfailed { OnOk result (output.new.calls.failed ≡ output.old.calls.failed) }
 {
     let text = text_of(alloc, served)?;
-    calls.write_whole(writer, text.as_str().as_bytes())?;
-    match calls.flush(writer) {
+    output.write_whole(text.as_str().as_bytes())?;
+    match output.flush() {
         Ok(()) => Ok(()),
         Err(_) => Err(LineFault::Write),
     }
