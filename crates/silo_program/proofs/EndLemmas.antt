@@ -13,12 +13,13 @@ use Rattle.silo_core.specs.History.{History}
 use Rattle.silo_core.specs.Runs.{failed_in}
 use Rattle.line_protocol.specs.Lines.{lines_of}
 use Rattle.line_protocol.specs.LineTexts.{whole_stepper, machine_stepper, said_lines, steps_said, line_texts, lines_text, lines_to, texts_to}
-use Rattle.line_protocol.specs.LineRuns.{AreTakenButOne, left_of, AnswersLines, AnswersNext, AnswersAll, StopsBefore, StopsAt, StopsAfter, StopsBy}
-use Rattle.line_protocol.specs.declared.line_reader.LineReader.{LineReader}
+use Rattle.line_protocol.specs.LineRuns.{AnswersLines, AnswersNext, AnswersAll, StopsBefore, StopsAt, StopsAfter, StopsBy}
+use Rattle.line_protocol.specs.Reading.{AreTakenButOne, IsFresh, Reading, left_of}
 use Rattle.line_protocol.specs.declared.written.WriterCalls.{WriterCalls}
 use Rattle.line_protocol.specs.declared.fault.LineFault.{LineFault}
 use Rattle.line_protocol.specs.declared.fault.LineFault.TheVariants as line
 use Rattle.line_parser.specs.declared.line.Line.{Line}
+use Rattle.line_protocol.proofs.LinesOfBytes.{left_of-fresh}
 use Rattle.line_protocol.proofs.TakenLines.{Took-none, TakesPart-none, none_beyond}
 use Rattle.line_protocol.proofs.Unfailed.{none_failed, none_failed_before, unmarked, own_unmarked}
 use Rattle.silo_program.specs.Steps.{IsTextOf, AnswersSteps, StopsBetween, StopsFrom, StopsInside, StopsSteps}
@@ -52,9 +53,10 @@ module _ (setup : Setup) (old : History) (opens : old.whole ≡ opening setup) w
   }
 
   -- of an input of which nothing is read ahead
-  pub steps_answered : (n : ℕ) (new : History) (ahead from left before after : Option (List ℕ)) → ahead ≡ from → new.failures.now ≡ 0 → IfSome ahead (λ input. AnswersAll kinds input n old new left before after)
+  pub steps_answered : (n : ℕ) (new : History) (fresh : Reading) (from left before after : Option (List ℕ)) → IsFresh fresh → new.failures.now ≡ 0 → IfSome (left_of fresh from) (λ input. AnswersAll kinds input n old new left before after)
       → IfSome from (λ input. AnswersSteps setup input left before after)
-  steps_answered n new ahead from left before after same zero h = subst (λ (o : Option (List ℕ)). IfSome o (λ input. AnswersSteps setup input left before after)) same (all_text n new ahead left before after zero h)
+  steps_answered n new fresh from left before after none zero h =
+      subst (λ (o : Option (List ℕ)). IfSome o (λ input. AnswersSteps setup input left before after)) (left_of-fresh fresh from none) (all_text n new (left_of fresh from) left before after zero h)
 
   before_text : (input : List ℕ) (new : History) (before after : Option (List ℕ)) → new.failures.now ≡ 0 → StopsBefore kinds (lines_of input) old new before after → StopsBetween setup (lines_of input) before after
   before_text input new before after zero h = record {
@@ -103,23 +105,24 @@ module _ (setup : Setup) (old : History) (opens : old.whole ≡ opening setup) w
         part = h.part;
       }
 
-  by_fault : (why : LineFault) (reading : LineReader) (left : Option (List ℕ)) (writing : WriterCalls) (input : List ℕ) (new : History) (before after : Option (List ℕ)) → new.failures.now ≡ 0
-      → StopsBy kinds why input reading.calls (left_of reading.bytes.items reading.start reading.end left) left writing old new before after → StopsSteps setup why input left reading before after writing
+  by_fault : (why : LineFault) (reading : Reading) (left : Option (List ℕ)) (writing : WriterCalls) (input : List ℕ) (new : History) (before after : Option (List ℕ)) → new.failures.now ≡ 0
+      → StopsBy kinds input reading left writing old new before after why → StopsSteps setup why input left reading before after writing
   unfolding before_text at_text
   by_fault line.Read reading left writing input new before after zero h = (before_text input new before after zero h.0, h.1, h.2)
   by_fault line.TooMuch reading left writing input new before after zero h = (before_text input new before after zero h.0, h.1)
   by_fault line.Memory reading left writing input new before after zero h = (at_text input new before after zero h.0, h.1)
   by_fault line.Write reading left writing input new before after zero h = (after_text input new before after zero h.0, h.1)
 
-  fault_text : (why : LineFault) (reading : LineReader) (left : Option (List ℕ)) (writing : WriterCalls) (new : History) (from before after : Option (List ℕ)) → new.failures.now ≡ 0
-      → IfSome from (λ input. StopsBy kinds why input reading.calls (left_of reading.bytes.items reading.start reading.end left) left writing old new before after) → IfSome from (λ input. StopsSteps setup why input left reading before after writing)
+  fault_text : (why : LineFault) (reading : Reading) (left : Option (List ℕ)) (writing : WriterCalls) (new : History) (from before after : Option (List ℕ)) → new.failures.now ≡ 0
+      → IfSome from (λ input. StopsBy kinds input reading left writing old new before after why) → IfSome from (λ input. StopsSteps setup why input left reading before after writing)
   fault_text why reading left writing new None before after zero h = tt
   fault_text why reading left writing new (Some input) before after zero h = by_fault why reading left writing input new before after zero h
 
-  pub steps_stopped : (why : LineFault) (reading : LineReader) (left : Option (List ℕ)) (writing : WriterCalls) (new : History) (ahead from before after : Option (List ℕ)) → ahead ≡ from → new.failures.now ≡ 0
-      → IfSome ahead (λ input. StopsBy kinds why input reading.calls (left_of reading.bytes.items reading.start reading.end left) left writing old new before after) → IfSome from (λ input. StopsSteps setup why input left reading before after writing)
-  steps_stopped why reading left writing new ahead from before after same zero h =
-      subst (λ (o : Option (List ℕ)). IfSome o (λ input. StopsSteps setup why input left reading before after writing)) same (fault_text why reading left writing new ahead before after zero h)
+  pub steps_stopped : (why : LineFault) (fresh reading : Reading) (left : Option (List ℕ)) (writing : WriterCalls) (new : History) (from before after : Option (List ℕ)) → IsFresh fresh → new.failures.now ≡ 0
+      → IfSome (left_of fresh from) (λ input. StopsBy kinds input reading left writing old new before after why) → IfSome from (λ input. StopsSteps setup why input left reading before after writing)
+  steps_stopped why fresh reading left writing new from before after none zero h =
+      subst (λ (o : Option (List ℕ)). IfSome o (λ input. StopsSteps setup why input left reading before after writing)) (left_of-fresh fresh from none)
+      (fault_text why reading left writing new (left_of fresh from) before after zero h)
 
 -- ---- all was answered, and then writing failed
 
@@ -140,17 +143,17 @@ all_but_out setup input left before during after kept h = record {
   part = record { front = []; back = []; parts = refl; written = Appends-nil after };
 }
 
-StopsSteps-answered : (setup : Setup) (reading : LineReader) (writing : WriterCalls) (from left before during after : Option (List ℕ)) → writing.failed ≡ true → Keeps during after
+StopsSteps-answered : (setup : Setup) (reading : Reading) (writing : WriterCalls) (from left before during after : Option (List ℕ)) → writing.failed ≡ true → Keeps during after
     → IfSome from (λ input. AnswersSteps setup input left before during) → IfSome from (λ input. StopsSteps setup line.Write input left reading before after writing)
 StopsSteps-answered setup reading writing None left before during after failed kept h = tt
 StopsSteps-answered setup reading writing (Some input) left before during after failed kept h = (all_but_out setup input left before during after kept h, failed)
 
-pub steps_not_out : {T : Type 0} (setup : Setup) (reading : LineReader) (writing : WriterCalls) (from left before during after : Option (List ℕ)) (out : Result T LineFault) → OnErr out ((out ≡ Err line.Write) × (writing.failed ≡ true)) → Keeps during after
+pub steps_not_out : {T : Type 0} (setup : Setup) (reading : Reading) (writing : WriterCalls) (from left before during after : Option (List ℕ)) (out : Result T LineFault) → OnErr out (out ≡ Err line.Write) → OnErr out (writing.failed ≡ true) → Keeps during after
     → IfSome from (λ input. AnswersSteps setup input left before during) → IfErr out (λ why. StopsFrom setup why from left reading before after writing)
-steps_not_out setup reading writing from left before during after (Ok none) fault kept h = tt
-steps_not_out setup reading writing from left before during after (Err why) fault kept h =
-    let is : why ≡ line.Write = cc (fault.0) in
-    subst (λ (w : LineFault). StopsFrom setup w from left reading before after writing) (sym is) (StopsSteps-answered setup reading writing from left before during after fault.1 kept h)
+steps_not_out setup reading writing from left before during after (Ok none) fault failed kept h = tt
+steps_not_out setup reading writing from left before during after (Err why) fault failed kept h =
+    let is : why ≡ line.Write = cc fault in
+    subst (λ (w : LineFault). StopsFrom setup w from left reading before after writing) (sym is) (StopsSteps-answered setup reading writing from left before during after failed kept h)
 
 -- ---- the steps ended with a fault, and then what was written went out
 
@@ -174,7 +177,7 @@ module _ (setup : Setup) (lines : List (List ℕ)) (before during after : Option
     part = record { front = h.part.front; back = h.part.back; parts = h.part.parts; written = Appends-kept h.during during after h.part.front h.part.written kept };
   }
 
-StopsSteps-kept : (setup : Setup) (why : LineFault) (input : List ℕ) (left : Option (List ℕ)) (reading : LineReader) (writing : WriterCalls) (before during after : Option (List ℕ)) → Keeps during after
+StopsSteps-kept : (setup : Setup) (why : LineFault) (input : List ℕ) (left : Option (List ℕ)) (reading : Reading) (writing : WriterCalls) (before during after : Option (List ℕ)) → Keeps during after
     → StopsSteps setup why input left reading before during writing → StopsSteps setup why input left reading before after writing
 unfolding StopsBetween-kept
 StopsSteps-kept setup line.Read input left reading writing before during after kept h = (StopsBetween-kept setup (lines_of input) before during after kept h.0, h.1, h.2)
@@ -182,7 +185,7 @@ StopsSteps-kept setup line.TooMuch input left reading writing before during afte
 StopsSteps-kept setup line.Memory input left reading writing before during after kept h = (StopsBetween-kept setup (lines_of input) before during after kept h.0, h.1)
 StopsSteps-kept setup line.Write input left reading writing before during after kept h = (StopsInside-kept setup (lines_of input) before during after kept h.0, h.1)
 
-pub StopsFrom-kept : (setup : Setup) (why : LineFault) (from left : Option (List ℕ)) (reading : LineReader) (writing : WriterCalls) (before during after : Option (List ℕ)) → Keeps during after
+pub StopsFrom-kept : (setup : Setup) (why : LineFault) (from left : Option (List ℕ)) (reading : Reading) (writing : WriterCalls) (before during after : Option (List ℕ)) → Keeps during after
     → StopsFrom setup why from left reading before during writing → StopsFrom setup why from left reading before after writing
 StopsFrom-kept setup why None left reading writing before during after kept h = tt
 StopsFrom-kept setup why (Some input) left reading writing before during after kept h = StopsSteps-kept setup why input left reading writing before during after kept h
@@ -190,7 +193,7 @@ StopsFrom-kept setup why (Some input) left reading writing before during after k
 -- ---- memory was refused before the first line
 
 -- nothing was taken and nothing written
-none_answered : (setup : Setup) (input : List ℕ) (left before : Option (List ℕ)) (reading : LineReader) (writing : WriterCalls) → left_of reading.bytes.items reading.start reading.end left ≡ Some input
+none_answered : (setup : Setup) (input : List ℕ) (left before : Option (List ℕ)) (reading : Reading) (writing : WriterCalls) → left_of reading left ≡ Some input
     → StopsSteps setup line.Memory input left reading before before writing
 none_answered setup input left before reading writing same = (
   record {
@@ -204,7 +207,7 @@ none_answered setup input left before reading writing same = (
   subst (λ (o : Option (List ℕ)). AreTakenButOne input o []) (sym same) (none_beyond input (Some input) (Some input) [] (Took-none (Some input)) (TakesPart-none (Some input))),
 )
 
-pub steps_not_begun : (setup : Setup) (from before : Option (List ℕ)) (reading : LineReader) (writing : WriterCalls) → left_of reading.bytes.items reading.start reading.end from ≡ from
+pub steps_not_begun : (setup : Setup) (from before : Option (List ℕ)) (reading : Reading) (writing : WriterCalls) → IsFresh reading
     → StopsFrom setup line.Memory from from reading before before writing
-steps_not_begun setup None before reading writing same = tt
-steps_not_begun setup (Some input) before reading writing same = none_answered setup input (Some input) before reading writing same
+steps_not_begun setup None before reading writing fresh = tt
+steps_not_begun setup (Some input) before reading writing fresh = none_answered setup input (Some input) before reading writing (left_of-fresh reading (Some input) fresh)

@@ -2,7 +2,7 @@
 use Rattle.std.proofs.Common.{◌≡◌, ℕ, List, Option}
 use Rattle.std.specs.Prelude.{string_bytes}
 use Rattle.clap.specs.Words.{Text}
-use Rattle.line_protocol.specs.declared.line_reader.LineReader.{LineReader}
+use Rattle.line_protocol.specs.Reading.{Reading}
 use Rattle.line_protocol.specs.declared.written.WriterCalls.{WriterCalls}
 use Rattle.silo_program.specs.Ends.{AreRefusedBy, FailsBy, IsFaultOf}
 use Rattle.silo_program.specs.Files.{FileClaims}
@@ -12,7 +12,7 @@ use Rattle.silo_program.specs.declared.failure.Cause.{Cause}
 use Rattle.silo_program.specs.declared.failure.ProgramFault.{ProgramFault}
 use Rattle.silo_program.specs.declared.failure.ProgramFault.TheVariants as fault
 
-module _ (words : List Text) (files : FileClaims) (from left : Option (List ℕ)) (reading : LineReader) (before after : Option (List ℕ)) (writing : WriterCalls) (said told : Option (List ℕ)) (telling : WriterCalls) where
+module _ (words : List Text) (files : FileClaims) (from left : Option (List ℕ)) (reading : Reading) (before after : Option (List ℕ)) (writing : WriterCalls) (said told : Option (List ℕ)) (telling : WriterCalls) where
   -- with status 1 the program failed
   pub failed_by : (why : ProgramFault) → status_of why ≡ 1 → IsFaultOf words files why from left reading before after writing → Tells said told telling (told_text why)
       → (cause : Cause) × FailsBy words files cause from left reading before after writing × Tells said told telling (failure_text cause)

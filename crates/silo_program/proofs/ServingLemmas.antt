@@ -7,7 +7,7 @@ use Rattle.silo_model.specs.Opening.{Setup}
 use Rattle.line_protocol.specs.declared.fault.LineFault.{LineFault}
 use Rattle.line_protocol.specs.declared.fault.LineFault.TheVariants as line
 use Rattle.line_protocol.specs.declared.calls.ReaderCalls.{ReaderCalls}
-use Rattle.line_protocol.specs.declared.line_reader.LineReader.{LineReader}
+use Rattle.line_protocol.specs.Reading.{Reading}
 use Rattle.line_protocol.specs.declared.written.WriterCalls.{WriterCalls}
 use Rattle.line_service.specs.ServedText.{StopsWriting}
 use Rattle.line_service.specs.declared.fault.ServiceFault.{ServiceFault}
@@ -18,7 +18,7 @@ use Rattle.silo_words.specs.Tenants.{IsReason, NameTenants}
 use Rattle.tenant_gate.specs.Table.{Table}
 use Rattle.line_service.specs.Serving.{StopsServing, setup_of}
 use Rattle.silo_program.specs.Files.{FileClaims}
-use Rattle.silo_program.specs.Serving.{IsKeepingCause, KeepsJournal, LeavesOutcome, Outcome, ServingFailsBy, WritesAtMost, WritesJournalAtMost, WritesJournalTo, outcome_text, service_cause}
+use Rattle.silo_program.specs.Serving.{IsKeepingCause, KeepsJournal, LeavesOutcome, Outcome, ServingFailsBy, WritesAtMost, WritesJournalAtMost, outcome_text, service_cause}
 use Rattle.silo_program.specs.Ends.{AskForJournal, EndsAs, IsFaultOf, IsServingFault, IsStreamFault, LeavesFiles, ShowsText, WritesJournal}
 use Rattle.silo_program.specs.declared.failure.Cause.{Cause}
 use Rattle.silo_program.specs.declared.failure.Cause.TheVariants as cause
@@ -93,7 +93,7 @@ untouched words files from left leaves never =
 
 -- ---- the tenant arguments are refused
 
-module _ (words : List Text) (files : FileClaims) (from : Option (List ℕ)) (reading : LineReader) (before : Option (List ℕ)) (writing : WriterCalls) (same : files.same) where
+module _ (words : List Text) (files : FileClaims) (from : Option (List ℕ)) (reading : Reading) (before : Option (List ℕ)) (writing : WriterCalls) (same : files.same) where
   module _ (workers age : ℕ) (journal : Option Text) (arguments : List Text) (asked : AskForServing words workers age journal arguments) where
     pub tenants_refused : (why : TenantsFault) (told : ProgramFault) → IsReason arguments why → IsTenantsFault why told → IsServingFault words files told from from reading before before writing
     tenants_refused tenants.Memory told reason is = subst (λ (f : ProgramFault). IsServingFault words files f from from reading before before writing) (sym is) (inl (Keeps-refl from, Keeps-refl before))
@@ -112,7 +112,7 @@ module _ (words : List Text) (files : FileClaims) (from left before after : Opti
   pub ends_shown : {E : Type 0} (result : Result End E) → IfOk result (λ how. (how ≡ end.Well) × ShowsText words from left before after) → IfOk result (λ how. EndsAs how words files from left before after)
   ends_shown result is = IfOk-weaker result (λ how. (how ≡ end.Well) × ShowsText words from left before after) (λ how. EndsAs how words files from left before after) shown is
 
-module _ (words : List Text) (files : FileClaims) (from left : Option (List ℕ)) (reading : LineReader) (before after : Option (List ℕ)) (writing : WriterCalls) (same : files.same) where
+module _ (words : List Text) (files : FileClaims) (from left : Option (List ℕ)) (reading : Reading) (before after : Option (List ℕ)) (writing : WriterCalls) (same : files.same) where
   stream_fault : (why : ProgramFault) → IsStreamFault words why from left reading before after writing → IsFaultOf words files why from left reading before after writing
   stream_fault (fault.Failed why) is = ⊎_elim (λ early. inl early) (λ steps. inr (inl steps)) is
   stream_fault (fault.Refused text) is = (is.0, is.1, is.2, same)

@@ -3,11 +3,12 @@ use Rattle.std.specs.Prelude.{◌≡◌, ◌⊎◌, ℕ, List, Option, Some, str
 use Rattle.std.specs.Io.KnownBytes.{Appends, Keeps}
 use Rattle.clap.specs.Words.{Text}
 use Rattle.tenant_gate.specs.Table.{Table}
-use Rattle.line_protocol.specs.declared.line_reader.LineReader.{LineReader}
+use Rattle.line_protocol.specs.Reading.{Reading}
 use Rattle.line_protocol.specs.declared.written.WriterCalls.{WriterCalls}
 use Rattle.line_protocol.specs.declared.fault.LineFault.{LineFault}
 use Rattle.line_service.specs.Serving.{setup_of}
-use Rattle.silo_words.specs.Words.{AreRefused, AreTaken, AskForAudit, AskForHelp, AskForServing, AskForSteps, AskForVersion, EndsWithExample, IsOutOfRange}
+use Rattle.silo_words.specs.Words.{AreRefused, AreTaken, AskForAudit, AskForHelp, AskForServing}
+use Rattle.silo_words.specs.Words.{AskForSteps, AskForVersion, EndsWithExample, IsOutOfRange}
 use Rattle.silo_program.specs.Status.{cause_of, refused_text, version_text}
 use Rattle.silo_program.specs.Streams.{BreaksOff}
 use Rattle.silo_words.specs.Tenants.{IsFirstRefused, NameTenants}
@@ -46,7 +47,9 @@ AskForJournal words path = (workers : ℕ) × (age : ℕ) × (arguments : List T
 
 -- The words have these tenant arguments, whether they ask to take steps or to serve.
 abbrev pub HaveArguments : List Text → List Text → Type 0
-HaveArguments words arguments = ((age : ℕ) × AskForSteps words age arguments) ⊎ ((workers : ℕ) × (age : ℕ) × (journal : Option Text) × AskForServing words workers age journal arguments)
+HaveArguments words arguments =
+    ((age : ℕ) × AskForSteps words age arguments)
+    ⊎ ((workers : ℕ) × (age : ℕ) × (journal : Option Text) × AskForServing words workers age journal arguments)
 
 -- Of the words' tenant arguments the one of this number is the first that is refused.
 pub record NameNoTenant (words : List Text) (number : ℕ) : Type 0 where
@@ -56,7 +59,9 @@ pub record NameNoTenant (words : List Text) (number : ℕ) : Type 0 where
 
 -- What is said of words that are refused: clap's text, or that a number is out of its range, or which tenant argument is refused.
 abbrev pub AreRefusedBy : List Text → Text → Type 0
-AreRefusedBy words text = (AreRefused words ⊎ (AreTaken words × IsOutOfRange words)) ⊎ ((number : ℕ) × NameNoTenant words number × (text ≡ refused_text number))
+AreRefusedBy words text =
+    (AreRefused words ⊎ (AreTaken words × IsOutOfRange words))
+    ⊎ ((number : ℕ) × NameNoTenant words number × (text ≡ refused_text number))
 
 -- ---- a text is shown
 
@@ -93,7 +98,8 @@ pub record ServesSteps (words : List Text) (from left before after : Option (Lis
   pub answered : AnswersFrom (setup_of tenants age) from left before after
 
 -- The words name tenants, and the steps of the input were answered for them up to this fault.
-pub record FailsInSteps (words : List Text) (why : Cause) (from left : Option (List ℕ)) (reading : LineReader) (before after : Option (List ℕ)) (writing : WriterCalls) : Type 0 where
+pub record FailsInSteps (words : List Text) (why : Cause) (from left : Option (List ℕ)) (reading : Reading)
+    (before after : Option (List ℕ)) (writing : WriterCalls) : Type 0 where
   pub tenants : Table
   pub age : ℕ
   pub asked : AskForTenants words tenants age
@@ -113,7 +119,8 @@ pub record ServesInput (words : List Text) (files : FileClaims) (from left befor
   pub served : ServesLanes (setup_of tenants age) files journal from left before after
 
 -- The words name tenants, and serving the lines of the input for them failed.
-pub record FailsInServing (words : List Text) (files : FileClaims) (why : Cause) (from left : Option (List ℕ)) (reading : LineReader) (before after : Option (List ℕ)) (writing : WriterCalls) : Type 0 where
+pub record FailsInServing (words : List Text) (files : FileClaims) (why : Cause) (from left : Option (List ℕ)) (reading : Reading)
+    (before after : Option (List ℕ)) (writing : WriterCalls) : Type 0 where
   pub workers : ℕ
   pub tenants : Table
   pub age : ℕ
@@ -121,7 +128,8 @@ pub record FailsInServing (words : List Text) (files : FileClaims) (why : Cause)
   pub asked : AskForThreads words workers tenants age journal
   pub failed : ServingFailsBy (setup_of tenants age) files journal why from left reading.calls before after writing
 
--- The words name tenants and a path, the lines of the input were served for them, and their journal was written to this path, once and nothing else.
+-- The words name tenants and a path, the lines of the input were served for them, and their journal was written to this
+-- path, once and nothing else.
 pub record WritesJournal (words : List Text) (files : FileClaims) (from left : Option (List ℕ)) : Type 0 where
   pub workers : ℕ
   pub tenants : Table
@@ -145,7 +153,8 @@ pub record Audits (words : List Text) (files : FileClaims) (how : End) (from lef
   pub audited : AuditsFile (files.may_hold path) how before after
 
 -- The words name a file, and its audit failed. Nothing was read from the input, and no file was written.
-pub record FailsInAudit (words : List Text) (files : FileClaims) (why : Cause) (from left before after : Option (List ℕ)) (writing : WriterCalls) : Type 0 where
+pub record FailsInAudit (words : List Text) (files : FileClaims) (why : Cause) (from left before after : Option (List ℕ))
+    (writing : WriterCalls) : Type 0 where
   pub path : Text
   pub asked : AskForAudit words path
   pub kept : Keeps from left
@@ -162,31 +171,49 @@ pub record RefusesJournal (words : List Text) (files : FileClaims) (text : Text)
 
 -- ---- how the program ends
 
--- All is well: the words ask for a text, which was written, or for steps, which were answered, or for lines to be served, which they were, or for an audit, which found no difference. A tenant differs: the words ask for an audit, which found that.
+-- All is well: the words ask for a text, which was written, or for steps, which were answered, or for lines to be served,
+-- which they were, or for an audit, which found no difference. A tenant differs: the words ask for an audit, which found
+-- that.
 abbrev pub EndsAs : End → List Text → FileClaims → Option (List ℕ) → Option (List ℕ) → Option (List ℕ) → Option (List ℕ) → Type 0
 EndsAs end.Well words files from left before after =
-    ShowsText words from left before after ⊎ (ServesSteps words from left before after ⊎ (ServesInput words files from left before after ⊎ Audits words files end.Well from left before after))
+    ShowsText words from left before after
+    ⊎ (ServesSteps words from left before after
+    ⊎ (ServesInput words files from left before after ⊎ Audits words files end.Well from left before after))
 EndsAs end.Differs words files from left before after = Audits words files end.Differs from left before after
 
 -- What was done before the program failed by this: nothing yet, or a part of what the words ask for.
-abbrev pub FailsBy : List Text → FileClaims → Cause → Option (List ℕ) → Option (List ℕ) → LineReader → Option (List ℕ) → Option (List ℕ) → WriterCalls → Type 0
+abbrev pub FailsBy : List Text → FileClaims → Cause → Option (List ℕ) → Option (List ℕ) → Reading → Option (List ℕ) → Option (List ℕ)
+    → WriterCalls → Type 0
 FailsBy words files why from left reading before after writing =
-    FailsEarly words why from left before after writing ⊎ (FailsInSteps words why from left reading before after writing ⊎ (FailsInServing words files why from left reading before after writing ⊎ FailsInAudit words files why from left before after writing))
+    FailsEarly words why from left before after writing
+    ⊎ (FailsInSteps words why from left reading before after writing
+    ⊎ (FailsInServing words files why from left reading before after writing
+    ⊎ FailsInAudit words files why from left before after writing))
 
 -- Why a text isn't shown, or steps aren't taken.
-abbrev pub IsStreamFault : List Text → ProgramFault → Option (List ℕ) → Option (List ℕ) → LineReader → Option (List ℕ) → Option (List ℕ) → WriterCalls → Type 0
-IsStreamFault words (fault.Failed why) from left reading before after writing = FailsEarly words why from left before after writing ⊎ FailsInSteps words why from left reading before after writing
-IsStreamFault words (fault.Refused text) from left reading before after writing = AreRefusedBy words (string_bytes text) × Keeps from left × Keeps before after
+abbrev pub IsStreamFault : List Text → ProgramFault → Option (List ℕ) → Option (List ℕ) → Reading → Option (List ℕ) → Option (List ℕ)
+    → WriterCalls → Type 0
+IsStreamFault words (fault.Failed why) from left reading before after writing =
+    FailsEarly words why from left before after writing ⊎ FailsInSteps words why from left reading before after writing
+IsStreamFault words (fault.Refused text) from left reading before after writing =
+    AreRefusedBy words (string_bytes text) × Keeps from left × Keeps before after
 IsStreamFault words (fault.NoJournal text) from left reading before after writing = ⊥
 
 -- Why lines aren't served.
-abbrev pub IsServingFault : List Text → FileClaims → ProgramFault → Option (List ℕ) → Option (List ℕ) → LineReader → Option (List ℕ) → Option (List ℕ) → WriterCalls → Type 0
-IsServingFault words files (fault.Failed why) from left reading before after writing = FailsEarly words why from left before after writing ⊎ FailsInServing words files why from left reading before after writing
-IsServingFault words files (fault.Refused text) from left reading before after writing = AreRefusedBy words (string_bytes text) × Keeps from left × Keeps before after × files.same
+abbrev pub IsServingFault : List Text → FileClaims → ProgramFault → Option (List ℕ) → Option (List ℕ) → Reading → Option (List ℕ)
+    → Option (List ℕ) → WriterCalls → Type 0
+IsServingFault words files (fault.Failed why) from left reading before after writing =
+    FailsEarly words why from left before after writing ⊎ FailsInServing words files why from left reading before after writing
+IsServingFault words files (fault.Refused text) from left reading before after writing =
+    AreRefusedBy words (string_bytes text) × Keeps from left × Keeps before after × files.same
 IsServingFault words files (fault.NoJournal text) from left reading before after writing = ⊥
 
 -- Why the program doesn't do what the words ask for. If the words are refused, nothing was read and nothing written, also no file.
-abbrev pub IsFaultOf : List Text → FileClaims → ProgramFault → Option (List ℕ) → Option (List ℕ) → LineReader → Option (List ℕ) → Option (List ℕ) → WriterCalls → Type 0
-IsFaultOf words files (fault.Failed why) from left reading before after writing = FailsBy words files why from left reading before after writing
-IsFaultOf words files (fault.Refused text) from left reading before after writing = AreRefusedBy words (string_bytes text) × Keeps from left × Keeps before after × files.same
-IsFaultOf words files (fault.NoJournal text) from left reading before after writing = RefusesJournal words files (string_bytes text) from left before after
+abbrev pub IsFaultOf : List Text → FileClaims → ProgramFault → Option (List ℕ) → Option (List ℕ) → Reading → Option (List ℕ)
+    → Option (List ℕ) → WriterCalls → Type 0
+IsFaultOf words files (fault.Failed why) from left reading before after writing =
+    FailsBy words files why from left reading before after writing
+IsFaultOf words files (fault.Refused text) from left reading before after writing =
+    AreRefusedBy words (string_bytes text) × Keeps from left × Keeps before after × files.same
+IsFaultOf words files (fault.NoJournal text) from left reading before after writing =
+    RefusesJournal words files (string_bytes text) from left before after

@@ -13,4 +13,9 @@ pub record FileClaims : Type 1 where
 module _ {F : Type 0} (may_hold : F → List ℕ → List ℕ → Type 0) (may_fail : F → List ℕ → Type 0)
     (may_leave : F → List ℕ → List ℕ → F → Type 0) where
   abbrev pub claims : F → F → FileClaims
-  claims old new = record { same = new ≡ old; written = λ path bytes. may_leave old path bytes new; may_hold = may_hold new; may_fail = may_fail old }
+  claims old new = record {
+    same = new ≡ old;
+    written = λ path bytes. may_leave old path bytes new;
+    may_hold = may_hold new;
+    may_fail = may_fail old;
+  }

@@ -37,7 +37,8 @@ LeavesOutcome setup from left outcome = IfSome from (λ input. IsServed setup in
 abbrev pub outcome_text : Outcome → List ℕ
 outcome_text outcome = served_text outcome.refusals outcome.answers outcome.silo.whole.replies
 
--- The journal of the silo was written to the path, once and nothing else. The file at the path may have it, and in it no tenant differs from its machine.
+-- The journal of the silo was written to the path, once and nothing else. The file at the path may have it, and in it no
+-- tenant differs from its machine.
 pub record HoldsJournal (files : FileClaims) (path : List ℕ) (silo : History) : Type 0 where
   pub written : files.written path (journal_text (journal_of silo))
   pub held : files.may_hold path (journal_text (journal_of silo))
@@ -71,32 +72,42 @@ MayFailAt may_fail (Some path) = may_fail path
 -- ---- how serving ends
 
 -- The lines of the input were served; their journal was written, if a path is given; and then what became of them.
-pub record ServesLanes (setup : Setup) (files : FileClaims) (journal : Option (List ℕ)) (from left before after : Option (List ℕ)) : Type 0 where
+pub record ServesLanes (setup : Setup) (files : FileClaims) (journal : Option (List ℕ))
+    (from left before after : Option (List ℕ)) : Type 0 where
   pub outcome : Outcome
   pub served : LeavesOutcome setup from left outcome
   pub kept : KeepsJournal files journal outcome.silo
   pub written : Appends before after (outcome_text outcome)
 
 -- The same, but the text of what became of them breaks off: a call of the writer failed.
-pub record WritesOutcomeInPart (setup : Setup) (files : FileClaims) (journal : Option (List ℕ)) (from left before after : Option (List ℕ)) (writing : WriterCalls) : Type 0 where
+pub record WritesOutcomeInPart (setup : Setup) (files : FileClaims) (journal : Option (List ℕ))
+    (from left before after : Option (List ℕ)) (writing : WriterCalls) : Type 0 where
   pub outcome : Outcome
   pub served : LeavesOutcome setup from left outcome
   pub kept : KeepsJournal files journal outcome.silo
   pub part : BreaksOff before after writing (outcome_text outcome)
 
--- The lines of the input were served, but their journal wasn't written to the path that is given, where a call may fail, and so nothing was.
-pub record LosesJournal (setup : Setup) (may_fail : List ℕ → Type 0) (journal : Option (List ℕ)) (from left before after : Option (List ℕ)) : Type 0 where
+-- The lines of the input were served, but their journal wasn't written to the path that is given, where a call may fail, and
+-- so nothing was.
+pub record LosesJournal (setup : Setup) (may_fail : List ℕ → Type 0) (journal : Option (List ℕ))
+    (from left before after : Option (List ℕ)) : Type 0 where
   pub fails : MayFailAt may_fail journal
   pub outcome : Outcome
   pub served : LeavesOutcome setup from left outcome
   pub kept : Keeps before after
 
--- By what serving fails: reading only if the last call of the reader failed; too much only if there are too many lines, or all calls of the reader were made; writing as above. But for a fault of writing nothing was written, and but for one of writing or of memory no file was.
-abbrev pub ServingFailsBy : Setup → FileClaims → Option (List ℕ) → Cause → Option (List ℕ) → Option (List ℕ) → ReaderCalls → Option (List ℕ) → Option (List ℕ) → WriterCalls → Type 0
-ServingFailsBy setup files journal cause.Read from left reading before after writing = (reading.failed ≡ true) × Keeps before after × files.same
-ServingFailsBy setup files journal cause.TooMuch from left reading before after writing = (HasTooMany from ⊎ (reading.made ≡ calls_limit)) × Keeps before after × files.same
+-- By what serving fails: reading only if the last call of the reader failed; too much only if there are too many lines, or
+-- all calls of the reader were made; writing as above. But for a fault of writing nothing was written, and but for one of
+-- writing or of memory no file was.
+abbrev pub ServingFailsBy : Setup → FileClaims → Option (List ℕ) → Cause → Option (List ℕ) → Option (List ℕ) → ReaderCalls
+    → Option (List ℕ) → Option (List ℕ) → WriterCalls → Type 0
+ServingFailsBy setup files journal cause.Read from left reading before after writing =
+    (reading.failed ≡ true) × Keeps before after × files.same
+ServingFailsBy setup files journal cause.TooMuch from left reading before after writing =
+    (HasTooMany from ⊎ (reading.made ≡ calls_limit)) × Keeps before after × files.same
 ServingFailsBy setup files journal cause.Write from left reading before after writing =
-    LosesJournal setup files.may_fail journal from left before after ⊎ WritesOutcomeInPart setup files journal from left before after writing
+    LosesJournal setup files.may_fail journal from left before after
+    ⊎ WritesOutcomeInPart setup files journal from left before after writing
 ServingFailsBy setup files journal cause.Memory from left reading before after writing = Keeps before after
 ServingFailsBy setup files journal why from left reading before after writing = Keeps before after × files.same
 

@@ -6,13 +6,14 @@ use Rattle.silo_model.specs.Opening.{Setup, opening, start_of}
 use Rattle.line_protocol.specs.Limits.{calls_limit}
 use Rattle.line_protocol.specs.Lines.{lines_of}
 use Rattle.line_protocol.specs.LineTexts.{whole_stepper, machine_stepper, said_lines, line_texts, lines_text, lines_to, texts_to}
-use Rattle.line_protocol.specs.LineRuns.{AreTaken, AreTakenButOne, IsFull, WrittenInPart, left_of}
-use Rattle.line_protocol.specs.declared.line_reader.LineReader.{LineReader}
+use Rattle.line_protocol.specs.LineRuns.{IsFull, WrittenInPart}
+use Rattle.line_protocol.specs.Reading.{AreTaken, AreTakenButOne, Reading, left_of}
 use Rattle.line_protocol.specs.declared.written.WriterCalls.{WriterCalls}
 use Rattle.line_protocol.specs.declared.fault.LineFault.{LineFault}
 use Rattle.line_protocol.specs.declared.fault.LineFault.TheVariants as line
 
--- The text is what a silo answers to the lines from its opening, and nothing else. For every tenant, the texts of the lines that concern it are what the tenant's own machine answers to these lines alone, from its start.
+-- The text is what a silo answers to the lines from its opening, and nothing else. For every tenant, the texts of the lines
+-- that concern it are what the tenant's own machine answers to these lines alone, from its start.
 pub record IsTextOf (setup : Setup) (lines : List (List ℕ)) (text : List ℕ) : Type 0 where
   pub whole : text ≡ lines_text (whole_stepper kinds) (opening setup) (said_lines lines)
   pub own : (tenant : List ℕ) → texts_to tenant (said_lines lines) (line_texts (whole_stepper kinds) (opening setup) (said_lines lines))
@@ -49,19 +50,27 @@ pub record StopsInside (setup : Setup) (lines : List (List ℕ)) (before after :
   pub written : Appends before during text
   pub part : WrittenInPart during after last_text
 
--- What was written before the steps ended with a fault, and when it comes: the last call of the reader failed; a call of the writer failed; there were too many lines, or all calls of the reader were made; or memory was refused.
--- And which line failed, beside what the reader has left. If reading failed, or all calls were made, the lines whose text was written are those that were taken. If memory was refused, they are all of these but the last one at most.
-abbrev pub StopsSteps : Setup → LineFault → List ℕ → Option (List ℕ) → LineReader → Option (List ℕ) → Option (List ℕ) → WriterCalls → Type 0
-StopsSteps setup line.Read input left reading before after writing = (p : StopsBetween setup (lines_of input) before after) × (reading.calls.failed ≡ true) × AreTaken input left p.done
-StopsSteps setup line.Write input left reading before after writing = StopsInside setup (lines_of input) before after × (writing.failed ≡ true)
+-- What was written before the steps ended with a fault, and when it comes: the last call of the reader failed; a call of the
+-- writer failed; there were too many lines, or all calls of the reader were made; or memory was refused.
+-- And which line failed, beside what the reader has left. If reading failed, or all calls were made, the lines whose text
+-- was written are those that were taken. If memory was refused, they are all of these but the last one at most.
+abbrev pub StopsSteps : Setup → LineFault → List ℕ → Option (List ℕ) → Reading → Option (List ℕ) → Option (List ℕ) → WriterCalls
+    → Type 0
+StopsSteps setup line.Read input left reading before after writing =
+    (p : StopsBetween setup (lines_of input) before after) × (reading.calls.failed ≡ true) × AreTaken input left p.done
+StopsSteps setup line.Write input left reading before after writing =
+    StopsInside setup (lines_of input) before after × (writing.failed ≡ true)
 StopsSteps setup line.TooMuch input left reading before after writing =
-    (p : StopsBetween setup (lines_of input) before after) × (IsFull p.done p.rest ⊎ ((reading.calls.made ≡ calls_limit) × AreTaken input left p.done))
+    (p : StopsBetween setup (lines_of input) before after)
+    × (IsFull p.done p.rest ⊎ ((reading.calls.made ≡ calls_limit) × AreTaken input left p.done))
 StopsSteps setup line.Memory input left reading before after writing =
-    (p : StopsBetween setup (lines_of input) before after) × AreTakenButOne input (left_of reading.bytes.items reading.start reading.end left) p.done
+    (p : StopsBetween setup (lines_of input) before after) × AreTakenButOne input (left_of reading left) p.done
 
 -- the same of a reader, whose input may be unknown
 abbrev pub AnswersFrom : Setup → Option (List ℕ) → Option (List ℕ) → Option (List ℕ) → Option (List ℕ) → Type 0
 AnswersFrom setup from left before after = IfSome from (λ input. AnswersSteps setup input left before after)
 
-abbrev pub StopsFrom : Setup → LineFault → Option (List ℕ) → Option (List ℕ) → LineReader → Option (List ℕ) → Option (List ℕ) → WriterCalls → Type 0
-StopsFrom setup why from left reading before after writing = IfSome from (λ input. StopsSteps setup why input left reading before after writing)
+abbrev pub StopsFrom : Setup → LineFault → Option (List ℕ) → Option (List ℕ) → Reading → Option (List ℕ) → Option (List ℕ)
+    → WriterCalls → Type 0
+StopsFrom setup why from left reading before after writing =
+    IfSome from (λ input. StopsSteps setup why input left reading before after writing)

@@ -7,12 +7,13 @@ ghost use Rattle.line_protocol.specs.declared.written.WriterCalls.{WriterCalls};
 ghost use Rattle.journal_text.specs.Rules.{KeepsRules};
 ghost use Rattle.journal_text.specs.Text.{journal_text};
 ghost use Rattle.audit_model.specs.Report.{IsReport};
-ghost use Rattle.silo_program.specs.Auditing.{AuditsFile, IsAuditCause, IsAuditFault, IsEndOf, IsReadingFault, IsRefusalOf, IsWritingCause, MayHoldJournal, file_cause, reports_text};
+ghost use Rattle.silo_program.specs.Auditing.{AuditsFile, IsAuditCause, IsAuditFault, IsEndOf, IsReadingFault, IsRefusalOf};
+ghost use Rattle.silo_program.specs.Auditing.{IsWritingCause, MayHoldJournal, file_cause, reports_text};
 
 use crate::failure::{Cause, End, ProgramFault, say};
 use crate::files::{FileFault, WholeFiles};
-use crate::streams::Output;
 use journal_text::{Journal, JournalFault, read_journal};
+use line_protocol::Output;
 use std::alloc::Global;
 use std::io::Write;
 use std::sync::Wait;
@@ -57,7 +58,9 @@ fn journal_in(alloc: Global, bytes: &[u8]) -> Result<Journal, ProgramFault>
 /// The journal that the file at the path has.
 fn journal_at<F: WholeFiles>(alloc: Global, files: &F, path: &str) -> Result<Journal, ProgramFault>
     ensures journal { IfOk result (λ journal. MayHoldJournal (F.may_hold files.now path.now) journal) }
-    ensures fault { (before : Option (List ℕ)) (writing : WriterCalls) → IfErr result (λ fault. IsAuditFault (F.may_hold files.now path.now) (F.may_fail files.now path.now) fault before before writing) }
+    ensures fault { (before : Option (List ℕ)) (writing : WriterCalls)
+        → IfErr result (λ fault. IsAuditFault (F.may_hold files.now path.now) (F.may_fail files.now path.now) fault
+        before before writing) }
 {
     match files.read_whole(alloc, path) {
         Ok(bytes) => journal_in(alloc, bytes.as_slice()),
@@ -98,9 +101,11 @@ fn write_reports<W: Write>(
     report: &Report,
     output: &mut Output<W>,
 ) -> Result<End, Cause>
-    ensures written { IfOk result (λ how. IsEndOf how report.now × Appends (W.contents output.old.writer) (W.contents output.new.writer) (reports_text report.now)) }
+    ensures written { IfOk result (λ how. IsEndOf how report.now
+        × Appends (W.contents output.old.writer) (W.contents output.new.writer) (reports_text report.now)) }
     ensures unfailed { OnOk result (output.new.calls.failed ≡ output.old.calls.failed) }
-    ensures fault { IfErr result (λ cause. IsWritingCause cause (W.contents output.old.writer) (W.contents output.new.writer) output.new.calls (reports_text report.now)) }
+    ensures fault { IfErr result (λ cause. IsWritingCause cause
+        (W.contents output.old.writer) (W.contents output.new.writer) output.new.calls (reports_text report.now)) }
 {
     let Ok(text) = report_text(alloc, report) else {
         return Err(Cause::Memory);
@@ -124,9 +129,11 @@ pub fn audit_file<
     W: Write,
     A: AuditGate + Sync,
 >(rt: &H, path: &str, files: &F, output: &mut Output<W>, gate: &A) -> Result<End, ProgramFault>
-    ensures audited { IfOk result (λ how. AuditsFile (F.may_hold files.now path.now) how (W.contents output.old.writer) (W.contents output.new.writer)) }
+    ensures audited { IfOk result (λ how. AuditsFile (F.may_hold files.now path.now) how
+        (W.contents output.old.writer) (W.contents output.new.writer)) }
     ensures unfailed { OnOk result (output.new.calls.failed ≡ output.old.calls.failed) }
-    ensures fault { IfErr result (λ fault. IsAuditFault (F.may_hold files.now path.now) (F.may_fail files.now path.now) fault (W.contents output.old.writer) (W.contents output.new.writer) output.new.calls) }
+    ensures fault { IfErr result (λ fault. IsAuditFault (F.may_hold files.now path.now) (F.may_fail files.now path.now) fault
+        (W.contents output.old.writer) (W.contents output.new.writer) output.new.calls) }
 {
     let alloc = rt.alloc();
     let journal = journal_at(alloc, files, path)?;

@@ -6,8 +6,7 @@ ghost use Rattle.std.specs.IoError.{error_kind};
 ghost use Rattle.silo_program.specs.Status.{cause_of, end_status, failure_text, status_of, told_text};
 ghost use Rattle.silo_program.specs.Streams.{BreaksOff, Tells};
 
-use crate::streams::Output;
-use line_protocol::LineFault;
+use line_protocol::{LineFault, Output};
 use std::io::{self, ErrorKind, Write};
 use thiserror::Error;
 
@@ -84,8 +83,8 @@ pub fn say<W: Write>(to: &mut Output<W>, text: &str) -> bool
     ensures unfailed { result ≡ true → to.new.calls.failed ≡ to.old.calls.failed }
     ensures part { result ≡ false → BreaksOff (W.contents to.old.writer) (W.contents to.new.writer) to.new.calls text.now }
 {
-    let whole = to.calls.write_whole(&mut to.writer, text.as_bytes());
-    whole.is_ok() && to.calls.flush(&mut to.writer).is_ok()
+    let whole = to.write_whole(text.as_bytes());
+    whole.is_ok() && to.flush().is_ok()
 }
 
 fn failure_line(cause: Cause) -> &'static str

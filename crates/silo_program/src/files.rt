@@ -1,11 +1,8 @@
-//! Files that are read whole and written whole: the host's, and one in memory.
+//! Files that are read whole and written whole, and one in memory.
 
 ghost use Rattle.std.specs.Prelude.{◌≡◌, ◌≢◌, ◌↔◌, ◌⊎◌, ⊤, ℕ, List, IfOk, IfErr, OnOk, OnErr, IsErrOf, string_bytes};
 
 use std::alloc::Global;
-use std::fs;
-use std::io::ErrorKind;
-use std::rt::Files;
 use thiserror::Error;
 
 /// Why a file was not read or not written.
@@ -36,28 +33,6 @@ pub trait WholeFiles {
         ensures held { OnOk result (may_hold self.new path.now bytes.now) }
         ensures left { may_leave self.old path.now bytes.now self.new }
         ensures fault { IfErr result (λ why. why ≡ FileFault.Failed → may_fail self.old path.now) };
-}
-
-/// The files of the host.
-#[derive(Drop)]
-pub struct HostFiles<'a, R> {
-    pub rt: &'a R,
-}
-
-impl<R: Files + AllocGlobal> WholeFiles for HostFiles<'_, R> {
-    fn read_whole(&self, _alloc: Global, path: &str) -> Result<Vec<u8>, FileFault> {
-        fs::read(self.rt, path).map_err(|error| match error.kind() {
-            ErrorKind::OutOfMemory => FileFault::Memory,
-            _ => FileFault::Failed,
-        })
-    }
-
-    fn write_whole(&mut self, _alloc: Global, path: &str, bytes: &[u8]) -> Result<(), FileFault> {
-        fs::write(self.rt, path, bytes).map_err(|error| match error.kind() {
-            ErrorKind::OutOfMemory => FileFault::Memory,
-            _ => FileFault::Failed,
-        })
-    }
 }
 
 /// One file in memory, of which the clauses of `WholeFiles` say most; the program has the host's. Every other path

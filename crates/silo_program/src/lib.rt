@@ -9,12 +9,13 @@
 mod auditing;
 mod failure;
 mod files;
+mod host_files;
 mod program;
 mod serving;
 mod stepping;
-mod streams;
 
 pub use failure::{Cause, End, ProgramFault, refuse_words, tell};
-pub use files::{FileFault, HostFiles, MemoryFile, WholeFiles};
+pub use files::{FileFault, MemoryFile, WholeFiles};
+pub use host_files::HostFiles;
+pub use line_protocol::{Input, Output};
 pub use program::{answer, run_program};
-pub use streams::{Input, Output};

@@ -3,19 +3,20 @@
 ghost use Rattle.std.specs.Prelude.{◌≡◌, ◌≤◌, ◌⊎◌, List, ℕ, Option, IfOk, IfErr, OnOk, map, option_map};
 ghost use Rattle.std.specs.Io.KnownBytes.{Appends, Keeps};
 ghost use Rattle.clap.specs.Words.{Text};
-ghost use Rattle.line_protocol.specs.declared.line_reader.LineReader.{LineReader};
+ghost use Rattle.line_protocol.specs.Reading.{IsFresh, Reading};
 ghost use Rattle.silo_words.specs.Words.{AskForServing, AskForSteps, IsWhy, texts_of};
 ghost use Rattle.silo_program.specs.Status.{IsTenantsFault, failure_text};
-ghost use Rattle.silo_program.specs.Streams.{BreaksOff, IsFresh, Tells};
+ghost use Rattle.silo_program.specs.Streams.{BreaksOff, Tells};
 ghost use Rattle.silo_program.specs.Files.{claims};
-ghost use Rattle.silo_program.specs.Ends.{AreRefusedBy, AskForJournal, EndsAs, FailsBy, IsFaultOf, IsServingFault, IsStreamFault, LeavesFiles, RefusesJournal, ServesInput, ServesSteps, ShowsText};
+ghost use Rattle.silo_program.specs.Ends.{AreRefusedBy, AskForJournal, EndsAs, FailsBy, IsFaultOf, IsServingFault, IsStreamFault};
+ghost use Rattle.silo_program.specs.Ends.{LeavesFiles, RefusesJournal, ServesInput, ServesSteps, ShowsText};
 
 use crate::auditing::audit_file;
 use crate::failure::{Cause, End, ProgramFault, cause_of, say, status_of_end, tell};
 use crate::files::WholeFiles;
 use crate::serving::serve_lines;
 use crate::stepping::answer_steps;
-use crate::streams::{Input, Output};
+use line_protocol::{Input, Output};
 use silo_words::{Task, TenantsFault, WordsFault, read_tenants, read_words};
 use std::alloc::Global;
 use std::io::{Read, Write};
@@ -30,9 +31,11 @@ const VERSION_LINE: &str = "silo 0.1.0\n";
 
 /// Writes a text that was asked for.
 fn show<W: Write>(output: &mut Output<W>, text: &str) -> Result<End, ProgramFault>
-    ensures whole { IfOk result (λ end. (end ≡ End.Well) × Appends (W.contents output.old.writer) (W.contents output.new.writer) text.now) }
+    ensures whole { IfOk result (λ end. (end ≡ End.Well)
+        × Appends (W.contents output.old.writer) (W.contents output.new.writer) text.now) }
     ensures unfailed { OnOk result (output.new.calls.failed ≡ output.old.calls.failed) }
-    ensures part { IfErr result (λ why. (why ≡ ProgramFault.Failed Cause.Write) × BreaksOff (W.contents output.old.writer) (W.contents output.new.writer) output.new.calls text.now) }
+    ensures part { IfErr result (λ why. (why ≡ ProgramFault.Failed Cause.Write)
+        × BreaksOff (W.contents output.old.writer) (W.contents output.new.writer) output.new.calls text.now) }
 {
     if say(output, text) {
         return Ok(End::Well);
@@ -45,8 +48,9 @@ fn explain_words<W: Write>(fault: WordsFault, output: &mut Output<W>) -> Result<
     ensures shown { (words : List Text) (from : Option (List ℕ)) → IsWhy words fault
         → IfOk result (λ end. (end ≡ End.Well) × ShowsText words from from (W.contents output.old.writer) (W.contents output.new.writer)) }
     ensures unfailed { OnOk result (output.new.calls.failed ≡ output.old.calls.failed) }
-    ensures fault { (words : List Text) (from : Option (List ℕ)) (reading : LineReader) → IsWhy words fault
-        → IfErr result (λ why. IsStreamFault words why from from reading (W.contents output.old.writer) (W.contents output.new.writer) output.new.calls) }
+    ensures fault { (words : List Text) (from : Option (List ℕ)) (reading : Reading) → IsWhy words fault
+        → IfErr result (λ why. IsStreamFault words why from from reading
+        (W.contents output.old.writer) (W.contents output.new.writer) output.new.calls) }
 {
     match fault {
         WordsFault::Memory => Err(ProgramFault::Failed(Cause::Memory)),
@@ -80,10 +84,14 @@ fn take_steps<R: Read, W: Write>(
 ) -> Result<End, ProgramFault>
     requires fresh { IsFresh input.old.lines }
     ensures ended { (words : List Text) → AskForSteps words age (map (λ text. text.now) arguments.now)
-        → IfOk result (λ end. (end ≡ End.Well) × ServesSteps words (R.remaining input.old.reader) (R.remaining input.new.reader) (W.contents output.old.writer) (W.contents output.new.writer)) }
+        → IfOk result (λ end. (end ≡ End.Well) × ServesSteps words
+        (R.remaining input.old.reader) (R.remaining input.new.reader)
+        (W.contents output.old.writer) (W.contents output.new.writer)) }
     ensures unfailed { OnOk result (output.new.calls.failed ≡ output.old.calls.failed) }
     ensures fault { (words : List Text) → AskForSteps words age (map (λ text. text.now) arguments.now)
-        → IfErr result (λ why. IsStreamFault words why (R.remaining input.old.reader) (R.remaining input.new.reader) input.new.lines (W.contents output.old.writer) (W.contents output.new.writer) output.new.calls) }
+        → IfErr result (λ why. IsStreamFault words why
+        (R.remaining input.old.reader) (R.remaining input.new.reader) input.new.lines
+        (W.contents output.old.writer) (W.contents output.new.writer) output.new.calls) }
 {
     let tenants = match read_tenants(alloc, arguments) {
         Ok(tenants) => tenants,
@@ -115,15 +123,18 @@ fn serve_tenants<
 ) -> Result<End, ProgramFault>
     requires workers { (1 ≤ workers) × (workers ≤ 64) }
     requires fresh { IsFresh input.old.lines }
-    ensures ended { (words : List Text) → AskForServing words workers age (option_map (λ path. path.now) journal.entry) (map (λ text. text.now) arguments.now)
+    ensures ended { (words : List Text) → AskForServing words workers age (option_map (λ path. path.now) journal.entry)
+        (map (λ text. text.now) arguments.now)
         → IfOk result (λ end. (end ≡ End.Well) × ServesInput words (claims F.may_hold F.may_fail F.may_leave files.old files.new)
         (R.remaining input.old.reader) (R.remaining input.new.reader) (W.contents output.old.writer) (W.contents output.new.writer)) }
     ensures unfailed { OnOk result (output.new.calls.failed ≡ output.old.calls.failed) }
-    ensures fault { (words : List Text) → AskForServing words workers age (option_map (λ path. path.now) journal.entry) (map (λ text. text.now) arguments.now)
+    ensures fault { (words : List Text) → AskForServing words workers age (option_map (λ path. path.now) journal.entry)
+        (map (λ text. text.now) arguments.now)
         → IfErr result (λ why. IsServingFault words (claims F.may_hold F.may_fail F.may_leave files.old files.new) why
         (R.remaining input.old.reader) (R.remaining input.new.reader) input.new.lines
         (W.contents output.old.writer) (W.contents output.new.writer) output.new.calls) }
-    ensures journal { (words : List Text) → AskForServing words workers age (option_map (λ path. path.now) journal.entry) (map (λ text. text.now) arguments.now)
+    ensures journal { (words : List Text) → AskForServing words workers age (option_map (λ path. path.now) journal.entry)
+        (map (λ text. text.now) arguments.now)
         → LeavesFiles words (claims F.may_hold F.may_fail F.may_leave files.old files.new)
         (R.remaining input.old.reader) (R.remaining input.new.reader) }
 {
@@ -246,9 +257,11 @@ pub fn run_program<
         × Tells (E.contents errors.old.writer) (E.contents errors.new.writer) errors.new.calls (failure_text why) }
 
     // The arguments are refused, and what was told says why.
-    ensures refused { result ≡ 2 → (text : Text) × AreRefusedBy (texts_of words.now) text × Tells (E.contents errors.old.writer) (E.contents errors.new.writer) errors.new.calls text }
-    ensures idle { result ≡ 2 → Keeps (R.remaining input.old.reader) (R.remaining input.new.reader) × Keeps (W.contents output.old.writer) (W.contents output.new.writer)
-        × (files.new ≡ files.old) }
+    ensures refused { result ≡ 2 → (text : Text) × AreRefusedBy (texts_of words.now) text
+        × Tells (E.contents errors.old.writer) (E.contents errors.new.writer) errors.new.calls text }
+    ensures unread { result ≡ 2 → Keeps (R.remaining input.old.reader) (R.remaining input.new.reader) }
+    ensures unwritten { result ≡ 2 → Keeps (W.contents output.old.writer) (W.contents output.new.writer) }
+    ensures untouched { result ≡ 2 → files.new ≡ files.old }
 
     // An audit was asked for, the file has no journal, and what was told says which line is refused.
     ensures no_journal { result ≡ 4 → (text : Text)

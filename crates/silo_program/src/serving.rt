@@ -2,14 +2,15 @@
 
 ghost use Rattle.std.specs.Prelude.{◌≡◌, ◌≤◌, [], IfOk, IfErr, IfSome, OnOk, map as map_list, option_map};
 ghost use Rattle.std.specs.FinMap.{entries};
+ghost use Rattle.line_protocol.specs.Reading.{IsFresh};
 ghost use Rattle.line_service.specs.Serving.{IsServed, StopsServing, setup_of};
 ghost use Rattle.silo_program.specs.Files.{claims};
-ghost use Rattle.silo_program.specs.Serving.{IsKeepingCause, KeepsJournal, ServesLanes, ServingFailsBy, WritesAtMost, WritesJournalAtMost, service_cause};
-ghost use Rattle.silo_program.specs.Streams.{IsFresh};
+ghost use Rattle.silo_program.specs.Serving.{IsKeepingCause, KeepsJournal, ServesLanes, ServingFailsBy};
+ghost use Rattle.silo_program.specs.Serving.{WritesAtMost, WritesJournalAtMost, service_cause};
 
 use crate::failure::{Cause, cause_of};
 use crate::files::{FileFault, WholeFiles};
-use crate::streams::{Input, Output};
+use line_protocol::{Input, Output};
 use line_service::{ServedInput, ServiceFault, serve_input, write_served};
 use std::alloc::Global;
 use std::io::{Read, Write};
@@ -43,19 +44,12 @@ fn serve_reader<H: AllocGlobal + Threads + Wait + Sync, R: Read, G: TurnGate + S
     requires workers { (1 ≤ workers) × (workers ≤ 64) }
     requires fresh { IsFresh input.old.lines }
     ensures served { IfOk result (λ served. IfSome (R.remaining input.old.reader) (λ bytes.
-        IsServed (setup_of tenants age) bytes (R.remaining input.new.reader) served.refusals.items served.report.silo (map_list (λ v. v.items) served.report.answers.items))) }
+        IsServed (setup_of tenants age) bytes (R.remaining input.new.reader) served.refusals.items served.report.silo
+        (map_list (λ v. v.items) served.report.answers.items))) }
     ensures no_rows { IfOk result (λ served. entries served.report.silo.setup.rows ≡ []) }
     ensures fault { IfErr result (λ why. StopsServing why (R.remaining input.old.reader) input.new.lines.calls) }
 {
-    serve_input(
-        rt,
-        workers,
-        tenants,
-        age,
-        &mut input.lines,
-        &mut input.reader,
-        gate,
-    )
+    serve_input(rt, workers, tenants, age, input, gate)
 }
 
 /// Writes the journal of what was served to the file at the path, if there is a path.
@@ -113,15 +107,18 @@ pub fn serve_lines<
 ) -> Result<(), Cause>
     requires workers { (1 ≤ workers) × (workers ≤ 64) }
     requires fresh { IsFresh input.old.lines }
-    ensures served { OnOk result (ServesLanes (setup_of tenants age) (claims F.may_hold F.may_fail F.may_leave files.old files.new) (option_map (λ path. path.now) journal.entry)
+    ensures served { OnOk result (ServesLanes (setup_of tenants age) (claims F.may_hold F.may_fail F.may_leave files.old files.new)
+        (option_map (λ path. path.now) journal.entry)
         (R.remaining input.old.reader) (R.remaining input.new.reader) (W.contents output.old.writer) (W.contents output.new.writer)) }
     ensures unfailed { OnOk result (output.new.calls.failed ≡ output.old.calls.failed) }
-    ensures fault { IfErr result (λ why. ServingFailsBy (setup_of tenants age) (claims F.may_hold F.may_fail F.may_leave files.old files.new) (option_map (λ path. path.now) journal.entry) why
+    ensures fault { IfErr result (λ why. ServingFailsBy (setup_of tenants age)
+        (claims F.may_hold F.may_fail F.may_leave files.old files.new) (option_map (λ path. path.now) journal.entry) why
         (R.remaining input.old.reader) (R.remaining input.new.reader) input.new.lines.calls
         (W.contents output.old.writer) (W.contents output.new.writer) output.new.calls) }
 
     // In every outcome.
-    ensures journal { WritesJournalAtMost (setup_of tenants age) (claims F.may_hold F.may_fail F.may_leave files.old files.new) (option_map (λ path. path.now) journal.entry)
+    ensures journal { WritesJournalAtMost (setup_of tenants age) (claims F.may_hold F.may_fail F.may_leave files.old files.new)
+        (option_map (λ path. path.now) journal.entry)
         (R.remaining input.old.reader) (R.remaining input.new.reader) }
 {
     let alloc = rt.alloc();
@@ -136,7 +133,7 @@ pub fn serve_lines<
             Err(why)
         }
         Ok(()) => {
-            let written = write_served(alloc, &mut output.calls, &served, &mut output.writer);
+            let written = write_served(alloc, &served, output);
 
             // The process ends soon, and gives all of its memory back at once.
             mem::forget(served);

@@ -2,14 +2,13 @@
 
 ghost use Rattle.std.specs.Prelude.{◌≡◌, OnOk, IfOk, IfErr};
 ghost use Rattle.silo_model.specs.Opening.{opening};
+ghost use Rattle.line_protocol.specs.Reading.{IsFresh};
 ghost use Rattle.line_service.specs.Serving.{setup_of};
 ghost use Rattle.silo_program.specs.Steps.{AnswersFrom, StopsFrom};
-ghost use Rattle.silo_program.specs.Streams.{IsFresh};
 
-use crate::streams::{Input, Output};
 use grain_kinds::Kinds;
 use grain_storage::MemoryStorage;
-use line_protocol::{LineFault, run_lines};
+use line_protocol::{Input, LineFault, Output, run_lines};
 use silo_core::{Setup, Silo};
 use std::alloc::{AllocError, Global};
 use std::io::{Read, Write};
@@ -45,21 +44,18 @@ fn answer_lines<R: Read, W: Write>(
     output: &mut Output<W>,
 ) -> Result<(), LineFault>
     requires fresh { IsFresh input.old.lines }
-    ensures answered { OnOk result (AnswersFrom (setup_of tenants age) (R.remaining input.old.reader) (R.remaining input.new.reader) (W.contents output.old.writer) (W.contents output.new.writer)) }
+    ensures answered { OnOk result (AnswersFrom (setup_of tenants age)
+        (R.remaining input.old.reader) (R.remaining input.new.reader)
+        (W.contents output.old.writer) (W.contents output.new.writer)) }
     ensures unfailed { OnOk result (output.new.calls.failed ≡ output.old.calls.failed) }
-    ensures stopped { IfErr result (λ why. StopsFrom (setup_of tenants age) why (R.remaining input.old.reader) (R.remaining input.new.reader) input.new.lines (W.contents output.old.writer) (W.contents output.new.writer) output.new.calls) }
+    ensures stopped { IfErr result (λ why. StopsFrom (setup_of tenants age) why
+        (R.remaining input.old.reader) (R.remaining input.new.reader) input.new.lines
+        (W.contents output.old.writer) (W.contents output.new.writer) output.new.calls) }
 {
     let Ok(mut silo) = new_silo(alloc, tenants, age) else {
         return Err(LineFault::Memory);
     };
-    let done = run_lines(
-        alloc,
-        &mut input.lines,
-        &mut input.reader,
-        &mut output.calls,
-        &mut output.writer,
-        &mut silo,
-    );
+    let done = run_lines(alloc, input, output, &mut silo);
     // For the proof: a storage in memory never fails.
     let _ = silo.storage();
 
@@ -80,12 +76,16 @@ pub fn answer_steps<R: Read, W: Write>(
     output: &mut Output<W>,
 ) -> Result<(), LineFault>
     requires fresh { IsFresh input.old.lines }
-    ensures answered { OnOk result (AnswersFrom (setup_of tenants age) (R.remaining input.old.reader) (R.remaining input.new.reader) (W.contents output.old.writer) (W.contents output.new.writer)) }
+    ensures answered { OnOk result (AnswersFrom (setup_of tenants age)
+        (R.remaining input.old.reader) (R.remaining input.new.reader)
+        (W.contents output.old.writer) (W.contents output.new.writer)) }
     ensures unfailed { OnOk result (output.new.calls.failed ≡ output.old.calls.failed) }
-    ensures stopped { IfErr result (λ why. StopsFrom (setup_of tenants age) why (R.remaining input.old.reader) (R.remaining input.new.reader) input.new.lines (W.contents output.old.writer) (W.contents output.new.writer) output.new.calls) }
+    ensures stopped { IfErr result (λ why. StopsFrom (setup_of tenants age) why
+        (R.remaining input.old.reader) (R.remaining input.new.reader) input.new.lines
+        (W.contents output.old.writer) (W.contents output.new.writer) output.new.calls) }
 {
     match answer_lines(alloc, tenants, age, input, output) {
-        Ok(()) => output.calls.flush(&mut output.writer),
+        Ok(()) => output.flush(),
         Err(why) => {
             let _ = output.writer.flush();
             Err(why)

@@ -1,0 +1,77 @@
+//! The files of the host.
+
+use crate::files::{FileFault, WholeFiles};
+use std::alloc::Global;
+use std::fs::{File, OpenFile};
+use std::io::{ErrorKind, Write};
+use std::rt::Files;
+use std::{fs, io};
+
+/// What a new file's name ends with until it is in its place.
+const BESIDE: &str = ".new";
+
+/// The files of the host.
+#[derive(Drop)]
+pub struct HostFiles<'a, R> {
+    pub rt: &'a R,
+}
+
+/// Whether a new file may take the path's place: there is a regular file, and no link to one, or nothing.
+fn is_replaceable(files: &impl Files, path: &str) -> bool {
+    match fs::symlink_metadata(files, path) {
+        Ok(found) => found.is_file(),
+        Err(error) => error.kind() == ErrorKind::NotFound,
+    }
+}
+
+/// Writes a new file and waits until it is on the disk.
+fn write_to_disk(files: &impl Files, path: &str, bytes: &[u8]) -> io::Result<()> {
+    let mut file = File::create(files, path)?;
+    file.write_all(bytes)?;
+    file.sync_all()
+}
+
+/// Writes a new file beside the path, and puts it in its place once it is on the disk. If that fails,
+/// the older file stands as it was, and the new one is taken away again.
+fn replace(files: &impl Files, path: &str, beside: &str, bytes: &[u8]) -> io::Result<()> {
+    let written = write_to_disk(files, beside, bytes);
+    let placed = match written {
+        Ok(()) => fs::rename(files, beside, path),
+        Err(error) => Err(error),
+    };
+    if placed.is_err() {
+        drop(fs::remove_file(files, beside));
+    }
+    placed
+}
+
+/// The fault of an error of the host.
+fn fault_of(error: io::Error) -> FileFault {
+    match error.kind() {
+        ErrorKind::OutOfMemory => FileFault::Memory,
+        _ => FileFault::Failed,
+    }
+}
+
+/// The name of a new file beside the path.
+fn name_beside(alloc: Global, path: &str) -> Result<String, FileFault> {
+    let mut name = String::new(alloc);
+    if name.push_str(path).is_err() || name.push_str(BESIDE).is_err() {
+        return Err(FileFault::Memory);
+    }
+    Ok(name)
+}
+
+impl<R: Files + AllocGlobal> WholeFiles for HostFiles<'_, R> {
+    fn read_whole(&self, _alloc: Global, path: &str) -> Result<Vec<u8>, FileFault> {
+        fs::read(self.rt, path).map_err(fault_of)
+    }
+
+    fn write_whole(&mut self, alloc: Global, path: &str, bytes: &[u8]) -> Result<(), FileFault> {
+        if !is_replaceable(self.rt, path) {
+            return fs::write(self.rt, path, bytes).map_err(fault_of);
+        }
+        let beside = name_beside(alloc, path)?;
+        replace(self.rt, path, beside.as_str(), bytes).map_err(fault_of)
+    }
+}
