@@ -5,21 +5,24 @@
 //! model says (`specs/Moves.antt`). How the parts that the state is made of are seen is in
 //! `specs/Shown.antt`, which requests are marked as readers in `specs/Marks.antt`, and which entries the
 //! collector has notes of in `specs/Notes.antt`.
+//!
+//! The modules that are public work on one activation, on one value or on the storage alone. A plain
+//! machine of one tenant, which shares no directory, collector or accounts with the state, stands on them.
 #![tactic(auto)]
 
 mod account;
 mod accounts;
 mod activations;
-mod arrival;
-mod change;
+pub mod arrival;
+pub mod change;
 mod closing;
-mod finding;
+pub mod finding;
 mod notes;
-mod reading;
+pub mod reading;
 mod state;
-mod status;
-mod storing;
-mod telling;
+pub mod status;
+pub mod storing;
+pub mod telling;
 mod values;
 mod version;
 

@@ -14,8 +14,8 @@ use Rattle.audit_model.specs.Difference.{Difference, at_step, at_reply, at_row}
 use Rattle.audit_model.specs.Parts.{setup_of, steps_for, replies_for, rows_for}
 use Rattle.audit_model.specs.Report.{IsFirstDifference}
 use Rattle.tenant_audit.specs.Comparison.{Stops, AreApart}
-use Rattle.tenant_audit.specs.Machines.{start_with}
-use Rattle.tenant_audit.proofs.Alone.{start_alone}
+use Rattle.tenant_machine.specs.Machines.{start_with}
+use Rattle.tenant_audit.proofs.Starts.{start_alone}
 
 -- the tenant's machine starts with the limits that the journal's table has
 pub starts : (journal : History) (tenant : List ℕ) (limits : Option Limits) (start : Machine) → start ≡ start_with tenant limits journal.age → limits ≡ limits_of journal.tenants tenant → start ≡ start_of (setup_of journal) tenant

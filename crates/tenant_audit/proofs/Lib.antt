@@ -1,11 +1,9 @@
-mod Alone
+mod Starts
 mod SiloJournal
-mod OneTable
 mod Steps
 mod Lists
 mod RowsApart
 mod Owners
-mod StepOwners
 mod RepliesWalked
 mod RowsWalked
 mod FirstDifference

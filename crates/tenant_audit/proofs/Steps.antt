@@ -9,7 +9,7 @@ use Rattle.silo_model.specs.Step.{machine_step}
 use Rattle.silo_model.specs.Journal.{machine_all_done}
 use Rattle.audit_model.specs.Difference.{StopsAt}
 use Rattle.audit_model.proofs.Differences.{done_then}
-use Rattle.tenant_audit.specs.Machines.{StepAnswers}
+use Rattle.tenant_machine.specs.Machines.{StepAnswers}
 use Rattle.tenant_audit.proofs.Lists.{kept_more, split_at}
 
 -- one step more was done

@@ -1,5 +1,3 @@
-pub mod Alone
-pub mod Machines
 pub mod SiloJournal
 pub mod Comparison
 pub mod ReportView

@@ -11,7 +11,6 @@ ghost use Rattle.tenant_audit.specs.Comparison.{IsFirstRow, AreApart};
 ghost use Rattle.tenant_audit.specs.ReportView.{difference_of};
 
 use crate::difference::{Difference, first_not_done};
-use crate::machine::TenantMachine;
 use crate::replies::first_reply_apart;
 use crate::rows::first_row_apart;
 use grain_id::{GrainId, Tenant};
@@ -19,6 +18,7 @@ use grain_kinds::GrainLogic;
 use journal_text::Journal;
 use std::alloc::{AllocError, Global};
 use tenant_gate::Limits;
+use tenant_machine::TenantMachine;
 
 /// The limits that a journal's table has of the tenant, if it has the tenant.
 fn limits_in(table: &[(Tenant, Limits)], tenant: &Tenant) -> Option<Limits>

@@ -5,11 +5,11 @@ ghost use Rattle.silo_model.specs.Run.{restricted_to};
 ghost use Rattle.tenant_audit.specs.Comparison.{Stops};
 ghost use Rattle.silo_model.specs.Run.{concerns};
 
-use crate::machine::TenantMachine;
 use grain_id::{GrainId, Tenant};
 use grain_kinds::GrainLogic;
 use silo_event::Step;
 use std::alloc::{AllocError, Global};
+use tenant_machine::TenantMachine;
 
 /// Where what was recorded of a tenant first differs from what the tenant's machine does. Steps and
 /// replies are counted from 1, among those of the tenant: its own steps and nobody's, and the replies to

@@ -38,7 +38,8 @@ pub fn first_row_apart(
             let Some((own_grain, own_row)) = own.get(place) else {
                 return Ok(Some(grain.clone()?));
             };
-            if grain != own_grain || row != own_row {
+            let is_same = grain == own_grain && Row::eq(row, own_row);
+            if !is_same {
                 return Ok(Some(lesser(grain, own_grain)?));
             }
             place += 1;

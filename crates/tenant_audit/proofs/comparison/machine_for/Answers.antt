@@ -3,7 +3,7 @@ use Rattle.std.specs.Prelude.{IfSome}
 use Rattle.std.proofs.lemmas.Result.{IfOk-weaker}
 use Rattle.tenant_gate.specs.Table.{are_in_range}
 use Rattle.tenant_gate.proofs.Faults.{limits_of-in_range}
-use Rattle.tenant_audit.specs.Machines.{start_with}
+use Rattle.tenant_machine.specs.Machines.{start_with}
 use Rattle.tenant_audit.proofs.FirstDifference.{starts}
 use Rattle.tenant_audit.proofs.Tables.{limits_there}
 use Rattle.tenant_audit.proofs.comparison.machine_for.Goals as goal

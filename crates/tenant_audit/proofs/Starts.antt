@@ -1,0 +1,35 @@
+-- A tenant's machine at its start.
+use Rattle.std.proofs.Common.{◌≡◌, ℕ, Bool, true, false, cond, List, [], Option, None, refl, sym, ◌∙◌}
+use Rattle.std.specs.Prelude.{option_map}
+use Rattle.std.specs.FinMap as map
+use Rattle.grain_id.specs.Names.{grain_cmp}
+use Rattle.grain_id.proofs.ByGrain.{alike, get-part}
+use Rattle.tenant_gate.specs.declared.limits.Limits.{Limits}
+use Rattle.tenant_gate.specs.Table.{Table, limits_of}
+use Rattle.grain_storage.specs.declared.row.Row.{Row}
+use Rattle.silo_model.specs.Opening.{Setup, fresh_account, start_of}
+use Rattle.silo_model.specs.Whole.{is_of}
+use Rattle.tenant_machine.specs.Machines.{start_with}
+
+either_none : (b : Bool) (o : Option Row) → o ≡ None → cond b o None ≡ o
+either_none true o e = refl
+either_none false o e = sym e
+
+no_row_of : (t : List ℕ) → map.retain_keys (map.empty {X = Row} {R = grain_cmp}) (is_of t) ≡ map.empty
+no_row_of t = alike _ _ (λ q. get-part (map.empty {X = Row} {R = grain_cmp}) (is_of t) q ∙ either_none (is_of t q) _ (map.get-empty grain_cmp q))
+
+abbrev pub bare : Table → ℕ → Setup
+bare table age = record { tenants = table; age = age; rows = map.empty }
+
+-- a silo of no rows starts the tenant's machine with the limits that its table has
+pub start_alone : (table : Table) (tenant : List ℕ) (limits : Option Limits) (age : ℕ) → limits_of table tenant ≡ limits → start_of (bare table age) tenant ≡ start_with tenant limits age
+unfolding start_of
+start_alone table tenant limits age e = λ i. record {
+  tenant = tenant;
+  account = option_map fresh_account (e i);
+  age = age;
+  clock = 0;
+  entries = map.empty;
+  rows = no_row_of tenant i;
+  replies = [];
+}

@@ -1,0 +1,13 @@
+pub mod Parts
+pub mod Owners
+pub mod Trees
+pub mod Firsts
+pub mod Closed
+pub mod Swept
+pub mod Gate
+pub mod Calls
+pub mod Sends
+pub mod Asks
+pub mod Entering
+pub mod Ends
+pub mod Stores

@@ -1,0 +1,48 @@
+-- What a sweep leaves of the entries, and that the marks stay.
+use Rattle.std.proofs.Common.{◌≡◌, ℕ, Bool, true, false, not, cond, Option, Some, None, refl, ap, sym, ◌∙◌}
+use Rattle.std.specs.Prelude.{option_map, if◌then◌else◌}
+use Rattle.std.specs.FinMap as map
+use Rattle.std.specs.FinMap.{FinMap}
+use Rattle.grain_id.specs.Names.{Grain, grain_cmp}
+use Rattle.grain_id.proofs.Order.{grain_cmp_total, grain_cmp_exact}
+use Rattle.grain_id.proofs.ByGrain.{alike, get-part}
+use Rattle.grain_kinds.specs.Logic.{Logic}
+use Rattle.turn_mailbox.proofs.Mapped.{get-mapped}
+use Rattle.activation_directory.specs.declared.activation.Activation.{Activation}
+use Rattle.silo_model.specs.Idle.{is_due, is_kept, kept_entries}
+use Rattle.silo_state.specs.Marks.{AllMarked}
+use Rattle.silo_state.specs.Shown.{entry_of, entries_of}
+use Rattle.tenant_machine.specs.Sweeps.{left_of}
+
+left_entry : (clock age : ℕ) (o : Option Activation) → option_map entry_of (left_of clock age o) ≡ cond (is_kept clock age (option_map entry_of o)) (option_map entry_of o) None
+left_entry clock age None = refl
+left_entry clock age (Some a) = by (is_due clock age (entry_of a))
+  where
+    by : (due : Bool) → option_map entry_of (if due then None else Some a) ≡ cond (not due) (Some (entry_of a)) None
+    by true = refl
+    by false = refl
+
+-- what is left was there
+was_there : (clock age : ℕ) (o : Option Activation) (a : Activation) → left_of clock age o ≡ Some a → o ≡ Some a
+was_there clock age None a is = absurd cc
+was_there clock age (Some b) a is = by (is_due clock age (entry_of b)) is
+  where
+    by : (due : Bool) → (if due then None else Some b) ≡ Some a → Some b ≡ Some a
+    by true e = absurd cc
+    by false e = e
+
+module _ (m n : FinMap grain_cmp Activation) (clock age : ℕ) (left : (g : Grain) → map.get n g ≡ left_of clock age (map.get m g)) where
+  seen : (x : FinMap grain_cmp Activation) (g : Grain) → map.get (entries_of x) g ≡ option_map entry_of (map.get x g)
+  seen x g = get-mapped grain_cmp_total grain_cmp_exact entry_of x g
+
+  pub swept_shows : entries_of n ≡ kept_entries clock age (entries_of m)
+  unfolding kept_entries
+  swept_shows = alike _ _ (λ g.
+      seen n g
+      ∙ ap (option_map entry_of) (left g)
+      ∙ left_entry clock age (map.get m g)
+      ∙ (λ i. cond (is_kept clock age (sym (seen m g) i)) (sym (seen m g) i) None)
+      ∙ sym (get-part (entries_of m) (λ grain. is_kept clock age (map.get (entries_of m) grain)) g))
+
+  pub swept_marked : (logic : Logic) → AllMarked logic m → AllMarked logic n
+  swept_marked logic all g a found = all g a (was_there clock age (map.get m g) a (sym (left g) ∙ found))

@@ -1,0 +1,87 @@
+-- An ordered map of activations, seen as a finite map.
+use Rattle.std.proofs.Common.{◌≡◌, ℕ, Bool, true, false, not, ◌&&◌, cond, List, [], ◌∷◌, length, Option, Some, None, refl, ap, sym, ◌∙◌, subst}
+use Rattle.std.specs.Prelude.{T, filter, if◌then◌else◌}
+use Rattle.std.specs.declared.cmp.Ordering.TheVariants.{Less}
+use Rattle.std.specs.Ordering.{eq_by_cmp, is_eq, is_lt}
+use Rattle.std.specs.Cmp.{eq_by_cmp_equiv}
+use Rattle.std.specs.Map.{lookup, keys_of}
+use Rattle.std.specs.List.{AllByRecursion}
+use Rattle.std.specs.List.Sorted.{IsStrictlySortedBy}
+use Rattle.std.specs.BTreeMap as tree
+use Rattle.std.specs.BTreeMap.{BTreeMap, UpdatesBy, IsOrdered}
+use Rattle.std.specs.FinMap as map
+use Rattle.std.specs.FinMap.{FinMap, find, from_entries, is_sorted}
+use Rattle.std.specs.FinMap.Entries.{below_all}
+use Rattle.std.proofs.lemmas.Map.Entries.{lookup-filter-values, option_filter}
+use Rattle.std.proofs.lemmas.Map.Keys.{IsDistinct-from_sorted}
+use Rattle.grain_id.specs.Names.{Grain, grain_cmp}
+use Rattle.grain_id.proofs.Order.{grain_cmp_total}
+use Rattle.grain_id.proofs.ByGrain.{alike}
+use Rattle.activation_directory.specs.declared.activation.Activation.{Activation}
+use Rattle.silo_model.specs.Idle.{is_due}
+use Rattle.silo_state.specs.Shown.{entry_of}
+use Rattle.tenant_machine.specs.Sweeps.{left_of}
+
+abbrev pub Tree : Type 0
+Tree = BTreeMap Grain Activation
+
+-- what a map shows
+abbrev pub shown : Tree → FinMap grain_cmp Activation
+shown m = from_entries m.entries
+
+find-entries : (es : List (Grain × Activation)) (q : Grain) → find grain_cmp q es ≡ lookup (λ k. is_eq (grain_cmp q k)) es
+find-entries [] q = refl
+find-entries (e ∷ es) q = ap (cond (eq_by_cmp grain_cmp q e.0) (Some e.1)) (find-entries es q)
+
+pub get-shown : (m : Tree) (q : Grain) → map.get (shown m) q ≡ tree.get grain_cmp m q
+get-shown m q = map.get-from_entries grain_cmp_total m.entries q ∙ find-entries m.entries q
+
+turned : (k q : Grain) → eq_by_cmp grain_cmp k q ≡ eq_by_cmp grain_cmp q k
+turned = (eq_by_cmp_equiv grain_cmp_total).symm
+
+module _ (m n : Tree) (k : Grain) where
+  pub put-shown : (a : Activation) → UpdatesBy grain_cmp (grain_cmp k) m n (Some a) → shown n ≡ map.insert (shown m) k a
+  put-shown a u = alike _ _ (λ q.
+      get-shown n q ∙ u.0 q ∙ (λ i. cond (turned k q i) (Some a) (sym (get-shown m q) i)) ∙ sym (map.get-insert grain_cmp_total (shown m) k a q))
+
+  pub removed-shown : UpdatesBy grain_cmp (grain_cmp k) m n None → shown n ≡ map.remove (shown m) k
+  removed-shown u = alike _ _ (λ q.
+      get-shown n q ∙ u.0 q ∙ (λ i. cond (turned k q i) None (sym (get-shown m q) i)) ∙ sym (map.get-remove grain_cmp_total (shown m) k q))
+
+-- ---- how many there are
+
+below-keys : (k : Grain) (es : List (Grain × Activation)) → AllByRecursion (λ y. grain_cmp k y ≡ Less) (keys_of es) → below_all grain_cmp k es ≡ true
+below-keys k [] h = refl
+below-keys k (e ∷ es) h = ap (λ b. b && below_all grain_cmp k es) (ap is_lt h.0) ∙ below-keys k es h.1
+
+sorted-keys : (es : List (Grain × Activation)) → IsStrictlySortedBy grain_cmp (keys_of es) → is_sorted grain_cmp es ≡ true
+unfolding IsStrictlySortedBy
+sorted-keys [] h = refl
+sorted-keys (e ∷ es) h = ap (λ b. b && is_sorted grain_cmp es) (below-keys e.0 es h.0) ∙ sorted-keys es h.1
+
+entries-shown : (m : Tree) → IsOrdered grain_cmp m → map.entries (shown m) ≡ m.entries
+entries-shown m ordered =
+    let sorted : T (is_sorted grain_cmp m.entries) = subst T (sym (sorted-keys m.entries ordered)) tt in
+    ap map.entries (alike (shown m) (map.from_sorted m.entries) (λ q. map.get-from_entries grain_cmp_total m.entries q ∙ sym (map.get-from_sorted grain_cmp m.entries q sorted)))
+    ∙ map.entries-from_sorted grain_cmp m.entries sorted
+
+pub len-shown : (m : Tree) → IsOrdered grain_cmp m → length m.entries ≡ map.len (shown m)
+len-shown m ordered = ap length (sym (entries-shown m ordered)) ∙ sym (map.len-entries (shown m))
+
+-- ---- what a sweep leaves
+
+left_is : (clock age : ℕ) (o : Option Activation) → option_filter (λ a. not (is_due clock age (entry_of a))) o ≡ left_of clock age o
+left_is clock age None = refl
+left_is clock age (Some a) = by (is_due clock age (entry_of a))
+  where
+    by : (due : Bool) → cond (not due) (Some a) None ≡ (if due then None else Some a)
+    by true = refl
+    by false = refl
+
+pub left-shown : (m n : Tree) (clock age : ℕ) → IsOrdered grain_cmp m → n.entries ≡ filter (λ e. not (is_due clock age (entry_of e.1))) m.entries → (q : Grain) → map.get (shown n) q ≡ left_of clock age (map.get (shown m) q)
+left-shown m n clock age ordered is q =
+    get-shown n q
+    ∙ ap (lookup (eq_by_cmp grain_cmp q)) is
+    ∙ lookup-filter-values (eq_by_cmp_equiv grain_cmp_total) (λ a. not (is_due clock age (entry_of a))) q m.entries (IsDistinct-from_sorted grain_cmp (keys_of m.entries) ordered)
+    ∙ left_is clock age (lookup (eq_by_cmp grain_cmp q) m.entries)
+    ∙ ap (left_of clock age) (sym (get-shown m q))

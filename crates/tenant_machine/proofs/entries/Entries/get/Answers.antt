@@ -1,0 +1,13 @@
+use Rattle.std.proofs.Common.{ap, sym, ◌∙◌}
+use Rattle.std.specs.Option.{option_map}
+use Rattle.std.specs.FinMap as map
+use Rattle.grain_id.proofs.Order.{grain_cmp_total, grain_cmp_exact}
+use Rattle.turn_mailbox.proofs.Mapped.{get-mapped}
+use Rattle.silo_state.specs.Shown.{entry_of}
+use Rattle.tenant_machine.proofs.entries.Entries.get.Goals as goal
+
+pub returns-clause-entry : goal.returns-clause-entry
+returns-clause-entry g c =
+    ap (option_map entry_of) c.get.ensures
+    ∙ sym (get-mapped grain_cmp_total grain_cmp_exact entry_of c.self.inside.by_grain c.args.grain.now)
+    ∙ ap (λ entries. map.get entries c.args.grain.now) c.self.view_is

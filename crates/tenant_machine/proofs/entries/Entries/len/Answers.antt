@@ -1,0 +1,9 @@
+use Rattle.std.proofs.Common.{ap, sym, ◌∙◌}
+use Rattle.std.specs.FinMap as map
+use Rattle.grain_id.proofs.Order.{grain_cmp_total, grain_cmp_exact}
+use Rattle.turn_mailbox.proofs.Mapped.{len-mapped}
+use Rattle.silo_state.specs.Shown.{entry_of}
+use Rattle.tenant_machine.proofs.entries.Entries.len.Goals as goal
+
+pub returns-clause-count : goal.returns-clause-count
+returns-clause-count g c = c.len.ensures.count ∙ sym (len-mapped grain_cmp_total grain_cmp_exact entry_of c.self.inside.by_grain) ∙ ap map.len c.self.view_is

@@ -1,0 +1,31 @@
+use Rattle.std.proofs.Common.{ℕ, List, None, Some, refl, ap, sym, subst}
+use Rattle.std.specs.Prelude.{Err, IsSome, option_and_then}
+use Rattle.std.specs.FinMap as map
+use Rattle.silo_event.specs.declared.fault.Fault.TheVariants.{NoMemory}
+use Rattle.silo_event.specs.declared.reply.Reply.{Reply}
+use Rattle.silo_state.proofs.Shows.{turn_shown}
+use Rattle.tenant_machine.specs.Closings.{ClosesTold}
+use Rattle.tenant_machine.proofs.Ends.{abandon_not, abandon_done}
+use Rattle.tenant_machine.proofs.machine.TenantMachine.abandon.Goals as goal
+
+pub returns-in_default : goal.returns-in_default
+returns-in_default g c = rw (← c.self.view_is) (abandon_not g.L.GrainLogic.logic _ c.args.grain.now c.args.turn (ap (option_and_then (λ e. map.get e.turns c.args.turn)) (sym c.in_default.ensures.entry)), refl)
+
+pub returns-in_default-opened : goal.returns-in_default-opened
+returns-in_default-opened g c =
+    rw (← c.self.view_is) (
+      abandon_not g.L.GrainLogic.logic _ c.args.grain.now c.args.turn
+          (turn_shown c.self.inside.entries c.args.grain.now c.in-Some.activation.now c.args.turn None (sym c.in-Some.ensures.entry) (sym c.in_default-opened.ensures)),
+      refl,
+    )
+
+pub close_turn-requires-clause-is_open : goal.close_turn-requires-clause-is_open
+close_turn-requires-clause-is_open g c =
+    subst IsSome (sym (turn_shown c.self.inside.entries c.args.grain.now c.in-Some.activation.now c.args.turn (Some c.in-Some-opened._open.now) (sym c.in-Some.ensures.entry) (sym c.in-Some-opened.ensures))) refl
+
+pub returns : goal.returns
+returns g c =
+    let b = c.self.inside in
+    let closed = subst (λ (p : List Reply × ℕ). ClosesTold b.entries p.0 c.args.grain.now c.args.turn None p.1 (Err NoMemory) c.close_turn.new.entries c.close_turn.new.replies.items)
+    (λ i. (c.in_ok-reserve.ensures.items i, c.get-now.ensures.value i)) c.close_turn.ensures in
+    rw (← c.self.view_is) (abandon_done g.L.GrainLogic.logic _ c.args.grain.now c.args.turn c.close_turn.new.entries c.close_turn.new.replies.items closed)

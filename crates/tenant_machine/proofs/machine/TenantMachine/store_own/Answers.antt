@@ -1,0 +1,42 @@
+use Rattle.std.proofs.Common.{ℕ, List, refl, ap, sym, ◌∙◌, subst}
+use Rattle.std.specs.FinMap as map
+use Rattle.grain_kinds.specs.Planned.{storage_call}
+use Rattle.grain_kinds.specs.declared.turn.OpenedTurn.{OpenedTurn}
+use Rattle.silo_event.specs.declared.reply.Reply.{Reply}
+use Rattle.silo_event.specs.declared.step.Step.TheVariants as step
+use Rattle.silo_model.specs.Machine.{Machine, Entry}
+use Rattle.silo_state.specs.Finds.{IsOwn, asks}
+use Rattle.silo_state.specs.Shown.{entry_of}
+use Rattle.silo_state.specs.Storing.{given, GivesMarked}
+use Rattle.silo_state.proofs.Idle.{the_same}
+use Rattle.tenant_machine.specs.Closings.{ClosesBy}
+use Rattle.tenant_machine.specs.Machines.{StepAnswers}
+use Rattle.tenant_machine.proofs.Stores.{store_silent, store_answers, left}
+use Rattle.tenant_machine.proofs.Parts.{machine_of}
+use Rattle.tenant_machine.proofs.machine.TenantMachine.store_own.Goals as goal
+
+pub returns-then-not-asks_storage : goal.returns-then-not-asks_storage
+returns-then-not-asks_storage g c =
+    let at = c.args.at_close in
+    (store_silent g.L.GrainLogic.logic c.args.self.now c.args.grain.now c.args.turn at.version at.idle_after c.args.finished.now c.requires c.args.failed (ap asks (sym c.store_call-call.ensures) ∙ sym c.if-not-asks_storage.ensures), refl)
+
+pub returns : goal.returns
+returns g c =
+    let logic = g.L.GrainLogic.logic in
+    let b = c.self.inside in
+    let old = machine_of b.tenant b.account b.age b.clock b.entries b.storage b.replies.items in
+    let grain = c.args.grain.now in
+    let turn = c.args.turn in
+    let at = c.args.at_close in
+    let input = c.args.finished.now in
+    let own = subst (λ (m : Machine). IsOwn grain (map.get m.entries grain) turn at.version at.idle_after input) (sym c.self.view_is) c.requires in
+    let call = storage_call c.store_call-call.result in
+    let last = c.in-Some.activation.now.last in
+    let still = ap (λ (e : Entry). e.last) (the_same (entry_of c.in-Some.activation.now) own.entry (c.in-Some.ensures.entry ∙ own.is_open.found_is)) in
+    let after = c.ask-stored.new.storage in
+    let gives = subst (λ (t : OpenedTurn). GivesMarked c.args.failed (given logic b.storage grain t.state at.version call) b.storage 0 c.ask-stored.result after 0) c.input.ensures c.ask-stored.ensures in
+    let closes = subst (λ (p : List Reply × ℕ). ClosesBy b.entries p.0 grain turn at.idle_after p.1 last c.ask-stored.result c.close_by.result c.close_by.new.entries c.close_by.new.replies.items)
+    (λ i. (c.in_ok-reserve.ensures.items i, c.get-now.ensures.value i)) c.close_by.ensures in
+    subst (λ (m : Machine). StepAnswers logic m (step.Store grain turn c.args.failed) c.close_by.result (left logic old grain turn at.version at.idle_after input own c.close_by.new.entries after c.close_by.new.replies.items)) c.self.view_is
+    (store_answers logic old grain turn at.version at.idle_after input own call (sym c.store_call-call.ensures) (sym c.if-not-asks_storage.ensures) last still
+    c.args.failed c.ask-stored.result after 0 gives refl c.close_by.result c.close_by.new.entries c.close_by.new.replies.items closes)

@@ -1,0 +1,43 @@
+-- What closing a turn leaves of entries and replies.
+use Rattle.std.specs.Prelude.{◌≡◌, ℕ, Bool, true, List, ◌++◌, Option, Some, None, Result, Ok, Err, IsErr, if◌then◌else◌}
+use Rattle.std.specs.FinMap as map
+use Rattle.grain_id.specs.Names.{Grain}
+use Rattle.request_codec.specs.Tree.{Tree}
+use Rattle.grain_storage.specs.declared.fault.StoreFault.{StoreFault}
+use Rattle.grain_storage.specs.declared.fault.StoreFault.TheVariants as storage
+use Rattle.silo_event.specs.declared.fault.Fault.{Fault}
+use Rattle.silo_event.specs.declared.fault.Fault.TheVariants.{StorageFailed, StateChanged, VersionsSpent}
+use Rattle.silo_event.specs.declared.reply.Party.{Party}
+use Rattle.silo_event.specs.declared.reply.Reply.{Reply}
+use Rattle.silo_model.specs.Machine.{Entries, Phase, waiting, ready}
+use Rattle.silo_model.specs.Calls.{reply_to}
+use Rattle.silo_state.specs.declared.storing.StorageAnswer.{StorageAnswer}
+use Rattle.tenant_machine.specs.Entries.{ClosesEntry}
+
+-- The turn is closed, and its sender is told.
+pub record ClosesTold (old : Entries) (replies : List Reply) (grain : Grain) (turn : ℕ) (phase : Option Phase) (last : ℕ) (outcome : Result Tree Fault) (new : Entries) (told : List Reply) : Type 0 where
+  pub sender : Party
+  pub closes : ClosesEntry old grain turn phase last sender new
+  pub told_is : told ≡ replies ++ reply_to sender outcome
+
+-- The activation ends: its turn is closed, it waits again, or goes if nothing waits, and the turn's sender is told.
+pub record EndsTold (old : Entries) (replies : List Reply) (grain : Grain) (turn : ℕ) (idle_after : Bool) (last : ℕ) (outcome : Result Tree Fault) (new : Entries) (told : List Reply) : Type 0 where
+  pub sender : Party
+  pub between : Entries
+  pub closes : ClosesEntry old grain turn (Some waiting) last sender between
+  pub left : new ≡ (if idle_after then map.remove between grain else between)
+  pub told_is : told ≡ replies ++ reply_to sender outcome
+
+-- What is made of the storage's answer: the grain has the new state; or the storage failed; or the row has another version, and the activation ends;
+-- or the row has the last version; or memory was refused, and nothing changed.
+abbrev pub ClosesBy : {E : Type 0} → Entries → List Reply → Grain → ℕ → Bool → ℕ → ℕ → Result StorageAnswer StoreFault → Result Bool E → Entries → List Reply → Type 0
+ClosesBy old replies grain turn idle_after now last (Ok s) result new told =
+    (result ≡ Ok true) × ClosesTold old replies grain turn (Some (ready s.state s.version)) now (Ok s.told) new told
+ClosesBy old replies grain turn idle_after now last (Err storage.Failed) result new told =
+    (result ≡ Ok true) × ClosesTold old replies grain turn None now (Err StorageFailed) new told
+ClosesBy old replies grain turn idle_after now last (Err (storage.Stale found)) result new told =
+    (result ≡ Ok true) × EndsTold old replies grain turn idle_after last (Err (StateChanged grain)) new told
+ClosesBy old replies grain turn idle_after now last (Err storage.Spent) result new told =
+    (result ≡ Ok true) × ClosesTold old replies grain turn None now (Err (VersionsSpent grain)) new told
+ClosesBy old replies grain turn idle_after now last (Err storage.Memory) result new told =
+    IsErr result × (new ≡ old) × (told ≡ replies)

@@ -1,0 +1,119 @@
+//! Which activation a grain has, in one ordered map.
+
+ghost use Rattle.std.specs.Prelude.{◌≡◌, ◌<◌, ◌^◌, OnOk, OnErr};
+ghost use Rattle.std.specs.Option.{option_copied, option_copied_mut};
+ghost use Rattle.std.specs.Borrow.{sem};
+ghost use Rattle.std.specs.FinMap as map;
+ghost use Rattle.grain_id.specs.Names.{Grain};
+ghost use Rattle.silo_model.specs.Idle.{is_due};
+ghost use Rattle.silo_state.specs.Shown.{entry_of};
+ghost use Rattle.tenant_machine.specs.Sweeps.{left_of};
+
+use activation_directory::Activation;
+use grain_id::GrainId;
+use silo_state::change;
+use std::alloc::{AllocError, Global};
+use std::collections::BTreeMap;
+use std::marker::Model;
+
+/// The activations of a tenant's grains, grains ascending.
+#[derive(Drop)]
+pub struct ByGrain {
+    activations: BTreeMap<GrainId, Activation>,
+}
+
+impl Model for ByGrain {
+    ghost use Rattle.std.specs.Coded.{codes};
+    ghost use Rattle.std.specs.FinMap.{FinMap, from_entries};
+    ghost use Rattle.grain_id.specs.Names.{grain_cmp};
+    ghost use Rattle.request_codec.specs.Code.{coded_tree};
+    ghost use Rattle.silo_model.specs.Codes.{by_grain_code, by_number_code};
+    ghost use Rattle.activation_directory.specs.declared.activation.Activation.{Activation};
+
+    ghost Value = { FinMap grain_cmp Activation };
+
+    ghost coded = { Prim.hlevel (codes, by_grain_code, by_number_code, coded_tree) };
+
+    ghost view = { λ b. from_entries b.activations.entries };
+}
+
+impl ByGrain {
+    ghost use Rattle.tenant_machine.specs.Lending.{LendsActivation};
+
+    /// No activations.
+    pub fn new(alloc: Global) -> ByGrain
+        ensures { result ≡ map.empty }
+    {
+        ByGrain {
+            activations: BTreeMap::new(alloc),
+        }
+    }
+
+    /// How many grains have an activation.
+    pub fn len(&self) -> usize
+        ensures count { result ≡ map.len self.now }
+        ensures bound { result < 2 ^ 63 }
+    {
+        self.activations.len()
+    }
+
+    /// The grain's activation.
+    pub fn get(&self, grain: &GrainId) -> Option<&Activation>
+        ensures { option_copied result ≡ map.get self.now grain.now }
+    {
+        self.activations.get(grain)
+    }
+
+    /// The grain's activation, which may be changed where it stands.
+    pub fn get_mut(&mut self, grain: &GrainId) -> Option<&mut Activation>
+        ensures* writes_back { sem 𝓛 (LendsActivation self.entry grain.now result) }
+        ensures value { option_copied_mut result ≡ map.get self.old grain.now }
+    {
+        self.activations.get_mut(grain)
+    }
+
+    /// The grain has this activation.
+    ///
+    /// # Errors
+    ///
+    /// Out of memory: nothing changed.
+    pub fn insert(&mut self, grain: GrainId, activation: Activation) -> Result<(), AllocError>
+        ensures entered { OnOk result (self.new ≡ map.insert self.old grain activation) }
+        ensures unchanged { OnErr result (self.new ≡ self.old) }
+    {
+        match self.activations.insert(grain, activation) {
+            Ok(replaced) => {
+                drop(replaced);
+                Ok(())
+            }
+            Err(refused) => {
+                drop(refused);
+                Err(AllocError)
+            }
+        }
+    }
+
+    /// Takes the grain's activation out. Takes no memory.
+    pub fn remove(&mut self, grain: &GrainId) -> Option<Activation>
+        ensures found { result ≡ map.get self.old grain.now }
+        ensures removed { self.new ≡ map.remove self.old grain.now }
+    {
+        self.activations.remove(grain)
+    }
+
+    /// The activations that were idle for the age go. Takes no memory.
+    pub fn sweep(&mut self, clock: u64, age: u64)
+        ensures { (grain : Grain) → map.get self.new grain ≡ left_of clock age (map.get self.old grain) }
+    {
+        self.activations
+            .retain(|_, activation| !is_due(activation, clock, age));
+    }
+}
+
+/// Whether it was idle for the age.
+fn is_due(activation: &Activation, clock: u64, age: u64) -> bool
+    ensures { result ≡ is_due clock age (entry_of activation.now) }
+{
+    let idle = change::is_idle(activation);
+    idle && age <= clock.saturating_sub(activation.last)
+}

@@ -1,0 +1,155 @@
+//! How an open turn is closed, and its sender told.
+
+ghost use Rattle.std.specs.Prelude.{◌≡◌, ◌≤◌, ◌+◌, ◌<◌, ◌++◌, Some, IsSome, Err, flat_map, length, if◌then◌else◌, vec_len, vec_capacity};
+ghost use Rattle.std.specs.Option.{option_map, option_and_then};
+ghost use Rattle.std.specs.FinMap as map;
+ghost use Rattle.silo_event.specs.declared.fault.Fault.TheVariants.{StorageFailed};
+ghost use Rattle.silo_model.specs.Calls.{reply_to};
+ghost use Rattle.silo_model.specs.Machine.{Entry};
+ghost use Rattle.silo_state.specs.Shown.{phase_of};
+ghost use Rattle.tenant_machine.specs.Closings.{ClosesTold, EndsTold, ClosesBy};
+
+use crate::entries::Entries;
+use activation_directory::Phase;
+use grain_id::GrainId;
+use grain_kinds::GrainLogic;
+use grain_storage::StoreFault;
+use request_codec::StateBytes;
+use silo_event::{Fault, Reply};
+use silo_state::storing::StorageAnswer;
+use silo_state::telling::{refuse_all, tell};
+use std::alloc::AllocError;
+
+/// A turn that is closed: of which grain, under which number, whether no request waits there, and the
+/// moment.
+#[derive(Clone, Copy)]
+pub struct ClosedTurn<'a> {
+    pub grain: &'a GrainId,
+    pub turn: u64,
+    pub idle_after: bool,
+    pub now: u64,
+}
+
+/// Closes an open turn, and tells its sender. Takes no memory.
+pub fn close_turn<L: GrainLogic>(
+    entries: &mut Entries<L>,
+    replies: &mut Vec<Reply>,
+    closing: ClosedTurn<'_>,
+    phase: Option<Phase>,
+    outcome: Result<StateBytes, Fault>,
+)
+    requires is_open { IsSome (option_and_then (λ e. map.get e.turns closing.turn) (map.get entries.old closing.grain.now)) }
+    requires room { vec_len replies.old < vec_capacity replies.old }
+    ensures { ClosesTold entries.old replies.old.items closing.entry.grain.now closing.entry.turn (option_map phase_of phase) closing.entry.now outcome entries.new replies.new.items }
+{
+    let Some(sender) = entries.close(closing.grain, closing.turn, phase, closing.now) else {
+        unreachable!()
+    };
+    tell(replies, sender, outcome);
+}
+
+/// Ends the activation of a grain in its open turn, and tells the turn's sender why: its waiting
+/// requests wait for a new one, and it goes if none waits. Takes no memory.
+fn end_activation<L: GrainLogic>(
+    entries: &mut Entries<L>,
+    replies: &mut Vec<Reply>,
+    closing: ClosedTurn<'_>,
+    last: u64,
+    why: Fault,
+)
+    requires is_open { IsSome (option_and_then (λ e. map.get e.turns closing.turn) (map.get entries.old closing.grain.now)) }
+    requires room { vec_len replies.old < vec_capacity replies.old }
+    ensures { EndsTold entries.old replies.old.items closing.entry.grain.now closing.entry.turn closing.entry.idle_after last (Err why) entries.new replies.new.items }
+{
+    let Some(sender) = entries.close(closing.grain, closing.turn, Some(Phase::Waiting), last) else {
+        unreachable!()
+    };
+    drop_if(entries, closing.grain, closing.idle_after);
+    tell(replies, sender, Err(why));
+}
+
+/// Takes the grain's activation out, if nothing waits at it.
+fn drop_if<L: GrainLogic>(entries: &mut Entries<L>, grain: &GrainId, idle_after: bool)
+    ensures { entries.new ≡ (if idle_after then map.remove entries.old grain.now else entries.old) }
+{
+    if idle_after {
+        drop(entries.remove(grain));
+    }
+}
+
+/// Closes an open turn by what the storage gave, and tells the turn's sender. If the row has another
+/// version than the grain's state stands on, the activation ends. Takes no memory.
+///
+/// # Errors
+///
+/// Out of memory, if that is what the storage answered: the turn stays open.
+pub fn close_by<L: GrainLogic>(
+    entries: &mut Entries<L>,
+    replies: &mut Vec<Reply>,
+    closing: ClosedTurn<'_>,
+    last: u64,
+    stored: Result<StorageAnswer, StoreFault>,
+    named: GrainId,
+) -> Result<bool, AllocError>
+    requires is_open { IsSome (option_and_then (λ e. map.get e.turns closing.turn) (map.get entries.old closing.grain.now)) }
+    requires room { vec_len replies.old < vec_capacity replies.old }
+    requires named { named ≡ closing.grain.now }
+    ensures { ClosesBy entries.old replies.old.items closing.entry.grain.now closing.entry.turn closing.entry.idle_after closing.entry.now last stored result entries.new replies.new.items }
+{
+    let stored = match stored {
+        Ok(stored) => stored,
+        Err(fault) => return close_refused(entries, replies, closing, last, fault, named),
+    };
+    let phase = Phase::Ready {
+        state: stored.state,
+        version: stored.version,
+    };
+    close_turn(entries, replies, closing, Some(phase), Ok(stored.told));
+    Ok(true)
+}
+
+/// Closes an open turn whose storage call was refused.
+fn close_refused<L: GrainLogic>(
+    entries: &mut Entries<L>,
+    replies: &mut Vec<Reply>,
+    closing: ClosedTurn<'_>,
+    last: u64,
+    fault: StoreFault,
+    named: GrainId,
+) -> Result<bool, AllocError>
+    requires is_open { IsSome (option_and_then (λ e. map.get e.turns closing.turn) (map.get entries.old closing.grain.now)) }
+    requires room { vec_len replies.old < vec_capacity replies.old }
+    requires named { named ≡ closing.grain.now }
+    ensures { ClosesBy entries.old replies.old.items closing.entry.grain.now closing.entry.turn closing.entry.idle_after closing.entry.now last (Err fault) result entries.new replies.new.items }
+{
+    match fault {
+        StoreFault::Failed => {
+            let why = Err(Fault::StorageFailed);
+            close_turn(entries, replies, closing, None, why);
+            Ok(true)
+        }
+        StoreFault::Spent => {
+            let why = Err(Fault::VersionsSpent(named));
+            close_turn(entries, replies, closing, None, why);
+            Ok(true)
+        }
+        StoreFault::Stale(_) => {
+            let why = Fault::StateChanged(named);
+            end_activation(entries, replies, closing, last, why);
+            Ok(true)
+        }
+        StoreFault::Memory => Err(AllocError),
+    }
+}
+
+/// Takes the grain's activation out, and tells its waiting requests that the storage failed.
+pub fn unload<L: GrainLogic>(entries: &mut Entries<L>, replies: &mut Vec<Reply>, grain: &GrainId)
+    requires { (e : Entry) → map.get entries.old grain.now ≡ Some e → length e.queue + vec_len replies.old ≤ vec_capacity replies.old }
+    ensures gone { entries.new ≡ map.remove entries.old grain.now }
+    ensures told { (e : Entry) → map.get entries.old grain.now ≡ Some e → replies.new.items ≡ replies.old.items ++ flat_map (λ q. reply_to q.sender (Err StorageFailed)) e.queue }
+{
+    let Some(activation) = entries.remove(grain) else {
+        return;
+    };
+    refuse_all(replies, activation.mailbox.into_waiting());
+}

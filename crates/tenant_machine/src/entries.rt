@@ -1,0 +1,169 @@
+//! The activations of a tenant's grains, as entries.
+
+ghost use Rattle.std.specs.Prelude.{◌≡◌, ◌<◌, ◌^◌, true, IfOk, OnOk, OnErr, IfSome, Some};
+ghost use Rattle.std.specs.Option.{option_copied, option_map};
+ghost use Rattle.std.specs.FinMap as map;
+ghost use Rattle.silo_model.specs.Calls.{with_request};
+ghost use Rattle.silo_model.specs.Idle.{kept_entries};
+ghost use Rattle.silo_model.specs.Machine.{Entry};
+ghost use Rattle.silo_state.specs.Entries.{Activates, Begins};
+ghost use Rattle.silo_state.specs.Marks.{AreMarked, IsMarked};
+ghost use Rattle.silo_state.specs.Shown.{entry_of, phase_of, request_of};
+ghost use Rattle.tenant_machine.specs.Entries.{Closes};
+
+use crate::by_grain::ByGrain;
+use activation_directory::{Activation, Phase};
+use grain_id::GrainId;
+use grain_kinds::GrainLogic;
+use silo_event::{Answer, Party};
+use silo_state::{arrival, change};
+use std::alloc::{AllocError, Global};
+use std::marker::{Model, PhantomData};
+use turn_mailbox::Request;
+
+/// The activations of a tenant's grains. Each request is marked as one that only reads exactly if the
+/// logic says so of its method.
+#[derive(Drop)]
+pub struct Entries<L: GrainLogic> {
+    by_grain: ByGrain,
+    of: PhantomData<L>,
+}
+
+impl<L: GrainLogic> Model for Entries<L> {
+    ghost use Rattle.std.specs.Coded.{codes};
+    ghost use Rattle.request_codec.specs.Code.{coded_tree};
+    ghost use Rattle.silo_model.specs.Codes.{by_grain_code, by_number_code};
+    ghost use Rattle.silo_model.specs.Machine as model;
+    ghost use Rattle.silo_state.specs.Shown.{entries_of};
+    ghost use Rattle.silo_state.specs.Marks.{AllMarked};
+
+    ghost Value = { model.Entries };
+
+    ghost coded = { Prim.hlevel (codes, by_grain_code, by_number_code, coded_tree) };
+
+    ghost view = { λ e. entries_of e.by_grain };
+
+    ghost invariant = { λ e. AllMarked L.logic e.by_grain };
+}
+
+impl<L: GrainLogic> Entries<L> {
+    /// No grain has an activation.
+    pub fn new(alloc: Global) -> Entries<L>
+        ensures { result ≡ map.empty }
+    {
+        Entries {
+            by_grain: ByGrain::new(alloc),
+            of: PhantomData,
+        }
+    }
+
+    /// How many grains have an activation.
+    pub fn len(&self) -> usize
+        ensures count { result ≡ map.len self.now }
+        ensures bound { result < 2 ^ 63 }
+    {
+        self.by_grain.len()
+    }
+
+    /// The grain's activation.
+    pub fn get(&self, grain: &GrainId) -> Option<&Activation>
+        ensures entry { option_map entry_of (option_copied result) ≡ map.get self.now grain.now }
+        ensures marked { IfSome result (λ a. AreMarked L.logic grain.now a.now.mailbox) }
+    {
+        self.by_grain.get(grain)
+    }
+
+    /// One request more waits at the grain, from this moment on. A grain that has no activation gets
+    /// one.
+    ///
+    /// # Errors
+    ///
+    /// Out of memory: nothing changed.
+    pub fn wait(
+        &mut self,
+        alloc: Global,
+        grain: &GrainId,
+        request: Request,
+        clock: u64,
+    ) -> Result<(), AllocError>
+        requires known { L.logic.knows grain.now.kind ≡ true }
+        requires marked { IsMarked L.logic grain.now request }
+        ensures waits { OnOk result (self.new ≡ map.insert self.old grain.now (with_request clock (request_of request) (map.get self.old grain.now))) }
+        ensures unchanged { OnErr result (self.new ≡ self.old) }
+    {
+        if let Some(activation) = self.by_grain.get_mut(grain) {
+            return arrival::arrive(activation, request, clock);
+        }
+        let named = grain.clone()?;
+        let activation = arrival::first(alloc, request, clock)?;
+        self.by_grain.insert(named, activation)?;
+        Ok(())
+    }
+
+    /// The grain's activation begins to load, if it waits.
+    pub fn activate(&mut self, grain: &GrainId) -> Answer
+        ensures { Activates self.old grain.now result self.new }
+    {
+        let Some(activation) = self.by_grain.get_mut(grain) else {
+            return Answer::NotNow;
+        };
+        change::start(activation)
+    }
+
+    /// The grain's activation is in another phase. Takes no memory.
+    pub fn set_phase(&mut self, grain: &GrainId, phase: Phase)
+        ensures { (e : Entry) → map.get self.old grain.now ≡ Some e → self.new ≡ map.insert self.old grain.now (record e { phase = phase_of phase }) }
+    {
+        let Some(activation) = self.by_grain.get_mut(grain) else {
+            return;
+        };
+        activation.phase = phase;
+    }
+
+    /// The grain's first waiting request becomes an open turn, if it may: whether it did.
+    ///
+    /// # Errors
+    ///
+    /// Out of memory: nothing changed.
+    pub fn open(&mut self, grain: &GrainId) -> Result<bool, AllocError>
+        ensures begins { IfOk result (λ opened. Begins L.logic self.old grain.now opened self.new) }
+        ensures unchanged { OnErr result (self.new ≡ self.old) }
+    {
+        let Some(activation) = self.by_grain.get_mut(grain) else {
+            return Ok(false);
+        };
+        change::open(activation)
+    }
+
+    /// Closes the grain's turn of that number: who asked for it. The activation is then in this
+    /// phase, if one is given, and was last used at this moment. Takes no memory.
+    pub fn close(
+        &mut self,
+        grain: &GrainId,
+        turn: u64,
+        phase: Option<Phase>,
+        last: u64,
+    ) -> Option<Party>
+        ensures { Closes self.old grain.now turn (option_map phase_of phase) last result self.new }
+    {
+        let Some(activation) = self.by_grain.get_mut(grain) else {
+            return None;
+        };
+        change::close(activation, turn, phase, last)
+    }
+
+    /// Takes the grain's activation out. Takes no memory.
+    pub fn remove(&mut self, grain: &GrainId) -> Option<Activation>
+        ensures found { option_map entry_of result ≡ map.get self.old grain.now }
+        ensures removed { self.new ≡ map.remove self.old grain.now }
+    {
+        self.by_grain.remove(grain)
+    }
+
+    /// The activations that were idle for the age go. Takes no memory.
+    pub fn sweep(&mut self, clock: u64, age: u64)
+        ensures { self.new ≡ kept_entries clock age self.old }
+    {
+        self.by_grain.sweep(clock, age);
+    }
+}

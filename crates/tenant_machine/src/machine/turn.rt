@@ -1,0 +1,73 @@
+//! An open turn, run again; and one that ran out of memory.
+
+ghost use Rattle.std.specs.Prelude.{IfOk};
+ghost use Rattle.std.specs.FinMap as map;
+ghost use Rattle.silo_event.specs.declared.step.Step.TheVariants as step;
+ghost use Rattle.silo_state.specs.Finds.{IsOwnIfOpen};
+ghost use Rattle.tenant_machine.specs.Machines.{StepAnswers};
+
+use crate::closing::{ClosedTurn, close_turn};
+use crate::machine::TenantMachine;
+use bumpalo::Bump;
+use grain_id::GrainId;
+use grain_kinds::{FinishedTurn, GrainLogic, run_turn};
+use silo_event::Fault;
+use silo_state::finding;
+use silo_state::finding::GrainAtClose;
+use std::alloc::{AllocError, Global};
+
+impl<L: GrainLogic> TenantMachine<L> {
+    /// The open turn of that number, run in an arena of its own, and how its grain stands.
+    pub(super) fn run(
+        &self,
+        alloc: Global,
+        grain: &GrainId,
+        turn: u64,
+    ) -> Result<Option<(FinishedTurn<L>, GrainAtClose)>, AllocError>
+        ensures { IfOk result (λ found. IsOwnIfOpen grain.now (map.get self.now.entries grain.now) turn found) }
+    {
+        let Some(activation) = self.entries.get(grain) else {
+            return Ok(None);
+        };
+        let Some((opened, at_close)) = finding::open_turn(grain, activation, turn)? else {
+            return Ok(None);
+        };
+        let bump = Bump::new(alloc);
+        match run_turn(alloc, &bump, &self.logic, opened) {
+            Ok(finished) => Ok(Some((finished, at_close))),
+            Err(_opened) => Err(AllocError),
+        }
+    }
+
+    /// A turn that ran out of memory is closed, and its sender is told so.
+    ///
+    /// # Errors
+    ///
+    /// Out of memory: nothing changed.
+    pub(super) fn abandon(&mut self, grain: &GrainId, turn: u64) -> Result<bool, AllocError>
+        ensures { StepAnswers L.logic self.old (step.Abandon grain.now turn) result self.new }
+    {
+        let Some(activation) = self.entries.get(grain) else {
+            return Ok(false);
+        };
+        let Some(_open) = activation.mailbox.opened(turn) else {
+            return Ok(false);
+        };
+        let now = self.clock.get();
+        self.replies.reserve(1)?;
+        let closing = ClosedTurn {
+            grain,
+            turn,
+            idle_after: false,
+            now,
+        };
+        close_turn(
+            &mut self.entries,
+            &mut self.replies,
+            closing,
+            None,
+            Err(Fault::NoMemory),
+        );
+        Ok(true)
+    }
+}
