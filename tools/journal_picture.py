@@ -9,15 +9,15 @@ from __future__ import annotations
 import json
 from typing import NamedTuple, Optional
 
+from journal_redone import Done, Redone
+from journal_words import shortened
 from slow_silo.audit import report
 from slow_silo.journal import Journal, step_fields
-from slow_silo.machine import Machine, Request
+from slow_silo.machine import Request
 from slow_silo.names import Grain
 from slow_silo.steps import (Abandon, Activate, Begin, Call, Client, Deliver, End, Load, Poke, Reply, Step, Store, Sweep,
                              concerns)
-from slow_silo.storage import Fuse, Storage
 
-LONGEST = 100
 READS, WRITES, STORES = "reads", "writes", "stores"
 
 
@@ -54,10 +54,6 @@ class Mark(NamedTuple):
     code: Optional[int] = None
 
 
-def shortened(text: str) -> str:
-    return text if len(text) <= LONGEST else text[: LONGEST - 3] + "..."
-
-
 def step_text(number: int, step: Step) -> str:
     """A step in words, with the message of a call as it was asked."""
     fields = step_fields(step)
@@ -81,7 +77,8 @@ class Picture:
         self.tenant = tenant
         self.limits = dict(journal.tenants).get(tenant)
         self.difference = report(journal, tenant).difference
-        self.machine = Machine(tenant, self.limits, journal.age, Storage([], Fuse()))
+        redone = Redone(journal, tenant)
+        self.machine = redone.machine
         # the grains, in the order in which they come up
         self.grains: list[Grain] = []
         self.bars: list[Bar] = []
@@ -90,56 +87,41 @@ class Picture:
         self.open: dict[tuple[Grain, int], tuple[int, int, Request]] = {}
         self.phases: dict[Grain, tuple[int, str]] = {}
         for number, step in enumerate(journal.steps, 1):
-            if concerns(step, tenant) and not self.take(number, step):
+            done = redone.take(number, step) if concerns(step, tenant) else None
+            if done is not None:
+                self.show(done)
+            if redone.stopped:
                 break
         self.end_all(len(journal.steps))
 
-    def take(self, number: int, step: Step) -> bool:
-        """Does a step, and shows it; or tells that it isn't possible."""
-        touched = self.touched(step)
-        if isinstance(step, Begin):
-            self.begin(number, step)
-        replies = self.machine.step(step)
-        if replies is None:
-            return False
-        self.show(number, step, touched, replies)
-        if isinstance(step, (End, Store, Abandon)):
-            self.close(number, step)
-        for grain in list(self.phases) if isinstance(step, Sweep) else touched:
-            self.note_phase(number, grain)
-        return True
-
-    def touched(self, step: Step) -> list[Grain]:
-        """The grains of the tenant whose entry the step may change; the asked one last."""
-        found = [getattr(step, "grain", None)]
-        if isinstance(step, Deliver):
-            found += [sent.target for source, sent in self.machine.sends if source == step.grain][:1]
-        return [grain for grain in found if grain is not None and grain.tenant == self.tenant]
+    def show(self, done: Done) -> None:
+        """Shows a step that was done: its marks, the turn that it opens or closes, and the entries that it changes."""
+        self.show_marks(done)
+        if isinstance(done.step, Begin):
+            self.begin(done)
+        if isinstance(done.step, (End, Store, Abandon)):
+            self.add_bar(done.grain, self.open.pop((done.grain, done.request.number)), done.number)
+        for grain in list(self.phases) if isinstance(done.step, Sweep) else [done.grain]:
+            self.note_phase(done.number, grain)
 
     # ---- turns and entries
 
-    def begin(self, number: int, step: Begin) -> None:
-        entry = self.machine.entries.get(step.grain)
-        if entry is None or not entry.queue:
-            return
-        used = {place for (grain, _turn), (_begin, place, _asked) in self.open.items() if grain == step.grain}
+    def begin(self, done: Done) -> None:
+        used = {place for (grain, _turn), (_begin, place, _asked) in self.open.items() if grain == done.grain}
         place = next(place for place in range(len(used) + 1) if place not in used)
-        self.open[step.grain, entry.queue[0].number] = (number, place, entry.queue[0])
+        self.open[done.grain, done.request.number] = (done.number, place, done.request)
 
-    def close(self, number: int, step) -> None:
-        found = self.open.pop((step.grain, step.turn))
-        self.add_bar(step.grain, step.turn, found, number)
-
-    def add_bar(self, grain: Grain, turn: int, found: tuple[int, int, Request], end: int) -> None:
+    def add_bar(self, grain: Grain, found: tuple[int, int, Request], end: int) -> None:
         begin, place, request = found
         stores = request.method in ("save", "reload", "clear")
         kind = READS if self.machine.reads(grain, request) else STORES if stores else WRITES
         method = json.dumps(request.method).strip('"')
         sender = request.sender.caller.text() if isinstance(request.sender, Client) else request.sender.text()
-        text = f"turn {turn} of {grain.text()}: {method} {json.dumps(request.args)} of {sender}, steps {begin} to {end}"
+        asked = f"{method} {json.dumps(request.args)} of {sender}"
+        text = f"turn {request.number} of {grain.text()}: {asked}, steps {begin} to {end}"
         self.bars.append(Bar(grain, place, begin, end, kind, method, shortened(text)))
 
-    def note_phase(self, number: int, grain: Grain) -> None:
+    def note_phase(self, number: int, grain: Optional[Grain]) -> None:
         entry = self.machine.entries.get(grain)
         before = self.phases.get(grain)
         now = None if entry is None else entry.phase
@@ -151,20 +133,28 @@ class Picture:
 
     def end_all(self, last: int) -> None:
         """What is still open at the end of the journal."""
-        for (grain, turn), found in self.open.items():
-            self.add_bar(grain, turn, found, last)
+        for (grain, _turn), found in self.open.items():
+            self.add_bar(grain, found, last)
         self.bands += [Band(grain, begin, last, phase) for grain, (begin, phase) in self.phases.items()]
+
+    def has(self, grain: Grain, steps: range) -> bool:
+        """Something of the grain is shown within these steps."""
+        at = [mark.step in steps for mark in self.marks if mark.grain == grain]
+        shown = [one.begin < steps.stop and one.end >= steps.start for one in self.bars + self.bands if one.grain == grain]
+        return any(at + shown)
 
     # ---- marks
 
-    def show(self, number: int, step: Step, touched: list[Grain], replies: list[Reply]) -> None:
+    def show_marks(self, done: Done) -> None:
+        number, step, replies = done.number, done.step, done.replies
         text = step_text(number, step)
-        own = touched[-1] if touched else None
-        if isinstance(step, Deliver):
-            self.mark(number, touched[0], "deliver", text)
+        own = done.grain if done.grain is not None and done.grain.tenant == self.tenant else None
+        source = step.grain if isinstance(step, Deliver) else None
+        if source is not None:
+            self.mark(number, source, "deliver", text)
         refused = any(reply.code is not None for reply in replies)
         if isinstance(step, (Call, Deliver)) and not refused:
-            self.mark(number, own, "call", text, bound=touched[0] if isinstance(step, Deliver) else None)
+            self.mark(number, own, "call", text, bound=source)
         if isinstance(step, Poke) and own is not None and not refused:
             self.mark(number, own, "poke", text)
         if isinstance(step, (Activate, Load)):

@@ -300,7 +300,7 @@ def serve_input(random: Random) -> Input:
 def set_up_input(random: Random) -> tuple[Input, Setup]:
     """An input of `steps` whose words are taken, and what they set up."""
     made = steps_input(random)
-    while len(made.words) < 4 or made.words[1] != "--age":
+    while len(made.words) < 4 or made.words[1] != "--age" or made.words in ODD_WORDS:
         made = steps_input(random)
     return made, Setup(program.tenants_of(made.words[3:]), int(made.words[2]))
 
