@@ -1,11 +1,8 @@
-//! Worked runs of what is read and looked at around serving: lanes that lines ask for, what lanes are
-//! answered, and journals that are audited.
+//! Worked runs of what is looked at around serving: what lanes are answered, and journals that are audited.
 //!
 //! They stand in a crate of their own, since a crate with tests is proved twice, with them and without.
 #![tactic(auto)]
 
-#[cfg(test)]
-mod asked;
 #[cfg(test)]
 mod audits;
 #[cfg(test)]

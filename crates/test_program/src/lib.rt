@@ -1,8 +1,10 @@
-//! The whole program over a reader, writers and a file in memory.
+//! The whole program over a reader, writers and a file in memory, and the lanes that its lines ask for.
 //!
 //! They stand in a crate of their own, since a crate with tests is proved twice, with them and without.
 #![tactic(auto)]
 
+#[cfg(test)]
+mod asked;
 #[cfg(test)]
 mod at_once;
 #[cfg(test)]

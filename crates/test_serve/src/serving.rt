@@ -9,6 +9,7 @@ use silo_core::Setup;
 use silo_event::{Party, Reply, Step};
 use std::alloc::{AllocError, Global};
 use std::collections::BTreeMap;
+use std::mem::replace;
 use std::sync::Wait;
 use std::sync::atomic::{AtomicBool, AtomicU64, Ordering};
 use std::test::Fail;
@@ -211,6 +212,16 @@ fn ids_of(alloc: Global, replies: &[Reply]) -> Result<Vec<u64>, Fail> {
     Ok(ids)
 }
 
+/// What the lanes are answered, out of a report.
+fn answers_of<L: GrainLogic + Drop>(
+    alloc: Global,
+    mut report: ServeReport<MemoryStorage, L>,
+) -> Vec<Vec<Reply>> {
+    let answers = replace(&mut report.answers, Vec::new(alloc));
+    drop(report);
+    answers
+}
+
 /// Serves lanes, if they may be served: what each is answered.
 fn served<
     R: AllocGlobal + Threads + Wait + Sync,
@@ -224,10 +235,11 @@ fn served<
     gate: &G,
 ) -> Result<Vec<Vec<Reply>>, Fail> {
     if workers < 1 || workers > 64 || !distinct(lanes) {
+        drop(setup);
         return Err("these lanes can't be served".into());
     }
     match serve(rt, rt.alloc(), setup, lanes, workers, gate) {
-        Ok(ServeReport { answers, .. }) => Ok(answers),
+        Ok(report) => Ok(answers_of(rt.alloc(), report)),
         Err(ServeFault::Memory) => Err(AllocError.into()),
         Err(ServeFault::NoWorker) => Err("no thread, and so no memory".into()),
         Err(ServeFault::Strayed) => Err("the lanes strayed".into()),
@@ -522,48 +534,69 @@ fn grains_of(alloc: Global, codes: &[u64]) -> Result<Vec<u64>, Fail> {
     Ok(grains)
 }
 
-/// What a gate was told, beside what stands in the journal.
-#[derive(Drop)]
-struct ToldAndTaken {
-    told: Vec<u64>,
-    closed: Vec<u64>,
-    told_grains: Vec<u64>,
-    begun: Vec<u64>,
+/// Whether the journal closes these turns, and no other.
+fn are_closed(
+    alloc: Global,
+    grains: &[GrainId],
+    told: &[u64],
+    journal: &[Step],
+) -> Result<bool, Fail> {
+    let closed = closed_in(alloc, grains, journal)?;
+    Ok(closed.as_slice() == told)
 }
 
-fn told_and_taken(alloc: Global, gate: &Keeper, journal: &[Step]) -> Result<ToldAndTaken, Fail> {
-    let told = gate.codes(alloc)?;
-    let told_grains = grains_of(alloc, told.as_slice())?;
+/// Whether the journal begins a turn at these grains, and at no other.
+fn are_begun(
+    alloc: Global,
+    grains: &[GrainId],
+    told: &[u64],
+    journal: &[Step],
+) -> Result<bool, Fail> {
+    let begun = begun_in(alloc, grains, journal)?;
+    Ok(begun.as_slice() == told)
+}
+
+/// Whether a gate was told of exactly those turns that the journal begins and closes.
+fn is_told_of_each(alloc: Global, gate: &Keeper, journal: &[Step]) -> Result<bool, Fail> {
     let grains = gate.grains.as_slice();
-    Ok(ToldAndTaken {
-        told,
-        closed: closed_in(alloc, grains, journal)?,
-        told_grains,
-        begun: begun_in(alloc, grains, journal)?,
-    })
+    let told = gate.codes(alloc)?;
+    if told.len() != 4 || !are_closed(alloc, grains, told.as_slice(), journal)? {
+        return Ok(false);
+    }
+    let told_grains = grains_of(alloc, told.as_slice())?;
+    are_begun(alloc, grains, told_grains.as_slice(), journal)
 }
 
-/// Serves a `get` of each of the four clients: what the gate was told.
-fn turns_told<R: AllocGlobal + Threads + Wait + Sync>(rt: &R) -> Result<ToldAndTaken, Fail> {
+/// Serves these lanes by four workers, beside a gate.
+fn report_beside<R: AllocGlobal + Threads + Wait + Sync>(
+    rt: &R,
+    lanes: &[Lane],
+    gate: &Keeper,
+) -> Result<ServeReport<MemoryStorage, Kinds>, Fail> {
+    if !distinct(lanes) {
+        return Err("these lanes can't be served".into());
+    }
+    let setup = setup_with(rt.alloc(), &["red", "blue"], Kinds)?;
+    match serve(rt, rt.alloc(), setup, lanes, 4, gate) {
+        Ok(report) => Ok(report),
+        Err(_) => Err("the lanes weren't served".into()),
+    }
+}
+
+/// Serves a `get` of each of the four clients: whether the gate was told of each turn.
+fn turns_are_told<R: AllocGlobal + Threads + Wait + Sync>(rt: &R) -> Result<bool, Fail> {
     let alloc = rt.alloc();
     let gate = Keeper::new(alloc, &["counter/red:a", "counter/blue:a"], 4)?;
     let lanes = get_lanes(alloc, &FOUR)?;
-    let setup = setup_with(alloc, &["red", "blue"], Kinds)?;
-    if !distinct(&lanes) {
-        return Err("these lanes can't be served".into());
-    }
-    let Ok(report) = serve(rt, alloc, setup, &lanes, 4, &gate) else {
-        return Err("the lanes weren't served".into());
-    };
-    told_and_taken(alloc, &gate, report.silo.journal())
+    let report = report_beside(rt, &lanes, &gate)?;
+    let told = is_told_of_each(alloc, &gate, report.silo.journal());
+    drop(report);
+    told
 }
 
 #[test]
 fn a_gate_is_told_of_each_turn(rt: HostRuntime) -> Result<(), Fail> {
-    let turns = turns_told(&rt)?;
-    assert_eq!(rt; turns.told.len(), 4);
-    assert!(rt; turns.told.as_slice() == turns.closed.as_slice());
-    assert!(rt; turns.told_grains.as_slice() == turns.begun.as_slice());
+    assert!(rt; turns_are_told(&rt)?);
     Ok(())
 }
 

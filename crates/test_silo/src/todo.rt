@@ -96,7 +96,9 @@ fn told_around(alloc: Global, silo: &mut TestedSilo, lines: &str) -> Result<Stri
 
 fn told_anew(alloc: Global, lines: &str) -> Result<String, Fail> {
     let mut silo = new_silo(alloc)?;
-    told_around(alloc, &mut silo, lines)
+    let told = told_around(alloc, &mut silo, lines);
+    drop(silo);
+    told
 }
 
 #[test]
