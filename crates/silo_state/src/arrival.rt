@@ -8,6 +8,7 @@ use std::alloc::{AllocError, Global};
 use turn_mailbox::{Mailbox, Request};
 
 /// One request more waits, from this moment on.
+#[inline(always)]
 pub fn arrive(activation: &mut Activation, request: Request, clock: u64) -> Result<(), AllocError>
     ensures arrived { OnOk result (activation.new ≡ arrived activation.old activation.new.mailbox.capacity request clock) }
     ensures unchanged { OnErr result (activation.new ≡ activation.old) }
@@ -22,6 +23,7 @@ pub fn arrive(activation: &mut Activation, request: Request, clock: u64) -> Resu
 }
 
 /// An activation that waits to be activated, with one request. Its mailbox grows as more wait.
+#[inline(always)]
 pub fn first(alloc: Global, request: Request, clock: u64) -> Result<Activation, AllocError>
     ensures { IfOk result (λ a. IsFirst request clock a) }
 {

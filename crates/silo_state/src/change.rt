@@ -98,6 +98,7 @@ pub fn open(activation: &mut Activation) -> Result<bool, AllocError>
 
 /// Closes its turn of that number: who asked for it, if it is open. The activation is then in this
 /// phase, if one is given, and was last used at this moment.
+#[inline(always)]
 pub fn close(
     activation: &mut Activation,
     turn: u64,

@@ -89,6 +89,7 @@ pub fn find(grain: &GrainId, activation: &Activation, turn: u64, input: &OpenedT
 /// # Errors
 ///
 /// Out of memory.
+#[inline(always)]
 pub fn open_turn(
     grain: &GrainId,
     activation: &Activation,
