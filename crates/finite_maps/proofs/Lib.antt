@@ -1,0 +1,14 @@
+pub mod Choices
+pub mod Options
+pub mod Keys
+pub mod Maps
+pub mod Entries
+pub mod Ascending
+pub mod Lists
+pub mod Values
+pub mod Mapped
+pub mod Sums
+pub mod Parts
+pub mod Totals
+pub mod Sets
+pub mod Sorted
