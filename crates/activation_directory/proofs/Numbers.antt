@@ -1,5 +1,5 @@
 -- The numbers by tenant, after a change at one name.
-use Rattle.std.proofs.Common.{◌≡◌, ℕ, Bool, true, false, cond, List, Option, Some, None, is_some, refl, ap, sym, ◌∙◌, subst}
+use Rattle.std.proofs.Common.{◌≡◌, ℕ, Bool, true, false, cond, List, Some, is_some, refl, ap, sym, ◌∙◌}
 use Rattle.std.proofs.lemmas.Map.Text.{btree_map_updates_text}
 use Rattle.std.specs.Prelude.{bytes_eq, string_bytes}
 use Rattle.std.specs.Option.{unwrap_or}
@@ -7,8 +7,9 @@ use Rattle.std.specs.Ordering.{nat_cmp}
 use Rattle.std.specs.Cmp.Lexicographic.{slice_cmp}
 use Rattle.std.specs.String.{string_cmp}
 use Rattle.std.specs.BTreeMap.{get_by_text, UpdatesBy}
+use Rattle.finite_maps.proofs.Options.{none_from_is_some}
 use Rattle.grain_id.proofs.Order.{same_text_decides}
-use Rattle.activation_directory.specs.Counts.{Numbers, kept, SameNumbers, NumbersTo}
+use Rattle.activation_directory.specs.inside.Counts.{Numbers, kept, SameNumbers, NumbersTo}
 
 -- a number written at a name
 pub NumbersTo-from_updates : (m n : Numbers) (t : List ℕ) (w : ℕ) → UpdatesBy string_cmp (λ k. slice_cmp nat_cmp t (string_bytes k)) m n (Some w) → NumbersTo m n t w
@@ -18,16 +19,12 @@ NumbersTo-from_updates m n t w u other = ap (λ o. unwrap_or o 0) (btree_map_upd
     by true = refl
     by false = refl
 
-none_kept : (o : Option ℕ) → is_some o ≡ false → 0 ≡ unwrap_or o 0
-none_kept None e = refl
-none_kept (Some x) e = absurd cc
-
 -- a 0 where there is no number changes no number
 pub SameNumbers-from_zero : (m n : Numbers) (t : List ℕ) → UpdatesBy string_cmp (λ k. slice_cmp nat_cmp t (string_bytes k)) m n (Some 0) → is_some (get_by_text m t) ≡ false → SameNumbers m n
 SameNumbers-from_zero m n t u none other = NumbersTo-from_updates m n t 0 u other ∙ by (bytes_eq t other) refl
   where
     by : (b : Bool) → bytes_eq t other ≡ b → cond b 0 (kept m other) ≡ kept m other
-    by true e = none_kept (get_by_text m t) none ∙ ap (kept m) ((same_text_decides t other).0 e)
+    by true e = ap (λ o. unwrap_or o 0) (sym (none_from_is_some (get_by_text m t) none)) ∙ ap (kept m) ((same_text_decides t other).0 e)
     by false e = refl
 
 pub kept-some : (m : Numbers) (t : List ℕ) (n : ℕ) → Some n ≡ get_by_text m t → n ≡ kept m t

@@ -3,8 +3,8 @@ use Rattle.std.proofs.Common.{◌≡◌, ℕ, Bool, true, false, cond, List, [],
 use Rattle.std.specs.Map.{lookup, keys_of}
 use Rattle.indexmap.specs.IndexMap.{insert_entry}
 use Rattle.slab.specs.Slab.{Slab, get}
-use Rattle.activation_directory.specs.Places.{at_place}
-use Rattle.activation_directory.proofs.Places.{not_none}
+use Rattle.activation_directory.specs.inside.Places.{at_place}
+use Rattle.finite_maps.proofs.Options.{not_none}
 
 added_by : {K V : Type 0} (eq : K → K → Bool) (e : K × V) (es : List (K × V)) (k : K) (v : V) (b : Bool) → cond b (Some e.1) (lookup (eq k) es) ≡ None → (lookup (eq k) es ≡ None → keys_of (insert_entry eq es k v) ≡ keys_of es ++ k ∷ []) → keys_of (if b then (e.0, v) ∷ es else e ∷ insert_entry eq es k v) ≡ keys_of (e ∷ es) ++ k ∷ []
 added_by eq e es k v true h rest = absurd (cc h)

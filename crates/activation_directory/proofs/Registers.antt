@@ -3,9 +3,10 @@ use Rattle.std.proofs.Common.{◌≡◌, ℕ, ◌+◌, ◌-◌, cond, IsSome, Li
 use Rattle.std.specs.FinMap as map
 use Rattle.std.specs.Map.{lookup, keys_of}
 use Rattle.std.specs.List.{IsDistinct}
-use Rattle.std.specs.Prelude.{string_bytes, slice_get, option_map}
+use Rattle.std.specs.Prelude.{string_bytes, option_map}
 use Rattle.std.proofs.lemmas.Map.Entries.{place_from_lookup}
 use Rattle.std.proofs.lemmas.Option.{slice_get-map}
+use Rattle.grain_id.proofs.Keys.{grains}
 use Rattle.grain_id.proofs.Order.{grain_eq_decides}
 use Rattle.std.specs.Cmp.Lexicographic.{slice_cmp}
 use Rattle.std.specs.Ordering.{nat_cmp, is_eq}
@@ -13,15 +14,16 @@ use Rattle.std.specs.declared.string.String.{String}
 use Rattle.std.specs.declared.alloc.Global.{Global}
 use Rattle.std.specs.Option.{unwrap_or}
 use Rattle.slab.specs.Slab.{Slab, get, Updates, with_value}
-use Rattle.grain_id.specs.Names.{Grain, grain_cmp, grain_eq}
-use Rattle.activation_directory.specs.Places.{placed, at_place, ArePlaced}
-use Rattle.activation_directory.proofs.Places.{get-placed, map-written, placed-none, placed-regrown, slots-regrown, map-inserted, placed-inserted, map-removed, placed-removed, some_of}
+use Rattle.grain_id.specs.Names.{Grain, grain_eq}
+use Rattle.activation_directory.specs.inside.Places.{at_place, ArePlaced}
+use Rattle.activation_directory.proofs.Places.{get-placed, map-written, placed-none, placed-regrown, slots-regrown, map-inserted, placed-inserted, map-removed, placed-removed}
+use Rattle.finite_maps.proofs.Options.{some_from_IsSome}
 use Rattle.activation_directory.specs.declared.activation.Activation.{Activation}
-use Rattle.activation_directory.specs.Register.{Register, StandsIn}
-use Rattle.activation_directory.specs.Counts.{Numbers, kept, count_in, NumbersTo}
-use Rattle.activation_directory.specs.Kept.{shown, IsDirectory}
-use Rattle.activation_directory.specs.Lending.{with_activation}
-use Rattle.activation_directory.proofs.Sizes.{grains, count_in-empty, counted-inserted, counted-removed}
+use Rattle.activation_directory.specs.Register.{StandsIn}
+use Rattle.activation_directory.specs.inside.Counts.{Numbers, kept, count_in, NumbersTo}
+use Rattle.activation_directory.specs.inside.Kept.{shown, IsDirectory}
+use Rattle.activation_directory.specs.inside.Lending.{with_activation}
+use Rattle.activation_directory.proofs.Sizes.{count_in-empty, counted-inserted, counted-removed}
 
 -- a look-up of the place, and then of what stands there
 pub get-shown : (s : Slab Activation) (es : List (Grain × ℕ)) → ArePlaced grain_eq es s → (q : Grain) → map.get (shown es s).activations q ≡ at_place s (lookup (grain_eq q) es)
@@ -77,7 +79,7 @@ module _ (es fs : List (Grain × ℕ)) (s t : Slab Activation) (ok : ArePlaced g
 
   pub directory-removed : (old new : Numbers) → ((tenant : List ℕ) → kept old tenant ≡ count_in (shown es s).activations tenant) → NumbersTo old new id.tenant (kept old id.tenant - 1) → IsDirectory fs t new None
   directory-removed old new counted n =
-      let there = some_of (get s place) (ok.filled id place at) in
+      let there = some_from_IsSome (get s place) (ok.filled id place at) in
       record {
         placed_all = placed-removed grains es fs s t ok unique id place l at u;
         counted = λ tenant.

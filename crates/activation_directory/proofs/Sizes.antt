@@ -4,37 +4,22 @@ use Rattle.std.specs.Prelude.{bytes_eq}
 use Rattle.std.specs.FinMap as map
 use Rattle.std.specs.FinMap.{FinMap, from_entries}
 use Rattle.slab.specs.Slab.{Slab, get}
-use Rattle.grain_id.specs.Names.{Grain, grain_cmp, grain_eq, same_text}
+use Rattle.grain_id.proofs.Keys.{grains}
+use Rattle.grain_id.specs.Names.{Grain, grain_cmp, grain_eq}
 use Rattle.grain_id.proofs.Order.{grain_cmp_total, grain_cmp_exact, grain_eq_decides, same_text_decides}
-use Rattle.grain_id.proofs.Maps as maps
-use Rattle.activation_directory.specs.Places.{placed, with_value_at}
-use Rattle.activation_directory.proofs.Places.{AreKeys}
-use Rattle.activation_directory.specs.Counts.{Numbers, is_of, count_in, kept, NumbersTo}
-
-pub grains : AreKeys grain_eq grain_cmp
-grains = record { total = grain_cmp_total; exact = grain_cmp_exact; decides = grain_eq_decides }
-
-none_either : {X : Type 0} (b : Bool) (o : Option X) → o ≡ None → cond b o None ≡ None
-none_either true o e = e
-none_either false o e = refl
+use Rattle.finite_maps.proofs.Maps as maps
+use Rattle.activation_directory.specs.inside.Places.{placed, with_value_at}
+use Rattle.finite_maps.specs.Keys.{AreKeys}
+use Rattle.activation_directory.specs.inside.Counts.{Numbers, is_of, count_in, kept, NumbersTo}
 
 -- no grains
 pub count_in-empty : (X : Type 0) (tenant : List ℕ) → count_in (map.empty {X = X} {R = grain_cmp}) tenant ≡ 0
-count_in-empty X tenant = ap map.len (maps.alike grain_cmp_total grain_cmp_exact (map.retain_keys (map.empty {X = X} {R = grain_cmp}) (is_of tenant)) map.empty (λ q.
-    maps.get-part grain_cmp_total grain_cmp_exact (map.empty {X = X} {R = grain_cmp}) (is_of tenant) q
-    ∙ none_either (is_of tenant q) (map.get (map.empty {X = X} {R = grain_cmp}) q) (map.get-empty grain_cmp q) ∙ sym (map.get-empty grain_cmp q)))
-    ∙ map.len-empty grain_cmp X
+count_in-empty X tenant = ap map.len (maps.part-empty grain_cmp_total grain_cmp_exact (is_of tenant)) ∙ map.len-empty grain_cmp X
 
 module _ {X : Type 0} where
-  len_again : (m : FinMap grain_cmp X) (p : Grain → Bool) (k : Grain) (w a : X) (b : Bool) → map.get m k ≡ Some a → p k ≡ b → map.len (map.retain_keys (map.insert m k w) p) ≡ map.len (map.retain_keys m p)
-  len_again m p k w a true at i =
-      ap map.len (maps.part-insert_in grain_cmp_total grain_cmp_exact m p k w i) ∙ map.len-insert grain_cmp_total (map.retain_keys m p) k w
-      ∙ ap (λ c. cond c (map.len (map.retain_keys m p)) (map.len (map.retain_keys m p) + 1)) (ap is_some (maps.get-part grain_cmp_total grain_cmp_exact m p k ∙ ap (λ c. cond c (map.get m k) None) i ∙ at))
-  len_again m p k w a false at i = ap map.len (maps.part-insert_out grain_cmp_total grain_cmp_exact m p k w i)
-
   -- a grain that has another activation counts as before
   pub count_in-written : (m : FinMap grain_cmp X) (k : Grain) (w a : X) (tenant : List ℕ) → map.get m k ≡ Some a → count_in (map.insert m k w) tenant ≡ count_in m tenant
-  count_in-written m k w a tenant at = len_again m (is_of tenant) k w a (is_of tenant k) at refl
+  count_in-written m k w a tenant at = maps.len_part-again grain_cmp_total grain_cmp_exact m (is_of tenant) k w a (is_of tenant k) at refl
 
   part_bound : (e : Grain × X) (es : List (Grain × X)) (p : Grain → Bool) (b : Bool) → p e.0 ≡ b → map.len (map.retain_keys (from_entries {R = grain_cmp} es) p) ≤ length es
       → map.len (map.retain_keys (map.insert (from_entries {R = grain_cmp} es) e.0 e.1) p) ≤ suc (length es)
@@ -89,5 +74,4 @@ module _ {X : Type 0} where
         let part = map.retain_keys m (is_of id.tenant) in
         let own : is_of id.tenant id ≡ true = (same_text_decides id.tenant id.tenant).1 refl in
         let there : map.get part id ≡ Some a = maps.get-part grain_cmp_total grain_cmp_exact m (is_of id.tenant) id ∙ ap (λ c. cond c (map.get m id) None) own ∙ present in
-        let gone : map.get part id ≡ None = ap (λ (n : FinMap grain_cmp X). map.get n id) (map.empty_of_len part none) ∙ map.get-empty grain_cmp id in
-        cc (there, gone)))
+        maps.found_some part id a there none))

@@ -1,6 +1,2 @@
-pub mod Places
 pub mod Register
-pub mod Counts
-pub mod Kept
-pub mod Lending
-pub mod LatestPlace
+pub mod inside

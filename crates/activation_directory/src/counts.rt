@@ -2,7 +2,7 @@
 
 ghost use Rattle.std.specs.Prelude.{◌≡◌, ◌<◌, ◌+◌, ◌-◌, ◌^◌, OnOk, IsSome};
 ghost use Rattle.std.specs.BTreeMap.{get_by_text};
-ghost use Rattle.activation_directory.specs.Counts.{kept, SameNumbers, NumbersTo};
+ghost use Rattle.activation_directory.specs.inside.Counts.{kept, SameNumbers, NumbersTo};
 
 use std::alloc::{AllocError, Global};
 use std::collections::BTreeMap;

@@ -1,13 +1,14 @@
 //! Which activation a grain has.
 
-ghost use Rattle.std.specs.Prelude.{◌≡◌, ◌<◌, ◌^◌, ◌++◌, ◌∷◌, [], Some, None, OnOk, OnErr, IfErr, IfNone, IfSome, IsSome, slice_get, length};
+ghost use Rattle.std.specs.Prelude.{◌≡◌, ◌<◌, ◌^◌, ◌++◌, ◌∷◌, [], Some, None, OnOk, OnErr, IfErr, IfNone, IfSome, IsSome, slice_get};
+ghost use Rattle.std.specs.Prelude.{length};
 ghost use Rattle.std.specs.Option.{option_copied, option_copied_mut, option_map};
 ghost use Rattle.std.specs.List.{IsDistinct};
 ghost use Rattle.std.specs.FinMap as map;
 ghost use Rattle.std.specs.Borrow.{sem};
 ghost use Rattle.indexmap.specs.IndexMap.{swap_remove_by};
 ghost use Rattle.grain_id.specs.Names.{Grain, grain_eq};
-ghost use Rattle.activation_directory.specs.Counts.{count_in};
+ghost use Rattle.activation_directory.specs.inside.Counts.{count_in};
 ghost use Rattle.activation_directory.specs.Register.{StandsIn};
 
 use crate::activation::Activation;
@@ -36,7 +37,7 @@ impl Model for Directory {
     ghost use Rattle.request_codec.specs.Code.{coded_tree};
     ghost use Rattle.turn_mailbox.specs.Kept.{by_number_code};
     ghost use Rattle.activation_directory.specs.Register.{Register, by_grain_code};
-    ghost use Rattle.activation_directory.specs.Kept.{shown, IsDirectory};
+    ghost use Rattle.activation_directory.specs.inside.Kept.{shown, IsDirectory};
 
     ghost Value = { Register };
 
@@ -48,7 +49,7 @@ impl Model for Directory {
 }
 
 impl Directory {
-    ghost use Rattle.activation_directory.specs.Lending.{LendsActivation};
+    ghost use Rattle.activation_directory.specs.inside.Lending.{LendsActivation};
 
     /// No activations.
     pub fn new(alloc: Global) -> Directory

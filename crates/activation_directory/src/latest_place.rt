@@ -3,7 +3,7 @@
 ghost use Rattle.std.specs.Prelude.{◌≡◌, ℕ, List, Some};
 ghost use Rattle.std.specs.Map.{lookup};
 ghost use Rattle.grain_id.specs.Names.{Grain, grain_eq};
-ghost use Rattle.activation_directory.specs.LatestPlace.{place_in, LeadsTo};
+ghost use Rattle.activation_directory.specs.inside.LatestPlace.{place_in, LeadsTo};
 
 use grain_id::GrainId;
 use indexmap::IndexMap;
@@ -46,7 +46,8 @@ pub fn place_of(
 /// The grain was looked up, and leads to this place. If no clone of its name can be made, another
 /// grain stays the one that was looked up last.
 pub fn remember(latest: &mut Option<LatestPlace>, id: &GrainId, place: usize)
-    ensures { (index : List (Grain × ℕ)) → LeadsTo latest.old index → lookup (grain_eq id.now) index ≡ Some place → LeadsTo latest.new index }
+    ensures { (index : List (Grain × ℕ)) → LeadsTo latest.old index → lookup (grain_eq id.now) index ≡ Some place
+        → LeadsTo latest.new index }
 {
     if place_in(latest, id).is_some() {
         return;

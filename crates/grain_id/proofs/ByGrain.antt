@@ -4,7 +4,7 @@ use Rattle.std.specs.FinMap as map
 use Rattle.std.specs.FinMap.{FinMap}
 use Rattle.grain_id.specs.Names.{Grain, grain_cmp, text_cmp}
 use Rattle.grain_id.proofs.Order.{grain_cmp_total, grain_cmp_exact, text_cmp_total, text_cmp_exact}
-use Rattle.grain_id.proofs.Maps as maps
+use Rattle.finite_maps.proofs.Maps as maps
 
 module _ {X : Type 0} where
   pub alike : (m n : FinMap grain_cmp X) → ((q : Grain) → map.get m q ≡ map.get n q) → m ≡ n

@@ -1,5 +1,5 @@
 pub mod Order
-pub mod Maps
+pub mod Keys
 pub mod ByGrain
 pub mod Reading
 pub mod Places

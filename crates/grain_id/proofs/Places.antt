@@ -2,12 +2,13 @@
 use Rattle.std.proofs.Common.{◌≡◌, ℕ, suc, ◌+◌, ◌-◌, ◌<◌, Bool, true, ◌&&◌, List, [], ◌∷◌, ◌++◌, length, take, drop, get_or, Some, ap, sym, ◌∙◌, subst, arith}
 use Rattle.std.proofs.Math.Seq.{take-append_seam, drop-append-add, drop-cons, get_or-append_seam}
 use Rattle.std.proofs.lemmas.List.{length-append, take-append-drop, drop-drop, get_or-drop, length-drop, get_or-append-add}
+use Rattle.std.proofs.lemmas.Bool.{and_from}
 use Rattle.grain_id.specs.Words.{is_word, is_name}
 use Rattle.grain_id.specs.Names.{is_grain, is_client, grain_text, client_text, IsTextOfGrain, IsTextOfClient}
 use Rattle.grain_id.specs.Reading.{cut_at}
 use Rattle.grain_id.proofs.Reading.{cut_at-joined}
 use Rattle.grain_id.specs.Order.{same_grain, same_client}
-use Rattle.grain_id.specs.Places.{grain_at, client_at, IsPlacedGrain, IsPlacedClient}
+use Rattle.grain_id.specs.inside.Places.{grain_at, client_at, IsPlacedGrain, IsPlacedClient}
 
 -- a list is what stands before a place, what stands there and what follows
 pub split_at : (xs : List ℕ) (k c : ℕ) → k < length xs → get_or xs k 0 ≡ c → xs ≡ take k xs ++ c ∷ drop (k + 1) xs
@@ -53,16 +54,13 @@ grain_at-parts kind tenant name =
 client_at-parts : (tenant client : List ℕ) → client_at (tenant ++ 47 ∷ client) (length tenant) ≡ record { tenant = tenant; client = client }
 client_at-parts tenant client = same_client _ _ (take-append_seam tenant (47 ∷ client)) (drop-append-add tenant (47 ∷ client) 1)
 
-both : (a b : Bool) → a ≡ true → b ≡ true → (a && b) ≡ true
-both a b e f = ap (λ x. x && b) e ∙ f
-
 pub IsPlacedGrain-parts : (kind tenant name : List ℕ) → is_word kind ≡ true → is_word tenant ≡ true → is_name name ≡ true → IsPlacedGrain (kind ++ 47 ∷ (tenant ++ 58 ∷ name)) (length kind) (length kind + 1 + length tenant)
 IsPlacedGrain-parts kind tenant name k t n =
     let rest = tenant ++ 58 ∷ name in
     let text = kind ++ 47 ∷ rest in
     let along : length kind + 1 + length tenant ≡ length kind + (1 + length tenant) = omega arith in
     record {
-      well_formed = ap is_grain (grain_at-parts kind tenant name) ∙ both _ _ (both _ _ k t) n;
+      well_formed = ap is_grain (grain_at-parts kind tenant name) ∙ and_from _ _ (and_from _ _ k t) n;
       in_order = omega arith;
       inside = omega (arith, length-append kind (47 ∷ rest), length-append tenant (58 ∷ name));
       slash_there = get_or-append_seam kind 47 rest 0;
@@ -71,7 +69,7 @@ IsPlacedGrain-parts kind tenant name k t n =
 
 pub IsPlacedClient-parts : (tenant client : List ℕ) → is_word tenant ≡ true → is_word client ≡ true → IsPlacedClient (tenant ++ 47 ∷ client) (length tenant)
 IsPlacedClient-parts tenant client t c = record {
-  well_formed = ap is_client (client_at-parts tenant client) ∙ both _ _ t c;
+  well_formed = ap is_client (client_at-parts tenant client) ∙ and_from _ _ t c;
   inside = omega (arith, length-append tenant (47 ∷ client));
   slash_there = get_or-append_seam tenant 47 client 0;
 }

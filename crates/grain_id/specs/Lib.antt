@@ -1,5 +1,5 @@
 pub mod Words
 pub mod Names
 pub mod Reading
-pub mod Places
 pub mod Order
+pub mod inside

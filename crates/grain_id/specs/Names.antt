@@ -73,4 +73,6 @@ client_cmp = then_cmp (on (λ c. c.tenant) text_cmp) (on (λ c. c.client) text_c
 
 -- a grain is stored as its parts
 abbrev pub coded_grain : Coded Grain
-coded_grain = code_by (List ℕ × (List ℕ × List ℕ)) (coded× (coded_list coded_ℕ) (coded× (coded_list coded_ℕ) (coded_list coded_ℕ))) (λ g. (g.kind, (g.tenant, g.name))) (λ p. record { kind = p.0; tenant = p.1.0; name = p.1.1 }) (λ _. refl)
+coded_grain =
+    code_by (List ℕ × (List ℕ × List ℕ)) (coded× (coded_list coded_ℕ) (coded× (coded_list coded_ℕ) (coded_list coded_ℕ)))
+    (λ g. (g.kind, (g.tenant, g.name))) (λ p. record { kind = p.0; tenant = p.1.0; name = p.1.1 }) (λ _. refl)

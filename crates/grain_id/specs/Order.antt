@@ -4,7 +4,8 @@ use Rattle.std.specs.Prelude.{Some}
 use Rattle.std.specs.declared.cmp.Ordering.{Ordering}
 use Rattle.std.specs.declared.cmp.Ordering.TheVariants.{Less, Equal, Greater}
 use Rattle.std.specs.Ordering.{ordering_then, is_eq, eq_by_cmp}
-use Rattle.std.specs.Cmp.{IsTotalOrder, IsEquivalence, IsPartialOrder, Equal-is, then_total, and_equiv, tied_itself, partial_order_from_agreeing_total}
+use Rattle.std.specs.Cmp.{IsTotalOrder, IsEquivalence, IsPartialOrder, Equal-is, then_total, and_equiv, tied_itself}
+use Rattle.std.specs.Cmp.{partial_order_from_agreeing_total}
 use Rattle.std.specs.Cmp.Lexicographic.{on_texts, on_texts_equal, nat_list_cmp_total}
 use Rattle.std.specs.FinMap.{IsAntisymmetric, slice_cmp-IsAntisymmetric, nat_cmp-IsAntisymmetric}
 use Rattle.std.specs.Bool.{Decides}
@@ -15,12 +16,16 @@ use Rattle.grain_id.specs.Names.{Grain, Client, grain_cmp, client_cmp, text_cmp,
 -- ---- any order
 
 -- an order that ties nothing but equals: its ties are decided
-pub eq_by_cmp-Decides : {K : Type 0} {R : K → K → Ordering} → IsTotalOrder R → IsAntisymmetric R → (x y : K) → Decides (eq_by_cmp R x y) (x ≡ y)
-eq_by_cmp-Decides {R = R} total exact x y = (λ e. exact x y ((Equal-is (R x y)).0 e), λ same. (Equal-is (R x y)).1 (ap (R x) (sym same) ∙ tied_itself total x))
+pub eq_by_cmp-Decides : {K : Type 0} {R : K → K → Ordering} → IsTotalOrder R → IsAntisymmetric R → (x y : K)
+    → Decides (eq_by_cmp R x y) (x ≡ y)
+eq_by_cmp-Decides {R = R} total exact x y =
+    (λ e. exact x y ((Equal-is (R x y)).0 e), λ same. (Equal-is (R x y)).1 (ap (R x) (sym same) ∙ tied_itself total x))
 
 -- a test of equality agrees with such an order
-pub ties_from_Decides : {K : Type 0} {R : K → K → Ordering} (E : K → K → Bool) → IsTotalOrder R → IsAntisymmetric R → ((x y : K) → Decides (E x y) (x ≡ y)) → (x y : K) → E x y ≡ eq_by_cmp R x y
-ties_from_Decides {R = R} E total exact decides x y = same_from_decides (E x y) (eq_by_cmp R x y) (decides x y) (eq_by_cmp-Decides total exact x y)
+pub ties_from_Decides : {K : Type 0} {R : K → K → Ordering} (E : K → K → Bool) → IsTotalOrder R → IsAntisymmetric R
+    → ((x y : K) → Decides (E x y) (x ≡ y)) → (x y : K) → E x y ≡ eq_by_cmp R x y
+ties_from_Decides {R = R} E total exact decides x y =
+    same_from_decides (E x y) (eq_by_cmp R x y) (decides x y) (eq_by_cmp-Decides total exact x y)
 
 both_equal : (a b : Ordering) → ordering_then a b ≡ Equal → (a ≡ Equal) × (b ≡ Equal)
 both_equal Less b e = absurd (true≢false (sym (ap is_eq e)))
@@ -54,8 +59,10 @@ grain_cmp_exact g h e =
 
 pub grain_eq_decides : (g h : Grain) → Decides (grain_eq g h) (g ≡ h)
 grain_eq_decides g h =
-    Decides-like (grain_eq g h) (λ parts. same_grain g h parts.0.0 parts.0.1 parts.1) (λ same. ((ap (λ x. x.kind) same, ap (λ x. x.tenant) same), ap (λ x. x.name) same))
-    (Decides-and _ _ (Decides-and _ _ (same_text_decides g.kind h.kind) (same_text_decides g.tenant h.tenant)) (same_text_decides g.name h.name))
+    Decides-like (grain_eq g h) (λ parts. same_grain g h parts.0.0 parts.0.1 parts.1)
+    (λ same. ((ap (λ x. x.kind) same, ap (λ x. x.tenant) same), ap (λ x. x.name) same))
+    (Decides-and _ _ (Decides-and _ _ (same_text_decides g.kind h.kind) (same_text_decides g.tenant h.tenant))
+    (same_text_decides g.name h.name))
 
 pub grain_eq_equiv : IsEquivalence grain_eq
 grain_eq_equiv = and_equiv (and_equiv (on_texts_equal (λ g. g.kind)) (on_texts_equal (λ g. g.tenant))) (on_texts_equal (λ g. g.name))

@@ -35,7 +35,8 @@ IfFaulty (Err faults.Client) said = said
 -- what stands before the first such byte, and what stands after it
 unfoldable pub cut_at : ℕ → List ℕ → Option (List ℕ × List ℕ)
 cut_at byte bytes =
-    if nat_lt (position_or_len (λ b. b == byte) bytes) (length bytes) then Some (before_first (λ b. b == byte) bytes, after_first (λ b. b == byte) bytes) else None
+    if nat_lt (position_or_len (λ b. b == byte) bytes) (length bytes) then Some
+    (before_first (λ b. b == byte) bytes, after_first (λ b. b == byte) bytes) else None
 
 -- a part that passes its test
 abbrev pub part : (List ℕ → Bool) → IdFault → List ℕ → Result (List ℕ) IdFault

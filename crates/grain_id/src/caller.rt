@@ -7,7 +7,7 @@ ghost use Rattle.std.specs.Hash.{same_Alike};
 ghost use Rattle.std.specs.Cmp.{partial_equiv_from_equiv};
 ghost use Rattle.grain_id.specs.Names.{is_client, client_text, client_eq, client_cmp, IsTextOfClient, IsTextOfNoClient};
 ghost use Rattle.grain_id.specs.Reading.{Gives, IfFaulty, caller_read};
-ghost use Rattle.grain_id.specs.Places.{IsPlacedClient};
+ghost use Rattle.grain_id.specs.inside.Places.{IsPlacedClient};
 ghost use Rattle.grain_id.specs.Order.{client_cmp_total, client_cmp_partial, client_eq_equiv, client_eq_decides, client_ties};
 
 use crate::fault::IdFault;
@@ -39,7 +39,7 @@ impl Model for Caller {
     ghost use Rattle.std.specs.Arc.{arc_value};
     ghost use Rattle.std.specs.Prelude.{string_bytes};
     ghost use Rattle.grain_id.specs.Names.{Client};
-    ghost use Rattle.grain_id.specs.Places.{client_at, IsPlacedClient};
+    ghost use Rattle.grain_id.specs.inside.Places.{client_at, IsPlacedClient};
 
     ghost Value = { Client };
 

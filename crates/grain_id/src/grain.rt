@@ -7,7 +7,7 @@ ghost use Rattle.std.specs.Hash.{same_Alike};
 ghost use Rattle.std.specs.Cmp.{partial_equiv_from_equiv};
 ghost use Rattle.grain_id.specs.Names.{is_grain, grain_text, grain_eq, grain_cmp, IsTextOfGrain, IsTextOfNoGrain};
 ghost use Rattle.grain_id.specs.Reading.{Gives, IfFaulty, grain_read};
-ghost use Rattle.grain_id.specs.Places.{IsPlacedGrain};
+ghost use Rattle.grain_id.specs.inside.Places.{IsPlacedGrain};
 ghost use Rattle.grain_id.specs.Order.{grain_cmp_total, grain_cmp_partial, grain_eq_equiv, grain_eq_decides, grain_ties};
 
 use crate::fault::IdFault;
@@ -41,7 +41,7 @@ impl Model for GrainId {
     ghost use Rattle.std.specs.Arc.{arc_value};
     ghost use Rattle.std.specs.Prelude.{string_bytes};
     ghost use Rattle.grain_id.specs.Names.{Grain};
-    ghost use Rattle.grain_id.specs.Places.{grain_at, IsPlacedGrain};
+    ghost use Rattle.grain_id.specs.inside.Places.{grain_at, IsPlacedGrain};
 
     ghost Value = { Grain };
 

@@ -1,5 +1,5 @@
 -- Rows of one version are the same exactly where their contents are.
-use Rattle.std.proofs.Common.{◌≡◌, Bool, Option, Some, None, IsTrue, ap, sym, ◌∙◌}
+use Rattle.std.proofs.Common.{◌≡◌, Bool, Some, IsTrue, ap, sym, ◌∙◌}
 use Rattle.std.specs.Prelude.{◌↔◌}
 use Rattle.std.proofs.lemmas.Option.{same_Some}
 use Rattle.request_codec.specs.Tree.{Tree}

@@ -19,10 +19,12 @@ pub record Counted (failures count : ℕ) : Type 0 where
 
 -- A call that changes a row answers as `planned` says, and leaves its rows; or it failed, or memory was refused.
 -- `planned` has the row's version after the call, and `answer` is the same of what the call gives.
-abbrev pub ChangeAnswers : {A : Type 0} → (A → Option ℕ) → Result (Option ℕ × Rows) RowFault → Rows → ℕ → Result A StoreFault → Rows → ℕ → Type 0
+abbrev pub ChangeAnswers : {A : Type 0} → (A → Option ℕ) → Result (Option ℕ × Rows) RowFault → Rows → ℕ → Result A StoreFault → Rows
+    → ℕ → Type 0
 ChangeAnswers answer planned rows failures (Ok given) after count = (planned ≡ Ok (answer given, after)) × (count ≡ failures)
 ChangeAnswers answer planned rows failures (Err Failed) after count = (after ≡ rows) × Counted failures count
-ChangeAnswers answer planned rows failures (Err (Stale found)) after count = (planned ≡ Err (stale found)) × (after ≡ rows) × (count ≡ failures)
+ChangeAnswers answer planned rows failures (Err (Stale found)) after count =
+    (planned ≡ Err (stale found)) × (after ≡ rows) × (count ≡ failures)
 ChangeAnswers answer planned rows failures (Err Spent) after count = (planned ≡ Err spent) × (after ≡ rows) × (count ≡ failures)
 ChangeAnswers answer planned rows failures (Err Memory) after count = (after ≡ rows) × (count ≡ failures)
 
@@ -36,7 +38,8 @@ ReadAnswers rows failures grain (Err Memory) after count = (after ≡ rows) × (
 
 -- A write gives the row's new version.
 abbrev pub WriteAnswers : Rows → ℕ → Grain → Option ℕ → Tree → Result ℕ StoreFault → Rows → ℕ → Type 0
-WriteAnswers rows failures grain expected content = ChangeAnswers (λ version. Some version) (written rows grain expected content) rows failures
+WriteAnswers rows failures grain expected content =
+    ChangeAnswers (λ version. Some version) (written rows grain expected content) rows failures
 
 -- A clearing gives the row's new version, or none where there is no row.
 abbrev pub ClearAnswers : Rows → ℕ → Grain → Option ℕ → Result (Option ℕ) StoreFault → Rows → ℕ → Type 0

@@ -33,8 +33,11 @@ PutAnswers rows grain content (Err Memory) after = after ≡ rows
 
 -- A row that is there went one version on and has this content, if the expected version is its own and isn't the last one.
 abbrev pub RowAnswers : Option ℕ → Row → Option Tree → Result ℕ StoreFault → Row → Type 0
-RowAnswers expected row content (Ok version) after = (is_stale expected (Some row) ≡ false) × (is_spent (Some row) ≡ false) × (version ≡ row.version + 1) × (after ≡ record { version = row.version + 1; content = content })
+RowAnswers expected row content (Ok version) after =
+    (is_stale expected (Some row) ≡ false) × (is_spent (Some row) ≡ false) × (version ≡ row.version + 1)
+    × (after ≡ record { version = row.version + 1; content = content })
 RowAnswers expected row content (Err Failed) after = ⊥
-RowAnswers expected row content (Err (Stale found)) after = (is_stale expected (Some row) ≡ true) × (found ≡ Some row.version) × (after ≡ row)
+RowAnswers expected row content (Err (Stale found)) after =
+    (is_stale expected (Some row) ≡ true) × (found ≡ Some row.version) × (after ≡ row)
 RowAnswers expected row content (Err Spent) after = (is_stale expected (Some row) ≡ false) × (is_spent (Some row) ≡ true) × (after ≡ row)
 RowAnswers expected row content (Err Memory) after = ⊥

@@ -14,7 +14,9 @@ Rows = FinMap grain_cmp Row
 
 -- a row is stored as its parts
 abbrev pub coded_row : Coded Row
-coded_row = code_by (ℕ × Option Tree) (coded× coded_ℕ (coded_option coded_tree)) (λ r. (r.version, r.content)) (λ p. record { version = p.0; content = p.1 }) (λ _. refl)
+coded_row =
+    code_by (ℕ × Option Tree) (coded× coded_ℕ (coded_option coded_tree)) (λ r. (r.version, r.content))
+    (λ p. record { version = p.0; content = p.1 }) (λ _. refl)
 
 abbrev pub coded_rows : Coded Rows
 coded_rows = map.code coded_grain coded_row

@@ -2,7 +2,7 @@
 
 ghost use Rattle.std.specs.Prelude.{◌≡◌, ◌≢◌, ◌+◌, ◌↔◌, IsTrue};
 ghost use Rattle.grain_storage.specs.Answers.{ReadAnswers, WriteAnswers, ClearAnswers, PokeAnswers, Counted};
-ghost use Rattle.grain_storage.specs.Fuse.{failures_of, made_after, IsFusedCall};
+ghost use Rattle.grain_storage.specs.inside.Fuse.{failures_of, made_after, IsFusedCall};
 ghost use Rattle.grain_storage.specs.declared.fault.StoreFault.TheVariants.{Failed};
 
 use crate::fault::StoreFault;
@@ -26,7 +26,7 @@ pub struct FusedStorage {
 impl Model for FusedStorage {
     ghost use Rattle.std.specs.Prelude.{◌≤◌};
     ghost use Rattle.grain_storage.specs.Answers.{last_count};
-    ghost use Rattle.grain_storage.specs.Fuse.{Fused, coded_fused};
+    ghost use Rattle.grain_storage.specs.inside.Fuse.{Fused, coded_fused};
 
     ghost Value = { Fused };
 
@@ -112,7 +112,8 @@ impl GrainStorage for FusedStorage {
         expected: Option<u64>,
         content: StateBytes,
     ) -> Result<u64, StoreFault>
-        ensures answers { WriteAnswers self.old.rows (failures_of self.old) grain.now expected content result self.new.rows (failures_of self.new) }
+        ensures answers { WriteAnswers self.old.rows (failures_of self.old) grain.now expected content result self.new.rows
+            (failures_of self.new) }
         ensures fused { IsFusedCall self.old result self.new }
     {
         if self.fails_now() {

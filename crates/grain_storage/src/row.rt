@@ -2,7 +2,7 @@
 
 ghost use Rattle.std.specs.Prelude.{◌≡◌, ◌↔◌, IsTrue};
 ghost use Rattle.std.specs.Cmp.{partial_equiv_from_equiv};
-ghost use Rattle.grain_storage.specs.RowEquality.{same_row, same_row_equiv};
+ghost use Rattle.grain_storage.specs.inside.RowEquality.{same_row, same_row_equiv};
 
 use request_codec::StateBytes;
 use std::alloc::AllocError;

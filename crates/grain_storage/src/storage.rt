@@ -42,7 +42,8 @@ pub trait GrainStorage {
         expected: Option<u64>,
         content: StateBytes,
     ) -> Result<u64, StoreFault>
-        ensures answers { WriteAnswers (rows self.old) (failed self.old) grain.now expected content result (rows self.new) (failed self.new) };
+        ensures answers { WriteAnswers (rows self.old) (failed self.old) grain.now expected content result (rows self.new)
+            (failed self.new) };
 
     /// Takes the content of the grain's row, where it has the expected version; the row stays, one
     /// version on. Its new version, or `None` where there is no row and none is expected.

@@ -4,12 +4,13 @@ use Rattle.std.specs.Option.{option_or}
 use Rattle.std.specs.Prelude.{Err, find, IfSome}
 use Rattle.grain_id.specs.Names.{same_text}
 use Rattle.std.proofs.lemmas.Bool.Decides.{nat_tests}
+use Rattle.finite_maps.proofs.Options.{none_from_option_map, none_from_or}
 use Rattle.tenant_gate.specs.declared.limits.Limits.{Limits}
 use Rattle.tenant_gate.specs.declared.fault.TableFault.{TableFault}
 use Rattle.tenant_gate.specs.declared.fault.TableFault.TheVariants as faults
 use Rattle.tenant_gate.specs.Table.{Table, table_fault, first_repeat, first_out_of_range, names_of, most_tenants, are_in_range, limits_of}
-use Rattle.tenant_gate.specs.Answers.{TableAnswers}
-use Rattle.tenant_gate.specs.Index.{IndexRefused}
+use Rattle.tenant_gate.specs.inside.Answers.{TableAnswers}
+use Rattle.tenant_gate.specs.inside.Index.{IndexRefused}
 
 module _ (list : Table) where
   abbrev by_name : Option TableFault
@@ -48,14 +49,6 @@ module _ (list : Table) where
 
 -- ---- the limits of a table
 
-none_before : {A : Type 0} (o p : Option A) → option_or o p ≡ None → p ≡ None
-none_before None p e = e
-none_before (Some x) p e = absurd cc
-
-none_under : {A B : Type 0} (f : A → B) (o : Option A) → option_map f o ≡ None → o ≡ None
-none_under f None e = refl
-none_under f (Some x) e = absurd cc
-
 abbrev misfit : Table → Option (List ℕ × Limits)
 misfit table = find (λ entry. not (are_in_range entry.1)) table
 
@@ -80,5 +73,5 @@ limits_of-in_range table sound tenant = at (length table == 0) refl (nat_lt most
     at true e many m = absurd (let is = by_tests table true many e m in cc)
     at false e true m = absurd (let is = by_tests table false true e m in cc)
     at false e false m =
-        in_range_by table (none_under (λ entry. entry.0) (find (λ entry. not (are_in_range entry.1)) table)
-        (none_under faults.Range (first_out_of_range table) (none_before (option_map faults.Twice (first_repeat [] (names_of table))) (option_map faults.Range (first_out_of_range table)) (sym (by_tests table false false e m) ∙ sound)))) tenant
+        in_range_by table (none_from_option_map (λ entry. entry.0) (find (λ entry. not (are_in_range entry.1)) table)
+        (none_from_option_map faults.Range (first_out_of_range table) (none_from_or (option_map faults.Twice (first_repeat [] (names_of table))) (option_map faults.Range (first_out_of_range table)) (sym (by_tests table false false e m) ∙ sound)).1)) tenant

@@ -1,5 +1,6 @@
 -- The tenants that a silo serves, each with its limits, in the order in which they were given.
-use Rattle.std.specs.Prelude.{ℕ, Bool, not, ◌&&◌, nat_le, nat_lt, List, [], ◌∷◌, ◌++◌, length, map, Option, Some, None, option_map, Result, Ok, Err, if◌then◌else◌, find, ◌==◌}
+use Rattle.std.specs.Prelude.{ℕ, Bool, not, ◌&&◌, nat_le, nat_lt, List, [], ◌∷◌, ◌++◌, length, map, Option, Some, None, option_map}
+use Rattle.std.specs.Prelude.{Result, Ok, Err, if◌then◌else◌, find, ◌==◌}
 use Rattle.std.specs.List.{list_any}
 use Rattle.std.specs.Option.{option_or}
 use Rattle.std.specs.Map.{lookup}
@@ -20,7 +21,9 @@ Table = List (List ℕ × Limits)
 
 -- limits are stored as their parts
 abbrev pub coded_limits : Coded Limits
-coded_limits = code_by (ℕ × ℕ) (coded× coded_ℕ coded_ℕ) (λ l. (l.activations, l.mailbox)) (λ p. record { activations = p.0; mailbox = p.1 }) (λ _. refl)
+coded_limits =
+    code_by (ℕ × ℕ) (coded× coded_ℕ coded_ℕ) (λ l. (l.activations, l.mailbox))
+    (λ p. record { activations = p.0; mailbox = p.1 }) (λ _. refl)
 
 abbrev pub coded_table : Coded Table
 coded_table = coded_list (coded× (coded_list coded_ℕ) coded_limits)

@@ -5,8 +5,8 @@ ghost use Rattle.grain_id.specs.Names.{same_text};
 ghost use Rattle.std.specs.Option.{option_map};
 ghost use Rattle.indexmap.specs.IndexMap.{get_by_text};
 ghost use Rattle.tenant_gate.specs.Table.{table_fault, limits_of, call_fault, are_in_range, first_out_of_range};
-ghost use Rattle.tenant_gate.specs.Answers.{TableAnswers, CallAnswers};
-ghost use Rattle.tenant_gate.specs.Index.{IndexAnswers};
+ghost use Rattle.tenant_gate.specs.inside.Answers.{TableAnswers, CallAnswers};
+ghost use Rattle.tenant_gate.specs.inside.Index.{IndexAnswers};
 
 use crate::fault::{GateFault, TableFault};
 use crate::gate::{GateRefusal, judge};
@@ -31,7 +31,7 @@ impl Model for TenantTable {
 
     ghost coded = { coded_table };
 
-    ghost use Rattle.tenant_gate.specs.Index.{IsIndexed};
+    ghost use Rattle.tenant_gate.specs.inside.Index.{IsIndexed};
 
     ghost view = { λ table. table.list.items };
 
@@ -138,7 +138,8 @@ fn add(
     tenant: &Tenant,
     limits: Limits,
 ) -> Result<(), AllocError>
-    ensures { OnOk result ((name : List ℕ) → get_by_text index.new name ≡ (if same_text tenant.now name then Some limits else get_by_text index.old name)) }
+    ensures { OnOk result
+        ((name : List ℕ) → get_by_text index.new name ≡ (if same_text tenant.now name then Some limits else get_by_text index.old name)) }
 {
     index.insert(String::from_str(alloc, tenant.text())?, limits)?;
     Ok(())

@@ -13,14 +13,19 @@ use Rattle.std.specs.FinMap as map
 use Rattle.std.specs.FinMap.{nat_cmp-IsAntisymmetric, find, from_entries, is_sorted}
 use Rattle.std.specs.FinMap.Entries.{below_all}
 use Rattle.std.proofs.lemmas.Bool.Decides.{Decides-eqb, same_from_decides}
+use Rattle.finite_maps.proofs.Choices.{cond-apart}
+use Rattle.finite_maps.proofs.Ascending.{entries-ascending}
+use Rattle.finite_maps.proofs.Entries.{get-lookup}
+use Rattle.finite_maps.specs.Keys.{AreKeys}
+use Rattle.finite_maps.proofs.Keys.{key_ties, key_turned, keys_by_order, numbers, same_key}
 use Rattle.grain_id.specs.Names.{Client}
 use Rattle.grain_id.proofs.Order.{eq_by_cmp-Decides}
-use Rattle.grain_id.proofs.Maps as maps
+use Rattle.finite_maps.proofs.Maps as maps
 use Rattle.turn_mailbox.specs.declared.request.Request.{Request}
 use Rattle.turn_mailbox.specs.Contents.{is_from}
-use Rattle.turn_mailbox.specs.Beside.{with_one, IsBeside, is_one, is_from_one}
+use Rattle.turn_mailbox.specs.inside.Beside.{with_one, IsBeside, is_one, is_from_one}
 use Rattle.turn_mailbox.proofs.Rule.{Turns}
-use Rattle.turn_mailbox.proofs.Values.{any-insert}
+use Rattle.finite_maps.proofs.Values.{any-insert}
 
 abbrev Others : Type 0
 Others = BTreeMap ℕ Request
@@ -32,17 +37,20 @@ shown m = from_entries m.entries
 alike : (m n : Turns) → ((q : ℕ) → map.get m q ≡ map.get n q) → m ≡ n
 alike = maps.alike nat_cmp_total nat_cmp-IsAntisymmetric
 
+by_order : AreKeys (eq_by_cmp nat_cmp) nat_cmp
+by_order = keys_by_order nat_cmp_total nat_cmp-IsAntisymmetric
+
 tied : (q k : ℕ) → eq_by_cmp nat_cmp q k ≡ true → q ≡ k
-tied q k = (eq_by_cmp-Decides nat_cmp_total nat_cmp-IsAntisymmetric q k).0
+tied = same_key by_order
 
 same : (n k : ℕ) → (n == k) ≡ true → n ≡ k
-same n k = (Decides-eqb n k).0
+same = same_key numbers
 
 differ : (n k : ℕ) → (n == k) ≡ false → eq_by_cmp nat_cmp n k ≡ false
-differ n k e = same_from_decides (eq_by_cmp nat_cmp n k) (n == k) (eq_by_cmp-Decides nat_cmp_total nat_cmp-IsAntisymmetric n k) (Decides-eqb n k) ∙ e
+differ n k e = key_ties numbers n k ∙ e
 
 turned : (n k : ℕ) → eq_by_cmp nat_cmp n k ≡ eq_by_cmp nat_cmp k n
-turned = (eq_by_cmp_equiv nat_cmp_total).symm
+turned = key_turned by_order
 
 -- ---- what is found
 
@@ -54,12 +62,8 @@ pub get-beside : (one : Option Request) (others : Turns) (n : ℕ) → is_one n 
 get-beside None others n e = refl
 get-beside (Some turn) others n e = sym (maps.get-insert_other nat_cmp_total nat_cmp-IsAntisymmetric others turn.number n turn (turned n turn.number ∙ differ turn.number n e))
 
-find-entries : (es : List (ℕ × Request)) (q : ℕ) → find nat_cmp q es ≡ lookup (λ k. is_eq (nat_cmp q k)) es
-find-entries [] q = refl
-find-entries (e ∷ es) q = ap (cond (eq_by_cmp nat_cmp q e.0) (Some e.1)) (find-entries es q)
-
 pub get-others : (m : Others) (q : ℕ) → map.get (shown m) q ≡ tree.get nat_cmp m q
-get-others m q = map.get-from_entries nat_cmp_total m.entries q ∙ find-entries m.entries q
+get-others m q = get-lookup by_order m.entries q
 
 pub get-some : (one : Option Request) (others : Turns) (turn : Request) → one ≡ Some turn → map.get (with_one one others) turn.number ≡ Some turn
 get-some one others turn e = ap (λ o. map.get (with_one o others) turn.number) e ∙ maps.get-insert_same nat_cmp_total nat_cmp-IsAntisymmetric others turn.number turn
@@ -75,10 +79,7 @@ one-again (Some before) others n turn e =
 -- where no turn is open
 no_turn : (one : Option Request) (others : Turns) → map.len (with_one one others) ≡ 0 → (one ≡ None) × (others ≡ map.empty)
 no_turn None others e = (refl, map.empty_of_len others e)
-no_turn (Some turn) others e =
-    let there : map.get (map.insert others turn.number turn) turn.number ≡ Some turn = maps.get-insert_same nat_cmp_total nat_cmp-IsAntisymmetric others turn.number turn in
-    let gone : map.get (map.insert others turn.number turn) turn.number ≡ None = ap (λ (m : Turns). map.get m turn.number) (map.empty_of_len (map.insert others turn.number turn) e) ∙ map.get-empty nat_cmp turn.number in
-    absurd (cc (there, gone))
+no_turn (Some turn) others e = absurd (maps.found_some (map.insert others turn.number turn) turn.number turn (maps.get-insert_same nat_cmp_total nat_cmp-IsAntisymmetric others turn.number turn) e)
 
 pub beside-first : (one : Option Request) (others : Turns) (n : ℕ) → (map.len (with_one one others) == 0) ≡ true → map.get others n ≡ None
 beside-first one others n e = ap (λ (m : Turns). map.get m n) (no_turn one others (same (map.len (with_one one others)) 0 e)).1 ∙ map.get-empty nat_cmp n
@@ -90,15 +91,10 @@ one-first one others e = ap (λ o. with_one o others) (sym (no_turn one others (
 pub one-removed : (one : Option Request) (others : Turns) (n : ℕ) → IsBeside one others → is_one n one ≡ true → others ≡ map.remove (with_one one others) n
 one-removed None others n beside e = absurd (true≢false (sym e))
 one-removed (Some turn) others n beside e =
-    sym (maps.remove-insert nat_cmp_total nat_cmp-IsAntisymmetric others turn.number turn ∙ maps.remove-absent nat_cmp_total nat_cmp-IsAntisymmetric others turn.number beside)
+    sym (maps.taken_back nat_cmp_total nat_cmp-IsAntisymmetric others turn.number turn beside)
     ∙ ap (map.remove (map.insert others turn.number turn)) (same turn.number n e)
 
 -- ---- a change of the map, at another number than that of the one in place
-
-apart : (b c : Bool) (x y z : Option Request) → (b ≡ true → c ≡ true → ⊥) → cond b x (cond c y z) ≡ cond c y (cond b x z)
-apart true true x y z h = absurd (h refl refl)
-apart true false x y z h = refl
-apart false c x y z h = refl
 
 module _ (m n : Others) (k : ℕ) (o : Option Request) (u : UpdatesBy nat_cmp (nat_cmp k) m n o) where
   get-updated : (q : ℕ) → map.get (shown n) q ≡ cond (eq_by_cmp nat_cmp q k) o (map.get (shown m) q)
@@ -113,7 +109,7 @@ module _ (m n : Others) (k : ℕ) (o : Option Request) (u : UpdatesBy nat_cmp (n
   get-with_one (Some turn) e q =
       map.get-insert nat_cmp_total (shown n) turn.number turn q
       ∙ ap (cond (eq_by_cmp nat_cmp q turn.number) (Some turn)) (get-updated q)
-      ∙ apart (eq_by_cmp nat_cmp q turn.number) (eq_by_cmp nat_cmp q k) (Some turn) o (map.get (shown m) q)
+      ∙ cond-apart (eq_by_cmp nat_cmp q turn.number) (eq_by_cmp nat_cmp q k) (Some turn) o (map.get (shown m) q)
       (λ a b. true≢false (sym ((Decides-eqb turn.number k).1 (sym (tied q turn.number a) ∙ tied q k b)) ∙ e))
       ∙ ap (cond (eq_by_cmp nat_cmp q k) o) (sym (map.get-insert nat_cmp_total (shown m) turn.number turn q))
 
@@ -125,20 +121,8 @@ other-removed one m n k u e = alike _ _ (λ q. get-with_one m n k None u one e q
 
 -- ---- all turns
 
-below-keys : (k : ℕ) (es : List (ℕ × Request)) → AllByRecursion (λ y. nat_cmp k y ≡ Less) (keys_of es) → below_all nat_cmp k es ≡ true
-below-keys k [] h = refl
-below-keys k (e ∷ es) h = ap (λ b. b && below_all nat_cmp k es) (ap is_lt h.0) ∙ below-keys k es h.1
-
-sorted-keys : (es : List (ℕ × Request)) → IsStrictlySortedBy nat_cmp (keys_of es) → is_sorted nat_cmp es ≡ true
-unfolding IsStrictlySortedBy
-sorted-keys [] h = refl
-sorted-keys (e ∷ es) h = ap (λ b. b && is_sorted nat_cmp es) (below-keys e.0 es h.0) ∙ sorted-keys es h.1
-
 entries-shown : (m : Others) → IsOrdered nat_cmp m → map.entries (shown m) ≡ m.entries
-entries-shown m ordered =
-    let sorted : T (is_sorted nat_cmp m.entries) = subst T (sym (sorted-keys m.entries ordered)) tt in
-    ap map.entries (alike (shown m) (map.from_sorted m.entries) (λ q. map.get-from_entries nat_cmp_total m.entries q ∙ sym (map.get-from_sorted nat_cmp m.entries q sorted)))
-    ∙ map.entries-from_sorted nat_cmp m.entries sorted
+entries-shown m ordered = entries-ascending nat_cmp_total nat_cmp-IsAntisymmetric m.entries ordered
 
 -- whether there is none
 pub none-shown : (one : Option Request) (m : Others) → IsOrdered nat_cmp m → one ≡ None → (length m.entries == 0) ≡ (map.len (with_one one (shown m)) == 0)
@@ -157,7 +141,7 @@ module _ (client : Client) (one : Option Request) (m : Others) (beside : IsBesid
       by None beside = ap (λ es. list_any (is_from client) (values_of es)) (sym (entries-shown m ordered))
       by (Some turn) beside =
           ap (λ es. is_from client turn || list_any (is_from client) (values_of es)) (sym (entries-shown m ordered))
-          ∙ sym (any-insert nat_cmp_total nat_cmp-IsAntisymmetric (is_from client) (shown m) turn.number turn beside)
+          ∙ sym (any-insert nat_cmp_total (is_from client) (shown m) turn.number turn beside)
 
   either_true : (b c : Bool) → c ≡ true → c ≡ b || c
   either_true true c e = e

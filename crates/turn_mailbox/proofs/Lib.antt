@@ -1,4 +1,2 @@
-pub mod Values
 pub mod Rule
 pub mod Beside
-pub mod Mapped

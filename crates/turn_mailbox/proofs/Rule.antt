@@ -6,22 +6,21 @@ use Rattle.std.specs.List.{list_all}
 use Rattle.std.specs.FinMap as map
 use Rattle.std.specs.FinMap.{FinMap, nat_cmp-IsAntisymmetric}
 use Rattle.std.proofs.lemmas.Bool.Decides.{Decides-eqb}
+use Rattle.std.proofs.lemmas.Option.{same_Some}
+use Rattle.finite_maps.proofs.Maps.{found_some}
 use Rattle.turn_mailbox.specs.declared.request.Request.{Request}
 use Rattle.turn_mailbox.specs.Contents.{may_open, front_may_open, KeepsRule}
 use Rattle.grain_id.proofs.Order.{eq_by_cmp-Decides}
-use Rattle.turn_mailbox.proofs.Values.{all-values, of-all-values}
+use Rattle.finite_maps.proofs.Values.{values_pass, found_passes}
 
 abbrev pub Turns : Type 0
 Turns = FinMap nat_cmp Request
 
 all_reading : (opened : Turns) → ((n : ℕ) (turn : Request) → map.get opened n ≡ Some turn → turn.reading ≡ true) → list_all (λ turn. turn.reading) (map.values opened) ≡ true
-all_reading = all-values nat_cmp_total nat_cmp-IsAntisymmetric (λ turn. turn.reading)
+all_reading = values_pass nat_cmp_total (λ turn. turn.reading)
 
 each_reading : (opened : Turns) (n : ℕ) (turn : Request) → map.get opened n ≡ Some turn → list_all (λ turn. turn.reading) (map.values opened) ≡ true → turn.reading ≡ true
-each_reading = of-all-values nat_cmp_total nat_cmp-IsAntisymmetric (λ turn. turn.reading)
-
-one_turn : (x y : Request) → Some x ≡ Some y → x ≡ y
-one_turn x y e = cc (e)
+each_reading = found_passes (λ turn. turn.reading)
 
 -- ---- what one open turn tells
 
@@ -29,14 +28,13 @@ module _ (opened : Turns) (rule : KeepsRule opened) (n : ℕ) (turn : Request) (
   some_open : (b : Bool) → (map.len opened == 0) ≡ b → false ≡ b
   some_open false e = refl
   some_open true e =
-      let none : map.get opened n ≡ None = ap (λ (m : Turns). map.get m n) (map.empty_of_len opened ((Decides-eqb (map.len opened) 0).0 e)) ∙ map.get-empty nat_cmp n in
-      absurd (cc (none, found))
+      absurd (found_some opened n turn found ((Decides-eqb (map.len opened) 0).0 e))
 
   reads_too : (b : Bool) → turn.reading ≡ b → b ≡ true → (k : ℕ) (other : Request) (c : Bool) → map.get opened k ≡ Some other → other.reading ≡ c → c ≡ true
   reads_too b t e k other true at f = refl
   reads_too b t e k other false at f =
       let here : k ≡ n = rule k n other turn at found f in
-      let same : other ≡ turn = one_turn other turn (sym at ∙ ap (map.get opened) here ∙ found) in
+      let same : other ≡ turn = same_Some other turn (sym at ∙ ap (map.get opened) here ∙ found) in
       sym f ∙ ap (λ (r : Request). r.reading) same ∙ t ∙ e
 
   all_read : (b : Bool) → turn.reading ≡ b → (c : Bool) → list_all (λ turn. turn.reading) (map.values opened) ≡ c → b ≡ c
@@ -74,7 +72,7 @@ rule-removed opened k rule n m turn beside at other = rule n m turn beside
 
 module _ (opened : Turns) (first : Request) where
   reads_on : first.reading ≡ true → list_all (λ turn. turn.reading) (map.values opened) ≡ true → (n : ℕ) (turn : Request) (b : Bool) → cond b (Some first) (map.get opened n) ≡ Some turn → turn.reading ≡ true
-  reads_on reads all n turn true e = ap (λ (r : Request). r.reading) (sym (one_turn first turn e)) ∙ reads
+  reads_on reads all n turn true e = ap (λ (r : Request). r.reading) (sym (same_Some first turn e)) ∙ reads
   reads_on reads all n turn false e = each_reading opened n turn e all
 
   only_first : map.len opened ≡ 0 → (n : ℕ) (turn : Request) (b : Bool) → eq_by_cmp nat_cmp n first.number ≡ b → cond b (Some first) (map.get opened n) ≡ Some turn → n ≡ first.number

@@ -1,5 +1,6 @@
 -- What a mailbox holds, which of its requests may begin, and what its calls leave.
-use Rattle.std.specs.Prelude.{◌≡◌, ℕ, Bool, false, ◌&&◌, ◌||◌, ◌==◌, List, [], ◌∷◌, Option, Some, None, Result, Ok, Err, length, if◌then◌else◌}
+use Rattle.std.specs.Prelude.{◌≡◌, ℕ, Bool, false, ◌&&◌, ◌||◌, ◌==◌, List, [], ◌∷◌, Option, Some, None, Result, Ok, Err, length}
+use Rattle.std.specs.Prelude.{if◌then◌else◌}
 use Rattle.std.specs.Ordering.{nat_cmp}
 use Rattle.std.specs.List.{list_all, list_any}
 use Rattle.std.specs.FinMap as map
@@ -39,7 +40,8 @@ begun mail (first ∷ others) = record mail { waiting = others; opened = map.ins
 -- the turn of the first waiting request, for this grain in this state
 abbrev pub turn_of : Grain → Tree → List Request → Option OpenedTurn
 turn_of grain state [] = None
-turn_of grain state (first ∷ others) = Some (record { grain = grain; number = first.number; reading = first.reading; state = state; message = first.message })
+turn_of grain state (first ∷ others) =
+    Some (record { grain = grain; number = first.number; reading = first.reading; state = state; message = first.message })
 
 -- ---- what is asked of a mailbox
 
@@ -63,11 +65,14 @@ has_from mail client = list_any (is_from client) mail.waiting || list_any (is_fr
 
 -- The turn of that number is closed. Where none is open, nothing changes.
 abbrev pub Finishes : {E : Type 0} → Contents → ℕ → Result Request E → Contents → Type 0
-Finishes before number (Ok request) after = (map.get before.opened number ≡ Some request) × (after ≡ record before { opened = map.remove before.opened number })
+Finishes before number (Ok request) after =
+    (map.get before.opened number ≡ Some request) × (after ≡ record before { opened = map.remove before.opened number })
 Finishes before number (Err none) after = (map.get before.opened number ≡ None) × (after ≡ before)
 
 -- ---- how a mailbox stays
 
 -- A turn that may write is open alone.
 abbrev pub KeepsRule : FinMap nat_cmp Request → Type 0
-KeepsRule opened = (number other : ℕ) (turn beside : Request) → map.get opened number ≡ Some turn → map.get opened other ≡ Some beside → turn.reading ≡ false → number ≡ other
+KeepsRule opened =
+    (number other : ℕ) (turn beside : Request) → map.get opened number ≡ Some turn → map.get opened other ≡ Some beside
+    → turn.reading ≡ false → number ≡ other

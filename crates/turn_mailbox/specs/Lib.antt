@@ -1,4 +1,3 @@
 pub mod Contents
-pub mod Beside
 pub mod Kept
-pub mod Mapped
+pub mod inside

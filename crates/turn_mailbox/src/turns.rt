@@ -7,7 +7,7 @@ ghost use Rattle.std.specs.FinMap as map;
 ghost use Rattle.std.specs.Ordering.{nat_cmp};
 ghost use Rattle.std.specs.BTreeMap.{values, IsOrdered};
 ghost use Rattle.turn_mailbox.specs.Contents.{is_from};
-ghost use Rattle.turn_mailbox.specs.Beside.{is_one, is_from_one};
+ghost use Rattle.turn_mailbox.specs.inside.Beside.{is_one, is_from_one};
 
 use crate::request::Request;
 use grain_id::Caller;
@@ -30,7 +30,7 @@ impl Model for Turns {
     ghost use Rattle.request_codec.specs.Code.{coded_tree};
     ghost use Rattle.turn_mailbox.specs.declared.request.Request.{Request};
     ghost use Rattle.turn_mailbox.specs.Kept.{by_number_code};
-    ghost use Rattle.turn_mailbox.specs.Beside.{with_one, IsBeside};
+    ghost use Rattle.turn_mailbox.specs.inside.Beside.{with_one, IsBeside};
 
     ghost Value = { FinMap nat_cmp Request };
 

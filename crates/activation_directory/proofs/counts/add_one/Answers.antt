@@ -1,6 +1,6 @@
-use Rattle.std.proofs.Common.{◌≡◌, ℕ, ◌+◌, cond, refl, ap, sym, ◌∙◌}
+use Rattle.std.proofs.Common.{◌+◌, cond, refl, ap, sym, ◌∙◌}
 use Rattle.std.specs.Prelude.{bytes_eq}
-use Rattle.activation_directory.specs.Counts.{kept}
+use Rattle.activation_directory.specs.inside.Counts.{kept}
 use Rattle.activation_directory.proofs.Numbers.{NumbersTo-from_updates, kept-some}
 use Rattle.activation_directory.proofs.counts.add_one.Goals as goal
 

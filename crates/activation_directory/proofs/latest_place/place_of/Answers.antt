@@ -3,7 +3,7 @@ use Rattle.std.specs.Map.{lookup}
 use Rattle.grain_id.specs.Names.{Grain, grain_eq}
 use Rattle.grain_id.proofs.Order.{grain_eq_decides}
 use Rattle.activation_directory.specs.declared.latest_place.LatestPlace.{LatestPlace}
-use Rattle.activation_directory.specs.LatestPlace.{place_in, LeadsTo}
+use Rattle.activation_directory.specs.inside.LatestPlace.{place_in, LeadsTo}
 use Rattle.activation_directory.proofs.latest_place.place_of.Goals as goal
 
 leads : (latest : Option LatestPlace) (es : List (Grain × ℕ)) (id : Grain) (place : ℕ) → LeadsTo latest es → place_in id latest ≡ Some place → Some place ≡ lookup (grain_eq id) es

@@ -1,6 +1,6 @@
 use Rattle.std.proofs.Common.{◌≡◌, [], take, drop}
 use Rattle.tenant_gate.specs.Table.{names_of, first_repeat}
-use Rattle.tenant_gate.specs.Index.{HasLimits}
+use Rattle.tenant_gate.specs.inside.Index.{HasLimits}
 use Rattle.tenant_gate.proofs.table.index_of.Given as goal
 
 -- the index of the tenants so far, none of which repeats another

@@ -1,9 +1,8 @@
-use Rattle.std.proofs.Common.{◌≡◌, ap, sym, ◌∙◌, None, Some}
+use Rattle.std.proofs.Common.{ap, sym, ◌∙◌}
 use Rattle.std.proofs.lemmas.Option.{slice_get-map}
 use Rattle.std.specs.Option.{option_map}
-use Rattle.activation_directory.specs.Places.{at_place}
-use Rattle.activation_directory.proofs.Places.{not_none}
-use Rattle.activation_directory.specs.Register.{Register}
+use Rattle.activation_directory.specs.inside.Places.{at_place}
+use Rattle.finite_maps.proofs.Options.{not_none}
 use Rattle.activation_directory.proofs.Registers.{get-shown}
 use Rattle.activation_directory.proofs.directory.Directory.at.Goals as goal
 

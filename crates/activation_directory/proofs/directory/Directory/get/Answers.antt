@@ -1,6 +1,5 @@
-use Rattle.std.proofs.Common.{◌≡◌, ap, sym, ◌∙◌}
-use Rattle.activation_directory.specs.Places.{at_place}
-use Rattle.activation_directory.specs.Register.{Register}
+use Rattle.std.proofs.Common.{ap, sym, ◌∙◌}
+use Rattle.activation_directory.specs.inside.Places.{at_place}
 use Rattle.activation_directory.proofs.Registers.{get-shown}
 use Rattle.activation_directory.proofs.directory.Directory.get.Goals as goal
 

@@ -1,16 +1,17 @@
-use Rattle.std.proofs.Common.{◌≡◌, None, ap, sym, ◌∙◌, refl}
-use Rattle.std.specs.Option.{ghost_name_of, option_copied_mut}
+use Rattle.std.proofs.Common.{ap, sym, ◌∙◌}
+use Rattle.std.specs.Option.{ghost_name_of}
 use mathlib.Core.Logic.{inr}
 use borrow.Follows.Closed.{read_of}
 use Rattle.slab.specs.Slab as slab
-use Rattle.activation_directory.specs.Places.{at_place}
-use Rattle.activation_directory.proofs.Places.{some_of, placed-written}
+use Rattle.grain_id.proofs.Keys.{grains}
+use Rattle.activation_directory.specs.inside.Places.{at_place}
+use Rattle.activation_directory.proofs.Places.{placed-written}
+use Rattle.finite_maps.proofs.Options.{some_from_IsSome}
 use Rattle.activation_directory.specs.declared.activation.Activation.{Activation}
-use Rattle.activation_directory.specs.Register.{Register}
-use Rattle.activation_directory.specs.Counts.{count_in}
-use Rattle.activation_directory.specs.Kept.{shown}
-use Rattle.activation_directory.specs.Lending.{with_activation}
-use Rattle.activation_directory.proofs.Sizes.{grains, count_in-written}
+use Rattle.activation_directory.specs.inside.Counts.{count_in}
+use Rattle.activation_directory.specs.inside.Kept.{shown}
+use Rattle.activation_directory.specs.inside.Lending.{with_activation}
+use Rattle.activation_directory.proofs.Sizes.{count_in-written}
 use Rattle.activation_directory.proofs.Registers.{get-shown, shown-written}
 use Rattle.activation_directory.proofs.directory.Directory.get_mut.Goals as goal
 
@@ -40,7 +41,7 @@ invariant_of-self-lent c o =
     let at = sym c.in_ok-place.ensures in
     let place = c.in_ok-place.place in
     let leads = c.remember.ensures es c.self.invariant.latest_leads at in
-    let there = some_of (slab.get s place) (c.self.invariant.placed_all.filled c.args.id.now place at) in (
+    let there = some_from_IsSome (slab.get s place) (c.self.invariant.placed_all.filled c.args.id.now place at) in (
       λ w. record {
         placed_all = placed-written grains es s c.self.invariant.placed_all c.args.id.now place at w;
         counted = λ tenant.

@@ -1,11 +1,10 @@
-use Rattle.std.proofs.Common.{◌≡◌, ◌++◌, ◌∷◌, [], ◌+◌, ◌≤◌, ◌<◌, ℕ, List, Some, None, cond, ap, sym, ◌∙◌, subst, arith, length}
+use Rattle.std.proofs.Common.{◌++◌, ◌∷◌, [], ◌+◌, Some, cond, ap, sym, ◌∙◌, subst, arith, length}
 use Rattle.std.specs.FinMap as map
 use Rattle.std.specs.Map.{lookup, keys_of}
 use Rattle.indexmap.specs.IndexMap.{insert_entry}
 use Rattle.activation_directory.proofs.Order.{added, absent_of}
 use Rattle.grain_id.specs.Names.{Grain, grain_eq}
-use Rattle.activation_directory.specs.Register.{Register}
-use Rattle.activation_directory.specs.Counts.{kept, count_in, NumbersTo}
+use Rattle.activation_directory.specs.inside.Counts.{kept, NumbersTo}
 use Rattle.activation_directory.proofs.Sizes.{count-bound}
 use Rattle.activation_directory.proofs.Registers.{get-shown, activations-inserted, directory-inserted}
 use Rattle.activation_directory.proofs.directory.Directory.insert.Goals as goal

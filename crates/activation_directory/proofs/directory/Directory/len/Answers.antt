@@ -1,13 +1,13 @@
-use Rattle.std.proofs.Common.{◌≡◌, ap, sym, ◌∙◌, subst}
+use Rattle.std.proofs.Common.{ap, sym, ◌∙◌, subst}
 use Rattle.std.specs.FinMap as map
 use Rattle.std.specs.List.{IsDistinct}
+use Rattle.grain_id.proofs.Keys.{grains}
 use Rattle.grain_id.specs.Names.{grain_eq}
 use Rattle.activation_directory.proofs.Places.{len-placed}
 use Rattle.std.specs.Prelude.{IsSome}
 use Rattle.grain_id.specs.Names.{Grain}
 use Rattle.activation_directory.specs.Register.{Register, StandsIn}
 use Rattle.activation_directory.proofs.Registers.{stands}
-use Rattle.activation_directory.proofs.Sizes.{grains}
 use Rattle.activation_directory.proofs.directory.Directory.len.Goals as goal
 
 pub returns-clause-activations : goal.returns-clause-activations

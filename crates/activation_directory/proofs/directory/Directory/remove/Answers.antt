@@ -1,17 +1,15 @@
-use Rattle.std.proofs.Common.{rules, ◌≡◌, ◌+◌, ◌-◌, ◌≤◌, ◌<◌, ℕ, List, Some, None, cond, ap, sym, ◌∙◌, subst}
+use Rattle.std.proofs.Common.{◌-◌, ap, sym, ◌∙◌, subst}
 use Rattle.std.specs.FinMap as map
 use Rattle.slab.specs.Slab as slab
 use Rattle.std.specs.Map.{keys_of}
 use Rattle.indexmap.specs.IndexMap.{swap_remove_by}
 use Rattle.indexmap.proofs.SetLemmas.{keys_swap_remove_entry}
-use Rattle.grain_id.specs.Names.{Grain, grain_cmp, grain_eq}
+use Rattle.grain_id.specs.Names.{grain_eq}
 use Rattle.grain_id.proofs.ByGrain.{remove-absent}
-use Rattle.activation_directory.specs.Places.{placed, at_place}
-use Rattle.activation_directory.proofs.Places.{some_of}
-use Rattle.activation_directory.specs.declared.activation.Activation.{Activation}
-use Rattle.activation_directory.specs.Register.{Register}
-use Rattle.activation_directory.specs.Counts.{kept, count_in, NumbersTo}
-use Rattle.activation_directory.specs.Kept.{shown}
+use Rattle.activation_directory.specs.inside.Places.{at_place}
+use Rattle.finite_maps.proofs.Options.{some_from_IsSome}
+use Rattle.activation_directory.specs.inside.Counts.{kept, NumbersTo}
+use Rattle.activation_directory.specs.inside.Kept.{shown}
 use Rattle.activation_directory.proofs.Sizes.{kept-positive}
 use Rattle.activation_directory.proofs.Registers.{get-shown, activations-removed, directory-removed}
 use Rattle.activation_directory.proofs.directory.Directory.remove.Goals as goal
@@ -32,7 +30,7 @@ take_one-requires c =
     let s = c.self.inside.activations in
     let es = c.self.inside.places.entries in
     let at = sym c.in_ok-place.ensures.value in
-    let there = some_of (slab.get s c.in_ok-place.place) (c.self.invariant.placed_all.filled c.args.id.now c.in_ok-place.place at) in
+    let there = some_from_IsSome (slab.get s c.in_ok-place.place) (c.self.invariant.placed_all.filled c.args.id.now c.in_ok-place.place at) in
     rw c.tenant.ensures (kept-positive c.self.inside.numbers c.self.inside.numbers (shown es s).activations c.args.id.now there.0 c.self.invariant.counted (get-shown s es c.self.invariant.placed_all c.args.id.now ∙ ap (at_place s) at ∙ there.1))
 
 pub invariant_of-self-2 : goal.invariant_of-self-2
@@ -53,7 +51,7 @@ returns-clause-removed c =
 pub returns-clause-unchanged : goal.returns-clause-unchanged
 returns-clause-unchanged c =
     let at = sym c.in_ok-place.ensures.value in
-    let there = some_of (slab.get c.self.inside.activations c.in_ok-place.place) (c.self.invariant.placed_all.filled c.args.id.now c.in_ok-place.place at) in
+    let there = some_from_IsSome (slab.get c.self.inside.activations c.in_ok-place.place) (c.self.invariant.placed_all.filled c.args.id.now c.in_ok-place.place at) in
     rw (c.try_remove.ensures.value ∙ there.1) tt
 
 pub returns-clause-order : goal.returns-clause-order

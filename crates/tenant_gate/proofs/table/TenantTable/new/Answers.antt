@@ -1,7 +1,7 @@
 use Rattle.std.proofs.Common.{Err, Some, ap, sym, ◌∙◌, refl, subst}
 use Rattle.std.proofs.lemmas.Result.{err_from_is_err_and}
 use Rattle.tenant_gate.specs.declared.fault.TableFault.TheVariants as faults
-use Rattle.tenant_gate.specs.Answers.{TableAnswers}
+use Rattle.tenant_gate.specs.inside.Answers.{TableAnswers}
 use Rattle.tenant_gate.proofs.Faults.{fault_empty, fault_many, fault_later, TableAnswers-index}
 use Rattle.tenant_gate.proofs.table.TenantTable.new.Goals as goal
 

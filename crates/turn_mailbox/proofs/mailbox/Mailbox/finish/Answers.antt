@@ -2,7 +2,7 @@ use Rattle.std.proofs.Common.{◌≡◌, None, sym, ◌∙◌, subst}
 use Rattle.std.specs.Cmp.{nat_cmp_total}
 use Rattle.std.specs.FinMap as map
 use Rattle.std.specs.FinMap.{nat_cmp-IsAntisymmetric}
-use Rattle.grain_id.proofs.Maps as maps
+use Rattle.finite_maps.proofs.Maps as maps
 use Rattle.turn_mailbox.specs.Contents.{KeepsRule}
 use Rattle.turn_mailbox.proofs.Rule.{rule-removed}
 use Rattle.turn_mailbox.proofs.mailbox.Mailbox.finish.Goals as goal

@@ -1,6 +1,6 @@
 use Rattle.std.proofs.Common.{None, ap, sym, ◌∙◌}
 use Rattle.std.specs.FinMap as map
-use Rattle.turn_mailbox.specs.Beside.{with_one}
+use Rattle.turn_mailbox.specs.inside.Beside.{with_one}
 use Rattle.turn_mailbox.proofs.Rule.{Turns}
 use Rattle.turn_mailbox.proofs.Beside.{shown, get-one, get-beside, get-others, one-removed, beside-updated, other-removed}
 use Rattle.turn_mailbox.proofs.turns.Turns.remove.Goals as goal

@@ -16,4 +16,6 @@ abbrev pub same_row : Row → Row → Bool
 same_row row other = nat_eq row.version other.version && option_eq same_content row.content other.content
 
 pub same_row_equiv : IsEquivalence same_row
-same_row_equiv = and_equiv (on_equiv (λ (r : Row). r.version) nat_eq_equiv) (on_equiv (λ (r : Row). r.content) (options_equiv (on_equiv spelling nat_list_eq_equiv)))
+same_row_equiv =
+    and_equiv (on_equiv (λ (r : Row). r.version) nat_eq_equiv)
+    (on_equiv (λ (r : Row). r.content) (options_equiv (on_equiv spelling nat_list_eq_equiv)))

@@ -4,19 +4,21 @@ use Rattle.std.specs.FinMap.{from_entries}
 use Rattle.std.specs.Map.{keys_of}
 use Rattle.slab.specs.Slab.{Slab}
 use Rattle.grain_id.specs.Names.{Grain, grain_eq}
-use Rattle.activation_directory.specs.Places.{placed, ArePlaced}
+use Rattle.activation_directory.specs.inside.Places.{placed, ArePlaced}
 use Rattle.activation_directory.specs.declared.activation.Activation.{Activation}
 use Rattle.activation_directory.specs.Register.{Register}
-use Rattle.activation_directory.specs.Counts.{Numbers, kept, count_in}
+use Rattle.activation_directory.specs.inside.Counts.{Numbers, kept, count_in}
 use Rattle.activation_directory.specs.declared.latest_place.LatestPlace.{LatestPlace}
-use Rattle.activation_directory.specs.LatestPlace.{LeadsTo}
+use Rattle.activation_directory.specs.inside.LatestPlace.{LeadsTo}
 
 -- what an index and a slab show
 abbrev pub shown : List (Grain × ℕ) → Slab Activation → Register
 shown places activations = record { activations = from_entries (placed activations places); order = keys_of places }
 
--- The grains lead to the activations, one each, each tenant's number is that of its grains, and the grain that was looked up last leads where it did.
-pub record IsDirectory (places : List (Grain × ℕ)) (activations : Slab Activation) (numbers : Numbers) (latest : Option LatestPlace) : Type 0 where
+-- The grains lead to the activations, one each, each tenant's number is that of its grains, and the grain that was
+-- looked up last leads where it did.
+pub record IsDirectory (places : List (Grain × ℕ)) (activations : Slab Activation) (numbers : Numbers)
+    (latest : Option LatestPlace) : Type 0 where
   pub placed_all : ArePlaced grain_eq places activations
   pub counted : (tenant : List ℕ) → kept numbers tenant ≡ count_in (shown places activations).activations tenant
   pub latest_leads : LeadsTo latest places

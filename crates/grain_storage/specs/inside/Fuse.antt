@@ -13,7 +13,9 @@ pub record Fused : Type 0 where
   pub made : ℕ
 
 abbrev pub coded_fused : Coded Fused
-coded_fused = code_by (Rows × (ℕ × ℕ)) (coded× coded_rows (coded× coded_ℕ coded_ℕ)) (λ f. (f.rows, (f.fails_at, f.made))) (λ p. record { rows = p.0; fails_at = p.1.0; made = p.1.1 }) (λ _. refl)
+coded_fused =
+    code_by (Rows × (ℕ × ℕ)) (coded× coded_rows (coded× coded_ℕ coded_ℕ)) (λ f. (f.rows, (f.fails_at, f.made)))
+    (λ p. record { rows = p.0; fails_at = p.1.0; made = p.1.1 }) (λ _. refl)
 
 -- Every call is counted but those that answer Memory. The count is a u64, and stays at its last value.
 abbrev pub made_after : {A : Type 0} → Result A StoreFault → ℕ → ℕ

@@ -4,7 +4,8 @@ use Rattle.grain_id.specs.Names.{Grain, Client, is_grain, is_client}
 
 -- what stands before, between and after a `/` and a `:` at these places
 abbrev pub grain_at : List ℕ → ℕ → ℕ → Grain
-grain_at text slash colon = record { kind = take slash text; tenant = take (colon - (slash + 1)) (drop (slash + 1) text); name = drop (colon + 1) text }
+grain_at text slash colon =
+    record { kind = take slash text; tenant = take (colon - (slash + 1)) (drop (slash + 1) text); name = drop (colon + 1) text }
 
 -- what stands before and after a `/` at this place
 abbrev pub client_at : List ℕ → ℕ → Client
