@@ -7,19 +7,18 @@ use Rattle.std.specs.Cmp.{first_so, second_so}
 use Rattle.std.proofs.lemmas.Str.{IsUtf8-from_ascii}
 use Rattle.std.proofs.lemmas.List.{take-append-drop}
 use Rattle.std.proofs.Math.Seq.{drop-cons}
+use Rattle.std.proofs.lemmas.Bool.{and_from}
+use Rattle.journal_text.specs.declared.form.Form.{Form}
 use Rattle.journal_text.specs.declared.line.Line.{Line}
 use Rattle.journal_text.specs.RecordedFault.{is_text_byte}
 use Rattle.journal_text.specs.Text.{line_text}
 use Rattle.journal_text.specs.Rules.{IsLine}
-use Rattle.journal_text.specs.JournalAnswers.{HasNoBreak}
-use Rattle.journal_text.proofs.LinesPlain.{line_plain}
+use Rattle.journal_text.specs.inside.Answers.{HasNoBreak}
+use Rattle.journal_text.proofs.LinesBack.{line_back}
 use Rattle.journal_text.proofs.LinesCut.{first_cut}
 
 is_no_break : ℕ → Bool
 is_no_break b = not (eqb b 10)
-
-both : (a b : Bool) → a ≡ true → b ≡ true → (a && b) ≡ true
-both a b at bt = ap (λ x. x && b) at ∙ bt
 
 unequal : (b : ℕ) → b ≢ 10 → is_no_break b ≡ true
 unfolding is_no_break
@@ -27,7 +26,7 @@ unequal b apart = grind (arith, apart)
 
 breaks_nowhere : (xs : List ℕ) → HasNoBreak xs → list_all is_no_break xs ≡ true
 breaks_nowhere [] none = refl
-breaks_nowhere (x ∷ xs) none = both (is_no_break x) (list_all is_no_break xs) (unequal x (none 0 (omega arith))) (breaks_nowhere xs (λ k below. none (suc k) (omega (arith, below))))
+breaks_nowhere (x ∷ xs) none = and_from (is_no_break x) (list_all is_no_break xs) (unequal x (none 0 (omega arith))) (breaks_nowhere xs (λ k below. none (suc k) (omega (arith, below))))
 
 plain_byte : (b : ℕ) → is_text_byte b ≡ true → is_no_break b ≡ true
 unfolding is_no_break
@@ -35,7 +34,7 @@ plain_byte b is = grind (arith, is)
 
 plain_breaks_nowhere : (xs : List ℕ) → list_all is_text_byte xs ≡ true → list_all is_no_break xs ≡ true
 plain_breaks_nowhere [] all = refl
-plain_breaks_nowhere (x ∷ xs) all = both (is_no_break x) (list_all is_no_break xs) (plain_byte x (first_so (is_text_byte x) (list_all is_text_byte xs) all)) (plain_breaks_nowhere xs (second_so (is_text_byte x) (list_all is_text_byte xs) all))
+plain_breaks_nowhere (x ∷ xs) all = and_from (is_no_break x) (list_all is_no_break xs) (plain_byte x (first_so (is_text_byte x) (list_all is_text_byte xs) all)) (plain_breaks_nowhere xs (second_so (is_text_byte x) (list_all is_text_byte xs) all))
 
 -- a text without LF that is cut where one of visible ASCII and spaces is
 pub same_cut : (xs us ys vs : List ℕ) → HasNoBreak xs → list_all is_text_byte us ≡ true → xs ++ 10 ∷ ys ≡ us ++ 10 ∷ vs → xs ≡ us
@@ -75,6 +74,6 @@ no_text_cut bytes at within none here no_utf8 text behind plain same =
     no_utf8 (subst IsUtf8 (sym same_text) (IsUtf8-from_ascii text (ascii text plain)))
 
 -- a text that is no line's and is cut from bytes
-pub no_line_cut : (bytes text behind : List ℕ) → HasNoBreak text → bytes ≡ text ++ 10 ∷ behind → ((l : Line) → IsLine l → text ≡ line_text l → ⊥) → (l : Line) (other : List ℕ) → IsLine l → bytes ≡ line_text l ++ 10 ∷ other → ⊥
-no_line_cut bytes text behind none whole no_line l other is same =
-    no_line l is (same_cut text (line_text l) behind other none (line_plain l is).all (sym whole ∙ same))
+pub no_line_cut : (form : Form) (bytes text behind : List ℕ) → HasNoBreak text → bytes ≡ text ++ 10 ∷ behind → ((l : Line) → IsLine form l → text ≡ line_text form l → ⊥) → (l : Line) (other : List ℕ) → IsLine form l → bytes ≡ line_text form l ++ 10 ∷ other → ⊥
+no_line_cut form bytes text behind none whole no_line l other is same =
+    no_line l is (same_cut text (line_text form l) behind other none (line_back form l is).plain (sym whole ∙ same))

@@ -11,13 +11,14 @@ use Rattle.tenant_gate.specs.declared.fault.TableFault.TheVariants as faults
 use Rattle.tenant_gate.specs.Table.{Table, names_of, first_repeat, first_out_of_range, are_in_range, table_fault}
 use Rattle.grain_storage.specs.declared.row.Row.{Row}
 use Rattle.silo_event.specs.declared.step.Step.{Step}
+use Rattle.journal_text.specs.declared.form.Form.{Form}
 use Rattle.journal_text.specs.declared.recorded.RecordedReply.{RecordedReply}
 use Rattle.journal_text.specs.declared.line.Line.{Line}
 use Rattle.journal_text.specs.declared.line.Line.TheVariants as line
 use Rattle.journal_text.specs.Text.{History, history, tenant_line, row_line, journal_lines}
-use Rattle.journal_text.specs.Rules.{IsLine, IsTable, KeepsRules}
+use Rattle.journal_text.specs.Rules.{IsLine, IsTable, KeepsRulesIn}
 use Rattle.journal_text.specs.FirstFault.{BeginJournal}
-use Rattle.journal_text.specs.Draft.{body, lines_so_far, IsDraft, is_empty}
+use Rattle.journal_text.specs.inside.Draft.{body, lines_so_far, IsDraft, is_empty}
 use Rattle.journal_text.proofs.Drafts.{empty}
 
 -- ---- what is true of all is true of each part
@@ -32,12 +33,12 @@ All-back P (x ∷ xs) ys all = All-back P xs ys (All-tail P x (xs ++ ys) all)
 
 -- ---- the table
 
-in_range : (tenants : Table) → All IsLine (map tenant_line tenants) → first_out_of_range tenants ≡ None
-in_range [] all = refl
-in_range (entry ∷ tenants) all =
-    let here = (All-head IsLine (tenant_line entry) (map tenant_line tenants) all).1 in
+in_range : (form : Form) (tenants : Table) → All (IsLine form) (map tenant_line tenants) → first_out_of_range tenants ≡ None
+in_range form [] all = refl
+in_range form (entry ∷ tenants) all =
+    let here = (All-head (IsLine form) (tenant_line entry) (map tenant_line tenants) all).1 in
     ap (λ b. option_map (λ e. e.0) (cond (not b) (Some entry) (find (λ e. not (are_in_range e.1)) tenants))) here
-    ∙ in_range tenants (All-tail IsLine (tenant_line entry) (map tenant_line tenants) all)
+    ∙ in_range form tenants (All-tail (IsLine form) (tenant_line entry) (map tenant_line tenants) all)
 
 no_fault : (none many : Bool) (repeat range : Option (List ℕ)) → none ≡ false → many ≡ false → repeat ≡ None → range ≡ None → cond none (Some faults.Empty) (cond many (Some faults.TooMany) (option_or (option_map faults.Twice repeat) (option_map faults.Range range))) ≡ None
 no_fault none many repeat range a b c d = rw (a, b, c, d) refl
@@ -48,24 +49,24 @@ some_length t tenants = grind arith
 few_length : (n : ℕ) → n ≤ 1000 → ltb 1000 n ≡ false
 few_length n few = grind (arith, few)
 
-table : (t : List ℕ × Limits) (tenants : Table) → length (t ∷ tenants) ≤ 1000 → first_repeat [] (names_of (t ∷ tenants)) ≡ None → All IsLine (map tenant_line (t ∷ tenants)) → IsTable (t ∷ tenants)
+table : (form : Form) (t : List ℕ × Limits) (tenants : Table) → length (t ∷ tenants) ≤ 1000 → first_repeat [] (names_of (t ∷ tenants)) ≡ None → All (IsLine form) (map tenant_line (t ∷ tenants)) → IsTable (t ∷ tenants)
 unfolding table_fault
-table t tenants few distinct all = no_fault (eqb (length (t ∷ tenants)) 0) (ltb 1000 (length (t ∷ tenants))) (first_repeat [] (names_of (t ∷ tenants))) (first_out_of_range (t ∷ tenants)) (some_length t tenants) (few_length (length (t ∷ tenants)) few) distinct (in_range (t ∷ tenants) all)
+table form t tenants few distinct all = no_fault (eqb (length (t ∷ tenants)) 0) (ltb 1000 (length (t ∷ tenants))) (first_repeat [] (names_of (t ∷ tenants))) (first_out_of_range (t ∷ tenants)) (some_length t tenants) (few_length (length (t ∷ tenants)) few) distinct (in_range form (t ∷ tenants) all)
 
 -- ---- a closed draft
 
-tenants_of : (tenants : Table) (age : ℕ) (steps : List Step) (replies : List RecordedReply) (rows : List (Grain × Row)) → All IsLine (lines_so_far (history tenants age steps replies rows)) → All IsLine (map tenant_line tenants)
-tenants_of tenants age steps replies rows all =
+tenants_of : (form : Form) (tenants : Table) (age : ℕ) (steps : List Step) (replies : List RecordedReply) (rows : List (Grain × Row)) → All (IsLine form) (lines_so_far (history tenants age steps replies rows)) → All (IsLine form) (map tenant_line tenants)
+tenants_of form tenants age steps replies rows all =
     let behind : List Line = body (history tenants age steps replies rows) in
-    All-front IsLine (map tenant_line tenants) (map line.Step steps) (All-front IsLine (map tenant_line tenants ++ map line.Step steps) (map line.Reply replies) (All-front IsLine (map tenant_line tenants ++ map line.Step steps ++ map line.Reply replies) (map row_line rows) (All-tail IsLine (line.Age age) behind (All-tail IsLine line.Head (line.Age age ∷ behind) all))))
+    All-front (IsLine form) (map tenant_line tenants) (map line.Step steps) (All-front (IsLine form) (map tenant_line tenants ++ map line.Step steps) (map line.Reply replies) (All-front (IsLine form) (map tenant_line tenants ++ map line.Step steps ++ map line.Reply replies) (map row_line rows) (All-tail (IsLine form) (line.Age age) behind (All-tail (IsLine form) line.Head (line.Age age ∷ behind) all))))
 
 -- a draft with its close is a journal
-keeps : (t : List ℕ × Limits) (tenants : Table) (age : ℕ) (steps : List Step) (replies : List RecordedReply) (rows : List (Grain × Row)) → IsDraft (history (t ∷ tenants) age steps replies rows) → length steps < 2 ^ 64 → KeepsRules (history (t ∷ tenants) age steps replies rows)
+keeps : (form : Form) (t : List ℕ × Limits) (tenants : Table) (age : ℕ) (steps : List Step) (replies : List RecordedReply) (rows : List (Grain × Row)) → IsDraft form (history (t ∷ tenants) age steps replies rows) → length steps < 2 ^ 64 → KeepsRulesIn form (history (t ∷ tenants) age steps replies rows)
 unfolding journal_lines
-keeps t tenants age steps replies rows is small = record {
-  is_table = table t tenants is.few is.distinct (tenants_of (t ∷ tenants) age steps replies rows is.lines);
+keeps form t tenants age steps replies rows is small = record {
+  is_table = table form t tenants is.few is.distinct (tenants_of form (t ∷ tenants) age steps replies rows is.lines);
   ascending = is.ascending;
-  lines = All-push IsLine (lines_so_far (history (t ∷ tenants) age steps replies rows)) (line.Close (length steps)) is.lines small;
+  lines = All-push (IsLine form) (lines_so_far (history (t ∷ tenants) age steps replies rows)) (line.Close (length steps)) is.lines small;
 }
 
 -- its lines are the draft's and the close
@@ -73,9 +74,9 @@ pub closed_lines : (d : History) → journal_lines d ≡ lines_so_far d ++ line.
 unfolding journal_lines
 closed_lines d = refl
 
-pub closed_keeps : (tenants : Table) (age : ℕ) (steps : List Step) (replies : List RecordedReply) (rows : List (Grain × Row)) → IsDraft (history tenants age steps replies rows) → not (is_empty tenants) ≡ true → length steps < 2 ^ 64 → KeepsRules (history tenants age steps replies rows)
-closed_keeps [] age steps replies rows is some small = absurd (true≢false (sym some))
-closed_keeps (t ∷ tenants) age steps replies rows is some small = keeps t tenants age steps replies rows is small
+pub closed_keeps : (form : Form) (tenants : Table) (age : ℕ) (steps : List Step) (replies : List RecordedReply) (rows : List (Grain × Row)) → IsDraft form (history tenants age steps replies rows) → not (is_empty tenants) ≡ true → length steps < 2 ^ 64 → KeepsRulesIn form (history tenants age steps replies rows)
+closed_keeps form [] age steps replies rows is some small = absurd (true≢false (sym some))
+closed_keeps form (t ∷ tenants) age steps replies rows is some small = keeps form t tenants age steps replies rows is small
 
 cons_nil : {A : Type 0} (x : A) (xs : List A) → x ∷ xs ≡ [] → ⊥
 cons_nil x xs e = cc
@@ -87,8 +88,8 @@ some_so (x ∷ xs) some = refl
 -- ---- a draft's lines begin a journal
 
 -- the lines before others begin a journal too
-pub begin_front : (ls ms : List Line) → BeginJournal (ls ++ ms) → BeginJournal ls
-begin_front ls ms begin = record {
+pub begin_front : (form : Form) (ls ms : List Line) → BeginJournal form (ls ++ ms) → BeginJournal form ls
+begin_front form ls ms begin = record {
   journal = begin.journal;
   behind = ms ++ begin.behind;
   keeps = begin.keeps;
@@ -98,39 +99,39 @@ begin_front ls ms begin = record {
 some_tenant : List ℕ × Limits
 some_tenant = (codes "a", record { activations = 1; mailbox = 1 })
 
-is_some_tenant : IsLine (tenant_line some_tenant)
+is_some_tenant : (form : Form) → IsLine form (tenant_line some_tenant)
 unfolding is_word some_tenant
-is_some_tenant = (refl, refl)
+is_some_tenant form = (refl, refl)
 
-one_tenant : (age : ℕ) → IsDraft (empty age) → IsDraft (history (some_tenant ∷ []) age [] [] [])
-one_tenant age is = record {
+one_tenant : (form : Form) (age : ℕ) → IsDraft form (empty age) → IsDraft form (history (some_tenant ∷ []) age [] [] [])
+one_tenant form age is = record {
   few = omega arith;
   distinct = refl;
   ascending = refl;
   tenants_first = λ none. absurd (cons_nil some_tenant [] none);
-  lines = All-push IsLine (lines_so_far (empty age)) (tenant_line some_tenant) is.lines is_some_tenant;
+  lines = All-push (IsLine form) (lines_so_far (empty age)) (tenant_line some_tenant) is.lines (is_some_tenant form);
 }
 
-begins : (tenants : Table) (age : ℕ) (steps : List Step) (replies : List RecordedReply) (rows : List (Grain × Row)) → IsDraft (history tenants age steps replies rows) → length steps < 2 ^ 64 → BeginJournal (lines_so_far (history tenants age steps replies rows))
+begins : (form : Form) (tenants : Table) (age : ℕ) (steps : List Step) (replies : List RecordedReply) (rows : List (Grain × Row)) → IsDraft form (history tenants age steps replies rows) → length steps < 2 ^ 64 → BeginJournal form (lines_so_far (history tenants age steps replies rows))
 unfolding journal_lines
-begins [] age [] [] [] is small = record {
+begins form [] age [] [] [] is small = record {
   journal = history (some_tenant ∷ []) age [] [] [];
   behind = tenant_line some_tenant ∷ line.Close 0 ∷ [];
-  keeps = keeps some_tenant [] age [] [] [] (one_tenant age is) (lit< tt);
+  keeps = keeps form some_tenant [] age [] [] [] (one_tenant form age is) (lit< tt);
   are_first = refl;
 }
-begins [] age (s ∷ steps) replies rows is small = let none = (is.tenants_first refl).0 in cc
-begins [] age [] (reply ∷ replies) rows is small = let none = (is.tenants_first refl).1 in cc
-begins [] age [] [] (row ∷ rows) is small = let none = (is.tenants_first refl).2 in cc
-begins (t ∷ tenants) age steps replies rows is small = record {
+begins form [] age (s ∷ steps) replies rows is small = let none = (is.tenants_first refl).0 in cc
+begins form [] age [] (reply ∷ replies) rows is small = let none = (is.tenants_first refl).1 in cc
+begins form [] age [] [] (row ∷ rows) is small = let none = (is.tenants_first refl).2 in cc
+begins form (t ∷ tenants) age steps replies rows is small = record {
   journal = history (t ∷ tenants) age steps replies rows;
   behind = line.Close (length steps) ∷ [];
-  keeps = keeps t tenants age steps replies rows is small;
+  keeps = keeps form t tenants age steps replies rows is small;
   are_first = refl;
 }
 
-pub draft_begins : (d : History) → IsDraft d → length d.steps < 2 ^ 64 → BeginJournal (lines_so_far d)
-draft_begins d is small = begins d.tenants d.age d.steps d.replies d.rows is small
+pub draft_begins : (form : Form) (d : History) → IsDraft form d → length d.steps < 2 ^ 64 → BeginJournal form (lines_so_far d)
+draft_begins form d is small = begins form d.tenants d.age d.steps d.replies d.rows is small
 
 -- ---- a journal is a draft
 
@@ -159,17 +160,17 @@ table_keeps tenants is =
       distinct = parts.2;
     }
 
-pub journal_is_draft : (j : History) → KeepsRules j → IsDraft j
+pub journal_is_draft : (form : Form) (j : History) → KeepsRulesIn form j → IsDraft form j
 unfolding journal_lines
-journal_is_draft j keeps =
+journal_is_draft form j keeps =
     let table = table_keeps j.tenants keeps.is_table in
     record {
       few = table.few;
       distinct = table.distinct;
       ascending = keeps.ascending;
       tenants_first = λ none. absurd (table.some none);
-      lines = All-front IsLine (lines_so_far j) (line.Close (length j.steps) ∷ []) keeps.lines;
+      lines = All-front (IsLine form) (lines_so_far j) (line.Close (length j.steps) ∷ []) keeps.lines;
     }
 
-pub has_tenants : (j : History) → KeepsRules j → not (is_empty j.tenants) ≡ true
-has_tenants j keeps = some_so j.tenants (table_keeps j.tenants keeps.is_table).some
+pub has_tenants : (form : Form) (j : History) → KeepsRulesIn form j → not (is_empty j.tenants) ≡ true
+has_tenants form j keeps = some_so j.tenants (table_keeps j.tenants keeps.is_table).some

@@ -4,18 +4,21 @@ use Rattle.std.specs.Prelude.{option_and_then}
 use Rattle.std.specs.Cmp.{first_so, second_so}
 use Rattle.std.specs.List.{list_any}
 use Rattle.std.proofs.lemmas.List.{append-nil, append_assoc, map-append, length-append}
+use Rattle.std.proofs.lemmas.Bool.{and_from}
+use Rattle.finite_maps.proofs.Options.{none_from_cond}
 use Rattle.grain_id.specs.Names.{Grain, same_text}
 use Rattle.tenant_gate.specs.declared.limits.Limits.{Limits}
 use Rattle.tenant_gate.specs.Table.{Table, names_of, first_repeat}
 use Rattle.grain_storage.specs.declared.row.Row.{Row}
 use Rattle.silo_event.specs.declared.step.Step.{Step}
+use Rattle.journal_text.specs.declared.form.Form.{Form}
 use Rattle.journal_text.specs.declared.recorded.RecordedReply.{RecordedReply}
 use Rattle.journal_text.specs.declared.line.Line.{Line}
 use Rattle.journal_text.specs.declared.line.Line.TheVariants as line
 use Rattle.journal_text.specs.Text.{History, history, tenant_line, row_line}
 use Rattle.journal_text.specs.Rules.{comes_after, are_ascending}
-use Rattle.journal_text.specs.Candidates.{only_if}
-use Rattle.journal_text.specs.Draft.{body, IsDraft, is_empty, has_tenant, last_grain, close_fits, added}
+use Rattle.journal_text.specs.inside.Candidates.{only_if}
+use Rattle.journal_text.specs.inside.Draft.{body, IsDraft, is_empty, has_tenant, last_grain, close_fits, added}
 
 -- a draft in which only the age is read
 abbrev pub empty : ℕ → History
@@ -28,13 +31,6 @@ completed d (line.Close steps ∷ rest) = only_if (close_fits d steps && is_empt
 completed d (l ∷ rest) = option_and_then (λ e. completed e rest) (added d l)
 
 -- ---- each part of the lines, behind a draft
-
-pub no_repeat : (b : Bool) (name : List ℕ) (o : Option (List ℕ)) → cond b (Some name) o ≡ None → (b ≡ false) × (o ≡ None)
-no_repeat true name o e = cc
-no_repeat false name o e = (refl, e)
-
-both : (a b : Bool) → a ≡ true → b ≡ true → (a && b) ≡ true
-both a b at bt = ap (λ x. x && b) at ∙ bt
 
 pub length-push : (tenants : Table) (entry : List ℕ × Limits) → length (tenants ++ entry ∷ []) ≡ length tenants + 1
 length-push tenants entry = length-append tenants (entry ∷ []) ∙ omega arith
@@ -51,10 +47,10 @@ tenants_completed : (before after : Table) (age : ℕ) (rest : List Line) → le
 unfolding completed added
 tenants_completed before [] age rest few distinct = ap (λ t. completed (history t age [] [] []) rest) (sym (append-nil before))
 tenants_completed before (entry ∷ after) age rest few distinct =
-    let apart = no_repeat (list_any (same_text entry.0) (names_of before)) entry.0 (first_repeat (names_of before ++ entry.0 ∷ []) (names_of after)) distinct in
+    let apart = none_from_cond (list_any (same_text entry.0) (names_of before)) entry.0 (first_repeat (names_of before ++ entry.0 ∷ []) (names_of after)) distinct in
     let new : not (has_tenant before entry.0) ≡ true = ap not (has_tenant-names before entry.0 ∙ apart.0) in
     let room : ltb (length before) 1000 ≡ true = lt-ltb (length before) 1000 (omega (arith, few)) in
-    let fits = both (ltb (length before) 1000) (not (has_tenant before entry.0)) room new in
+    let fits = and_from (ltb (length before) 1000) (not (has_tenant before entry.0)) room new in
     let still : first_repeat (names_of (before ++ entry ∷ [])) (names_of after) ≡ None = ap (λ names. first_repeat names (names_of after)) (names_of-push before entry) ∙ apart.1 in
     ap (λ b. option_and_then (λ e. completed e (map tenant_line after ++ rest)) (only_if b (history (before ++ entry ∷ []) age [] [] []))) fits
     ∙ tenants_completed (before ++ entry ∷ []) after age rest (omega (arith, few, length-push before entry)) still
@@ -107,8 +103,8 @@ parts_completed (t ∷ tenants) age steps replies rows rest few distinct ascendi
     ∙ rows_completed t tenants age steps replies [] rows rest ascending
 
 -- what is behind a draft's own lines is behind the draft
-pub body_completed : (d : History) → IsDraft d → (rest : List Line) → completed (empty d.age) (body d ++ rest) ≡ completed d rest
-body_completed d is rest = parts_completed d.tenants d.age d.steps d.replies d.rows rest is.few is.distinct is.ascending is.tenants_first
+pub body_completed : (form : Form) (d : History) → IsDraft form d → (rest : List Line) → completed (empty d.age) (body d ++ rest) ≡ completed d rest
+body_completed form d is rest = parts_completed d.tenants d.age d.steps d.replies d.rows rest is.few is.distinct is.ascending is.tenants_first
 
 -- ---- what the tests of a draft see
 

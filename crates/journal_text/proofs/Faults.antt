@@ -5,14 +5,19 @@ use Rattle.std.specs.Cmp.{first_so, second_so}
 use Rattle.std.proofs.lemmas.Bool.{cases_lt}
 use Rattle.std.proofs.lemmas.List.{append_assoc, append-nil, take-append-drop, length-append, length-map, length-take}
 use Rattle.std.proofs.lemmas.List.Elements.{All-head}
+use Rattle.std.proofs.Math.Bool.{and-false}
+use Rattle.finite_maps.proofs.Options.{some_none}
+use Rattle.journal_text.specs.declared.form.Form.{Form}
 use Rattle.journal_text.specs.declared.line.Line.{Line}
 use Rattle.journal_text.specs.declared.line.Line.TheVariants as line
-use Rattle.journal_text.specs.Text.{History, tenant_line, row_line, line_text, lines_text, journal_lines, journal_text}
-use Rattle.journal_text.specs.Rules.{IsLine, KeepsRules}
-use Rattle.journal_text.specs.Candidates.{only_if}
-use Rattle.journal_text.specs.FirstFault.{BeginJournal, FirstLinesFit, IsNoJournal, IsFirstFault}
-use Rattle.journal_text.specs.Draft.{body, lines_so_far, start_lines, IsDraft, is_empty, close_fits, added}
-use Rattle.journal_text.specs.JournalAnswers.{BeginsWithLine, BeginsWithHead, BeginsWithAge}
+use Rattle.journal_text.specs.Text.{History, tenant_line, row_line, line_text, lines_text, journal_lines, text_in}
+use Rattle.journal_text.specs.Rules.{IsLine, KeepsRulesIn}
+use Rattle.journal_text.specs.inside.Candidates.{only_if}
+use Rattle.journal_text.specs.declared.form.Form.TheVariants as forms
+use Rattle.journal_text.specs.Form.{newest}
+use Rattle.journal_text.specs.FirstFault.{BeginJournal, LinesFit, IsFirstFault}
+use Rattle.journal_text.specs.inside.Draft.{body, lines_so_far, start_lines, IsDraft, is_empty, close_fits, added}
+use Rattle.journal_text.specs.inside.Answers.{BeginsWithLine, BeginsWithHead, BeginsWithAge}
 use Rattle.journal_text.proofs.Lines.{lines_text-append}
 use Rattle.journal_text.proofs.LinesCut.{one_first, lines_cut, lines_cons, nothing_more}
 use Rattle.journal_text.proofs.Drafts.{empty, completed, body_completed}
@@ -21,57 +26,102 @@ use Rattle.journal_text.proofs.DraftJournals.{All-front, All-back, begin_front, 
 
 -- ---- behind lines that begin a journal
 
-pub begin_lines : (ls : List Line) → BeginJournal ls → All IsLine ls
-begin_lines ls begin = All-front IsLine ls begin.behind (subst (All IsLine) begin.are_first begin.keeps.lines)
+pub begin_lines : (form : Form) (ls : List Line) → BeginJournal form ls → All (IsLine form) ls
+begin_lines form ls begin = All-front (IsLine form) ls begin.behind (subst (All (IsLine form)) begin.are_first begin.keeps.lines)
 
 -- No journal has the lines, and then one that the rest begins with.
-abbrev pub NoLineFits : List Line → List ℕ → Type 0
-NoLineFits ls rest = (j : History) (l : Line) (more : List Line) (behind : List ℕ) → KeepsRules j → IsLine l → rest ≡ line_text l ++ 10 ∷ behind → journal_lines j ≡ ls ++ l ∷ more → ⊥
+abbrev pub NoLineFits : (form : Form) → List Line → List ℕ → Type 0
+NoLineFits form ls rest = (j : History) (l : Line) (more : List Line) (behind : List ℕ) → KeepsRulesIn form j → IsLine form l → rest ≡ line_text form l ++ 10 ∷ behind → journal_lines j ≡ ls ++ l ∷ more → ⊥
 
 -- No journal has these lines alone, if the rest is nothing.
-abbrev pub IsNoEnd : List Line → List ℕ → Type 0
-IsNoEnd ls rest = (j : History) → KeepsRules j → journal_lines j ≡ ls → rest ≡ [] → ⊥
+abbrev pub IsNoEnd : (form : Form) → List Line → List ℕ → Type 0
+IsNoEnd form ls rest = (j : History) → KeepsRulesIn form j → journal_lines j ≡ ls → rest ≡ [] → ⊥
 
 -- what stands behind the lines fits, in lines that are cut
-cut_fits : (ls : List Line) (rest : List ℕ) → NoLineFits ls rest → (j : History) → KeepsRules j → (more others : List Line) (behind : List ℕ) → rest ≡ lines_text more ++ behind → journal_lines j ≡ (ls ++ more) ++ others → more ≡ []
-cut_fits ls rest none j keeps [] others behind whole lines = refl
-cut_fits ls rest none j keeps (l ∷ more) others behind whole lines =
+cut_fits : (form : Form) (ls : List Line) (rest : List ℕ) → NoLineFits form ls rest → (j : History) → KeepsRulesIn form j → (more others : List Line) (behind : List ℕ) → rest ≡ lines_text form more ++ behind → journal_lines j ≡ (ls ++ more) ++ others → more ≡ []
+cut_fits form ls rest none j keeps [] others behind whole lines = refl
+cut_fits form ls rest none j keeps (l ∷ more) others behind whole lines =
     let along : journal_lines j ≡ ls ++ l ∷ (more ++ others) = lines ∙ append_assoc ls (l ∷ more) others in
-    let is : IsLine l = All-head IsLine l (more ++ others) (All-back IsLine ls (l ∷ (more ++ others)) (subst (All IsLine) along keeps.lines)) in
-    absurd (none j l (more ++ others) (lines_text more ++ behind) keeps is (whole ∙ lines_cons l more behind) along)
+    let is : IsLine form l = All-head (IsLine form) l (more ++ others) (All-back (IsLine form) ls (l ∷ (more ++ others)) (subst (All (IsLine form)) along keeps.lines)) in
+    absurd (none j l (more ++ others) (lines_text form more ++ behind) keeps is (whole ∙ lines_cons form l more behind) along)
 
-no_line_fits : (bytes : List ℕ) (ls : List Line) (rest : List ℕ) → bytes ≡ lines_text ls ++ rest → All IsLine ls → NoLineFits ls rest → FirstLinesFit bytes (length ls + 1) → ⊥
-no_line_fits bytes ls rest whole are none fit =
+no_line_fits : (form : Form) (bytes : List ℕ) (ls : List Line) (rest : List ℕ) → bytes ≡ lines_text form ls ++ rest → All (IsLine form) ls → NoLineFits form ls rest → LinesFit form bytes (length ls + 1) → ⊥
+no_line_fits form bytes ls rest whole are none fit =
     let j = fit.fit.journal in
-    let cut = lines_cut ls fit.lines rest fit.behind are (begin_lines fit.lines fit.fit) (sym whole ∙ fit.whole) (omega (arith, fit.counted)) in
-    let nothing : cut.more ≡ [] = cut_fits ls rest none j fit.fit.keeps cut.more fit.fit.behind fit.behind cut.rest (fit.fit.are_first ∙ ap (λ lines. lines ++ fit.fit.behind) cut.longer) in
+    let cut = lines_cut form ls fit.lines rest fit.behind are (begin_lines form fit.lines fit.fit) (sym whole ∙ fit.whole) (omega (arith, fit.counted)) in
+    let nothing : cut.more ≡ [] = cut_fits form ls rest none j fit.fit.keeps cut.more fit.fit.behind fit.behind cut.rest (fit.fit.are_first ∙ ap (λ lines. lines ++ fit.fit.behind) cut.longer) in
     let same : fit.lines ≡ ls = cut.longer ∙ ap (λ more. ls ++ more) nothing ∙ append-nil ls in
     omega (arith, fit.counted, ap length same)
 
-no_journal : (bytes : List ℕ) (ls : List Line) (rest : List ℕ) → bytes ≡ lines_text ls ++ rest → All IsLine ls → NoLineFits ls rest → IsNoEnd ls rest → IsNoJournal bytes
-no_journal bytes ls rest whole are none no_end j keeps text =
-    let same : lines_text ls ++ rest ≡ lines_text (journal_lines j) ++ [] = sym whole ∙ text ∙ sym (append-nil (lines_text (journal_lines j))) in
+no_journal : (form : Form) (bytes : List ℕ) (ls : List Line) (rest : List ℕ) → bytes ≡ lines_text form ls ++ rest → All (IsLine form) ls → NoLineFits form ls rest → IsNoEnd form ls rest → (j : History) → KeepsRulesIn form j → bytes ≡ text_in form j → ⊥
+no_journal form bytes ls rest whole are none no_end j keeps text =
+    let same : lines_text form ls ++ rest ≡ lines_text form (journal_lines j) ++ [] = sym whole ∙ text ∙ sym (append-nil (lines_text form (journal_lines j))) in
     elim (cases_lt (length (journal_lines j)) (length ls)) [
       | inl short ↦
-          (let cut = lines_cut (journal_lines j) ls [] rest keeps.lines are (sym same) (omega (arith, short)) in
-          let nothing = nothing_more cut.more rest cut.rest in
+          (let cut = lines_cut form (journal_lines j) ls [] rest keeps.lines are (sym same) (omega (arith, short)) in
+          let nothing = nothing_more form cut.more rest cut.rest in
           no_end j keeps (sym (cut.longer ∙ ap (λ more. journal_lines j ++ more) nothing.0 ∙ append-nil (journal_lines j))) nothing.1)
       | inr short ↦
-          (let cut = lines_cut ls (journal_lines j) rest [] are keeps.lines same short in
-          let nothing : cut.more ≡ [] = cut_fits ls rest none j keeps cut.more [] [] cut.rest (cut.longer ∙ sym (append-nil (ls ++ cut.more))) in
-          no_end j keeps (cut.longer ∙ ap (λ more. ls ++ more) nothing ∙ append-nil ls) (cut.rest ∙ ap (λ more. lines_text more ++ []) nothing))
+          (let cut = lines_cut form ls (journal_lines j) rest [] are keeps.lines same short in
+          let nothing : cut.more ≡ [] = cut_fits form ls rest none j keeps cut.more [] [] cut.rest (cut.longer ∙ sym (append-nil (ls ++ cut.more))) in
+          no_end j keeps (cut.longer ∙ ap (λ more. ls ++ more) nothing ∙ append-nil ls) (cut.rest ∙ ap (λ more. lines_text form more ++ []) nothing))
     ]
 
+-- ---- the form
+
+same_first : (l m : Line) (ls ms : List Line) → l ∷ ls ≡ m ∷ ms → (l ≡ m) × (ls ≡ ms)
+same_first l m ls ms e = (cc, cc)
+
+-- no two forms have the same head
+one_form : (f g : Form) (xs ys : List ℕ) → line_text f line.Head ++ 10 ∷ xs ≡ line_text g line.Head ++ 10 ∷ ys → f ≡ g
+one_form forms.First forms.First xs ys same = refl
+
+-- The bytes begin with the head of the form.
+record HasHead (form : Form) (bytes : List ℕ) : Type 0 where
+  behind : List ℕ
+  is : bytes ≡ line_text form line.Head ++ 10 ∷ behind
+
+same_form : (f g : Form) (bytes : List ℕ) → HasHead f bytes → HasHead g bytes → f ≡ g
+same_form f g bytes a b = one_form f g a.behind b.behind (sym a.is ∙ b.is)
+
+has_head : (form : Form) (bytes : List ℕ) (ls : List Line) (rest : List ℕ) → bytes ≡ lines_text form (line.Head ∷ ls) ++ rest → HasHead form bytes
+has_head form bytes ls rest whole = record { behind = lines_text form ls ++ rest; is = whole ∙ lines_cons form line.Head ls rest }
+
+behind_head : History → List Line
+behind_head j = line.Age j.age ∷ (body j ++ line.Close (length j.steps) ∷ [])
+
+first_lines : (j : History) → journal_lines j ≡ line.Head ∷ behind_head j
+unfolding behind_head
+first_lines j = closed_lines j
+
+journal_head : (form : Form) (bytes : List ℕ) (j : History) (rest : List ℕ) → bytes ≡ lines_text form (journal_lines j) ++ rest → HasHead form bytes
+journal_head form bytes j rest whole = has_head form bytes (behind_head j) rest (whole ∙ ap (λ ls. lines_text form ls ++ rest) (first_lines j))
+
+text_head : (form : Form) (bytes : List ℕ) (j : History) → bytes ≡ text_in form j → HasHead form bytes
+text_head form bytes j text = journal_head form bytes j [] (text ∙ sym (append-nil (lines_text form (journal_lines j))))
+
+lines_head : (form : Form) (bytes : List ℕ) (n : ℕ) (ls : List Line) (rest : List ℕ) → bytes ≡ lines_text form ls ++ rest → length ls ≡ n + 1 → BeginJournal form ls → HasHead form bytes
+lines_head form bytes n [] rest whole counted begin = absurd (omega (arith, counted))
+lines_head form bytes n (l ∷ ls) rest whole counted begin =
+    let first : line.Head ≡ l = (same_first line.Head l (behind_head begin.journal) (ls ++ begin.behind) (sym (first_lines begin.journal) ∙ begin.are_first)).0 in
+    has_head form bytes ls rest (whole ∙ ap (λ k. lines_text form (k ∷ ls) ++ rest) (sym first))
+
+-- one line and more that fit have the head
+fit_head : (form : Form) (bytes : List ℕ) (n : ℕ) → LinesFit form bytes (n + 1) → HasHead form bytes
+fit_head form bytes n fit = lines_head form bytes n fit.lines fit.behind fit.whole fit.counted fit.fit
+
 -- The line behind lines that begin a journal is at fault, if no line fits there and it isn't the end.
-pub fault_behind : (bytes : List ℕ) (ls : List Line) (rest : List ℕ) → bytes ≡ lines_text ls ++ rest → BeginJournal ls → NoLineFits ls rest → IsNoEnd ls rest → IsFirstFault bytes (length ls + 1)
-fault_behind bytes ls rest whole begin none no_end =
-    let are = begin_lines ls begin in
+fault_behind : (form : Form) (bytes : List ℕ) (ls : List Line) (rest : List ℕ) → HasHead form bytes → bytes ≡ lines_text form ls ++ rest → BeginJournal form ls → NoLineFits form ls rest → IsNoEnd form ls rest → IsFirstFault bytes (length ls + 1)
+fault_behind form bytes ls rest head whole begin none no_end =
+    let are = begin_lines form ls begin in
+    let no_fit = no_line_fits form bytes ls rest whole are none in
+    let no_text = no_journal form bytes ls rest whole are none no_end in
     record {
       before = length ls;
       counted = refl;
-      fit = record { lines = ls; behind = rest; whole = whole; counted = refl; fit = begin };
-      fits_not = no_line_fits bytes ls rest whole are none;
-      no_journal = no_journal bytes ls rest whole are none no_end;
+      fit = record { form = form; fit = record { lines = ls; behind = rest; whole = whole; counted = refl; fit = begin } };
+      fits_not = λ fit. subst (λ g. LinesFit g bytes (length ls + 1) → ⊥) (same_form form fit.form bytes head (fit_head fit.form bytes (length ls) fit.fit)) no_fit fit.fit;
+      no_journal = λ g j keeps text. subst (λ f. KeepsRulesIn f j → bytes ≡ text_in f j → ⊥) (same_form form g bytes head (text_head g bytes j text)) (no_text j) keeps text;
     }
 
 -- ---- behind a draft
@@ -80,51 +130,44 @@ only_so : {A : Type 0} (b : Bool) (x : A) → b ≡ true → only_if b x ≡ Som
 only_so b x is = ap (λ t. only_if t x) is
 
 -- a journal is what its close completes
-closed_completed : (j : History) → KeepsRules j → completed j (line.Close (length j.steps) ∷ []) ≡ Some j
+closed_completed : (form : Form) (j : History) → KeepsRulesIn form j → completed j (line.Close (length j.steps) ∷ []) ≡ Some j
 unfolding completed
-closed_completed j keeps = only_so (not (is_empty j.tenants) && (length j.steps == length j.steps) && true) j (rw (has_tenants j keeps, eq-eqb (length j.steps) (length j.steps) refl) refl)
+closed_completed form j keeps = only_so (not (is_empty j.tenants) && (length j.steps == length j.steps) && true) j (rw (has_tenants form j keeps, eq-eqb (length j.steps) (length j.steps) refl) refl)
 
 same_age : (a b : ℕ) (xs ys : List Line) → line.Head ∷ line.Age a ∷ xs ≡ line.Head ∷ line.Age b ∷ ys → (a ≡ b) × (xs ≡ ys)
 same_age a b xs ys e = (cc, cc)
 
 -- the lines of a journal that stand behind a draft's complete the draft to the journal
-pub journal_completed : (j d : History) (lines : List Line) → KeepsRules j → IsDraft d → journal_lines j ≡ lines_so_far d ++ lines → completed d lines ≡ Some j
-journal_completed j d lines keeps is same =
+pub journal_completed : (form : Form) (j d : History) (lines : List Line) → KeepsRulesIn form j → IsDraft form d → journal_lines j ≡ lines_so_far d ++ lines → completed d lines ≡ Some j
+journal_completed form j d lines keeps is same =
     let close : List Line = line.Close (length j.steps) ∷ [] in
     let parts = same_age j.age d.age (body j ++ close) (body d ++ lines) (sym (closed_lines j) ∙ same) in
     let along : completed (empty j.age) (body j ++ close) ≡ completed (empty d.age) (body d ++ lines) = (λ i. completed (empty (parts.0 i)) (parts.1 i)) in
-    sym (body_completed d is lines) ∙ sym along ∙ body_completed j (journal_is_draft j keeps) close ∙ closed_completed j keeps
-
-none_some : {A : Type 0} (o : Option A) (x : A) → o ≡ None → o ≡ Some x → ⊥
-none_some o x isn't is = cc
+    sym (body_completed form d is lines) ∙ sym along ∙ body_completed form j (journal_is_draft form j keeps) close ∙ closed_completed form j keeps
 
 -- The rest begins with no line that completes the draft.
-abbrev pub CompletesNothing : History → List ℕ → Type 0
-CompletesNothing d rest = (l : Line) (more : List Line) (behind : List ℕ) → IsLine l → rest ≡ line_text l ++ 10 ∷ behind → completed d (l ∷ more) ≡ None
+abbrev pub CompletesNothing : (form : Form) → History → List ℕ → Type 0
+CompletesNothing form d rest = (l : Line) (more : List Line) (behind : List ℕ) → IsLine form l → rest ≡ line_text form l ++ 10 ∷ behind → completed d (l ∷ more) ≡ None
 
 -- the line behind a draft is at fault, if it completes nothing
-pub fault_in_draft : (bytes : List ℕ) (d : History) (rest : List ℕ) → bytes ≡ lines_text (lines_so_far d) ++ rest → IsDraft d → length d.steps < 2 ^ 64 → CompletesNothing d rest → IsFirstFault bytes (length (lines_so_far d) + 1)
+pub fault_in_draft : (form : Form) (bytes : List ℕ) (d : History) (rest : List ℕ) → bytes ≡ lines_text form (lines_so_far d) ++ rest → IsDraft form d → length d.steps < 2 ^ 64 → CompletesNothing form d rest → IsFirstFault bytes (length (lines_so_far d) + 1)
 unfolding completed
-fault_in_draft bytes d rest whole is small nothing =
-    fault_behind bytes (lines_so_far d) rest whole (draft_begins d is small)
-    (λ j l more behind keeps also begins same. none_some (completed d (l ∷ more)) j (nothing l more behind also begins) (journal_completed j d (l ∷ more) keeps is same))
-    (λ j keeps same end. none_some (completed d []) j refl (journal_completed j d [] keeps is (same ∙ sym (append-nil (lines_so_far d)))))
-
-no_more : (b : Bool) → (b && false) ≡ false
-no_more true = refl
-no_more false = refl
+fault_in_draft form bytes d rest whole is small nothing =
+    fault_behind form bytes (lines_so_far d) rest (has_head form bytes (line.Age d.age ∷ body d) rest whole) whole (draft_begins form d is small)
+    (λ j l more behind keeps also begins same. some_none (completed d (l ∷ more)) j (nothing l more behind also begins) (journal_completed form j d (l ∷ more) keeps is same))
+    (λ j keeps same end. some_none (completed d []) j refl (journal_completed form j d [] keeps is (same ∙ sym (append-nil (lines_so_far d)))))
 
 counted_on : (d : History) → length (journal_lines d) + 1 ≡ length (lines_so_far d) + 2
 counted_on d = omega (arith, ap length (closed_lines d), length-append (lines_so_far d) (line.Close (length d.steps) ∷ []))
 
 -- the line behind the close is at fault
-pub fault_behind_close : (bytes : List ℕ) (d : History) (rest : List ℕ) → bytes ≡ lines_text (journal_lines d) ++ rest → IsDraft d → KeepsRules d → (rest ≡ [] → ⊥) → IsFirstFault bytes (length (lines_so_far d) + 2)
+pub fault_behind_close : (form : Form) (bytes : List ℕ) (d : History) (rest : List ℕ) → bytes ≡ lines_text form (journal_lines d) ++ rest → IsDraft form d → KeepsRulesIn form d → (rest ≡ [] → ⊥) → IsFirstFault bytes (length (lines_so_far d) + 2)
 unfolding completed
-fault_behind_close bytes d rest whole is keeps more_bytes =
-    let begin : BeginJournal (journal_lines d) = record { journal = d; behind = []; keeps = keeps; are_first = sym (append-nil (journal_lines d)) } in
+fault_behind_close form bytes d rest whole is keeps more_bytes =
+    let begin : BeginJournal form (journal_lines d) = record { journal = d; behind = []; keeps = keeps; are_first = sym (append-nil (journal_lines d)) } in
     let close = line.Close (length d.steps) in
-    let fault = fault_behind bytes (journal_lines d) rest whole begin
-    (λ j l more behind also is_line begins same. none_some (completed d (close ∷ l ∷ more)) j (ap (λ b. only_if b d) (no_more (close_fits d (length d.steps)))) (journal_completed j d (close ∷ l ∷ more) also is (same ∙ ap (λ lines. lines ++ l ∷ more) (closed_lines d) ∙ append_assoc (lines_so_far d) (close ∷ []) (l ∷ more))))
+    let fault = fault_behind form bytes (journal_lines d) rest (journal_head form bytes d rest whole) whole begin
+    (λ j l more behind also is_line begins same. some_none (completed d (close ∷ l ∷ more)) j (ap (λ b. only_if b d) (and-false (close_fits d (length d.steps)))) (journal_completed form j d (close ∷ l ∷ more) also is (same ∙ ap (λ lines. lines ++ l ∷ more) (closed_lines d) ∙ append_assoc (lines_so_far d) (close ∷ []) (l ∷ more))))
     (λ j also same end. more_bytes end) in
     subst (IsFirstFault bytes) (counted_on d) fault
 
@@ -137,18 +180,18 @@ steps_small : (d : History) → length (lines_so_far d) < 2 ^ 64 → length d.st
 steps_small d small = omega (arith, within d, small)
 
 -- the rest begins with a line that completes nothing
-unfit_line : (d : History) (m : Line) (rest behind : List ℕ) → IsLine m → rest ≡ line_text m ++ 10 ∷ behind → ((more : List Line) → completed d (m ∷ more) ≡ None) → CompletesNothing d rest
-unfit_line d m rest behind is begins unfit l more other also same =
-    let one : m ≡ l = (one_first m l behind other is also (sym begins ∙ same)).0 in
+unfit_line : (form : Form) (d : History) (m : Line) (rest behind : List ℕ) → IsLine form m → rest ≡ line_text form m ++ 10 ∷ behind → ((more : List Line) → completed d (m ∷ more) ≡ None) → CompletesNothing form d rest
+unfit_line form d m rest behind is begins unfit l more other also same =
+    let one : m ≡ l = (one_first form m l behind other is also (sym begins ∙ same)).0 in
     subst (λ k. completed d (k ∷ more) ≡ None) one (unfit more)
 
 -- a close that doesn't fit is at fault
-pub fault_at_close : (d : History) (steps : ℕ) (behind : List ℕ) → IsDraft d → length (lines_so_far d) < 2 ^ 64 → steps < 2 ^ 64 → close_fits d steps ≡ false → IsFirstFault (lines_text (lines_so_far d) ++ (line_text (line.Close steps) ++ 10 ∷ behind)) (length (lines_so_far d) + 1)
+pub fault_at_close : (form : Form) (d : History) (steps : ℕ) (behind : List ℕ) → IsDraft form d → length (lines_so_far d) < 2 ^ 64 → steps < 2 ^ 64 → close_fits d steps ≡ false → IsFirstFault (lines_text form (lines_so_far d) ++ (line_text form (line.Close steps) ++ 10 ∷ behind)) (length (lines_so_far d) + 1)
 unfolding completed
-fault_at_close d steps behind is small is_line wrong =
-    let rest : List ℕ = line_text (line.Close steps) ++ 10 ∷ behind in
-    fault_in_draft (lines_text (lines_so_far d) ++ rest) d rest refl is (steps_small d small)
-    (unfit_line d (line.Close steps) rest behind is_line refl (λ more. ap (λ b. only_if (b && is_empty more) d) wrong))
+fault_at_close form d steps behind is small is_line wrong =
+    let rest : List ℕ = line_text form (line.Close steps) ++ 10 ∷ behind in
+    fault_in_draft form (lines_text form (lines_so_far d) ++ rest) d rest refl is (steps_small d small)
+    (unfit_line form d (line.Close steps) rest behind is_line refl (λ more. ap (λ b. only_if (b && is_empty more) d) wrong))
 
 -- What a close that fits says.
 record CloseFits (d : History) (steps : ℕ) : Type 0 where
@@ -162,30 +205,30 @@ close_says d steps fits = record {
 }
 
 -- a draft whose close fits keeps the rules of a journal
-pub close_keeps : (d : History) (steps : ℕ) → IsDraft d → length (lines_so_far d) < 2 ^ 64 → close_fits d steps ≡ true → KeepsRules d
-close_keeps d steps is small fits = closed_keeps d.tenants d.age d.steps d.replies d.rows is (close_says d steps fits).some (steps_small d small)
+pub close_keeps : (form : Form) (d : History) (steps : ℕ) → IsDraft form d → length (lines_so_far d) < 2 ^ 64 → close_fits d steps ≡ true → KeepsRulesIn form d
+close_keeps form d steps is small fits = closed_keeps form d.tenants d.age d.steps d.replies d.rows is (close_says d steps fits).some (steps_small d small)
 
 -- its text is the draft's and the close's
-pub close_text : (d : History) (steps : ℕ) (behind : List ℕ) → close_fits d steps ≡ true → lines_text (lines_so_far d) ++ (line_text (line.Close steps) ++ 10 ∷ behind) ≡ journal_text d ++ behind
-close_text d steps behind fits =
+pub close_text : (form : Form) (d : History) (steps : ℕ) (behind : List ℕ) → close_fits d steps ≡ true → lines_text form (lines_so_far d) ++ (line_text form (line.Close steps) ++ 10 ∷ behind) ≡ text_in form d ++ behind
+close_text form d steps behind fits =
     let counted = (close_says d steps fits).counted in
     let close : List Line = line.Close (length d.steps) ∷ [] in
-    ap (λ n. lines_text (lines_so_far d) ++ (line_text (line.Close n) ++ 10 ∷ behind)) counted
-    ∙ ap (λ text. lines_text (lines_so_far d) ++ text) (sym (lines_cons (line.Close (length d.steps)) [] behind))
-    ∙ sym (append_assoc (lines_text (lines_so_far d)) (lines_text close) behind)
-    ∙ ap (λ text. text ++ behind) (sym (lines_text-append (lines_so_far d) close) ∙ ap lines_text (sym (closed_lines d)))
+    ap (λ n. lines_text form (lines_so_far d) ++ (line_text form (line.Close n) ++ 10 ∷ behind)) counted
+    ∙ ap (λ text. lines_text form (lines_so_far d) ++ text) (sym (lines_cons form (line.Close (length d.steps)) [] behind))
+    ∙ sym (append_assoc (lines_text form (lines_so_far d)) (lines_text form close) behind)
+    ∙ ap (λ text. text ++ behind) (sym (lines_text-append form (lines_so_far d) close) ∙ ap (lines_text form) (sym (closed_lines d)))
 
 -- what stands behind a close that fits is at fault
-pub fault_behind_fit : (d : History) (steps : ℕ) (behind : List ℕ) → IsDraft d → length (lines_so_far d) < 2 ^ 64 → close_fits d steps ≡ true → (behind ≡ [] → ⊥) → IsFirstFault (lines_text (lines_so_far d) ++ (line_text (line.Close steps) ++ 10 ∷ behind)) (length (lines_so_far d) + 2)
-fault_behind_fit d steps behind is small fits more =
-    fault_behind_close (lines_text (lines_so_far d) ++ (line_text (line.Close steps) ++ 10 ∷ behind)) d behind (close_text d steps behind fits) is (close_keeps d steps is small fits) more
+pub fault_behind_fit : (form : Form) (d : History) (steps : ℕ) (behind : List ℕ) → IsDraft form d → length (lines_so_far d) < 2 ^ 64 → close_fits d steps ≡ true → (behind ≡ [] → ⊥) → IsFirstFault (lines_text form (lines_so_far d) ++ (line_text form (line.Close steps) ++ 10 ∷ behind)) (length (lines_so_far d) + 2)
+fault_behind_fit form d steps behind is small fits more =
+    fault_behind_close form (lines_text form (lines_so_far d) ++ (line_text form (line.Close steps) ++ 10 ∷ behind)) d behind (close_text form d steps behind fits) is (close_keeps form d steps is small fits) more
 
 -- ---- in the parts
 
 -- bytes that begin with no line are at fault behind a draft
-pub fault_without_line : (bytes : List ℕ) (d : History) (rest : List ℕ) → bytes ≡ lines_text (lines_so_far d) ++ rest → IsDraft d → length (lines_so_far d) < 2 ^ 64 → BeginsWithLine rest None → IsFirstFault bytes (length (lines_so_far d) + 1)
-fault_without_line bytes d rest whole is small none =
-    fault_in_draft bytes d rest whole is (steps_small d small) (λ l more behind also same. absurd (none l behind also same))
+pub fault_without_line : (form : Form) (bytes : List ℕ) (d : History) (rest : List ℕ) → bytes ≡ lines_text form (lines_so_far d) ++ rest → IsDraft form d → length (lines_so_far d) < 2 ^ 64 → BeginsWithLine form rest None → IsFirstFault bytes (length (lines_so_far d) + 1)
+fault_without_line form bytes d rest whole is small none =
+    fault_in_draft form bytes d rest whole is (steps_small d small) (λ l more behind also same. absurd (none l behind also same))
 
 not_added : (d : History) (m : Line) → ((steps : ℕ) → m ≡ line.Close steps → ⊥) → added d m ≡ None → (more : List Line) → completed d (m ∷ more) ≡ None
 unfolding completed
@@ -198,62 +241,57 @@ not_added d (line.Reply reply) apart none more = ap (option_and_then (λ e. comp
 not_added d (line.Row grain row) apart none more = ap (option_and_then (λ e. completed e more)) none
 
 -- a line that isn't added is at fault behind a draft
-pub fault_not_added : (bytes : List ℕ) (d : History) (m : Line) (rest behind : List ℕ) → bytes ≡ lines_text (lines_so_far d) ++ rest → IsDraft d → length (lines_so_far d) < 2 ^ 64 → IsLine m → rest ≡ line_text m ++ 10 ∷ behind → ((steps : ℕ) → m ≡ line.Close steps → ⊥) → added d m ≡ None → IsFirstFault bytes (length (lines_so_far d) + 1)
-fault_not_added bytes d m rest behind whole is small is_line begins apart none =
-    fault_in_draft bytes d rest whole is (steps_small d small) (unfit_line d m rest behind is_line begins (not_added d m apart none))
+pub fault_not_added : (form : Form) (bytes : List ℕ) (d : History) (m : Line) (rest behind : List ℕ) → bytes ≡ lines_text form (lines_so_far d) ++ rest → IsDraft form d → length (lines_so_far d) < 2 ^ 64 → IsLine form m → rest ≡ line_text form m ++ 10 ∷ behind → ((steps : ℕ) → m ≡ line.Close steps → ⊥) → added d m ≡ None → IsFirstFault bytes (length (lines_so_far d) + 1)
+fault_not_added form bytes d m rest behind whole is small is_line begins apart none =
+    fault_in_draft form bytes d rest whole is (steps_small d small) (unfit_line form d m rest behind is_line begins (not_added d m apart none))
 
 -- ---- in the first two lines
 
-first_draft : IsDraft (empty 1)
-first_draft = empty_is_draft 1 (lit≤ tt, lit≤ tt)
+first_draft : (form : Form) → IsDraft form (empty 1)
+first_draft form = empty_is_draft form 1 (lit≤ tt, lit≤ tt)
 
-start_begins : BeginJournal (start_lines 1)
-start_begins = draft_begins (empty 1) first_draft (lit< tt)
-
-first_two : (j : History) → journal_lines j ≡ start_lines j.age ++ (body j ++ line.Close (length j.steps) ∷ [])
-first_two j = closed_lines j
-
-same_first : (l m : Line) (ls ms : List Line) → l ∷ ls ≡ m ∷ ms → (l ≡ m) × (ls ≡ ms)
-same_first l m ls ms e = (cc, cc)
+start_begins : (form : Form) → BeginJournal form (start_lines 1)
+start_begins form = draft_begins form (empty 1) (first_draft form) (lit< tt)
 
 no_lines : (l : Line) (ls : List Line) → l ∷ ls ≡ [] → ⊥
 no_lines l ls e = cc
 
--- bytes that don't begin with the head
+-- bytes that begin with no head
 pub fault_without_head : (bytes : List ℕ) → BeginsWithHead bytes None → IsFirstFault bytes 1
-fault_without_head bytes none =
-    fault_behind bytes [] bytes refl (begin_front [] (start_lines 1) start_begins)
-    (λ j l more behind keeps is same lines.
-    (let first : line.Head ≡ l = (same_first line.Head l _ more (sym (first_two j) ∙ lines)).0 in
-    none behind (same ∙ ap (λ k. line_text k ++ 10 ∷ behind) (sym first))))
-    (λ j keeps lines end. no_lines line.Head _ (sym (first_two j) ∙ lines))
+fault_without_head bytes none = record {
+  before = 0;
+  counted = refl;
+  fit = record { form = newest; fit = record { lines = []; behind = bytes; whole = refl; counted = refl; fit = begin_front newest [] (start_lines 1) (start_begins newest) } };
+  fits_not = λ fit. let head = fit_head fit.form bytes 0 fit.fit in none fit.form head.behind head.is;
+  no_journal = λ form j keeps text. let head = text_head form bytes j text in none form head.behind head.is;
+}
 
 -- bytes that don't begin with an age behind the head
-pub fault_without_age : (bytes rest : List ℕ) → bytes ≡ line_text line.Head ++ 10 ∷ rest → BeginsWithAge rest None → IsFirstFault bytes 2
-fault_without_age bytes rest whole none =
-    fault_behind bytes (line.Head ∷ []) rest (whole ∙ sym (lines_cons line.Head [] rest)) (begin_front (line.Head ∷ []) (line.Age 1 ∷ []) start_begins)
+pub fault_without_age : (form : Form) (bytes rest : List ℕ) → bytes ≡ line_text form line.Head ++ 10 ∷ rest → BeginsWithAge form rest None → IsFirstFault bytes 2
+fault_without_age form bytes rest whole none =
+    fault_behind form bytes (line.Head ∷ []) rest (record { behind = rest; is = whole }) (whole ∙ sym (lines_cons form line.Head [] rest)) (begin_front form (line.Head ∷ []) (line.Age 1 ∷ []) (start_begins form))
     (λ j l more behind keeps is same lines.
-    (let second : line.Age j.age ≡ l = (same_first (line.Age j.age) l _ more (same_first line.Head line.Head _ _ (sym (first_two j) ∙ lines)).1).0 in
-    none j.age behind (subst IsLine (sym second) is) (same ∙ ap (λ k. line_text k ++ 10 ∷ behind) (sym second))))
-    (λ j keeps lines end. no_lines (line.Age j.age) _ (same_first line.Head line.Head _ _ (sym (first_two j) ∙ lines)).1)
+    (let second : line.Age j.age ≡ l = (same_first (line.Age j.age) l _ more (same_first line.Head line.Head _ _ (sym (closed_lines j) ∙ lines)).1).0 in
+    none j.age behind (subst (IsLine form) (sym second) is) (same ∙ ap (λ k. line_text form k ++ 10 ∷ behind) (sym second))))
+    (λ j keeps lines end. no_lines (line.Age j.age) _ (same_first line.Head line.Head _ _ (sym (closed_lines j) ∙ lines)).1)
 
 -- ---- one first fault
 
-front_fits : (bytes : List ℕ) (less more : ℕ) → less ≤ more → FirstLinesFit bytes more → FirstLinesFit bytes less
-front_fits bytes less more below fit =
+front_fits : (form : Form) (bytes : List ℕ) (less more : ℕ) → less ≤ more → LinesFit form bytes more → LinesFit form bytes less
+front_fits form bytes less more below fit =
     let front = take less fit.lines in
     let back = drop less fit.lines in
     let parted : fit.lines ≡ front ++ back = sym (take-append-drop less fit.lines) in
     record {
       lines = front;
-      behind = lines_text back ++ fit.behind;
-      whole = fit.whole ∙ ap (λ lines. lines_text lines ++ fit.behind) parted ∙ ap (λ text. text ++ fit.behind) (lines_text-append front back) ∙ append_assoc (lines_text front) (lines_text back) fit.behind;
+      behind = lines_text form back ++ fit.behind;
+      whole = fit.whole ∙ ap (λ lines. lines_text form lines ++ fit.behind) parted ∙ ap (λ text. text ++ fit.behind) (lines_text-append form front back) ∙ append_assoc (lines_text form front) (lines_text form back) fit.behind;
       counted = omega (arith, length-take less fit.lines, fit.counted, below);
-      fit = begin_front front back (subst BeginJournal parted fit.fit);
+      fit = begin_front form front back (subst (BeginJournal form) parted fit.fit);
     }
 
 not_later : (bytes : List ℕ) (m n : ℕ) → IsFirstFault bytes m → IsFirstFault bytes n → m < n → ⊥
-not_later bytes m n one other later = one.fits_not (front_fits bytes m other.before (omega (arith, other.counted, later)) other.fit)
+not_later bytes m n one other later = one.fits_not (record { form = other.fit.form; fit = front_fits other.fit.form bytes m other.before (omega (arith, other.counted, later)) other.fit.fit })
 
 same_by_order : (m n : ℕ) → n ≤ m → m ≤ n → m ≡ n
 same_by_order m n a b = omega arith

@@ -1,3 +1,4 @@
+pub mod Forms
 pub mod Lines
 pub mod Numbers
 pub mod Words
@@ -6,8 +7,6 @@ pub mod FieldsBack
 pub mod StepsBack
 pub mod LinesBack
 pub mod OwnText
-pub mod Plain
-pub mod LinesPlain
 pub mod Drafts
 pub mod Added
 pub mod DraftJournals

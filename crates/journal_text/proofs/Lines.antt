@@ -6,39 +6,40 @@ use Rattle.grain_id.specs.Names.{Grain}
 use Rattle.tenant_gate.specs.Table.{Table}
 use Rattle.grain_storage.specs.declared.row.Row.{Row}
 use Rattle.silo_event.specs.declared.step.Step.{Step}
-use Rattle.journal_text.specs.Text.{history, line_text, lines_text, tenant_line, row_line, journal_lines, journal_text}
+use Rattle.journal_text.specs.declared.form.Form.{Form}
+use Rattle.journal_text.specs.Text.{history, line_text, lines_text, tenant_line, row_line, journal_lines, text_in}
 use Rattle.journal_text.specs.declared.recorded.RecordedReply.{RecordedReply}
 use Rattle.journal_text.specs.declared.line.Line.{Line}
 use Rattle.journal_text.specs.declared.line.Line.TheVariants as line
 
-pub lines_text-append : (ls ms : List Line) → lines_text (ls ++ ms) ≡ lines_text ls ++ lines_text ms
-lines_text-append ls ms = flat_map-append (λ l. line_text l ++ 10 ∷ []) ls ms
+pub lines_text-append : (form : Form) (ls ms : List Line) → lines_text form (ls ++ ms) ≡ lines_text form ls ++ lines_text form ms
+lines_text-append form ls ms = flat_map-append (λ l. line_text form l ++ 10 ∷ []) ls ms
 
-pub lines_text-one : (l : Line) → lines_text (l ∷ []) ≡ line_text l ++ 10 ∷ []
-lines_text-one l = append-nil (line_text l ++ 10 ∷ [])
+pub lines_text-one : (form : Form) (l : Line) → lines_text form (l ∷ []) ≡ line_text form l ++ 10 ∷ []
+lines_text-one form l = append-nil (line_text form l ++ 10 ∷ [])
 
 -- a text that is of some lines, and then of others
-put_after : (t u : List ℕ) (ls ms : List Line) → t ≡ lines_text ls → u ≡ t ++ lines_text ms → u ≡ lines_text (ls ++ ms)
-put_after t u ls ms is more = more ∙ ap (λ x. x ++ lines_text ms) is ∙ sym (lines_text-append ls ms)
+put_after : (form : Form) (t u : List ℕ) (ls ms : List Line) → t ≡ lines_text form ls → u ≡ t ++ lines_text form ms → u ≡ lines_text form (ls ++ ms)
+put_after form t u ls ms is more = more ∙ ap (λ x. x ++ lines_text form ms) is ∙ sym (lines_text-append form ls ms)
 
 -- a text that is of some lines, and then of one more
-put_one : (t u : List ℕ) (ls : List Line) (l : Line) → t ≡ lines_text ls → u ≡ t ++ (line_text l ++ 10 ∷ []) → u ≡ lines_text (ls ++ l ∷ [])
-put_one t u ls l is more = put_after t u ls (l ∷ []) is (more ∙ ap (λ x. t ++ x) (sym (lines_text-one l)))
+put_one : (form : Form) (t u : List ℕ) (ls : List Line) (l : Line) → t ≡ lines_text form ls → u ≡ t ++ (line_text form l ++ 10 ∷ []) → u ≡ lines_text form (ls ++ l ∷ [])
+put_one form t u ls l is more = put_after form t u ls (l ∷ []) is (more ∙ ap (λ x. t ++ x) (sym (lines_text-one form l)))
 
 -- A text that begins empty, and gets one part after another, is the journal's.
-pub journal_put : (tenants : Table) (age : ℕ) (steps : List Step) (replies : List RecordedReply) (rows : List (Grain × Row)) (new head aged listed stepped replied rowed closed : List ℕ) → new ≡ [] → head ≡ new ++ (line_text line.Head ++ 10 ∷ []) → aged ≡ head ++ (line_text (line.Age age) ++ 10 ∷ []) → listed ≡ aged ++ lines_text (map tenant_line tenants) → stepped ≡ listed ++ lines_text (map line.Step steps) → replied ≡ stepped ++ lines_text (map line.Reply replies) → rowed ≡ replied ++ lines_text (map row_line rows) → closed ≡ rowed ++ (line_text (line.Close (length steps)) ++ 10 ∷ []) → closed ≡ journal_text (history tenants age steps replies rows)
+pub journal_put : (form : Form) (tenants : Table) (age : ℕ) (steps : List Step) (replies : List RecordedReply) (rows : List (Grain × Row)) (new head aged listed stepped replied rowed closed : List ℕ) → new ≡ [] → head ≡ new ++ (line_text form line.Head ++ 10 ∷ []) → aged ≡ head ++ (line_text form (line.Age age) ++ 10 ∷ []) → listed ≡ aged ++ lines_text form (map tenant_line tenants) → stepped ≡ listed ++ lines_text form (map line.Step steps) → replied ≡ stepped ++ lines_text form (map line.Reply replies) → rowed ≡ replied ++ lines_text form (map row_line rows) → closed ≡ rowed ++ (line_text form (line.Close (length steps)) ++ 10 ∷ []) → closed ≡ text_in form (history tenants age steps replies rows)
 unfolding journal_lines
-journal_put tenants age steps replies rows new head aged listed stepped replied rowed closed e0 e1 e2 e3 e4 e5 e6 e7 =
+journal_put form tenants age steps replies rows new head aged listed stepped replied rowed closed e0 e1 e2 e3 e4 e5 e6 e7 =
     let l1 : List Line = line.Head ∷ [] in
     let l2 : List Line = line.Head ∷ line.Age age ∷ [] in
     let l3 : List Line = l2 ++ map tenant_line tenants in
     let l4 : List Line = l3 ++ map line.Step steps in
     let l5 : List Line = l4 ++ map line.Reply replies in
     let l6 : List Line = l5 ++ map row_line rows in
-    let p1 : head ≡ lines_text l1 = put_one new head [] line.Head e0 e1 in
-    let p2 : aged ≡ lines_text l2 = put_one head aged l1 (line.Age age) p1 e2 in
-    let p3 : listed ≡ lines_text l3 = put_after aged listed l2 (map tenant_line tenants) p2 e3 in
-    let p4 : stepped ≡ lines_text l4 = put_after listed stepped l3 (map line.Step steps) p3 e4 in
-    let p5 : replied ≡ lines_text l5 = put_after stepped replied l4 (map line.Reply replies) p4 e5 in
-    let p6 : rowed ≡ lines_text l6 = put_after replied rowed l5 (map row_line rows) p5 e6 in
-    put_one rowed closed l6 (line.Close (length steps)) p6 e7
+    let p1 : head ≡ lines_text form l1 = put_one form new head [] line.Head e0 e1 in
+    let p2 : aged ≡ lines_text form l2 = put_one form head aged l1 (line.Age age) p1 e2 in
+    let p3 : listed ≡ lines_text form l3 = put_after form aged listed l2 (map tenant_line tenants) p2 e3 in
+    let p4 : stepped ≡ lines_text form l4 = put_after form listed stepped l3 (map line.Step steps) p3 e4 in
+    let p5 : replied ≡ lines_text form l5 = put_after form stepped replied l4 (map line.Reply replies) p4 e5 in
+    let p6 : rowed ≡ lines_text form l6 = put_after form replied rowed l5 (map row_line rows) p5 e6 in
+    put_one form rowed closed l6 (line.Close (length steps)) p6 e7

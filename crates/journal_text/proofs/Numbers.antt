@@ -6,9 +6,10 @@ use Rattle.std.specs.Result.{OkIff}
 use Rattle.std.specs.Str.Parse.{AllDigits, digits_value, ParsesUnsigned}
 use Rattle.std.proofs.lemmas.Str.Parse.{IsNumeralModel, numerals_by_value, tells_digits, parse_plain, digit_at}
 use Rattle.std.proofs.lemmas.Fmt.{digits_decimal, decimal-digits_value, decimal_is_IsNumeral, first_decimal, parse-decimal, decimal_nonempty, decimal_digit}
+use Rattle.std.proofs.lemmas.Bool.{and_from}
 use Rattle.grain_id.specs.Names.{same_text}
 use Rattle.grain_id.specs.Order.{same_text_decides}
-use Rattle.journal_text.specs.Candidates.{wide_of}
+use Rattle.journal_text.specs.inside.Candidates.{wide_of}
 
 digits : IsNumeralModel (AllDigits 10) (digits_value 10)
 digits = numerals_by_value (AllDigits 10) tells_digits
@@ -16,14 +17,11 @@ digits = numerals_by_value (AllDigits 10) tells_digits
 ok_no_err : {E : Type 0} (r : Result ℕ E) (x : ℕ) (e : E) → r ≡ Ok x → r ≡ Err e → ⊥
 ok_no_err r x e is also = cc
 
-both_true : (a b : Bool) → a ≡ true → b ≡ true → (a && b) ≡ true
-both_true a b at bt = ap (λ x. x && b) at ∙ bt
-
 found : (text : List ℕ) (m n : ℕ) → m ≡ n → text ≡ decimal n → n < 18446744073709551616 → cond {A = Option ℕ} (same_text text (decimal m) && ltb m 18446744073709551616) (Some m) None ≡ Some n
 found text m n same is small =
     let written = (same_text_decides text (decimal m)).1 (is ∙ ap decimal (sym same)) in
     let below = lt-ltb m 18446744073709551616 (omega (arith, small, same)) in
-    ap (λ b. cond {A = Option ℕ} b (Some m) None) (both_true _ _ written below) ∙ ap (λ k. Some k) same
+    ap (λ b. cond {A = Option ℕ} b (Some m) None) (and_from _ _ written below) ∙ ap (λ k. Some k) same
 
 -- the text of a number is read as that number
 pub wide_of-decimal : (text : List ℕ) (n : ℕ) → text ≡ decimal n → n < 18446744073709551616 → wide_of text ≡ Some n

@@ -4,7 +4,5 @@ pub mod RecordedReply
 pub mod Text
 pub mod Rules
 pub mod FirstFault
-pub mod Draft
-pub mod Answers
 pub mod JournalAnswers
-pub mod Candidates
+pub mod inside

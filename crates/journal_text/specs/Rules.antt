@@ -1,5 +1,6 @@
 -- The rules that a journal keeps.
-use Rattle.std.specs.Prelude.{◌≡◌, ℕ, ◌<◌, ◌≤◌, ◌^◌, Bool, true, ◌&&◌, List, [], ◌∷◌, All, Option, Some, None, Result, Ok, Err, IsTrue, IfSome}
+use Rattle.std.specs.Prelude.{◌≡◌, ℕ, ◌<◌, ◌≤◌, ◌^◌, Bool, true, ◌&&◌, List, []}
+use Rattle.std.specs.Prelude.{◌∷◌, All, Option, Some, None, Result, Ok, Err, IsTrue, IfSome}
 use Rattle.std.specs.Ordering.{is_lt}
 use Rattle.grain_id.specs.Names.{Grain, grain_cmp, is_grain, is_client}
 use Rattle.grain_id.specs.Words.{is_word}
@@ -9,9 +10,11 @@ use Rattle.grain_storage.specs.declared.row.Row.{Row}
 use Rattle.silo_event.specs.declared.reply.Party.{Party}
 use Rattle.silo_event.specs.declared.reply.Party.TheVariants as party
 use Rattle.silo_event.specs.declared.step.Step.{Step}
-use Rattle.silo_event.specs.declared.step.Step.TheVariants.{Refuse, Call as Calling, Poke, Status, Deliver, Activate, Load, Begin, Store, End, Abandon, Tick, Sweep}
+use Rattle.silo_event.specs.declared.step.Step.TheVariants.{Refuse, Call as Calling, Poke, Status, Deliver, Activate}
+use Rattle.silo_event.specs.declared.step.Step.TheVariants.{Load, Begin, Store, End, Abandon, Tick, Sweep}
 use Rattle.request_codec.specs.Tree.{Tree}
-use Rattle.journal_text.specs.Form.{HasMessage, HasState}
+use Rattle.journal_text.specs.Form.{HasMessage, HasState, newest}
+use Rattle.journal_text.specs.declared.form.Form.{Form}
 use Rattle.journal_text.specs.RecordedFault.{CodeAndText, is_recorded_fault}
 use Rattle.journal_text.specs.Text.{History, journal_lines}
 use Rattle.journal_text.specs.declared.line.Line.{Line}
@@ -25,38 +28,38 @@ abbrev pub IsParty : Party → Type 0
 IsParty (party.Client client id) = IsTrue (is_client client) × IsNumber id
 IsParty (party.Grain grain) = IsTrue (is_grain grain)
 
-abbrev pub IsOutcome : Result Tree CodeAndText → Type 0
-IsOutcome (Ok value) = HasState value
-IsOutcome (Err fault) = IsTrue (is_recorded_fault fault)
+abbrev pub IsOutcome : Form → Result Tree CodeAndText → Type 0
+IsOutcome form (Ok value) = HasState form value
+IsOutcome form (Err fault) = IsTrue (is_recorded_fault form fault)
 
-abbrev pub IsRow : Row → Type 0
-IsRow row = (1 ≤ row.version) × (row.version < 2 ^ 64) × IfSome row.content HasState
+abbrev pub IsRow : Form → Row → Type 0
+IsRow form row = (1 ≤ row.version) × (row.version < 2 ^ 64) × IfSome row.content (HasState form)
 
 -- The step's names are well formed, its numbers in their ranges, and its message or its state has bytes.
-abbrev pub IsStep : Step → Type 0
-IsStep (Refuse caller id code) = IsTrue (is_client caller) × IsNumber id
-IsStep (Calling caller id grain message) = IsTrue (is_client caller) × IsNumber id × IsTrue (is_grain grain) × HasMessage message
-IsStep (Poke failed caller id grain state) = IsTrue (is_client caller) × IsNumber id × IsTrue (is_grain grain) × HasState state
-IsStep (Status caller id) = IsTrue (is_client caller) × IsNumber id
-IsStep (Deliver grain) = IsTrue (is_grain grain)
-IsStep (Activate grain) = IsTrue (is_grain grain)
-IsStep (Load grain failed) = IsTrue (is_grain grain)
-IsStep (Begin grain) = IsTrue (is_grain grain)
-IsStep (Store grain turn failed) = IsTrue (is_grain grain) × IsNumber turn
-IsStep (End grain turn) = IsTrue (is_grain grain) × IsNumber turn
-IsStep (Abandon grain turn) = IsTrue (is_grain grain) × IsNumber turn
-IsStep (Tick now) = IsNumber now
-IsStep Sweep = Unit {0}
+abbrev pub IsStep : Form → Step → Type 0
+IsStep form (Refuse caller id code) = IsTrue (is_client caller) × IsNumber id
+IsStep form (Calling caller id grain message) = IsTrue (is_client caller) × IsNumber id × IsTrue (is_grain grain) × HasMessage form message
+IsStep form (Poke failed caller id grain state) = IsTrue (is_client caller) × IsNumber id × IsTrue (is_grain grain) × HasState form state
+IsStep form (Status caller id) = IsTrue (is_client caller) × IsNumber id
+IsStep form (Deliver grain) = IsTrue (is_grain grain)
+IsStep form (Activate grain) = IsTrue (is_grain grain)
+IsStep form (Load grain failed) = IsTrue (is_grain grain)
+IsStep form (Begin grain) = IsTrue (is_grain grain)
+IsStep form (Store grain turn failed) = IsTrue (is_grain grain) × IsNumber turn
+IsStep form (End grain turn) = IsTrue (is_grain grain) × IsNumber turn
+IsStep form (Abandon grain turn) = IsTrue (is_grain grain) × IsNumber turn
+IsStep form (Tick now) = IsNumber now
+IsStep form Sweep = Unit {0}
 
--- What the line holds may stand in a journal.
-abbrev pub IsLine : Line → Type 0
-IsLine line.Head = Unit {0}
-IsLine (line.Age age) = IsAge age
-IsLine (line.Tenant tenant limits) = IsTrue (is_word tenant) × IsTrue (are_in_range limits)
-IsLine (line.Step s) = IsStep s
-IsLine (line.Reply reply) = IsParty reply.recipient × IsOutcome reply.outcome
-IsLine (line.Row grain row) = IsTrue (is_grain grain) × IsRow row
-IsLine (line.Close steps) = steps < 2 ^ 64
+-- What the line holds may stand in a journal of that form.
+abbrev pub IsLine : Form → Line → Type 0
+IsLine form line.Head = Unit {0}
+IsLine form (line.Age age) = IsAge age
+IsLine form (line.Tenant tenant limits) = IsTrue (is_word tenant) × IsTrue (are_in_range limits)
+IsLine form (line.Step s) = IsStep form s
+IsLine form (line.Reply reply) = IsParty reply.recipient × IsOutcome form reply.outcome
+IsLine form (line.Row grain row) = IsTrue (is_grain grain) × IsRow form row
+IsLine form (line.Close steps) = steps < 2 ^ 64
 
 -- the grain comes after the last one, if there is one
 abbrev pub comes_after : Option Grain → Grain → Bool
@@ -72,8 +75,12 @@ are_ascending last (row ∷ rows) = comes_after last row.0 && are_ascending (Som
 abbrev pub IsTable : Table → Type 0
 IsTable tenants = table_fault tenants ≡ None
 
--- Its tenants are a table, its rows ascend, and each of its lines holds what may stand in a journal.
-pub record KeepsRules (j : History) : Type 0 where
+-- Its tenants are a table, its rows ascend, and each of its lines holds what may stand in a journal of that form.
+pub record KeepsRulesIn (form : Form) (j : History) : Type 0 where
   pub is_table : IsTable j.tenants
   pub ascending : IsTrue (are_ascending None j.rows)
-  pub lines : All IsLine (journal_lines j)
+  pub lines : All (IsLine form) (journal_lines j)
+
+-- The same, of the form in which journals are written.
+abbrev pub KeepsRules : History → Type 0
+KeepsRules j = KeepsRulesIn newest j

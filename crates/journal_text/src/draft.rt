@@ -4,7 +4,8 @@ ghost use Rattle.std.specs.Prelude.{◌≡◌, [], None};
 ghost use Rattle.journal_text.specs.declared.line.Line.TheVariants as line;
 ghost use Rattle.journal_text.specs.Rules.{KeepsRules, comes_after};
 ghost use Rattle.journal_text.specs.Text.{history};
-ghost use Rattle.journal_text.specs.Draft.{has_tenant, last_grain, tenant_fits, step_fits, reply_fits, row_fits, close_fits, AddAnswers};
+ghost use Rattle.journal_text.specs.inside.Draft.{has_tenant, last_grain, tenant_fits, step_fits};
+ghost use Rattle.journal_text.specs.inside.Draft.{reply_fits, row_fits, close_fits, AddAnswers};
 
 use crate::journal::Journal;
 use crate::line::Line;
@@ -108,7 +109,7 @@ impl Draft {
         !self.tenants.is_empty() && steps == self.steps.len() as u64
     }
 
-    #[tactic(auto, unfolding(crate::specs::Draft::added))]
+    #[tactic(auto, unfolding(crate::specs::inside::Draft::added))]
     fn add_tenant(&mut self, tenant: Tenant, limits: Limits) -> Result<bool, AllocError>
         ensures { AddAnswers self.old (line.Tenant tenant limits) result self.new }
     {
@@ -120,7 +121,7 @@ impl Draft {
         Ok(true)
     }
 
-    #[tactic(auto, unfolding(crate::specs::Draft::added))]
+    #[tactic(auto, unfolding(crate::specs::inside::Draft::added))]
     fn add_step(&mut self, step: Step) -> Result<bool, AllocError>
         ensures { AddAnswers self.old (line.Step step) result self.new }
     {
@@ -132,7 +133,7 @@ impl Draft {
         Ok(true)
     }
 
-    #[tactic(auto, unfolding(crate::specs::Draft::added))]
+    #[tactic(auto, unfolding(crate::specs::inside::Draft::added))]
     fn add_reply(&mut self, reply: RecordedReply) -> Result<bool, AllocError>
         ensures { AddAnswers self.old (line.Reply reply) result self.new }
     {
@@ -144,7 +145,7 @@ impl Draft {
         Ok(true)
     }
 
-    #[tactic(auto, unfolding(crate::specs::Draft::added))]
+    #[tactic(auto, unfolding(crate::specs::inside::Draft::added))]
     fn add_row(&mut self, grain: GrainId, row: Row) -> Result<bool, AllocError>
         ensures { AddAnswers self.old (line.Row grain row) result self.new }
     {
@@ -158,7 +159,7 @@ impl Draft {
     }
 
     /// Adds the line if it is a tenant, a step, a reply or a row that may stand behind what is read.
-    #[tactic(auto, unfolding(crate::specs::Draft::added))]
+    #[tactic(auto, unfolding(crate::specs::inside::Draft::added))]
     pub(crate) fn add(&mut self, line: Line) -> Result<bool, AllocError>
         ensures { AddAnswers self.old line result self.new }
     {

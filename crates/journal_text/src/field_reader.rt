@@ -4,11 +4,13 @@ ghost use Rattle.std.specs.Prelude.{◌≡◌, ◌↔◌, ◌≤◌, ◌<◌, �
 ghost use Rattle.grain_id.specs.Names.{is_client, is_grain};
 ghost use Rattle.grain_id.specs.Reading.{cut_at};
 ghost use Rattle.hex.specs.Hex.{IsBytes};
-ghost use Rattle.journal_text.specs.Form.{HasMessage, HasState};
-ghost use Rattle.journal_text.specs.Answers.{Reads};
-ghost use Rattle.journal_text.specs.Candidates.{wide_of, number_of, bytes_of, mark_of, client_of, grain_of, message_of, state_of, refusal_of};
+ghost use Rattle.journal_text.specs.Form.{HasMessage, HasState, message_bytes, message_in, state_bytes, state_in};
+ghost use Rattle.journal_text.specs.inside.Answers.{Reads};
+ghost use Rattle.journal_text.specs.inside.Candidates.{wide_of, number_of, bytes_of, mark_of};
+ghost use Rattle.journal_text.specs.inside.Candidates.{client_of, grain_of, message_of, state_of, refusal_of};
 
 use crate::fault::LineFault;
+use crate::form::Form;
 use grain_id::{Caller, GrainId, IdFault, NameCache};
 use hex::FromHexError;
 use request_codec::{CodecFault, Message, StateBytes};
@@ -144,28 +146,50 @@ fn parse_bytes(alloc: Global, field: &str) -> Result<Vec<u8>, LineFault>
     }
 }
 
-/// The message whose bytes these are in hexadecimal.
-pub(crate) fn parse_message(alloc: Global, field: &str) -> Result<Message, LineFault>
-    ensures gives { Reads (λ read. read) result (message_of field.now) }
-    ensures spelled { IfOk result HasMessage }
+/// The message whose bytes these are in that form.
+fn read_message(alloc: Global, form: Form, bytes: &[u8]) -> Result<Message, LineFault>
+    ensures gives { Reads (λ read. read) result (message_in form bytes.now) }
+    ensures exact { IfOk result (λ read. message_bytes form read ≡ bytes.now) }
 {
-    let bytes = parse_bytes(alloc, field)?;
-    match Message::read(alloc, &bytes) {
-        Ok(message) => Ok(message),
-        Err(CodecFault::Memory) => Err(LineFault::Memory),
-        Err(_) => Err(LineFault::NoForm),
+    match form {
+        Form::First => match Message::read(alloc, bytes) {
+            Ok(message) => Ok(message),
+            Err(CodecFault::Memory) => Err(LineFault::Memory),
+            Err(_) => Err(LineFault::NoForm),
+        },
     }
 }
 
-/// The state whose bytes these are in hexadecimal.
-pub(crate) fn parse_state(alloc: Global, field: &str) -> Result<StateBytes, LineFault>
-    ensures gives { Reads (λ read. read) result (state_of field.now) }
-    ensures spelled { IfOk result HasState }
+/// The message whose bytes in that form these are in hexadecimal.
+pub(crate) fn parse_message(alloc: Global, form: Form, field: &str) -> Result<Message, LineFault>
+    ensures gives { Reads (λ read. read) result (message_of form field.now) }
+    ensures spelled { IfOk result (HasMessage form) }
 {
     let bytes = parse_bytes(alloc, field)?;
-    match StateBytes::read(alloc, &bytes) {
-        Ok(state) => Ok(state),
-        Err(CodecFault::Memory) => Err(LineFault::Memory),
-        Err(_) => Err(LineFault::NoForm),
+    let message = read_message(alloc, form, &bytes)?;
+    Ok(message)
+}
+
+/// The state whose bytes these are in that form.
+fn read_state(alloc: Global, form: Form, bytes: &[u8]) -> Result<StateBytes, LineFault>
+    ensures gives { Reads (λ read. read) result (state_in form bytes.now) }
+    ensures exact { IfOk result (λ read. state_bytes read ≡ bytes.now) }
+{
+    match form {
+        Form::First => match StateBytes::read(alloc, bytes) {
+            Ok(state) => Ok(state),
+            Err(CodecFault::Memory) => Err(LineFault::Memory),
+            Err(_) => Err(LineFault::NoForm),
+        },
     }
+}
+
+/// The state whose bytes in that form these are in hexadecimal.
+pub(crate) fn parse_state(alloc: Global, form: Form, field: &str) -> Result<StateBytes, LineFault>
+    ensures gives { Reads (λ read. read) result (state_of form field.now) }
+    ensures spelled { IfOk result (HasState form) }
+{
+    let bytes = parse_bytes(alloc, field)?;
+    let state = read_state(alloc, form, &bytes)?;
+    Ok(state)
 }

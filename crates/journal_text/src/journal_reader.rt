@@ -1,14 +1,18 @@
 //! Whole journals, read.
 
-ghost use Rattle.std.specs.Prelude.{◌≡◌, ◌↔◌, ℕ, ◌++◌, ◌∷◌, ◌+◌, ◌^◌, ◌<◌, IfOk, IfSome, IsTrue, None, length, option_map, slice_index, take};
+ghost use Rattle.std.specs.Prelude.{◌≡◌, ◌↔◌, ℕ, ◌++◌, ◌∷◌, ◌+◌, ◌^◌, ◌<◌};
+ghost use Rattle.std.specs.Prelude.{IfOk, IfSome, IsTrue, None, length, option_map, slice_index, take};
 ghost use Rattle.journal_text.specs.declared.line.Line.TheVariants as lines;
-ghost use Rattle.journal_text.specs.JournalAnswers.{HasNoBreak, CutsLine, BeginsWithLine, BeginsWithHead, BeginsWithAge, ReadsStart, ReadsJournal};
+ghost use Rattle.journal_text.specs.JournalAnswers.{ReadsJournal};
+ghost use Rattle.journal_text.specs.inside.Answers.{HasNoBreak, CutsLine, BeginsWithLine, BeginsWithHead};
+ghost use Rattle.journal_text.specs.inside.Answers.{BeginsWithAge, ReadsStart, ReadsRest, start_of};
 ghost use Rattle.journal_text.specs.Text.{line_text, lines_text};
 ghost use Rattle.tenant_gate.specs.Age.{IsAge};
-ghost use Rattle.journal_text.specs.Draft.{start_lines, lines_so_far, IsDraft};
+ghost use Rattle.journal_text.specs.inside.Draft.{start_lines, lines_so_far, IsDraft};
 
 use crate::draft::Draft;
 use crate::fault::{JournalFault, LineFault};
+use crate::form::Form;
 use crate::journal::Journal;
 use crate::line::Line;
 use crate::line_reader::{LineScratch, parse_line};
@@ -40,26 +44,20 @@ fn cut_line(bytes: &[u8]) -> Option<(&str, &[u8])>
 /// The line that the bytes begin with, and the bytes behind its LF, if they begin with a whole line.
 fn next_line<'a>(
     alloc: Global,
+    form: Form,
     scratch: &mut LineScratch,
     bytes: &'a [u8],
 ) -> Result<Option<(Line, &'a [u8])>, AllocError>
-    ensures { IfOk result (λ found. BeginsWithLine bytes.now (option_map (λ next. (next.0, next.1.now)) found)) }
+    ensures { IfOk result (λ found. BeginsWithLine form bytes.now (option_map (λ next. (next.0, next.1.now)) found)) }
 {
     let Some((text, behind)) = cut_line(bytes) else {
         return Ok(None);
     };
-    match parse_line(alloc, scratch, text) {
+    match parse_line(alloc, form, scratch, text) {
         Ok(line) => Ok(Some((line, behind))),
         Err(LineFault::NoForm) => Ok(None),
         Err(LineFault::Memory) => Err(AllocError),
     }
-}
-
-/// Whether the line is the head.
-fn is_head(line: &Line) -> bool
-    ensures { IsTrue result ↔ (line.now ≡ lines.Head) }
-{
-    matches!(line, Line::Head)
 }
 
 /// The age of an age's line.
@@ -73,31 +71,29 @@ fn age_of(line: &Line) -> Option<Age>
     }
 }
 
-/// What stands behind the head, if the bytes begin with it.
-fn next_head<'a>(
-    alloc: Global,
-    scratch: &mut LineScratch,
-    bytes: &'a [u8],
-) -> Result<Option<&'a [u8]>, AllocError>
-    ensures { IfOk result (λ found. BeginsWithHead bytes.now (option_map (λ behind. behind.now) found)) }
+/// The form that the head names, and what stands behind the head, if the bytes begin with one.
+fn next_head(bytes: &[u8]) -> Option<(Form, &[u8])>
+    ensures { BeginsWithHead bytes.now (option_map (λ next. (next.0, next.1.now)) result) }
 {
-    let Some((line, behind)) = next_line(alloc, scratch, bytes)? else {
-        return Ok(None);
+    let Some((text, behind)) = cut_line(bytes) else {
+        return None;
     };
-    let fits = is_head(&line);
-    drop(line);
-    if fits { Ok(Some(behind)) } else { Ok(None) }
+    match Form::of_head(text) {
+        Some(form) => Some((form, behind)),
+        None => None,
+    }
 }
 
 /// The age, and what stands behind its line, if the bytes begin with one.
 fn next_age<'a>(
     alloc: Global,
+    form: Form,
     scratch: &mut LineScratch,
     bytes: &'a [u8],
 ) -> Result<Option<(Age, &'a [u8])>, AllocError>
-    ensures { IfOk result (λ found. BeginsWithAge bytes.now (option_map (λ next. (next.0, next.1.now)) found)) }
+    ensures { IfOk result (λ found. BeginsWithAge form bytes.now (option_map (λ next. (next.0, next.1.now)) found)) }
 {
-    let Some((line, behind)) = next_line(alloc, scratch, bytes)? else {
+    let Some((line, behind)) = next_line(alloc, form, scratch, bytes)? else {
         return Ok(None);
     };
     let age = age_of(&line);
@@ -108,19 +104,27 @@ fn next_age<'a>(
     }
 }
 
-/// The age, and the bytes behind the first two lines.
+/// What the first two lines say, and the bytes behind them.
+#[derive(Clone, Copy)]
+struct Start<'a> {
+    form: Form,
+    age: Age,
+    behind: &'a [u8],
+}
+
+/// The form, the age, and the bytes behind the first two lines.
 fn read_start<'a>(
     alloc: Global,
     scratch: &mut LineScratch,
     bytes: &'a [u8],
-) -> Result<(Age, &'a [u8]), JournalFault>
-    ensures { ReadsStart (λ next. (next.0, next.1.now)) bytes.now result }
+) -> Result<Start<'a>, JournalFault>
+    ensures { ReadsStart (λ start. start_of start.form start.age start.behind.now) bytes.now result }
 {
-    let Some(rest) = next_head(alloc, scratch, bytes)? else {
+    let Some((form, rest)) = next_head(bytes) else {
         return Err(JournalFault::At { line: 1 });
     };
-    match next_age(alloc, scratch, rest) {
-        Ok(Some((age, behind))) => Ok((age, behind)),
+    match next_age(alloc, form, scratch, rest) {
+        Ok(Some((age, behind))) => Ok(Start { form, age, behind }),
         Ok(None) => Err(JournalFault::At { line: 2 }),
         Err(_) => Err(JournalFault::Memory),
     }
@@ -128,12 +132,18 @@ fn read_start<'a>(
 
 /// The journal of a draft, if its last line, which has that number, may stand there and nothing
 /// stands behind it.
-fn closed(draft: Draft, steps: u64, behind: &[u8], number: usize) -> Result<Journal, JournalFault>
+fn closed(
+    form: Form,
+    draft: Draft,
+    steps: u64,
+    behind: &[u8],
+    number: usize,
+) -> Result<Journal, JournalFault>
     requires is_line { steps < 2 ^ 64 }
-    requires is_draft { IsDraft draft }
+    requires is_draft { IsDraft form draft }
     requires counted { number ≡ length (lines_so_far draft) + 1 }
     requires room { number + 1 < 2 ^ 64 }
-    ensures { ReadsJournal (lines_text (lines_so_far draft) ++ (line_text (lines.Close steps) ++ 10 ∷ behind.now)) result }
+    ensures { ReadsRest form (lines_text form (lines_so_far draft) ++ (line_text form (lines.Close steps) ++ 10 ∷ behind.now)) result }
 {
     if !draft.close_fits(steps) {
         return Err(JournalFault::At { line: number });
@@ -147,22 +157,23 @@ fn closed(draft: Draft, steps: u64, behind: &[u8], number: usize) -> Result<Jour
 /// The journal whose lines behind the head and the age these are.
 fn read_parts(
     alloc: Global,
+    form: Form,
     scratch: &mut LineScratch,
     age: Age,
     bytes: &[u8],
 ) -> Result<Journal, JournalFault>
     requires { IsAge age }
-    ensures { ReadsJournal (lines_text (start_lines age) ++ bytes.now) result }
+    ensures { ReadsRest form (lines_text form (start_lines age) ++ bytes.now) result }
 {
     let mut draft = Draft::new(alloc, age);
     let mut rest = bytes;
     let mut number = 3;
     'lines: loop {
-        let Some((line, behind)) = next_line(alloc, scratch, rest)? else {
+        let Some((line, behind)) = next_line(alloc, form, scratch, rest)? else {
             return Err(JournalFault::At { line: number });
         };
         match line {
-            Line::Close(steps) => return closed(draft, steps, behind, number),
+            Line::Close(steps) => return closed(form, draft, steps, behind, number),
             line => {
                 if !draft.add(line)? {
                     return Err(JournalFault::At { line: number });
@@ -185,7 +196,7 @@ pub fn read_journal(alloc: Global, bytes: &[u8]) -> Result<Journal, JournalFault
 {
     let mut scratch = LineScratch::new(alloc)?;
     match read_start(alloc, &mut scratch, bytes) {
-        Ok((age, rest)) => read_parts(alloc, &mut scratch, age, rest),
+        Ok(start) => read_parts(alloc, start.form, &mut scratch, start.age, start.behind),
         Err(fault) => Err(fault),
     }
 }

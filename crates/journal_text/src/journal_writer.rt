@@ -2,9 +2,11 @@
 
 ghost use Rattle.std.specs.Prelude.{◌≡◌, ◌++◌, ◌<◌, ◌^◌, ◌∷◌, [], length, map, IfOk, OnOk, Ok, Err, string_bytes};
 ghost use Rattle.journal_text.specs.declared.line.Line.TheVariants as line;
+ghost use Rattle.journal_text.specs.Form.{newest};
 ghost use Rattle.journal_text.specs.RecordedReply.{recorded_of};
 ghost use Rattle.journal_text.specs.Text.{line_text, lines_text, tenant_line, row_line, history, journal_text};
 
+use crate::form::Form;
 use crate::line_writer::{
     push_age, push_close, push_fault, push_head, push_row, push_step, push_tenant, push_value,
 };
@@ -15,7 +17,7 @@ use std::alloc::{AllocError, Global};
 use tenant_gate::Limits;
 
 fn push_tenants(text: &mut String, tenants: &[(Tenant, Limits)]) -> Result<(), AllocError>
-    ensures { OnOk result (string_bytes text.new ≡ string_bytes text.old ++ lines_text (map tenant_line tenants.now)) }
+    ensures { OnOk result (string_bytes text.new ≡ string_bytes text.old ++ lines_text newest (map tenant_line tenants.now)) }
 {
     'tenants: for (tenant, limits) in tenants {
         push_tenant(text, tenant, *limits)?;
@@ -24,17 +26,18 @@ fn push_tenants(text: &mut String, tenants: &[(Tenant, Limits)]) -> Result<(), A
 }
 
 fn push_steps(alloc: Global, text: &mut String, steps: &[Step]) -> Result<(), AllocError>
-    ensures { OnOk result (string_bytes text.new ≡ string_bytes text.old ++ lines_text (map line.Step steps.now)) }
+    ensures { OnOk result (string_bytes text.new ≡ string_bytes text.old ++ lines_text newest (map line.Step steps.now)) }
 {
     'steps: for step in steps {
-        push_step(alloc, text, step)?;
+        push_step(alloc, Form::newest(), text, step)?;
     }
     Ok(())
 }
 
 /// Adds the line of a reply, as a journal records it.
 fn push_reply(alloc: Global, text: &mut String, reply: &Reply) -> Result<(), AllocError>
-    ensures { OnOk result (string_bytes text.new ≡ string_bytes text.old ++ (line_text (line.Reply (recorded_of reply.now)) ++ 10 ∷ [])) }
+    ensures { OnOk result (string_bytes text.new
+        ≡ string_bytes text.old ++ (line_text newest (line.Reply (recorded_of reply.now)) ++ 10 ∷ [])) }
 {
     match &reply.outcome {
         Ok(value) => push_value(alloc, text, &reply.recipient, value),
@@ -46,7 +49,8 @@ fn push_reply(alloc: Global, text: &mut String, reply: &Reply) -> Result<(), All
 }
 
 fn push_replies(alloc: Global, text: &mut String, replies: &[Reply]) -> Result<(), AllocError>
-    ensures { OnOk result (string_bytes text.new ≡ string_bytes text.old ++ lines_text (map line.Reply (map recorded_of replies.now))) }
+    ensures { OnOk result (string_bytes text.new
+        ≡ string_bytes text.old ++ lines_text newest (map line.Reply (map recorded_of replies.now))) }
 {
     'replies: for reply in replies {
         push_reply(alloc, text, reply)?;
@@ -55,7 +59,7 @@ fn push_replies(alloc: Global, text: &mut String, replies: &[Reply]) -> Result<(
 }
 
 fn push_rows(alloc: Global, text: &mut String, rows: &[(GrainId, Row)]) -> Result<(), AllocError>
-    ensures { OnOk result (string_bytes text.new ≡ string_bytes text.old ++ lines_text (map row_line rows.now)) }
+    ensures { OnOk result (string_bytes text.new ≡ string_bytes text.old ++ lines_text newest (map row_line rows.now)) }
 {
     'rows: for (grain, row) in rows {
         push_row(alloc, text, grain, row)?;
@@ -74,9 +78,10 @@ fn push_parts(
     rows: &[(GrainId, Row)],
 ) -> Result<(), AllocError>
     requires { string_bytes text.now ≡ [] }
-    ensures { OnOk result (string_bytes text.new ≡ journal_text (history tenants.now age steps.now (map recorded_of replies.now) rows.now)) }
+    ensures { OnOk result (string_bytes text.new
+        ≡ journal_text (history tenants.now age steps.now (map recorded_of replies.now) rows.now)) }
 {
-    push_head(text)?;
+    push_head(Form::newest(), text)?;
     push_age(text, age)?;
     push_tenants(text, tenants)?;
     push_steps(alloc, text, steps)?;

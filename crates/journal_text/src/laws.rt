@@ -2,6 +2,7 @@
 
 ghost use Rattle.std.specs.Prelude.{◌≡◌, ℕ, List, true};
 ghost use Rattle.std.specs.List.{list_all};
+ghost use Rattle.journal_text.specs.declared.form.Form.{Form};
 ghost use Rattle.journal_text.specs.declared.line.Line.{Line};
 ghost use Rattle.journal_text.specs.RecordedFault.{is_text_byte};
 ghost use Rattle.journal_text.specs.Rules.{IsLine, KeepsRules};
@@ -10,12 +11,12 @@ ghost use Rattle.journal_text.specs.FirstFault.{IsFirstFault, IsNoJournal};
 
 /// No two lines of a journal have the same text.
 pub fn one_line()
-    ensures { (l m : Line) → IsLine l → IsLine m → line_text l ≡ line_text m → l ≡ m }
+    ensures { (form : Form) (l m : Line) → IsLine form l → IsLine form m → line_text form l ≡ line_text form m → l ≡ m }
 {}
 
 /// The text of a line is of visible ASCII and spaces.
 pub fn plain_line()
-    ensures { (l : Line) → IsLine l → list_all is_text_byte (line_text l) ≡ true }
+    ensures { (form : Form) (l : Line) → IsLine form l → list_all is_text_byte (line_text form l) ≡ true }
 {}
 
 /// No two journals have the same text.

@@ -9,6 +9,7 @@
 mod draft;
 mod fault;
 mod field_reader;
+mod form;
 mod journal;
 mod journal_reader;
 mod journal_writer;

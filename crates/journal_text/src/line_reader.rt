@@ -4,17 +4,20 @@ ghost use Rattle.std.specs.Prelude.{◌≡◌, ◌≤◌, ◌<◌, ◌^◌, ◌+
 ghost use Rattle.grain_id.specs.Names.{is_grain};
 ghost use Rattle.grain_id.specs.Words.{is_word};
 ghost use Rattle.tenant_gate.specs.Table.{are_in_range};
-ghost use Rattle.journal_text.specs.Answers.{Reads};
-ghost use Rattle.journal_text.specs.Candidates.{age_of, limits_of, word_of, tenant_of, recipient_of, outcome_of, reply_of, content_of, version_of, row_of, head_of, step_line, step_of, named_of, candidate_of};
+ghost use Rattle.journal_text.specs.inside.Answers.{Reads};
+ghost use Rattle.journal_text.specs.inside.Candidates.{age_of, limits_of, word_of, tenant_of, recipient_of};
+ghost use Rattle.journal_text.specs.inside.Candidates.{outcome_of, reply_of, content_of, version_of, row_of};
+ghost use Rattle.journal_text.specs.inside.Candidates.{head_of, step_line, step_of, named_of, candidate_of};
 ghost use Rattle.journal_text.specs.Rules.{IsLine, IsParty, IsOutcome, IsRow};
 ghost use Rattle.tenant_gate.specs.Age.{IsAge};
 ghost use Rattle.journal_text.specs.Form.{HasState};
 ghost use Rattle.grain_id.specs.Names.{same_text};
 ghost use Rattle.journal_text.specs.Text.{line_text};
-ghost use Rattle.journal_text.specs.Answers.{ReadsLine};
+ghost use Rattle.journal_text.specs.inside.Answers.{ReadsLine};
 
 use crate::fault::LineFault;
 use crate::field_reader::{cut, parse_caller, parse_grain, parse_number, parse_state, parse_u64};
+use crate::form::Form;
 use crate::line::Line;
 use crate::line_writer::push_line;
 use crate::recorded::{RecordedFault, RecordedReply, parse_recorded_fault};
@@ -94,8 +97,8 @@ fn parse_tenant(alloc: Global, fields: &str) -> Result<(Tenant, Limits), LineFau
     ensures well_formed { IfOk result (λ read. IsTrue (is_word read.0) × IsTrue (are_in_range read.1)) }
 {
     let (name, fields) = cut(fields)?;
-    let (activations, mailbox) = cut(fields)?;
     let tenant = parse_tenant_name(alloc, name)?;
+    let (activations, mailbox) = cut(fields)?;
     let activations = parse_u64(activations)?;
     let mailbox = parse_u64(mailbox)?;
     let limits = parse_limits(activations, mailbox)?;
@@ -128,19 +131,20 @@ fn parse_recipient(
 /// A value, or the fault in its place.
 fn parse_outcome(
     alloc: Global,
-    word: &str,
+    form: Form,
     fields: &str,
 ) -> Result<Result<StateBytes, RecordedFault>, LineFault>
-    ensures gives { Reads (λ read. read) result (outcome_of word.now fields.now) }
-    ensures well_formed { IfOk result IsOutcome }
+    ensures gives { Reads (λ read. read) result (outcome_of form fields.now) }
+    ensures well_formed { IfOk result (IsOutcome form) }
 {
+    let (word, fields) = cut(fields)?;
     match word {
         "ok" => {
-            let value = parse_state(alloc, fields)?;
+            let value = parse_state(alloc, form, fields)?;
             Ok(Ok(value))
         }
         "no" => {
-            let fault = parse_recorded_fault(alloc, fields)?;
+            let fault = parse_recorded_fault(alloc, form, fields)?;
             Ok(Err(fault))
         }
         _ => Err(LineFault::NoForm),
@@ -150,29 +154,29 @@ fn parse_outcome(
 /// What stands behind `reply`.
 fn parse_reply(
     alloc: Global,
+    form: Form,
     names: &mut NameCache,
     fields: &str,
 ) -> Result<RecordedReply, LineFault>
-    ensures gives { Reads (λ read. read) result (reply_of fields.now) }
-    ensures well_formed { IfOk result (λ read. IsParty read.recipient × IsOutcome read.outcome) }
+    ensures gives { Reads (λ read. read) result (reply_of form fields.now) }
+    ensures well_formed { IfOk result (λ read. IsParty read.recipient × IsOutcome form read.outcome) }
 {
     let (who, fields) = cut(fields)?;
     let (number, fields) = cut(fields)?;
-    let (word, fields) = cut(fields)?;
     let recipient = parse_recipient(alloc, names, who, number)?;
-    let outcome = parse_outcome(alloc, word, fields)?;
+    let outcome = parse_outcome(alloc, form, fields)?;
     Ok(RecordedReply { recipient, outcome })
 }
 
 /// The content of a row.
-fn parse_content(alloc: Global, field: &str) -> Result<Option<StateBytes>, LineFault>
-    ensures gives { Reads (λ read. read) result (content_of field.now) }
-    ensures spelled { IfOk result (λ content. IfSome content HasState) }
+fn parse_content(alloc: Global, form: Form, field: &str) -> Result<Option<StateBytes>, LineFault>
+    ensures gives { Reads (λ read. read) result (content_of form field.now) }
+    ensures spelled { IfOk result (λ content. IfSome content (HasState form)) }
 {
     match field {
         "-" => Ok(None),
         _ => {
-            let state = parse_state(alloc, field)?;
+            let state = parse_state(alloc, form, field)?;
             Ok(Some(state))
         }
     }
@@ -194,57 +198,61 @@ fn parse_version(field: &str) -> Result<u64, LineFault>
 /// What stands behind `row`.
 fn parse_row(
     alloc: Global,
+    form: Form,
     names: &mut NameCache,
     fields: &str,
 ) -> Result<(GrainId, Row), LineFault>
-    ensures gives { Reads (λ read. read) result (row_of fields.now) }
-    ensures well_formed { IfOk result (λ read. IsTrue (is_grain read.0) × IsRow read.1) }
+    ensures gives { Reads (λ read. read) result (row_of form fields.now) }
+    ensures well_formed { IfOk result (λ read. IsTrue (is_grain read.0) × IsRow form read.1) }
 {
     let (grain, fields) = cut(fields)?;
-    let (version, content) = cut(fields)?;
     let grain = parse_grain(alloc, names, grain)?;
+    let (version, content) = cut(fields)?;
     let version = parse_version(version)?;
-    let content = parse_content(alloc, content)?;
+    let content = parse_content(alloc, form, content)?;
     Ok((grain, Row { version, content }))
 }
 
 /// What stands behind `silo-journal`.
-fn parse_head(fields: &str) -> Result<Line, LineFault>
-    ensures gives { Reads (λ read. read) result (head_of fields.now) }
-    ensures is_line { IfOk result IsLine }
+fn parse_head(form: Form, field: &str) -> Result<Line, LineFault>
+    ensures gives { Reads (λ read. read) result (head_of form field.now) }
+    ensures is_line { IfOk result (IsLine form) }
 {
-    match fields {
-        "1" => Ok(Line::Head),
-        _ => Err(LineFault::NoForm),
+    if field == form.text() {
+        Ok(Line::Head)
+    } else {
+        Err(LineFault::NoForm)
     }
 }
 
 /// The line of a step that has fields.
 fn parse_step_line(
     alloc: Global,
+    form: Form,
     names: &mut NameCache,
     word: &str,
     fields: &str,
 ) -> Result<Line, LineFault>
-    ensures gives { Reads (λ read. read) result (step_line (step_of word.now fields.now)) }
-    ensures is_line { IfOk result IsLine }
+    ensures gives { Reads (λ read. read) result (step_line (step_of form word.now fields.now)) }
+    ensures is_line { IfOk result (IsLine form) }
 {
-    let step = parse_step(alloc, names, word, fields)?;
+    let step = parse_step(alloc, form, names, word, fields)?;
     Ok(Line::Step(step))
 }
 
 /// What a word and the fields behind it may be the line of.
 fn parse_named(
     alloc: Global,
+    form: Form,
     names: &mut NameCache,
     word: &str,
     fields: &str,
 ) -> Result<Line, LineFault>
-    ensures gives { Reads (λ read. read) result (named_of word.now fields.now) }
-    ensures is_line { IfOk result IsLine }
+    ensures gives { Reads (λ read. read) result (named_of form word.now fields.now) }
+    ensures is_line { IfOk result (IsLine form) }
 {
     match word {
-        "silo-journal" => parse_head(fields),
+        "silo-journal" => parse_head(form, fields),
         "age" => {
             let age = parse_age(fields)?;
             Ok(Line::Age(age))
@@ -254,32 +262,37 @@ fn parse_named(
             Ok(Line::Tenant(tenant, limits))
         }
         "reply" => {
-            let reply = parse_reply(alloc, names, fields)?;
+            let reply = parse_reply(alloc, form, names, fields)?;
             Ok(Line::Reply(reply))
         }
         "row" => {
-            let (grain, row) = parse_row(alloc, names, fields)?;
+            let (grain, row) = parse_row(alloc, form, names, fields)?;
             Ok(Line::Row(grain, row))
         }
         "close" => {
             let steps = parse_u64(fields)?;
             Ok(Line::Close(steps))
         }
-        _ => parse_step_line(alloc, names, word, fields),
+        _ => parse_step_line(alloc, form, names, word, fields),
     }
 }
 
 /// What the text may be the line of. A text that isn't one may be read as something too.
-#[tactic(auto, unfolding(crate::specs::Candidates::candidate_of))]
-fn parse_candidate(alloc: Global, names: &mut NameCache, text: &str) -> Result<Line, LineFault>
-    ensures gives { Reads (λ read. read) result (candidate_of text.now) }
-    ensures is_line { IfOk result IsLine }
+#[tactic(auto, unfolding(crate::specs::inside::Candidates::candidate_of))]
+fn parse_candidate(
+    alloc: Global,
+    form: Form,
+    names: &mut NameCache,
+    text: &str,
+) -> Result<Line, LineFault>
+    ensures gives { Reads (λ read. read) result (candidate_of form text.now) }
+    ensures is_line { IfOk result (IsLine form) }
 {
     match text {
         "sweep" => Ok(Line::Step(Step::Sweep)),
         _ => {
             let (word, fields) = cut(text)?;
-            parse_named(alloc, names, word, fields)
+            parse_named(alloc, form, names, word, fields)
         }
     }
 }
@@ -297,24 +310,31 @@ fn but_last(text: &str) -> &[u8]
 /// Whether the text is the line's, which is written again.
 fn is_text_of(
     alloc: Global,
+    form: Form,
     written: &mut String,
     line: &Line,
     text: &str,
 ) -> Result<bool, AllocError>
-    ensures { IfOk result (λ same. same ≡ same_text (line_text line.now) text.now) }
+    ensures { IfOk result (λ same. same ≡ same_text (line_text form line.now) text.now) }
 {
     written.clear();
-    push_line(alloc, written, line)?;
+    push_line(alloc, form, written, line)?;
     Ok(but_last(written.as_str()) == text.as_bytes())
 }
 
 /// The line that was read of a text, if the text is its own.
-fn confirmed(alloc: Global, written: &mut String, line: Line, text: &str) -> Result<Line, LineFault>
-    requires gives { candidate_of text.now ≡ Some line }
-    requires is_line { IsLine line }
-    ensures { ReadsLine text.now result }
+fn confirmed(
+    alloc: Global,
+    form: Form,
+    written: &mut String,
+    line: Line,
+    text: &str,
+) -> Result<Line, LineFault>
+    requires gives { candidate_of form text.now ≡ Some line }
+    requires is_line { IsLine form line }
+    ensures { ReadsLine form text.now result }
 {
-    let Ok(same) = is_text_of(alloc, written, &line, text) else {
+    let Ok(same) = is_text_of(alloc, form, written, &line, text) else {
         drop(line);
         return Err(LineFault::Memory);
     };
@@ -326,20 +346,21 @@ fn confirmed(alloc: Global, written: &mut String, line: Line, text: &str) -> Res
     }
 }
 
-/// The line whose text this is, without its LF.
+/// The line whose text in that form this is, without its LF.
 ///
 /// # Errors
 ///
 /// `NoForm` if it is the text of no line, `Memory` if memory is refused.
 pub(crate) fn parse_line(
     alloc: Global,
+    form: Form,
     scratch: &mut LineScratch,
     text: &str,
 ) -> Result<Line, LineFault>
-    ensures { ReadsLine text.now result }
+    ensures { ReadsLine form text.now result }
 {
-    match parse_candidate(alloc, &mut scratch.names, text) {
-        Ok(line) => confirmed(alloc, &mut scratch.written, line, text),
+    match parse_candidate(alloc, form, &mut scratch.names, text) {
+        Ok(line) => confirmed(alloc, form, &mut scratch.written, line, text),
         Err(LineFault::NoForm) => Err(LineFault::NoForm),
         Err(LineFault::Memory) => Err(LineFault::Memory),
     }

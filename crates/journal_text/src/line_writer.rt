@@ -4,9 +4,11 @@ ghost use Rattle.std.specs.Prelude.{◌≡◌, ◌++◌, ◌∷◌, [], List, co
 ghost use Rattle.grain_id.specs.Names.{client_text, grain_text};
 ghost use Rattle.silo_event.specs.declared.step.Step.TheVariants as step;
 ghost use Rattle.journal_text.specs.declared.line.Line.TheVariants as line;
+ghost use Rattle.journal_text.specs.Form.{newest, message_bytes};
 ghost use Rattle.journal_text.specs.RecordedFault.{code_and_text};
 ghost use Rattle.journal_text.specs.Text.{◌␣◌, mark_text, state_text, recipient_text, outcome_text, step_text, line_text};
 
+use crate::form::Form;
 use crate::line::Line;
 use crate::recorded::RecordedReply;
 use grain_id::{Caller, GrainId, Tenant};
@@ -24,7 +26,8 @@ fn mark(failed: bool) -> &'static str
 }
 
 fn push_refuse(text: &mut String, caller: &Caller, id: u64, code: Refusal) -> Result<(), AllocError>
-    ensures { OnOk result (string_bytes text.new ≡ string_bytes text.old ++ (step_text (step.Refuse caller.now id code) ++ 10 ∷ [])) }
+    ensures { OnOk result (string_bytes text.new
+        ≡ string_bytes text.old ++ (step_text newest (step.Refuse caller.now id code) ++ 10 ∷ [])) }
 {
     let caller = caller.text();
     let fault = code.fault();
@@ -33,19 +36,30 @@ fn push_refuse(text: &mut String, caller: &Caller, id: u64, code: Refusal) -> Re
     write!(text, "refuse {caller} {id} {code}\n")
 }
 
+/// The bytes of a message in that form.
+fn message_bytes(form: Form, message: &Message) -> &[u8]
+    ensures { result.now ≡ message_bytes form message.now }
+{
+    match form {
+        Form::First => message.bytes(),
+    }
+}
+
 fn push_call(
     alloc: Global,
+    form: Form,
     text: &mut String,
     caller: &Caller,
     id: u64,
     grain: &GrainId,
     message: &Message,
 ) -> Result<(), AllocError>
-    ensures { OnOk result (string_bytes text.new ≡ string_bytes text.old ++ (step_text (step.Call caller.now id grain.now message.now) ++ 10 ∷ [])) }
+    ensures { OnOk result (string_bytes text.new
+        ≡ string_bytes text.old ++ (step_text form (step.Call caller.now id grain.now message.now) ++ 10 ∷ [])) }
 {
     let caller = caller.text();
     let grain = grain.text();
-    let message = hex::encode(alloc, message.bytes())?;
+    let message = hex::encode(alloc, message_bytes(form, message))?;
     write!(text, "call {caller} {id} {grain} {message}\n")
 }
 
@@ -58,7 +72,8 @@ fn push_poke(
     state: &StateBytes,
     failed: bool,
 ) -> Result<(), AllocError>
-    ensures { OnOk result (string_bytes text.new ≡ string_bytes text.old ++ (step_text (step.Poke failed caller.now id grain.now state.now) ++ 10 ∷ [])) }
+    ensures { OnOk result (string_bytes text.new
+        ≡ string_bytes text.old ++ (step_text newest (step.Poke failed caller.now id grain.now state.now) ++ 10 ∷ [])) }
 {
     let caller = caller.text();
     let grain = grain.text();
@@ -68,7 +83,7 @@ fn push_poke(
 }
 
 fn push_status(text: &mut String, caller: &Caller, id: u64) -> Result<(), AllocError>
-    ensures { OnOk result (string_bytes text.new ≡ string_bytes text.old ++ (step_text (step.Status caller.now id) ++ 10 ∷ [])) }
+    ensures { OnOk result (string_bytes text.new ≡ string_bytes text.old ++ (step_text newest (step.Status caller.now id) ++ 10 ∷ [])) }
 {
     let caller = caller.text();
     write!(text, "status {caller} {id}\n")
@@ -83,7 +98,7 @@ fn push_at(text: &mut String, word: &str, grain: &GrainId) -> Result<(), AllocEr
 }
 
 fn push_load(text: &mut String, grain: &GrainId, failed: bool) -> Result<(), AllocError>
-    ensures { OnOk result (string_bytes text.new ≡ string_bytes text.old ++ (step_text (step.Load grain.now failed) ++ 10 ∷ [])) }
+    ensures { OnOk result (string_bytes text.new ≡ string_bytes text.old ++ (step_text newest (step.Load grain.now failed) ++ 10 ∷ [])) }
 {
     let grain = grain.text();
     let mark = mark(failed);
@@ -91,7 +106,8 @@ fn push_load(text: &mut String, grain: &GrainId, failed: bool) -> Result<(), All
 }
 
 fn push_store(text: &mut String, grain: &GrainId, turn: u64, failed: bool) -> Result<(), AllocError>
-    ensures { OnOk result (string_bytes text.new ≡ string_bytes text.old ++ (step_text (step.Store grain.now turn failed) ++ 10 ∷ [])) }
+    ensures { OnOk result (string_bytes text.new
+        ≡ string_bytes text.old ++ (step_text newest (step.Store grain.now turn failed) ++ 10 ∷ [])) }
 {
     let grain = grain.text();
     let mark = mark(failed);
@@ -100,7 +116,8 @@ fn push_store(text: &mut String, grain: &GrainId, turn: u64, failed: bool) -> Re
 
 /// Adds a line of a word, a grain and a turn.
 fn push_turn(text: &mut String, word: &str, grain: &GrainId, turn: u64) -> Result<(), AllocError>
-    ensures { OnOk result (string_bytes text.new ≡ string_bytes text.old ++ ((word.now ␣ grain_text grain.now ␣ decimal turn) ++ 10 ∷ [])) }
+    ensures { OnOk result (string_bytes text.new
+        ≡ string_bytes text.old ++ ((word.now ␣ grain_text grain.now ␣ decimal turn) ++ 10 ∷ [])) }
 {
     let grain = grain.text();
     write!(text, "{word} {grain} {turn}\n")
@@ -114,8 +131,13 @@ fn push_number(text: &mut String, word: &str, number: u64) -> Result<(), AllocEr
 }
 
 /// Adds a step's line. After an `Err` the text may hold a part of it.
-pub(crate) fn push_step(alloc: Global, text: &mut String, step: &Step) -> Result<(), AllocError>
-    ensures { OnOk result (string_bytes text.new ≡ string_bytes text.old ++ (step_text step.now ++ 10 ∷ [])) }
+pub(crate) fn push_step(
+    alloc: Global,
+    form: Form,
+    text: &mut String,
+    step: &Step,
+) -> Result<(), AllocError>
+    ensures { OnOk result (string_bytes text.new ≡ string_bytes text.old ++ (step_text form step.now ++ 10 ∷ [])) }
 {
     match step {
         Step::Refuse { caller, id, code } => push_refuse(text, caller, *id, *code),
@@ -124,7 +146,7 @@ pub(crate) fn push_step(alloc: Global, text: &mut String, step: &Step) -> Result
             id,
             grain,
             message,
-        } => push_call(alloc, text, caller, *id, grain, message),
+        } => push_call(alloc, form, text, caller, *id, grain, message),
         Step::Poke {
             caller,
             id,
@@ -150,15 +172,16 @@ pub(crate) fn push_step(alloc: Global, text: &mut String, step: &Step) -> Result
 }
 
 /// Adds the first line.
-pub(crate) fn push_head(text: &mut String) -> Result<(), AllocError>
-    ensures { OnOk result (string_bytes text.new ≡ string_bytes text.old ++ (line_text line.Head ++ 10 ∷ [])) }
+pub(crate) fn push_head(form: Form, text: &mut String) -> Result<(), AllocError>
+    ensures { OnOk result (string_bytes text.new ≡ string_bytes text.old ++ (line_text form line.Head ++ 10 ∷ [])) }
 {
-    text.push_str("silo-journal 1\n")
+    let number = form.text();
+    write!(text, "silo-journal {number}\n")
 }
 
 /// Adds the line of an age of so many milliseconds.
 pub(crate) fn push_age(text: &mut String, age: u64) -> Result<(), AllocError>
-    ensures { OnOk result (string_bytes text.new ≡ string_bytes text.old ++ (line_text (line.Age age) ++ 10 ∷ [])) }
+    ensures { OnOk result (string_bytes text.new ≡ string_bytes text.old ++ (line_text newest (line.Age age) ++ 10 ∷ [])) }
 {
     push_number(text, "age", age)
 }
@@ -169,7 +192,8 @@ pub(crate) fn push_tenant(
     tenant: &Tenant,
     limits: Limits,
 ) -> Result<(), AllocError>
-    ensures { OnOk result (string_bytes text.new ≡ string_bytes text.old ++ (line_text (line.Tenant tenant.now limits) ++ 10 ∷ [])) }
+    ensures { OnOk result (string_bytes text.new
+        ≡ string_bytes text.old ++ (line_text newest (line.Tenant tenant.now limits) ++ 10 ∷ [])) }
 {
     let tenant = tenant.text();
     let activations = limits.activations;
@@ -201,7 +225,8 @@ pub(crate) fn push_value(
     recipient: &Party,
     value: &StateBytes,
 ) -> Result<(), AllocError>
-    ensures { OnOk result (string_bytes text.new ≡ string_bytes text.old ++ ((codes "reply" ␣ recipient_text recipient.now ␣ outcome_text (Ok value.now)) ++ 10 ∷ [])) }
+    ensures { OnOk result (string_bytes text.new
+        ≡ string_bytes text.old ++ ((codes "reply" ␣ recipient_text recipient.now ␣ outcome_text (Ok value.now)) ++ 10 ∷ [])) }
 {
     text.push_str("reply ")?;
     push_recipient(text, recipient)?;
@@ -216,7 +241,9 @@ pub(crate) fn push_fault(
     code: u8,
     told: &str,
 ) -> Result<(), AllocError>
-    ensures { OnOk result (string_bytes text.new ≡ string_bytes text.old ++ ((codes "reply" ␣ recipient_text recipient.now ␣ outcome_text (Err (code_and_text code told.now))) ++ 10 ∷ [])) }
+    ensures { OnOk result (string_bytes text.new
+        ≡ string_bytes text.old
+        ++ ((codes "reply" ␣ recipient_text recipient.now ␣ outcome_text (Err (code_and_text code told.now))) ++ 10 ∷ [])) }
 {
     text.push_str("reply ")?;
     push_recipient(text, recipient)?;
@@ -230,7 +257,7 @@ pub(crate) fn push_row(
     grain: &GrainId,
     row: &Row,
 ) -> Result<(), AllocError>
-    ensures { OnOk result (string_bytes text.new ≡ string_bytes text.old ++ (line_text (line.Row grain.now row.now) ++ 10 ∷ [])) }
+    ensures { OnOk result (string_bytes text.new ≡ string_bytes text.old ++ (line_text newest (line.Row grain.now row.now) ++ 10 ∷ [])) }
 {
     let grain = grain.text();
     let version = row.version;
@@ -245,14 +272,14 @@ pub(crate) fn push_row(
 
 /// Adds the last line, with the number of steps.
 pub(crate) fn push_close(text: &mut String, steps: u64) -> Result<(), AllocError>
-    ensures { OnOk result (string_bytes text.new ≡ string_bytes text.old ++ (line_text (line.Close steps) ++ 10 ∷ [])) }
+    ensures { OnOk result (string_bytes text.new ≡ string_bytes text.old ++ (line_text newest (line.Close steps) ++ 10 ∷ [])) }
 {
     push_number(text, "close", steps)
 }
 
 /// Adds the line of a recorded reply.
 fn push_recorded(alloc: Global, text: &mut String, reply: &RecordedReply) -> Result<(), AllocError>
-    ensures { OnOk result (string_bytes text.new ≡ string_bytes text.old ++ (line_text (line.Reply reply.now) ++ 10 ∷ [])) }
+    ensures { OnOk result (string_bytes text.new ≡ string_bytes text.old ++ (line_text newest (line.Reply reply.now) ++ 10 ∷ [])) }
 {
     match &reply.outcome {
         Ok(value) => push_value(alloc, text, &reply.recipient, value),
@@ -261,14 +288,19 @@ fn push_recorded(alloc: Global, text: &mut String, reply: &RecordedReply) -> Res
 }
 
 /// Adds a line. After an `Err` the text may hold a part of it.
-pub(crate) fn push_line(alloc: Global, text: &mut String, line: &Line) -> Result<(), AllocError>
-    ensures { OnOk result (string_bytes text.new ≡ string_bytes text.old ++ (line_text line.now ++ 10 ∷ [])) }
+pub(crate) fn push_line(
+    alloc: Global,
+    form: Form,
+    text: &mut String,
+    line: &Line,
+) -> Result<(), AllocError>
+    ensures { OnOk result (string_bytes text.new ≡ string_bytes text.old ++ (line_text form line.now ++ 10 ∷ [])) }
 {
     match line {
-        Line::Head => push_head(text),
+        Line::Head => push_head(form, text),
         Line::Age(age) => push_age(text, age.millis()),
         Line::Tenant(tenant, limits) => push_tenant(text, tenant, *limits),
-        Line::Step(step) => push_step(alloc, text, step),
+        Line::Step(step) => push_step(alloc, form, text, step),
         Line::Reply(reply) => push_recorded(alloc, text, reply),
         Line::Row(grain, row) => push_row(alloc, text, grain, row),
         Line::Close(steps) => push_close(text, *steps),

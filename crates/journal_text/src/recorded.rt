@@ -2,13 +2,14 @@
 
 ghost use Rattle.std.specs.Prelude.{◌≡◌, IfOk, IsTrue};
 ghost use Rattle.std.specs.List.{list_all};
-ghost use Rattle.journal_text.specs.Form.{is_code};
+ghost use Rattle.journal_text.specs.Form.{is_code, newest};
 ghost use Rattle.journal_text.specs.RecordedFault.{is_recorded_fault, is_text_byte};
-ghost use Rattle.journal_text.specs.Answers.{Reads};
-ghost use Rattle.journal_text.specs.Candidates.{recorded_fault_of};
+ghost use Rattle.journal_text.specs.inside.Answers.{Reads};
+ghost use Rattle.journal_text.specs.inside.Candidates.{recorded_fault_of};
 
 use crate::fault::LineFault;
 use crate::field_reader::{cut, parse_u64};
+use crate::form::Form;
 use request_codec::StateBytes;
 use silo_event::Party;
 use std::alloc::Global;
@@ -24,6 +25,7 @@ pub struct RecordedFault {
 
 impl Model for RecordedFault {
     ghost use Rattle.std.specs.Prelude.{IsTrue, string_bytes};
+    ghost use Rattle.journal_text.specs.Form.{newest};
     ghost use Rattle.journal_text.specs.RecordedFault.{CodeAndText, coded_code_and_text, code_and_text, is_recorded_fault};
 
     ghost Value = { CodeAndText };
@@ -32,7 +34,7 @@ impl Model for RecordedFault {
 
     ghost view = { λ f. code_and_text f.code (string_bytes f.text) };
 
-    ghost invariant = { λ f. IsTrue (is_recorded_fault (code_and_text f.code (string_bytes f.text))) };
+    ghost invariant = { λ f. IsTrue (is_recorded_fault newest (code_and_text f.code (string_bytes f.text))) };
 }
 
 impl RecordedFault {
@@ -46,7 +48,7 @@ impl RecordedFault {
     /// The text: one or more bytes from 0x20 to 0x7E.
     pub fn text(&self) -> &str
         ensures text { result.now ≡ self.now.text }
-        ensures well_formed { IsTrue (is_recorded_fault self.now) }
+        ensures well_formed { IsTrue (is_recorded_fault newest self.now) }
     {
         self.text.as_str()
     }
@@ -59,14 +61,16 @@ pub struct RecordedReply {
     pub outcome: Result<StateBytes, RecordedFault>,
 }
 
-/// Whether the number is a fault's code.
-fn is_code(number: u64) -> bool
-    ensures { result ≡ is_code number }
+/// Whether the number is a fault's code in that form.
+fn is_code(form: Form, number: u64) -> bool
+    ensures { result ≡ is_code form number }
 {
-    matches!(
-        number,
-        10..=13 | 20..=22 | 40..=43 | 53 | 54 | 56 | 60..=63 | 70
-    )
+    match form {
+        Form::First => matches!(
+            number,
+            10..=13 | 20..=22 | 40..=43 | 53 | 54 | 56 | 60..=63 | 70
+        ),
+    }
 }
 
 /// Whether the bytes are visible ASCII and spaces.
@@ -78,13 +82,17 @@ fn are_text_bytes(bytes: &[u8]) -> bool
 
 /// The fault that stands behind `no`.
 #[tactic(auto, unfolding(crate::specs::RecordedFault::is_recorded_fault))]
-pub(crate) fn parse_recorded_fault(alloc: Global, fields: &str) -> Result<RecordedFault, LineFault>
-    ensures gives { Reads (λ read. read) result (recorded_fault_of fields.now) }
-    ensures well_formed { IfOk result (λ fault. IsTrue (is_recorded_fault fault)) }
+pub(crate) fn parse_recorded_fault(
+    alloc: Global,
+    form: Form,
+    fields: &str,
+) -> Result<RecordedFault, LineFault>
+    ensures gives { Reads (λ read. read) result (recorded_fault_of form fields.now) }
+    ensures well_formed { IfOk result (λ fault. IsTrue (is_recorded_fault form fault)) }
 {
     let (code, text) = cut(fields)?;
     let number = parse_u64(code)?;
-    if !is_code(number) || text.is_empty() || !are_text_bytes(text.as_bytes()) {
+    if !is_code(form, number) || text.is_empty() || !are_text_bytes(text.as_bytes()) {
         return Err(LineFault::NoForm);
     }
     let code = number as u8;

@@ -2,8 +2,10 @@
 
 ghost use Rattle.std.specs.Prelude.{◌≡◌, ◌<◌, ◌^◌, IfOk, IsTrue};
 ghost use Rattle.grain_id.specs.Names.{is_grain};
-ghost use Rattle.journal_text.specs.Answers.{Reads};
-ghost use Rattle.journal_text.specs.Candidates.{refuse_of, call_of, poke_of, status_of, load_of, store_of, turn_of, tick_of, step_of};
+ghost use Rattle.journal_text.specs.inside.Answers.{Reads};
+ghost use Rattle.journal_text.specs.inside.Candidates.{refuse_of, call_of, poke_of, status_of, load_of};
+ghost use Rattle.journal_text.specs.inside.Candidates.{store_of, grain_of, number_of, ◌⊗◌, tick_of, step_of};
+ghost use Rattle.journal_text.specs.declared.form.Form.{Form};
 ghost use Rattle.journal_text.specs.Rules.{IsStep, IsNumber};
 
 use crate::fault::LineFault;
@@ -11,6 +13,7 @@ use crate::field_reader::{
     cut, parse_caller, parse_grain, parse_mark, parse_message, parse_number, parse_refusal,
     parse_state,
 };
+use crate::form::Form;
 use grain_id::{GrainId, NameCache};
 use request_codec::SharedState;
 use silo_event::{Moment, Step};
@@ -19,28 +22,33 @@ use std::alloc::Global;
 /// What stands behind `refuse`.
 fn parse_refuse(alloc: Global, names: &mut NameCache, fields: &str) -> Result<Step, LineFault>
     ensures gives { Reads (λ read. read) result (refuse_of fields.now) }
-    ensures is_step { IfOk result IsStep }
+    ensures is_step { (form : Form) → IfOk result (IsStep form) }
 {
     let (caller, fields) = cut(fields)?;
-    let (id, code) = cut(fields)?;
     let caller = parse_caller(alloc, names, caller)?;
+    let (id, code) = cut(fields)?;
     let id = parse_number(id)?;
     let code = parse_refusal(code)?;
     Ok(Step::Refuse { caller, id, code })
 }
 
 /// What stands behind `call`.
-fn parse_call(alloc: Global, names: &mut NameCache, fields: &str) -> Result<Step, LineFault>
-    ensures gives { Reads (λ read. read) result (call_of fields.now) }
-    ensures is_step { IfOk result IsStep }
+fn parse_call(
+    alloc: Global,
+    form: Form,
+    names: &mut NameCache,
+    fields: &str,
+) -> Result<Step, LineFault>
+    ensures gives { Reads (λ read. read) result (call_of form fields.now) }
+    ensures is_step { IfOk result (IsStep form) }
 {
     let (caller, fields) = cut(fields)?;
-    let (id, fields) = cut(fields)?;
-    let (grain, message) = cut(fields)?;
     let caller = parse_caller(alloc, names, caller)?;
+    let (id, fields) = cut(fields)?;
     let id = parse_number(id)?;
+    let (grain, message) = cut(fields)?;
     let grain = parse_grain(alloc, names, grain)?;
-    let message = parse_message(alloc, message)?;
+    let message = parse_message(alloc, form, message)?;
     Ok(Step::Call {
         caller,
         id,
@@ -52,7 +60,7 @@ fn parse_call(alloc: Global, names: &mut NameCache, fields: &str) -> Result<Step
 /// What stands behind `status`.
 fn parse_status(alloc: Global, names: &mut NameCache, fields: &str) -> Result<Step, LineFault>
     ensures gives { Reads (λ read. read) result (status_of fields.now) }
-    ensures is_step { IfOk result IsStep }
+    ensures is_step { (form : Form) → IfOk result (IsStep form) }
 {
     let (caller, id) = cut(fields)?;
     let caller = parse_caller(alloc, names, caller)?;
@@ -61,19 +69,24 @@ fn parse_status(alloc: Global, names: &mut NameCache, fields: &str) -> Result<St
 }
 
 /// What stands behind `poke`.
-fn parse_poke(alloc: Global, names: &mut NameCache, fields: &str) -> Result<Step, LineFault>
-    ensures gives { Reads (λ read. read) result (poke_of fields.now) }
-    ensures is_step { IfOk result IsStep }
+fn parse_poke(
+    alloc: Global,
+    form: Form,
+    names: &mut NameCache,
+    fields: &str,
+) -> Result<Step, LineFault>
+    ensures gives { Reads (λ read. read) result (poke_of form fields.now) }
+    ensures is_step { IfOk result (IsStep form) }
 {
     let (caller, fields) = cut(fields)?;
-    let (id, fields) = cut(fields)?;
-    let (grain, fields) = cut(fields)?;
-    let (mark, state) = cut(fields)?;
     let caller = parse_caller(alloc, names, caller)?;
+    let (id, fields) = cut(fields)?;
     let id = parse_number(id)?;
+    let (grain, fields) = cut(fields)?;
     let grain = parse_grain(alloc, names, grain)?;
+    let (mark, state) = cut(fields)?;
     let failed = parse_mark(mark)?;
-    let state = parse_state(alloc, state)?;
+    let state = parse_state(alloc, form, state)?;
     Ok(Step::Poke {
         failed,
         caller,
@@ -86,7 +99,7 @@ fn parse_poke(alloc: Global, names: &mut NameCache, fields: &str) -> Result<Step
 /// What stands behind `load`.
 fn parse_load(alloc: Global, names: &mut NameCache, fields: &str) -> Result<Step, LineFault>
     ensures gives { Reads (λ read. read) result (load_of fields.now) }
-    ensures is_step { IfOk result IsStep }
+    ensures is_step { (form : Form) → IfOk result (IsStep form) }
 {
     let (grain, mark) = cut(fields)?;
     let grain = parse_grain(alloc, names, grain)?;
@@ -97,11 +110,11 @@ fn parse_load(alloc: Global, names: &mut NameCache, fields: &str) -> Result<Step
 /// What stands behind `store`.
 fn parse_store(alloc: Global, names: &mut NameCache, fields: &str) -> Result<Step, LineFault>
     ensures gives { Reads (λ read. read) result (store_of fields.now) }
-    ensures is_step { IfOk result IsStep }
+    ensures is_step { (form : Form) → IfOk result (IsStep form) }
 {
     let (grain, fields) = cut(fields)?;
-    let (turn, mark) = cut(fields)?;
     let grain = parse_grain(alloc, names, grain)?;
+    let (turn, mark) = cut(fields)?;
     let turn = parse_number(turn)?;
     let failed = parse_mark(mark)?;
     Ok(Step::Store {
@@ -117,7 +130,7 @@ fn parse_turn(
     names: &mut NameCache,
     fields: &str,
 ) -> Result<(GrainId, u64), LineFault>
-    ensures gives { Reads (λ read. read) result (turn_of fields.now) }
+    ensures gives { Reads (λ read. read) result ((grain_of ⊗ number_of) fields.now) }
     ensures well_formed { IfOk result (λ read. IsTrue (is_grain read.0) × IsNumber read.1) }
 {
     let (grain, turn) = cut(fields)?;
@@ -129,7 +142,7 @@ fn parse_turn(
 /// What stands behind `tick`.
 fn parse_tick(field: &str) -> Result<Step, LineFault>
     ensures gives { Reads (λ read. read) result (tick_of field.now) }
-    ensures is_step { IfOk result IsStep }
+    ensures is_step { (form : Form) → IfOk result (IsStep form) }
 {
     let now = parse_number(field)?;
     match Moment::new(now) {
@@ -141,17 +154,18 @@ fn parse_tick(field: &str) -> Result<Step, LineFault>
 /// The step of a word and the fields behind it.
 pub(crate) fn parse_step(
     alloc: Global,
+    form: Form,
     names: &mut NameCache,
     word: &str,
     fields: &str,
 ) -> Result<Step, LineFault>
-    ensures gives { Reads (λ read. read) result (step_of word.now fields.now) }
-    ensures is_step { IfOk result IsStep }
+    ensures gives { Reads (λ read. read) result (step_of form word.now fields.now) }
+    ensures is_step { IfOk result (IsStep form) }
 {
     match word {
         "refuse" => parse_refuse(alloc, names, fields),
-        "call" => parse_call(alloc, names, fields),
-        "poke" => parse_poke(alloc, names, fields),
+        "call" => parse_call(alloc, form, names, fields),
+        "poke" => parse_poke(alloc, form, names, fields),
         "status" => parse_status(alloc, names, fields),
         "deliver" => {
             let grain = parse_grain(alloc, names, fields)?;

@@ -1,8 +1,8 @@
 use Rattle.std.proofs.Common.{sym, ap, ◌∙◌}
 use Rattle.std.proofs.lemmas.Option.{same_Some}
-use Rattle.journal_text.specs.Candidates.{candidate_of}
+use Rattle.journal_text.specs.inside.Candidates.{candidate_of}
 use Rattle.journal_text.proofs.LinesBack.{line_back}
 use Rattle.journal_text.proofs.laws.one_line.Goals as goal
 
 pub returns : goal.returns
-returns c l m is also same = same_Some l m (sym (line_back l is) ∙ ap candidate_of same ∙ line_back m also)
+returns c form l m is also same = same_Some l m (sym (line_back form l is).is ∙ ap (candidate_of form) same ∙ (line_back form m also).is)

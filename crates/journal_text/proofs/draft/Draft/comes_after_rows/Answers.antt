@@ -1,5 +1,5 @@
 use Rattle.std.proofs.Common.{◌≡◌, None, Some, ap, sym, ◌∙◌}
-use Rattle.journal_text.specs.Draft.{last_grain}
+use Rattle.journal_text.specs.inside.Draft.{last_grain}
 use Rattle.journal_text.specs.Rules.{comes_after}
 use Rattle.journal_text.proofs.Drafts.{last_grain-last}
 use Rattle.journal_text.proofs.draft.Draft.comes_after_rows.Goals as goal

@@ -1,5 +1,6 @@
 -- A journal as far as it is read, and what may stand behind that.
-use Rattle.std.specs.Prelude.{◌≡◌, ℕ, ◌≤◌, Bool, true, false, not, ◌&&◌, ◌==◌, nat_lt, List, [], ◌∷◌, ◌++◌, length, map, All, IsTrue, Option, Some, None, Result, Ok, Err}
+use Rattle.std.specs.Prelude.{◌≡◌, ℕ, ◌≤◌, Bool, true, false, not, ◌&&◌, ◌==◌, nat_lt, List, []}
+use Rattle.std.specs.Prelude.{◌∷◌, ◌++◌, length, map, All, IsTrue, Option, Some, None, Result, Ok, Err}
 use Rattle.std.specs.declared.alloc.AllocError.{AllocError}
 use Rattle.std.specs.List.{list_any}
 use Rattle.grain_id.specs.Names.{Grain, same_text}
@@ -7,7 +8,8 @@ use Rattle.tenant_gate.specs.Table.{Table, most_tenants, names_of, first_repeat}
 use Rattle.grain_storage.specs.declared.row.Row.{Row}
 use Rattle.journal_text.specs.Text.{History, tenant_line, row_line}
 use Rattle.journal_text.specs.Rules.{IsLine, comes_after, are_ascending}
-use Rattle.journal_text.specs.Candidates.{only_if}
+use Rattle.journal_text.specs.inside.Candidates.{only_if}
+use Rattle.journal_text.specs.declared.form.Form.{Form}
 use Rattle.journal_text.specs.declared.line.Line.{Line}
 use Rattle.journal_text.specs.declared.line.Line.TheVariants as line
 
@@ -23,13 +25,13 @@ lines_so_far d = line.Head ∷ line.Age d.age ∷ body d
 abbrev pub start_lines : ℕ → List Line
 start_lines age = line.Head ∷ line.Age age ∷ []
 
--- What a draft keeps.
-pub record IsDraft (d : History) : Type 0 where
+-- What a draft of a journal of that form keeps.
+pub record IsDraft (form : Form) (d : History) : Type 0 where
   pub few : length d.tenants ≤ 1000
   pub distinct : first_repeat [] (names_of d.tenants) ≡ None
   pub ascending : IsTrue (are_ascending None d.rows)
   pub tenants_first : d.tenants ≡ [] → (d.steps ≡ []) × (d.replies ≡ []) × (d.rows ≡ [])
-  pub lines : All IsLine (lines_so_far d)
+  pub lines : All (IsLine form) (lines_so_far d)
 
 abbrev pub is_empty : {A : Type 0} → List A → Bool
 is_empty [] = true
@@ -46,7 +48,9 @@ last_grain before (row ∷ rows) = last_grain (Some row.0) rows
 
 -- a tenant stands among the tenants: there is none of its name, and room for one more
 abbrev pub tenant_fits : History → List ℕ → Bool
-tenant_fits d name = is_empty d.steps && is_empty d.replies && is_empty d.rows && nat_lt (length d.tenants) most_tenants && not (has_tenant d.tenants name)
+tenant_fits d name =
+    is_empty d.steps && is_empty d.replies && is_empty d.rows
+    && nat_lt (length d.tenants) most_tenants && not (has_tenant d.tenants name)
 
 -- a step stands behind the tenants, before the replies and the rows
 abbrev pub step_fits : History → Bool

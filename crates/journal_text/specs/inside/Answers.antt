@@ -1,0 +1,78 @@
+-- What the parts of the reader answer.
+use Rattle.std.specs.Prelude.{◌≡◌, ◌≢◌, ℕ, ◌<◌, List, ◌∷◌, ◌++◌, length, slice_index, true, Option, Some, None, Result, Ok, Err}
+use Rattle.std.specs.List.{list_all}
+use Rattle.journal_text.specs.declared.fault.JournalFault.{JournalFault}
+use Rattle.journal_text.specs.declared.fault.JournalFault.TheVariants as journal_faults
+use Rattle.journal_text.specs.declared.fault.LineFault.{LineFault}
+use Rattle.journal_text.specs.declared.fault.LineFault.TheVariants as faults
+use Rattle.journal_text.specs.declared.form.Form.{Form}
+use Rattle.journal_text.specs.declared.line.Line.{Line}
+use Rattle.journal_text.specs.declared.line.Line.TheVariants as line
+use Rattle.tenant_gate.specs.Age.{IsAge}
+use Rattle.journal_text.specs.RecordedFault.{is_text_byte}
+use Rattle.journal_text.specs.Text.{History, line_text, lines_text, text_in}
+use Rattle.journal_text.specs.Rules.{IsLine, KeepsRulesIn}
+use Rattle.journal_text.specs.FirstFault.{IsFirstFault}
+use Rattle.journal_text.specs.inside.Draft.{start_lines}
+
+-- ---- of a field and a line
+
+-- The answer, seen by view, is what was found, and NoForm exactly if nothing was.
+abbrev pub Reads : {X A : Type 0} → (X → A) → Result X LineFault → Option A → Type 0
+Reads view (Ok x) found = found ≡ Some (view x)
+Reads view (Err faults.NoForm) found = found ≡ None
+Reads view (Err faults.Memory) found = Unit {0}
+
+-- The bytes are the text of the line that is answered; NoForm is answered only if they are the text of none.
+abbrev pub ReadsLine : Form → List ℕ → Result Line LineFault → Type 0
+ReadsLine form bytes (Ok l) = IsLine form l × (bytes ≡ line_text form l)
+ReadsLine form bytes (Err faults.NoForm) = (l : Line) → IsLine form l → bytes ≡ line_text form l → ⊥
+ReadsLine form bytes (Err faults.Memory) = Unit {0}
+
+-- ---- of lines within a journal
+
+abbrev pub HasNoBreak : List ℕ → Type 0
+HasNoBreak bytes = (k : ℕ) → k < length bytes → slice_index bytes k ≢ 10
+
+-- A text without LF, an LF and what stands behind it are the bytes; there is none only if no text of visible ASCII and
+-- spaces, and an LF, begin them.
+abbrev pub CutsLine : List ℕ → Option (List ℕ × List ℕ) → Type 0
+CutsLine bytes (Some cut) = HasNoBreak cut.0 × (bytes ≡ cut.0 ++ 10 ∷ cut.1)
+CutsLine bytes None = (text behind : List ℕ) → list_all is_text_byte text ≡ true → bytes ≡ text ++ 10 ∷ behind → ⊥
+
+-- The line, an LF and what stands behind it are the bytes; there is none only if no line and an LF begin them.
+abbrev pub BeginsWithLine : Form → List ℕ → Option (Line × List ℕ) → Type 0
+BeginsWithLine form bytes (Some next) = IsLine form next.0 × (bytes ≡ line_text form next.0 ++ 10 ∷ next.1)
+BeginsWithLine form bytes None = (l : Line) (behind : List ℕ) → IsLine form l → bytes ≡ line_text form l ++ 10 ∷ behind → ⊥
+
+-- The same of the head, with its form and what stands behind it.
+abbrev pub BeginsWithHead : List ℕ → Option (Form × List ℕ) → Type 0
+BeginsWithHead bytes (Some next) = bytes ≡ line_text next.0 line.Head ++ 10 ∷ next.1
+BeginsWithHead bytes None = (form : Form) (behind : List ℕ) → bytes ≡ line_text form line.Head ++ 10 ∷ behind → ⊥
+
+-- The same of an age, with what stands behind it.
+abbrev pub BeginsWithAge : Form → List ℕ → Option (ℕ × List ℕ) → Type 0
+BeginsWithAge form bytes (Some next) = IsAge next.0 × (bytes ≡ line_text form (line.Age next.0) ++ 10 ∷ next.1)
+BeginsWithAge form bytes None = (age : ℕ) (behind : List ℕ) → IsAge age → bytes ≡ line_text form (line.Age age) ++ 10 ∷ behind → ⊥
+
+-- What the first two lines say: the form and the age, and what stands behind them.
+pub record Start : Type 0 where
+  pub form : Form
+  pub age : ℕ
+  pub behind : List ℕ
+
+abbrev pub start_of : Form → ℕ → List ℕ → Start
+start_of form age behind = record { form = form; age = age; behind = behind }
+
+-- The head, the age and what stands behind them are the bytes; else the line that is answered is the first at fault.
+abbrev pub ReadsStart : {X : Type 0} → (X → Start) → List ℕ → Result X JournalFault → Type 0
+ReadsStart view bytes (Ok x) = IsAge (view x).age × (bytes ≡ lines_text (view x).form (start_lines (view x).age) ++ (view x).behind)
+ReadsStart view bytes (Err (journal_faults.At number)) = IsFirstFault bytes number
+ReadsStart view bytes (Err journal_faults.Memory) = Unit {0}
+
+-- The bytes are the text of the journal that is answered, in that form, whose rules it keeps; else the line that is
+-- answered is the first at fault.
+abbrev pub ReadsRest : Form → List ℕ → Result History JournalFault → Type 0
+ReadsRest form bytes (Ok j) = KeepsRulesIn form j × (bytes ≡ text_in form j)
+ReadsRest form bytes (Err (journal_faults.At number)) = IsFirstFault bytes number
+ReadsRest form bytes (Err journal_faults.Memory) = Unit {0}
