@@ -5,18 +5,18 @@ use Rattle.std.specs.Int.{w64}
 use Rattle.std.proofs.lemmas.Option.{same_Some}
 use Rattle.request_codec.specs.Limits.{depth_limit, message_limit, state_limit}
 use Rattle.request_codec.specs.Tree.{Tree, integer, text, depth}
-use Rattle.request_codec.specs.Written.{text_spelling, spelling}
+use Rattle.request_codec.specs.Written.{text_spelling, spelling, message_spelling}
 use Rattle.request_codec.specs.Formed.{IsFormed}
 use Rattle.request_codec.specs.Answers.{spelled_length, message_length}
 use Rattle.request_codec.specs.Call.{asks, message_call, state_value}
 use Rattle.request_codec.proofs.Spelled.{message_spelled, state_spelled, length-message, length-spelling}
 use Rattle.request_codec.proofs.Whole.{message_again, state_again}
 
-pub encoded_message : (items method : List ℕ) (v : Tree) → IsUtf8 method → (depth v ≤ depth_limit) × IsFormed v → (items ≡ 1 ∷ (text_spelling method ++ spelling v)) × (length (1 ∷ (text_spelling method ++ spelling v)) ≤ message_limit)
+pub encoded_message : (items method : List ℕ) (v : Tree) → IsUtf8 method → (depth v ≤ depth_limit) × IsFormed v → (items ≡ message_spelling (asks method v)) × (length (message_spelling (asks method v)) ≤ message_limit)
     → message_call items ≡ Some (asks method v)
 encoded_message items method v valid tested is =
     let short : message_length method v ≤ message_limit = omega (arith, is.1, length-message method v) in
-    ap message_call is.0 ∙ message_again (1 ∷ (text_spelling method ++ spelling v)) method v (message_spelled method v valid tested.1 tested.0 short)
+    ap message_call is.0 ∙ message_again (message_spelling (asks method v)) method v (message_spelled method v valid tested.1 tested.0 short)
 
 pub encoded_state : (items : List ℕ) (v : Tree) → (depth v ≤ depth_limit) × IsFormed v → (items ≡ spelling v) × (length (spelling v) ≤ state_limit) → state_value items ≡ Some v
 encoded_state items v tested is =

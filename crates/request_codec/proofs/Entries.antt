@@ -1,14 +1,14 @@
 -- A map into which names go in their order.
-use Rattle.std.proofs.Common.{◌≡◌, ℕ, List, [], ◌∷◌, ◌++◌, String, Global, string_bytes, string_cmp, nat_cmp, Ordering, Less, Equal, Greater, true, map, refl, ap, ◌∙◌}
+use Rattle.std.proofs.Common.{◌≡◌, ℕ, List, [], ◌∷◌, ◌++◌, String, Global, string_bytes, string_cmp, nat_cmp, Ordering, Less, Equal, Greater, true, map, refl, ap, subst, ◌∙◌}
 use Rattle.std.proofs.lemmas.Cmp.{nat_list_cmp_total}
 use Rattle.std.specs.Cmp.Lexicographic.{slice_cmp}
 use Rattle.std.specs.Ordering.{is_lt, ordering_reverse}
 use Rattle.std.specs.BTreeMap.{insert_entry}
 use Rattle.std.specs.List.Sorted.{IsStrictlySortedBy}
 use Rattle.std.specs.Map.{keys_of}
-use Rattle.request_codec.specs.Tree.{fields_of}
+use Rattle.std.proofs.lemmas.Map.Keys.{sorted_tail}
+use Rattle.request_codec.specs.Tree.{Tree, fields_of}
 use Rattle.request_codec.specs.Spelling.{IsBelowFirst}
-use Rattle.request_codec.specs.Seen.{entry_of}
 use Rattle.request_codec.specs.declared.datum.Datum.{Datum}
 
 abbrev pub Entry : Type 0
@@ -40,8 +40,14 @@ insert_entry-last (e ∷ es) k d h =
     nat_list_cmp_total.antisymm (string_bytes k) (string_bytes e.0) ∙ ap ordering_reverse h.0 in
     rw above (ap (λ (r : List Entry). e ∷ r) (insert_entry-last es k d h.1))
 
--- the first name of a map is before the next
-pub below_rest : (e : Entry) (es : List Entry) → IsStrictlySortedBy string_cmp (keys_of (e ∷ es)) → IsBelowFirst (string_bytes e.0) (fields_of (map entry_of es))
+-- the first name of a map is before the next, and those behind it ascend, where f gives the value of each thing
+pub first_below : {A : Type 0} (f : A → Tree) (e : String Global × A) (es : List (String Global × A)) → IsStrictlySortedBy string_cmp (keys_of (e ∷ es)) → IsBelowFirst (string_bytes e.0) (fields_of (map (λ x. (string_bytes x.0, f x.1)) es))
 unfolding IsStrictlySortedBy
-below_rest e [] h = tt
-below_rest e (f ∷ es) h = ap is_lt h.0.0
+first_below f e [] h = tt
+first_below f e (g ∷ es) h = ap is_lt h.0.0
+
+pub ascend_on : {A : Type 0} (f : A → Tree) (all : List (String Global × A)) (e : String Global × A) (es : List (String Global × A)) → all ≡ e ∷ es → IsStrictlySortedBy string_cmp (keys_of all)
+    → Unit {0} × IsBelowFirst (string_bytes e.0) (fields_of (map (λ x. (string_bytes x.0, f x.1)) es)) × IsStrictlySortedBy string_cmp (keys_of es)
+ascend_on {A} f all e es is sorted =
+    let whole = subst (λ (l : List (String Global × A)). IsStrictlySortedBy string_cmp (keys_of l)) is sorted in
+    (tt, first_below f e es whole, sorted_tail string_cmp e.0 (keys_of es) whole)

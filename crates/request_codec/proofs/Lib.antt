@@ -8,7 +8,7 @@ pub mod Starts
 pub mod Levels
 pub mod MemberLoops
 pub mod PartAnswers
-pub mod Shown
+pub mod DatumValue
 pub mod Entries
 pub mod Builds
 pub mod Characters
@@ -21,6 +21,6 @@ pub mod JsonParts
 pub mod JsonObjects
 pub mod JsonMembers
 pub mod JsonDepths
-pub mod JsonValues
-pub mod JsonTests
+pub mod JsonShown
+pub mod NotWhole
 pub mod ValueEnds

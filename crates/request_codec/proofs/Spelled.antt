@@ -1,10 +1,10 @@
 -- The bytes that are written for a value that a spelling is there for are a spelling of it.
 use Rattle.std.proofs.Common.{◌≡◌, ℕ, ◌+◌, ◌^◌, ◌<◌, ◌≤◌, true, false, List, ◌∷◌, ◌++◌, length, refl, sym, ap, ◌∙◌, append_assoc, arith}
 use Rattle.std.specs.Prelude.{IsUtf8}
-use Rattle.request_codec.specs.Call.{Call}
+use Rattle.request_codec.specs.Call.{Call, asks}
 use Rattle.std.specs.Int.{w32, to_be_bytes}
 use Rattle.std.proofs.lemmas.List.{length-append}
-use Rattle.request_codec.specs.Limits.{depth_limit, message_limit, state_limit}
+use Rattle.request_codec.specs.Limits.{message_version, depth_limit, message_limit, state_limit}
 use Rattle.request_codec.specs.Tree.{Tree, null, truth, integer, text, list, map, Members, no_members, member, Fields, no_fields, field, members_count, fields_count, depth}
 use Rattle.request_codec.specs.Spelling.{SpellsText, Spells, SpellEach, SpellFields, SpellsMessage, SpellsState}
 use Rattle.request_codec.specs.Written.{text_spelling, spelling, members_spelling, fields_spelling, message_spelling}
@@ -97,10 +97,10 @@ mutual
 
 -- ---- whole messages and states
 
-pub length-message : (method : List ℕ) (v : Tree) → length (1 ∷ (text_spelling method ++ spelling v)) ≡ message_length method v
+pub length-message : (method : List ℕ) (v : Tree) → length (message_spelling (asks method v)) ≡ message_length method v
 length-message method v = omega (arith, length-append (text_spelling method) (spelling v), length-text_spelling method, length-spelling v)
 
-pub message_spelled : (method : List ℕ) (v : Tree) → IsUtf8 method → IsFormed v → depth v ≤ depth_limit → message_length method v ≤ message_limit → SpellsMessage method v (1 ∷ (text_spelling method ++ spelling v))
+pub message_spelled : (method : List ℕ) (v : Tree) → IsUtf8 method → IsFormed v → depth v ≤ depth_limit → message_length method v ≤ message_limit → SpellsMessage method v (message_spelling (asks method v))
 message_spelled method v valid formed deep short = record {
   name = text_spelling method;
   rest = spelling v;
@@ -162,7 +162,7 @@ pub length-spelled : (v : Tree) (bytes : List ℕ) → Spells v bytes → length
 length-spelled v bytes h = ap (λ (b : List ℕ). length b) (spelling-is v bytes h) ∙ length-spelling v
 
 pub message_spelling-is : (call : Call) (bytes : List ℕ) → SpellsMessage call.method call.argument bytes → bytes ≡ message_spelling call
-message_spelling-is call bytes h = h.whole_bytes ∙ (λ i. 1 ∷ (h.method_spelled.2 i ++ spelling-is call.argument h.rest h.value_spelled i))
+message_spelling-is call bytes h = h.whole_bytes ∙ (λ i. message_version ∷ (h.method_spelled.2 i ++ spelling-is call.argument h.rest h.value_spelled i))
 
 pub state_spelling-is : (v : Tree) (bytes : List ℕ) → SpellsState v bytes → bytes ≡ spelling v
 state_spelling-is v bytes h = spelling-is v bytes h.value_spelled

@@ -6,7 +6,7 @@ use Rattle.std.proofs.lemmas.Option.{same_Some, some_pair_parts}
 use Rattle.std.proofs.lemmas.Result.{IfOk-weaker}
 use Rattle.std.proofs.lemmas.Bool.{ltb-false, le-ltb, eqb-true}
 use Rattle.std.proofs.lemmas.List.{append-nil}
-use Rattle.request_codec.specs.Limits.{depth_limit, message_limit, state_limit}
+use Rattle.request_codec.specs.Limits.{message_version, depth_limit, message_limit, state_limit}
 use Rattle.request_codec.specs.Tree.{Tree, null}
 use Rattle.request_codec.specs.Spelling.{Spells, SpellsMessage, SpellsState}
 use Rattle.request_codec.specs.Reading.{text_at, value_at, if_ended}
@@ -67,29 +67,29 @@ state_is bytes v e = is_it (state_value bytes) null v e
 
 -- ---- messages
 
-call_found : (bytes : List ℕ) (call : Call) → IsBytes bytes → length (1 ∷ bytes) ≤ message_limit → call_behind bytes ≡ Some call → SpellsMessage call.method call.argument (1 ∷ bytes)
+call_found : (bytes : List ℕ) (call : Call) → IsBytes bytes → length (message_version ∷ bytes) ≤ message_limit → call_behind bytes ≡ Some call → SpellsMessage call.method call.argument (message_version ∷ bytes)
 call_found bytes call fits short e =
     let name = bound (text_at bytes) _ call e in
     let text = text_found bytes name.0.0 name.0.1 fits name.1 in
     let value = bound (if_ended (value_at depth_limit name.0.1)) _ call name.2 in
     let found = value_found depth_limit name.0.1 value.0 [] text.rest_fits (ended (value_at depth_limit name.0.1) value.0 value.1) in
     let all : name.0.1 ≡ found.0.used = found.0.parts ∙ append-nil found.0.used in
-    let message : SpellsMessage name.0.0 value.0 (1 ∷ bytes) = record {
+    let message : SpellsMessage name.0.0 value.0 (message_version ∷ bytes) = record {
       name = text.used;
       rest = found.0.used;
       method_spelled = text.wanted;
       value_spelled = found.0.wanted;
-      whole_bytes = ap (λ (b : List ℕ). 1 ∷ b) (text.parts ∙ ap (λ (b : List ℕ). text.used ++ b) all);
+      whole_bytes = ap (λ (b : List ℕ). message_version ∷ b) (text.parts ∙ ap (λ (b : List ℕ). text.used ++ b) all);
       depth_within = found.1;
       length_within = short;
     } in
-    subst (λ (c : Call). SpellsMessage c.method c.argument (1 ∷ bytes)) (pair_is value.2) message
+    subst (λ (c : Call). SpellsMessage c.method c.argument (message_version ∷ bytes)) (pair_is value.2) message
 
 version_found : (bytes : List ℕ) (call : Call) → IsBytes bytes → length bytes ≤ message_limit → behind_version bytes ≡ Some call → SpellsMessage call.method call.argument bytes
 version_found [] call fits short e = absurd cc
 version_found (b ∷ bytes) call fits short e =
-    let g = provided (eqb b 1) (call_behind bytes) call e in
-    let one : 1 ≡ b = sym (eqb-true _ _ g.0) in
+    let g = provided (eqb b message_version) (call_behind bytes) call e in
+    let one : message_version ≡ b = sym (eqb-true _ _ g.0) in
     subst (λ (v : ℕ). SpellsMessage call.method call.argument (v ∷ bytes)) one (call_found bytes call (IsBytes-rest b bytes fits) short g.1)
 
 pub message_found : (bytes : List ℕ) (call : Call) → IsBytes bytes → message_call bytes ≡ Some call → SpellsMessage call.method call.argument bytes
@@ -98,7 +98,7 @@ message_found bytes call fits e =
     let g = unless (ltb message_limit (length bytes)) (behind_version bytes) call e in
     version_found bytes call fits (ltb-false _ _ g.0) g.1
 
-call_again : (method : List ℕ) (v : Tree) (name rest : List ℕ) → text_at (name ++ rest) ≡ Some (method, rest) → value_at depth_limit rest ≡ Some (v, []) → behind_version (1 ∷ (name ++ rest)) ≡ Some (asks method v)
+call_again : (method : List ℕ) (v : Tree) (name rest : List ℕ) → text_at (name ++ rest) ≡ Some (method, rest) → value_at depth_limit rest ≡ Some (v, []) → behind_version (message_version ∷ (name ++ rest)) ≡ Some (asks method v)
 call_again method v name rest text value = rw (text, value) refl
 
 pub message_again : (bytes method : List ℕ) (v : Tree) → SpellsMessage method v bytes → message_call bytes ≡ Some (asks method v)
@@ -145,7 +145,7 @@ unfolding message_call
 method_behind [] call e = absurd cc
 method_behind (b ∷ bytes) call e =
     let g = unless (ltb message_limit (length (b ∷ bytes))) (behind_version (b ∷ bytes)) call e in
-    let version = provided (eqb b 1) (call_behind bytes) call g.1 in
+    let version = provided (eqb b message_version) (call_behind bytes) call g.1 in
     let name = bound (text_at bytes) _ call version.1 in
     let value = bound (if_ended (value_at depth_limit name.0.1)) _ call name.2 in
     let same : name.0.0 ≡ call.method = ap (λ (c : Call). c.method) (pair_is value.2) in

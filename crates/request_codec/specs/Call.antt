@@ -2,7 +2,7 @@
 use Rattle.std.specs.Prelude.{ℕ, List, [], ◌∷◌, length, Option, Some, None, if◌then◌else◌, nat_lt, ◌==◌, refl}
 use Rattle.std.specs.Coded.{Coded, code_by, coded×, coded_list, coded_ℕ}
 use Rattle.std.specs.Option.{unwrap_or}
-use Rattle.request_codec.specs.Limits.{depth_limit, message_limit, state_limit}
+use Rattle.request_codec.specs.Limits.{message_version, depth_limit, message_limit, state_limit}
 use Rattle.request_codec.specs.Tree.{Tree, null}
 use Rattle.request_codec.specs.Code.{coded_tree}
 use Rattle.request_codec.specs.Reading.{◌>>=◌, text_at, value_at, if_ended}
@@ -28,7 +28,7 @@ call_behind bytes = do
 
 abbrev pub behind_version : List ℕ → Option Call
 behind_version [] = None
-behind_version (b ∷ bytes) = if b == 1 then call_behind bytes else None
+behind_version (b ∷ bytes) = if b == message_version then call_behind bytes else None
 
 -- the call that a message's bytes spell, where they spell one
 unfoldable pub message_call : List ℕ → Option Call

@@ -1,15 +1,19 @@
 -- What the parts of a conversion from JSON answer.
-use Rattle.std.specs.Prelude.{◌≡◌, ℕ, ◌<◌, ◌≤◌, Option, Some, None, IsSomeAnd, Result, Ok, Err}
+use Rattle.std.specs.Prelude.{◌≡◌, ◌<◌, ◌≤◌, Option, Some, None, Result, Ok, Err}
+use Rattle.serde_json.specs.Data.{Data}
+use Rattle.request_codec.specs.Limits.{depth_limit}
+use Rattle.request_codec.specs.Json.{value_of_json, json_depth}
+use Rattle.request_codec.specs.Lenient.{HasValue}
 use Rattle.request_codec.specs.declared.json_test.JsonTest.{JsonTest}
 use Rattle.request_codec.specs.declared.json_test.JsonTest.TheVariants.{Passed, NotWhole, TooDeep}
 use Rattle.request_codec.specs.declared.fault.CodecFault.{CodecFault}
 use Rattle.request_codec.specs.declared.fault.CodecFault.TheVariants as faults
 
--- The answer of a test of JSON: its depth is n, what is found is its value, and formed is what holds of one that passes.
-abbrev pub Tests : {A : Type 0} → (A → Type 0) → JsonTest → ℕ → ℕ → Option A → Type 0
-Tests formed Passed limit n found = (n ≤ limit) × IsSomeAnd found formed
-Tests formed NotWhole limit n found = (n ≤ limit) × (found ≡ None)
-Tests formed TooDeep limit n found = limit < n
+-- The answer of a test of JSON: it has a value, which is well formed; or a number isn't whole; or it is too deep, which comes first.
+abbrev pub TestsJson : JsonTest → Data → Type 0
+TestsJson Passed d = (json_depth d ≤ depth_limit) × HasValue d
+TestsJson NotWhole d = (json_depth d ≤ depth_limit) × (value_of_json d ≡ None)
+TestsJson TooDeep d = depth_limit < json_depth d
 
 -- The answer, seen by view, is what is there; and NotWhole exactly where nothing is.
 abbrev pub Gives : {X A : Type 0} → (X → A) → Result X CodecFault → Option A → Type 0

@@ -1,6 +1,10 @@
 -- The limits of messages and states.
 use Rattle.std.specs.Prelude.{ℕ}
 
+-- the first byte of a message: the version of its form
+abbrev pub message_version : ℕ
+message_version = 1
+
 -- how deep a value may be
 abbrev pub depth_limit : ℕ
 depth_limit = 32

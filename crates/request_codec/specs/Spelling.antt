@@ -3,7 +3,7 @@ use Rattle.std.specs.Prelude.{◌≡◌, ℕ, ◌<◌, ◌≤◌, ◌^◌, true,
 use Rattle.std.specs.Int.{w32, w64, to_be_bytes, cast_unsigned}
 use Rattle.std.specs.Cmp.Lexicographic.{slice_cmp}
 use Rattle.std.specs.Ordering.{nat_cmp, is_lt}
-use Rattle.request_codec.specs.Limits.{depth_limit, message_limit, state_limit}
+use Rattle.request_codec.specs.Limits.{message_version, depth_limit, message_limit, state_limit}
 use Rattle.request_codec.specs.Tree.{Tree, null, truth, integer, text, list, map, Members, no_members, member, Fields, no_fields, field, members_count, fields_count, depth}
 
 -- A text: its length as four bytes, high first, and then its bytes, which are UTF-8.
@@ -36,13 +36,13 @@ abbrev mutual
   SpellFields no_fields bytes = bytes ≡ []
   SpellFields (field n v fs) bytes = (name : List ℕ) × (first : List ℕ) × (others : List ℕ) × SpellsText n name × Spells v first × SpellFields fs others × IsBelowFirst n fs × (bytes ≡ name ++ first ++ others)
 
--- A message: the byte 1, the method as a text, one value, and nothing more.
+-- A message: its version, the method as a text, one value, and nothing more.
 pub record SpellsMessage (method : List ℕ) (v : Tree) (bytes : List ℕ) : Type 0 where
   pub name : List ℕ
   pub rest : List ℕ
   pub method_spelled : SpellsText method name
   pub value_spelled : Spells v rest
-  pub whole_bytes : bytes ≡ 1 ∷ (name ++ rest)
+  pub whole_bytes : bytes ≡ message_version ∷ (name ++ rest)
   pub depth_within : depth v ≤ depth_limit
   pub length_within : length bytes ≤ message_limit
 

@@ -2,6 +2,7 @@
 use Rattle.std.specs.Prelude.{◌≡◌, ℕ, ◌+◌, ◌<◌, ◌≤◌, List, [], ◌∷◌, ◌++◌, length, Result, Ok, Err, ⊤, Vec, if◌then◌else◌}
 use Rattle.std.specs.Int.{w32, w64, to_be_bytes, cast_unsigned}
 use Rattle.std.specs.declared.alloc.Global.{Global}
+use Rattle.request_codec.specs.Limits.{message_version}
 use Rattle.request_codec.specs.Tree.{Tree, null, truth, integer, text, list, map, Members, no_members, member, Fields, no_fields, field, members_count, fields_count}
 use Rattle.request_codec.specs.Call.{Call}
 use Rattle.request_codec.specs.Start.{Begun, leaf, list_of, map_of}
@@ -31,7 +32,7 @@ unfoldable mutual
 
 -- the message of a call that has one
 abbrev pub message_spelling : Call → List ℕ
-message_spelling call = 1 ∷ (text_spelling call.method ++ spelling call.argument)
+message_spelling call = message_version ∷ (text_spelling call.method ++ spelling call.argument)
 
 abbrev pub start_spelling : Begun → List ℕ
 start_spelling (leaf v) = spelling v

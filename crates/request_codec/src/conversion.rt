@@ -11,7 +11,6 @@ use crate::fault::CodecFault;
 use crate::json_reader::datum_of_json;
 use crate::json_test::{JsonTest, test_json};
 use crate::json_writer::json_of_datum;
-use crate::limits::MAX_DEPTH;
 use serde_json::Value;
 use std::alloc::{AllocError, Global};
 
@@ -19,7 +18,7 @@ use std::alloc::{AllocError, Global};
 pub fn from_json(alloc: Global, value: &Value) -> Result<Datum, CodecFault>
     ensures { Converts value_of result (view value.now) }
 {
-    match test_json(value, MAX_DEPTH) {
+    match test_json(value) {
         JsonTest::Passed => datum_of_json(alloc, value),
         JsonTest::NotWhole => Err(CodecFault::NotWhole),
         JsonTest::TooDeep => Err(CodecFault::TooDeep),

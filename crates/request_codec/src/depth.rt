@@ -1,45 +1,55 @@
-//! How deep a value is.
+//! How deep a value is, whatever shows it.
 
-ghost use Rattle.std.specs.Prelude.{map, IsTrue, FitsSigned};
+ghost use Rattle.std.specs.Prelude.{IsTrue, IsUtf8, FitsSigned};
 ghost use Rattle.std.specs.Int.{w64};
 ghost use Rattle.request_codec.specs.Tree.{members_of, fields_of};
 ghost use Rattle.request_codec.specs.Formed.{TestsDepth, TestDepths, TestFieldDepths};
-ghost use Rattle.request_codec.specs.Seen.{value_of, entry_of};
+ghost use Rattle.request_codec.specs.Level.{AreKept};
 
-use crate::datum::Datum;
-use std::collections::BTreeMap;
+use crate::shown::{Level, Shown};
 
 /// Always: each `i64` is a number that a spelling is there for.
-pub fn is_number(_number: i64) -> bool
+fn is_number(_number: i64) -> bool
     ensures always { IsTrue result }
     ensures formed { FitsSigned w64 _number }
 {
     true
 }
 
+/// Always: each `&str` is a text that a spelling is there for.
+fn is_text(_text: &str) -> bool
+    ensures always { IsTrue result }
+    ensures formed { IsUtf8 _text.now }
+{
+    true
+}
+
 /// Whether the value is no deeper than the limit. It looks no deeper than that.
 #[cycle(depth)]
-pub fn is_within(datum: &Datum, limit: u8) -> bool
-    ensures { TestsDepth result limit (value_of datum.now) }
+pub fn is_within<V: Shown>(value: V, limit: u8) -> bool
+    requires { V.kept (V.value value) }
+    ensures { TestsDepth result limit (V.value value) }
 {
     if limit == 0 {
         return false;
     }
-    match datum {
-        Datum::Null => true,
-        Datum::Bool(_) => true,
-        Datum::Int(number) => is_number(*number),
-        Datum::Text(_) => true,
-        Datum::List(items) => are_within(items.as_slice(), limit - 1),
-        Datum::Map(fields) => fields_within(fields, limit - 1),
+    match value.level() {
+        Level::Null => true,
+        Level::Bool(_) => true,
+        Level::Int(number) => is_number(number),
+        Level::Text(text) => is_text(text),
+        Level::List(_, items) => are_within::<V>(items, limit - 1),
+        Level::Map(_, fields) => fields_within::<V>(fields, limit - 1),
     }
 }
 
 #[cycle(depth)]
-fn are_within(items: &[Datum], limit: u8) -> bool
-    ensures { TestDepths result limit (members_of (map value_of items.now)) }
+fn are_within<V: Shown>(items: V::Items, limit: u8) -> bool
+    requires { AreKept V.kept (V.listed items) }
+    ensures { TestDepths result limit (members_of (V.listed items)) }
 {
-    'items: for item in items {
+    let mut items = items;
+    'items: while let Some(item) = V::next_item(&mut items) {
         if !is_within(item, limit) {
             return false;
         }
@@ -48,11 +58,15 @@ fn are_within(items: &[Datum], limit: u8) -> bool
 }
 
 #[cycle(depth)]
-fn fields_within(fields: &BTreeMap<String, Datum>, limit: u8) -> bool
-    ensures { TestFieldDepths result limit (fields_of (map entry_of fields.now.entries)) }
+fn fields_within<V: Shown>(fields: V::Fields, limit: u8) -> bool
+    requires { V.ascend fields }
+    ensures { TestFieldDepths result limit (fields_of (V.named fields)) }
 {
-    'fields: for (_name, field) in fields.iter() {
-        if !is_within(field, limit) {
+    let mut fields = fields;
+    'fields: while let Some(field) = V::next_field(&mut fields) {
+        let (name, value) = V::parts(&field);
+        let _formed = is_text(name);
+        if !is_within(value, limit) {
             return false;
         }
     }

@@ -1,4 +1,7 @@
-//! The limits of messages and states, and the room that is made for a short one.
+//! The version of messages, the limits of messages and states, and the room that is made for a short one.
+
+/// The first byte of a message: the version of its form.
+pub const MESSAGE_VERSION: u8 = 1;
 
 /// Bytes of a message.
 pub const MAX_MESSAGE_BYTES: usize = 65_536;

@@ -14,7 +14,7 @@ use crate::bytes::text_of;
 use crate::datum::Datum;
 use crate::datum_builder::DatumBuilder;
 use crate::fault::CodecFault;
-use crate::limits::{MAX_DEPTH, MAX_MESSAGE_BYTES, MAX_STATE_BYTES};
+use crate::limits::{MAX_DEPTH, MAX_MESSAGE_BYTES, MAX_STATE_BYTES, MESSAGE_VERSION};
 use crate::message::Message;
 use crate::state::StateBytes;
 use crate::value_reader::read_value;
@@ -46,7 +46,7 @@ pub fn state_datum(alloc: Global, bytes: &[u8]) -> Result<Datum, CodecFault>
 fn call_in(alloc: Global, bytes: &[u8]) -> Result<(String, Datum), CodecFault>
     ensures { Reads (λ found. asks (string_bytes found.0) (value_of found.1)) result (behind_version bytes.now) }
 {
-    let [1, behind @ ..] = bytes else {
+    let [MESSAGE_VERSION, behind @ ..] = bytes else {
         return Err(CodecFault::NotAMessage);
     };
     let Some((method, rest)) = text_of(behind) else {

@@ -7,7 +7,7 @@ ghost use Rattle.request_codec.specs.Call.{message_call, state_value, behind_ver
 ghost use Rattle.request_codec.specs.Ends.{end_of};
 
 use crate::bytes::{Start, may_follow, start_of, text_of};
-use crate::limits::{MAX_DEPTH, MAX_MESSAGE_BYTES, MAX_STATE_BYTES};
+use crate::limits::{MAX_DEPTH, MAX_MESSAGE_BYTES, MAX_STATE_BYTES, MESSAGE_VERSION};
 
 /// The bytes behind the value at the front, which is no deeper than the limit.
 #[cycle(ends)]
@@ -88,11 +88,11 @@ pub fn is_state(bytes: &[u8]) -> bool
     is_one_value(bytes)
 }
 
-/// Whether the bytes behind the first are a method and one value, and the first is 1.
+/// Whether the first byte is a message's, and those behind it are a method and one value.
 fn is_call(bytes: &[u8]) -> bool
     ensures { result ≡ is_some (behind_version bytes.now) }
 {
-    let [1, behind @ ..] = bytes else {
+    let [MESSAGE_VERSION, behind @ ..] = bytes else {
         return false;
     };
     let Some((_, rest)) = text_of(behind) else {

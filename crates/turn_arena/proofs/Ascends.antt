@@ -1,8 +1,9 @@
 -- The names of each map ascend in a value that bytes spell.
-use Rattle.std.proofs.Common.{ℕ, List}
+use Rattle.std.proofs.Common.{ℕ, List, [], ◌∷◌}
 use Rattle.request_codec.specs.Tree as tree
-use Rattle.request_codec.specs.Tree.{Tree, Members, no_members, member, Fields, no_fields, field}
+use Rattle.request_codec.specs.Tree.{Tree, Members, no_members, member, Fields, no_fields, field, members_of}
 use Rattle.request_codec.specs.Spelling.{Spells, SpellEach, SpellFields}
+use Rattle.request_codec.specs.Level.{AreKept}
 use Rattle.turn_arena.specs.Ascending.{MapsAscend, MembersAscend, FieldsAscend}
 
 mutual
@@ -21,3 +22,8 @@ mutual
   pub SpellFields-ascend : (fs : Fields) (bytes : List ℕ) → SpellFields fs bytes → FieldsAscend fs
   SpellFields-ascend no_fields bytes h = tt
   SpellFields-ascend (field n v fs) bytes (name, first, others, named, one, each, below, is) = (Spells-ascend v first one, below, SpellFields-ascend fs others each)
+
+-- the names of each member's maps ascend
+pub members_kept : (vs : List Tree) → MembersAscend (members_of vs) → AreKept MapsAscend vs
+members_kept [] h = tt
+members_kept (v ∷ vs) h = (h.0, members_kept vs h.1)

@@ -22,3 +22,5 @@ node_value-List ns = search (rules, the_lemmas)
 
 pub node_value-Map : (fs : Bor (Listed Field)) → node_value (Map fs) ≡ tree.map (field_values fs.now)
 node_value-Map fs = search (rules, the_lemmas)
+
+pub ruleset node_levels = (node_value-List, node_value-Map)

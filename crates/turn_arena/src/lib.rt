@@ -6,14 +6,13 @@
 //! What spells a value is in `request_codec`.
 #![tactic(auto)]
 
-mod depth;
 mod fault;
 mod fields;
 mod formed;
 mod node;
 mod node_builder;
 mod node_reader;
-mod node_writer;
+mod node_shown;
 mod reading;
 mod setting;
 mod trees;

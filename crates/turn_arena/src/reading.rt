@@ -16,7 +16,7 @@ use crate::node::Node;
 use crate::node_reader::node_at;
 use bumpalo::Bump;
 use request_codec::bytes::text_of;
-use request_codec::limits::{MAX_DEPTH, MAX_MESSAGE_BYTES, MAX_STATE_BYTES};
+use request_codec::limits::{MAX_DEPTH, MAX_MESSAGE_BYTES, MAX_STATE_BYTES, MESSAGE_VERSION};
 
 /// The one value that all of the bytes spell.
 fn whole_node<'a>(bump: &'a Bump, bytes: &[u8]) -> Result<Node<'a>, ArenaFault>
@@ -33,7 +33,7 @@ fn whole_node<'a>(bump: &'a Bump, bytes: &[u8]) -> Result<Node<'a>, ArenaFault>
 fn call_in<'a>(bump: &'a Bump, bytes: &[u8]) -> Result<(&'a str, Node<'a>), ArenaFault>
     ensures { ReadsIn (λ found. asks found.0.now (node_value found.1)) result (behind_version bytes.now) }
 {
-    let [1, behind @ ..] = bytes else {
+    let [MESSAGE_VERSION, behind @ ..] = bytes else {
         return Err(ArenaFault::NotAMessage);
     };
     let Some((method, rest)) = text_of(behind) else {

@@ -14,8 +14,7 @@ ghost use Rattle.turn_arena.specs.Places.{IsPlaceIn, behind_map};
 
 use crate::formed::known_text;
 use crate::node::Node;
-use crate::node_writer::{put_counted, put_node};
-use request_codec::bytes::{put, put_text, u32_of, value_end};
+use request_codec::bytes::{Start, put, put_start, put_text, put_value, u32_of, value_end};
 use request_codec::limits::{MAX_DEPTH, MAX_STATE_BYTES};
 use request_codec::{CodecFault, StateBytes};
 use std::alloc::{AllocError, Global};
@@ -112,10 +111,10 @@ fn joined(
     ensures { WritesAll state_limit result (6 ∷ (to_be_bytes w32 place.entry.count ++ (place.entry.front.now ++ (text_spelling name.now ++ (spelling (node_value value.entry) ++ place.entry.behind.now))))) }
 {
     let mut out = Vec::with_capacity(alloc, room)?;
-    put_counted(&mut out, MAX_STATE_BYTES, 6, place.count)?;
+    put_start(&mut out, MAX_STATE_BYTES, Start::Map(place.count))?;
     put(&mut out, MAX_STATE_BYTES, place.front)?;
     put_text(&mut out, MAX_STATE_BYTES, name)?;
-    put_node(&mut out, MAX_STATE_BYTES, value)?;
+    put_value(&mut out, MAX_STATE_BYTES, value)?;
     put(&mut out, MAX_STATE_BYTES, place.behind)?;
     Ok(out)
 }

@@ -1,44 +1,18 @@
 //! Writing a tree as a message or a state.
 
-ghost use Rattle.std.specs.Prelude.{◌≡◌, ◌≤◌, ◌∷◌, ◌++◌, IfOk};
+ghost use Rattle.std.specs.Prelude.{◌≡◌, ◌≤◌, IfOk};
 ghost use Rattle.request_codec.specs.Answers.{Writes, spelled_length, message_length};
 ghost use Rattle.request_codec.specs.Call.{asks};
 ghost use Rattle.request_codec.specs.Formed.{IsFormed};
 ghost use Rattle.request_codec.specs.Limits.{depth_limit, message_limit, state_limit};
 ghost use Rattle.request_codec.specs.Tree.{depth};
-ghost use Rattle.request_codec.specs.Written.{WritesAll, text_spelling, spelling};
 ghost use Rattle.turn_arena.specs.Ascending.{MapsAscend};
 ghost use Rattle.turn_arena.specs.NodeValue.{node_value};
 
-use crate::depth::is_within;
 use crate::node::Node;
-use crate::node_writer::put_node;
-use request_codec::bytes::{put, put_text};
-use request_codec::limits::{
-    MAX_DEPTH, MAX_MESSAGE_BYTES, MAX_STATE_BYTES, MESSAGE_ROOM, STATE_ROOM,
-};
-use request_codec::{CodecFault, Message, StateBytes};
+use request_codec::bytes::state_bytes;
+use request_codec::{CodecFault, Message, StateBytes, message_of, state_of};
 use std::alloc::{AllocError, Global};
-
-/// The bytes of a message of the method and its argument.
-fn message_bytes(alloc: Global, method: &str, argument: Node<'_>) -> Result<Vec<u8>, CodecFault>
-    ensures { WritesAll message_limit result (1 ∷ (text_spelling method.now ++ spelling (node_value argument.entry))) }
-{
-    let mut out = Vec::with_capacity(alloc, MESSAGE_ROOM)?;
-    put(&mut out, MAX_MESSAGE_BYTES, &[1])?;
-    put_text(&mut out, MAX_MESSAGE_BYTES, method)?;
-    put_node(&mut out, MAX_MESSAGE_BYTES, argument)?;
-    Ok(out)
-}
-
-/// The bytes of a state of the value. There is room for `room` bytes at once, and for more when they come.
-fn state_bytes(alloc: Global, room: usize, value: Node<'_>) -> Result<Vec<u8>, CodecFault>
-    ensures { WritesAll state_limit result (spelling (node_value value.entry)) }
-{
-    let mut out = Vec::with_capacity(alloc, room)?;
-    put_node(&mut out, MAX_STATE_BYTES, value)?;
-    Ok(out)
-}
 
 /// The message of a method and its argument. `TooDeep` comes before `TooLong`.
 pub fn encode_call(alloc: Global, method: &str, argument: Node<'_>) -> Result<Message, CodecFault>
@@ -46,10 +20,7 @@ pub fn encode_call(alloc: Global, method: &str, argument: Node<'_>) -> Result<Me
     ensures { Writes result (asks method.now (node_value argument.entry)) (node_value argument.entry)
         (message_length method.now (node_value argument.entry)) message_limit }
 {
-    if !is_within(argument, MAX_DEPTH) {
-        return Err(CodecFault::TooDeep);
-    }
-    Ok(Message::from_spelling(message_bytes(alloc, method, argument)?)?)
+    message_of(alloc, method, argument)
 }
 
 /// The state of a value. `TooDeep` comes before `TooLong`.
@@ -57,10 +28,7 @@ pub fn encode_node(alloc: Global, node: Node<'_>) -> Result<StateBytes, CodecFau
     requires { MapsAscend (node_value node) }
     ensures { Writes result (node_value node.entry) (node_value node.entry) (spelled_length (node_value node.entry)) state_limit }
 {
-    if !is_within(node, MAX_DEPTH) {
-        return Err(CodecFault::TooDeep);
-    }
-    Ok(StateBytes::from_spelling(state_bytes(alloc, STATE_ROOM, node)?)?)
+    state_of(alloc, node)
 }
 
 /// The state of a value that is known to fit one, which is not tested again: `encode_node`'s, and the only error is

@@ -1,7 +1,9 @@
 //! Bytes that are being written, up to a limit.
 
-ghost use Rattle.std.specs.Prelude.{◌≡◌, ◌<◌, ◌≤◌, ◌^◌, length, MatchResult, OnErr};
-ghost use Rattle.request_codec.specs.Written.{Puts, text_spelling, start_spelling};
+ghost use Rattle.std.specs.Prelude.{◌≡◌, ◌<◌, ◌≤◌, ◌^◌, ◌∷◌, length, MatchResult, OnErr};
+ghost use Rattle.std.specs.Int.{w32, to_be_bytes};
+ghost use Rattle.request_codec.specs.Tree.{integer, text};
+ghost use Rattle.request_codec.specs.Written.{Puts, text_spelling, spelling, start_spelling};
 ghost use Rattle.request_codec.specs.Start.{begun};
 ghost use Rattle.request_codec.specs.declared.fault.CodecFault.TheVariants as faults;
 
@@ -46,6 +48,42 @@ pub fn put_text(out: &mut Vec<u8>, limit: usize, text: &str) -> Result<(), Codec
     put(out, limit, text.as_bytes())
 }
 
+/// Puts the first byte of a value and a count at the end, in one go.
+#[inline(always)]
+fn put_counted(out: &mut Vec<u8>, limit: usize, first: u8, count: u32) -> Result<(), CodecFault>
+    requires { length out.old.items ≤ limit }
+    ensures { Puts limit out.old.items out.new.items result (first ∷ to_be_bytes w32 count) }
+{
+    let mut front = [first; 5];
+    front[1..].copy_from_slice(&count.to_be_bytes());
+    put(out, limit, &front)
+}
+
+/// Puts a number that is a value at the end, in one go.
+#[tactic(auto, unfolding(crate::specs::Written::spelling))]
+#[inline(always)]
+fn put_number(out: &mut Vec<u8>, limit: usize, number: i64) -> Result<(), CodecFault>
+    requires { length out.old.items ≤ limit }
+    ensures { Puts limit out.old.items out.new.items result (spelling (integer number)) }
+{
+    let mut bytes = [3; 9];
+    bytes[1..].copy_from_slice(&number.to_be_bytes());
+    put(out, limit, &bytes)
+}
+
+/// Puts a text that is a value at the end.
+#[tactic(auto, unfolding(crate::specs::Written::spelling))]
+#[inline(always)]
+fn put_text_value(out: &mut Vec<u8>, limit: usize, content: &str) -> Result<(), CodecFault>
+    requires room { length out.old.items ≤ limit }
+    requires small { limit < 2 ^ 32 }
+    ensures { Puts limit out.old.items out.new.items result (spelling (text content.now)) }
+{
+    let count = counted(content.len(), limit)?;
+    put_counted(out, limit, 4, count)?;
+    put(out, limit, content.as_bytes())
+}
+
 /// Puts the start of a value at the end. After a fault a part of it may stand there.
 #[tactic(auto, unfolding(crate::specs::Written::spelling))]
 #[inline(always)]
@@ -58,21 +96,9 @@ pub fn put_start(out: &mut Vec<u8>, limit: usize, start: Start<'_>) -> Result<()
         Start::Null => put(out, limit, &[0]),
         Start::Bool(false) => put(out, limit, &[1]),
         Start::Bool(true) => put(out, limit, &[2]),
-        Start::Int(n) => {
-            put(out, limit, &[3])?;
-            put(out, limit, &n.to_be_bytes())
-        }
-        Start::Text(text) => {
-            put(out, limit, &[4])?;
-            put_text(out, limit, text)
-        }
-        Start::List(count) => {
-            put(out, limit, &[5])?;
-            put(out, limit, &count.to_be_bytes())
-        }
-        Start::Map(count) => {
-            put(out, limit, &[6])?;
-            put(out, limit, &count.to_be_bytes())
-        }
+        Start::Int(number) => put_number(out, limit, number),
+        Start::Text(text) => put_text_value(out, limit, text),
+        Start::List(count) => put_counted(out, limit, 5, count),
+        Start::Map(count) => put_counted(out, limit, 6, count),
     }
 }

@@ -1,17 +1,34 @@
-use Rattle.std.proofs.Common.{Bool, map, drop, string_cmp}
-use Rattle.std.specs.List.Sorted.{IsStrictlySortedBy}
-use Rattle.std.specs.Map.{keys_of}
+use Rattle.std.proofs.Common.{ℕ, ◌+◌, ◌*◌, Bool, length}
 use Rattle.request_codec.specs.Tree.{members_of, fields_of}
 use Rattle.request_codec.specs.Formed.{TestDepths, TestFieldDepths}
-use Rattle.request_codec.specs.Seen.{value_of, entry_of}
+use Rattle.request_codec.specs.Level.{AreKept}
 use Rattle.request_codec.proofs.depth.+depth.Given as goal
 
+abbrev pub decreases-is_within : goal.decreases-is_within
+decreases-is_within g l = 2 * l.limit
+
+abbrev pub decreases-are_within : goal.decreases-are_within
+decreases-are_within g l = 2 * l.limit + 1
+
+abbrev pub decreases-fields_within : goal.decreases-fields_within
+decreases-fields_within g l = 2 * l.limit + 1
+
+abbrev pub decreases-are_within-items : goal.decreases-are_within-items
+decreases-are_within-items g l = length (g.V.Shown.listed l.items)
+
+abbrev pub decreases-fields_within-fields : goal.decreases-fields_within-fields
+decreases-fields_within-fields g l = length (g.V.Shown.named l.fields)
+
 abbrev pub invariant-are_within-items : goal.invariant-are_within-items
-invariant-are_within-items l = (b : Bool) → TestDepths b l.limit (members_of (map value_of (drop l.item-index l.items))) → TestDepths b l.limit (members_of (map value_of l.items))
+invariant-are_within-items g l =
+    record {
+      kept : AreKept g.V.Shown.kept (g.V.Shown.listed l.items);
+      so_far : (b : Bool) → TestDepths b l.limit (members_of (g.V.Shown.listed l.items)) → TestDepths b l.limit (members_of (g.V.Shown.listed l.initial.items));
+    }
 
 abbrev pub invariant-fields_within-fields : goal.invariant-fields_within-fields
-invariant-fields_within-fields l =
+invariant-fields_within-fields g l =
     record {
-      ordered : IsStrictlySortedBy string_cmp (keys_of l._name-iterator);
-      so_far : (b : Bool) → TestFieldDepths b l.limit (fields_of (map entry_of l._name-iterator)) → TestFieldDepths b l.limit (fields_of (map entry_of l.fields.entries));
+      ascending : g.V.Shown.ascend l.fields;
+      so_far : (b : Bool) → TestFieldDepths b l.limit (fields_of (g.V.Shown.named l.fields)) → TestFieldDepths b l.limit (fields_of (g.V.Shown.named l.initial.fields));
     }

@@ -1,17 +1,15 @@
-use Rattle.std.proofs.Common.{◌≤◌, ◌∷◌, ◌++◌, subst, arith}
+use Rattle.std.proofs.Common.{◌≤◌, subst, arith}
 use Rattle.std.proofs.lemmas.Result.{err_from_is_err_and}
 use Rattle.serde_json.specs.View.{view}
-use Rattle.request_codec.specs.Limits.{depth_limit, message_limit}
+use Rattle.request_codec.specs.Limits.{message_limit}
 use Rattle.request_codec.specs.Call.{asks, message_call}
-use Rattle.request_codec.specs.Formed.{IsFormed}
-use Rattle.request_codec.specs.Json.{value_of_json, json_depth}
-use Rattle.request_codec.specs.JsonValue.{value_in}
-use Rattle.request_codec.specs.Converted.{Tests}
-use Rattle.request_codec.specs.Written.{text_spelling, spelling}
+use Rattle.request_codec.specs.Lenient.{lenient_value}
+use Rattle.request_codec.specs.Converted.{TestsJson}
+use Rattle.request_codec.specs.Written.{message_spelling}
 use Rattle.request_codec.specs.Answers.{message_length}
 use Rattle.request_codec.specs.declared.json_test.JsonTest.{JsonTest}
 use Rattle.request_codec.proofs.PartAnswers.{WritesJson-fault}
-use Rattle.request_codec.proofs.JsonValues.{value_there}
+use Rattle.request_codec.proofs.JsonDepths.{lenient_within}
 use Rattle.request_codec.proofs.Spelled.{length-message}
 use Rattle.request_codec.proofs.Whole.{message_is_some}
 use Rattle.request_codec.proofs.Encoded.{encoded_message, same_found}
@@ -22,28 +20,26 @@ returns-in_err-bytes-in-Passed c =
     let p = err_from_is_err_and c.from_residual.result c.from_residual.ensures.1 in
     let method = c.args.method.now in
     let d = view c.args.argument.now in
-    let v = value_in c.args.argument.now in
-    let tested = subst (λ (t : JsonTest). Tests IsFormed t depth_limit (json_depth d) (value_of_json d)) c.in-Passed.is c.test_json.ensures in
-    rw (p.1, p.2) (WritesJson-fault c.in_err-bytes-in-Passed.field-0.0 method d v (1 ∷ (text_spelling method ++ spelling v)) tested.0 (value_there d tested).0 (length-message method v) c.in_err-bytes-in-Passed.ensures)
+    let v = lenient_value d in
+    let tested = subst (λ (t : JsonTest). TestsJson t d) c.in-Passed.is c.test_json.ensures in
+    rw (p.1, p.2) (WritesJson-fault c.in_err-bytes-in-Passed.field-0.0 method d v (message_spelling (asks method v)) tested.0 tested.1.0 (length-message method v) c.in_err-bytes-in-Passed.ensures)
 
 pub from_spelling-requires : goal.from_spelling-requires
 from_spelling-requires c =
     let items = c.in_ok-bytes-in-Passed.bytes.items in
     let method = c.args.method.now in
     let d = view c.args.argument.now in
-    let v = value_in c.args.argument.now in
-    let tested = subst (λ (t : JsonTest). Tests IsFormed t depth_limit (json_depth d) (value_of_json d)) c.in-Passed.is c.test_json.ensures in
-    let there = value_there d tested in
-    message_is_some items (asks method v) (encoded_message items method v c.utf8.method (there.1, there.2) c.in_ok-bytes-in-Passed.ensures)
+    let v = lenient_value d in
+    let tested = subst (λ (t : JsonTest). TestsJson t d) c.in-Passed.is c.test_json.ensures in
+    message_is_some items (asks method v) (encoded_message items method v c.utf8.method (lenient_within d tested.0, tested.1.1) c.in_ok-bytes-in-Passed.ensures)
 
 pub returns-in_ok-from_spelling-in-Passed : goal.returns-in_ok-from_spelling-in-Passed
 returns-in_ok-from_spelling-in-Passed c =
     let items = c.in_ok-bytes-in-Passed.bytes.items in
     let method = c.args.method.now in
     let d = view c.args.argument.now in
-    let v = value_in c.args.argument.now in
-    let tested = subst (λ (t : JsonTest). Tests IsFormed t depth_limit (json_depth d) (value_of_json d)) c.in-Passed.is c.test_json.ensures in
-    let there = value_there d tested in
+    let v = lenient_value d in
+    let tested = subst (λ (t : JsonTest). TestsJson t d) c.in-Passed.is c.test_json.ensures in
     let short : message_length method v ≤ message_limit = omega (arith, c.in_ok-bytes-in-Passed.ensures.1, length-message method v) in
-    let same = same_found (message_call items) c.in_ok-from_spelling-in-Passed.field-0 (asks method v) c.in_ok-from_spelling-in-Passed.ensures (encoded_message items method v c.utf8.method (there.1, there.2) c.in_ok-bytes-in-Passed.ensures) in
-    (tested.0, (v, there.0, same, short))
+    let same = same_found (message_call items) c.in_ok-from_spelling-in-Passed.field-0 (asks method v) c.in_ok-from_spelling-in-Passed.ensures (encoded_message items method v c.utf8.method (lenient_within d tested.0, tested.1.1) c.in_ok-bytes-in-Passed.ensures) in
+    (tested.0, (v, tested.1.0, same, short))

@@ -10,7 +10,7 @@ use Rattle.request_codec.specs.Tree as tree
 use Rattle.request_codec.specs.Tree.{Tree, Fields, members_of, fields_of}
 use Rattle.request_codec.specs.Seen.{value_of, entry_of}
 use Rattle.request_codec.specs.Json.{value_of_json, members_of_json, fields_of_json}
-use Rattle.request_codec.proofs.Shown.{value_of-Map}
+use Rattle.request_codec.proofs.DatumValue.{value_of-Map}
 use Rattle.request_codec.proofs.Entries.{Entry, AreBelow, insert_entry-last}
 use Rattle.request_codec.proofs.JsonParts.{JsonEntry, items-next, items-done, fields-next, fields-done}
 use Rattle.request_codec.proofs.JsonObjects.{AreBelowKeys, below_first, below_others}

@@ -7,7 +7,7 @@ use Rattle.serde_json.specs.View.{view, items_of, members_view}
 use Rattle.serde_json.proofs.Views.{members_view-insert_entry, view-Object}
 use Rattle.request_codec.specs.Seen.{value_of}
 use Rattle.request_codec.specs.Json.{json_of}
-use Rattle.request_codec.proofs.Shown.{value_of-Map}
+use Rattle.request_codec.proofs.DatumValue.{value_of-Map}
 use Rattle.request_codec.proofs.Entries.{Entry}
 use Rattle.request_codec.proofs.JsonMembers.{json_of_seen, items_of-members, put_last}
 use Rattle.request_codec.proofs.json_writer.+json_writing.Goals as goal

@@ -1,0 +1,39 @@
+-- One level of a value: a whole one, or how many members it has and what gives them.
+use Rattle.std.specs.Prelude.{◌≡◌, ℕ, List, [], ◌∷◌, length}
+use Rattle.request_codec.specs.Tree as tree
+use Rattle.request_codec.specs.Tree.{Tree, members_of, fields_of}
+use Rattle.request_codec.specs.Build.{Named}
+use Rattle.request_codec.specs.declared.shown.Level.{Level}
+use Rattle.request_codec.specs.declared.shown.Level.TheVariants as levels
+
+-- the value, by the values that its items and its fields give
+abbrev pub level_value : {I F : Type 0} → (I → List Tree) → (F → List Named) → Level I F → Tree
+level_value listed named levels.Null = tree.null
+level_value listed named (levels.Bool b) = tree.truth b
+level_value listed named (levels.Int i) = tree.integer i
+level_value listed named (levels.Text s) = tree.text s.now
+level_value listed named (levels.List n items) = tree.list (members_of (listed items))
+level_value listed named (levels.Map n fields) = tree.map (fields_of (named fields))
+
+-- as many items or fields are given as the level says
+abbrev pub IsCounted : {I F : Type 0} → (I → List Tree) → (F → List Named) → Level I F → Type 0
+IsCounted listed named levels.Null = Unit {0}
+IsCounted listed named (levels.Bool b) = Unit {0}
+IsCounted listed named (levels.Int i) = Unit {0}
+IsCounted listed named (levels.Text s) = Unit {0}
+IsCounted listed named (levels.List n items) = n ≡ length (listed items)
+IsCounted listed named (levels.Map n fields) = n ≡ length (named fields)
+
+-- what holds of each of some values
+abbrev pub AreKept : (Tree → Type 0) → List Tree → Type 0
+AreKept kept [] = Unit {0}
+AreKept kept (v ∷ vs) = kept v × AreKept kept vs
+
+-- what holds of what gives the members of a list or the fields of a map
+abbrev pub HoldsInside : {I F : Type 0} → (I → Type 0) → (F → Type 0) → Level I F → Type 0
+HoldsInside items_hold fields_hold levels.Null = Unit {0}
+HoldsInside items_hold fields_hold (levels.Bool b) = Unit {0}
+HoldsInside items_hold fields_hold (levels.Int i) = Unit {0}
+HoldsInside items_hold fields_hold (levels.Text s) = Unit {0}
+HoldsInside items_hold fields_hold (levels.List n items) = items_hold items
+HoldsInside items_hold fields_hold (levels.Map n fields) = fields_hold fields
