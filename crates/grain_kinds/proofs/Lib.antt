@@ -3,3 +3,4 @@ pub mod Nodes
 pub mod Shapes
 pub mod Fields
 pub mod Members
+pub mod KeepSame

@@ -1,4 +1,5 @@
--- The logic of counters alone, with `add` and `get` and no other method. None counts as a method that only reads, so each turn of a counter is alone.
+-- The logic of counters alone, with `add` and `get` and no other method. None counts as a method that only reads, so
+-- each turn of a counter is alone.
 use Rattle.std.specs.Prelude.{false, Err, pos, codes}
 use Rattle.grain_id.specs.Names.{same_text}
 use Rattle.request_codec.specs.Tree.{integer}

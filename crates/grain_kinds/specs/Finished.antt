@@ -7,7 +7,7 @@ use Rattle.request_codec.specs.Call.{Call, coded_call}
 use Rattle.request_codec.specs.Code.{coded_tree}
 use Rattle.request_codec.specs.Tree.{Tree}
 use Rattle.grain_kinds.specs.Logic.{Logic, Plan, Outgoing}
-use Rattle.grain_kinds.specs.Planned.{storage_call}
+use Rattle.grain_kinds.specs.Planned.{storage_call, keep_of}
 use Rattle.grain_kinds.specs.declared.turn.OpenedTurn.{OpenedTurn}
 use Rattle.grain_kinds.specs.declared.turn.OwnedPlan.{OwnedPlan}
 
@@ -21,10 +21,12 @@ planned_shown state p = record {
   outcome = p.outcome;
   storage = storage_call p.store;
   sends = map sent p.sends.items;
+  keep = keep_of p.keep;
 }
 
 abbrev pub coded_turn : Coded OpenedTurn
-coded_turn = code_by (Grain × (ℕ × (Bool × (Tree × Call)))) (coded× coded_grain (coded× coded_ℕ (coded× coded_bool (coded× coded_tree coded_call))))
+coded_turn =
+    code_by (Grain × (ℕ × (Bool × (Tree × Call)))) (coded× coded_grain (coded× coded_ℕ (coded× coded_bool (coded× coded_tree coded_call))))
     (λ t. (t.grain, (t.number, (t.reading, (t.state, t.message)))))
     (λ p. record { grain = p.0; number = p.1.0; reading = p.1.1.0; state = p.1.1.1.0; message = p.1.1.1.1 })
     (λ _. refl)

@@ -11,7 +11,8 @@ use Rattle.request_codec.specs.Tree.{Tree, integer}
 use Rattle.grain_kinds.specs.declared.fault.MethodFault.TheVariants.{OutOfRange}
 use Rattle.grain_kinds.specs.Counter.{number_of, fits_64, add_to, add_plan, get_plan, number_plan, counter_plan}
 use Rattle.grain_kinds.specs.Laws.{ChangesNothing}
-use Rattle.grain_kinds.specs.LawsOfForms.{ObeysLaws, whole_fits, if_holds, keeps_obeys, keeps_changes_nothing, fault_obeys, becomes_obeys, for_null_obeys, for_null_changes_nothing, for_shape_obeys, shared_obeys}
+use Rattle.grain_kinds.specs.LawsOfForms.{ObeysLaws, whole_fits, if_holds, keeps_obeys, keeps_changes_nothing, fault_obeys}
+use Rattle.grain_kinds.specs.LawsOfForms.{becomes_obeys, for_null_obeys, for_null_changes_nothing, for_shape_obeys, shared_obeys}
 use Rattle.grain_kinds.specs.Logic.{Plan}
 use Rattle.grain_kinds.specs.Shared.{integer_field, shared_plan}
 
@@ -41,22 +42,28 @@ add_obeys state call sum =
 get_obeys : (state : Tree) (call : Call) → ObeysLaws state call (get_plan state)
 get_obeys state call = keeps_obeys state call _ (λ s m. whole_fits (number_of state) (number_fits state s.formed))
 
-pub number_obeys : (other : Plan) (method : List ℕ) (state argument : Tree) (call : Call) → ObeysLaws state call other → ObeysLaws state call (number_plan other method state argument)
+pub number_obeys : (other : Plan) (method : List ℕ) (state argument : Tree) (call : Call) → ObeysLaws state call other
+    → ObeysLaws state call (number_plan other method state argument)
 unfolding number_plan
 number_obeys other method state argument call obeys =
     if_holds (ObeysLaws state call) (same_text method (codes "add")) _ _
-    (λ e. for_shape_obeys state call (integer_field (codes "by") argument) (add_plan state) (λ by is. add_obeys state call (number_of state +ℤ by)))
-    (λ e. if_holds (ObeysLaws state call) (same_text method (codes "get")) _ _ (λ e. for_null_obeys state argument call _ (get_obeys state call)) (λ e. obeys))
+    (λ e. for_shape_obeys state call (integer_field (codes "by") argument) (add_plan state)
+    (λ by is. add_obeys state call (number_of state +ℤ by)))
+    (λ e. if_holds (ObeysLaws state call) (same_text method (codes "get")) _ _
+    (λ e. for_null_obeys state argument call _ (get_obeys state call)) (λ e. obeys))
 
 pub counter_obeys : (method : List ℕ) (state argument : Tree) (call : Call) → ObeysLaws state call (counter_plan method state argument)
 unfolding counter_plan
-counter_obeys method state argument call = number_obeys (shared_plan method state argument) method state argument call (shared_obeys method state argument call)
+counter_obeys method state argument call =
+    number_obeys (shared_plan method state argument) method state argument call (shared_obeys method state argument call)
 
 -- `get` changes nothing
 get_changes_nothing : (state argument : Tree) → ChangesNothing state (counter_plan (codes "get") state argument)
 unfolding counter_plan number_plan
 get_changes_nothing state argument = for_null_changes_nothing state argument (get_plan state) (keeps_changes_nothing state _)
 
-pub counter_reads : (method : List ℕ) (state argument : Tree) → same_text method (codes "get") ≡ true → ChangesNothing state (counter_plan method state argument)
+pub counter_reads : (method : List ℕ) (state argument : Tree) → same_text method (codes "get") ≡ true
+    → ChangesNothing state (counter_plan method state argument)
 counter_reads method state argument is =
-    subst (λ (m : List ℕ). ChangesNothing state (counter_plan m state argument)) (sym ((same_text_decides method (codes "get")).0 is)) (get_changes_nothing state argument)
+    subst (λ (m : List ℕ). ChangesNothing state (counter_plan m state argument)) (sym ((same_text_decides method (codes "get")).0 is))
+    (get_changes_nothing state argument)

@@ -28,13 +28,15 @@ obeys kind method state argument =
 no_read : false ≡ true → ⊥
 no_read e = cc
 
-reads : (kind method : List ℕ) (state argument : Tree) → only_reads kind method ≡ true → ChangesNothing state (plan_of kind method state argument)
+reads : (kind method : List ℕ) (state argument : Tree) → only_reads kind method ≡ true
+    → ChangesNothing state (plan_of kind method state argument)
 reads kind method state argument e =
     let get = same_text method (codes "get") in
     let listed = get || same_text method (codes "list") in
     if_holds (ChangesNothing state) (is_counter kind) _ _
     (λ c. counter_reads method state argument (sym (ap (λ (b : Bool). if b then get else (if is_sheet kind then listed else false)) c) ∙ e))
-    (λ c. let other : (if is_sheet kind then listed else false) ≡ true = sym (ap (λ (b : Bool). if b then get else (if is_sheet kind then listed else false)) c) ∙ e in
+    (λ c. let other : (if is_sheet kind then listed else false)
+    ≡ true = sym (ap (λ (b : Bool). if b then get else (if is_sheet kind then listed else false)) c) ∙ e in
     if_holds (ChangesNothing state) (is_sheet kind) _ _
     (λ s. sheet_reads method state argument (sym (ap (λ (b : Bool). if b then listed else false) s) ∙ other))
     (λ s. absurd (no_read (sym (ap (λ (b : Bool). if b then listed else false) s) ∙ other))))
@@ -53,14 +55,17 @@ kinds_lawful = record {
   faults_change_nothing = λ kind method state argument. (obeys kind method state argument).faults_change_nothing;
   askers_leave_all = λ kind method state argument. (obeys kind method state argument).askers_leave_all;
   plans_keep_limits = λ kind method state argument. (obeys kind method state argument).keeps_limits;
+  stays_in_range = λ kind method state argument. (obeys kind method state argument).stays_in_range;
   empty_fits = λ kind known. empty_fits kind;
 }
 
 -- ---- counters alone
 
-alone_obeys : (method : List ℕ) (state argument : Tree) → ObeysLaws state (asks method argument) (counters.plan (codes "counter") method state argument)
+alone_obeys : (method : List ℕ) (state argument : Tree)
+    → ObeysLaws state (asks method argument) (counters.plan (codes "counter") method state argument)
 unfolding counters
-alone_obeys method state argument = let call = asks method argument in number_obeys (keeps state (Err UnknownMethod)) method state argument call (fault_obeys state call UnknownMethod)
+alone_obeys method state argument = let call = asks method argument in
+    number_obeys (keeps state (Err UnknownMethod)) method state argument call (fault_obeys state call UnknownMethod)
 
 pub counters_lawful : IsLawful counters
 unfolding counters
@@ -69,10 +74,12 @@ counters_lawful = record {
   faults_change_nothing = λ kind method state argument. (alone_obeys method state argument).faults_change_nothing;
   askers_leave_all = λ kind method state argument. (alone_obeys method state argument).askers_leave_all;
   plans_keep_limits = λ kind method state argument. (alone_obeys method state argument).keeps_limits;
+  stays_in_range = λ kind method state argument. (alone_obeys method state argument).stays_in_range;
   empty_fits = λ kind known. whole_fits (pos 0) zero_fits;
 }
 
 -- ---- what follows from the laws
 
 pub readers_ask_nothing : (logic : Logic) → IsLawful logic → ReadersAskNothing logic
-readers_ask_nothing logic lawful = λ kind method state argument e. (lawful.readers_change_nothing kind method state argument e).nothing_asked
+readers_ask_nothing logic lawful =
+    λ kind method state argument e. (lawful.readers_change_nothing kind method state argument e).nothing_asked

@@ -1,5 +1,6 @@
 -- The plans of relays keep the laws.
-use Rattle.std.proofs.Common.{◌≡◌, ℕ, suc, ◌*◌, ◌≤◌, Bool, true, false, ◌&&◌, List, [], ◌∷◌, ◌++◌, length, map, Option, Some, None, Result, Ok, Err, leb, ltb-true, ltb-false, refl, ap, sym, ◌∙◌, subst, arith}
+use Rattle.std.proofs.Common.{◌≡◌, ℕ, suc, ◌*◌, ◌≤◌, Bool, true, false, ◌&&◌, List, [], ◌∷◌, ◌++◌, length, map, Option, Some, None}
+use Rattle.std.proofs.Common.{Result, Ok, Err, leb, ltb-true, ltb-false, refl, ap, sym, ◌∙◌, subst, arith}
 use Rattle.std.specs.Prelude.{pos, IsTrue, IsUtf8, FitsSigned, nat_lt, if◌then◌else◌, codes, option_map, option_and_then}
 use Rattle.std.specs.Cmp.{first_so, second_so}
 use Rattle.std.specs.Int.{w64}
@@ -21,19 +22,24 @@ use Rattle.request_codec.specs.Tree as tree
 use Rattle.request_codec.specs.Tree.{Tree, truth, integer, members_depth, Members, no_members, member, members_count, members_of}
 use Rattle.grain_kinds.specs.declared.fault.MethodFault.{MethodFault}
 use Rattle.grain_kinds.specs.declared.fault.MethodFault.TheVariants.{OutOfRange}
-use Rattle.grain_kinds.specs.Held.{HoldsTwo, two_fields, two_fit, text_second, text_formed}
+use Rattle.grain_kinds.specs.inside.Held.{HoldsTwo, two_fields, two_fit, text_second, text_formed}
 use Rattle.grain_kinds.specs.Laws.{FitsState, FitsMessage, FitsSend}
-use Rattle.grain_kinds.specs.LawsOfForms.{ObeysLaws, truth_fits, whole_fits, if_holds, keeps_obeys, fault_obeys, becomes_obeys, for_shape_obeys, shared_obeys}
-use Rattle.grain_kinds.specs.Relay.{grain_found, grain_named, grain_value, grains_in, names_one, are_distinct, member_limit, members_in, text_of, relay_of, without, joined_plan, join_plan, leave_plan, sends_to, send_plan, send_argument, relay_plan}
+use Rattle.grain_kinds.specs.LawsOfForms.{ObeysLaws, truth_fits, whole_fits, if_holds, keeps_obeys, fault_obeys, becomes_obeys}
+use Rattle.grain_kinds.specs.LawsOfForms.{for_shape_obeys, shared_obeys}
+use Rattle.grain_kinds.specs.Relay.{grain_found, grain_named, grain_value, grains_in, names_one, are_distinct, member_limit, members_in}
+use Rattle.grain_kinds.specs.Relay.{text_of, relay_of, without, joined_plan, join_plan, leave_plan, sends_to, send_plan, send_argument}
+use Rattle.grain_kinds.specs.Relay.{relay_plan}
 use Rattle.grain_kinds.specs.Shared.{only_fields, text_value, text_field}
 
 -- ---- what is read is the text of a grain
 
-step_back : {A B : Type 0} (r : Result A IdFault) (f : A → Result B IdFault) (y : B) → (r >>= f) ≡ Ok y → (x : A) × (r ≡ Ok x) × (f x ≡ Ok y)
+step_back : {A B : Type 0} (r : Result A IdFault) (f : A → Result B IdFault) (y : B) → (r >>= f) ≡ Ok y
+    → (x : A) × (r ≡ Ok x) × (f x ≡ Ok y)
 step_back (Ok x) f y e = (x, refl, e)
 step_back (Err fault) f y e = absurd cc
 
-passed : (b : Bool) (fault : IdFault) (bytes found : List ℕ) → ◌≡◌ {A = Result (List ℕ) IdFault} (if b then Ok bytes else Err fault) (Ok found) → (b ≡ true) × (bytes ≡ found)
+passed : (b : Bool) (fault : IdFault) (bytes found : List ℕ)
+    → ◌≡◌ {A = Result (List ℕ) IdFault} (if b then Ok bytes else Err fault) (Ok found) → (b ≡ true) × (bytes ≡ found)
 passed true fault bytes found e = (refl, cc)
 passed false fault bytes found e = absurd cc
 
@@ -49,7 +55,9 @@ record IsNamed (s : List ℕ) (g : Grain) : Type 0 where
 all_three : (a b c : Bool) → a ≡ true → b ≡ true → c ≡ true → (a && b && c) ≡ true
 all_three a b c e f h = rw (e, f, h)
 
-made : (kind tenant name : List ℕ) (g : Grain) → ◌≡◌ {A = Result Grain IdFault} (Ok (record { kind = kind; tenant = tenant; name = name })) (Ok g) → ◌≡◌ {A = Grain} (record { kind = kind; tenant = tenant; name = name }) g
+made : (kind tenant name : List ℕ) (g : Grain)
+    → ◌≡◌ {A = Result Grain IdFault} (Ok (record { kind = kind; tenant = tenant; name = name })) (Ok g)
+    → ◌≡◌ {A = Grain} (record { kind = kind; tenant = tenant; name = name }) g
 made kind tenant name g e = cc
 
 -- the steps of reading a grain, each with what was read before it
@@ -68,14 +76,17 @@ with_kind rest kind = or_fault faults.Tenant (cut_at 58 rest) >>= with_rest kind
 abbrev with_cut : List ℕ × List ℕ → Result Grain IdFault
 with_cut cut = part is_word faults.Kind cut.0 >>= with_kind cut.1
 
-built : (s front rest middle end kind tenant name : List ℕ) (g : Grain) → cut_at 47 s ≡ Some (front, rest) → cut_at 58 rest ≡ Some (middle, end)
+built : (s front rest middle end kind tenant name : List ℕ) (g : Grain) → cut_at 47 s ≡ Some (front, rest)
+    → cut_at 58 rest ≡ Some (middle, end)
     → (is_word front ≡ true) × (front ≡ kind) → (is_word middle ≡ true) × (middle ≡ tenant) → (is_name end ≡ true) × (end ≡ name)
     → ◌≡◌ {A = Grain} (record { kind = kind; tenant = tenant; name = name }) g → IsNamed s g
 built s front rest middle end kind tenant name g first second k t n is =
     let inner : rest ≡ tenant ++ 58 ∷ name = cut_at-joined 58 rest middle end second ∙ (λ i. t.1 i ++ 58 ∷ n.1 i) in
     let outer : s ≡ kind ++ 47 ∷ (tenant ++ 58 ∷ name) = cut_at-joined 47 s front rest first ∙ (λ i. k.1 i ++ 47 ∷ inner i) in
     let here : IsNamed s (record { kind = kind; tenant = tenant; name = name }) = record {
-      is_well_formed = all_three (is_word kind) (is_word tenant) (is_name name) (ap is_word (sym k.1) ∙ k.0) (ap is_word (sym t.1) ∙ t.0) (ap is_name (sym n.1) ∙ n.0);
+      is_well_formed =
+          all_three (is_word kind) (is_word tenant) (is_name name) (ap is_word (sym k.1) ∙ k.0) (ap is_word (sym t.1) ∙ t.0)
+          (ap is_name (sym n.1) ∙ n.0);
       is_text = outer;
     } in
     subst (IsNamed s) is here
@@ -86,13 +97,16 @@ read_back s g e =
     let (first, first_cut, after_first) = step_back (or_fault faults.Kind (cut_at 47 s)) with_cut g e in
     let (kind, kind_passed, after_kind) = step_back (part is_word faults.Kind first.0) (with_kind first.1) g after_first in
     let (second, second_cut, after_second) = step_back (or_fault faults.Tenant (cut_at 58 first.1)) (with_rest kind) g after_kind in
-    let (tenant, tenant_passed, after_tenant) = step_back (part is_word faults.Tenant second.0) (with_tenant kind second.1) g after_second in
+    let (tenant, tenant_passed, after_tenant) = step_back (part is_word faults.Tenant second.0)
+    (with_tenant kind second.1) g after_second in
     let (name, name_passed, is) = step_back (part is_name faults.Name second.1) (with_name kind tenant) g after_tenant in
     let k = passed (is_word first.0) faults.Kind first.0 kind kind_passed in
     let t = passed (is_word second.0) faults.Tenant second.0 tenant tenant_passed in
     let n = passed (is_name second.1) faults.Name second.1 name name_passed in
-    built s first.0 first.1 second.0 second.1 kind tenant name g (cut_back faults.Kind (cut_at 47 s) first first_cut) (cut_back faults.Tenant (cut_at 58 first.1) second second_cut)
-    (passed (is_word first.0) faults.Kind first.0 kind kind_passed) (passed (is_word second.0) faults.Tenant second.0 tenant tenant_passed) (passed (is_name second.1) faults.Name second.1 name name_passed)
+    built s first.0 first.1 second.0 second.1 kind tenant name g (cut_back faults.Kind (cut_at 47 s) first first_cut)
+    (cut_back faults.Tenant (cut_at 58 first.1) second second_cut)
+    (passed (is_word first.0) faults.Kind first.0 kind kind_passed) (passed (is_word second.0) faults.Tenant second.0 tenant tenant_passed)
+    (passed (is_name second.1) faults.Name second.1 name name_passed)
     (made kind tenant name g is)
 
 found_back : (r : Result Grain IdFault) (g : Grain) → grain_found r ≡ Some g → r ≡ Ok g
@@ -126,11 +140,19 @@ name_length name is = leb-true (length name) 128 (second_so _ (leb (length name)
 text_length : (g : Grain) → IsTrue (is_grain g) → length (grain_text g) ≤ 194
 text_length g ok =
     let parts = grain_parts g ok in
-    omega (arith, length-append g.kind (47 ∷ (g.tenant ++ 58 ∷ g.name)), length-append g.tenant (58 ∷ g.name), word_length g.kind parts.0, word_length g.tenant parts.1, name_length g.name parts.2)
+    omega (
+      arith,
+      length-append g.kind (47 ∷ (g.tenant ++ 58 ∷ g.name)),
+      length-append g.tenant (58 ∷ g.name),
+      word_length g.kind parts.0,
+      word_length g.tenant parts.1,
+      name_length g.name parts.2,
+    )
 
 -- ---- the members of a state
 
-pushed : (o : Option Grain) (found : Option (List Grain)) (gs : List Grain) → option_and_then (λ g. option_map (λ (hs : List Grain). g ∷ hs) found) o ≡ Some gs
+pushed : (o : Option Grain) (found : Option (List Grain)) (gs : List Grain)
+    → option_and_then (λ g. option_map (λ (hs : List Grain). g ∷ hs) found) o ≡ Some gs
     → (g : Grain) × (hs : List Grain) × (o ≡ Some g) × (found ≡ Some hs) × (g ∷ hs ≡ gs)
 pushed None found gs e = absurd cc
 pushed (Some g) None gs e = absurd cc
@@ -163,7 +185,8 @@ found_fit vs (Some gs) is formed few = record { each_fits = grains_fit vs gs is 
 list_fit : (vs : Members) → AreFormed vs → MembersFit (members_in (tree.list vs))
 list_fit vs formed =
     if_holds MembersFit (nat_lt member_limit (members_count vs)) [] _ (λ many. none_fit)
-    (λ few. if_holds MembersFit (are_distinct (unwrap_or (grains_in vs) [])) _ [] (λ distinct. found_fit vs (grains_in vs) refl formed (ltb-false member_limit (members_count vs) few)) (λ twice. none_fit))
+    (λ few. if_holds MembersFit (are_distinct (unwrap_or (grains_in vs) [])) _ []
+    (λ distinct. found_fit vs (grains_in vs) refl formed (ltb-false member_limit (members_count vs) few)) (λ twice. none_fit))
 
 members_fit : (state : Tree) → IsFormed state → MembersFit (members_in state)
 members_fit (tree.list vs) formed = list_fit vs formed
@@ -200,7 +223,8 @@ all_added : (gs : List Grain) (g : Grain) → AllByRecursion MemberFits gs → M
 all_added [] g each fits = (fits, tt)
 all_added (h ∷ gs) g each fits = (each.0, all_added gs g each.1 fits)
 
-join_obeys : (state argument : Tree) (method s : List ℕ) → text_field (codes "grain") argument ≡ Some s → ObeysLaws state (asks method argument) (join_plan state s)
+join_obeys : (state argument : Tree) (method s : List ℕ) → text_field (codes "grain") argument ≡ Some s
+    → ObeysLaws state (asks method argument) (join_plan state s)
 join_obeys state argument method s held =
     let call = asks method argument in
     let members = members_in state in
@@ -210,8 +234,14 @@ join_obeys state argument method s held =
     (λ new. if_holds (ObeysLaws state call) (nat_lt (length members) member_limit) _ _
     (λ room. becomes_obeys state call (relay_of (members ++ g ∷ [])) (truth true) (λ st m.
     let fit = members_fit state st.formed in
-    let added = member_named s g found (text_formed (codes "grain") argument s held m.argument_formed) in
-    (relay_fits (members ++ g ∷ []) (record { each_fits = all_added members g fit.each_fits added; few = omega (arith, length-append members (g ∷ []), ltb-true (length members) member_limit room) }), truth_fits true)))
+    let added = member_named s g found (text_formed (codes "grain") argument s held m.argument_formed) in (
+      relay_fits (members ++ g ∷ [])
+          (record {
+            each_fits = all_added members g fit.each_fits added;
+            few = omega (arith, length-append members (g ∷ []), ltb-true (length members) member_limit room);
+          }),
+      truth_fits true,
+    )))
     (λ full. fault_obeys state call OutOfRange)))
 
 -- ---- leave
@@ -219,25 +249,34 @@ join_obeys state argument method s held =
 without_fits : (s : List ℕ) (gs : List Grain) → AllByRecursion MemberFits gs → AllByRecursion MemberFits (without s gs)
 without_fits s [] each = tt
 without_fits s (g ∷ gs) each =
-    if_holds (AllByRecursion MemberFits) (same_text (grain_text g) s) (without s gs) (g ∷ without s gs) (λ left. without_fits s gs each.1) (λ stays. (each.0, without_fits s gs each.1))
+    if_holds (AllByRecursion MemberFits) (same_text (grain_text g) s) (without s gs) (g ∷ without s gs) (λ left. without_fits s gs each.1)
+    (λ stays. (each.0, without_fits s gs each.1))
 
 without_few : (s : List ℕ) (gs : List Grain) → length (without s gs) ≤ length gs
 without_few s [] = omega arith
 without_few s (g ∷ gs) =
     let fewer = without_few s gs in
-    if_holds (λ (hs : List Grain). length hs ≤ suc (length gs)) (same_text (grain_text g) s) (without s gs) (g ∷ without s gs) (λ left. omega arith) (λ stays. omega arith)
+    if_holds (λ (hs : List Grain). length hs ≤ suc (length gs)) (same_text (grain_text g) s) (without s gs) (g ∷ without s gs)
+    (λ left. omega arith) (λ stays. omega arith)
 
 leave_obeys : (state : Tree) (call : Call) (s : List ℕ) → ObeysLaws state call (leave_plan state s)
 leave_obeys state call s = becomes_obeys state call _ _ (λ st m.
-    let fit = members_fit state st.formed in
-    (relay_fits (without s (members_in state)) (record { each_fits = without_fits s (members_in state) fit.each_fits; few = omega (arith, without_few s (members_in state), fit.few) }), truth_fits _))
+    let fit = members_fit state st.formed in (
+      relay_fits (without s (members_in state))
+          (record {
+            each_fits = without_fits s (members_in state) fit.each_fits;
+            few = omega (arith, without_few s (members_in state), fit.few);
+          }),
+      truth_fits _,
+    ))
 
 -- ---- send
 
 small_fits : (n : ℕ) → n ≤ 4 → FitsSigned w64 (pos n)
 small_fits n few = record { sfits = omega arith }
 
-sends_fit : (gs : List Grain) (method : List ℕ) (v : Tree) → AllByRecursion MemberFits gs → FitsMessage (asks method v) → AllByRecursion FitsSend (sends_to gs method v)
+sends_fit : (gs : List Grain) (method : List ℕ) (v : Tree) → AllByRecursion MemberFits gs → FitsMessage (asks method v)
+    → AllByRecursion FitsSend (sends_to gs method v)
 sends_fit [] method v each fits = tt
 sends_fit (g ∷ gs) method v each fits = (record { target_formed = each.0.well_formed; call_fits = fits }, sends_fit gs method v each.1 fits)
 
@@ -246,16 +285,19 @@ sends_count [] method v = refl
 sends_count (g ∷ gs) method v = ap suc (sends_count gs method v)
 
 send_if : (argument : Tree) (o : Option (Tree × Tree)) (v : Tree) (s : List ℕ) → only_fields (codes "args") (codes "method") argument ≡ o
-    → option_and_then {U = Tree × List ℕ} (λ values. option_map (λ method. (values.0, method)) (text_value values.1)) o ≡ Some (v, s) → HoldsTwo v (tree.text s) argument
+    → option_and_then {U = Tree × List ℕ} (λ values. option_map (λ method. (values.0, method)) (text_value values.1)) o ≡ Some (v, s)
+    → HoldsTwo v (tree.text s) argument
 send_if argument None v s is e = absurd cc
 send_if argument (Some p) v s is e =
     let parts = text_second p.0 p.1 s v e in
-    subst (λ (x : Tree). HoldsTwo x (tree.text s) argument) parts.0 (subst (λ (y : Tree). HoldsTwo p.0 y argument) parts.1 (two_fields (codes "args") (codes "method") argument p.0 p.1 is))
+    subst (λ (x : Tree). HoldsTwo x (tree.text s) argument) parts.0
+    (subst (λ (y : Tree). HoldsTwo p.0 y argument) parts.1 (two_fields (codes "args") (codes "method") argument p.0 p.1 is))
 
 no_fault : (value : Tree) (fault : MethodFault) → ◌≡◌ {A = Result Tree MethodFault} (Ok value) (Err fault) → ⊥
 no_fault value fault e = cc
 
-send_obeys : (state argument : Tree) (method : List ℕ) (v : Tree) (s : List ℕ) → send_argument argument ≡ Some (v, s) → ObeysLaws state (asks method argument) (send_plan state (v, s))
+send_obeys : (state argument : Tree) (method : List ℕ) (v : Tree) (s : List ℕ) → send_argument argument ≡ Some (v, s)
+    → ObeysLaws state (asks method argument) (send_plan state (v, s))
 send_obeys state argument method v s held =
     let members = members_in state in
     record {
@@ -276,6 +318,7 @@ send_obeys state argument method v s held =
             sends_fit = sends_fit members s v fit.each_fits sent;
             sends_few = omega (arith, sends_count members s v, fit.few);
           };
+      stays_in_range = tt;
     }
 
 -- ---- all methods
@@ -285,9 +328,11 @@ unfolding relay_plan
 relay_obeys method state argument =
     let call = asks method argument in
     if_holds (ObeysLaws state call) (same_text method (codes "join")) _ _
-    (λ e. for_shape_obeys state call (text_field (codes "grain") argument) (join_plan state) (λ s held. join_obeys state argument method s held))
+    (λ e. for_shape_obeys state call (text_field (codes "grain") argument) (join_plan state)
+    (λ s held. join_obeys state argument method s held))
     (λ e. if_holds (ObeysLaws state call) (same_text method (codes "leave")) _ _
     (λ e. for_shape_obeys state call (text_field (codes "grain") argument) (leave_plan state) (λ s held. leave_obeys state call s))
     (λ e. if_holds (ObeysLaws state call) (same_text method (codes "send")) _ _
-    (λ e. for_shape_obeys state call (send_argument argument) (send_plan state) (λ send held. send_obeys state argument method send.0 send.1 held))
+    (λ e. for_shape_obeys state call (send_argument argument) (send_plan state)
+    (λ send held. send_obeys state argument method send.0 send.1 held))
     (λ e. shared_obeys method state argument call)))

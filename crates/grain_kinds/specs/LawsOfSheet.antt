@@ -1,5 +1,6 @@
 -- The plans of sheets keep the laws.
-use Rattle.std.proofs.Common.{◌≡◌, ℕ, ◌+◌, ◌≤◌, Bool, true, false, List, Option, Some, None, Result, Ok, Ordering, Less, Equal, Greater, nat_cmp, ltb-false, refl, ap, sym, ◌∙◌, subst, arith}
+use Rattle.std.proofs.Common.{◌≡◌, ℕ, ◌+◌, ◌≤◌, Bool, true, false, List, Option, Some, None, Result, Ok, Ordering, Less, Equal, Greater}
+use Rattle.std.proofs.Common.{nat_cmp, ltb-false, refl, ap, sym, ◌∙◌, subst, arith}
 use Rattle.std.specs.Prelude.{max, ◌||◌, IsTrue, IsUtf8, nat_lt, codes, option_map, option_and_then}
 use Rattle.std.specs.Option.{unwrap_or}
 use Rattle.std.specs.Cmp.Lexicographic.{slice_cmp}
@@ -21,8 +22,9 @@ use Rattle.turn_arena.specs.Fields.{by_order, fields_in, field_put, field_droppe
 use Rattle.grain_kinds.specs.declared.fault.MethodFault.{MethodFault}
 use Rattle.grain_kinds.specs.declared.fault.MethodFault.TheVariants.{TooLarge}
 use Rattle.grain_kinds.specs.Laws.{FitsState, FitsField, ChangesNothing}
-use Rattle.grain_kinds.specs.LawsOfForms.{ObeysLaws, null_fits, truth_fits, if_holds, keeps_obeys, keeps_changes_nothing, fault_obeys, becomes_obeys, for_null_obeys, for_null_changes_nothing, for_shape_obeys, shared_obeys}
-use Rattle.grain_kinds.specs.Held.{HoldsTwo, two_fields, two_fit, text_first}
+use Rattle.grain_kinds.specs.LawsOfForms.{ObeysLaws, null_fits, truth_fits, if_holds, keeps_obeys, keeps_changes_nothing, fault_obeys}
+use Rattle.grain_kinds.specs.LawsOfForms.{becomes_obeys, for_null_obeys, for_null_changes_nothing, for_shape_obeys, shared_obeys}
+use Rattle.grain_kinds.specs.inside.Held.{HoldsTwo, two_fields, two_fit, text_first}
 use Rattle.grain_kinds.specs.Shared.{keeps, for_shape, only_fields, text_value, text_field}
 use Rattle.grain_kinds.specs.Sheet.{value_in, names_in, put_plan, get_plan, drop_plan, list_plan, put_argument, sheet_plan}
 
@@ -31,7 +33,8 @@ use Rattle.grain_kinds.specs.Sheet.{value_in, names_in, put_plan, get_plan, drop
 order-back : (m n : List ℕ) (o : Ordering) → slice_cmp nat_cmp m n ≡ o → slice_cmp nat_cmp n m ≡ ordering_reverse o
 order-back m n o e = nat_list_cmp_total.antisymm n m ∙ ap ordering_reverse e
 
-by_order_holds : {A : Type 0} (P : A → Type 0) (o : Ordering) (before here behind : A) → (o ≡ Less → P before) → (o ≡ Equal → P here) → (o ≡ Greater → P behind) → P (by_order o before here behind)
+by_order_holds : {A : Type 0} (P : A → Type 0) (o : Ordering) (before here behind : A) → (o ≡ Less → P before) → (o ≡ Equal → P here)
+    → (o ≡ Greater → P behind) → P (by_order o before here behind)
 by_order_holds P Less before here behind l e g = l refl
 by_order_holds P Equal before here behind l e g = e refl
 by_order_holds P Greater before here behind l e g = g refl
@@ -42,7 +45,8 @@ below_first m n (field k v fs) lt h = ap is_lt (nat_list_cmp_total.trans m n k (
 
 -- ---- a field set
 
-below_put : (m n : List ℕ) (v : Tree) (fs : Fields) → IsTrue (is_lt (slice_cmp nat_cmp m n)) → IsBelowFirst m fs → IsBelowFirst m (field_put n v fs)
+below_put : (m n : List ℕ) (v : Tree) (fs : Fields) → IsTrue (is_lt (slice_cmp nat_cmp m n)) → IsBelowFirst m fs
+    → IsBelowFirst m (field_put n v fs)
 below_put m n v no_fields lt h = lt
 below_put m n v (field k w fs) lt h = by_order_holds (IsBelowFirst m) (slice_cmp nat_cmp n k) _ _ _ (λ less. lt) (λ same. lt) (λ greater. h)
 
@@ -51,7 +55,13 @@ put_formed n v no_fields named formed h = (named, formed, tt, tt)
 put_formed n v (field m w fs) named formed h =
     by_order_holds FieldsFormed (slice_cmp nat_cmp n m) _ _ _
     (λ less. (named, formed, ap is_lt less, h))
-    (λ same. (named, formed, subst (λ (k : List ℕ). IsBelowFirst k fs) (sym (slice_cmp-IsAntisymmetric nat_cmp-IsAntisymmetric n m same)) h.2, h.3))
+    (λ same. (
+      named,
+      formed,
+      subst (λ (k : List ℕ). IsBelowFirst k fs)
+          (sym (slice_cmp-IsAntisymmetric nat_cmp-IsAntisymmetric n m same)) h.2,
+      h.3,
+    ))
     (λ greater. (h.0, h.1, below_put m n v fs (ap is_lt (order-back n m Greater greater)) h.2, put_formed n v fs named formed h.3))
 
 put_depth : (n : List ℕ) (v : Tree) (fs : Fields) → fields_depth (field_put n v fs) ≤ max (depth v) (fields_depth fs)
@@ -109,19 +119,26 @@ fields_fit (tree.list vs) h = no_fields_fit
 -- ---- put
 
 put_if : (argument : Tree) (o : Option (Tree × Tree)) (n : List ℕ) (v : Tree) → only_fields (codes "name") (codes "value") argument ≡ o
-    → option_and_then {U = List ℕ × Tree} (λ values. option_map (λ name. (name, values.1)) (text_value values.0)) o ≡ Some (n, v) → HoldsTwo (tree.text n) v argument
+    → option_and_then {U = List ℕ × Tree} (λ values. option_map (λ name. (name, values.1)) (text_value values.0)) o ≡ Some (n, v)
+    → HoldsTwo (tree.text n) v argument
 put_if argument None n v is e = absurd cc
 put_if argument (Some p) n v is e =
     let parts = text_first p.0 p.1 n v e in
-    subst (λ (x : Tree). HoldsTwo x v argument) parts.0 (subst (λ (y : Tree). HoldsTwo p.0 y argument) parts.1 (two_fields (codes "name") (codes "value") argument p.0 p.1 is))
+    subst (λ (x : Tree). HoldsTwo x v argument) parts.0
+    (subst (λ (y : Tree). HoldsTwo p.0 y argument) parts.1 (two_fields (codes "name") (codes "value") argument p.0 p.1 is))
 
 -- the state with a field set keeps the form and the depth of a state, where the field's value is one level less deep
-pub put_fits : (state : Tree) (n : List ℕ) (v : Tree) → FitsState state → IsUtf8 n → FitsField v → IsFormed (value_put n v state) × (depth (value_put n v state) ≤ depth_limit)
+pub put_fits : (state : Tree) (n : List ℕ) (v : Tree) → FitsState state → IsUtf8 n → FitsField v
+    → IsFormed (value_put n v state) × (depth (value_put n v state) ≤ depth_limit)
 put_fits state n v fits named value =
-    let fields = fields_fit state fits in
-    (put_formed n v (fields_in state) named value.formed fields.formed, omega (arith, put_depth n v (fields_in state), value.depth_within, fields.depth_within))
+    let fields = fields_fit state fits in (
+      put_formed n v (fields_in state) named value.formed fields.formed,
+      omega
+          (arith, put_depth n v (fields_in state), value.depth_within, fields.depth_within),
+    )
 
-put_obeys : (state argument : Tree) (method n : List ℕ) (v : Tree) → put_argument argument ≡ Some (n, v) → ObeysLaws state (asks method argument) (put_plan state (n, v))
+put_obeys : (state argument : Tree) (method n : List ℕ) (v : Tree) → put_argument argument ≡ Some (n, v)
+    → ObeysLaws state (asks method argument) (put_plan state (n, v))
 put_obeys state argument method n v held =
     let two = put_if argument _ n v refl held in
     let sheet = value_put n v state in
@@ -134,7 +151,8 @@ put_obeys state argument method n v held =
 
 -- ---- get, drop and list
 
-value_fits : (name : List ℕ) (fs : Fields) → FieldsFormed fs → fields_depth fs ≤ 31 → fields_length fs ≤ state_limit → FitsState (unwrap_or (value_in name fs) null)
+value_fits : (name : List ℕ) (fs : Fields) → FieldsFormed fs → fields_depth fs ≤ 31 → fields_length fs ≤ state_limit
+    → FitsState (unwrap_or (value_in name fs) null)
 value_fits name no_fields formed deep long = null_fits
 value_fits name (field n v fs) formed deep long =
     if_holds (λ (o : Option Tree). FitsState (unwrap_or o null)) (same_text n name) (Some v) (value_in name fs)
@@ -142,7 +160,10 @@ value_fits name (field n v fs) formed deep long =
     (λ other. value_fits name fs formed.3 (omega arith) (omega arith))
 
 get_obeys : (state : Tree) (call : Call) (name : List ℕ) → ObeysLaws state call (get_plan state name)
-get_obeys state call name = keeps_obeys state call _ (λ s m. let fields = fields_fit state s in value_fits name (fields_in state) fields.formed fields.depth_within (omega (arith, fields.length_within)))
+get_obeys state call name =
+    keeps_obeys state call _
+    (λ s m. let fields = fields_fit state s in
+    value_fits name (fields_in state) fields.formed fields.depth_within (omega (arith, fields.length_within)))
 
 drop_obeys : (state : Tree) (call : Call) (name : List ℕ) → ObeysLaws state call (drop_plan state name)
 drop_obeys state call name = becomes_obeys state call _ _ (λ s m.
@@ -183,7 +204,8 @@ unfolding sheet_plan
 sheet_obeys method state argument =
     let call = asks method argument in
     if_holds (ObeysLaws state call) (same_text method (codes "put")) _ _
-    (λ e. for_shape_obeys state call (put_argument argument) (put_plan state) (λ put held. put_obeys state argument method put.0 put.1 held))
+    (λ e. for_shape_obeys state call (put_argument argument) (put_plan state)
+    (λ put held. put_obeys state argument method put.0 put.1 held))
     (λ e. if_holds (ObeysLaws state call) (same_text method (codes "get")) _ _
     (λ e. for_shape_obeys state call (text_field (codes "name") argument) (get_plan state) (λ name held. get_obeys state call name))
     (λ e. if_holds (ObeysLaws state call) (same_text method (codes "drop")) _ _
@@ -194,23 +216,29 @@ sheet_obeys method state argument =
 
 -- ---- the methods that only read
 
-shape_changes_nothing : {A : Type 0} (state : Tree) (held : Option A) (outcome : A → Result Tree MethodFault) → ChangesNothing state (for_shape state held (λ x. keeps state (outcome x)))
+shape_changes_nothing : {A : Type 0} (state : Tree) (held : Option A) (outcome : A → Result Tree MethodFault)
+    → ChangesNothing state (for_shape state held (λ x. keeps state (outcome x)))
 shape_changes_nothing state None outcome = keeps_changes_nothing state _
 shape_changes_nothing state (Some x) outcome = keeps_changes_nothing state _
 
 get_changes_nothing : (state argument : Tree) → ChangesNothing state (sheet_plan (codes "get") state argument)
 unfolding sheet_plan
-get_changes_nothing state argument = shape_changes_nothing state (text_field (codes "name") argument) (λ name. Ok (unwrap_or (value_in name (fields_in state)) null))
+get_changes_nothing state argument =
+    shape_changes_nothing state (text_field (codes "name") argument) (λ name. Ok (unwrap_or (value_in name (fields_in state)) null))
 
 list_changes_nothing : (state argument : Tree) → ChangesNothing state (sheet_plan (codes "list") state argument)
 unfolding sheet_plan
 list_changes_nothing state argument = for_null_changes_nothing state argument (list_plan state) (keeps_changes_nothing state _)
 
-read_by : (method : List ℕ) (state argument : Tree) (b : Bool) → same_text method (codes "get") ≡ b → (b || same_text method (codes "list")) ≡ true → ChangesNothing state (sheet_plan method state argument)
+read_by : (method : List ℕ) (state argument : Tree) (b : Bool) → same_text method (codes "get") ≡ b
+    → (b || same_text method (codes "list")) ≡ true → ChangesNothing state (sheet_plan method state argument)
 read_by method state argument true is e =
-    subst (λ (m : List ℕ). ChangesNothing state (sheet_plan m state argument)) (sym ((same_text_decides method (codes "get")).0 is)) (get_changes_nothing state argument)
+    subst (λ (m : List ℕ). ChangesNothing state (sheet_plan m state argument)) (sym ((same_text_decides method (codes "get")).0 is))
+    (get_changes_nothing state argument)
 read_by method state argument false is e =
-    subst (λ (m : List ℕ). ChangesNothing state (sheet_plan m state argument)) (sym ((same_text_decides method (codes "list")).0 e)) (list_changes_nothing state argument)
+    subst (λ (m : List ℕ). ChangesNothing state (sheet_plan m state argument)) (sym ((same_text_decides method (codes "list")).0 e))
+    (list_changes_nothing state argument)
 
-pub sheet_reads : (method : List ℕ) (state argument : Tree) → (same_text method (codes "get") || same_text method (codes "list")) ≡ true → ChangesNothing state (sheet_plan method state argument)
+pub sheet_reads : (method : List ℕ) (state argument : Tree) → (same_text method (codes "get") || same_text method (codes "list")) ≡ true
+    → ChangesNothing state (sheet_plan method state argument)
 sheet_reads method state argument e = read_by method state argument _ refl e

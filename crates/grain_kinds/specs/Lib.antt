@@ -6,12 +6,13 @@ pub mod Sheet
 pub mod Relay
 pub mod Kinds
 pub mod Counters
+pub mod Resting
 pub mod Planned
 pub mod Finished
-pub mod Room
-pub mod Held
 pub mod LawsOfForms
 pub mod LawsOfCounter
 pub mod LawsOfSheet
 pub mod LawsOfRelay
 pub mod LawsOfKinds
+pub mod LawsOfResting
+pub mod inside

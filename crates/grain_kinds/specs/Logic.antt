@@ -12,19 +12,29 @@ pub data StorageCall : Type 0 where
   writes_row : StorageCall
   clears_row : StorageCall
 
+-- What a turn says of the grain's activation: nothing; that it rests, so that it goes as soon as no request waits and no
+-- turn is open; or that it stays for at least so many milliseconds, however long it is idle.
+pub data Keep : Type 0 where
+  same : Keep
+  rest : Keep
+  stay : ℕ → Keep
+
 -- a call that a turn sends to a grain
 pub record Outgoing : Type 0 where
   pub target : Grain
   pub call : Call
 
--- what a turn comes to: the state after it, what it answers, what it asks of the storage, and what it sends
+-- what a turn comes to: the state after it, what it answers, what it asks of the storage, what it sends, and what it says
+-- of the activation
 pub record Plan : Type 0 where
   pub state : Tree
   pub outcome : Result Tree MethodFault
   pub storage : StorageCall
   pub sends : List Outgoing
+  pub keep : Keep
 
--- A logic: the kinds that it knows, which methods of a kind only read, each kind's empty state, and the plan of a kind, a method, a state and an argument.
+-- A logic: the kinds that it knows, which methods of a kind only read, each kind's empty state, and the plan of a
+-- kind, a method, a state and an argument.
 pub record Logic : Type 0 where
   pub knows : List ℕ → Bool
   pub is_read : List ℕ → List ℕ → Bool

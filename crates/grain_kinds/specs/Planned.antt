@@ -10,6 +10,8 @@ use Rattle.grain_kinds.specs.Laws.{FitsState, FitsMessage}
 use Rattle.grain_kinds.specs.Logic as logic
 use Rattle.grain_kinds.specs.Logic.{Outgoing, StorageCall, asks_nothing, reads_row, writes_row, clears_row}
 use Rattle.grain_kinds.specs.declared.fault.MethodFault.{MethodFault}
+use Rattle.grain_kinds.specs.declared.plan.Keep.{Keep}
+use Rattle.grain_kinds.specs.declared.plan.Keep.TheVariants as keeps
 use Rattle.grain_kinds.specs.declared.plan.Plan.{Plan}
 use Rattle.grain_kinds.specs.declared.plan.Send.{Send}
 use Rattle.grain_kinds.specs.declared.plan.StoreCall.{StoreCall}
@@ -20,6 +22,11 @@ storage_call calls.None = asks_nothing
 storage_call calls.Read = reads_row
 storage_call calls.Write = writes_row
 storage_call calls.Clear = clears_row
+
+abbrev pub keep_of : Keep → logic.Keep
+keep_of keeps.Same = logic.same
+keep_of keeps.Rest = logic.rest
+keep_of (keeps.Stay time) = logic.stay time
 
 abbrev pub send_shown : Send → Outgoing
 send_shown s = record { target = s.target; call = asks s.method.now (node_value s.args) }
@@ -35,6 +42,7 @@ plan_shown state p = record {
   outcome = outcome_shown p.outcome;
   storage = storage_call p.store;
   sends = map send_shown p.sends.items;
+  keep = keep_of p.keep;
 }
 
 -- The values of the plan keep their limits.

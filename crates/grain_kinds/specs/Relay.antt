@@ -1,10 +1,13 @@
--- The kind `relay`: at most 4 distinct grains, its members. Its state is the list of their texts; a state of another shape counts as the empty list.
+-- The kind `relay`: at most 4 distinct grains, its members. Its state is the list of their texts; a state of another
+-- shape counts as the empty list.
 --
 --   method   argument                       state                    answer
---   join     {"grain": text}                the grain added last     true; otherwise, with the state kept, Misfit where it is no grain's text, false where it is a member, OutOfRange where 4 others are
+--   join     {"grain": text}                the grain added last     true; otherwise, with the state kept, Misfit
+--   where it is no grain's text, false where it is a member, OutOfRange where 4 others are
 --   leave    {"grain": text}                the grain left out       whether it was a member
 --   send     {"args": any, "method": text}  kept                     the number of members; each is sent that method and args, in order
-use Rattle.std.specs.Prelude.{ℕ, Bool, true, false, not, ◌&&◌, ◌||◌, List, [], ◌∷◌, ◌++◌, length, map, nat_lt, Option, Some, None, option_map, option_and_then, Result, Ok, Err, pos, if◌then◌else◌, codes}
+use Rattle.std.specs.Prelude.{ℕ, Bool, true, false, not, ◌&&◌, ◌||◌, List, [], ◌∷◌, ◌++◌, length, map, nat_lt, Option, Some, None}
+use Rattle.std.specs.Prelude.{option_map, option_and_then, Result, Ok, Err, pos, if◌then◌else◌, codes}
 use Rattle.std.specs.Option.{unwrap_or}
 use Rattle.grain_id.specs.Names.{Grain, grain_text, same_text}
 use Rattle.grain_id.specs.Reading.{grain_read}
@@ -13,7 +16,7 @@ use Rattle.request_codec.specs.Call.{asks}
 use Rattle.request_codec.specs.Tree.{Tree, truth, integer, text, list, Members, no_members, member, members_count, members_of}
 use Rattle.grain_kinds.specs.declared.fault.MethodFault.TheVariants.{OutOfRange}
 use Rattle.grain_kinds.specs.Laws.{send_limit}
-use Rattle.grain_kinds.specs.Logic.{Plan, Outgoing, asks_nothing}
+use Rattle.grain_kinds.specs.Logic.{Plan, Outgoing, asks_nothing, same}
 use Rattle.grain_kinds.specs.Shared.{keeps, becomes, for_shape, text_value, text_field, only_fields, shared_plan}
 
 -- how many members a relay may have: a turn may send to each
@@ -93,11 +96,14 @@ send_plan state send = record {
   outcome = Ok (integer (pos (length (members_in state))));
   storage = asks_nothing;
   sends = sends_to (members_in state) send.1 send.0;
+  keep = same;
 }
 
 -- `{"args": any, "method": text}`
 abbrev pub send_argument : Tree → Option (Tree × List ℕ)
-send_argument argument = option_and_then (λ values. option_map (λ method. (values.0, method)) (text_value values.1)) (only_fields (codes "args") (codes "method") argument)
+send_argument argument =
+    option_and_then (λ values. option_map (λ method. (values.0, method)) (text_value values.1))
+    (only_fields (codes "args") (codes "method") argument)
 
 -- `join`, `leave`, `send`, and the methods of every kind
 unfoldable pub relay_plan : List ℕ → Tree → Tree → Plan

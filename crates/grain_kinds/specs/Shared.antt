@@ -6,27 +6,32 @@
 --   clear    null       kept    what comes of clearing the row
 --
 -- These ask the storage: the plan's own value is null, and the caller is told what came of the storage's call.
-use Rattle.std.specs.Prelude.{ℕ, Bool, true, false, List, [], Option, Some, None, Result, Ok, Err, ℤ, ◌&&◌, if◌then◌else◌, codes, option_and_then}
+use Rattle.std.specs.Prelude.{ℕ, Bool, true, false, List, [], Option, Some, None, Result, Ok, Err, ℤ, ◌&&◌, if◌then◌else◌, codes}
+use Rattle.std.specs.Prelude.{option_and_then}
 use Rattle.grain_id.specs.Names.{same_text}
 use Rattle.request_codec.specs.Tree as tree
 use Rattle.request_codec.specs.Tree.{Tree, null, integer, text, field, no_fields}
 use Rattle.grain_kinds.specs.declared.fault.MethodFault.{MethodFault}
 use Rattle.grain_kinds.specs.declared.fault.MethodFault.TheVariants.{UnknownMethod, Misfit}
-use Rattle.grain_kinds.specs.Logic.{Plan, StorageCall, asks_nothing, reads_row, writes_row, clears_row}
+use Rattle.grain_kinds.specs.Logic.{Plan, Keep, same, StorageCall, asks_nothing, reads_row, writes_row, clears_row}
 
 -- ---- forms of a plan
 
 -- the state stays
 abbrev pub keeps : Tree → Result Tree MethodFault → Plan
-keeps state outcome = record { state = state; outcome = outcome; storage = asks_nothing; sends = [] }
+keeps state outcome = record { state = state; outcome = outcome; storage = asks_nothing; sends = []; keep = same }
 
 -- the state changes, and the value is the answer
 abbrev pub becomes : Tree → Tree → Plan
-becomes state value = record { state = state; outcome = Ok value; storage = asks_nothing; sends = [] }
+becomes state value = record { state = state; outcome = Ok value; storage = asks_nothing; sends = []; keep = same }
+
+-- the state stays, the answer is null, and something is said of the activation
+abbrev pub says : Keep → Tree → Plan
+says keep state = record { state = state; outcome = Ok null; storage = asks_nothing; sends = []; keep = keep }
 
 -- the storage is asked
 abbrev pub asks_storage : StorageCall → Tree → Plan
-asks_storage call state = record { state = state; outcome = Ok null; storage = call; sends = [] }
+asks_storage call state = record { state = state; outcome = Ok null; storage = call; sends = []; keep = same }
 
 -- the plan for what the argument holds, where it has the method's shape
 abbrev pub for_shape : {A : Type 0} → Tree → Option A → (A → Plan) → Plan
@@ -60,7 +65,8 @@ only_field name _ = None
 
 -- the values of the only two fields, where they have these names
 abbrev pub only_fields : List ℕ → List ℕ → Tree → Option (Tree × Tree)
-only_fields first second (tree.map (field n v (field m w no_fields))) = if same_text n first && same_text m second then Some (v, w) else None
+only_fields first second (tree.map (field n v (field m w no_fields))) =
+    if same_text n first && same_text m second then Some (v, w) else None
 only_fields first second _ = None
 
 -- `{"name": int}`

@@ -45,7 +45,9 @@ list_plan state = keeps state (Ok (list (names_in (fields_in state))))
 
 -- `{"name": text, "value": any}`
 abbrev pub put_argument : Tree → Option (List ℕ × Tree)
-put_argument argument = option_and_then (λ values. option_map (λ name. (name, values.1)) (text_value values.0)) (only_fields (codes "name") (codes "value") argument)
+put_argument argument =
+    option_and_then (λ values. option_map (λ name. (name, values.1)) (text_value values.0))
+    (only_fields (codes "name") (codes "value") argument)
 
 -- `put`, `get`, `drop`, `list`, and the methods of every kind
 unfoldable pub sheet_plan : List ℕ → Tree → Tree → Plan

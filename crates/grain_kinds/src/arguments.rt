@@ -79,7 +79,8 @@ pub fn only_fields<'a>(
     first: &str,
     second: &str,
 ) -> Option<(Node<'a>, Node<'a>)>
-    ensures { option_map (λ values. (node_value values.0, node_value values.1)) result ≡ shared.only_fields first.now second.now (node_value argument.entry) }
+    ensures { option_map (λ values. (node_value values.0, node_value values.1)) result
+        ≡ shared.only_fields first.now second.now (node_value argument.entry) }
 {
     let Node::Map(fields) = argument else {
         return None;

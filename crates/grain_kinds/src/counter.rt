@@ -44,7 +44,8 @@ fn add<'a>(alloc: Global, number: i64, by: Option<i64>) -> Plan<'a>
 
 /// The number is the answer.
 fn get<'a>(alloc: Global, number: i64, args: Node<'a>) -> Plan<'a>
-    ensures { (state : Tree) → counter.number_of state ≡ number → plan_shown state result ≡ for_null state (node_value args.entry) (counter.get_plan state) }
+    ensures { (state : Tree) → counter.number_of state ≡ number
+        → plan_shown state result ≡ for_null state (node_value args.entry) (counter.get_plan state) }
 {
     if is_null(args) {
         return Plan::keeps(alloc, Ok(Node::Int(number)));

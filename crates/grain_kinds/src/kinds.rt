@@ -79,7 +79,8 @@ fn plan_by<'a>(
     args: Node<'a>,
 ) -> Result<Plan<'a>, AllocError>
     requires { MapsAscend (node_value state) }
-    ensures { IfOk result (λ plan. plan_shown (node_value state.entry) plan ≡ plan_of kind.now method.now (node_value state.entry) (node_value args.entry)) }
+    ensures { IfOk result
+        (λ plan. plan_shown (node_value state.entry) plan ≡ plan_of kind.now method.now (node_value state.entry) (node_value args.entry)) }
 {
     if kind == "counter" {
         return Ok(counter::plan_of(alloc, method, state, args));

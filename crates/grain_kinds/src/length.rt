@@ -4,7 +4,7 @@ ghost use Rattle.std.specs.Prelude.{◌≡◌, nat_lt};
 ghost use Rattle.request_codec.specs.Answers.{spelled_length, members_length, fields_length};
 ghost use Rattle.request_codec.specs.Limits.{state_limit};
 ghost use Rattle.turn_arena.specs.NodeValue.{node_value, node_values, field_values};
-ghost use Rattle.grain_kinds.specs.Room.{Leaves};
+ghost use Rattle.grain_kinds.specs.inside.Room.{Leaves};
 
 use request_codec::limits::MAX_STATE_BYTES;
 use turn_arena::{Field, Node};

@@ -44,14 +44,18 @@ pub trait GrainLogic {
     ) -> Result<Plan<'a>, AllocError>
         requires state_fits { FitsState (node_value state) }
         requires call_fits { FitsMessage (asks method.now (node_value args)) }
-        ensures { IfOk result (λ plan. plan_shown (node_value state.entry) plan ≡ logic.plan kind.now method.now (node_value state.entry) (node_value args.entry)) };
+        ensures { IfOk result
+            (λ plan. plan_shown (node_value state.entry) plan
+            ≡ logic.plan kind.now method.now (node_value state.entry) (node_value args.entry)) };
 
     /// The name and the value, if setting that field of the state is all that a turn of the method does: its plan is
     /// that of a sheet's `put`, whatever the state. A turn that is told so writes the field's bytes among the others',
     /// which are neither read nor written again. A logic needn't say so.
     fn sets<'a>(&self, _kind: &str, _method: &str, _args: Node<'a>) -> Option<(&'a str, Node<'a>)>
         requires { FitsMessage (asks _method.now (node_value _args)) }
-        ensures sets { IfSome result (λ put. (state : Tree) → logic.plan _kind.now _method.now state (node_value _args.entry) ≡ put_plan state (put.0.now, node_value put.1)) }
+        ensures sets { IfSome result
+            (λ put. (state : Tree)
+            → logic.plan _kind.now _method.now state (node_value _args.entry) ≡ put_plan state (put.0.now, node_value put.1)) }
         ensures fits { IfSome result (λ put. FitsField (node_value put.1)) }
     {
         None

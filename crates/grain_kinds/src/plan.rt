@@ -3,8 +3,8 @@
 ghost use Rattle.std.specs.Prelude.{◌≡◌};
 ghost use Rattle.request_codec.specs.Tree.{Tree};
 ghost use Rattle.turn_arena.specs.NodeValue.{node_value};
-ghost use Rattle.grain_kinds.specs.Planned.{outcome_shown, plan_shown, storage_call};
-ghost use Rattle.grain_kinds.specs.Shared.{keeps, becomes, asks_storage};
+ghost use Rattle.grain_kinds.specs.Planned.{keep_of, outcome_shown, plan_shown, storage_call};
+ghost use Rattle.grain_kinds.specs.Shared.{keeps, becomes, says, asks_storage};
 
 use crate::fault::MethodFault;
 use grain_id::GrainId;
@@ -18,6 +18,21 @@ pub enum StoreCall {
     Read,
     Write,
     Clear,
+}
+
+/// The most milliseconds that a turn may ask the activation to stay: a day.
+pub const MAX_STAY_MILLISECONDS: u64 = 86_400_000;
+
+/// What a turn says of the grain's activation. It says nothing, `Same`, in a method that only reads, with a fault for
+/// its answer, and if it asks the storage.
+#[derive(Clone, Copy, Debug, PartialEq, Eq)]
+pub enum Keep {
+    /// Nothing.
+    Same,
+    /// It rests: it goes as soon as no request waits and no turn is open.
+    Rest,
+    /// It stays for at least so many milliseconds, 1 to 86,400,000, however long it is idle.
+    Stay(u64),
 }
 
 /// A call that a turn sends to a grain.
@@ -39,6 +54,8 @@ pub struct Plan<'a> {
     pub store: StoreCall,
     /// What is sent, in order: at most 4 calls.
     pub sends: Vec<Send<'a>>,
+    /// What is said of the activation.
+    pub keep: Keep,
 }
 
 impl<'a> Plan<'a> {
@@ -51,6 +68,7 @@ impl<'a> Plan<'a> {
             outcome,
             store: StoreCall::None,
             sends: Vec::new(alloc),
+            keep: Keep::Same,
         }
     }
 
@@ -63,6 +81,20 @@ impl<'a> Plan<'a> {
             outcome: Ok(answer),
             store: StoreCall::None,
             sends: Vec::new(alloc),
+            keep: Keep::Same,
+        }
+    }
+
+    /// The plan that keeps the state, answers null, and says this of the activation.
+    pub fn says(alloc: Global, keep: Keep) -> Plan<'a>
+        ensures { (state : Tree) → plan_shown state result ≡ says (keep_of keep) state }
+    {
+        Plan {
+            state: None,
+            outcome: Ok(Node::Null),
+            store: StoreCall::None,
+            sends: Vec::new(alloc),
+            keep,
         }
     }
 
@@ -75,6 +107,7 @@ impl<'a> Plan<'a> {
             outcome: Ok(Node::Null),
             store,
             sends: Vec::new(alloc),
+            keep: Keep::Same,
         }
     }
 }

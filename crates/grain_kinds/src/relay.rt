@@ -6,12 +6,13 @@ ghost use Rattle.request_codec.specs.Tree.{Tree};
 ghost use Rattle.turn_arena.specs.NodeValue.{node_value, node_values};
 ghost use Rattle.grain_kinds.specs.Planned.{plan_shown, send_shown};
 ghost use Rattle.grain_kinds.specs.Relay as relay;
-ghost use Rattle.grain_kinds.specs.Relay.{member_limit, grains_in, grain_value, members_in, relay_of, sends_to, join_plan, joined_plan, leave_plan, send_plan, relay_plan};
+ghost use Rattle.grain_kinds.specs.Relay.{member_limit, grains_in, grain_value, members_in, relay_of, sends_to, join_plan, joined_plan};
+ghost use Rattle.grain_kinds.specs.Relay.{leave_plan, send_plan, relay_plan};
 ghost use Rattle.grain_kinds.specs.Shared.{for_shape};
 
 use crate::arguments::{only_fields, text_field, text_value};
 use crate::fault::MethodFault;
-use crate::plan::{Plan, Send, StoreCall};
+use crate::plan::{Keep, Plan, Send, StoreCall};
 use crate::shared::shared_plan;
 use bumpalo::Bump;
 use bumpalo::collections::into_bump_slice;
@@ -31,7 +32,8 @@ pub(crate) fn plan_of<'a>(
     state: Node<'a>,
     args: Node<'a>,
 ) -> Result<Plan<'a>, AllocError>
-    ensures { IfOk result (λ plan. plan_shown (node_value state.entry) plan ≡ relay_plan method.now (node_value state.entry) (node_value args.entry)) }
+    ensures { IfOk result
+        (λ plan. plan_shown (node_value state.entry) plan ≡ relay_plan method.now (node_value state.entry) (node_value args.entry)) }
 {
     if method == "join" {
         return join(alloc, bump, state, text_field(args, "grain"));
@@ -52,7 +54,9 @@ fn join<'a>(
     state: Node<'a>,
     text: Option<&str>,
 ) -> Result<Plan<'a>, AllocError>
-    ensures { IfOk result (λ plan. plan_shown (node_value state.entry) plan ≡ for_shape (node_value state.entry) (option_map (λ s. s.now) text.entry) (join_plan (node_value state.entry))) }
+    ensures { IfOk result
+        (λ plan. plan_shown (node_value state.entry) plan
+        ≡ for_shape (node_value state.entry) (option_map (λ s. s.now) text.entry) (join_plan (node_value state.entry))) }
 {
     let Some(text) = text else {
         return Ok(Plan::keeps(alloc, Err(MethodFault::Misfit)));
@@ -91,7 +95,9 @@ fn leave<'a>(
     state: Node<'a>,
     text: Option<&str>,
 ) -> Result<Plan<'a>, AllocError>
-    ensures { IfOk result (λ plan. plan_shown (node_value state.entry) plan ≡ for_shape (node_value state.entry) (option_map (λ s. s.now) text.entry) (leave_plan (node_value state.entry))) }
+    ensures { IfOk result
+        (λ plan. plan_shown (node_value state.entry) plan
+        ≡ for_shape (node_value state.entry) (option_map (λ s. s.now) text.entry) (leave_plan (node_value state.entry))) }
 {
     let Some(text) = text else {
         return Ok(Plan::keeps(alloc, Err(MethodFault::Misfit)));
@@ -108,7 +114,10 @@ fn send<'a>(
     state: Node<'a>,
     call: Option<(Node<'a>, &'a str)>,
 ) -> Result<Plan<'a>, AllocError>
-    ensures { IfOk result (λ plan. plan_shown (node_value state.entry) plan ≡ for_shape (node_value state.entry) (option_map (λ call. (node_value call.0, call.1.now)) call.entry) (send_plan (node_value state.entry))) }
+    ensures { IfOk result
+        (λ plan. plan_shown (node_value state.entry) plan
+        ≡ for_shape (node_value state.entry) (option_map (λ call. (node_value call.0, call.1.now)) call.entry)
+        (send_plan (node_value state.entry))) }
 {
     let Some((args, method)) = call else {
         return Ok(Plan::keeps(alloc, Err(MethodFault::Misfit)));
@@ -120,6 +129,7 @@ fn send<'a>(
         outcome: Ok(Node::Int(count)),
         store: StoreCall::None,
         sends: sends_to(alloc, members, method, args)?,
+        keep: Keep::Same,
     })
 }
 

@@ -1,13 +1,16 @@
 //! A turn that sets one field of its state, by the state's bytes.
 
 ghost use Rattle.std.specs.Prelude.{◌≡◌, IfOk};
+ghost use Rattle.std.specs.Option.{unwrap_or};
+ghost use Rattle.request_codec.specs.Tree.{Tree};
 ghost use Rattle.turn_arena.specs.NodeValue.{node_value};
 ghost use Rattle.grain_kinds.specs.Finished.{planned_shown};
 ghost use Rattle.grain_kinds.specs.Laws.{FitsState, FitsField};
+ghost use Rattle.grain_kinds.specs.Shared.{keeps};
 ghost use Rattle.grain_kinds.specs.Sheet.{put_plan};
 
 use crate::fault::MethodFault;
-use crate::plan::StoreCall;
+use crate::plan::{Keep, StoreCall};
 use crate::turn::OwnedPlan;
 use crate::writing::state_of;
 use request_codec::StateBytes;
@@ -27,14 +30,25 @@ pub(crate) fn set_planned(
     requires value_fits { FitsField (node_value value) }
     ensures { IfOk result (λ planned. planned_shown state.now planned ≡ put_plan state.now (name.now, node_value value.entry)) }
 {
-    let (next, outcome) = match put_spelled(alloc, room, state, name, value)? {
-        Some(made) => (Some(made), Ok(state_of(alloc, Node::Null)?)),
-        None => (None, Err(MethodFault::TooLarge)),
-    };
-    Ok(OwnedPlan {
-        state: next,
+    match put_spelled(alloc, room, state, name, value)? {
+        Some(made) => Ok(plain(alloc, Some(made), Ok(state_of(alloc, Node::Null)?))),
+        None => Ok(plain(alloc, None, Err(MethodFault::TooLarge))),
+    }
+}
+
+/// The plan of this state, if there is another one, and this answer: it asks nothing, sends nothing and says nothing.
+fn plain(
+    alloc: Global,
+    state: Option<StateBytes>,
+    outcome: Result<StateBytes, MethodFault>,
+) -> OwnedPlan
+    ensures { (kept : Tree) → planned_shown kept result ≡ keeps (unwrap_or state kept) outcome }
+{
+    OwnedPlan {
+        state,
         outcome,
         store: StoreCall::None,
         sends: Vec::new(alloc),
-    })
+        keep: Keep::Same,
+    }
 }

@@ -33,7 +33,8 @@ pub(crate) fn plan_of<'a>(
     args: Node<'a>,
 ) -> Result<Plan<'a>, AllocError>
     requires { MapsAscend (node_value state) }
-    ensures { IfOk result (λ plan. plan_shown (node_value state.entry) plan ≡ sheet_plan method.now (node_value state.entry) (node_value args.entry)) }
+    ensures { IfOk result
+        (λ plan. plan_shown (node_value state.entry) plan ≡ sheet_plan method.now (node_value state.entry) (node_value args.entry)) }
 {
     let fields = fields_of(state);
     if method == "put" {
@@ -55,7 +56,8 @@ pub(crate) fn plan_of<'a>(
 #[tactic(auto, unfolding(crate::specs::Sheet::sheet_plan))]
 pub(crate) fn sets<'a>(method: &str, args: Node<'a>) -> Option<(&'a str, Node<'a>)>
     requires { FitsMessage (asks method.now (node_value args)) }
-    ensures sets { IfSome result (λ put. (state : Tree) → sheet_plan method.now state (node_value args.entry) ≡ put_plan state (put.0.now, node_value put.1)) }
+    ensures sets { IfSome result
+        (λ put. (state : Tree) → sheet_plan method.now state (node_value args.entry) ≡ put_plan state (put.0.now, node_value put.1)) }
     ensures fits { IfSome result (λ put. FitsField (node_value put.1)) }
 {
     if method == "put" {

@@ -2,12 +2,12 @@
 
 ghost use Rattle.std.specs.Prelude.{◌≡◌, map, IfOk, MatchResult};
 ghost use Rattle.grain_kinds.specs.Finished.{planned_shown, sent, turn_plan};
-ghost use Rattle.grain_kinds.specs.Laws.{FitsState};
-ghost use Rattle.grain_kinds.specs.Planned.{storage_call};
+ghost use Rattle.grain_kinds.specs.Laws.{FitsState, IsKeep};
+ghost use Rattle.grain_kinds.specs.Planned.{keep_of, storage_call};
 
 use crate::fault::MethodFault;
 use crate::logic::GrainLogic;
-use crate::plan::StoreCall;
+use crate::plan::{Keep, StoreCall};
 use crate::reading::{asked_in, state_in};
 use crate::setting::set_planned;
 use crate::writing::written;
@@ -38,6 +38,7 @@ pub(crate) struct OwnedPlan {
     pub outcome: Result<StateBytes, MethodFault>,
     pub store: StoreCall,
     pub sends: Vec<(GrainId, Message)>,
+    pub keep: Keep,
 }
 
 /// A turn whose plan was made. It is seen as the turn that was opened; its plan is the logic's.
@@ -174,5 +175,13 @@ impl<L: GrainLogic> FinishedTurn<L> {
         ensures { map sent result.now ≡ (turn_plan L.logic self.now).sends }
     {
         self.planned.sends.as_slice()
+    }
+
+    /// What is said of the grain's activation.
+    pub fn keep(&self) -> Keep
+        ensures same { keep_of result ≡ (turn_plan L.logic self.now).keep }
+        ensures in_range { IsKeep (keep_of result) }
+    {
+        self.planned.keep
     }
 }

@@ -101,5 +101,6 @@ pub(crate) fn written(alloc: Global, room: usize, plan: Plan<'_>) -> Result<Owne
         outcome: outcome_of(alloc, plan.outcome)?,
         store: plan.store,
         sends: sends_of(alloc, plan.sends)?,
+        keep: plan.keep,
     })
 }

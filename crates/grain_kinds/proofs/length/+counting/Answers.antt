@@ -4,7 +4,7 @@ use Rattle.request_codec.specs.Tree as tree
 use Rattle.request_codec.specs.Tree.{Tree}
 use Rattle.turn_arena.proofs.Levels.{node_value-Map}
 use Rattle.turn_arena.specs.NodeValue.{node_value, field_values}
-use Rattle.grain_kinds.specs.Room.{Leaves}
+use Rattle.grain_kinds.specs.inside.Room.{Leaves}
 use Rattle.grain_kinds.proofs.length.+counting.Goals as goal
 
 -- what is left behind the five bytes in front

@@ -19,7 +19,8 @@ pub record HoldsTwo (v w argument : Tree) : Type 0 where
   pub second : List ℕ
   pub is : argument ≡ tree.map (field first v (field second w no_fields))
 
-two_if : (b : Bool) (n m : List ℕ) (v w x y : Tree) → ◌≡◌ {A = Option (Tree × Tree)} (if b then Some (v, w) else None) (Some (x, y)) → HoldsTwo x y (tree.map (field n v (field m w no_fields)))
+two_if : (b : Bool) (n m : List ℕ) (v w x y : Tree) → ◌≡◌ {A = Option (Tree × Tree)} (if b then Some (v, w) else None) (Some (x, y))
+    → HoldsTwo x y (tree.map (field n v (field m w no_fields)))
 two_if true n m v w x y e =
     let parts = some_pair_parts v x w y e in
     record { first = n; second = m; is = λ i. tree.map (field n (parts.0 i) (field m (parts.1 i) no_fields)) }
@@ -28,7 +29,8 @@ two_if false n m v w x y e = absurd cc
 none_two : (x y argument : Tree) → ◌≡◌ {A = Option (Tree × Tree)} None (Some (x, y)) → HoldsTwo x y argument
 none_two x y argument e = absurd cc
 
-pub two_fields : (first second : List ℕ) (argument x y : Tree) → ◌≡◌ {A = Option (Tree × Tree)} (only_fields first second argument) (Some (x, y)) → HoldsTwo x y argument
+pub two_fields : (first second : List ℕ) (argument x y : Tree)
+    → ◌≡◌ {A = Option (Tree × Tree)} (only_fields first second argument) (Some (x, y)) → HoldsTwo x y argument
 two_fields first second (tree.map (field n v (field m w no_fields))) x y e = two_if _ n m v w x y e
 two_fields first second (tree.map (field n v (field m w (field k u fs)))) x y e = none_two x y _ e
 two_fields first second (tree.map (field n v no_fields)) x y e = none_two x y _ e
@@ -71,7 +73,8 @@ two_fit method v w argument two fits =
 
 -- ---- one field
 
-one_if : (b : Bool) (n : List ℕ) (v x : Tree) → ◌≡◌ {A = Option Tree} (if b then Some v else None) (Some x) → IsUtf8 n × IsFormed v → IsFormed x
+one_if : (b : Bool) (n : List ℕ) (v x : Tree) → ◌≡◌ {A = Option Tree} (if b then Some v else None) (Some x) → IsUtf8 n × IsFormed v
+    → IsFormed x
 one_if true n v x e h = subst IsFormed (same_Some v x e) h.1
 one_if false n v x e h = absurd cc
 
@@ -95,7 +98,9 @@ text_formed name argument s e h = field_formed name argument (tree.text s) (text
 -- ---- a text beside a value
 
 -- a text and what stands beside it
-pub text_first : (v w : Tree) (s : List ℕ) (x : Tree) → ◌≡◌ {A = Option (List ℕ × Tree)} (option_map {U = List ℕ × Tree} (λ t. (t, w)) (text_value v)) (Some (s, x)) → (v ≡ tree.text s) × (w ≡ x)
+pub text_first : (v w : Tree) (s : List ℕ) (x : Tree)
+    → ◌≡◌ {A = Option (List ℕ × Tree)} (option_map {U = List ℕ × Tree} (λ t. (t, w)) (text_value v)) (Some (s, x))
+    → (v ≡ tree.text s) × (w ≡ x)
 text_first (tree.text t) w s x e = let parts = some_pair_parts t s w x e in (ap tree.text parts.0, parts.1)
 text_first tree.null w s x e = absurd cc
 text_first (tree.truth b) w s x e = absurd cc
@@ -103,7 +108,9 @@ text_first (tree.integer i) w s x e = absurd cc
 text_first (tree.list vs) w s x e = absurd cc
 text_first (tree.map fs) w s x e = absurd cc
 
-pub text_second : (v w : Tree) (s : List ℕ) (x : Tree) → ◌≡◌ {A = Option (Tree × List ℕ)} (option_map {U = Tree × List ℕ} (λ t. (v, t)) (text_value w)) (Some (x, s)) → (v ≡ x) × (w ≡ tree.text s)
+pub text_second : (v w : Tree) (s : List ℕ) (x : Tree)
+    → ◌≡◌ {A = Option (Tree × List ℕ)} (option_map {U = Tree × List ℕ} (λ t. (v, t)) (text_value w)) (Some (x, s))
+    → (v ≡ x) × (w ≡ tree.text s)
 text_second v (tree.text t) s x e = let parts = some_pair_parts v x t s e in (parts.0, ap tree.text parts.1)
 text_second v tree.null s x e = absurd cc
 text_second v (tree.truth b) s x e = absurd cc
