@@ -4,3 +4,4 @@ pub mod Prefix
 pub mod Due
 pub mod Aside
 pub mod OneMoment
+pub mod AgesOf

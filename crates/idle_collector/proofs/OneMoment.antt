@@ -9,15 +9,15 @@ use Rattle.std.specs.FinMap as map
 use Rattle.std.specs.Cmp.{eq_by_cmp_equiv}
 use Rattle.grain_id.specs.Names.{Grain, grain_cmp, grain_eq}
 use Rattle.grain_id.proofs.Order.{grain_cmp_total, grain_cmp_exact, grain_eq_decides, grain_ties}
-use Rattle.grain_id.proofs.Maps as maps
+use Rattle.finite_maps.proofs.Maps as maps
 use Rattle.idle_collector.specs.Notes.{Notes, noted, forgotten, is_due, HoldsDue}
-use Rattle.idle_collector.specs.OneMoment.{all_noted, AreApart}
+use Rattle.idle_collector.specs.Aside.{all_noted, AreApart}
 use Rattle.idle_collector.proofs.Prefix.{count, count_is}
 use Rattle.idle_collector.proofs.Due.{tie}
 
 -- ---- what is noted of a grain
 
-alike : (n p : Notes) → n.age ≡ p.age → ((q : Grain) → map.get n.lasts q ≡ map.get p.lasts q) → n ≡ p
+pub alike : (n p : Notes) → n.age ≡ p.age → ((q : Grain) → map.get n.lasts q ≡ map.get p.lasts q) → n ≡ p
 alike n p age each = λ i. record { age = age i; lasts = maps.alike grain_cmp_total grain_cmp_exact n.lasts p.lasts each i }
 
 swapped : (k q : Grain) → eq_by_cmp grain_cmp q k ≡ grain_eq k q
@@ -26,10 +26,10 @@ swapped k q = sym (grain_ties k q ∙ (eq_by_cmp_equiv grain_cmp_total).symm k q
 turned : (k q : Grain) → grain_eq q k ≡ grain_eq k q
 turned k q = grain_ties q k ∙ swapped k q
 
-get-noted : (n : Notes) (k : Grain) (m : ℕ) (q : Grain) → map.get (noted n k m).lasts q ≡ cond (grain_eq k q) (Some m) (map.get n.lasts q)
+pub get-noted : (n : Notes) (k : Grain) (m : ℕ) (q : Grain) → map.get (noted n k m).lasts q ≡ cond (grain_eq k q) (Some m) (map.get n.lasts q)
 get-noted n k m q = map.get-insert grain_cmp_total n.lasts k m q ∙ ap (λ b. cond b (Some m) (map.get n.lasts q)) (swapped k q)
 
-get-forgotten : (n : Notes) (k q : Grain) → map.get (forgotten n k).lasts q ≡ cond (grain_eq k q) None (map.get n.lasts q)
+pub get-forgotten : (n : Notes) (k q : Grain) → map.get (forgotten n k).lasts q ≡ cond (grain_eq k q) None (map.get n.lasts q)
 get-forgotten n k q = map.get-remove grain_cmp_total n.lasts k q ∙ ap (λ b. cond b None (map.get n.lasts q)) (swapped k q)
 
 either : (b c : Bool) (m o : Option ℕ) → cond c m (cond b m o) ≡ cond (b || c) m o
@@ -54,24 +54,29 @@ get-all n (g ∷ gs) m q =
 abbrev pub With : List Grain → Grain → List Grain → Type 0
 With old k new = (q : Grain) → list_any (grain_eq q) new ≡ cond (grain_eq k q) true (list_any (grain_eq q) old)
 
-first_of : (b c : Bool) (m o : Option ℕ) → cond (cond b true c) m (cond b None o) ≡ cond b m (cond c m o)
+first_of : (b c : Bool) (m o : Option ℕ) → cond (cond b true c) m o ≡ cond b m (cond c m o)
 first_of true c m o = refl
 first_of false c m o = refl
 
-pub all-with : (n : Notes) (old new : List Grain) (k : Grain) (m : ℕ) → With old k new → all_noted (forgotten n k) new m ≡ noted (all_noted n old m) k m
-all-with n old new k m more = alike _ _ (age-all (forgotten n k) new m ∙ sym (age-all n old m)) (λ q.
-    get-all (forgotten n k) new m q
-    ∙ (λ i. cond (more q i) (Some m) (get-forgotten n k q i))
+pub all-with : (n : Notes) (old new : List Grain) (k : Grain) (m : ℕ) → With old k new → all_noted n new m ≡ noted (all_noted n old m) k m
+all-with n old new k m more = alike _ _ (age-all n new m ∙ sym (age-all n old m)) (λ q.
+    get-all n new m q
+    ∙ ap (λ b. cond b (Some m) (map.get n.lasts q)) (more q)
     ∙ first_of (grain_eq k q) (list_any (grain_eq q) old) (Some m) (map.get n.lasts q)
     ∙ ap (cond (grain_eq k q) (Some m)) (sym (get-all n old m q))
     ∙ sym (get-noted (all_noted n old m) k m q))
 
-still_none : (b c : Bool) (o : Option ℕ) → cond b true c ≡ true → (c ≡ true → o ≡ None) → cond b None o ≡ None
-still_none true c o e none = refl
-still_none false c o e none = none e
+behind : (b : Bool) (m : ℕ) (o : Option ℕ) → cond b (Some m) o ≡ None → o ≡ None
+behind true m o e = absurd cc
+behind false m o e = e
 
-pub apart-with : (n : Notes) (old new : List Grain) (k : Grain) → With old k new → AreApart old n → AreApart new (forgotten n k)
-apart-with n old new k more apart q e = get-forgotten n k q ∙ still_none (grain_eq k q) (list_any (grain_eq q) old) (map.get n.lasts q) (sym (more q) ∙ e) (apart q)
+-- where the notes of both have none of it
+pub apart-with : (n : Notes) (old new : List Grain) (k : Grain) (m : ℕ) → With old k new → map.get (all_noted n old m).lasts k ≡ None → AreApart old n → AreApart new n
+apart-with n old new k m more none apart q e = by (grain_eq k q) refl (sym (more q) ∙ e)
+  where
+    by : (b : Bool) → grain_eq k q ≡ b → cond b true (list_any (grain_eq q) old) ≡ true → map.get n.lasts q ≡ None
+    by true t e = ap (map.get n.lasts) (sym ((grain_eq_decides k q).0 t)) ∙ behind (list_any (grain_eq k) old) m (map.get n.lasts k) (sym (get-all n old m k) ∙ none)
+    by false t e = apart q e
 
 -- ---- one grain less
 

@@ -1,26 +1,55 @@
--- The note that came last is held aside from the others.
-use Rattle.std.specs.Prelude.{◌≡◌, ℕ, ◌-◌, Bool, false, nat_le, List, [], ◌∷◌, Option, Some, None, if◌then◌else◌}
+-- The notes that are held aside from the filed ones: that of the grain that came last, and those of one moment.
+use Rattle.std.specs.Prelude.{◌≡◌, ℕ, ◌-◌, Bool, true, false, nat_le, List, [], ◌∷◌, Option, Some, None, if◌then◌else◌}
+use Rattle.std.specs.List.{list_any}
 use Rattle.std.specs.FinMap as map
 use Rattle.grain_id.specs.Names.{Grain, grain_eq}
-use Rattle.idle_collector.specs.declared.latest_note.LatestNote.{LatestNote}
-use Rattle.idle_collector.specs.Notes.{Notes, noted}
+use Rattle.idle_collector.specs.declared.latest.Latest.{Latest}
+use Rattle.idle_collector.specs.declared.latest.Latest.TheVariants.{Nobody, Expected, Noted}
+use Rattle.idle_collector.specs.Notes.{Notes, Collection, noted}
 
--- it is of this grain
-abbrev pub is_of : Grain → Option LatestNote → Bool
-is_of grain None = false
-is_of grain (Some latest) = grain_eq latest.id grain
+-- the latest grain is noted, and is this one
+abbrev pub is_of : Grain → Latest → Bool
+is_of grain Nobody = false
+is_of grain (Expected id) = false
+is_of grain (Noted id last) = grain_eq id grain
 
--- the notes, that one too
-abbrev pub with_latest : Option LatestNote → Notes → Notes
-with_latest None notes = notes
-with_latest (Some latest) notes = noted notes latest.id latest.last
+-- the notes, that of the latest grain too
+abbrev pub with_latest : Latest → Notes → Notes
+with_latest Nobody notes = notes
+with_latest (Expected id) notes = notes
+with_latest (Noted id last) notes = noted notes id last
 
--- no other note is of its grain
-abbrev pub IsApart : Option LatestNote → Notes → Type 0
-IsApart None notes = Unit {0}
-IsApart (Some latest) notes = map.get notes.lasts latest.id ≡ None
+-- the latest grain, if there is room for its note
+abbrev pub expected_of : Latest → Option Grain
+expected_of Nobody = None
+expected_of (Expected id) = Some id
+expected_of (Noted id last) = None
 
--- its grain, if it is due
-abbrev pub due_of : ℕ → ℕ → Option LatestNote → List Grain
-due_of age now None = []
-due_of age now (Some latest) = if nat_le age (now - latest.last) then latest.id ∷ [] else []
+-- what is held, the latest grain beside these notes
+abbrev pub held_with : Latest → Notes → Collection
+held_with latest notes = record { notes = with_latest latest notes; expected = expected_of latest }
+
+-- the latest grain, if it is due
+abbrev pub due_of : ℕ → ℕ → Latest → List Grain
+due_of age now Nobody = []
+due_of age now (Expected id) = []
+due_of age now (Noted id last) = if nat_le age (now - last) then id ∷ [] else []
+
+-- each of the grains was last used then
+abbrev pub all_noted : Notes → List Grain → ℕ → Notes
+all_noted notes [] last = notes
+all_noted notes (grain ∷ grains) last = all_noted (noted notes grain last) grains last
+
+-- no other note is of the latest grain
+abbrev pub IsApart : Latest → Notes → Type 0
+IsApart Nobody notes = Unit {0}
+IsApart (Expected id) notes = Unit {0}
+IsApart (Noted id last) notes = map.get notes.lasts id ≡ None
+
+-- there is no note of these grains
+abbrev pub AreApart : List Grain → Notes → Type 0
+AreApart grains notes = (grain : Grain) → list_any (grain_eq grain) grains ≡ true → map.get notes.lasts grain ≡ None
+
+-- No grain is noted in two of the three: as the latest, among those of one moment, and among the filed ones.
+abbrev pub IsHeldApart : Latest → List Grain → ℕ → Notes → Type 0
+IsHeldApart latest grains last filed = IsApart latest (all_noted filed grains last) × AreApart grains filed

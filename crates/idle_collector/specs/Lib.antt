@@ -1,4 +1,5 @@
 pub mod Notes
 pub mod Ties
 pub mod Aside
-pub mod OneMoment
+pub mod Ages
+pub mod AgesInOrder

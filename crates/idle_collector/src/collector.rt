@@ -1,84 +1,115 @@
 //! When grains were last used.
 
-ghost use Rattle.std.specs.Prelude.{◌≡◌, OnOk, OnErr, IfOk};
-ghost use Rattle.std.specs.FinMap.{empty};
-ghost use Rattle.idle_collector.specs.Notes.{noted, forgotten, due};
+ghost use Rattle.std.specs.Prelude.{◌≡◌, OnOk, OnErr, IfOk, IfSome, None, Some};
+ghost use Rattle.std.specs.FinMap as map;
+ghost use Rattle.idle_collector.specs.Notes.{noted, noted_if, forgotten, due};
 
-use crate::latest_moment::LatestMoment;
-use crate::latest_note;
-use crate::latest_note::LatestNote;
+use crate::by_moment::ByMoment;
+use crate::latest::Latest;
+use crate::{latest, moment};
 use grain_id::GrainId;
+use indexmap::IndexSet;
 use std::alloc::{AllocError, Global};
 use std::marker::Model;
+use std::mem::replace;
 
-/// The grains that are idle, and when each of them was last used. The note that came last is held
-/// aside, and filed when another grain is noted: mostly it is forgotten before.
+/// The grains that are idle, and when each of them was last used. The note that came last is held aside, and those of
+/// one moment beside it; the others are filed. A grain that may be idle soon is expected: there is room for its note.
 #[derive(Drop)]
 pub struct Collector {
-    latest: Option<LatestNote>,
-    filed: LatestMoment,
+    latest: Latest,
+    last: u64,
+    grains: IndexSet<GrainId>,
+    filed: ByMoment,
 }
 
 impl Model for Collector {
-    ghost use Rattle.idle_collector.specs.Notes.{Notes, coded_notes};
+    ghost use Rattle.idle_collector.specs.Notes.{Collection, coded_collection};
+    ghost use Rattle.idle_collector.specs.Aside.{held_with, all_noted, IsHeldApart};
 
-    ghost Value = { Notes };
+    ghost Value = { Collection };
 
-    ghost coded = { coded_notes };
+    ghost coded = { coded_collection };
 
-    ghost use Rattle.idle_collector.specs.Aside.{with_latest, IsApart};
+    ghost view = { λ c. held_with c.latest (all_noted c.filed c.grains.keys c.last) };
 
-    ghost view = { λ c. with_latest c.latest c.filed };
-
-    ghost invariant = { λ c. IsApart c.latest c.filed };
+    ghost invariant = { λ c. IsHeldApart c.latest c.grains.keys c.last c.filed };
 }
 
 impl Collector {
-    /// Nothing is noted. A grain is due once it has been unused for the age, in milliseconds.
+    /// Nothing is noted, and nothing expected. A grain is due once it has been unused for the age, in milliseconds.
     pub fn new(alloc: Global, age: u64) -> Collector
-        ensures { result ≡ record { age = age; lasts = empty } }
+        ensures { result ≡ record { notes = record { age = age; lasts = map.empty }; expected = None } }
     {
         Collector {
-            latest: None,
-            filed: LatestMoment::new(alloc, age),
+            latest: Latest::Nobody,
+            last: 0,
+            grains: IndexSet::new(alloc),
+            filed: ByMoment::new(alloc, age),
         }
     }
 
     /// After how many milliseconds an unused grain is due.
     pub fn age(&self) -> u64
-        ensures { result ≡ self.now.age }
+        ensures { result ≡ self.now.notes.age }
     {
         self.filed.age()
     }
 
-    /// Notes when a grain was last used, in place of its earlier note.
+    /// Makes room for the note of a grain that may be idle soon. There is room for one note alone.
     ///
     /// # Errors
     ///
-    /// Out of memory: the notes are as before.
-    pub fn note(&mut self, id: GrainId, last: u64) -> Result<(), AllocError>
-        ensures noted { OnOk result (self.new ≡ noted self.old id last) }
+    /// Out of memory: nothing changed.
+    pub fn expect(&mut self, id: GrainId) -> Result<(), AllocError>
+        ensures expected { OnOk result (self.new ≡ record self.old { expected = Some id }) }
         ensures unchanged { OnErr result (self.new ≡ self.old) }
     {
-        if latest_note::is_of(&self.latest, &id) {
-            self.latest = Some(LatestNote { id, last });
-            return Ok(());
+        latest::put_by(
+            &self.latest,
+            &mut self.last,
+            &mut self.grains,
+            &mut self.filed,
+        )?;
+        self.latest = Latest::Expected(id);
+        Ok(())
+    }
+
+    /// Notes when the grain that is expected was last used. It has no earlier note. Takes no memory.
+    pub fn note_expected(&mut self, last: u64)
+        requires { IfSome self.old.expected (λ id. map.get self.old.notes.lasts id ≡ None) }
+        ensures { self.new ≡ record { notes = noted_if self.old.notes self.old.expected last; expected = None } }
+    {
+        match replace(&mut self.latest, Latest::Nobody) {
+            Latest::Expected(id) => self.latest = Latest::Noted(id, last),
+            noted => self.latest = noted,
         }
-        latest_note::file(&mut self.latest, &mut self.filed)?;
-        self.filed.forget(&id);
-        self.latest = Some(LatestNote { id, last });
+    }
+
+    /// Notes when a grain was last used, in place of its earlier note. No grain is expected then.
+    ///
+    /// # Errors
+    ///
+    /// Out of memory: nothing changed.
+    pub fn note(&mut self, id: GrainId, last: u64) -> Result<(), AllocError>
+        ensures noted { OnOk result (self.new ≡ record { notes = noted self.old.notes id last; expected = None }) }
+        ensures unchanged { OnErr result (self.new ≡ self.old) }
+    {
+        self.expect(id.clone()?)?;
+        self.forget(&id);
+        self.note_expected(last);
         Ok(())
     }
 
     /// Drops the note of a grain, if there is one. Takes no memory.
     pub fn forget(&mut self, id: &GrainId)
-        ensures { self.new ≡ forgotten self.old id.now }
+        ensures { self.new ≡ record self.old { notes = forgotten self.old.notes id.now } }
     {
-        if latest_note::is_of(&self.latest, id) {
-            self.latest = None;
+        if latest::is_of(&self.latest, id) {
+            self.latest = Latest::Nobody;
             return;
         }
-        self.filed.forget(id);
+        moment::forget(&mut self.grains, &mut self.filed, id);
     }
 
     /// The grains that have been unused for the age, ascending. One that was used after `now` counts
@@ -88,10 +119,13 @@ impl Collector {
     ///
     /// Out of memory.
     pub fn due(&self, alloc: Global, now: u64) -> Result<Vec<GrainId>, AllocError>
-        ensures { IfOk result (λ grains. grains.items ≡ due self.now now) }
+        ensures { IfOk result (λ grains. grains.items ≡ due self.now.notes now) }
     {
+        let age = self.filed.age();
         let mut grains = self.filed.first_due(alloc, now)?;
-        latest_note::add_due(&self.latest, self.filed.age(), now, &mut grains)?;
+        let unused = now.saturating_sub(self.last);
+        moment::add_due(self.grains.as_slice(), age, unused, &mut grains)?;
+        latest::add_due(&self.latest, age, now, &mut grains)?;
         grains.sort_unstable();
         Ok(grains)
     }

@@ -1,15 +1,24 @@
-use Rattle.std.proofs.Common.{ap, sym, ◌∙◌, subst, ◌++◌}
-use Rattle.idle_collector.specs.Aside.{with_latest, due_of}
-use Rattle.idle_collector.specs.Notes.{Notes, HoldsDue}
+use Rattle.std.proofs.Common.{◌≡◌, ◌-◌, ◌++◌, [], cond, sym, ◌∙◌, subst}
+use Rattle.std.specs.Prelude.{nat_le}
+use Rattle.idle_collector.specs.Aside.{with_latest, all_noted, due_of}
+use Rattle.idle_collector.specs.Notes.{Collection, HoldsDue}
 use Rattle.idle_collector.proofs.Due.{holds-due}
+use Rattle.idle_collector.proofs.OneMoment.{age-all, due-all}
 use Rattle.idle_collector.proofs.Aside.{latest-due}
 use Rattle.idle_collector.proofs.collector.Collector.due.Goals as goal
 
 pub returns : goal.returns
 returns c =
     let inside = c.self.inside in
-    let held = c.in_ok-grains.grains.items in
-    let all = c.add_due.new.grains.items in
-    let same = c.in_ok-add_due.ensures ∙ ap (λ age. held ++ due_of age c.args.now inside.latest) c.age.ensures in
-    let holds = subst (HoldsDue (with_latest inside.latest inside.filed) c.args.now) (sym same) (latest-due inside.latest inside.filed c.args.now held c.self.invariant c.in_ok-grains.ensures) in
-    holds-due c.args.self.now c.args.now all c.sort_unstable.new.self.items (subst (λ (n : Notes). HoldsDue n c.args.now all) c.self.view_is holds) c.sort_unstable.ensures.permutation c.sort_unstable.ensures.sorted
+    let now = c.args.now in
+    let keys = inside.grains.keys in
+    let first = c.in_ok-grains.grains.items in
+    let moment = cond (nat_le inside.filed.age (now - inside.last)) keys [] in
+    let notes = all_noted inside.filed keys inside.last in
+    let all = c.add_due-2.new.grains.items in
+    let same : all ≡ first ++ moment ++ due_of notes.age now inside.latest =
+    c.in_ok-add_due-2.ensures
+    ∙ (λ i. (c.in_ok-add_due.ensures ∙ (λ j. first ++ cond (nat_le (c.age-age.ensures j) (c.saturating_sub-unused.ensures j)) (c.as_slice.ensures.keys j) [])) i ++ due_of ((c.age-age.ensures ∙ sym (age-all inside.filed keys inside.last)) i) now inside.latest) in
+    let held = latest-due inside.latest notes now (first ++ moment) c.self.invariant.0 (due-all inside.filed keys inside.last now first c.self.invariant.1 c.as_slice.ensures.unique c.in_ok-grains.ensures) in
+    let holds = subst (λ (x : Collection). HoldsDue x.notes now all) c.self.view_is (subst (HoldsDue (with_latest inside.latest notes) now) (sym same) held) in
+    holds-due c.args.self.now.notes now all c.sort_unstable.new.self.items holds c.sort_unstable.ensures.permutation c.sort_unstable.ensures.sorted

@@ -1,20 +1,22 @@
-use Rattle.std.proofs.Common.{ap, sym, ◌∙◌}
+use Rattle.std.proofs.Common.{◌≡◌, None, ap, sym, ◌∙◌, subst}
+use Rattle.std.specs.Prelude.{IfSome}
 use Rattle.std.specs.FinMap as map
 use Rattle.grain_id.proofs.Order.{grain_cmp_total, grain_cmp_exact}
-use Rattle.grain_id.proofs.Maps as maps
-use Rattle.idle_collector.specs.Notes.{Notes, noted}
-use Rattle.idle_collector.proofs.Aside.{latest-noted, noted-forgotten}
+use Rattle.finite_maps.proofs.Maps as maps
+use Rattle.idle_collector.specs.Notes.{Collection, noted_if}
+use Rattle.idle_collector.proofs.Aside.{noted-forgotten, forgotten_then_expected}
 use Rattle.idle_collector.proofs.collector.Collector.note.Goals as goal
 
-pub returns-then-is_of-clause-noted : goal.returns-then-is_of-clause-noted
-returns-then-is_of-clause-noted c =
-    let inside = c.self.inside in
-    latest-noted inside.latest inside.filed c.args.id c.args.last (sym c.is_of.ensures ∙ c.if-is_of.true) ∙ ap (λ n. noted n c.args.id c.args.last) c.self.view_is
-
-pub invariant_of-self-2 : goal.invariant_of-self-2
-invariant_of-self-2 c = ap (λ (n : Notes). map.get n.lasts c.args.id) c.forget.ensures ∙ maps.get-remove_same grain_cmp_total grain_cmp_exact c.file.new.filed.lasts c.args.id
+pub note_expected-requires : goal.note_expected-requires
+note_expected-requires c =
+    let old = c.args.self.now in
+    let is = forgotten_then_expected old c.expect.new.self c.forget.new.self c.args.id c.in_ok-clone.field-0 c.in_ok-clone.ensures.cases c.in_ok-expect.ensures.expected c.forget.ensures in
+    subst (λ (held : Collection). IfSome held.expected (λ id. map.get held.notes.lasts id ≡ None)) (sym is) (maps.get-remove_same grain_cmp_total grain_cmp_exact old.notes.lasts c.args.id)
 
 pub returns-clause-noted : goal.returns-clause-noted
 returns-clause-noted c =
-    ap (λ n. noted n c.args.id c.args.last) c.forget.ensures ∙ noted-forgotten c.file.new.filed c.args.id c.args.last
-    ∙ ap (λ n. noted n c.args.id c.args.last) (c.in_ok-file.ensures.filed ∙ c.self.view_is)
+    let old = c.args.self.now in
+    let is = forgotten_then_expected old c.expect.new.self c.forget.new.self c.args.id c.in_ok-clone.field-0 c.in_ok-clone.ensures.cases c.in_ok-expect.ensures.expected c.forget.ensures in
+    c.note_expected.ensures
+    ∙ ap (λ (held : Collection). record { notes = noted_if held.notes held.expected c.args.last; expected = None }) is
+    ∙ ap (λ notes. record { notes = notes; expected = None }) (noted-forgotten old.notes c.args.id c.args.last)
