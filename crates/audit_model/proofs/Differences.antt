@@ -6,6 +6,8 @@ use Rattle.std.specs.declared.cmp.Ordering.{Ordering}
 use Rattle.std.specs.declared.cmp.Ordering.TheVariants.{Less, Equal, Greater}
 use Rattle.std.specs.Ordering.{ordering_reverse}
 use Rattle.std.specs.FinMap as map
+use Rattle.finite_maps.proofs.Options.{some_from_and_then}
+use Rattle.finite_maps.proofs.Lists.{same_head, same_tail}
 use Rattle.grain_id.specs.Names.{Grain, grain_cmp}
 use Rattle.grain_id.proofs.Order.{grain_cmp_total, grain_cmp_exact}
 use Rattle.grain_storage.specs.Rows.{Rows}
@@ -14,29 +16,18 @@ use Rattle.grain_kinds.specs.Logic.{Logic}
 use Rattle.silo_model.specs.Machine.{Machine}
 use Rattle.silo_model.specs.Step.{machine_step}
 use Rattle.silo_model.specs.Journal.{machine_all_done}
-use Rattle.silo_model.proofs.Changes.{bound}
 use Rattle.journal_text.specs.declared.recorded.RecordedReply.{RecordedReply}
 use Rattle.audit_model.specs.Parts.{all_recorded}
 use Rattle.audit_model.specs.Difference.{Difference, at_step, at_reply, at_row, StopsAt, first_of, DifferAt, RowsDifferAt, AtEnd, IsDifference}
 
 -- ---- lists
 
-pub head_same : {A : Type 0} (x y : A) (xs ys : List A) → x ∷ xs ≡ y ∷ ys → x ≡ y
-head_same x y xs ys e = same_Some x y (ap first_of e)
-
-abbrev others_of : {A : Type 0} → List A → List A
-others_of [] = []
-others_of (x ∷ xs) = xs
-
-pub tail_same : {A : Type 0} (x y : A) (xs ys : List A) → x ∷ xs ≡ y ∷ ys → xs ≡ ys
-tail_same x y xs ys e = ap others_of e
-
 -- what the two lists have in common is as long, however it is said
 same_common : {A : Type 0} (c d l r u v : List A) → c ++ l ≡ d ++ u → c ++ r ≡ d ++ v → first_of l ≢ first_of r → first_of u ≢ first_of v → length c ≡ length d
 same_common [] [] l r u v left right apart parted = refl
 same_common [] (y ∷ d) l r u v left right apart parted = absurd (apart (ap first_of left ∙ sym (ap first_of right)))
 same_common (x ∷ c) [] l r u v left right apart parted = absurd (parted (sym (ap first_of left) ∙ ap first_of right))
-same_common (x ∷ c) (y ∷ d) l r u v left right apart parted = ap suc (same_common c d l r u v (tail_same x y (c ++ l) (d ++ u) left) (tail_same x y (c ++ r) (d ++ v) right) apart parted)
+same_common (x ∷ c) (y ∷ d) l r u v left right apart parted = ap suc (same_common c d l r u v (same_tail x y (c ++ l) (d ++ u) left) (same_tail x y (c ++ r) (d ++ v) right) apart parted)
 
 one_place : {A : Type 0} (xs ys : List A) (n k : ℕ) → DifferAt xs ys n → DifferAt xs ys k → n ≡ k
 one_place xs ys n k d e =
@@ -46,7 +37,7 @@ one_place xs ys n k d e =
 
 same_left : {A : Type 0} (c l r : List A) → c ++ l ≡ c ++ r → first_of l ≡ first_of r
 same_left [] l r e = ap first_of e
-same_left (x ∷ c) l r e = same_left c l r (tail_same x x (c ++ l) (c ++ r) e)
+same_left (x ∷ c) l r e = same_left c l r (same_tail x x (c ++ l) (c ++ r) e)
 
 no_place : {A : Type 0} (xs ys : List A) (n : ℕ) → DifferAt xs ys n → xs ≡ ys → ⊥
 no_place xs ys n d same = d.apart (same_left d.common d.left d.right (sym d.left_parts ∙ same ∙ d.right_parts))
@@ -57,7 +48,7 @@ module _ (logic : Logic) where
   pub done_then : (m reached : Machine) (before steps : List Step) → machine_all_done logic m before ≡ Some reached → machine_all_done logic m (before ++ steps) ≡ machine_all_done logic reached steps
   done_then m reached [] steps e = ap (λ x. machine_all_done logic x steps) (same_Some m reached e)
   done_then m reached (s ∷ before) steps e =
-      let next = bound (λ x. machine_all_done logic x before) (machine_step logic m s) reached e in
+      let next = some_from_and_then (λ x. machine_all_done logic x before) (machine_step logic m s) reached e in
       ap (option_and_then (λ x. machine_all_done logic x (before ++ steps))) next.1 ∙ done_then next.0 reached before steps next.2
 
   -- where a step isn't done, not all are
@@ -79,15 +70,15 @@ module _ (logic : Logic) where
       → machine_all_done logic m before ≡ Some reached → machine_step logic reached s ≡ None → machine_all_done logic m earlier ≡ Some other → machine_step logic other t ≡ None → length before ≡ length earlier
   same_stop m reached other [] [] after later s t same done stops done_too stops_too = refl
   same_stop m reached other [] (y ∷ earlier) after later s t same done stops done_too stops_too =
-      absurd (done_first m s y other after earlier (head_same s y after (earlier ++ t ∷ later) same) (ap (λ x. machine_step logic x s) (same_Some m reached done) ∙ stops) done_too)
+      absurd (done_first m s y other after earlier (same_head s y after (earlier ++ t ∷ later) same) (ap (λ x. machine_step logic x s) (same_Some m reached done) ∙ stops) done_too)
   same_stop m reached other (x ∷ before) [] after later s t same done stops done_too stops_too =
-      absurd (done_first m t x reached later before (sym (head_same x t (before ++ s ∷ after) later same)) (ap (λ y. machine_step logic y t) (same_Some m other done_too) ∙ stops_too) done)
+      absurd (done_first m t x reached later before (sym (same_head x t (before ++ s ∷ after) later same)) (ap (λ y. machine_step logic y t) (same_Some m other done_too) ∙ stops_too) done)
   same_stop m reached other (x ∷ before) (y ∷ earlier) after later s t same done stops done_too stops_too =
-      let next = bound (λ z. machine_all_done logic z before) (machine_step logic m x) reached done in
-      let next_too = bound (λ z. machine_all_done logic z earlier) (machine_step logic m y) other done_too in
-      let alike : next_too.0 ≡ next.0 = same_Some next_too.0 next.0 (sym next_too.1 ∙ ap (machine_step logic m) (sym (head_same x y (before ++ s ∷ after) (earlier ++ t ∷ later) same)) ∙ next.1) in
+      let next = some_from_and_then (λ z. machine_all_done logic z before) (machine_step logic m x) reached done in
+      let next_too = some_from_and_then (λ z. machine_all_done logic z earlier) (machine_step logic m y) other done_too in
+      let alike : next_too.0 ≡ next.0 = same_Some next_too.0 next.0 (sym next_too.1 ∙ ap (machine_step logic m) (sym (same_head x y (before ++ s ∷ after) (earlier ++ t ∷ later) same)) ∙ next.1) in
       ap suc
-      (same_stop next.0 reached other before earlier after later s t (tail_same x y (before ++ s ∷ after) (earlier ++ t ∷ later) same) next.2 stops (ap (λ z. machine_all_done logic z earlier) (sym alike) ∙ next_too.2) stops_too)
+      (same_stop next.0 reached other before earlier after later s t (same_tail x y (before ++ s ∷ after) (earlier ++ t ∷ later) same) next.2 stops (ap (λ z. machine_all_done logic z earlier) (sym alike) ∙ next_too.2) stops_too)
 
   one_stop : (m : Machine) (steps : List Step) (n k : ℕ) → StopsAt logic m steps n → StopsAt logic m steps k → n ≡ k
   one_stop m steps n k at by =

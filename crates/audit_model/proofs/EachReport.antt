@@ -14,6 +14,7 @@ use Rattle.std.proofs.lemmas.List.Folds.{list_any-append}
 use Rattle.std.proofs.lemmas.Option.{same_Some, none-some}
 use Rattle.std.proofs.lemmas.Bool.{or_left, or_right}
 use base.Stored.{Coded}
+use Rattle.finite_maps.proofs.Lists.{all_weaker}
 use Rattle.grain_id.specs.Names.{Grain, grain_cmp}
 use Rattle.grain_id.proofs.Order.{grain_cmp_total, grain_cmp_exact}
 use Rattle.grain_id.proofs.ByGrain.{alike}
@@ -97,12 +98,10 @@ module _ (rows others : Rows) where
       less_equal e = absurd cc
 
   of_all : (g : Grain) (grains : List Grain) → AllByRecursion Alike grains → AllByRecursion (λ h. grain_cmp h g ≡ Less → Alike h) grains
-  of_all g [] all = tt
-  of_all g (h ∷ grains) all = (λ below. all.0, of_all g grains all.1)
+  of_all g grains all = all_weaker _ _ grains (λ h same below. same) all
 
   of_less : (k g : Grain) (grains : List Grain) → grain_cmp k g ≡ Less → AllByRecursion (λ h. grain_cmp h g ≡ Less → Alike h) grains → AllByRecursion (λ h. grain_cmp h k ≡ Less → Alike h) grains
-  of_less k g [] below all = tt
-  of_less k g (h ∷ grains) below all = (λ under. all.0 (grain_cmp_total.trans h k g under below), of_less k g grains below all.1)
+  of_less k g grains below all = all_weaker _ _ grains (λ h same under. same (grain_cmp_total.trans h k g under below)) all
 
   least_alike : (k : Grain) (grains : List Grain) → Alike k → (o : Option Grain) × IsLeast grains o → (o : Option Grain) × IsLeast (k ∷ grains) o
   least_alike k grains same (None, all) = (None, (same, all))

@@ -1,18 +1,19 @@
 -- The tenants of whom a journal has something are reported, and a tenant's machine starts as the journal says.
-use Rattle.std.proofs.Common.{◌≡◌, ◌≢◌, ℕ, Bool, true, false, cond, List, [], ◌∷◌, ◌++◌, Option, Some, None, refl, ap, sym, ◌∙◌}
+use Rattle.std.proofs.Common.{◌≡◌, ◌≢◌, ℕ, Bool, true, false, cond, List, [], ◌∷◌, ◌++◌, Option, Some, None, refl, ap, ◌∙◌}
 use Rattle.std.specs.Prelude.{◌||◌, filter, flat_map, map as map_list, option_to_list}
 use Rattle.std.proofs.lemmas.List.Folds.{list_any-append}
+use Rattle.std.proofs.lemmas.Bool.{or_left, or_right}
+use Rattle.grain_id.proofs.Keys.{texts}
+use Rattle.finite_maps.proofs.Keys.{key_turned}
 use Rattle.grain_id.specs.Names.{Grain, same_text}
-use Rattle.grain_id.proofs.Order.{same_text_decides}
 use Rattle.tenant_gate.specs.Table.{names_of}
 use Rattle.grain_storage.specs.declared.row.Row.{Row}
 use Rattle.silo_event.specs.Owner.{owner_of, tenant_of}
 use Rattle.silo_event.specs.declared.step.Step.{Step}
 use Rattle.silo_model.specs.Opening.{start_of}
-use Rattle.silo_model.specs.Whole.{is_of}
 use Rattle.journal_text.specs.Text.{History}
 use Rattle.journal_text.specs.declared.recorded.RecordedReply.{RecordedReply}
-use Rattle.audit_model.specs.Parts.{is_listed, is_owned_by, is_told, own_steps, owners_in, replies_for, rows_for, tenants_in}
+use Rattle.audit_model.specs.Parts.{is_listed, is_owned_by, own_steps, owners_in, replies_for, rows_for, tenants_in}
 use Rattle.audit_model.specs.Report.{OwnersReported, StartsAsRecorded}
 use Rattle.audit_model.proofs.Tenants.{tenants_in_order}
 
@@ -27,20 +28,12 @@ is_some (x ∷ xs) none = refl
 
 -- ---- whose the things of a list are
 
-swapped : (s t : List ℕ) → same_text s t ≡ same_text t s
-swapped s t = by_tests (same_text s t) (same_text t s) refl refl
-  where
-    by_tests : (a b : Bool) → same_text s t ≡ a → same_text t s ≡ b → a ≡ b
-    by_tests true b is other = sym ((same_text_decides t s).1 (sym ((same_text_decides s t).0 is))) ∙ other
-    by_tests false true is other = sym is ∙ (same_text_decides s t).1 (sym ((same_text_decides t s).0 other))
-    by_tests false false is other = refl
-
 module _ (tenant : List ℕ) where
   -- one thing more, which is the tenant's or isn't
   one_more : {X : Type 0} (x : X) (name : List ℕ) (others : List (List ℕ)) (own : List X) (b : Bool) → same_text name tenant ≡ b → is_listed others tenant ≡ has_some own
       → is_listed (name ∷ others) tenant ≡ has_some (cond b (x ∷ own) own)
-  one_more x name others own true is rest = ap (λ c. c || is_listed others tenant) (swapped tenant name ∙ is)
-  one_more x name others own false is rest = ap (λ c. c || is_listed others tenant) (swapped tenant name ∙ is) ∙ rest
+  one_more x name others own true is rest = ap (λ c. c || is_listed others tenant) (key_turned texts tenant name ∙ is)
+  one_more x name others own false is rest = ap (λ c. c || is_listed others tenant) (key_turned texts tenant name ∙ is) ∙ rest
 
   listed_things : {X : Type 0} (f : X → List ℕ) (xs : List X) → is_listed (map_list f xs) tenant ≡ has_some (filter (λ x. same_text (f x) tenant) xs)
   listed_things f [] = refl
@@ -76,19 +69,13 @@ module _ (tenant : List ℕ) where
 -- ---- the laws
 
 first_so : (a b c d : Bool) → b ≡ true → (a || ((b || c) || d)) ≡ true
-first_so true b c d is = refl
-first_so false b c d is = ap (λ x. (x || c) || d) is
+first_so a b c d is = or_right a _ (or_left _ d (or_left b c is))
 
 second_so : (a b c d : Bool) → c ≡ true → (a || ((b || c) || d)) ≡ true
-second_so true b c d is = refl
-second_so false true c d is = refl
-second_so false false c d is = ap (λ x. x || d) is
+second_so a b c d is = or_right a _ (or_left _ d (or_right b c is))
 
 third_so : (a b c d : Bool) → d ≡ true → (a || ((b || c) || d)) ≡ true
-third_so true b c d is = refl
-third_so false true c d is = refl
-third_so false false true d is = refl
-third_so false false false d is = is
+third_so a b c d is = or_right a _ (or_right (b || c) d is)
 
 pub owners_reported : OwnersReported
 owners_reported = record {

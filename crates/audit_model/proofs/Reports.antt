@@ -1,25 +1,24 @@
 -- A journal has one report; that of a silo has no difference; and what a report without difference says.
-use Rattle.std.proofs.Common.{◌≡◌, ℕ, Bool, true, false, cond, List, [], ◌∷◌, length, Some, None, unwrap_or, refl, ap, sym, ◌∙◌, subst, true≢false}
+use Rattle.std.proofs.Common.{◌≡◌, ℕ, Bool, true, false, cond, List, [], ◌∷◌, length, Some, None, unwrap_or, refl, ap, sym, ◌∙◌, subst}
 use Rattle.std.specs.Prelude.{filter, map as map_list}
 use Rattle.std.specs.List.{AllByRecursion}
 use Rattle.std.specs.List.Sorted.{IsStrictlySortedBy}
 use Rattle.std.specs.Map.{keys_of}
-use Rattle.std.specs.declared.cmp.Ordering.{Ordering}
-use Rattle.std.specs.declared.cmp.Ordering.TheVariants.{Less, Equal, Greater}
-use Rattle.std.specs.Ordering.{is_lt}
+use Rattle.std.specs.declared.cmp.Ordering.TheVariants.{Less}
 use Rattle.std.specs.FinMap as map
-use Rattle.std.specs.FinMap.Entries.{find-where_key}
 use Rattle.std.proofs.lemmas.List.Elements.{recursion_from_All}
 use Rattle.std.proofs.lemmas.List.Kept.{IsStrictlySortedBy-filter}
 use Rattle.std.proofs.lemmas.Option.{same_Some}
 use Rattle.std.proofs.lemmas.Bool.{and_parts}
+use Rattle.finite_maps.proofs.Options.{some_from_and_then}
+use Rattle.finite_maps.proofs.Ascending.{entries-ascending, less_from_is_lt}
+use Rattle.finite_maps.proofs.Lists.{all_weaker, same_head, same_tail}
+use Rattle.finite_maps.proofs.Parts.{from_entries-filter, keys_of-filter}
 use Rattle.grain_id.specs.Names.{Grain, grain_cmp}
 use Rattle.grain_id.proofs.Order.{grain_cmp_total, grain_cmp_exact}
-use Rattle.grain_id.proofs.ByGrain.{alike, get-part}
 use Rattle.grain_storage.specs.declared.row.Row.{Row}
 use Rattle.grain_storage.specs.Memory.{rows_of}
-use Rattle.grain_storage.specs.Rows.{Rows}
-use Rattle.grain_storage.proofs.Ascending.{entries-rows_of}
+pub use Rattle.finite_maps.proofs.Parts.{keys_of-filter as keys_filter}
 use Rattle.silo_event.specs.declared.reply.Reply.{Reply}
 use Rattle.silo_event.specs.declared.step.Step.{Step}
 use Rattle.grain_kinds.specs.Logic.{Logic}
@@ -29,14 +28,13 @@ use Rattle.silo_model.specs.Whole.{Whole, is_of, is_to, shown_to}
 use Rattle.silo_model.specs.Run.{machine_run}
 use Rattle.silo_model.specs.Opening.{start_of}
 use Rattle.silo_model.specs.Journal.{machine_all_done}
-use Rattle.silo_model.proofs.Changes.{bound}
 use Rattle.silo_model.proofs.Journals.{parts_lead}
 use Rattle.journal_text.specs.RecordedReply.{recorded_of}
 use Rattle.journal_text.specs.Rules.{comes_after, are_ascending}
 use Rattle.journal_text.specs.Text.{History}
 use Rattle.audit_model.specs.Parts.{all_recorded, setup_of, steps_for, is_told, replies_for, rows_for}
 use Rattle.audit_model.specs.Report.{TenantReport, IsFirstDifference, IsTenantReport, OneReport, NoDifference, NoneIsMachines}
-use Rattle.audit_model.proofs.Differences.{head_same, tail_same, one_difference}
+use Rattle.audit_model.proofs.Differences.{one_difference}
 
 -- ---- a journal has one report
 
@@ -59,7 +57,7 @@ module _ (logic : Logic) (journal : History) where
   same_reports [] (o ∷ others) same each each_too = absurd cc
   same_reports (r ∷ reports) [] same each each_too = absurd cc
   same_reports (r ∷ reports) (o ∷ others) same each each_too =
-      λ i. same_report r o (head_same r.tenant o.tenant _ _ same) each.0 each_too.0 i ∷ same_reports reports others (tail_same r.tenant o.tenant _ _ same) each.1 each_too.1 i
+      λ i. same_report r o (same_head r.tenant o.tenant _ _ same) each.0 each_too.0 i ∷ same_reports reports others (same_tail r.tenant o.tenant _ _ same) each.1 each_too.1 i
 
 pub one_report : OneReport
 one_report logic journal reports others is is_too =
@@ -85,35 +83,17 @@ shown_rows : (tenant : List ℕ) (w : Whole) → map.retain_keys w.rows (is_of t
 unfolding shown_to
 shown_rows tenant w = refl
 
--- the rows of some grains, of all rows in a list
-part_of_rows : (rows : Rows) (p : Grain → Bool) → rows_of (filter (λ row. p row.0) (map.entries rows)) ≡ map.retain_keys rows p
-part_of_rows rows p =
-    alike _ _ (λ q.
-    map.get-from_entries grain_cmp_total (filter (λ row. p row.0) (map.entries rows)) q
-    ∙ find-where_key grain_cmp p q (λ x tied. ap p (sym (grain_cmp_exact q x tied))) (map.entries rows)
-    ∙ ap (λ o. cond (p q) o None) (sym (map.get-entries rows q))
-    ∙ sym (get-part rows p q))
-
 pub no_difference : NoDifference
 no_difference logic journal w tenant leads records = (
   shown_to tenant w,
   parts_lead logic (setup_of journal) journal.steps w tenant leads,
   (
     ap (filter (is_told tenant)) records.replies ∙ told_recorded tenant w.replies ∙ ap all_recorded (shown_replies tenant w),
-    ap (λ rows. rows_of (filter (λ (row : Grain × Row). is_of tenant row.0) rows)) records.rows ∙ part_of_rows w.rows (is_of tenant) ∙ shown_rows tenant w,
+    ap (λ rows. rows_of (filter (λ (row : Grain × Row). is_of tenant row.0) rows)) records.rows ∙ from_entries-filter grain_cmp_total grain_cmp_exact w.rows (is_of tenant) ∙ shown_rows tenant w,
   ),
 )
 
 -- ---- rows that ascend
-
-pub is_less : (r : Ordering) → is_lt r ≡ true → r ≡ Less
-is_less Less e = refl
-is_less Equal e = absurd (true≢false (sym e))
-is_less Greater e = absurd (true≢false (sym e))
-
-all_above : (a b : Grain) (grains : List Grain) → grain_cmp a b ≡ Less → AllByRecursion (λ g. grain_cmp b g ≡ Less) grains → AllByRecursion (λ g. grain_cmp a g ≡ Less) grains
-all_above a b [] below all = tt
-all_above a b (g ∷ grains) below all = (grain_cmp_total.trans a b g below all.0, all_above a b grains below all.1)
 
 ascend_after : (last : Grain) (rows : List (Grain × Row)) → are_ascending (Some last) rows ≡ true → AllByRecursion (λ g. grain_cmp last g ≡ Less) (keys_of rows) × IsStrictlySortedBy grain_cmp (keys_of rows)
 unfolding IsStrictlySortedBy
@@ -121,8 +101,8 @@ ascend_after last [] e = (tt, tt)
 ascend_after last (row ∷ rows) e =
     let parts = and_parts (comes_after (Some last) row.0) (are_ascending (Some row.0) rows) e in
     let rest = ascend_after row.0 rows parts.1 in
-    let below = is_less (grain_cmp last row.0) parts.0 in
-    ((below, all_above last row.0 (keys_of rows) below rest.0), rest)
+    let below = less_from_is_lt (grain_cmp last row.0) parts.0 in
+    ((below, all_weaker _ _ (keys_of rows) (λ g above. grain_cmp_total.trans last row.0 g below above) rest.0), rest)
 
 -- each of the rows is above all before it
 pub ascend : (rows : List (Grain × Row)) → are_ascending None rows ≡ true → IsStrictlySortedBy grain_cmp (keys_of rows)
@@ -130,25 +110,17 @@ unfolding IsStrictlySortedBy
 ascend [] e = tt
 ascend (row ∷ rows) e = ascend_after row.0 rows e
 
-pub keys_filter : (p : Grain → Bool) (rows : List (Grain × Row)) → keys_of (filter (λ row. p row.0) rows) ≡ filter p (keys_of rows)
-keys_filter p [] = refl
-keys_filter p (row ∷ rows) = by_test (p row.0) (keys_filter p rows)
-  where
-    by_test : (b : Bool) → keys_of (filter (λ r. p r.0) rows) ≡ filter p (keys_of rows) → keys_of (cond b (row ∷ filter (λ r. p r.0) rows) (filter (λ r. p r.0) rows)) ≡ cond b (row.0 ∷ filter p (keys_of rows)) (filter p (keys_of rows))
-    by_test true rest = ap (λ gs. row.0 ∷ gs) rest
-    by_test false rest = rest
-
 own_ascend : (tenant : List ℕ) (journal : History) → are_ascending None journal.rows ≡ true → map.entries (rows_of (rows_for tenant journal)) ≡ rows_for tenant journal
 own_ascend tenant journal ascending =
-    entries-rows_of (rows_for tenant journal)
-    (subst (IsStrictlySortedBy grain_cmp) (sym (keys_filter (is_of tenant) journal.rows)) (IsStrictlySortedBy-filter grain_cmp (is_of tenant) (keys_of journal.rows) (ascend journal.rows ascending)))
+    entries-ascending grain_cmp_total grain_cmp_exact (rows_for tenant journal)
+    (subst (IsStrictlySortedBy grain_cmp) (sym (keys_of-filter (is_of tenant) journal.rows)) (IsStrictlySortedBy-filter grain_cmp (is_of tenant) (keys_of journal.rows) (ascend journal.rows ascending)))
 
 -- ---- a report without difference
 
 done_run : (logic : Logic) (m end : Machine) (steps : List Step) → machine_all_done logic m steps ≡ Some end → end ≡ machine_run logic m steps
 done_run logic m end [] e = sym (same_Some m end e)
 done_run logic m end (s ∷ steps) e =
-    let next = bound (λ x. machine_all_done logic x steps) (machine_step logic m s) end e in
+    let next = some_from_and_then (λ x. machine_all_done logic x steps) (machine_step logic m s) end e in
     done_run logic next.0 end steps next.2 ∙ ap (λ o. machine_run logic (unwrap_or o m) steps) (sym next.1)
 
 pub none_is_machines : NoneIsMachines

@@ -53,9 +53,11 @@ pub record RowsDifferAt (rows others : Rows) (grain : Grain) : Type 0 where
 abbrev pub AtEnd : Logic → Machine → List Step → (Machine → Type 0) → Type 0
 AtEnd logic m steps holds = (end : Machine) × (machine_all_done logic m steps ≡ Some end) × holds end
 
--- The first difference of a machine that starts here and takes the steps from what was recorded of replies and rows: the steps come before the replies, and these before the rows.
+-- The first difference of a machine that starts here and takes the steps from what was recorded of replies and rows:
+-- the steps come before the replies, and these before the rows.
 abbrev pub IsDifference : Logic → Machine → List Step → List RecordedReply → Rows → Option Difference → Type 0
 IsDifference logic m steps replies rows (Some (at_step n)) = StopsAt logic m steps n
 IsDifference logic m steps replies rows (Some (at_reply n)) = AtEnd logic m steps (λ end. DifferAt replies (all_recorded end.replies) n)
-IsDifference logic m steps replies rows (Some (at_row grain)) = AtEnd logic m steps (λ end. (replies ≡ all_recorded end.replies) × RowsDifferAt rows end.rows grain)
+IsDifference logic m steps replies rows (Some (at_row grain)) =
+    AtEnd logic m steps (λ end. (replies ≡ all_recorded end.replies) × RowsDifferAt rows end.rows grain)
 IsDifference logic m steps replies rows None = AtEnd logic m steps (λ end. (replies ≡ all_recorded end.replies) × (rows ≡ end.rows))

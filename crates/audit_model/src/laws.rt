@@ -1,7 +1,8 @@
 //! Laws over the definitions alone. No code runs: a law is the contract of a function that does
 //! nothing, so that it is proved with the crate.
 
-ghost use Rattle.audit_model.specs.Report.{EachReport, NoDifference, NoneIsMachines, OneReport, OwnersReported, StartsAsRecorded, TenantsInOrder};
+ghost use Rattle.audit_model.specs.Report.{EachReport, NoDifference, NoneIsMachines, OneReport, OwnersReported, StartsAsRecorded};
+ghost use Rattle.audit_model.specs.Report.{TenantsInOrder};
 
 /// A journal has a report.
 pub fn each_report()

@@ -1,5 +1,5 @@
 -- In a paced journal each client is answered in the order in which it asked.
-use Rattle.std.proofs.Common.{◌≡◌, ℕ, ◌+◌, ◌≤◌, Bool, true, false, cond, List, [], ◌∷◌, ◌++◌, Option, Some, None, unwrap_or, refl, ap, sym, ◌∙◌, subst, arith, true≢false}
+use Rattle.std.proofs.Common.{◌≡◌, ℕ, ◌+◌, ◌≤◌, Bool, true, false, cond, List, [], ◌∷◌, ◌++◌, Option, Some, None, unwrap_or, refl, ap, sym, ◌∙◌, subst, arith, true≢false, append_assoc}
 use Rattle.std.specs.Prelude.{filter, sum_by, option_map}
 use Rattle.std.proofs.lemmas.List.Sums.{sum_by-cons, sum_by-append}
 use Rattle.std.proofs.lemmas.List.Elements.{filter-append}
@@ -30,7 +30,7 @@ use Rattle.lane_model.specs.Asking.{asking_of, asker_of, id_asked, id_of, ids_as
 use Rattle.lane_model.specs.Pacing.{machine_of, may_ask, paced_from, is_paced, AnsweredInOrder}
 use Rattle.lane_model.proofs.Askers.{weigh, weigh_quiet, asked_weight, told_weight, none_pending, no_number, is_front, apart_asks_nothing}
 use Rattle.lane_model.proofs.Filtered.{flat_map-filter}
-use Rattle.lane_model.proofs.PacedGrowth.{one_on, part_is_run}
+use Rattle.lane_model.proofs.PacedGrowth.{part_is_run}
 
 -- ---- what a client is still owed
 
@@ -41,7 +41,7 @@ pub record Owed (client : Client) (steps : List Step) (m : Machine) : Type 0 whe
   pub order : ids_asked client steps ≡ ids_told client m.replies ++ owed
   pub weighs : (f : ℕ → ℕ) → pend (sent (weigh client f)) m.entries ≡ sum_by f owed
 
-asked_more : (client : Client) (steps : List Step) (s : Step) → ids_asked client (steps ++ s ∷ []) ≡ ids_asked client steps ++ id_asked client (asking_of s)
+pub asked_more : (client : Client) (steps : List Step) (s : Step) → ids_asked client (steps ++ s ∷ []) ≡ ids_asked client steps ++ id_asked client (asking_of s)
 asked_more client steps s = flat_map-append (λ r. id_asked client (asking_of r)) steps (s ∷ []) ∙ ap (λ ids. ids_asked client steps ++ ids) (append-nil (id_asked client (asking_of s)))
 
 -- a step that isn't the client's, and leaves the machine
@@ -156,7 +156,7 @@ module _ (logic : Logic) (law : ReadersAskNothing logic) (setup : Setup) (client
   owed_from before [] paced old = subst (λ xs. Owed client xs (at_client xs)) (sym (append-nil before)) old
   owed_from before (s ∷ steps) paced old =
       let parts = and_parts (may_ask (machine_of logic setup before) (asker_of s)) _ paced in
-      subst (λ xs. Owed client xs (at_client xs)) (one_on before s steps) (owed_from (before ++ s ∷ []) steps parts.1 (owed_more before s parts.0 old))
+      subst (λ xs. Owed client xs (at_client xs)) (append_assoc before (s ∷ []) steps) (owed_from (before ++ s ∷ []) steps parts.1 (owed_more before s parts.0 old))
 
   start_owed : Owed client [] (at_client [])
   unfolding start_of

@@ -5,6 +5,7 @@ use Rattle.std.specs.List.{list_any}
 use Rattle.std.proofs.lemmas.List.Sums.{sum_by-cons}
 use Rattle.std.proofs.lemmas.Bool.{eqb-true, eq-eqb, or_parts}
 use Rattle.std.proofs.lemmas.Option.{same_Some, none-some}
+use Rattle.finite_maps.proofs.Sums.{sum_flat}
 use Rattle.grain_id.specs.Names.{Client, client_eq}
 use Rattle.grain_id.proofs.Order.{client_eq_decides, same_text_decides}
 use Rattle.silo_event.specs.Owner.{owner_of}
@@ -15,7 +16,6 @@ use Rattle.silo_event.specs.declared.step.Step.{Step}
 use Rattle.silo_event.specs.declared.step.Step.TheVariants.{Refuse, Call, Poke, Status, Sweep}
 use Rattle.silo_model.specs.Machine.{Machine, Request}
 use Rattle.silo_model.specs.Run.{concerns, concerns_by}
-use Rattle.silo_model.proofs.Counts.{sum_flat}
 use Rattle.silo_model.proofs.Fair.{pend, one_if}
 use Rattle.silo_model.proofs.Moves.{replied, sent, Quiet, asked_by}
 use Rattle.silo_model.proofs.FairRuns.{pending_weight}

@@ -2,10 +2,11 @@
 use Rattle.std.proofs.Common.{◌≡◌, ℕ, Bool, true, false, List, ◌∷◌, Option, Some, None, refl, ap, sym, ◌∙◌, true≢false}
 use Rattle.std.specs.Prelude.{◌||◌, option_to_list, is_some}
 use Rattle.std.specs.Ordering.{eq_by_cmp}
-use Rattle.std.specs.Cmp.{Equal-is}
 use Rattle.std.specs.FinMap as map
 use Rattle.std.proofs.lemmas.List.Folds.{list_any-append}
-use Rattle.std.proofs.lemmas.Bool.{false_from_ne_true, not-true, or_parts}
+use Rattle.std.proofs.lemmas.Bool.{not-true, or_parts}
+use Rattle.grain_id.proofs.Keys.{grains}
+use Rattle.finite_maps.proofs.Entries.{ties_turned}
 use Rattle.grain_id.specs.Names.{Grain, grain_eq, grain_cmp}
 use Rattle.grain_id.proofs.Order.{grain_cmp_total, grain_cmp_exact, grain_eq_decides}
 use Rattle.silo_event.specs.Owner.{owner_of}
@@ -27,7 +28,7 @@ use Rattle.silo_model.proofs.WorkAtGrains.{nothing_at_entry, nothing_to_deliver}
 use Rattle.lane_model.specs.Candidates.{grain_by_owner, grain_changed_by, Covers, CoversBegin, CoversGrow, NothingToDo}
 
 grain_apart : (p g : Grain) → grain_eq p g ≡ false → eq_by_cmp grain_cmp g p ≡ false
-grain_apart p g apart = false_from_ne_true _ (λ tied. true≢false (sym ((grain_eq_decides p g).1 (sym (grain_cmp_exact g p ((Equal-is (grain_cmp g p)).0 tied)))) ∙ apart))
+grain_apart p g apart = ties_turned grains p g ∙ apart
 
 -- a change at a grain leaves the entry of another
 get-elsewhere : (entries : Entries) (place : Option Grain) (c : Change Entry) (g : Grain) → is_among (option_to_list place) g ≡ false → map.get (changed_at entries place c) g ≡ map.get entries g

@@ -3,6 +3,7 @@ use Rattle.std.proofs.Common.{◌≡◌, ℕ, ◌+◌, ◌≤◌, Bool, true, fa
 use Rattle.std.specs.Prelude.{◌||◌, sum_by}
 use Rattle.std.specs.List.{list_any}
 use Rattle.std.proofs.lemmas.List.Sums.{sum_by-cons}
+use Rattle.finite_maps.proofs.Sums.{sum_one, sum_flat, sum_alike}
 use Rattle.grain_id.specs.Names.{Client}
 use Rattle.silo_event.specs.declared.reply.Party.{Party}
 use Rattle.silo_event.specs.declared.reply.Party.TheVariants as party
@@ -15,7 +16,6 @@ use Rattle.grain_kinds.specs.Laws.{ReadersAskNothing}
 use Rattle.silo_model.specs.Opening.{Setup, start_of}
 use Rattle.silo_model.specs.Journal.{LeadsTo}
 use Rattle.silo_model.specs.Settled.{all_pending}
-use Rattle.silo_model.proofs.Counts.{sum_one, sum_flat, sum_alike}
 use Rattle.silo_model.proofs.Fair.{pend}
 use Rattle.silo_model.proofs.Moves.{replied, sent, asked_by}
 use Rattle.silo_model.proofs.FairRuns.{start_fair, start_balance, run_balance, pending_weight}

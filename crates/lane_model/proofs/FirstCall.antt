@@ -8,6 +8,9 @@ use Rattle.std.specs.FinMap as map
 use Rattle.std.specs.FinMap.{FinMap, nat_cmp-IsAntisymmetric}
 use Rattle.std.proofs.lemmas.Option.{same_Some, none-some}
 use Rattle.std.proofs.lemmas.List.Elements.{All-from_recursion}
+use Rattle.finite_maps.proofs.Maps.{entries-none, taken_back}
+use Rattle.finite_maps.proofs.Totals.{total, total_alike}
+use Rattle.finite_maps.proofs.Sums.{sum_zero}
 use Rattle.grain_id.specs.Names.{Client, Grain, client_eq, grain_cmp, text_cmp}
 use Rattle.grain_id.proofs.Order.{client_eq_decides, grain_cmp_total, text_cmp_total}
 use Rattle.request_codec.specs.Tree.{integer}
@@ -22,7 +25,6 @@ use Rattle.silo_model.specs.Machine.{Account, Entry, Request}
 use Rattle.silo_model.specs.FirstCall.{add_call, first_call}
 use Rattle.silo_model.specs.Settled.{pending_at}
 use Rattle.silo_model.specs.Opening.{Setup, opening, start_of, fresh_account, fresh_accounts}
-use Rattle.silo_model.proofs.Counts.{entries-none, total, total_alike, sum_zero}
 use Rattle.silo_model.proofs.FirstCall.{after_end, first_call_leads, first_call_replies}
 use Rattle.silo_model.proofs.Opening.{get-fresh_accounts}
 use Rattle.silo_model.specs.Pending.{is_of_client, has_pending, AllQuiet}
@@ -82,15 +84,8 @@ weightless f grain m e only none = total_alike grain_cmp_total f (λ x. 0) (map.
     each q x found = by_tie q x (eq_by_cmp grain_cmp q grain) refl (sym (map.get-insert grain_cmp_total m grain e q) ∙ found)
 
 -- a turn that was opened alone and closed
-none_open : (k : ℕ) (request : Request) → map.remove (map.insert (map.empty {R = nat_cmp}) k request) k ≡ map.empty
-none_open k request = map.same_map nat_cmp_total nat_cmp-IsAntisymmetric _ _ (λ q. map.get-remove nat_cmp_total (map.insert map.empty k request) k q ∙ by_tie q (eq_by_cmp nat_cmp q k) refl)
-  where
-    by_tie : (q : ℕ) (b : Bool) → eq_by_cmp nat_cmp q k ≡ b → cond b None (map.get (map.insert (map.empty {R = nat_cmp}) k request) q) ≡ map.get (map.empty {X = Request} {R = nat_cmp}) q
-    by_tie q true tied = sym (map.get-empty nat_cmp q)
-    by_tie q false apart = map.get-insert nat_cmp_total map.empty k request q ∙ ap (λ b. cond b (Some request) (map.get (map.empty {R = nat_cmp}) q)) apart
-
 no_turns : (k : ℕ) (request : Request) → map.values (map.remove (map.insert (map.empty {R = nat_cmp}) k request) k) ≡ []
-no_turns k request = ap map.values (none_open k request) ∙ ap (λ es. map_list (λ (e : ℕ × Request). e.1) es) (entries-none (map.empty {X = Request} {R = nat_cmp}) (map.len-empty nat_cmp Request))
+no_turns k request = ap map.values (taken_back nat_cmp_total nat_cmp-IsAntisymmetric map.empty k request (map.get-empty nat_cmp k)) ∙ ap (λ es. map_list (λ (e : ℕ × Request). e.1) es) (entries-none (map.empty {X = Request} {R = nat_cmp}) (map.len-empty nat_cmp Request))
 
 nothing_sent : (setup : Setup) (tenant : List ℕ) (account : Account) → account.sends ≡ [] → total (λ (a : Account). length a.sends) (map.insert (fresh_accounts setup.tenants) tenant account) ≡ 0
 nothing_sent setup tenant account none = total_alike text_cmp_total (λ a. length a.sends) (λ a. 0) (map.insert (fresh_accounts setup.tenants) tenant account) each ∙ sum_zero (map.values (map.insert (fresh_accounts setup.tenants) tenant account))

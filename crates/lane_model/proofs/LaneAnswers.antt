@@ -1,5 +1,5 @@
 -- What clients are told where their lanes have been served, and what a paced journal says of each of its steps.
-use Rattle.std.proofs.Common.{◌≡◌, true, false, cond, List, [], ◌∷◌, ◌++◌, length, Option, Some, None, refl, ap, sym, ◌∙◌, subst, true≢false}
+use Rattle.std.proofs.Common.{◌≡◌, true, false, cond, List, [], ◌∷◌, ◌++◌, length, Option, Some, None, refl, ap, sym, ◌∙◌, subst, true≢false, append_assoc}
 use Rattle.std.specs.Prelude.{not, map as map_list}
 use Rattle.std.specs.List.{list_any}
 use Rattle.std.proofs.lemmas.List.{append-nil, length-map}
@@ -20,7 +20,6 @@ use Rattle.lane_model.specs.Pacing.{machine_of, may_ask, paced_from, PacedAtEach
 use Rattle.lane_model.specs.Lanes.{Lane, lane_of, is_given_by, given_by, done_steps_by, done_steps_of, LaneStands}
 use Rattle.lane_model.specs.Serving.{replies_to, LanesAnswered}
 use Rattle.lane_model.proofs.Filtered.{flat_map-filter, length-filter_each}
-use Rattle.lane_model.proofs.PacedGrowth.{one_on}
 use Rattle.lane_model.proofs.AnswerOrder.{answered_in_order}
 
 -- ---- numbers of a lane
@@ -119,7 +118,7 @@ module _ (logic : Logic) (setup : Setup) where
   none_at pre [] after s client paced asks =
       let now : HasNone pre client = not-true _ (ap (may_ask (machine_of logic setup pre)) (sym asks) ∙ (and_parts _ _ paced).0) in
       subst (λ steps. HasNone steps client) (sym (append-nil pre)) now
-  none_at pre (r ∷ before) after s client paced asks = subst (λ steps. HasNone steps client) (one_on pre r before) (none_at (pre ++ r ∷ []) before after s client (and_parts _ _ paced).1 asks)
+  none_at pre (r ∷ before) after s client paced asks = subst (λ steps. HasNone steps client) (append_assoc pre (r ∷ []) before) (none_at (pre ++ r ∷ []) before after s client (and_parts _ _ paced).1 asks)
 
   may_by : (machine : Client → Machine) (o : Option Client) → ((client : Client) → o ≡ Some client → has_pending client (machine client) ≡ false) → may_ask machine o ≡ true
   may_by machine None none = refl
@@ -130,7 +129,7 @@ module _ (logic : Logic) (setup : Setup) where
   paced_where pre (s ∷ steps) each =
       and_from _ _
       (may_by (machine_of logic setup pre) (asker_of s) (λ client asks. subst (λ xs. HasNone xs client) (append-nil pre) (each [] steps s client refl asks)))
-      (paced_where (pre ++ s ∷ []) steps (λ before after r client parts asks. subst (λ xs. HasNone xs client) (sym (one_on pre s before)) (each (s ∷ before) after r client (ap (λ xs. s ∷ xs) parts) asks)))
+      (paced_where (pre ++ s ∷ []) steps (λ before after r client parts asks. subst (λ xs. HasNone xs client) (sym (append_assoc pre (s ∷ []) before)) (each (s ∷ before) after r client (ap (λ xs. s ∷ xs) parts) asks)))
 
 pub paced_at_each : PacedAtEach
 paced_at_each logic setup journal = (

@@ -1,7 +1,8 @@
 -- Paced journals.
-use Rattle.std.proofs.Common.{◌≡◌, ℕ, Bool, true, false, List, [], ◌∷◌, ◌++◌, refl, ap, sym, ◌∙◌}
+use Rattle.std.proofs.Common.{◌≡◌, ℕ, Bool, List, [], ◌∷◌, ◌++◌, ap, sym, ◌∙◌, append_assoc}
 use Rattle.std.specs.Prelude.{◌&&◌}
 use Rattle.std.proofs.lemmas.List.{append-nil}
+use Rattle.std.proofs.Math.Bool.{and-true, and_assoc}
 use Rattle.grain_id.specs.Names.{Client}
 use Rattle.silo_event.specs.declared.step.Step.{Step}
 use Rattle.grain_kinds.specs.Logic.{Logic}
@@ -14,25 +15,13 @@ use Rattle.silo_model.proofs.Opening.{replay_is_run}
 use Rattle.lane_model.specs.Asking.{asker_of}
 use Rattle.lane_model.specs.Pacing.{machine_of, may_ask, paced_from, is_paced, PacedGrows}
 
-and_true : (b : Bool) → (b && true) ≡ b
-and_true true = refl
-and_true false = refl
-
-and_assoc : (a b c : Bool) → (a && (b && c)) ≡ ((a && b) && c)
-and_assoc true b c = refl
-and_assoc false b c = refl
-
-pub one_on : {A : Type 0} (xs : List A) (x : A) (ys : List A) → (xs ++ x ∷ []) ++ ys ≡ xs ++ x ∷ ys
-one_on [] x ys = refl
-one_on (first ∷ xs) x ys = ap (λ rest. first ∷ rest) (one_on xs x ys)
-
 pub paced_more : (logic : Logic) (setup : Setup) (before journal : List Step) (s : Step)
     → paced_from logic setup before (journal ++ s ∷ []) ≡ (paced_from logic setup before journal && may_ask (machine_of logic setup (before ++ journal)) (asker_of s))
-paced_more logic setup before [] s = and_true _ ∙ ap (λ b. may_ask (machine_of logic setup b) (asker_of s)) (sym (append-nil before))
+paced_more logic setup before [] s = and-true _ ∙ ap (λ b. may_ask (machine_of logic setup b) (asker_of s)) (sym (append-nil before))
 paced_more logic setup before (r ∷ journal) s =
     let asks : Bool = may_ask (machine_of logic setup before) (asker_of r) in
-    ap (λ b. asks && b) (paced_more logic setup (before ++ r ∷ []) journal s ∙ ap (λ b. paced_from logic setup (before ++ r ∷ []) journal && may_ask (machine_of logic setup b) (asker_of s)) (one_on before r journal))
-    ∙ and_assoc asks (paced_from logic setup (before ++ r ∷ []) journal) _
+    ap (λ b. asks && b) (paced_more logic setup (before ++ r ∷ []) journal s ∙ ap (λ b. paced_from logic setup (before ++ r ∷ []) journal && may_ask (machine_of logic setup b) (asker_of s)) (append_assoc before (r ∷ []) journal))
+    ∙ sym (and_assoc asks (paced_from logic setup (before ++ r ∷ []) journal) _)
 
 -- what a tenant is shown of a whole that a journal leads to
 pub part_is_run : (logic : Logic) (setup : Setup) (journal : List Step) (w : Whole) (tenant : List ℕ) → LeadsTo logic setup journal w → machine_run logic (start_of setup tenant) (restricted_to tenant journal) ≡ shown_to tenant w

@@ -11,11 +11,13 @@ use Rattle.std.specs.FinMap as map
 use Rattle.std.specs.FinMap.{IsAntisymmetric}
 use Rattle.std.proofs.lemmas.Option.{same_Some, none-some}
 use Rattle.std.proofs.lemmas.Bool.{eqb-true, false_from_ne_true}
+use Rattle.finite_maps.proofs.Values.{found_passes, found_entries}
+use Rattle.finite_maps.proofs.Lists.{same_head, same_tail}
+use Rattle.finite_maps.proofs.Maps.{get-insert_same, get-insert_other}
 use Rattle.grain_id.specs.Names.{Client, client_cmp}
 use Rattle.grain_id.proofs.Order.{client_cmp_total, client_cmp_exact, client_eq_decides}
 use Rattle.silo_event.specs.Failed.{as_failed}
 use Rattle.silo_event.specs.declared.step.Step.{Step}
-use Rattle.silo_model.proofs.Counts.{all_values, found_entries}
 use Rattle.lane_model.specs.Lanes.{lane_of, same_lane, is_given_by, given_by, Remaining, others_after, remaining_after, remaining_at_end, is_used_up}
 
 -- ---- whose a lane is
@@ -56,22 +58,6 @@ FitsOne (Some rest) given = map_list as_failed given ≡ map_list as_failed rest
 abbrev pub Fits : Remaining → List Step → Type 0
 Fits remaining journal = (from : Option Client) → FitsOne (map.get remaining from) (given_by from journal)
 
-heads : {A : Type 0} → A → List A → A
-heads d [] = d
-heads d (x ∷ xs) = x
-
-head_same : {A : Type 0} (x y : A) (xs ys : List A) → x ∷ xs ≡ y ∷ ys → x ≡ y
-unfolding heads
-head_same x y xs ys e = ap (heads x) e
-
-tails : {A : Type 0} → List A → List A
-tails [] = []
-tails (x ∷ xs) = xs
-
-tail_same : {A : Type 0} (x y : A) (xs ys : List A) → x ∷ xs ≡ y ∷ ys → xs ≡ ys
-unfolding tails
-tail_same x y xs ys e = ap tails e
-
 -- ---- the end of the pass
 
 spent_list : (remaining : Remaining) (es : List (Option Client × List Step)) → Fits remaining [] → AllByRecursion (λ e. map.get remaining e.0 ≡ Some e.1) es → list_all (λ rest. length rest == 0) (map_list (λ e. e.1) es) ≡ true
@@ -91,7 +77,7 @@ end_decides remaining = (λ spent from. by_rest from spent (map.get remaining fr
   where
     by_rest : (from : Option Client) → is_used_up (Some remaining) ≡ true → (r : Option (List Step)) → map.get remaining from ≡ r → FitsOne r []
     by_rest from spent None is = refl
-    by_rest from spent (Some rest) is = ap (map_list as_failed) (sym (no_steps rest (all_values (λ r. length r == 0) remaining from rest is spent)))
+    by_rest from spent (Some rest) is = ap (map_list as_failed) (sym (no_steps rest (found_passes (λ r. length r == 0) remaining from rest is spent)))
 
 -- ---- one step of the pass
 
@@ -108,10 +94,10 @@ module _ (remaining : Remaining) (journal : List Step) (s : Step) (k : Option Cl
     left = map.insert remaining k others
 
     left_own : map.get left k ≡ Some others
-    left_own = map.get-insert lanes_total remaining k others k ∙ ap (λ b. cond b (Some others) (map.get remaining k)) (lane_itself k)
+    left_own = get-insert_same lanes_total lanes_exact remaining k others
 
     left_apart : (from : Option Client) → same_lane k from ≡ false → map.get left from ≡ map.get remaining from
-    left_apart from apart = map.get-insert lanes_total remaining k others from ∙ ap (λ b. cond b (Some others) (map.get remaining from)) (lane_apart k from apart)
+    left_apart from apart = get-insert_other lanes_total lanes_exact remaining k from others (lane_apart k from apart)
 
     fits_before : as_failed s ≡ as_failed first → Fits left journal → (from : Option Client) → FitsNext from (map.get remaining from)
     fits_before same fits from = by_lane (same_lane k from) refl
@@ -128,7 +114,7 @@ module _ (remaining : Remaining) (journal : List Step) (s : Step) (k : Option Cl
       where
         by_lane : (b : Bool) → same_lane k from ≡ b → FitsOne (map.get left from) (given_by from journal)
         by_lane true is =
-            let own : FitsOne (Some others) (given_by k journal) = tail_same (as_failed s) (as_failed first) (map_list as_failed (given_by k journal)) (map_list as_failed others) (own_next (Some (first ∷ others)) there fits) in
+            let own : FitsOne (Some others) (given_by k journal) = same_tail (as_failed s) (as_failed first) (map_list as_failed (given_by k journal)) (map_list as_failed others) (own_next (Some (first ∷ others)) there fits) in
             subst (λ f. FitsOne (map.get left f) (given_by f journal)) ((same_lane_decides k from).0 is) (subst (λ r. FitsOne r (given_by k journal)) (sym left_own) own)
         by_lane false is =
             subst (λ r. FitsOne r (given_by from journal)) (sym (left_apart from is)) (subst (λ b. FitsOne (map.get remaining from) (cond b (s ∷ given_by from journal) (given_by from journal))) is (fits from))
@@ -160,7 +146,7 @@ module _ (same : Step → Step → Bool) (decides : (s r : Step) → Decides (sa
           λ fits.
               absurd
               (true≢false
-              (sym ((decides s first).1 (head_same (as_failed s) (as_failed first) (map_list as_failed (given_by k journal)) (map_list as_failed others) (own_next remaining journal s k (Some (first ∷ others)) is fits)))
+              (sym ((decides s first).1 (same_head (as_failed s) (as_failed first) (map_list as_failed (given_by k journal)) (map_list as_failed others) (own_next remaining journal s k (Some (first ∷ others)) is fits)))
               ∙ alike)),
         )
 

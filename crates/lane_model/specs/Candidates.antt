@@ -31,7 +31,8 @@ grain_changed_by w s = grain_by_owner w s (owner_of s)
 
 -- the candidates after a step: with the grains at which it may have left something to do
 abbrev pub candidates_after : Whole → Step → Candidates → Candidates
-candidates_after w s candidates = record { entries = candidates.entries ++ grain_changed_by w s; senders = candidates.senders ++ sender_by s }
+candidates_after w s candidates =
+    record { entries = candidates.entries ++ grain_changed_by w s; senders = candidates.senders ++ sender_by s }
 
 -- ---- the laws
 
@@ -41,7 +42,9 @@ NothingToDo = (logic : Logic) (w : Whole) → Covers logic w (record { entries =
 
 -- After a step that is done, they cover the silo still, with the step's own grains.
 abbrev pub CoversGrow : Type 0
-CoversGrow = (logic : Logic) (w after : Whole) (s : Step) (candidates : Candidates) → whole_step logic w s ≡ Some after → Covers logic w candidates → Covers logic after (candidates_after w s candidates)
+CoversGrow =
+    (logic : Logic) (w after : Whole) (s : Step) (candidates : Candidates) → whole_step logic w s ≡ Some after → Covers logic w candidates
+    → Covers logic after (candidates_after w s candidates)
 
 -- When a silo opens, none cover it.
 abbrev pub CoversBegin : Type 0

@@ -12,5 +12,7 @@ use Rattle.lane_model.specs.Asking.{ids_asked, ids_told}
 
 -- Nothing of a client waits or is open exactly if it was told as often as it asked.
 abbrev pub PendingByCounts : Type 0
-PendingByCounts = (logic : Logic) → ReadersAskNothing logic → (setup : Setup) (journal : List Step) (w : Whole) (client : Client) → LeadsTo logic setup journal w
+PendingByCounts =
+    (logic : Logic) → ReadersAskNothing logic → (setup : Setup) (journal : List Step) (w : Whole) (client : Client)
+    → LeadsTo logic setup journal w
     → (has_pending client (shown_to client.tenant w) ≡ false) ↔ (length (ids_told client w.replies) ≡ length (ids_asked client journal))

@@ -1,5 +1,6 @@
 -- Lanes: steps that are given one after another, by a client or by nobody; and lanes in a journal.
-use Rattle.std.specs.Prelude.{◌≡◌, ℕ, Bool, true, false, not, ◌&&◌, nat_lt, ◌==◌, List, [], ◌∷◌, filter, length, map as map_list, Option, Some, None, option_map, option_and_then, if◌then◌else◌, All}
+use Rattle.std.specs.Prelude.{◌≡◌, ℕ, Bool, true, false, not, ◌&&◌, nat_lt, ◌==◌, List, [], ◌∷◌, filter, length, map as map_list, Option}
+use Rattle.std.specs.Prelude.{Some, None, option_map, option_and_then, if◌then◌else◌, All}
 use Rattle.std.specs.Bool.{Decides}
 use Rattle.std.specs.List.{AllPass, IsDistinct, list_all, list_any}
 use Rattle.std.specs.Option.{option_eq, option_cmp}
@@ -9,7 +10,8 @@ use Rattle.grain_id.specs.Names.{Client, client_eq, client_cmp}
 use Rattle.silo_event.specs.Failed.{as_failed}
 pub use Rattle.silo_event.specs.Failed.{has_failed}
 use Rattle.silo_event.specs.declared.step.Step.{Step}
-use Rattle.silo_event.specs.declared.step.Step.TheVariants.{Refuse, Call, Poke, Status, Deliver, Activate, Load, Begin, Store, End, Abandon, Tick, Sweep}
+use Rattle.silo_event.specs.declared.step.Step.TheVariants.{Refuse, Call, Poke, Status, Deliver, Activate, Load, Begin, Store, End}
+use Rattle.silo_event.specs.declared.step.Step.TheVariants.{Abandon, Tick, Sweep}
 use Rattle.grain_kinds.specs.Logic.{Logic}
 use Rattle.silo_model.specs.Machine.{Machine}
 use Rattle.silo_model.specs.Step.{machine_step}
@@ -68,7 +70,8 @@ IsLane lane = AllPass (may_give lane.from) lane.steps
 -- the steps without the ticks that are below the clock, which each other tick sets
 abbrev pub without_ticks_below : ℕ → List Step → List Step
 without_ticks_below clock [] = []
-without_ticks_below clock (Tick now ∷ steps) = if nat_lt now clock then without_ticks_below clock steps else Tick now ∷ without_ticks_below now steps
+without_ticks_below clock (Tick now ∷ steps) =
+    if nat_lt now clock then without_ticks_below clock steps else Tick now ∷ without_ticks_below now steps
 without_ticks_below clock (s ∷ steps) = s ∷ without_ticks_below clock steps
 
 -- Of a client's lane each step is done; of nobody's lane no tick that is below an earlier one.
@@ -80,7 +83,8 @@ done_steps_by (Some client) steps = steps
 abbrev pub done_steps_of : Lane → List Step
 done_steps_of lane = done_steps_by lane.from lane.steps
 
--- The journal's steps of the lane are those of the lane that are done, in order, each once. Whether the storage failed in them is left aside.
+-- The journal's steps of the lane are those of the lane that are done, in order, each once. Whether the storage failed
+-- in them is left aside.
 abbrev pub LaneStands : Lane → List Step → Type 0
 LaneStands lane journal = map_list as_failed (given_by lane.from journal) ≡ map_list as_failed (done_steps_of lane)
 
@@ -116,12 +120,14 @@ others_after same s (first ∷ others) = if same s first then Some others else N
 -- what is left of each after a step of this lane, or of none
 abbrev pub remaining_after : (Step → Step → Bool) → Remaining → Step → Option (Option Client) → Option Remaining
 remaining_after same remaining s None = Some remaining
-remaining_after same remaining s (Some giver) = option_map (map.insert remaining giver) (option_and_then (others_after same s) (map.get remaining giver))
+remaining_after same remaining s (Some giver) =
+    option_map (map.insert remaining giver) (option_and_then (others_after same s) (map.get remaining giver))
 
 -- what is left of each after the journal, if each of its steps is the next of its lane
 abbrev pub remaining_at_end : (Step → Step → Bool) → Remaining → List Step → Option Remaining
 remaining_at_end same remaining [] = Some remaining
-remaining_at_end same remaining (s ∷ journal) = option_and_then (λ left. remaining_at_end same left journal) (remaining_after same remaining s (lane_of s))
+remaining_at_end same remaining (s ∷ journal) =
+    option_and_then (λ left. remaining_at_end same left journal) (remaining_after same remaining s (lane_of s))
 
 -- each step was the next of its lane, and nothing is left of any
 abbrev pub is_used_up : Option Remaining → Bool
@@ -136,7 +142,9 @@ lanes_stand_by_pass same lanes journal = is_used_up (remaining_at_end same (rema
 
 -- Of ticks and sweeps a machine does all but the ticks below its clock, which each other tick sets.
 abbrev pub TicksAreDone : Type 0
-TicksAreDone = (logic : Logic) (m : Machine) (steps : List Step) → AllPass (may_give None) steps → done_by (machine_step logic) m steps ≡ without_ticks_below m.clock steps
+TicksAreDone =
+    (logic : Logic) (m : Machine) (steps : List Step) → AllPass (may_give None) steps
+    → done_by (machine_step logic) m steps ≡ without_ticks_below m.clock steps
 
 -- There is a test that tells steps apart.
 abbrev pub StepsToldApart : Type 0
@@ -144,4 +152,6 @@ StepsToldApart = (same : Step → Step → Bool) × TellsApart same
 
 -- With any such test the pass tells whether the lanes stand in the journal.
 abbrev pub PassDecides : Type 0
-PassDecides = (same : Step → Step → Bool) → TellsApart same → (lanes : List Lane) (journal : List Step) → AreDistinct lanes → Decides (lanes_stand_by_pass same lanes journal) (LanesStand lanes journal)
+PassDecides =
+    (same : Step → Step → Bool) → TellsApart same → (lanes : List Lane) (journal : List Step) → AreDistinct lanes
+    → Decides (lanes_stand_by_pass same lanes journal) (LanesStand lanes journal)

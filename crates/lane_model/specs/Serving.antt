@@ -1,5 +1,6 @@
 -- What a silo is left as after lanes were served.
-use Rattle.std.specs.Prelude.{◌≡◌, ◌<◌, ◌+◌, ℕ, true, List, [], ◌∷◌, filter, length, count_by, map as map_list, Option, Some, None, Ok, ℤ, codes}
+use Rattle.std.specs.Prelude.{◌≡◌, ◌<◌, ◌+◌, ℕ, true, List, [], ◌∷◌, filter, length, count_by, map as map_list, Option, Some, None, Ok}
+use Rattle.std.specs.Prelude.{ℤ, codes}
 use Rattle.std.specs.FinMap as map
 use Rattle.grain_id.specs.Names.{Grain, Client}
 use Rattle.request_codec.specs.Tree.{integer}
@@ -32,8 +33,11 @@ replies_to (Some client) replies = filter (λ r. is_of_client client r.recipient
 abbrev pub answers_of : List Lane → Whole → List (List Reply)
 answers_of lanes w = map_list (λ (lane : Lane). replies_to lane.from w.replies) lanes
 
--- The lanes stand in a journal that leads to the whole, at their clients' pace; nothing is left to do; the steps that failed and the calls of the storage that had failed at the opening are as many as have failed now; and each lane is answered the replies to its client.
-pub record AreServed (logic : Logic) (setup : Setup) (lanes : List Lane) (journal : List Step) (w : Whole) (at_opening now : ℕ) (answers : List (List Reply)) : Type 0 where
+-- The lanes stand in a journal that leads to the whole, at their clients' pace; nothing is left to do; the steps that
+-- failed and the calls of the storage that had failed at the opening are as many as have failed now; and each lane is
+-- answered the replies to its client.
+pub record AreServed (logic : Logic) (setup : Setup) (lanes : List Lane) (journal : List Step) (w : Whole) (at_opening now : ℕ)
+    (answers : List (List Reply)) : Type 0 where
   pub leads : LeadsTo logic setup journal w
   pub paced : is_paced logic setup journal ≡ true
   pub stand : LanesStand lanes journal
@@ -50,15 +54,22 @@ pub record IsAnswered (lane : Lane) (client : Client) (replies : List Reply) : T
 
 -- So it is of each client's lane that was served.
 abbrev pub LanesAnswered : Type 0
-LanesAnswered = (logic : Logic) → ReadersAskNothing logic → (setup : Setup) (lanes : List Lane) (journal : List Step) (w : Whole) (at_opening now : ℕ) (answers : List (List Reply)) → AreServed logic setup lanes journal w at_opening now answers
+LanesAnswered =
+    (logic : Logic) → ReadersAskNothing logic
+    → (setup : Setup) (lanes : List Lane) (journal : List Step) (w : Whole) (at_opening now : ℕ) (answers : List (List Reply))
+    → AreServed logic setup lanes journal w at_opening now answers
     → (lane : Lane) (client : Client) → LaneStands lane journal → lane.from ≡ Some client → IsAnswered lane client w.replies
 
 -- a lane of one call: a number is added to a counter
 abbrev pub lane_of_one_call : Client → ℕ → Grain → ℤ → Lane
 lane_of_one_call caller id grain n = record { from = Some caller; steps = Call caller id grain (add_call n) ∷ [] }
 
--- If a client that is known, and may have an activation, adds to a counter of its tenant of which no row is stored, its lane is served by the first call's five steps, and answered the number.
+-- If a client that is known, and may have an activation, adds to a counter of its tenant of which no row is stored,
+-- its lane is served by the first call's five steps, and answered the number.
 abbrev pub FirstCallServed : Type 0
 FirstCallServed = (setup : Setup) (limits : Limits) (caller : Client) (id : ℕ) (grain : Grain) (n : ℤ)
-    → limits_of setup.tenants caller.tenant ≡ Some limits → 0 < limits.activations → grain.tenant ≡ caller.tenant → grain.kind ≡ codes "counter" → map.get setup.rows grain ≡ None → fits_64 n ≡ true
-    → (w : Whole) × AreServed counters setup (lane_of_one_call caller id grain n ∷ []) (first_call caller id grain n) w 0 0 (told (party.Client caller id) (Ok (integer n)) ∷ [])
+    → limits_of setup.tenants caller.tenant ≡ Some limits → 0 < limits.activations → grain.tenant ≡ caller.tenant
+    → grain.kind ≡ codes "counter" → map.get setup.rows grain ≡ None → fits_64 n ≡ true
+    → (w : Whole)
+    × AreServed counters setup (lane_of_one_call caller id grain n ∷ []) (first_call caller id grain n) w 0 0
+    (told (party.Client caller id) (Ok (integer n)) ∷ [])

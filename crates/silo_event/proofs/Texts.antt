@@ -3,6 +3,7 @@ use Rattle.std.proofs.Common.{◌≡◌, ℕ, Bool, true, false, List, [], ◌�
 use Rattle.std.specs.Prelude.{◌&&◌, nat_le, length, codes}
 use Rattle.std.specs.List.{list_all}
 use Rattle.std.proofs.lemmas.Bool.Decides.{nat_tests}
+use Rattle.std.proofs.lemmas.Bool.{and_from, and_parts}
 use Rattle.grain_id.specs.Words.{is_word_byte, is_name_byte, begins_with_letter, is_word, is_name}
 use Rattle.grain_id.specs.Names.{Grain, is_grain, grain_text}
 use Rattle.silo_event.specs.Visible.{is_visible, TextsAreVisible}
@@ -11,26 +12,15 @@ use Rattle.silo_event.specs.declared.fault.Fault.TheVariants.{UnknownTenant, Unk
 abbrev AreVisible : List ℕ → Type 0
 AreVisible bytes = list_all is_visible bytes ≡ true
 
-first_of : (a b : Bool) → a && b ≡ true → a ≡ true
-first_of true b e = refl
-first_of false b e = e
-
-second_of : (a b : Bool) → a && b ≡ true → b ≡ true
-second_of true b e = e
-second_of false b e = absurd (true≢false (sym e))
-
-both : (a b : Bool) → a ≡ true → b ≡ true → a && b ≡ true
-both a b p q = ap (λ x. x && b) p ∙ q
-
 joined : (xs ys : List ℕ) → AreVisible xs → AreVisible ys → AreVisible (xs ++ ys)
 joined [] ys p q = q
 joined (x ∷ xs) ys p q =
-    both (is_visible x) (list_all is_visible (xs ++ ys)) (first_of (is_visible x) (list_all is_visible xs) p) (joined xs ys (second_of (is_visible x) (list_all is_visible xs) p) q)
+    and_from (is_visible x) (list_all is_visible (xs ++ ys)) ((and_parts (is_visible x) (list_all is_visible xs) p).0) (joined xs ys ((and_parts (is_visible x) (list_all is_visible xs) p).1) q)
 
 all_visible : (test : ℕ → Bool) → ((b : ℕ) → test b ≡ true → is_visible b ≡ true) → (bytes : List ℕ) → list_all test bytes ≡ true → AreVisible bytes
 all_visible test each [] e = refl
 all_visible test each (b ∷ bytes) e =
-    both (is_visible b) (list_all is_visible bytes) (each b (first_of (test b) (list_all test bytes) e)) (all_visible test each bytes (second_of (test b) (list_all test bytes) e))
+    and_from (is_visible b) (list_all is_visible bytes) (each b ((and_parts (test b) (list_all test bytes) e).0)) (all_visible test each bytes ((and_parts (test b) (list_all test bytes) e).1))
 
 word_byte : (b : ℕ) → is_word_byte b ≡ true → is_visible b ≡ true
 word_byte b is = grind (arith, nat_tests)
@@ -40,11 +30,11 @@ name_byte b is = grind (arith, nat_tests)
 
 word : (bytes : List ℕ) → is_word bytes ≡ true → AreVisible bytes
 unfolding is_word
-word bytes is = all_visible is_word_byte word_byte bytes (second_of (begins_with_letter bytes && nat_le (length bytes) 32) (list_all is_word_byte bytes) is)
+word bytes is = all_visible is_word_byte word_byte bytes ((and_parts (begins_with_letter bytes && nat_le (length bytes) 32) (list_all is_word_byte bytes) is).1)
 
 last_part : (bytes : List ℕ) → is_name bytes ≡ true → AreVisible bytes
 unfolding is_name
-last_part bytes is = all_visible is_name_byte name_byte bytes (second_of (nat_le 1 (length bytes) && nat_le (length bytes) 128) (list_all is_name_byte bytes) is)
+last_part bytes is = all_visible is_name_byte name_byte bytes ((and_parts (nat_le 1 (length bytes) && nat_le (length bytes) 128) (list_all is_name_byte bytes) is).1)
 
 -- a name in the middle of a text
 around : (before name after : List ℕ) → AreVisible before → AreVisible name → AreVisible after → AreVisible (before ++ name ++ after)
@@ -52,9 +42,9 @@ around before name after p q r = joined (before ++ name) after (joined before na
 
 grain : (g : Grain) → is_grain g ≡ true → AreVisible (grain_text g)
 grain g is =
-    let words = first_of (is_word g.kind && is_word g.tenant) (is_name g.name) is in
-    joined g.kind (47 ∷ (g.tenant ++ 58 ∷ g.name)) (word g.kind (first_of (is_word g.kind) (is_word g.tenant) words))
-    (joined g.tenant (58 ∷ g.name) (word g.tenant (second_of (is_word g.kind) (is_word g.tenant) words)) (last_part g.name (second_of (is_word g.kind && is_word g.tenant) (is_name g.name) is)))
+    let words = (and_parts (is_word g.kind && is_word g.tenant) (is_name g.name) is).0 in
+    joined g.kind (47 ∷ (g.tenant ++ 58 ∷ g.name)) (word g.kind ((and_parts (is_word g.kind) (is_word g.tenant) words).0))
+    (joined g.tenant (58 ∷ g.name) (word g.tenant ((and_parts (is_word g.kind) (is_word g.tenant) words).1)) (last_part g.name ((and_parts (is_word g.kind && is_word g.tenant) (is_name g.name) is).1)))
 
 pub texts_are_visible : TextsAreVisible
 texts_are_visible (UnknownTenant tenant) named = around (codes "tenant ") tenant (codes " is unknown") refl (word tenant named) refl

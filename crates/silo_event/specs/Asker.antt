@@ -2,7 +2,8 @@
 use Rattle.std.specs.Prelude.{ℕ, Option, Some, None, option_map}
 use Rattle.grain_id.specs.Names.{Client}
 use Rattle.silo_event.specs.declared.step.Step.{Step}
-use Rattle.silo_event.specs.declared.step.Step.TheVariants.{Refuse, Call, Poke, Status, Deliver, Activate, Load, Begin, Store, End, Abandon, Tick, Sweep}
+use Rattle.silo_event.specs.declared.step.Step.TheVariants.{Refuse, Call, Poke, Status, Deliver, Activate, Load, Begin, Store, End}
+use Rattle.silo_event.specs.declared.step.Step.TheVariants.{Abandon, Tick, Sweep}
 
 -- the client that asks by the step, and the number under which it asks
 abbrev pub asking_of : Step → Option (Client × ℕ)

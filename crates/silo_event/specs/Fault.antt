@@ -2,7 +2,10 @@
 use Rattle.std.specs.Prelude.{ℕ, List, ◌++◌, codes}
 use Rattle.grain_id.specs.Names.{grain_text}
 use Rattle.silo_event.specs.declared.fault.Fault.{Fault}
-use Rattle.silo_event.specs.declared.fault.Fault.TheVariants.{NotARequest, TooLong, TooDeep, NotWhole, NotWellFormed, UnknownTenant, UnknownKind, AcrossTenants, NoActivation, MailboxFull, NoNumber, StorageFailed, StateChanged, VersionsSpent, UnknownMethod, Misfit, OutOfRange, TooLarge, NoMemory}
+use Rattle.silo_event.specs.declared.fault.Fault.TheVariants.{NotARequest, TooLong, TooDeep, NotWhole, NotWellFormed, UnknownTenant}
+use Rattle.silo_event.specs.declared.fault.Fault.TheVariants.{UnknownKind, AcrossTenants, NoActivation, MailboxFull, NoNumber}
+use Rattle.silo_event.specs.declared.fault.Fault.TheVariants.{StorageFailed, StateChanged, VersionsSpent, UnknownMethod, Misfit}
+use Rattle.silo_event.specs.declared.fault.Fault.TheVariants.{OutOfRange, TooLarge, NoMemory}
 use Rattle.silo_event.specs.declared.refusal.Refusal.{Refusal}
 use Rattle.silo_event.specs.declared.refusal.Refusal.TheVariants as refusal
 

@@ -5,7 +5,8 @@ use Rattle.grain_id.specs.Words.{is_word}
 use Rattle.grain_id.specs.Names.{is_grain}
 use Rattle.silo_event.specs.Fault.{fault_text}
 use Rattle.silo_event.specs.declared.fault.Fault.{Fault}
-use Rattle.silo_event.specs.declared.fault.Fault.TheVariants.{UnknownTenant, UnknownKind, AcrossTenants, NoActivation, MailboxFull, NoNumber, StateChanged, VersionsSpent}
+use Rattle.silo_event.specs.declared.fault.Fault.TheVariants.{UnknownTenant, UnknownKind, AcrossTenants, NoActivation, MailboxFull}
+use Rattle.silo_event.specs.declared.fault.Fault.TheVariants.{NoNumber, StateChanged, VersionsSpent}
 
 -- visible ASCII or a space
 abbrev pub is_visible : ℕ → Bool

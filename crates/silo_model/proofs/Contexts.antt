@@ -1,28 +1,26 @@
 -- What a step's owner sees at its own grain is what the whole has there.
-use Rattle.std.proofs.Common.{◌≡◌, ◌≢◌, ℕ, Bool, true, false, cond, List, Option, Some, None, refl, ap, ◌∙◌}
+use Rattle.std.proofs.Common.{◌≡◌, ◌≢◌, ℕ, true, false, cond, List, Option, Some, None, refl, ap, ◌∙◌}
 use Rattle.std.specs.Prelude.{option_map}
 use Rattle.std.specs.FinMap as map
 use Rattle.std.specs.FinMap.{FinMap}
+use Rattle.std.proofs.lemmas.Bool.{false_from_ne_true}
 use Rattle.grain_id.specs.Names.{Grain, grain_cmp, same_text}
 use Rattle.silo_event.specs.Owner.{owner_of}
 use Rattle.silo_event.specs.declared.step.Step.{Step}
 use Rattle.grain_kinds.specs.Logic.{Logic}
 use Rattle.silo_model.specs.Effect.{Effect, context_at}
 use Rattle.silo_model.specs.Step.{grain_of, effect_of}
+pub use Rattle.std.proofs.lemmas.Bool.{false_from_ne_true as not_true}
 pub use Rattle.silo_model.specs.Contexts.{active_of, context_of}
 use Rattle.silo_model.specs.Whole.{Whole, is_of, shown_to, spread, whole_owned_step, whole_step_by, whole_step}
 use Rattle.grain_id.proofs.Order.{same_text_decides}
 use Rattle.grain_id.proofs.ByGrain.{get-part}
 
-pub not_true : (b : Bool) → (b ≡ true → ⊥) → b ≡ false
-not_true true h = absurd (h refl)
-not_true false h = refl
-
 pub same_text-itself : (t : List ℕ) → same_text t t ≡ true
 same_text-itself t = (same_text_decides t t).1 refl
 
 pub same_text-apart : (s t : List ℕ) → s ≢ t → same_text s t ≡ false
-same_text-apart s t apart = not_true (same_text s t) (λ e. apart ((same_text_decides s t).0 e))
+same_text-apart s t apart = false_from_ne_true (same_text s t) (λ e. apart ((same_text_decides s t).0 e))
 
 -- the tenant's part has at its own grain what the whole has
 pub get-own : {X : Type 0} (m : FinMap grain_cmp X) (tenant : List ℕ) (g : Grain) → g.tenant ≡ tenant → map.get (map.retain_keys m (is_of tenant)) g ≡ map.get m g

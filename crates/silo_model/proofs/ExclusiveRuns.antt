@@ -1,9 +1,9 @@
 -- Along every list of answered steps the turns that are open are among those of the whole's entries, and so a turn that may write is alone.
 use Rattle.std.proofs.Common.{◌≡◌, ◌≢◌, ℕ, ◌==◌, Bool, true, false, cond, List, [], ◌∷◌, ◌++◌, Option, Some, None, unwrap_or, refl, ap, sym, ◌∙◌, subst, true≢false}
-use Rattle.std.specs.Prelude.{◌&&◌, ◌||◌, not, filter}
+use Rattle.std.specs.Prelude.{◌&&◌, not, filter}
 use Rattle.std.specs.List.{list_any}
 use Rattle.std.specs.FinMap as map
-use Rattle.std.proofs.lemmas.Bool.{eq-eqb}
+use Rattle.std.proofs.lemmas.Bool.{eq-eqb, or_from}
 use Rattle.grain_id.specs.Names.{Grain, grain_eq}
 use Rattle.grain_id.proofs.Order.{grain_eq_decides}
 use Rattle.silo_event.specs.Failed.{as_failed, marked_step}
@@ -88,14 +88,10 @@ not_same logic t u writes both = by_test (grain_eq u.grain t.grain) refl
     by_test true same = absurd (true≢false (sym (both ((grain_eq_decides u.grain t.grain).0 same)) ∙ writes))
     by_test false same = refl
 
-neither : (a b : Bool) → a ≡ false → b ≡ false → (a || b) ≡ false
-neither true b p q = absurd (true≢false p)
-neither false b p q = q
-
 -- none of the turns beside one that may write is of its grain
 none_beside : (logic : Logic) (t : OpenTurn) (after : List OpenTurn) → MayBeWith logic t after → reads logic t.grain t.request ≡ false → list_any (λ u. grain_eq u.grain t.grain) after ≡ false
 none_beside logic t [] h writes = refl
-none_beside logic t (u ∷ after) h writes = neither (grain_eq u.grain t.grain) _ (not_same logic t u writes (λ same. (h.0 (sym same)).0)) (none_beside logic t after h.1 writes)
+none_beside logic t (u ∷ after) h writes = or_from (grain_eq u.grain t.grain) _ (not_same logic t u writes (λ same. (h.0 (sym same)).0)) (none_beside logic t after h.1 writes)
 
 with_that : (logic : Logic) (u t : OpenTurn) (before after : List OpenTurn) → MayBeWith logic u (before ++ t ∷ after) → MayBeTogether logic u t
 with_that logic u t [] after h = h.0
@@ -103,7 +99,7 @@ with_that logic u t (v ∷ before) after h = with_that logic u t before after h.
 
 writer_alone : (logic : Logic) (before after : List OpenTurn) (t : OpenTurn) → AreTogether logic (before ++ t ∷ after) → reads logic t.grain t.request ≡ false → list_any (λ u. grain_eq u.grain t.grain) (before ++ after) ≡ false
 writer_alone logic [] after t h writes = none_beside logic t after h.0 writes
-writer_alone logic (u ∷ before) after t h writes = neither (grain_eq u.grain t.grain) _ (not_same logic t u writes (λ same. (with_that logic u t before after h.0 same).1)) (writer_alone logic before after t h.1 writes)
+writer_alone logic (u ∷ before) after t h writes = or_from (grain_eq u.grain t.grain) _ (not_same logic t u writes (λ same. (with_that logic u t before after h.0 same).1)) (writer_alone logic before after t h.1 writes)
 
 writers_alone : (logic : Logic) (turns : List OpenTurn) → AreTogether logic turns → WritersAlone logic turns
 writers_alone logic turns h before after t is writes = writer_alone logic before after t (subst (AreTogether logic) is h) writes

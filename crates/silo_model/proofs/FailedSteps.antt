@@ -2,6 +2,7 @@
 use Rattle.std.proofs.Common.{◌≡◌, ℕ, Bool, true, List, Option, Some, None, is_some, refl, ap, sym, ◌∙◌, true≢false}
 use Rattle.std.specs.Prelude.{option_map, option_and_then}
 use Rattle.std.specs.FinMap as map
+use Rattle.finite_maps.proofs.Options.{is_some-option_map}
 use Rattle.grain_id.specs.Names.{Grain}
 use Rattle.silo_event.specs.Failed.{as_failed}
 use Rattle.silo_event.specs.declared.step.Step.{Step}
@@ -13,10 +14,6 @@ use Rattle.silo_model.specs.Turns.{plan_of, loaded, stored_by, stored}
 use Rattle.silo_model.specs.Step.{effect_of}
 use Rattle.silo_model.specs.Whole.{Whole, shown_to, spread, whole_step}
 use Rattle.silo_model.specs.Laws.{FailingIsPossible}
-
-is_some-map : {A B : Type 0} (f : A → B) (o : Option A) → is_some (option_map f o) ≡ is_some o
-is_some-map f None = refl
-is_some-map f (Some x) = refl
 
 is_some-and_then : {A B C : Type 0} (f : A → Option B) (g : A → Option C) (o : Option A) → ((x : A) → is_some (f x) ≡ is_some (g x)) → is_some (option_and_then f o) ≡ is_some (option_and_then g o)
 is_some-and_then f g None h = refl
@@ -32,10 +29,10 @@ stored_alike logic s g failed e request waiting = refl
 stored_alike logic s g failed e request loading = refl
 stored_alike logic s g failed e request (ready state version) =
     let asked = stored_by logic s g e request state version (plan_of logic g state request).storage in
-    is_some-map _ asked ∙ sym (is_some-map _ asked)
+    is_some-option_map _ asked ∙ sym (is_some-option_map _ asked)
 
 both_done : (w : Whole) (owner : List ℕ) (g : Grain) (r q : Option Effect) → is_some r ≡ is_some q → is_some (option_map (spread w owner (Some g)) r) ≡ is_some (option_map (spread w owner (Some g)) q)
-both_done w owner g r q same = is_some-map _ r ∙ same ∙ sym (is_some-map _ q)
+both_done w owner g r q same = is_some-option_map _ r ∙ same ∙ sym (is_some-option_map _ q)
 
 alike : (logic : Logic) (w : Whole) (s : Step) → is_some (whole_step logic w s) ≡ is_some (whole_step logic w (as_failed s))
 unfolding whole_step effect_of

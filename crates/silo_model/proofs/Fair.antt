@@ -9,13 +9,16 @@ use Rattle.std.specs.FinMap.{nat_cmp-IsAntisymmetric}
 use Rattle.std.proofs.lemmas.List.Sums.{sum_by-cons}
 use Rattle.std.proofs.lemmas.Option.{same_Some, none-some}
 use Rattle.std.proofs.lemmas.Bool.{eqb-true, eq-eqb}
+use Rattle.finite_maps.proofs.Totals.{at, total, total-insert, total-remove, total-len, total-none}
+use Rattle.finite_maps.proofs.Values.{found_passes}
+use Rattle.finite_maps.proofs.Maps.{entries-none, get-none}
+use Rattle.finite_maps.proofs.Options.{some_if_fails}
 use Rattle.grain_id.specs.Names.{Grain}
 use Rattle.grain_id.proofs.Order.{grain_cmp_total, grain_cmp_exact}
 use Rattle.grain_kinds.specs.Logic.{Logic}
 use Rattle.silo_model.specs.Machine.{Entry, Entries, Request, Phase}
 use Rattle.silo_model.specs.Turns.{reads, may_open}
 use Rattle.silo_model.specs.Idle.{is_ready}
-use Rattle.silo_model.proofs.Counts.{at, total, total-insert, total-remove, total-len, total-none, all_values, entries-none, get-none}
 use Rattle.silo_model.proofs.TurnMaps.{Turns}
 
 -- the weight of an entry's requests, and of all requests that wait or are open
@@ -46,10 +49,6 @@ pub record IsFair (logic : Logic) (count : ℕ) (entries : Entries) : Type 0 whe
 
 pub same_number : (k n : ℕ) → eq_by_cmp nat_cmp k n ≡ true → k ≡ n
 same_number k n tied = nat_cmp-IsAntisymmetric k n ((Equal-is (nat_cmp k n)).0 tied)
-
-pub taken : {A : Type 0} (b : Bool) (found : Option A) (x : A) → cond b None found ≡ Some x → (b ≡ false) × (found ≡ Some x)
-taken true found x e = absurd (none-some x e)
-taken false found x e = (refl, e)
 
 -- a turn less
 pub one_less : (f : Request → ℕ) (t : Turns) (n : ℕ) (q : Request) → map.get t n ≡ Some q → total f (map.remove t n) + f q ≡ total f t
@@ -104,7 +103,7 @@ closed_entry logic g e n last q phase fair found rest = record {
 }
   where
     was : (k : ℕ) (x : Request) → map.get (map.remove e.turns n) k ≡ Some x → (eq_by_cmp nat_cmp k n ≡ false) × (map.get e.turns k ≡ Some x)
-    was k x left = taken (eq_by_cmp nat_cmp k n) (map.get e.turns k) x (sym (map.get-remove nat_cmp_total e.turns n k) ∙ left)
+    was k x left = some_if_fails (eq_by_cmp nat_cmp k n) (map.get e.turns k) x (sym (map.get-remove nat_cmp_total e.turns n k) ∙ left)
 
 where_writes : (b : Bool) (x y : Bool) → (if b then x else y) ≡ true → b ≡ false → y ≡ true
 where_writes true x y e is = absurd (true≢false is)
@@ -131,7 +130,7 @@ module _ (logic : Logic) (g : Grain) (e : Entry) (first : Request) (may : may_op
   may_with n q found = by_kind (reads logic g first) refl
     where
       by_kind : (b : Bool) → reads logic g first ≡ b → (reads logic g first ≡ true) × (reads logic g q ≡ true)
-      by_kind true is = (is, all_values (reads logic g) e.turns n q found (where_reads (reads logic g first) (list_all (reads logic g) (map.values e.turns)) (map.len e.turns == 0) may is))
+      by_kind true is = (is, found_passes (reads logic g) e.turns n q found (where_reads (reads logic g first) (list_all (reads logic g) (map.values e.turns)) (map.len e.turns == 0) may is))
       by_kind false is = absurd (none-some q (sym (get-none e.turns n (none_open is)) ∙ found))
 
   -- the first that waits becomes a turn

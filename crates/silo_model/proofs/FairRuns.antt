@@ -3,10 +3,12 @@ use Rattle.std.proofs.Common.{◌≡◌, ℕ, ◌+◌, ◌≤◌, Bool, true, fa
 use Rattle.std.specs.Prelude.{nat_eq, sum_by, map as map_list}
 use Rattle.std.specs.List.{AllByRecursion, IsDistinct}
 use Rattle.std.specs.FinMap as map
-use Rattle.std.proofs.lemmas.Bool.{eqb-true, eq-eqb}
+use Rattle.std.proofs.lemmas.Bool.{eqb-true, eq-eqb, false_from_ne_true}
 use Rattle.std.proofs.lemmas.List.Sums.{sum_by-cons, sum_by-append}
 use Rattle.std.proofs.lemmas.Map.Keys.{IsDistinct-cons}
 use Rattle.std.proofs.lemmas.Option.{none-some}
+use Rattle.finite_maps.proofs.Totals.{at, total-none}
+use Rattle.finite_maps.proofs.Sums.{sum_alike, sum_flat, sum_map}
 use Rattle.grain_id.specs.Names.{Client, grain_cmp}
 use Rattle.silo_event.specs.Asker.{asking_of}
 use Rattle.silo_event.specs.declared.reply.Party.{Party}
@@ -21,9 +23,7 @@ use Rattle.silo_model.specs.Run.{machine_run, restricted_to}
 use Rattle.silo_model.specs.Opening.{Setup, start_of}
 use Rattle.silo_model.specs.Settled.{asks, is_client_with, pending_at, all_pending, Settled, RunsSettle}
 use Rattle.silo_model.proofs.Opening.{replay_is_run}
-use Rattle.silo_model.proofs.Contexts.{not_true}
 use Rattle.silo_model.proofs.Runs.{machine_after}
-use Rattle.silo_model.proofs.Counts.{at, total-none, sum_alike, sum_flat, sum_map}
 use Rattle.silo_model.proofs.Fair.{held, pend, one_if, numbered}
 use Rattle.silo_model.proofs.Moves.{replied, sent, Quiet, asked_by}
 use Rattle.silo_model.proofs.StepMoves.{IsFairMachine, machine_moves}
@@ -99,7 +99,7 @@ pending_weight f m = sum_flat f pending_at (map.values m.entries) ∙ sum_alike 
 uncounted : (x : ℕ) (xs : List ℕ) → sum_by (λ y. one_if (nat_eq y x)) xs ≡ 0 → AllByRecursion (λ y. nat_eq x y ≡ false) xs
 uncounted x [] e = tt
 uncounted x (y ∷ ys) e = (
-  not_true (nat_eq x y) (λ same. heavy (nat_eq y x) (eq-eqb y x (sym (eqb-true x y same))) (sym (sum_by-cons (λ z. one_if (nat_eq z x)) y ys) ∙ e)),
+  false_from_ne_true (nat_eq x y) (λ same. heavy (nat_eq y x) (eq-eqb y x (sym (eqb-true x y same))) (sym (sum_by-cons (λ z. one_if (nat_eq z x)) y ys) ∙ e)),
   uncounted x ys (rest (one_if (nat_eq y x)) (sym (sum_by-cons (λ z. one_if (nat_eq z x)) y ys) ∙ e)),
 )
   where

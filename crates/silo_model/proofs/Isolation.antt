@@ -6,6 +6,8 @@ use Rattle.std.specs.FinMap as map
 use Rattle.std.proofs.lemmas.List.{append-nil}
 use Rattle.std.proofs.lemmas.List.Elements.{filter-append}
 use Rattle.std.proofs.lemmas.Option.{same_Some, none-some}
+use Rattle.std.proofs.lemmas.Bool.{false_from_ne_true}
+use Rattle.finite_maps.proofs.Options.{none_from_option_map}
 use Rattle.grain_id.specs.Names.{Grain, text_cmp}
 use Rattle.silo_event.specs.Owner.{owner_of, tenant_of}
 use Rattle.silo_event.specs.declared.reply.Reply.{Reply}
@@ -19,7 +21,7 @@ use Rattle.silo_model.specs.Whole.{Whole, is_of, is_to, shown_to, spread, whole_
 use Rattle.grain_id.proofs.Order.{eq_by_cmp-Decides, same_text_decides, text_cmp_total, text_cmp_exact, grain_cmp_total, grain_cmp_exact}
 use Rattle.grain_id.proofs.ByGrain.{get-part}
 use Rattle.silo_model.proofs.Changes.{WhereChanged, WhereChanged-map, OfPut, OfPutAt, TestsAt, get-change_same, get-change_other, part-changed_in, part-changed_out, changed_all}
-use Rattle.silo_model.proofs.Contexts.{same_text-apart, not_true, shown_account, step_by_context}
+use Rattle.silo_model.proofs.Contexts.{same_text-apart, shown_account, step_by_context}
 use Rattle.silo_model.proofs.SharedSteps.{shared_shown, shared_not, shared_sound}
 use Rattle.silo_model.proofs.Sound.{IsEntryOf, IsSound}
 use Rattle.silo_model.proofs.EffectKinds.{role_of, owner_is, Does, effect_kind}
@@ -71,7 +73,7 @@ module _ (w : Whole) (owner : List ℕ) (grain : Option Grain) (e : Effect) (pro
   unfolding shown_to spread
   spread_other tenant apart =
       let other = as_apart owner tenant grain apart in
-      let another_key = not_true (eq_by_cmp text_cmp tenant owner) (λ tied. apart ((eq_by_cmp-Decides text_cmp_total text_cmp_exact tenant owner).0 tied)) in
+      let another_key = false_from_ne_true (eq_by_cmp text_cmp tenant owner) (λ tied. apart ((eq_by_cmp-Decides text_cmp_total text_cmp_exact tenant owner).0 tied)) in
       λ i. record {
         tenant = tenant;
         account = get-change_other text_cmp_total text_cmp_exact w.accounts owner tenant e.account another_key i;
@@ -142,14 +144,10 @@ others_parts logic w after s owner tenant sound is apart h =
     let d = did logic w after s owner is h in
     sym (ap (shown_to tenant) d.leaves) ∙ spread_other w owner (place_in w owner s) d.what (did_proper logic w after s owner is sound d) tenant apart
 
-none_inside : {A B : Type 0} (f : A → B) (o : Option A) → option_map f o ≡ None → o ≡ None
-none_inside f None e = refl
-none_inside f (Some x) e = absurd (none-some (f x) (sym e))
-
 pub owner_not_now : (logic : Logic) (w : Whole) (s : Step) (owner : List ℕ) → owner_of s ≡ Some owner → whole_step logic w s ≡ None → machine_step logic (shown_to owner w) s ≡ None
 owner_not_now logic w s owner is h =
     let place = place_in w owner s in
-    let none = none_inside (spread w owner place) (effect_of logic (context_at (shown_to owner w) place) s) (sym (step_by_context logic w s owner place _ is refl refl) ∙ h) in
+    let none = none_from_option_map (spread w owner place) (effect_of logic (context_at (shown_to owner w) place) s) (sym (step_by_context logic w s owner place _ is refl refl) ∙ h) in
     machine_step_by logic (shown_to owner w) s owner place None is (place_shown w owner s) none
 
 -- ---- a step of nobody

@@ -3,6 +3,7 @@ use Rattle.std.proofs.Common.{◌≡◌, ◌≢◌, ℕ, Bool, true, false, cond
 use Rattle.std.specs.Prelude.{option_and_then}
 use Rattle.std.proofs.lemmas.List.{append-nil}
 use Rattle.std.proofs.lemmas.Option.{same_Some, none-some}
+use Rattle.finite_maps.proofs.Options.{some_from_and_then}
 use Rattle.silo_event.specs.Owner.{owner_of}
 use Rattle.silo_event.specs.declared.reply.Reply.{Reply}
 use Rattle.silo_event.specs.declared.step.Step.{Step}
@@ -15,7 +16,6 @@ use Rattle.silo_model.specs.Run.{whole_run, concerns, restricted_to}
 use Rattle.silo_model.specs.Opening.{Setup, opening}
 use Rattle.silo_model.specs.Journal.{machine_all_done, all_done, LeadsTo}
 use Rattle.silo_model.specs.Laws.{OwnPart, OtherParts, NotNow, RunsOn, JournalsReplay, JournalsGrow, PartsLead}
-use Rattle.silo_model.proofs.Changes.{bound}
 use Rattle.silo_model.proofs.Sound.{IsSound}
 use Rattle.silo_model.proofs.Proper.{AllTo}
 use Rattle.silo_model.proofs.SharedSteps.{shared_leaves}
@@ -28,19 +28,19 @@ use Rattle.silo_model.proofs.Opening.{opening_sound, opening_shown}
 all_done_sound : (logic : Logic) (w after : Whole) (steps : List Step) → IsSound w → all_done logic w steps ≡ Some after → IsSound after
 all_done_sound logic w after [] sound e = subst IsSound (same_Some w after e) sound
 all_done_sound logic w after (s ∷ steps) sound e =
-    let next = bound (λ x. all_done logic x steps) (whole_step logic w s) after e in
+    let next = some_from_and_then (λ x. all_done logic x steps) (whole_step logic w s) after e in
     all_done_sound logic next.0 after steps (isolation.step_sound logic w next.0 s sound next.1) next.2
 
 all_done_run : (logic : Logic) (w after : Whole) (steps : List Step) → all_done logic w steps ≡ Some after → whole_run logic w steps ≡ after
 all_done_run logic w after [] e = same_Some w after e
 all_done_run logic w after (s ∷ steps) e =
-    let next = bound (λ x. all_done logic x steps) (whole_step logic w s) after e in
+    let next = some_from_and_then (λ x. all_done logic x steps) (whole_step logic w s) after e in
     ap (λ o. whole_run logic (unwrap_or o w) steps) next.1 ∙ all_done_run logic next.0 after steps next.2
 
 all_done_grown : (logic : Logic) (first w after : Whole) (journal : List Step) (s : Step) → all_done logic first journal ≡ Some w → whole_step logic w s ≡ Some after → all_done logic first (journal ++ s ∷ []) ≡ Some after
 all_done_grown logic first w after [] s e step = ap (λ x. option_and_then (λ y. Some y) (whole_step logic x s)) (same_Some first w e) ∙ ap (option_and_then (λ y. Some y)) step
 all_done_grown logic first w after (r ∷ journal) s e step =
-    let next = bound (λ x. all_done logic x journal) (whole_step logic first r) w e in
+    let next = some_from_and_then (λ x. all_done logic x journal) (whole_step logic first r) w e in
     ap (option_and_then (λ y. all_done logic y (journal ++ s ∷ []))) next.1 ∙ all_done_grown logic next.0 w after journal s next.2 step
 
 -- ---- from the opening
@@ -83,7 +83,7 @@ runs_on logic setup journal w tenant steps leads = run_shown logic tenant steps 
 struck_done : (logic : Logic) (tenant : List ℕ) (w after : Whole) (steps : List Step) → IsSound w → all_done logic w steps ≡ Some after → machine_all_done logic (shown_to tenant w) (restricted_to tenant steps) ≡ Some (shown_to tenant after)
 struck_done logic tenant w after [] sound e = ap (λ (x : Whole). Some (shown_to tenant x)) (same_Some w after e)
 struck_done logic tenant w after (s ∷ steps) sound e =
-    let next = bound (λ x. all_done logic x steps) (whole_step logic w s) after e in
+    let next = some_from_and_then (λ x. all_done logic x steps) (whole_step logic w s) after e in
     by_concern (concerns tenant s) refl next.0 next.1 (struck_done logic tenant next.0 after steps (isolation.step_sound logic w next.0 s sound next.1) next.2)
   where
     by_concern : (b : Bool) → concerns tenant s ≡ b → (next : Whole) → whole_step logic w s ≡ Some next → machine_all_done logic (shown_to tenant next) (restricted_to tenant steps) ≡ Some (shown_to tenant after)

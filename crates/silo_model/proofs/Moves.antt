@@ -4,7 +4,8 @@ use Rattle.std.specs.Prelude.{◌⊎◌, Result, Err, flat_map, sum_by}
 use Rattle.std.specs.Ordering.{nat_cmp, eq_by_cmp}
 use Rattle.std.specs.Cmp.{nat_cmp_total}
 use Rattle.std.specs.FinMap.{nat_cmp-IsAntisymmetric}
-use Rattle.grain_id.proofs.Maps.{get-insert_same}
+use Rattle.finite_maps.proofs.Totals.{at, total, total-none}
+use Rattle.finite_maps.proofs.Maps.{get-none, get-insert_same}
 use Rattle.std.specs.FinMap as map
 use Rattle.std.proofs.lemmas.List.Sums.{sum_by-cons, sum_by-append, sum_by_push}
 use Rattle.std.proofs.lemmas.Option.{none-some}
@@ -26,7 +27,6 @@ use Rattle.silo_model.specs.Calls.{reply_to, told, with_request, accepted}
 use Rattle.silo_model.specs.Turns.{unloaded, reads, may_open, with_sends}
 use Rattle.silo_model.specs.Idle.{is_ready}
 use Rattle.silo_model.specs.Exclusive.{turn_of_first, first_waiting}
-use Rattle.silo_model.proofs.Counts.{at, total, total-none, get-none}
 use Rattle.silo_model.proofs.Changes.{OfPut}
 use Rattle.silo_model.proofs.TurnMaps.{Turns}
 use Rattle.silo_model.proofs.EffectKinds.{Role, asks, enters, begins, ends, role_of, Remains, untouched, without, Stores, IsLeft, stays, goes, Does, tells, pokes, accepts, goes_on, unloads, opens, closes}
@@ -144,7 +144,7 @@ told_moves logic grain s p left row outcome same = record {
   turns = λ n q found. found;
 }
 
-remains_count : {o : Option Account} {c : Change Account} → Remains o c → count_of (change_option o c) ≡ count_of o
+pub remains_count : {o : Option Account} {c : Change Account} → Remains o c → count_of (change_option o c) ≡ count_of o
 remains_count untouched = refl
 remains_count (without a g found is first) = ap count_of (sym is)
 
@@ -309,7 +309,7 @@ module _ (logic : Logic) (s : Context) (g : Grain) (e : Entry) (is : s.entry ≡
           turns = λ n q apart found. absurd (none-some q (sym (get-none left_turns n none) ∙ others_stay n q apart found));
         }
 
-count-with_sends : (g : Grain) (account : Option Account) (sends : List Outgoing)
+pub count-with_sends : (g : Grain) (account : Option Account) (sends : List Outgoing)
     → count_of (change_option account (with_sends g account sends)) ≡ count_of account
 count-with_sends g account [] = refl
 count-with_sends g None (o ∷ os) = refl

@@ -5,6 +5,7 @@ use Rattle.std.specs.Ordering.{nat_cmp, eq_by_cmp}
 use Rattle.std.specs.Cmp.{nat_cmp_total}
 use Rattle.std.specs.FinMap as map
 use Rattle.std.proofs.lemmas.Option.{same_Some, none-some}
+use Rattle.finite_maps.proofs.Options.{some_from_and_then}
 use Rattle.grain_id.specs.Names.{Grain, grain_cmp}
 use Rattle.grain_id.proofs.Order.{grain_cmp_total, grain_cmp_exact}
 use Rattle.silo_event.specs.Owner.{owner_of}
@@ -21,9 +22,9 @@ use Rattle.silo_model.specs.Run.{restricted_to}
 use Rattle.silo_model.specs.Opening.{Setup, start_of}
 use Rattle.silo_model.specs.Journal.{machine_all_done}
 use Rattle.silo_model.specs.Order.{AllBehind, Ascend, BeginInOrder}
-use Rattle.silo_model.proofs.Changes.{bound, OfPutAt, changed_all}
+use Rattle.silo_model.proofs.Changes.{OfPutAt, changed_all}
 use Rattle.silo_model.proofs.EffectKinds.{Role, role_of, Does, tells, pokes, accepts, goes_on, unloads, opens, closes, Remains, untouched, without, IsLeft, stays, goes, effect_kind}
-use Rattle.silo_model.proofs.Moves.{count_of}
+use Rattle.silo_model.proofs.Moves.{count_of, count-with_sends, remains_count}
 use Rattle.silo_model.proofs.Journals.{parts_lead}
 use Rattle.silo_model.proofs.QuietCounts.{shown_entry}
 use Rattle.silo_model.proofs.SharedSteps.{get-kept_there}
@@ -115,15 +116,6 @@ module _ (count : ℕ) (e : Entry) (first : Request) (others : List Request) (wa
 
 -- ---- what a step does
 
-of_account : (o : Option Account) (c : Change Account) → Remains o c → count_of (change_option o c) ≡ count_of o
-of_account o keep untouched = refl
-of_account o _ (without a g found is first) = ap count_of (sym is)
-
-of_sends : (g : Grain) (o : Option Account) (sends : List Outgoing) → count_of (change_option o (with_sends g o sends)) ≡ count_of o
-of_sends g o [] = refl
-of_sends g None (m ∷ sends) = refl
-of_sends g (Some a) (m ∷ sends) = refl
-
 -- Nothing that was accepted is forgotten, and the entry that is put is in order.
 pub record Orders (s : Context) (grain : Option Grain) (e : Effect) : Type 0 where
   pub counts : count_of s.account ≤ count_of (change_option s.account e.account)
@@ -138,13 +130,13 @@ module _ (logic : Logic) (s : Context) (step : Step) (old : (x : Entry) → s.en
   by_left g e request _ after is same (goes none stores) = tt
 
   by_kind : (role : Role) (grain : Option Grain) (e : Effect) → Does logic s step role grain e → Orders s grain e
-  by_kind _ _ _ (tells p grain left outcome remains) = record { counts = omega (arith, of_account s.account left remains); left = nothing_put grain }
+  by_kind _ _ _ (tells p grain left outcome remains) = record { counts = omega (arith, remains_count remains); left = nothing_put grain }
     where
       nothing_put : (grain : Option Grain) → OfPutAt (λ (g : Grain). IsOrdered (count_of (change_option s.account left))) grain keep
       nothing_put grain = tt
   by_kind _ _ _ (pokes p g row outcome own touches) = record { counts = omega arith; left = tt }
   by_kind _ _ _ (accepts p g call left a own remains is) =
-      let same : a.count ≡ count_of s.account = ap count_of (sym is) ∙ of_account s.account left remains in
+      let same : a.count ≡ count_of s.account = ap count_of (sym is) ∙ remains_count remains in
       record {
         counts = omega (arith, same);
         left = asked s.clock a.count _ s.entry refl (λ x found. subst (λ n. IsOrdered n x) (sym same) (old x found));
@@ -155,7 +147,7 @@ module _ (logic : Logic) (s : Context) (step : Step) (old : (x : Entry) → s.en
   by_kind _ _ _ (unloads g e is unready) = record { counts = omega arith; left = tt }
   by_kind _ _ _ (opens g e first others is ready waits may) = record { counts = omega arith; left = begun (count_of s.account) e first others waits (old e is) }
   by_kind _ _ _ (closes g turn e request left sends row outcome is open_turn is_left own touches) =
-      let same = of_sends g s.account sends in
+      let same = count-with_sends g s.account sends in
       record { counts = omega (arith, same); left = by_left g e request left _ (old e is) same is_left }
 
 -- ---- the machine
@@ -207,7 +199,7 @@ all_ordered : (logic : Logic) (m after : Machine) (steps : List Step) → IsOrde
     → machine_all_done logic m steps ≡ Some after → IsOrderedMachine after
 all_ordered logic m after [] ordered e = subst IsOrderedMachine (same_Some m after e) ordered
 all_ordered logic m after (s ∷ steps) ordered e =
-    let next = bound (λ x. machine_all_done logic x steps) (machine_step logic m s) after e in
+    let next = some_from_and_then (λ x. machine_all_done logic x steps) (machine_step logic m s) after e in
     all_ordered logic next.0 after steps (stays_ordered logic m next.0 s ordered next.1) next.2
 
 starts_ordered : (setup : Setup) (tenant : List ℕ) → IsOrderedMachine (start_of setup tenant)

@@ -1,10 +1,12 @@
 -- What a grain sent is in the account of its own tenant, and a step adds to it only what its own grain sends.
 use Rattle.std.proofs.Common.{◌≡◌, ℕ, Bool, true, false, List, [], ◌∷◌, Option, Some, None, refl, ap, sym, ◌∙◌, subst, true≢false}
-use Rattle.std.specs.Prelude.{◌||◌, is_some, option_map}
+use Rattle.std.specs.Prelude.{is_some, option_map}
 use Rattle.std.specs.Ordering.{eq_by_cmp}
 use Rattle.std.specs.Cmp.{Equal-is}
 use Rattle.std.specs.FinMap as map
 use Rattle.std.proofs.lemmas.Option.{same_Some}
+use Rattle.finite_maps.proofs.Options.{some_from_and_then, is_some-option_map}
+use Rattle.std.proofs.Math.Bool.{or-false}
 use Rattle.grain_id.specs.Names.{Grain, grain_eq, text_cmp}
 use Rattle.grain_id.proofs.Order.{grain_eq_decides, text_cmp_total, text_cmp_exact}
 use Rattle.tenant_gate.specs.declared.limits.Limits.{Limits}
@@ -21,17 +23,17 @@ use Rattle.silo_model.specs.Opening.{Setup, fresh_account, opening}
 use Rattle.silo_model.specs.Journal.{all_done}
 use Rattle.silo_model.specs.Pending.{sends_of}
 use Rattle.silo_model.specs.Todo.{delivery_of, is_among, sender_by, OwnSends, SendsAreOwn}
-use Rattle.silo_model.proofs.Changes.{bound, get-change_same, get-change_other}
+use Rattle.silo_model.proofs.Changes.{get-change_same, get-change_other}
 use Rattle.silo_model.proofs.Isolation.{Did, did, did_does, shared_by}
 use Rattle.silo_model.proofs.Opening.{get-fresh_accounts}
-use Rattle.silo_model.proofs.Sends.{has_sent, mapped, Less, does_less}
+use Rattle.silo_model.proofs.Sends.{has_sent, Less, does_less}
 use Rattle.silo_model.proofs.SharedSteps.{shared_leaves}
 
 -- ---- what is to be delivered
 
 pub delivers : (g : Grain) (account : Option Account) → is_some (delivery_of g account) ≡ has_sent g (sends_of account)
 delivers g None = refl
-delivers g (Some a) = mapped (λ found. Deliver g) (first_from g a.sends)
+delivers g (Some a) = is_some-option_map (λ found. Deliver g) (first_from g a.sends)
 
 module _ (logic : Logic) (w after : Whole) (s : Step) (step : whole_step logic w s ≡ Some after) (tenant : List ℕ) where
   -- the owner's account is changed, and another's stays
@@ -69,12 +71,8 @@ sends_stay logic w after s g tenant (Some owner) is step apart h = by_tenant (eq
 
 -- ---- whose account has it
 
-or_first : (b : Bool) → (b || false) ≡ true → b ≡ true
-or_first true h = refl
-or_first false h = h
-
 sender_owns : (s : Step) (g : Grain) → is_among (sender_by s) g ≡ true → owner_of s ≡ Some g.tenant
-sender_owns (End grain turn) g is = ap (λ (x : Grain). Some x.tenant) ((grain_eq_decides grain g).0 (or_first (grain_eq grain g) is))
+sender_owns (End grain turn) g is = ap (λ (x : Grain). Some x.tenant) ((grain_eq_decides grain g).0 (sym (or-false (grain_eq grain g)) ∙ is))
 sender_owns _ g is = absurd (true≢false (sym is))
 
 module _ (logic : Logic) (w after : Whole) (s : Step) (step : whole_step logic w s ≡ Some after) (own : OwnSends w) (tenant : List ℕ) (g : Grain) (some : is_some (delivery_of g (map.get after.accounts tenant)) ≡ true) where
@@ -102,7 +100,7 @@ own_at_opening setup tenant g some = absurd (true≢false (sym (none_there g (ma
 all_done_own : (logic : Logic) (w after : Whole) (steps : List Step) → OwnSends w → all_done logic w steps ≡ Some after → OwnSends after
 all_done_own logic w after [] own e = subst OwnSends (same_Some w after e) own
 all_done_own logic w after (s ∷ steps) own e =
-    let next = bound (λ x. all_done logic x steps) (whole_step logic w s) after e in
+    let next = some_from_and_then (λ x. all_done logic x steps) (whole_step logic w s) after e in
     all_done_own logic next.0 after steps (own_grow logic w next.0 s next.1 own) next.2
 
 pub sends_are_own : SendsAreOwn

@@ -4,6 +4,8 @@ use Rattle.std.proofs.lemmas.List.{nil_from_length}
 use Rattle.std.proofs.lemmas.List.Sums.{sum_by-append}
 use Rattle.std.proofs.lemmas.Option.{none-some}
 use Rattle.std.specs.FinMap as map
+use Rattle.finite_maps.proofs.Totals.{at, total, total-remove, total_alike}
+use Rattle.finite_maps.proofs.Sums.{sum_zero, sum_one, sum_alike}
 use Rattle.grain_id.specs.Names.{Grain}
 use Rattle.grain_id.proofs.Order.{grain_cmp_total, text_cmp_total, text_cmp_exact}
 use Rattle.grain_id.proofs.ByGrain.{get-part}
@@ -12,7 +14,6 @@ use Rattle.silo_model.specs.Whole.{Whole, is_of, shown_to}
 use Rattle.silo_model.specs.Settled.{pending_at, all_pending}
 use Rattle.silo_model.specs.Pending.{sends_of, AllQuiet, pending_in, sent_in, QuietByCounts}
 use Rattle.silo_model.proofs.Contexts.{get-own, shown_account}
-use Rattle.silo_model.proofs.Counts.{at, total, total-remove, total_alike, sum_zero, sum_one, sum_alike}
 use Rattle.silo_model.proofs.Fair.{held, pend, within_all}
 use Rattle.silo_model.proofs.FairRuns.{pending_weight}
 

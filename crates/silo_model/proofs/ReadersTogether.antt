@@ -7,17 +7,16 @@ use Rattle.std.specs.Cmp.{nat_cmp_total}
 use Rattle.std.specs.FinMap as map
 use Rattle.std.specs.FinMap.{nat_cmp-IsAntisymmetric}
 use Rattle.std.specs.FinMap.Entries.{put}
+use Rattle.finite_maps.proofs.Maps.{entries-none, get-insert_same}
+use Rattle.std.proofs.lemmas.Bool.{false_from_ne_true}
 use Rattle.grain_id.specs.Names.{Grain}
 use Rattle.grain_id.proofs.Order.{grain_cmp_total, grain_cmp_exact}
-use Rattle.grain_id.proofs.Maps.{get-insert_same}
 use Rattle.grain_kinds.specs.Logic.{Logic}
 use Rattle.silo_model.specs.Machine.{Entry, Request}
 use Rattle.silo_model.specs.Turns.{reads, may_open}
 use Rattle.silo_model.specs.Whole.{Whole}
 use Rattle.silo_model.specs.Readers.{ReadersTogether}
-use Rattle.silo_model.proofs.Counts.{entries-none}
 use Rattle.silo_model.proofs.Fair.{same_number, may_open_alone}
-use Rattle.silo_model.proofs.Contexts.{not_true}
 use Rattle.silo_model.proofs.TurnMaps.{Turns}
 use Rattle.silo_model.proofs.EntrySteps.{begin_first}
 
@@ -39,7 +38,7 @@ module _ (logic : Logic) (grain : Grain) where
 open_beside : (turns : Turns) (first second : Request) → first.number ≢ second.number → map.get (map.insert (map.insert turns first.number first) second.number second) first.number ≡ Some first
 open_beside turns first second apart =
     map.get-insert nat_cmp_total (map.insert turns first.number first) second.number second first.number
-    ∙ ap (λ b. cond b (Some second) (map.get (map.insert turns first.number first) first.number)) (not_true (eq_by_cmp nat_cmp first.number second.number) (λ tied. apart (same_number first.number second.number tied)))
+    ∙ ap (λ b. cond b (Some second) (map.get (map.insert turns first.number first) first.number)) (false_from_ne_true (eq_by_cmp nat_cmp first.number second.number) (λ tied. apart (same_number first.number second.number tied)))
     ∙ get-insert_same nat_cmp_total nat_cmp-IsAntisymmetric turns first.number first
 
 pub readers_together : ReadersTogether

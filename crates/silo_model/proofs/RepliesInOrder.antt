@@ -1,9 +1,8 @@
 -- The replies of all tenants, step by step.
-use Rattle.std.proofs.Common.{◌≡◌, ℕ, true, List, [], ◌∷◌, ◌++◌, length, drop, Option, Some, None, unwrap_or, refl, ap, sym, ◌∙◌, subst, append_assoc}
-use Rattle.std.proofs.lemmas.List.{append-nil}
+use Rattle.std.proofs.Common.{◌≡◌, ℕ, true, List, [], ◌∷◌, ◌++◌, length, drop, Option, Some, None, unwrap_or, refl, ap, sym, ◌∙◌, subst, append_assoc, arith}
+use Rattle.std.proofs.lemmas.List.{append-nil, drop_all}
 use Rattle.std.proofs.Math.Seq.{drop-append_seam}
 use Rattle.silo_event.specs.Owner.{owner_of}
-use Rattle.silo_event.specs.declared.reply.Reply.{Reply}
 use Rattle.silo_event.specs.declared.step.Step.{Step}
 use Rattle.grain_kinds.specs.Logic.{Logic}
 use Rattle.silo_model.specs.Machine.{Machine}
@@ -19,9 +18,6 @@ use Rattle.silo_model.proofs.Isolation.{shared_by, owners_part, not_now}
 use Rattle.silo_model.proofs.Runs.{whole_after, whole_run-append, run_sound}
 use Rattle.silo_model.proofs.Opening.{opening_sound, replay_is_run}
 use Rattle.silo_model.proofs.Journals.{adds_owned, journals_replay}
-
-nothing_added : (rs : List Reply) → drop (length rs) rs ≡ []
-nothing_added rs = ap (drop (length rs)) (sym (append-nil rs)) ∙ drop-append_seam rs []
 
 module _ (logic : Logic) (w : Whole) (sound : IsSound w) (s : Step) where
   -- what the owner's machine adds, by what the step does
@@ -41,7 +37,7 @@ module _ (logic : Logic) (w : Whole) (sound : IsSound w) (s : Step) where
 
     adds_nothing : whole_step logic w s ≡ None → w.replies ≡ w.replies ++ replies_added logic (shown_to owner w) s
     adds_nothing none =
-        let added = machine_adds owner None (not_now logic w s owner (owner_concerned owner is) none) ∙ nothing_added (shown_to owner w).replies in
+        let added = machine_adds owner None (not_now logic w s owner (owner_concerned owner is) none) ∙ drop_all (length (shown_to owner w).replies) (shown_to owner w).replies (omega arith) in
         sym (append-nil w.replies) ∙ ap (λ rs. w.replies ++ rs) (sym added)
 
     -- the replies after one step are those before it, and then what its owner's machine adds

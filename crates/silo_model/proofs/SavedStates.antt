@@ -4,11 +4,12 @@ use Rattle.std.specs.Prelude.{◌⊎◌, Ok, Err, if◌then◌else◌}
 use Rattle.std.specs.List.{list_any}
 use Rattle.std.specs.Ordering.{eq_by_cmp}
 use Rattle.std.specs.FinMap as map
-use Rattle.std.proofs.lemmas.Bool.{or_parts}
+use Rattle.std.proofs.lemmas.Bool.{or_parts, false_from_ne_true}
 use Rattle.std.proofs.lemmas.Option.{same_Some}
+use Rattle.finite_maps.proofs.Options.{some_from_and_then}
+use Rattle.finite_maps.proofs.Maps.{get-insert_same}
 use Rattle.grain_id.specs.Names.{Grain, grain_cmp, grain_eq}
 use Rattle.grain_id.proofs.Order.{eq_by_cmp-Decides, grain_cmp_total, grain_cmp_exact, grain_eq_decides}
-use Rattle.grain_id.proofs.Maps.{get-insert_same}
 use Rattle.request_codec.specs.Tree.{Tree}
 use Rattle.grain_storage.specs.declared.row.Row.{Row}
 use Rattle.grain_storage.specs.Rows.{Rows, stale, spent, next_version, version_of, content_or, is_stale, is_spent, changed}
@@ -23,8 +24,7 @@ use Rattle.silo_model.specs.Turns.{closed, row_changed, stored_by}
 use Rattle.silo_model.specs.Whole.{Whole, shown_to, spread, whole_step}
 use Rattle.silo_model.specs.Journal.{all_done}
 use Rattle.silo_model.specs.Saved.{IsSaving, touches_row, SavedComesBack}
-use Rattle.silo_model.proofs.Contexts.{not_true}
-use Rattle.silo_model.proofs.Changes.{bound, get-change_other}
+use Rattle.silo_model.proofs.Changes.{get-change_other}
 use Rattle.silo_model.proofs.EffectKinds.{Role, Touches, Does, pokes, closes}
 use Rattle.silo_model.proofs.SharedSteps.{shared_leaves}
 use Rattle.silo_model.proofs.Isolation.{place_in, did, did_does, shared_by}
@@ -51,7 +51,7 @@ does_miss logic s step g apart _ = inl refl
 -- ---- rows of the whole
 
 another_key : (g q : Grain) → grain_eq q g ≡ false → eq_by_cmp grain_cmp g q ≡ false
-another_key g q apart = not_true (eq_by_cmp grain_cmp g q)
+another_key g q apart = false_from_ne_true (eq_by_cmp grain_cmp g q)
     (λ tied. true≢false (sym ((grain_eq_decides q g).1 (sym ((eq_by_cmp-Decides grain_cmp_total grain_cmp_exact g q).0 tied))) ∙ apart))
 
 missed_at : (rows : Rows) (grain : Option Grain) (g : Grain) (e : Effect) → Misses grain g e
@@ -79,7 +79,7 @@ row_stays logic w after s g step apart = row_stays_by logic w after s g (owner_o
 rows_stay : (logic : Logic) (w after : Whole) (steps : List Step) (g : Grain) → all_done logic w steps ≡ Some after → list_any (touches_row g) steps ≡ false → map.get after.rows g ≡ map.get w.rows g
 rows_stay logic w after [] g e apart = ap (λ (x : Whole). map.get x.rows g) (sym (same_Some w after e))
 rows_stay logic w after (s ∷ steps) g e apart =
-    let next = bound (λ x. all_done logic x steps) (whole_step logic w s) after e in
+    let next = some_from_and_then (λ x. all_done logic x steps) (whole_step logic w s) after e in
     let tests = or_parts (touches_row g s) (list_any (touches_row g) steps) apart in
     rows_stay logic next.0 after steps g next.2 tests.1 ∙ row_stays logic w next.0 s g next.1 tests.0
 

@@ -3,6 +3,7 @@ use Rattle.std.proofs.Common.{◌≡◌, Bool, true, false, cond, List, [], ◌�
 use Rattle.std.specs.Prelude.{◌⊎◌, ◌||◌, option_map, is_some, map as map_list}
 use Rattle.std.proofs.lemmas.Option.{same_Some, none-some}
 use Rattle.std.proofs.lemmas.Bool.{or_parts, or_right}
+use Rattle.finite_maps.proofs.Options.{is_some-option_map}
 use Rattle.grain_id.specs.Names.{Grain, grain_eq}
 use Rattle.silo_event.specs.declared.step.Step.{Step}
 use Rattle.grain_kinds.specs.Logic.{Logic, Outgoing}
@@ -19,16 +20,12 @@ has_sent g sends = is_some (first_from g sends)
 
 -- ---- lists of sends
 
-pub mapped : {A B : Type 0} (f : A → B) (o : Option A) → is_some (option_map f o) ≡ is_some o
-mapped f None = refl
-mapped f (Some x) = refl
-
 has-cons : (g : Grain) (sent : Send) (sends : List Send) → has_sent g (sent ∷ sends) ≡ (grain_eq sent.source g || has_sent g sends)
 has-cons g sent sends = by_first (grain_eq sent.source g)
   where
     by_first : (b : Bool) → is_some {T = Send × List Send} (cond b (Some (sent, sends)) (option_map (λ (f : Send × List Send). (f.0, sent ∷ f.1)) (first_from g sends))) ≡ (b || has_sent g sends)
     by_first true = refl
-    by_first false = mapped (λ (f : Send × List Send). (f.0, sent ∷ f.1)) (first_from g sends)
+    by_first false = is_some-option_map (λ (f : Send × List Send). (f.0, sent ∷ f.1)) (first_from g sends)
 
 or_instead : (a b c : Bool) → (b ≡ true → c ≡ true) → (a || b) ≡ true → (a || c) ≡ true
 or_instead true b c h e = refl

@@ -5,9 +5,9 @@ use Rattle.std.specs.List.{list_any}
 use Rattle.std.specs.Ordering.{eq_by_cmp}
 use Rattle.std.specs.FinMap as map
 use Rattle.std.proofs.lemmas.Bool.{or_parts}
+use Rattle.finite_maps.proofs.Maps.{get-insert_same, get-insert_other}
 use Rattle.grain_id.specs.Names.{Grain, grain_cmp, grain_eq}
 use Rattle.grain_id.proofs.Order.{eq_by_cmp-Decides, grain_cmp_total, grain_cmp_exact, grain_eq_decides, text_cmp_total, text_cmp_exact}
-use Rattle.grain_id.proofs.Maps.{get-insert_same, get-insert_other}
 use Rattle.silo_event.specs.declared.reply.Party.TheVariants as party
 use Rattle.silo_event.specs.declared.step.Step.TheVariants.{Deliver, End}
 use Rattle.grain_kinds.specs.Logic.{Logic, Plan, Outgoing}

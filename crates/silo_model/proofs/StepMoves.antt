@@ -6,6 +6,7 @@ use Rattle.std.proofs.lemmas.List.{append-nil, nil_from_length}
 use Rattle.std.proofs.lemmas.List.Sums.{sum_by-append}
 use Rattle.std.proofs.lemmas.Option.{same_Some, none-some}
 use Rattle.std.proofs.lemmas.Bool.{eqb-true}
+use Rattle.finite_maps.proofs.Totals.{at, total, total-insert, total-remove, total-retain_keys, total-none}
 use Rattle.grain_id.specs.Names.{Grain}
 use Rattle.grain_id.proofs.Order.{grain_cmp_total, grain_cmp_exact}
 use Rattle.silo_event.specs.Owner.{owner_of}
@@ -20,7 +21,6 @@ use Rattle.silo_model.specs.Effect.{Effect, Change, keep, put, drop, change_opti
 use Rattle.silo_model.specs.Idle.{is_ready, is_kept, kept_entries}
 use Rattle.silo_model.specs.Step.{grain_of, effect_of, shared_step, step_by, machine_step}
 use Rattle.silo_model.proofs.Changes.{OfPut, OfPutAt, changed_all}
-use Rattle.silo_model.proofs.Counts.{at, total, total-insert, total-remove, total-retain_keys, total-none}
 use Rattle.silo_model.proofs.Fair.{held, pend, one_if, numbered, IsFairEntry, IsFair, front_is_new}
 use Rattle.silo_model.proofs.EffectKinds.{role_of, effect_kind}
 use Rattle.silo_model.proofs.Moves.{replied, sent, Quiet, asked_by, count_of, IsPlaced, IsFairAt, SeesFair, Counted, NumbersMove, Moves, does_moves}

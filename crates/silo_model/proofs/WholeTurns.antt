@@ -4,6 +4,7 @@ use Rattle.std.specs.Prelude.{◌⊎◌, nat_le, if◌then◌else◌}
 use Rattle.std.specs.Ordering.{eq_by_cmp}
 use Rattle.std.specs.FinMap as map
 use Rattle.std.proofs.lemmas.Option.{same_Some, none-some}
+use Rattle.finite_maps.proofs.Maps.{get-none}
 use Rattle.grain_id.specs.Names.{Grain, grain_cmp}
 use Rattle.grain_id.proofs.Order.{eq_by_cmp-Decides, grain_cmp_total, grain_cmp_exact}
 use Rattle.silo_event.specs.Owner.{owner_of}
@@ -17,7 +18,6 @@ use Rattle.silo_model.specs.Idle.{is_kept, kept_entries}
 use Rattle.silo_model.specs.Step.{grain_of}
 use Rattle.silo_model.specs.Whole.{Whole, shown_to, spread, whole_swept, whole_shared_step, whole_step}
 use Rattle.silo_model.proofs.Changes.{WhereChanged, get-change_same, get-change_other}
-use Rattle.silo_model.proofs.Counts.{get-none}
 use Rattle.silo_model.proofs.Moves.{turn_in, KeepsTurns, ClosesTurn, OpensTurn, TurnsMove, does_moves}
 use Rattle.silo_model.proofs.StepMoves.{IsFairMachine, sees_fair, due_is_bare}
 use Rattle.silo_model.proofs.Contexts.{get-own}

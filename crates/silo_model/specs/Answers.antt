@@ -19,7 +19,8 @@ IsAnswerBy step m s answer.NotNow = step m s ≡ None
 abbrev pub AreAnswersBy : {M : Type 0} → (M → Step → Option M) → M → List Step → List Answer → Type 0
 AreAnswersBy step m [] answers = Unit {0}
 AreAnswersBy step m (s ∷ steps) [] = Unit {0}
-AreAnswersBy step m (s ∷ steps) (a ∷ answers) = IsAnswerBy step m s a × AreAnswersBy step (unwrap_or (step m (marked_step s a)) m) steps answers
+AreAnswersBy step m (s ∷ steps) (a ∷ answers) =
+    IsAnswerBy step m s a × AreAnswersBy step (unwrap_or (step m (marked_step s a)) m) steps answers
 
 -- of the whole, and of a machine
 abbrev pub IsAnswer : Logic → Whole → Step → Answer → Type 0

@@ -30,7 +30,8 @@ row_told asker grain (Err spent) = only_replies (told asker (Err (VersionsSpent 
 
 -- a poke that passed the gate
 abbrev pub poke_settled : Context → Party → Grain → Tree → Bool → Result Account Fault → Effect
-poke_settled s asker grain state failed (Ok account) = if failed then only_replies (told asker (Err StorageFailed)) else row_told asker grain (row_poked s.row state)
+poke_settled s asker grain state failed (Ok account) =
+    if failed then only_replies (told asker (Err StorageFailed)) else row_told asker grain (row_poked s.row state)
 poke_settled s asker grain state failed (Err why) = only_replies (told asker (Err why))
 
 unfoldable pub poked : Logic → Context → Party → Grain → Tree → Bool → Effect

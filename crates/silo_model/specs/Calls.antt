@@ -5,7 +5,8 @@ use Rattle.grain_id.specs.Names.{Grain, same_text}
 use Rattle.request_codec.specs.Tree.{Tree}
 use Rattle.request_codec.specs.Call.{Call}
 use Rattle.silo_event.specs.declared.fault.Fault.{Fault}
-use Rattle.silo_event.specs.declared.fault.Fault.TheVariants.{UnknownTenant, UnknownKind, AcrossTenants, NoActivation, MailboxFull, NoNumber}
+use Rattle.silo_event.specs.declared.fault.Fault.TheVariants.{UnknownTenant, UnknownKind, AcrossTenants, NoActivation, MailboxFull}
+use Rattle.silo_event.specs.declared.fault.Fault.TheVariants.{NoNumber}
 use Rattle.silo_event.specs.declared.reply.Reply.{Reply}
 use Rattle.silo_event.specs.declared.reply.Party.{Party}
 use Rattle.silo_event.specs.declared.reply.Party.TheVariants as party
@@ -31,7 +32,8 @@ kind_gate logic account grain = if logic.knows grain.kind then Ok account else E
 -- the tenant is known, and the grain is the tenant's own
 abbrev pub gate : Logic → Context → Option Account → Grain → Result Account Fault
 gate logic s None grain = Err (UnknownTenant s.tenant)
-gate logic s (Some account) grain = if same_text grain.tenant s.tenant then kind_gate logic account grain else Err (AcrossTenants s.tenant grain.tenant)
+gate logic s (Some account) grain =
+    if same_text grain.tenant s.tenant then kind_gate logic account grain else Err (AcrossTenants s.tenant grain.tenant)
 
 -- ---- behind the gate
 

@@ -18,8 +18,10 @@ pub record IsIdle (e : Entry) : Type 0 where
 
 -- What a sweep leaves: no entry that was idle for as long as the age, and every other as it was; and every row.
 pub record LeavesUsed (before after : Whole) : Type 0 where
-  pub goes : (grain : Grain) (e : Entry) → map.get before.entries grain ≡ Some e → IsIdle e → before.age ≤ before.clock - e.last → map.get after.entries grain ≡ None
-  pub stays : (grain : Grain) (e : Entry) → map.get before.entries grain ≡ Some e → (IsIdle e → before.clock - e.last < before.age) → map.get after.entries grain ≡ Some e
+  pub goes : (grain : Grain) (e : Entry) → map.get before.entries grain ≡ Some e → IsIdle e → before.age ≤ before.clock - e.last
+      → map.get after.entries grain ≡ None
+  pub stays : (grain : Grain) (e : Entry) → map.get before.entries grain ≡ Some e → (IsIdle e → before.clock - e.last < before.age)
+      → map.get after.entries grain ≡ Some e
   pub rows : after.rows ≡ before.rows
 
 -- A sweep is always done, and leaves what is used.

@@ -16,4 +16,12 @@ active_of w tenant = active_in w.entries tenant
 
 -- what the whole has of the tenant and at the grain
 abbrev pub context_of : Whole → List ℕ → Grain → Context
-context_of w tenant g = record { tenant = tenant; account = map.get w.accounts tenant; clock = w.clock; active = active_of w tenant; entry = map.get w.entries g; row = map.get w.rows g }
+context_of w tenant g =
+    record {
+      tenant = tenant;
+      account = map.get w.accounts tenant;
+      clock = w.clock;
+      active = active_of w tenant;
+      entry = map.get w.entries g;
+      row = map.get w.rows g;
+    }

@@ -59,7 +59,15 @@ changed_at m (Some k) c = change_at m k c
 
 -- what the machine lets a step at the grain see
 unfoldable pub context_at : Machine → Option Grain → Context
-context_at m grain = record { tenant = m.tenant; account = m.account; clock = m.clock; active = map.len m.entries; entry = found_at m.entries grain; row = found_at m.rows grain }
+context_at m grain =
+    record {
+      tenant = m.tenant;
+      account = m.account;
+      clock = m.clock;
+      active = map.len m.entries;
+      entry = found_at m.entries grain;
+      row = found_at m.rows grain;
+    }
 
 -- the machine after the effect at the grain
 unfoldable pub applied : Machine → Option Grain → Effect → Machine

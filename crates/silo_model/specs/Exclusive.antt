@@ -1,5 +1,6 @@
 -- Which turns are open after a list of answered steps, and the rule that a turn that writes is alone.
--- No set of open turns that a silo or a machine keeps is looked at: a turn is open from the Begin that was done until the step that closed it.
+-- No set of open turns that a silo or a machine keeps is looked at: a turn is open from the Begin that was done until
+-- the step that closed it.
 use Rattle.std.specs.Prelude.{◌≡◌, ℕ, Bool, false, not, ◌&&◌, List, [], ◌∷◌, ◌++◌, Option, Some, None, filter, ◌==◌, map as map_list}
 use Rattle.std.specs.List.{list_any}
 use Rattle.std.specs.FinMap as map
@@ -37,7 +38,8 @@ first_waiting grain (Some e) = turn_of_first grain e.queue
 
 -- the turn that a Begin of the grain opens, as the owner's machine has it after the steps before
 abbrev pub turn_begun : Logic → Setup → List Step → Grain → List OpenTurn
-turn_begun logic setup before grain = first_waiting grain (map.get (machine_run logic (start_of setup grain.tenant) (restricted_to grain.tenant before)).entries grain)
+turn_begun logic setup before grain =
+    first_waiting grain (map.get (machine_run logic (start_of setup grain.tenant) (restricted_to grain.tenant before)).entries grain)
 
 abbrev pub is_turn : Grain → ℕ → OpenTurn → Bool
 is_turn grain number turn = grain_eq turn.grain grain && (turn.request.number == number)
@@ -66,15 +68,19 @@ turns_after logic setup before turns _ answer = turns
 
 -- ---- the rule
 
--- A turn whose method isn't one that only reads is the only open turn of its grain: no other, before it or after it in the list, is of its grain.
+-- A turn whose method isn't one that only reads is the only open turn of its grain: no other, before it or after it in
+-- the list, is of its grain.
 abbrev pub WritersAlone : Logic → List OpenTurn → Type 0
-WritersAlone logic turns = (before after : List OpenTurn) (t : OpenTurn) → turns ≡ before ++ t ∷ after → reads logic t.grain t.request ≡ false → list_any (λ u. grain_eq u.grain t.grain) (before ++ after) ≡ false
+WritersAlone logic turns =
+    (before after : List OpenTurn) (t : OpenTurn) → turns ≡ before ++ t ∷ after → reads logic t.grain t.request ≡ false
+    → list_any (λ u. grain_eq u.grain t.grain) (before ++ after) ≡ false
 
 abbrev pub ExclusiveFrom : Logic → Setup → List Step → List OpenTurn → List Step → List Answer → Type 0
 ExclusiveFrom logic setup before turns [] answers = WritersAlone logic turns
 ExclusiveFrom logic setup before turns (s ∷ steps) [] = WritersAlone logic turns
 ExclusiveFrom logic setup before turns (s ∷ steps) (a ∷ answers) =
-    WritersAlone logic turns × ExclusiveFrom logic setup (before ++ marked_step s a ∷ []) (turns_after logic setup before turns s a) steps answers
+    WritersAlone logic turns
+    × ExclusiveFrom logic setup (before ++ marked_step s a ∷ []) (turns_after logic setup before turns s a) steps answers
 
 -- it holds at every prefix of the list
 abbrev pub Exclusive : Logic → Setup → List Step → List Answer → Type 0

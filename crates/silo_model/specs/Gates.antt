@@ -10,9 +10,11 @@ use Rattle.silo_model.specs.Machine.{Account}
 use Rattle.silo_model.specs.Effect.{Context}
 use Rattle.silo_model.specs.Calls.{kind_gate, gate}
 
--- What the gate answers, by what the table says of the call: it refuses for the same reason, or looks at the grain's kind next. The table never says that it is out of memory.
+-- What the gate answers, by what the table says of the call: it refuses for the same reason, or looks at the grain's
+-- kind next. The table never says that it is out of memory.
 abbrev pub AnswersAsTable : Logic → Context → Grain → Option GateFault → Type 0
-AnswersAsTable logic s grain None = (account : Account) × (s.account ≡ Some account) × (gate logic s s.account grain ≡ kind_gate logic account grain)
+AnswersAsTable logic s grain None =
+    (account : Account) × (s.account ≡ Some account) × (gate logic s s.account grain ≡ kind_gate logic account grain)
 AnswersAsTable logic s grain (Some (refusal.Unknown caller)) = gate logic s s.account grain ≡ Err (UnknownTenant caller)
 AnswersAsTable logic s grain (Some (refusal.Across caller target)) = gate logic s s.account grain ≡ Err (AcrossTenants caller target)
 AnswersAsTable logic s grain (Some refusal.Memory) = ⊥

@@ -35,16 +35,20 @@ OtherParts = (logic : Logic) (setup : Setup) (journal : List Step) (w after : Wh
 
 -- A step that isn't possible for the whole isn't possible for the machine of a tenant that it concerns.
 abbrev pub NotNow : Type 0
-NotNow = (logic : Logic) (w : Whole) (s : Step) (tenant : List ℕ) → concerns tenant s ≡ true → whole_step logic w s ≡ None → machine_step logic (shown_to tenant w) s ≡ None
+NotNow = (logic : Logic) (w : Whole) (s : Step) (tenant : List ℕ) → concerns tenant s ≡ true → whole_step logic w s ≡ None
+    → machine_step logic (shown_to tenant w) s ≡ None
 
 -- From where a journal leads, a run shows to each tenant the run of the tenant's own machine.
 abbrev pub RunsOn : Type 0
 RunsOn = (logic : Logic) (setup : Setup) (journal : List Step) (w : Whole) (tenant : List ℕ) (steps : List Step)
-    → LeadsTo logic setup journal w → shown_to tenant (whole_run logic w steps) ≡ machine_run logic (shown_to tenant w) (restricted_to tenant steps)
+    → LeadsTo logic setup journal w
+    → shown_to tenant (whole_run logic w steps) ≡ machine_run logic (shown_to tenant w) (restricted_to tenant steps)
 
 -- A journal leads where the run of its steps leads.
 abbrev pub JournalsReplay : Type 0
-JournalsReplay = (logic : Logic) (setup : Setup) (journal : List Step) (w : Whole) → LeadsTo logic setup journal w → whole_run logic (opening setup) journal ≡ w
+JournalsReplay =
+    (logic : Logic) (setup : Setup) (journal : List Step) (w : Whole) → LeadsTo logic setup journal w
+    → whole_run logic (opening setup) journal ≡ w
 
 -- A journal grows by a step that is done.
 abbrev pub JournalsGrow : Type 0
@@ -54,7 +58,8 @@ JournalsGrow = (logic : Logic) (setup : Setup) (journal : List Step) (w after : 
 -- The steps of a journal that concern a tenant are all done in the tenant's own machine, and lead to the tenant's part.
 abbrev pub PartsLead : Type 0
 PartsLead = (logic : Logic) (setup : Setup) (journal : List Step) (w : Whole) (tenant : List ℕ)
-    → LeadsTo logic setup journal w → machine_all_done logic (start_of setup tenant) (restricted_to tenant journal) ≡ Some (shown_to tenant w)
+    → LeadsTo logic setup journal w
+    → machine_all_done logic (start_of setup tenant) (restricted_to tenant journal) ≡ Some (shown_to tenant w)
 
 -- A step is possible exactly if it is possible as one whose storage call failed.
 abbrev pub FailingIsPossible : Type 0

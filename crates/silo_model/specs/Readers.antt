@@ -33,6 +33,7 @@ pub record AreOpenTogether (w : Whole) (grain : Grain) (first second : Request) 
 
 -- Two Begins are done, one after the other, and then both are open on the state that the grain had.
 abbrev pub ReadersTogether : Type 0
-ReadersTogether = (logic : Logic) (w : Whole) (grain : Grain) (first second : Request) (state : Tree) → AreWaitingReaders logic w grain first second state
+ReadersTogether =
+    (logic : Logic) (w : Whole) (grain : Grain) (first second : Request) (state : Tree) → AreWaitingReaders logic w grain first second state
     → (one : Whole) × (both : Whole) × (whole_step logic w (Begin grain) ≡ Some one) × (whole_step logic one (Begin grain) ≡ Some both)
     × AreOpenTogether both grain first second state

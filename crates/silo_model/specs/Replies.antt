@@ -15,7 +15,8 @@ use Rattle.silo_model.specs.Journal.{LeadsTo}
 abbrev pub replies_added : Logic → Machine → Step → List Reply
 replies_added logic m s = drop (length m.replies) (unwrap_or (machine_step logic m s) m).replies
 
--- What a step adds after those before it: what it adds in its owner's machine, which has taken its own of them. A step of nobody adds nothing.
+-- What a step adds after those before it: what it adds in its owner's machine, which has taken its own of them. A step
+-- of nobody adds nothing.
 abbrev pub owner_adds : Logic → Setup → List Step → Step → Option (List ℕ) → List Reply
 owner_adds logic setup before s None = []
 owner_adds logic setup before s (Some owner) = replies_added logic (machine_run logic (start_of setup owner) (restricted_to owner before)) s

@@ -62,7 +62,8 @@ restricted_to tenant steps = filter (concerns tenant) steps
 abbrev pub answers_to : List ℕ → List Step → List Answer → List Answer
 answers_to tenant [] answers = []
 answers_to tenant (s ∷ steps) [] = []
-answers_to tenant (s ∷ steps) (a ∷ answers) = if concerns tenant s then a ∷ answers_to tenant steps answers else answers_to tenant steps answers
+answers_to tenant (s ∷ steps) (a ∷ answers) =
+    if concerns tenant s then a ∷ answers_to tenant steps answers else answers_to tenant steps answers
 
 -- the steps that were answered, each as it was taken
 abbrev pub marked : List Step → List Answer → List Step

@@ -13,7 +13,8 @@ use Rattle.silo_model.specs.Turns.{plan_of}
 use Rattle.silo_model.specs.Whole.{Whole, whole_step}
 use Rattle.silo_model.specs.Journal.{all_done}
 
--- A turn of the grain is about to save this state: it is open and asks for a write, and the entry stands on the row's version, after which there is another.
+-- A turn of the grain is about to save this state: it is open and asks for a write, and the entry stands on the row's
+-- version, after which there is another.
 pub record IsSaving (logic : Logic) (w : Whole) (grain : Grain) (turn : ℕ) (state : Tree) : Type 0 where
   pub entry : Entry
   pub request : Request
@@ -36,5 +37,7 @@ abbrev pub SavedComesBack : Type 0
 SavedComesBack = (logic : Logic) (w : Whole) (grain : Grain) (turn : ℕ) (state : Tree) → IsSaving logic w grain turn state
     → (saved : Whole) × (version : ℕ) × (whole_step logic w (Store grain turn false) ≡ Some saved)
     × ((steps : List Step) (later : Whole) (e : Entry)
-    → all_done logic saved steps ≡ Some later → list_any (touches_row grain) steps ≡ false → map.get later.entries grain ≡ Some e → e.phase ≡ loading
-    → (after : Whole) × (whole_step logic later (Load grain false) ≡ Some after) × (map.get after.entries grain ≡ Some (record e { phase = ready state (Some version) })))
+    → all_done logic saved steps ≡ Some later → list_any (touches_row grain) steps ≡ false → map.get later.entries grain ≡ Some e
+    → e.phase ≡ loading
+    → (after : Whole) × (whole_step logic later (Load grain false) ≡ Some after)
+    × (map.get after.entries grain ≡ Some (record e { phase = ready state (Some version) })))

@@ -10,7 +10,8 @@ use Rattle.silo_model.specs.Calls.{called}
 -- the first that the grain sent, and the others in order
 abbrev pub first_from : Grain → List Send → Option (Send × List Send)
 first_from grain [] = None
-first_from grain (sent ∷ sends) = if grain_eq sent.source grain then Some (sent, sends) else option_map (λ found. (found.0, sent ∷ found.1)) (first_from grain sends)
+first_from grain (sent ∷ sends) =
+    if grain_eq sent.source grain then Some (sent, sends) else option_map (λ found. (found.0, sent ∷ found.1)) (first_from grain sends)
 
 -- the target of the first that the grain sent
 abbrev pub first_target : Option Account → Grain → Option Grain

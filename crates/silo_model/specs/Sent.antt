@@ -12,7 +12,8 @@ use Rattle.silo_model.specs.Calls.{last_number}
 use Rattle.silo_model.specs.Turns.{plan_of, sent_by}
 use Rattle.silo_model.specs.Whole.{Whole, is_of, whole_step}
 
--- A turn of the grain is about to send this first, with nothing of the grain's left to deliver: to a grain of its tenant that may have an entry, and has none.
+-- A turn of the grain is about to send this first, with nothing of the grain's left to deliver: to a grain of its
+-- tenant that may have an entry, and has none.
 pub record IsSending (logic : Logic) (w : Whole) (grain : Grain) (turn : ℕ) (account : Account) (outgoing : Outgoing) : Type 0 where
   pub entry : Entry
   pub request : Request
@@ -33,10 +34,20 @@ pub record IsSending (logic : Logic) (w : Whole) (grain : Grain) (turn : ℕ) (a
   pub absent : map.get w.entries outgoing.target ≡ None
   pub room : nat_lt (map.len (map.retain_keys w.entries (is_of grain.tenant))) account.limits.activations ≡ true
 
--- The turn ends, the next delivery is done, and the call waits at its target, asked by the grain. What the tenant's other grains sent, and the rest of what the turn sent, is left in its order.
+-- The turn ends, the next delivery is done, and the call waits at its target, asked by the grain. What the tenant's
+-- other grains sent, and the rest of what the turn sent, is left in its order.
 abbrev pub SentArrives : Type 0
-SentArrives = (logic : Logic) (w : Whole) (grain : Grain) (turn : ℕ) (account : Account) (outgoing : Outgoing) (sending : IsSending logic w grain turn account outgoing)
-    → (sent : Whole) × (delivered : Whole) × (whole_step logic w (End grain turn) ≡ Some sent) × (whole_step logic sent (Deliver grain) ≡ Some delivered)
+SentArrives =
+    (logic : Logic) (w : Whole) (grain : Grain) (turn : ℕ) (account : Account) (outgoing : Outgoing)
+    (sending : IsSending logic w grain turn account outgoing)
+    → (sent : Whole) × (delivered : Whole) × (whole_step logic w (End grain turn) ≡ Some sent)
+    × (whole_step logic sent (Deliver grain) ≡ Some delivered)
     × (map.get delivered.entries outgoing.target
-    ≡ Some (record { phase = waiting; queue = record { number = account.count + 1; sender = party.Grain grain; call = outgoing.call } ∷ []; turns = map.empty; last = w.clock }))
-    × (map.get delivered.accounts grain.tenant ≡ Some (record account { count = account.count + 1; sends = account.sends ++ sent_by grain sending.others }))
+    ≡ Some (record {
+      phase = waiting;
+      queue = record { number = account.count + 1; sender = party.Grain grain; call = outgoing.call } ∷ [];
+      turns = map.empty;
+      last = w.clock;
+    }))
+    × (map.get delivered.accounts grain.tenant
+    ≡ Some (record account { count = account.count + 1; sends = account.sends ++ sent_by grain sending.others }))

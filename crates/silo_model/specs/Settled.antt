@@ -34,7 +34,8 @@ pending_at e = e.queue ++ finite.values e.turns
 abbrev pub all_pending : Machine → List Request
 all_pending m = flat_map pending_at (finite.values m.entries)
 
--- What a client asked under a number is as much as the replies to it, and the requests of it that wait or are open. No two of these requests have one number.
+-- What a client asked under a number is as much as the replies to it, and the requests of it that wait or are open. No
+-- two of these requests have one number.
 pub record Settled (steps : List Step) (m : Machine) : Type 0 where
   pub answered : (client : Client) (id : ℕ) → count_by (asks client id) steps
       ≡ count_by (λ r. is_client_with client id r.recipient) m.replies + count_by (λ q. is_client_with client id q.sender) (all_pending m)

@@ -4,7 +4,8 @@ use Rattle.std.specs.FinMap as finite
 use Rattle.grain_id.specs.Names.{Grain}
 use Rattle.silo_event.specs.Owner.{owner_of}
 use Rattle.silo_event.specs.declared.step.Step.{Step}
-use Rattle.silo_event.specs.declared.step.Step.TheVariants.{Refuse, Call, Poke, Status, Deliver, Activate, Load, Begin, Store, End, Abandon, Tick, Sweep}
+use Rattle.silo_event.specs.declared.step.Step.TheVariants.{Refuse, Call, Poke, Status, Deliver, Activate, Load, Begin, Store, End}
+use Rattle.silo_event.specs.declared.step.Step.TheVariants.{Abandon, Tick, Sweep}
 use Rattle.silo_event.specs.declared.reply.Party.TheVariants as party
 use Rattle.grain_kinds.specs.Logic.{Logic}
 use Rattle.silo_model.specs.Machine.{Machine, Account, Entry, Request}
@@ -17,7 +18,8 @@ use Rattle.silo_model.specs.Idle.{kept_entries}
 
 -- ---- a step of a tenant
 
--- The grain at which a step is taken: its own, or the target of what its grain sent first, as its owner's account says. Some steps are taken at none.
+-- The grain at which a step is taken: its own, or the target of what its grain sent first, as its owner's account
+-- says. Some steps are taken at none.
 abbrev pub grain_of : Option Account → Step → Option Grain
 grain_of account (Refuse caller id code) = None
 grain_of account (Call caller id grain message) = Some grain
@@ -47,7 +49,8 @@ effect_of logic s (Deliver grain) = option_and_then (delivered logic s grain) s.
 effect_of logic s (Activate grain) = option_and_then (λ e. activated e e.phase) s.entry
 effect_of logic s (Load grain failed) = option_and_then (λ e. loaded logic s grain failed e e.phase) s.entry
 effect_of logic s (Begin grain) = option_and_then (λ e. opened_if_ready logic grain e e.phase) s.entry
-effect_of logic s (Store grain turn failed) = option_and_then (at_turn (λ e request. stored logic s grain failed e request e.phase) turn) s.entry
+effect_of logic s (Store grain turn failed) =
+    option_and_then (at_turn (λ e request. stored logic s grain failed e request e.phase) turn) s.entry
 effect_of logic s (End grain turn) = option_and_then (at_turn (λ e request. ended logic s grain e request e.phase) turn) s.entry
 effect_of logic s (Abandon grain turn) = option_and_then (at_turn (λ e request. Some (abandoned s e request)) turn) s.entry
 effect_of logic s (Tick now) = None

@@ -42,6 +42,9 @@ at_row rows grain (Err why) = Err why
 
 -- A write, a clearing and a poke of all rows are these at one of them.
 pub record StoresAtOneRow : Type 0 where
-  pub writes : (rows : Rows) (grain : Grain) (expected : Option ℕ) (content : Tree) → written rows grain expected content ≡ at_row rows grain (row_written expected (map.get rows grain) content)
-  pub clears : (rows : Rows) (grain : Grain) (expected : Option ℕ) → cleared rows grain expected ≡ at_row rows grain (row_cleared expected (map.get rows grain))
-  pub pokes : (rows : Rows) (grain : Grain) (content : Tree) → poked rows grain content ≡ at_row rows grain (row_poked (map.get rows grain) content)
+  pub writes : (rows : Rows) (grain : Grain) (expected : Option ℕ) (content : Tree)
+      → written rows grain expected content ≡ at_row rows grain (row_written expected (map.get rows grain) content)
+  pub clears : (rows : Rows) (grain : Grain) (expected : Option ℕ)
+      → cleared rows grain expected ≡ at_row rows grain (row_cleared expected (map.get rows grain))
+  pub pokes : (rows : Rows) (grain : Grain) (content : Tree)
+      → poked rows grain content ≡ at_row rows grain (row_poked (map.get rows grain) content)

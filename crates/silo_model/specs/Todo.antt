@@ -1,10 +1,12 @@
 -- What there is to do that no client asks for: entries are activated and loaded, their requests begin, and what grains sent is delivered.
-use Rattle.std.specs.Prelude.{◌≡◌, ◌≢◌, ℕ, Bool, true, false, not, List, [], ◌∷◌, Option, Some, None, option_map, option_and_then, is_some, if◌then◌else◌}
+use Rattle.std.specs.Prelude.{◌≡◌, ◌≢◌, ℕ, Bool, true, false, not, List, [], ◌∷◌, Option, Some, None, option_map, option_and_then}
+use Rattle.std.specs.Prelude.{is_some, if◌then◌else◌}
 use Rattle.std.specs.List.{list_any}
 use Rattle.std.specs.FinMap as map
 use Rattle.grain_id.specs.Names.{Grain, grain_eq}
 use Rattle.silo_event.specs.declared.step.Step.{Step}
-use Rattle.silo_event.specs.declared.step.Step.TheVariants.{Refuse, Call, Poke, Status, Deliver, Activate, Load, Begin, Store, End, Abandon, Tick, Sweep}
+use Rattle.silo_event.specs.declared.step.Step.TheVariants.{Refuse, Call, Poke, Status, Deliver, Activate, Load, Begin, Store, End}
+use Rattle.silo_event.specs.declared.step.Step.TheVariants.{Abandon, Tick, Sweep}
 use Rattle.grain_kinds.specs.Logic.{Logic}
 use Rattle.silo_model.specs.Machine.{Account, Entry, Request, Phase, waiting, loading, ready}
 use Rattle.silo_model.specs.Turns.{may_open}
@@ -86,8 +88,10 @@ OwnSends w = (tenant : List ℕ) (g : Grain) → is_some (delivery_of g (map.get
 
 -- What is to do at a grain would be done now.
 pub record WorkIsDone : Type 0 where
-  pub entries : (logic : Logic) (w : Whole) (g : Grain) (s : Step) → work_on logic g (map.get w.entries g) ≡ Some s → IsTodo logic w (Some s)
-  pub senders : (logic : Logic) (w : Whole) (g : Grain) (s : Step) → delivery_of g (map.get w.accounts g.tenant) ≡ Some s → IsTodo logic w (Some s)
+  pub entries : (logic : Logic) (w : Whole) (g : Grain) (s : Step) → work_on logic g (map.get w.entries g) ≡ Some s
+      → IsTodo logic w (Some s)
+  pub senders : (logic : Logic) (w : Whole) (g : Grain) (s : Step) → delivery_of g (map.get w.accounts g.tenant) ≡ Some s
+      → IsTodo logic w (Some s)
 
 -- So it is in every whole that a journal leads to.
 abbrev pub SendsAreOwn : Type 0

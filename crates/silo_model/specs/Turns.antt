@@ -1,5 +1,6 @@
 -- How an entry is activated and loaded, and how its turns are opened and closed.
-use Rattle.std.specs.Prelude.{ℕ, Bool, List, [], ◌∷◌, ◌++◌, map, flat_map, Option, Some, None, option_map, Result, Ok, Err, if◌then◌else◌, ◌==◌}
+use Rattle.std.specs.Prelude.{ℕ, Bool, List, [], ◌∷◌, ◌++◌, map, flat_map, Option, Some, None, option_map, Result, Ok, Err}
+use Rattle.std.specs.Prelude.{if◌then◌else◌, ◌==◌}
 use Rattle.std.specs.List.{list_all}
 use Rattle.std.specs.FinMap as finite
 use Rattle.grain_id.specs.Names.{Grain}
@@ -31,7 +32,9 @@ unloaded e = record { account = keep; entry = drop; row = keep; replies = flat_m
 -- an entry that loads gets the row's content, or the kind's empty state, and stands on the row's version
 abbrev pub loaded : Logic → Context → Grain → Bool → Entry → Phase → Option Effect
 loaded logic s grain failed e waiting = None
-loaded logic s grain failed e loading = Some (if failed then unloaded e else on_entry (record e { phase = ready (content_or (logic.empty grain.kind) s.row) (version_of s.row) }))
+loaded logic s grain failed e loading =
+    Some (if failed then unloaded e else on_entry
+    (record e { phase = ready (content_or (logic.empty grain.kind) s.row) (version_of s.row) }))
 loaded logic s grain failed e (ready state version) = None
 
 -- ---- opening a turn
@@ -42,13 +45,15 @@ reads logic grain request = logic.is_read grain.kind request.call.method
 
 -- One that only reads may begin if each open turn only reads, another if no turn is open.
 abbrev pub may_open : Logic → Grain → Entry → Request → Bool
-may_open logic grain e request = if reads logic grain request then list_all (reads logic grain) (finite.values e.turns) else finite.len e.turns == 0
+may_open logic grain e request =
+    if reads logic grain request then list_all (reads logic grain) (finite.values e.turns) else finite.len e.turns == 0
 
 -- the first waiting request becomes an open turn, if it may
 abbrev pub opened : Logic → Grain → Entry → List Request → Option Effect
 opened logic grain e [] = None
 opened logic grain e (first ∷ others) =
-    if may_open logic grain e first then Some (on_entry (record e { queue = others; turns = finite.insert e.turns first.number first })) else None
+    if may_open logic grain e first then Some
+    (on_entry (record e { queue = others; turns = finite.insert e.turns first.number first })) else None
 
 abbrev pub opened_if_ready : Logic → Grain → Entry → Phase → Option Effect
 opened_if_ready logic grain e waiting = None
@@ -128,8 +133,10 @@ abbrev pub stored_by : Logic → Context → Grain → Entry → Request → Tre
 stored_by logic s grain e request state version asks_nothing = None
 stored_by logic s grain e request state version reads_row =
     Some (closed s e request (content_or (logic.empty grain.kind) s.row) (version_of s.row) keep (Ok (version_value (version_of s.row))))
-stored_by logic s grain e request state version writes_row = Some (row_changed s grain e request state version state (row_written version s.row state))
-stored_by logic s grain e request state version clears_row = Some (row_changed s grain e request state version (logic.empty grain.kind) (row_cleared version s.row))
+stored_by logic s grain e request state version writes_row =
+    Some (row_changed s grain e request state version state (row_written version s.row state))
+stored_by logic s grain e request state version clears_row =
+    Some (row_changed s grain e request state version (logic.empty grain.kind) (row_cleared version s.row))
 
 -- if the storage failed, the entry stays as it is but for the turn
 abbrev pub stored : Logic → Context → Grain → Bool → Entry → Request → Phase → Option Effect

@@ -2,7 +2,7 @@
 
 ghost use Rattle.std.specs.Prelude.{◌≡◌};
 ghost use Rattle.std.specs.Option.{option_copied};
-ghost use Rattle.silo_event.specs.Named.{grain_named};
+ghost use Rattle.silo_event.specs.inside.Named.{grain_named};
 
 use super::Step;
 use grain_id::GrainId;

@@ -2,7 +2,8 @@
 use Rattle.std.specs.Prelude.{Option, Some, None}
 use Rattle.grain_id.specs.Names.{Grain}
 use Rattle.silo_event.specs.declared.step.Step.{Step}
-use Rattle.silo_event.specs.declared.step.Step.TheVariants.{Refuse, Call, Poke, Status, Deliver, Activate, Load, Begin, Store, End, Abandon, Tick, Sweep}
+use Rattle.silo_event.specs.declared.step.Step.TheVariants.{Refuse, Call, Poke, Status, Deliver, Activate, Load, Begin, Store, End}
+use Rattle.silo_event.specs.declared.step.Step.TheVariants.{Abandon, Tick, Sweep}
 
 -- the grain that the step names: of a delivery the sender
 abbrev pub grain_named : Step → Option Grain
