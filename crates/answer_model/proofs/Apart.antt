@@ -1,0 +1,146 @@
+-- What each tenant is shown by an answering silo is what its own machine is.
+use Rattle.std.proofs.Common.{◌≡◌, ◌≢◌, ℕ, Bool, true, false, cond, List, [], ◌∷◌, ◌++◌, Option, Some, None, refl, ap, sym, ◌∙◌, subst, true≢false}
+use Rattle.std.proofs.lemmas.List.{append-nil}
+use Rattle.std.proofs.lemmas.Option.{same_Some, none-some}
+use Rattle.grain_id.specs.Names.{Grain, Client, same_text}
+use Rattle.request_codec.specs.Call as codec
+use Rattle.grain_id.proofs.Order.{same_text_decides}
+use Rattle.silo_event.specs.Owner.{owner_of}
+use Rattle.silo_event.specs.declared.reply.Party.TheVariants as party
+use Rattle.silo_event.specs.declared.step.Step.{Step}
+use Rattle.silo_event.specs.declared.step.Step.TheVariants.{Refuse, Call, Poke, Status, Deliver, Activate, Load, Begin, Store, End, Abandon, Tick, Sweep}
+use Rattle.grain_kinds.specs.Logic.{Logic}
+use Rattle.silo_model.specs.Machine.{Machine}
+use Rattle.silo_model.specs.Effect.{context_at}
+use Rattle.silo_model.specs.Calls.{called}
+use Rattle.silo_model.specs.Step.{effect_of}
+use Rattle.silo_model.specs.Whole.{Whole, shown_to, whole_step}
+use Rattle.silo_model.specs.Run.{concerns, concerns_by, machine_run, whole_run}
+use Rattle.silo_model.specs.Opening.{Setup}
+use Rattle.silo_model.proofs.Contexts.{same_text-apart, step_by_context}
+use Rattle.silo_model.proofs.EffectKinds.{role_of}
+use Rattle.silo_model.proofs.Isolation.{place_in}
+use Rattle.silo_model.proofs.Journals.{runs_on}
+use Rattle.answer_model.specs.Answering.{Stepper, Luck, first_luck, later_luck, whole_stepper, machine_stepper, bringing, deliveries, deliveries_of, called_grain, Asked, taken_by, taken, answering, answered, all_answered}
+use Rattle.answer_model.specs.Apart.{asked_by, TenantsApart}
+use Rattle.answer_model.proofs.Owned.{AllOwned, AllOwned-append, own_run, other_run}
+use Rattle.answer_model.proofs.Reached.{IsReached, run_reached}
+use Rattle.answer_model.proofs.Served.{IsOwnIfAccepted, own_if_accepted, same_bringing, same_deliveries}
+
+pub owner_failed : (b : Bool) (s : Step) → owner_of (taken_by b s) ≡ owner_of s
+owner_failed false s = refl
+owner_failed true (Poke failed caller id grain state) = refl
+owner_failed true (Load grain failed) = refl
+owner_failed true (Store grain turn failed) = refl
+owner_failed true _ = refl
+
+pub taken_call : (b : Bool) (caller : Client) (id : ℕ) (g : Grain) (message : codec.Call) → taken_by b (Call caller id g message) ≡ Call caller id g message
+taken_call true caller id g message = refl
+taken_call false caller id g message = refl
+
+-- a call is always answered in some way
+pub call_done : (logic : Logic) (w : Whole) (caller : Client) (id : ℕ) (g : Grain) (message : codec.Call) → whole_step logic w (Call caller id g message) ≡ None → ⊥
+unfolding effect_of
+call_done logic w caller id g message none =
+    none-some _ (sym none ∙ step_by_context logic w (Call caller id g message) caller.tenant (Some g) (Some (called logic (context_at (shown_to caller.tenant w) (Some g)) (party.Client caller id) g message)) refl refl refl)
+
+module _ (logic : Logic) (setup : Setup) (n : ℕ) where
+  abbrev of_whole : Stepper Whole
+  of_whole = whole_stepper logic
+
+  abbrev of_machine : Stepper Machine
+  of_machine = machine_stepper logic
+
+  module _ (w : Whole) (reached : IsReached logic setup w) (tenant : List ℕ) where
+    -- a call that is accepted is of a grain of its own tenant
+    call_own : (s : Step) (luck : Luck) (is : owner_of (taken_by luck.asking_failed s) ≡ Some tenant)
+        → IsOwnIfAccepted logic setup tenant w (taken_by luck.asking_failed s) luck reached is (called_grain s)
+    call_own (Call caller id grain message) luck is =
+        let same = taken_call luck.asking_failed caller id grain message in
+        own_if_accepted logic setup tenant w (taken_by luck.asking_failed (Call caller id grain message)) luck reached is (party.Client caller id) (Some grain)
+        (ap role_of same) (ap (place_in w tenant) same) (λ none. call_done logic w caller id grain message (ap (whole_step logic w) (sym same) ∙ none))
+    call_own _ luck is = λ g at accepted. absurd (none-some g at)
+
+    -- what the tenant asks
+    same_answering : (asked : Asked) → owner_of asked.step ≡ Some tenant
+        → (answering of_whole n w asked ≡ answering of_machine n (shown_to tenant w) asked) × AllOwned tenant (answering of_whole n w asked)
+    same_answering asked own =
+        let luck = first_luck asked.lucks in
+        let s = taken asked in
+        let is : owner_of s ≡ Some tenant = owner_failed luck.asking_failed asked.step ∙ own in
+        let grain = called_grain asked.step in
+        let steps = bringing of_whole w s grain luck in
+        let first = same_bringing logic setup tenant w s luck reached is grain (call_own asked.step luck is) in
+        let next = whole_run logic w steps in
+        let rest = same_deliveries logic setup tenant n next (later_luck asked.lucks) (run_reached logic setup steps w reached) in
+        let shown : shown_to tenant next ≡ machine_run logic (shown_to tenant w) (bringing of_machine (shown_to tenant w) s grain luck) = own_run logic setup w reached tenant steps first.1 ∙ ap (machine_run logic (shown_to tenant w)) first.0 in (
+          ap (λ o. steps ++ deliveries_of of_whole n next o (later_luck asked.lucks)) own
+              ∙ (λ i. first.0 i ++ (rest.0 ∙ ap (λ m. deliveries of_machine n m tenant (later_luck asked.lucks)) shown) i)
+              ∙ ap (λ o. bringing of_machine (shown_to tenant w) s grain luck ++ deliveries_of of_machine n (machine_run logic (shown_to tenant w) (bringing of_machine (shown_to tenant w) s grain luck)) o (later_luck asked.lucks)) (sym own),
+          AllOwned-append tenant steps _ first.1 (subst (λ o. AllOwned tenant (deliveries_of of_whole n next o (later_luck asked.lucks))) (sym own) rest.1),
+        )
+
+    own_asked : (asked : Asked) → owner_of asked.step ≡ Some tenant → shown_to tenant (answered of_whole n w asked) ≡ answered of_machine n (shown_to tenant w) asked
+    own_asked asked own =
+        let same = same_answering asked own in
+        own_run logic setup w reached tenant (answering of_whole n w asked) same.1 ∙ ap (machine_run logic (shown_to tenant w)) same.0
+
+    -- what nobody asks
+    shared : (b : Bool) (s : Step) → owner_of s ≡ None → shown_to tenant (whole_run logic w (taken_by b s ∷ [])) ≡ machine_run logic (shown_to tenant w) (taken_by b s ∷ [])
+    shared b s is =
+        runs_on logic setup reached.0 w tenant (taken_by b s ∷ []) reached.1
+        ∙ ap (λ c. machine_run logic (shown_to tenant w) (cond c (taken_by b s ∷ []) [])) (ap (concerns_by tenant) (owner_failed b s ∙ is))
+
+    shared_asked : (s : Step) (lucks : List Luck) → owner_of s ≡ None
+        → shown_to tenant (answered of_whole n w (record { step = s; lucks = lucks })) ≡ answered of_machine n (shown_to tenant w) (record { step = s; lucks = lucks })
+    shared_asked (Tick now) lucks is = shared (first_luck lucks).asking_failed (Tick now) refl
+    shared_asked Sweep lucks is = shared (first_luck lucks).asking_failed Sweep refl
+    shared_asked (Refuse caller id code) lucks is = absurd (let e = is in cc)
+    shared_asked (Call caller id grain message) lucks is = absurd (let e = is in cc)
+    shared_asked (Poke failed caller id grain state) lucks is = absurd (let e = is in cc)
+    shared_asked (Status caller id) lucks is = absurd (let e = is in cc)
+    shared_asked (Deliver grain) lucks is = absurd (let e = is in cc)
+    shared_asked (Activate grain) lucks is = absurd (let e = is in cc)
+    shared_asked (Load grain failed) lucks is = absurd (let e = is in cc)
+    shared_asked (Begin grain) lucks is = absurd (let e = is in cc)
+    shared_asked (Store grain turn failed) lucks is = absurd (let e = is in cc)
+    shared_asked (End grain turn) lucks is = absurd (let e = is in cc)
+    shared_asked (Abandon grain turn) lucks is = absurd (let e = is in cc)
+
+  -- ---- whoever asks
+
+  one_asked : (w : Whole) (tenant : List ℕ) (asked : Asked) → IsReached logic setup w
+      → shown_to tenant (answered of_whole n w asked) ≡ cond (concerns tenant asked.step) (answered of_machine n (shown_to tenant w) asked) (shown_to tenant w)
+  one_asked w tenant asked reached = by_owner (owner_of asked.step) refl
+    where
+      by_name : (owner : List ℕ) (b : Bool) → owner_of asked.step ≡ Some owner → same_text owner tenant ≡ b
+          → shown_to tenant (answered of_whole n w asked) ≡ cond b (answered of_machine n (shown_to tenant w) asked) (shown_to tenant w)
+      by_name owner true is same = own_asked w reached tenant asked (is ∙ ap Some ((same_text_decides owner tenant).0 same))
+      by_name owner false is apart =
+          other_run logic setup w reached owner (answering of_whole n w asked) (same_answering w reached owner asked is).1 tenant
+          (λ e. true≢false (sym ((same_text_decides owner tenant).1 (sym e)) ∙ apart))
+
+      by_owner : (o : Option (List ℕ)) → owner_of asked.step ≡ o
+          → shown_to tenant (answered of_whole n w asked) ≡ cond (concerns tenant asked.step) (answered of_machine n (shown_to tenant w) asked) (shown_to tenant w)
+      by_owner None is =
+          shared_asked w reached tenant asked.step asked.lucks is
+          ∙ ap (λ b. cond b (answered of_machine n (shown_to tenant w) asked) (shown_to tenant w)) (sym (ap (concerns_by tenant) is))
+      by_owner (Some owner) is =
+          by_name owner (same_text owner tenant) is refl
+          ∙ ap (λ b. cond b (answered of_machine n (shown_to tenant w) asked) (shown_to tenant w)) (sym (ap (concerns_by tenant) is))
+
+  all_of_cond : (b : Bool) (m : Machine) (asked : Asked) (rest : List Asked)
+      → all_answered of_machine n (cond b (answered of_machine n m asked) m) rest ≡ all_answered of_machine n m (cond b (asked ∷ rest) rest)
+  all_of_cond true m asked rest = refl
+  all_of_cond false m asked rest = refl
+
+  all_apart : (tenant : List ℕ) (all : List Asked) (w : Whole) → IsReached logic setup w
+      → shown_to tenant (all_answered of_whole n w all) ≡ all_answered of_machine n (shown_to tenant w) (asked_by tenant all)
+  all_apart tenant [] w reached = refl
+  all_apart tenant (asked ∷ others) w reached =
+      all_apart tenant others (answered of_whole n w asked) (run_reached logic setup (answering of_whole n w asked) w reached)
+      ∙ ap (λ m. all_answered of_machine n m (asked_by tenant others)) (one_asked w tenant asked reached)
+      ∙ all_of_cond (concerns tenant asked.step) (shown_to tenant w) asked (asked_by tenant others)
+
+pub tenants_apart : TenantsApart
+tenants_apart logic setup journal w n tenant all leads = all_apart logic setup n tenant all w (journal, leads)

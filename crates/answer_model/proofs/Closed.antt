@@ -1,0 +1,154 @@
+-- The one open turn of an entry in which nothing waits is closed: the entry rests or is gone, and the turn's request is answered.
+use Rattle.std.proofs.Common.{◌≡◌, ℕ, ◌+◌, Bool, true, false, cond, List, [], ◌∷◌, ◌++◌, Option, Some, None, unwrap_or, refl, ap, sym, ◌∙◌, arith, subst}
+use Rattle.std.specs.Prelude.{Result, Ok, Err, is_some, if◌then◌else◌}
+use Rattle.std.specs.FinMap as map
+use Rattle.std.specs.Ordering.{eq_by_cmp}
+use Rattle.std.proofs.lemmas.Option.{same_Some, none-some}
+use Rattle.grain_id.specs.Names.{Grain, grain_cmp}
+use Rattle.grain_id.proofs.Order.{eq_by_cmp-Decides, grain_cmp_total, grain_cmp_exact}
+use Rattle.finite_maps.proofs.Maps.{get-insert_same, get-insert_other}
+use Rattle.request_codec.specs.Tree.{Tree}
+use Rattle.grain_storage.specs.declared.row.Row.{Row}
+use Rattle.grain_storage.specs.Rows.{RowFault, stale, spent, version_of, content_or}
+use Rattle.silo_event.specs.declared.fault.Fault.{Fault}
+use Rattle.silo_event.specs.declared.fault.Fault.TheVariants.{StorageFailed, StateChanged, VersionsSpent, NoMemory}
+use Rattle.silo_event.specs.declared.step.Step.{Step}
+use Rattle.silo_event.specs.declared.step.Step.TheVariants.{Store, End, Abandon}
+use Rattle.grain_kinds.specs.Logic.{Logic, Plan, StorageCall, asks_nothing, reads_row, writes_row, clears_row}
+use Rattle.silo_model.specs.Collected.{IsIdle}
+use Rattle.silo_model.specs.Machine.{Entry, Entries, Request, ready}
+use Rattle.silo_model.specs.Effect.{Change, Effect, change_at}
+use Rattle.silo_model.specs.Calls.{reply_to}
+use Rattle.silo_model.specs.Stores.{row_written, row_cleared, version_value}
+use Rattle.silo_model.specs.Turns.{plan_of, outcome_of, ends_activation, row_changed, stored_by}
+use Rattle.silo_model.specs.Whole.{Whole, whole_step}
+use Rattle.silo_model.specs.Run.{whole_run}
+use Rattle.silo_model.proofs.TurnSteps.{closed_turn, seen_at, end_turn, end_reads, end_writes, end_clears, store_read, store_changed, store_spent, store_stale, store_failed, abandon_turn}
+use Rattle.answer_model.specs.Answering.{Closing, well, storage_failed, out_of_memory, whole_stepper, ending, closing}
+
+-- nothing changed at other grains
+abbrev pub Elsewhere : Entries → Entries → Grain → Type 0
+Elsewhere old new g = (h : Grain) → eq_by_cmp grain_cmp h g ≡ false → map.get new h ≡ map.get old h
+
+pub elsewhere-insert : (m : Entries) (g : Grain) (x : Entry) → Elsewhere m (map.insert m g x) g
+elsewhere-insert m g x h apart = get-insert_other grain_cmp_total grain_cmp_exact m g h x apart
+
+pub elsewhere-remove : (m : Entries) (g : Grain) → Elsewhere m (map.remove m g) g
+elsewhere-remove m g h apart = map.get-remove grain_cmp_total m g h ∙ ap (λ b. cond b None (map.get m h)) apart
+
+pub gone : (m : Entries) (g : Grain) → map.get (map.remove m g) g ≡ None
+gone m g = map.get-remove grain_cmp_total m g g ∙ ap (λ b. cond b None (map.get m g)) ((eq_by_cmp-Decides grain_cmp_total grain_cmp_exact g g).1 refl)
+
+-- the request is answered, and the entry rests or is gone
+pub record Answers (w after : Whole) (g : Grain) (q : Request) : Type 0 where
+  pub rests : (e : Entry) → map.get after.entries g ≡ Some e → IsIdle e
+  pub elsewhere : Elsewhere w.entries after.entries g
+  pub outcome : Result Tree Fault
+  pub replies : after.replies ≡ w.replies ++ reply_to q.sender outcome
+
+-- by the entry that is put, or none
+answers_put : (w after : Whole) (g : Grain) (q : Request) (x : Entry) (outcome : Result Tree Fault) → after.entries ≡ map.insert w.entries g x → IsIdle x
+    → after.replies ≡ w.replies ++ reply_to q.sender outcome → Answers w after g q
+answers_put w after g q x outcome put idle replies = record {
+  rests = λ e found. subst IsIdle (same_Some x e (sym (ap (λ m. map.get m g) put ∙ get-insert_same grain_cmp_total grain_cmp_exact w.entries g x) ∙ found)) idle;
+  elsewhere = λ h apart. ap (λ m. map.get m h) put ∙ elsewhere-insert w.entries g x h apart;
+  outcome = outcome;
+  replies = replies;
+}
+
+pub answers_gone : (w after : Whole) (g : Grain) (q : Request) (outcome : Result Tree Fault) → after.entries ≡ map.remove w.entries g
+    → after.replies ≡ w.replies ++ reply_to q.sender outcome → Answers w after g q
+answers_gone w after g q outcome put replies = record {
+  rests = λ e found. absurd (none-some e (sym (ap (λ m. map.get m g) put ∙ gone w.entries g) ∙ found));
+  elsewhere = λ h apart. ap (λ m. map.get m h) put ∙ elsewhere-remove w.entries g h apart;
+  outcome = outcome;
+  replies = replies;
+}
+
+-- the whole after a step that is done or isn't
+pub run_done : (logic : Logic) (w after : Whole) (s : Step) (steps : List Step) → whole_step logic w s ≡ Some after → whole_run logic w (s ∷ steps) ≡ whole_run logic after steps
+run_done logic w after s steps step = ap (λ o. whole_run logic (unwrap_or o w) steps) step
+
+pub run_not : (logic : Logic) (w : Whole) (s : Step) (steps : List Step) → whole_step logic w s ≡ None → whole_run logic w (s ∷ steps) ≡ whole_run logic w steps
+run_not logic w s steps step = ap (λ o. whole_run logic (unwrap_or o w) steps) step
+
+module _ (logic : Logic) (w : Whole) (g : Grain) (e : Entry) (found : map.get w.entries g ≡ Some e) (q : Request) (open_turn : map.get e.turns q.number ≡ Some q)
+    (state : Tree) (version : Option ℕ) (is : e.phase ≡ ready state version) (queue : e.queue ≡ []) (none : map.len (map.remove e.turns q.number) ≡ 0) where
+  abbrev plan : Plan
+  plan = plan_of logic g state q
+
+  closed_idle : (new : Tree) (at : Option ℕ) → IsIdle (closed_turn w e q new at)
+  closed_idle new at = record { state = new; version = at; phase = refl; nothing_waits = queue; none_open = none }
+
+  put_answers : (new : Tree) (at : Option ℕ) (outcome : Result Tree Fault) (after : Whole) → after.entries ≡ map.insert w.entries g (closed_turn w e q new at)
+      → after.replies ≡ w.replies ++ reply_to q.sender outcome → Answers w after g q
+  put_answers new at outcome after put replies = answers_put w after g q (closed_turn w e q new at) outcome put (closed_idle new at) replies
+
+  abbrev AnswersBy : List Step → Type 0
+  AnswersBy steps = Answers w (whole_run logic w steps) g q
+
+  by_done : (after : Whole) (s : Step) → whole_step logic w s ≡ Some after → Answers w after g q → AnswersBy (s ∷ [])
+  by_done after s step answers = subst (λ x. Answers w x g q) (sym (run_done logic w after s [] step)) answers
+
+  -- ---- by what the storage answers
+
+  changed : (storage : StorageCall) (asks : plan.storage ≡ storage) (new : Tree) (r : Result (Option ℕ × Change Row) RowFault)
+      → stored_by logic (seen_at w g) g e q state version storage ≡ Some (row_changed (seen_at w g) g e q state version new r)
+      → AnswersBy (Store g q.number false ∷ [])
+  changed storage asks new (Ok done) changes =
+      by_done _ (Store g q.number false)
+      (store_changed logic w g q.number e found q open_turn state version is plan refl storage asks new (Ok done) changes done.0 done.1 refl)
+      (put_answers new done.0 (Ok (version_value done.0)) _ refl refl)
+  changed storage asks new (Err spent) changes =
+      by_done _ (Store g q.number false)
+      (store_spent logic w g q.number e found q open_turn state version is plan refl storage asks new (Err spent) changes refl)
+      (put_answers state version (Err (VersionsSpent g)) _ refl refl)
+  changed storage asks new (Err (stale there)) changes =
+      by_done _ (Store g q.number false)
+      (store_stale logic w g q.number e found q open_turn state version is plan refl storage asks new (Err (stale there)) changes there refl)
+      (answers_gone w _ g q (Err (StateChanged g)) (ap (λ k. change_at w.entries g (ends_activation e q k)) queue) refl)
+
+  failed : (storage : StorageCall) (answer : Effect) → plan.storage ≡ storage → stored_by logic (seen_at w g) g e q state version storage ≡ Some answer
+      → AnswersBy (Store g q.number true ∷ [])
+  failed storage answer asks h =
+      by_done _ (Store g q.number true)
+      (store_failed logic w g q.number e found q open_turn state version is plan refl storage answer asks h)
+      (put_answers state version (Err StorageFailed) _ refl refl)
+
+  -- ---- by the plan, or else by the storage
+
+  abbrev Ends : Bool → Type 0
+  Ends b = AnswersBy (ending (whole_stepper logic) w g q.number b)
+
+  not_ended : (b : Bool) → whole_step logic w (End g q.number) ≡ None → AnswersBy (Store g q.number b ∷ []) → Ends b
+  not_ended b step answers = subst AnswersBy (sym (ap (λ o. if is_some o then End g q.number ∷ [] else Store g q.number b ∷ []) step)) answers
+
+  ended_by : (b : Bool) (storage : StorageCall) → plan.storage ≡ storage → Ends b
+  ended_by b asks_nothing asks =
+      let ended = end_turn logic w g q.number e found q open_turn state version is plan refl asks in
+      subst AnswersBy (sym (ap (λ o. if is_some o then End g q.number ∷ [] else Store g q.number b ∷ []) ended))
+      (by_done _ (End g q.number) ended (put_answers plan.state version (outcome_of plan.outcome) _ refl refl))
+  ended_by false reads_row asks =
+      not_ended false (end_reads logic w g q.number e found q open_turn state version is plan refl asks)
+      (by_done _ (Store g q.number false) (store_read logic w g q.number e found q open_turn state version is plan refl asks)
+      (put_answers (content_or (logic.empty g.kind) (map.get w.rows g)) (version_of (map.get w.rows g)) (Ok (version_value (version_of (map.get w.rows g)))) _ refl refl))
+  ended_by true reads_row asks =
+      not_ended true (end_reads logic w g q.number e found q open_turn state version is plan refl asks) (failed reads_row _ asks refl)
+  ended_by false writes_row asks =
+      not_ended false (end_writes logic w g q.number e found q open_turn state version is plan refl asks)
+      (changed writes_row asks state (row_written version (map.get w.rows g) state) refl)
+  ended_by true writes_row asks =
+      not_ended true (end_writes logic w g q.number e found q open_turn state version is plan refl asks) (failed writes_row _ asks refl)
+  ended_by false clears_row asks =
+      not_ended false (end_clears logic w g q.number e found q open_turn state version is plan refl asks)
+      (changed clears_row asks (logic.empty g.kind) (row_cleared version (map.get w.rows g)) refl)
+  ended_by true clears_row asks =
+      not_ended true (end_clears logic w g q.number e found q open_turn state version is plan refl asks) (failed clears_row _ asks refl)
+
+  pub closes : (how : Closing) → AnswersBy (closing (whole_stepper logic) w g q.number how)
+  closes well = ended_by false plan.storage refl
+  closes storage_failed = ended_by true plan.storage refl
+  closes out_of_memory =
+      by_done _ (Abandon g q.number) (abandon_turn logic w g q.number e found q open_turn)
+      (answers_put w _ g q (record e { turns = map.remove e.turns q.number; last = w.clock }) (Err NoMemory) refl
+      (record { state = state; version = version; phase = is; nothing_waits = queue; none_open = none }) refl)

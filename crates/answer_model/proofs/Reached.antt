@@ -1,0 +1,25 @@
+-- Wholes that a journal leads to: what holds of these holds of what they are after any steps.
+use Rattle.std.proofs.Common.{◌≡◌, List, [], ◌∷◌, ◌++◌, Option, Some, None, unwrap_or, refl}
+use Rattle.silo_event.specs.declared.step.Step.{Step}
+use Rattle.grain_kinds.specs.Logic.{Logic}
+use Rattle.silo_model.specs.Whole.{Whole, whole_step}
+use Rattle.silo_model.specs.Run.{whole_run}
+use Rattle.silo_model.specs.Opening.{Setup}
+use Rattle.silo_model.specs.Journal.{LeadsTo}
+use Rattle.silo_model.proofs.Journals.{journals_grow}
+use Rattle.silo_model.proofs.Runs.{whole_after}
+
+abbrev pub IsReached : Logic → Setup → Whole → Type 0
+IsReached logic setup w = (journal : List Step) × LeadsTo logic setup journal w
+
+module _ (logic : Logic) (setup : Setup) where
+  pub step_reached : (w : Whole) (s : Step) → IsReached logic setup w → IsReached logic setup (whole_after logic w s)
+  step_reached w s reached = by_step (whole_step logic w s) refl
+    where
+      by_step : (r : Option Whole) → whole_step logic w s ≡ r → IsReached logic setup (unwrap_or r w)
+      by_step None e = reached
+      by_step (Some after) e = (reached.0 ++ s ∷ [], journals_grow logic setup reached.0 w after s reached.1 e)
+
+  pub run_reached : (steps : List Step) (w : Whole) → IsReached logic setup w → IsReached logic setup (whole_run logic w steps)
+  run_reached [] w reached = reached
+  run_reached (s ∷ steps) w reached = run_reached steps (whole_after logic w s) (step_reached w s reached)

@@ -1,0 +1,17 @@
+//! Laws over the definitions alone. No code runs: a law is the contract of a function that does
+//! nothing, so that it is proved with the crate.
+
+ghost use Rattle.answer_model.specs.Apart.{TenantsApart};
+ghost use Rattle.answer_model.specs.Resting.{AnsweredAtOnce};
+
+/// What a silo that answers each request at once shows to each tenant is what the tenant's own machine
+/// is after what the tenant and nobody asked alone.
+pub fn tenants_apart()
+    ensures { TenantsApart }
+{}
+
+/// If nothing waits and nothing is open, so it is again when anything was answered; and who asked has
+/// one reply, the first of all that are new, of which the others are told to grains.
+pub fn answered_at_once()
+    ensures { AnsweredAtOnce }
+{}
