@@ -6,7 +6,7 @@ use Rattle.grain_id.specs.Names.{Grain}
 use Rattle.grain_id.proofs.Order.{grain_cmp_total, grain_cmp_exact}
 use Rattle.grain_storage.specs.declared.row.Row.{Row}
 use Rattle.grain_storage.specs.Rows.{Rows}
-use Rattle.silo_model.proofs.Counts.{entries-retain_keys}
+use Rattle.finite_maps.proofs.Parts.{entries-part}
 use Rattle.silo_core.specs.Shown.{rows_in, AreListed}
 
 -- the rows of the list of rows
@@ -22,4 +22,4 @@ are_listed rows items e = ap map.entries (listed rows items e) ∙ sym e
 
 -- the rows whose grains pass a test, in order
 pub entries-retained : (rows : Rows) (test : Grain → Bool) → map.entries (map.retain_keys rows test) ≡ filter (λ entry. test entry.0) (map.entries rows)
-entries-retained rows test = entries-retain_keys grain_cmp_total grain_cmp_exact rows test
+entries-retained rows test = entries-part grain_cmp_total grain_cmp_exact rows test

@@ -5,13 +5,14 @@ use Rattle.std.specs.FinMap as map
 use Rattle.std.proofs.lemmas.List.{length-append, length-map}
 use Rattle.std.proofs.lemmas.Bool.{and_parts, and_from, eqb-true, eq-eqb}
 use Rattle.std.proofs.lemmas.Option.{none-some}
+use Rattle.finite_maps.proofs.Sums.{sum_zero}
+use Rattle.finite_maps.proofs.Totals.{total_alike}
 use Rattle.grain_id.specs.Names.{Grain}
 use Rattle.grain_id.proofs.Order.{text_cmp_total}
 use Rattle.silo_model.specs.Machine.{Account, Entry, Request}
 use Rattle.silo_model.specs.Pending.{AllQuiet, sends_of, pending_in, sent_in}
 use Rattle.silo_model.specs.Settled.{pending_at}
 use Rattle.silo_model.specs.Whole.{Whole, shown_to}
-use Rattle.silo_model.proofs.Counts.{total_alike, sum_zero}
 use Rattle.silo_model.proofs.Fair.{within_all}
 use Rattle.silo_model.proofs.QuietCounts.{quiet_by_counts, in_weighs, one_weighs, zero_entries}
 use Rattle.silo_state.specs.Reads.{is_quiet}

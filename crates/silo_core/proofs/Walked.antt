@@ -3,6 +3,7 @@ use Rattle.std.proofs.Common.{◌≡◌, ℕ, Bool, true, false, cond, List, [],
 use Rattle.std.specs.Prelude.{not, is_some, option_map}
 use Rattle.std.specs.FinMap as map
 use Rattle.std.proofs.lemmas.Option.{same_Some, none-some}
+use Rattle.std.proofs.lemmas.Bool.{not-true}
 use Rattle.grain_id.specs.Names.{Grain}
 use Rattle.grain_id.proofs.Order.{grain_eq_decides}
 use Rattle.grain_kinds.specs.Logic.{Logic}
@@ -20,17 +21,13 @@ use Rattle.silo_state.specs.Sends.{HasSent, NothingSent, first_source}
 
 -- ---- nothing was found
 
-not_failed : (failed : Bool) → not failed ≡ true → failed ≡ false
-not_failed true h = sym h
-not_failed false h = refl
-
 undelivered : (g : Grain) (account : Option Account) → sends_of account ≡ [] → delivery_of g account ≡ None
 undelivered g None none = refl
 undelivered g (Some a) none = ap (λ (sends : List Send). option_map (λ f. Deliver g) (first_from g sends)) none
 
 pub nothing_to_do : (logic : Logic) (w : Whole) → ((g : Grain) → work_on logic g (map.get w.entries g) ≡ None) → NothingSent w.accounts → IsTodo logic w None
 nothing_to_do logic w none unsent (Activate g) work = (nothing_at_entry logic w g (none g)).0
-nothing_to_do logic w none unsent (Load g failed) work = (nothing_at_entry logic w g (none g)).1 failed (not_failed failed work)
+nothing_to_do logic w none unsent (Load g failed) work = (nothing_at_entry logic w g (none g)).1 failed (not-true failed work)
 nothing_to_do logic w none unsent (Begin g) work = (nothing_at_entry logic w g (none g)).2
 nothing_to_do logic w none unsent (Deliver g) work = nothing_to_deliver logic w g (undelivered g (map.get w.accounts g.tenant) (unsent g.tenant))
 nothing_to_do logic w none unsent _ work = absurd (true≢false (sym work))

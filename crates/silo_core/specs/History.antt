@@ -1,4 +1,5 @@
--- What a silo shows: its setup, what its tenants have, the steps that led there, and how many calls of the storage failed; and what a step does to it.
+-- What a silo shows: its setup, what its tenants have, the steps that led there, and how many calls of the storage
+-- failed; and what a step does to it.
 use Rattle.std.specs.Prelude.{◌≡◌, ℕ, ◌+◌, true, false, List, [], ◌∷◌, ◌++◌, Some, None, Result, Ok, Err}
 use Rattle.silo_event.specs.Failed.{may_fail, as_failed}
 use Rattle.silo_event.specs.declared.reply.Reply.{Reply}
@@ -53,7 +54,8 @@ Answered logic old s (Ok NotNow) new = StaysAsItWas logic old s new
 Answered logic old s (Err Memory) new = new ≡ old
 Answered logic old s (Err Stranger) new = ⊥
 
--- The part of each tenant that the step concerns is the machine's, every other part stays, and what the machine replied stands last among all replies.
+-- The part of each tenant that the step concerns is the machine's, every other part stays, and what the machine
+-- replied stands last among all replies.
 pub record StepsInParts (logic : Logic) (old : Whole) (s : Step) (new : Whole) : Type 0 where
   pub own : (tenant : List ℕ) → concerns tenant s ≡ true → machine_step logic (shown_to tenant old) s ≡ Some (shown_to tenant new)
   pub others : (tenant : List ℕ) → concerns tenant s ≡ false → shown_to tenant new ≡ shown_to tenant old
@@ -65,5 +67,6 @@ pub record StepsInParts (logic : Logic) (old : Whole) (s : Step) (new : Whole) :
 abbrev pub StepAnswersInParts : Logic → Whole → Step → Result Answer StepFault → Whole → Type 0
 StepAnswersInParts logic old s (Ok Done) new = StepsInParts logic old s new
 StepAnswersInParts logic old s (Ok Failed) new = StepsInParts logic old (as_failed s) new
-StepAnswersInParts logic old s (Ok NotNow) new = (tenant : List ℕ) → concerns tenant s ≡ true → machine_step logic (shown_to tenant old) s ≡ None
+StepAnswersInParts logic old s (Ok NotNow) new =
+    (tenant : List ℕ) → concerns tenant s ≡ true → machine_step logic (shown_to tenant old) s ≡ None
 StepAnswersInParts logic old s (Err fault) new = new ≡ old

@@ -33,11 +33,13 @@ AllConcern tenant (s ∷ steps) = (concerns tenant s ≡ true) × AllConcern ten
 
 -- For every tenant the part is the run of the tenant's own machine, with the other tenants' steps struck out.
 abbrev pub RunsInParts : Logic → Whole → List Step → Whole → Type 0
-RunsInParts logic old steps new = (tenant : List ℕ) → shown_to tenant new ≡ machine_run logic (shown_to tenant old) (restricted_to tenant steps)
+RunsInParts logic old steps new =
+    (tenant : List ℕ) → shown_to tenant new ≡ machine_run logic (shown_to tenant old) (restricted_to tenant steps)
 
 -- And the answers to the tenant's steps are that machine's.
 abbrev pub RunAnswersInParts : Logic → Whole → List Step → List Answer → Type 0
-RunAnswersInParts logic old steps given = (tenant : List ℕ) → AreMachineAnswers logic (shown_to tenant old) (restricted_to tenant steps) (answers_to tenant steps given)
+RunAnswersInParts logic old steps given =
+    (tenant : List ℕ) → AreMachineAnswers logic (shown_to tenant old) (restricted_to tenant steps) (answers_to tenant steps given)
 
 -- From the old history the steps were taken, each with its answer, and led to the new one.
 pub record Takes (logic : Logic) (old : History) (steps : List Step) (given : List Answer) (new : History) : Type 0 where

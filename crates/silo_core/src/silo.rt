@@ -61,7 +61,8 @@ impl<S: GrainStorage, L: GrainLogic> Model for Silo<S, L> {
       failures = record { at_opening = s.opening_failures; now = s.state.failures };
     } };
 
-    ghost invariant = { λ s. LeadsTo L.logic (setup_of s.tenants s.age s.opening.items) s.journal.items s.state.whole × AreListed s.opening.items };
+    ghost invariant = { λ s. LeadsTo L.logic (setup_of s.tenants s.age s.opening.items) s.journal.items s.state.whole
+        × AreListed s.opening.items };
 }
 
 impl<S: GrainStorage + Drop, L: GrainLogic + Drop> Silo<S, L> {

@@ -11,7 +11,7 @@ use Rattle.std.proofs.lemmas.Option.{none-some}
 use Rattle.grain_id.specs.Names.{Grain, grain_cmp}
 use Rattle.grain_kinds.specs.Logic.{Logic}
 use Rattle.turn_mailbox.specs.declared.request.Request.{Request}
-use Rattle.turn_mailbox.proofs.Mapped.{mapped-empty}
+use Rattle.finite_maps.proofs.Mapped.{mapped-empty}
 use Rattle.activation_directory.specs.declared.activation.Activation.{Activation}
 use Rattle.silo_model.specs.Machine.{Entries}
 use Rattle.silo_model.specs.Calls.{with_request}

@@ -1,31 +1,28 @@
 -- What requests that are refused or accepted come to, as steps of the whole.
-use Rattle.std.proofs.Common.{◌≡◌, ◌≢◌, ℕ, suc, ◌+◌, ◌==◌, ◌<◌, Bool, true, false, ◌&&◌, List, [], ◌∷◌, ◌++◌, length, Option, Some, None, refl, ap, sym, ◌∙◌, subst, arith}
-use Rattle.std.specs.Prelude.{Result, Ok, Err, nat_lt, option_map, if◌then◌else◌}
+use Rattle.std.proofs.Common.{◌≡◌, ◌≢◌, ℕ, ◌+◌, ◌==◌, ◌<◌, true, false, List, ◌++◌, length, Option, Some, None, refl, ap, sym, ◌∙◌, arith}
+use Rattle.std.specs.Prelude.{Result, Ok, Err, nat_lt, option_map}
 use Rattle.std.specs.FinMap as map
 use Rattle.std.specs.FinMap.{FinMap}
 use Rattle.std.proofs.lemmas.Bool.Decides.{nat_tests}
 use Rattle.std.proofs.lemmas.Option.{same_Some}
-use Rattle.grain_id.specs.Names.{Grain, Client, grain_cmp, text_cmp}
+use Rattle.grain_id.specs.Names.{Grain, Client, text_cmp}
 use Rattle.grain_id.proofs.Order.{text_cmp_total, text_cmp_exact}
-use Rattle.grain_id.proofs.Maps.{get-insert_same, insert-insert}
+use Rattle.finite_maps.proofs.Maps.{get-insert_same, insert-insert}
 use Rattle.request_codec.specs.Call as codec
 use Rattle.silo_event.specs.declared.fault.Fault.{Fault}
 use Rattle.silo_event.specs.declared.reply.Party.TheVariants as party
 use Rattle.silo_event.specs.declared.step.Step.TheVariants.{Call, Deliver}
 use Rattle.grain_kinds.specs.Logic.{Logic}
-use Rattle.silo_model.specs.Machine.{Account, Entry, Entries, Request, Send}
-use Rattle.silo_model.specs.Idle.{is_ready}
+use Rattle.silo_model.specs.Machine.{Account, Entry, Send}
 use Rattle.silo_model.specs.Calls.{told, last_number, admitted, with_request}
 use Rattle.silo_model.specs.Sends.{first_from}
 use Rattle.silo_model.specs.Whole.{Whole, whole_step}
 use Rattle.silo_model.specs.Contexts.{active_of, context_of}
 use Rattle.silo_model.proofs.CallSteps.{next_request}
 use Rattle.silo_state.specs.Held.{Held}
-use Rattle.silo_state.specs.Notes.{idle_since, AreNoted}
 use Rattle.silo_state.specs.Requests.{with_told, with_accepted}
 use Rattle.silo_state.specs.Deliveries.{changed_account, without_first}
 use Rattle.silo_state.specs.Verdicts.{gated, verdict, Settles}
-use Rattle.silo_state.proofs.Idle.{noted-used}
 use Rattle.silo_state.proofs.Verdicts.{accepts, call_made, call_is, delivery_made, delivery_is}
 
 -- ---- why a request is refused
@@ -53,28 +50,6 @@ module _ (logic : Logic) (w : Whole) (t : List ℕ) (g : Grain) (a : Account) (p
 
   pub settles_again : (e : Entry) → map.get w.entries g ≡ Some e → length e.queue < a.limits.mailbox → Settles (verdict logic w t g) None
   settles_again e found free = (a, numbered ∙ rw (not_equal a.count last_number left, found, below (length e.queue) a.limits.mailbox free) refl)
-
--- ---- the notes
-
-some_there : (n : ℕ) → (suc n == 0) ≡ false
-some_there n = grind (arith, nat_tests)
-
-used_with : (clock : ℕ) (r : Request) (found : Option Entry) → idle_since (Some (with_request clock r found)) ≡ None
-used_with clock r None = refl
-used_with clock r (Some e) = by (is_ready e.phase) e.queue
-  where
-    by : (ready : Bool) (queue : List Request) → (if ready && (length (queue ++ r ∷ []) == 0) && (map.len e.turns == 0) then Some clock else None) ≡ None
-    by true [] = refl
-    by true (x ∷ xs) = ap (λ b. if b && (map.len e.turns == 0) then Some clock else None) (some_there (length (xs ++ r ∷ [])))
-    by false queue = refl
-
--- a grain at which a request waits has no note
-pub wait_noted : (entries after : Entries) (lasts notes : FinMap grain_cmp ℕ) → AreNoted entries lasts → (g : Grain) (clock : ℕ) (r : Request)
-    → after ≡ map.insert entries g (with_request clock r (map.get entries g)) → notes ≡ map.remove lasts g → AreNoted after notes
-wait_noted entries after lasts notes noted g clock r is gone =
-    subst (λ (es : Entries). AreNoted es notes) (sym is)
-    (subst (λ (ns : FinMap grain_cmp ℕ). AreNoted (map.insert entries g (with_request clock r (map.get entries g))) ns) (sym gone)
-    (noted-used entries lasts noted g (with_request clock r (map.get entries g)) (used_with clock r (map.get entries g))))
 
 -- ---- calls
 

@@ -7,7 +7,6 @@ use Rattle.grain_id.specs.Names.{Grain, text_cmp}
 use Rattle.grain_kinds.specs.Logic.{Logic, Outgoing, StorageCall, asks_nothing, reads_row, writes_row, clears_row}
 use Rattle.grain_kinds.specs.Finished.{turn_plan}
 use Rattle.grain_kinds.specs.declared.turn.OpenedTurn.{OpenedTurn}
-use Rattle.idle_collector.specs.Notes.{Notes}
 use Rattle.silo_event.specs.declared.reply.Party.{Party}
 use Rattle.silo_event.specs.declared.reply.Reply.{Reply}
 use Rattle.silo_event.specs.declared.step.Answer.TheVariants.{Done}
@@ -18,19 +17,25 @@ use Rattle.silo_model.specs.Calls.{reply_to}
 use Rattle.silo_model.specs.Turns.{plan_of, sent_by, with_sends, outcome_of}
 use Rattle.silo_model.specs.Whole.{whole_step}
 use Rattle.silo_model.proofs.TurnSteps.{end_absent, end_closed, end_waiting, end_loading, end_reads, end_writes, end_clears, end_turn}
+use Rattle.silo_state.specs.Activations.{Activations}
 use Rattle.silo_state.specs.Held.{Held}
+use Rattle.silo_state.specs.Notes.{none_waits}
 use Rattle.silo_state.specs.Moves.{Moves}
 use Rattle.silo_state.specs.Sends.{with_more}
 use Rattle.silo_state.specs.Entries.{ClosesEntry}
 use Rattle.silo_state.specs.Closings.{ClosesTold}
 use Rattle.silo_state.specs.Finds.{open_in, IsOwn, asks}
-use Rattle.silo_state.proofs.Idle.{the_same, told_age}
+use Rattle.silo_state.proofs.Idle.{the_same}
 
 -- what a turn sends comes to the account in one way
 more_sent : (g : Grain) (account : Option Account) (outgoing : List Outgoing) → with_sends g account outgoing ≡ with_more account (sent_by g outgoing)
 more_sent g account [] = refl
 more_sent g None (o ∷ outgoing) = refl
 more_sent g (Some a) (o ∷ outgoing) = refl
+
+-- whether no request waits is known of the turn that is closed
+pub waits_known : (g : Grain) (found : Option Entry) (turn : ℕ) (version : Option ℕ) (idle_after : Bool) (input : OpenedTurn) → IsOwn g found turn version idle_after input → (e : Entry) → found ≡ Some e → idle_after ≡ none_waits e
+waits_known g found turn version idle_after input own e is = own.idle_after_is ∙ ap none_waits (the_same own.entry e (sym own.is_open.found_is ∙ is))
 
 -- no such turn is open
 pub end_none : (logic : Logic) (h : Held) (g : Grain) (turn : ℕ) → option_and_then (λ e. open_in e turn e.phase) (map.get h.whole.entries g) ≡ None → whole_step logic h.whole (End g turn) ≡ None
@@ -66,7 +71,7 @@ module _ (logic : Logic) (h : Held) (g : Grain) (turn : ℕ) (version : Option �
   nothing_asked clears_row e = absurd cc
 
   -- the entry and the request that are closed are those that were found
-  module _ (phase : Option Phase) (last : ℕ) (sender : Party) (idle : Bool) (new : Entries) (d : ClosesEntry h.whole.entries g turn phase last sender idle new) where
+  module _ (phase : Option Phase) (last : ℕ) (sender : Party) (new : Entries) (d : ClosesEntry h.whole.entries g turn phase last sender new) where
     pub same_entry : d.before ≡ own.entry
     same_entry = the_same d.before own.entry (sym d.found ∙ own.is_open.found_is)
 
@@ -80,18 +85,18 @@ module _ (logic : Logic) (h : Held) (g : Grain) (turn : ℕ) (version : Option �
     same_plan = ap (plan_of logic g own.state) same_request ∙ planned
 
   -- the plan's state stands, its sends go out, and its outcome is the reply
-  pub end_moves : (accounts : FinMap text_cmp Account) (mid final : Notes) (new : Entries) (replies : List Reply) → asks (turn_plan logic input).storage ≡ false → mid.age ≡ h.whole.age
-      → ClosesTold h.whole.entries mid h.whole.replies g turn (Some (ready (turn_plan logic input).state version)) idle_after h.whole.clock (outcome_of (turn_plan logic input).outcome) new final replies
+  pub end_moves : (accounts : FinMap text_cmp Account) (new : Activations) (replies : List Reply) → asks (turn_plan logic input).storage ≡ false → new.age ≡ h.whole.age
+      → ClosesTold h.whole.entries h.whole.replies g turn (Some (ready (turn_plan logic input).state version)) h.whole.clock (outcome_of (turn_plan logic input).outcome) new.entries replies
       → accounts ≡ change_at h.whole.accounts g.tenant (with_more (map.get h.whole.accounts g.tenant) (sent_by g (turn_plan logic input).sends))
-      → Moves logic h (End g turn) (Ok Done) (record h { whole = record h.whole { accounts = accounts; age = final.age; entries = new; replies = replies } })
-  end_moves accounts mid final new replies silent aged t sent =
+      → Moves logic h (End g turn) (Ok Done) (record h { whole = record h.whole { accounts = accounts; age = new.age; entries = new.entries; replies = replies } })
+  end_moves accounts new replies silent aged t sent =
       let plan = turn_plan logic input in
       let phase = Some (ready plan.state version) in
       let d = t.closes in (
-        end_turn logic h.whole g turn d.before d.found d.request d.open_turn own.state version (same_phase phase h.whole.clock t.sender t.idle new d) plan (same_plan phase h.whole.clock t.sender t.idle new d) (nothing_asked plan.storage silent)
+        end_turn logic h.whole g turn d.before d.found d.request d.open_turn own.state version (same_phase phase h.whole.clock t.sender new.entries d) plan (same_plan phase h.whole.clock t.sender new.entries d) (nothing_asked plan.storage silent)
             ∙ (λ i. Some (record h.whole {
               accounts = sym (sent ∙ ap (change_at h.whole.accounts g.tenant) (sym (more_sent g (map.get h.whole.accounts g.tenant) plan.sends))) i;
-              age = sym (told_age mid final g idle_after t.idle t.settled ∙ aged) i;
+              age = sym aged i;
               entries = sym d.put i;
               replies = sym (t.told_is ∙ ap (λ s. h.whole.replies ++ reply_to s (outcome_of plan.outcome)) d.sender_is) i;
             })),

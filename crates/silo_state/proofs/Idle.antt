@@ -1,5 +1,6 @@
--- The notes stay those of the idle entries.
-use Rattle.std.proofs.Common.{◌≡◌, ℕ, ◌==◌, Bool, true, false, ◌&&◌, ◌<◌, arith, cond, Option, Some, None, refl, ap, sym, ◌∙◌, subst}
+-- Which entries are idle, and that the notes stay those of the idle ones.
+use Rattle.std.proofs.Common.{◌≡◌, ℕ, ◌==◌, Bool, true, false, ◌&&◌, ◌<◌, suc, arith, cond, List, [], ◌∷◌, ◌++◌, length, Option, Some, None, refl, ap, sym, ◌∙◌, subst}
+use Rattle.std.specs.Prelude.{Result, Ok, Err, IfOk, OnErr, IfSome}
 use Rattle.std.specs.Ordering.{eq_by_cmp, nat_cmp}
 use Rattle.std.specs.Cmp.{nat_cmp_total}
 use Rattle.std.specs.FinMap as map
@@ -7,19 +8,18 @@ use Rattle.std.specs.FinMap.{FinMap, nat_cmp-IsAntisymmetric}
 use Rattle.std.proofs.lemmas.Bool.Decides.{Decides-eqb}
 use Rattle.grain_id.specs.Names.{Grain, grain_cmp}
 use Rattle.grain_id.proofs.Order.{grain_cmp_total, grain_cmp_exact, eq_by_cmp-Decides}
-use Rattle.grain_id.proofs.Maps as maps
-use Rattle.silo_model.specs.Machine.{Entry, Entries, Request}
-use Rattle.silo_model.proofs.Contexts.{not_true}
-use Rattle.std.specs.Prelude.{unwrap_or, length}
-use Rattle.silo_event.specs.declared.reply.Party.{Party}
-use Rattle.silo_model.specs.Machine.{Phase, loading, ready}
-use Rattle.request_codec.specs.Tree.{Tree}
-use Rattle.silo_state.specs.Reads.{is_quiet}
+use Rattle.finite_maps.proofs.Maps as maps
+use Rattle.grain_kinds.specs.Logic.{Logic}
+use Rattle.silo_event.specs.declared.step.Answer.{Answer}
+use Rattle.silo_event.specs.declared.step.Answer.TheVariants.{Done, Failed, NotNow}
+use Rattle.silo_model.specs.Machine.{Entry, Entries, Request, Phase, loading}
 use Rattle.silo_model.specs.Idle.{is_ready}
-use Rattle.silo_state.specs.Entries.{closed_entry, ClosesEntry}
-use Rattle.silo_state.specs.Notes.{is_idle, idle_since, may_be_idle, AreNoted}
-use Rattle.idle_collector.specs.Notes.{Notes, noted, forgotten}
-use Rattle.idle_collector.proofs.Lasts.{taken_back}
+use Rattle.silo_model.specs.Calls.{with_request}
+use Rattle.std.proofs.lemmas.Bool.{false_from_ne_true}
+use Rattle.silo_state.specs.Activations.{IsLoading}
+use Rattle.silo_state.specs.Entries.{Activates, Begins}
+use Rattle.silo_state.specs.Notes.{is_idle, idle_since, none_waits, AreNoted}
+use Rattle.idle_collector.specs.Notes.{Collection, noted_if}
 
 either_since : (b : Bool) (o p : Option Entry) → cond b (idle_since o) (idle_since p) ≡ idle_since (cond b o p)
 either_since true o p = refl
@@ -56,11 +56,10 @@ module _ (entries : Entries) (lasts : FinMap grain_cmp ℕ) (noted : AreNoted en
   pub noted-gone : AreNoted (map.remove entries g) (map.remove lasts g)
   noted-gone = noted-at None _ _ (map.get-remove grain_cmp_total entries g) (map.get-remove grain_cmp_total lasts g)
 
-  -- one that had none goes
-  pub noted-without : idle_since (map.get entries g) ≡ None → AreNoted (map.remove entries g) lasts
-  noted-without none = noted-at None _ lasts (map.get-remove grain_cmp_total entries g) (λ q. kept_at q (eq_by_cmp grain_cmp q g) refl None (noted g ∙ none))
-
 -- ---- entries in use
+
+pub the_same : {X : Type 0} (x y : X) → Some x ≡ Some y → x ≡ y
+the_same x y e = cc (e)
 
 pub and_false : (b : Bool) → b && false ≡ false
 and_false true = refl
@@ -68,106 +67,103 @@ and_false false = refl
 
 -- some turn is open
 pub some_open : (turns : FinMap nat_cmp Request) (n : ℕ) (turn : Request) → (map.len (map.insert turns n turn) == 0) ≡ false
-some_open turns n turn = not_true _ (λ none.
+some_open turns n turn = false_from_ne_true _ (λ none.
     let gone : map.get (map.insert turns n turn) n ≡ None = ap (λ (m : FinMap nat_cmp Request). map.get m n) (map.empty_of_len (map.insert turns n turn) ((Decides-eqb _ 0).0 none)) ∙ map.get-empty nat_cmp n in
     let there = maps.get-insert_same nat_cmp_total nat_cmp-IsAntisymmetric turns n turn in
     cc (gone, there))
 
 -- some request waits
 pub some_waits : (n : ℕ) → 0 < n → (n == 0) ≡ false
-some_waits n some = not_true _ (λ none. let zero = (Decides-eqb n 0).0 none in absurd (omega (arith, some, zero)))
+some_waits n some = false_from_ne_true _ (λ none. let zero = (Decides-eqb n 0).0 none in absurd (omega (arith, some, zero)))
 
 -- an entry with an open turn is in use
-pub used-turn : (e : Entry) (n : ℕ) (turn : Request) → map.get e.turns n ≡ Some turn → idle_since (Some e) ≡ None
+pub used-turn : (e : Entry) (n : ℕ) (turn : Request) → map.get e.turns n ≡ Some turn → is_idle e ≡ false
 used-turn e n turn at =
-    let some : (map.len e.turns == 0) ≡ false = not_true _ (λ none.
+    let some : (map.len e.turns == 0) ≡ false = false_from_ne_true _ (λ none.
     let gone : map.get e.turns n ≡ None = ap (λ (m : FinMap nat_cmp Request). map.get m n) (map.empty_of_len e.turns ((Decides-eqb _ 0).0 none)) ∙ map.get-empty nat_cmp n in
     cc (gone, at)) in
-    ap (λ b. cond (may_be_idle e && b) (Some e.last) None) some ∙ ap (λ b. cond b (Some e.last) None) (and_false (may_be_idle e))
+    ap (λ b. is_ready e.phase && none_waits e && b) some ∙ and_false (is_ready e.phase && none_waits e)
 
--- ---- a grain that is noted before it is idle, and not if it isn't after all
+-- and one that isn't ready
+used-phase : (e : Entry) (phase : Phase) → is_ready phase ≡ false → e.phase ≡ phase → is_idle e ≡ false
+used-phase e phase not is = ap (λ p. is_ready p && none_waits e && (map.len e.turns == 0)) is ∙ ap (λ b. b && none_waits e && (map.len e.turns == 0)) not
 
-pub expected_age : (notes mid : Notes) (g : Grain) (last : ℕ) (idle_after : Bool) → mid ≡ cond idle_after (noted notes g last) notes → mid.age ≡ notes.age
-expected_age notes mid g last true m = ap (λ (n : Notes). n.age) m
-expected_age notes mid g last false m = ap (λ (n : Notes). n.age) m
+-- one that loads
+pub used_loading : (e : Entry) (o : Option Entry) → o ≡ Some e → IsLoading o → is_idle e ≡ false
+used_loading e o found is = used-phase e loading refl (ap (λ (x : Entry). x.phase) (the_same e is.0 (sym found ∙ is.1)) ∙ is.2)
 
--- closing a turn leaves the age
-pub told_age : (mid final : Notes) (g : Grain) (idle_after idle : Bool) → final ≡ cond idle_after (cond idle mid (forgotten mid g)) mid → final.age ≡ mid.age
-told_age mid final g true true f = ap (λ (n : Notes). n.age) f
-told_age mid final g true false f = ap (λ (n : Notes). n.age) f
-told_age mid final g false idle f = ap (λ (n : Notes). n.age) f
+since_used : (e : Entry) → is_idle e ≡ false → idle_since (Some e) ≡ None
+since_used e used = ap (λ b. cond b (Some e.last) None) used
 
--- and so does taking a note back
-pub back_age : (mid final : Notes) (g : Grain) (idle_after : Bool) → final ≡ cond idle_after (forgotten mid g) mid → final.age ≡ mid.age
-back_age mid final g true f = ap (λ (n : Notes). n.age) f
-back_age mid final g false f = ap (λ (n : Notes). n.age) f
+-- at an idle entry no request waits
+since-none_waits : (e : Entry) (last : ℕ) → idle_since (Some e) ≡ Some last → none_waits e ≡ true
+since-none_waits e last since = by (is_ready e.phase) (none_waits e) (map.len e.turns == 0) since
+  where
+    by : (r w o : Bool) → cond (r && w && o) (Some e.last) None ≡ Some last → w ≡ true
+    by true true o is = refl
+    by true false o is = absurd cc
+    by false w o is = absurd cc
 
--- taken back, the notes are as before
-pub settled_back : (entries : Entries) (notes mid final : Notes) (g : Grain) (last : ℕ) → AreNoted entries notes.lasts → idle_since (map.get entries g) ≡ None → (idle_after : Bool) → mid ≡ cond idle_after (noted notes g last) notes → final ≡ cond idle_after (forgotten mid g) mid → final ≡ notes
-settled_back entries notes mid final g last are none true m f = f ∙ ap (λ n. forgotten n g) m ∙ taken_back notes g last (are g ∙ none)
-settled_back entries notes mid final g last are none false m f = f ∙ m
+-- ---- the entry of one grain changes
 
-module _ (entries : Entries) (notes : Notes) (are : AreNoted entries notes.lasts) (g : Grain) (none : idle_since (map.get entries g) ≡ None) (after : Entry) where
-  settled_by : (idle_after idle : Bool) → is_idle after ≡ idle → (idle ≡ true → idle_after ≡ true)
-      → AreNoted (map.insert entries g after) (cond idle_after (cond idle (cond idle_after (noted notes g after.last) notes) (forgotten (cond idle_after (noted notes g after.last) notes) g)) (cond idle_after (noted notes g after.last) notes)).lasts
-  settled_by true true is quiet = noted-idle entries notes.lasts are g after after.last (ap (λ b. cond b (Some after.last) None) is)
-  settled_by true false is quiet =
-      subst (λ lasts. AreNoted (map.insert entries g after) lasts) (sym (maps.remove-insert grain_cmp_total grain_cmp_exact notes.lasts g after.last))
-      (noted-used entries notes.lasts are g after (ap (λ b. cond b (Some after.last) None) is))
-  settled_by false true is quiet = absurd (let e = quiet refl in cc)
-  settled_by false false is quiet = noted-same entries notes.lasts are g after (ap (λ b. cond b (Some after.last) None) is ∙ sym none)
+module _ (entries : Entries) (lasts : FinMap grain_cmp ℕ) (noted : AreNoted entries lasts) (g : Grain) where
+  moved : (after new : Entries) → AreNoted after lasts → new ≡ after → AreNoted new lasts
+  moved after new still same = subst (λ (es : Entries). AreNoted es lasts) (sym same) still
 
-  pub settled : (idle_after idle : Bool) (mid final : Notes) → idle ≡ is_idle after → (idle ≡ true → idle_after ≡ true) → mid ≡ cond idle_after (noted notes g after.last) notes → final ≡ cond idle_after (cond idle mid (forgotten mid g)) mid
-      → AreNoted (map.insert entries g after) final.lasts
-  settled idle_after idle mid final is quiet m f =
-      subst (λ (n : Notes). AreNoted (map.insert entries g after) n.lasts) (sym (f ∙ (λ i. cond idle_after (cond idle (m i) (forgotten (m i) g)) (m i)))) (settled_by idle_after idle (sym is) quiet)
+  -- it was in use, and is
+  used_still : (before after : Entry) → map.get entries g ≡ Some before → is_idle before ≡ false → idle_since (Some after) ≡ None → (new : Entries) → new ≡ map.insert entries g after → AreNoted new lasts
+  used_still before after found used in_use new put = moved _ new (noted-same entries lasts noted g after (in_use ∙ sym (ap idle_since found ∙ since_used before used))) put
 
-left_true : (a b : Bool) → a && b ≡ true → a ≡ true
-left_true true b e = refl
-left_true false b e = absurd cc
+  pub activate_noted : (answer : Answer) (new : Entries) → Activates entries g answer new → AreNoted new lasts
+  activate_noted Done new d = used_still d.before _ d.found (used-phase d.before _ refl d.waits) refl new d.put
+  activate_noted Failed new d = absurd d
+  activate_noted NotNow new d = moved entries new noted d.1
 
-pub the_same : {X : Type 0} (x y : X) → Some x ≡ Some y → x ≡ y
-the_same x y e = cc (e)
+  begin_noted : (logic : Logic) (opened : Bool) (new : Entries) → Begins logic entries g opened new → AreNoted new lasts
+  begin_noted logic false new d = moved entries new noted d.1
+  begin_noted logic true new d = used_still d.before d.after d.found d.used (since_used d.after d.in_use) new d.put
 
--- the notes after a turn was closed: the grain was noted before, if it might be idle then
-module _ (entries : Entries) (notes : Notes) (are : AreNoted entries notes.lasts) (g : Grain) (turn : ℕ) (phase : Option Phase) (last : ℕ) (sender : Party) (idle : Bool) (new : Entries)
-    (d : ClosesEntry entries g turn phase last sender idle new) (e : Entry) (found : map.get entries g ≡ Some e) (ready : is_ready (unwrap_or phase e.phase) ≡ true → is_ready e.phase ≡ true) where
-  was : d.before ≡ e
-  was = the_same d.before e (sym d.found ∙ found)
+  pub begins_noted : {A E : Type 0} (logic : Logic) (shown : A → Bool) (result : Result A E) (new : Entries) → IfOk result (λ x. Begins logic entries g (shown x) new) → OnErr result (new ≡ entries) → AreNoted new lasts
+  begins_noted logic shown (Ok x) new d same = begin_noted logic (shown x) new d
+  begins_noted logic shown (Err e) new d same = moved entries new noted same
 
-  after : Entry
-  after = closed_entry d.before d.request phase last
-
-  quiet_by : (b : Bool) → is_ready (unwrap_or phase d.before.phase) && (length d.before.queue == 0) ≡ b → b ≡ true → may_be_idle d.before ≡ true
-  quiet_by b is holds = idle_after (is_ready (unwrap_or phase d.before.phase)) refl (length d.before.queue == 0) (is ∙ holds)
+  -- a request waits there
+  pub wait_noted : (clock : ℕ) (r : Request) (new : Entries) (later : FinMap grain_cmp ℕ) → new ≡ map.insert entries g (with_request clock r (map.get entries g)) → later ≡ map.remove lasts g → AreNoted new later
+  wait_noted clock r new later is gone =
+      subst (λ (p : Entries × FinMap grain_cmp ℕ). AreNoted p.0 p.1) (λ i. (sym is i, sym gone i))
+      (noted-used entries lasts noted g (with_request clock r (map.get entries g)) (since_used (with_request clock r (map.get entries g)) (used_with (map.get entries g))))
     where
-      idle_after : (r : Bool) → is_ready (unwrap_or phase d.before.phase) ≡ r → (w : Bool) → r && w ≡ true → is_ready d.before.phase && w ≡ true
-      idle_after true is w both = ap (λ b. b && w) (ap (λ (x : Entry). is_ready x.phase) was ∙ ready (ap (λ (x : Entry). is_ready (unwrap_or phase x.phase)) (sym was) ∙ is)) ∙ both
-      idle_after false is w both = absurd cc
+      some_there : (n : ℕ) → (suc n == 0) ≡ false
+      some_there n = some_waits (suc n) (omega arith)
 
-  pub closing_noted : (idle_after : Bool) (mid final : Notes) → idle_after ≡ may_be_idle e → mid ≡ cond idle_after (noted notes g last) notes → final ≡ cond idle_after (cond idle mid (forgotten mid g)) mid → AreNoted new final.lasts
-  closing_noted idle_after mid final is m f =
-      subst (λ (es : Entries). AreNoted es final.lasts) (sym d.put)
-      (settled entries notes are g (ap idle_since d.found ∙ used-turn d.before turn d.request d.open_turn) (closed_entry d.before d.request phase last) idle_after idle mid final d.idle_is
-      (λ quiet. is ∙ ap may_be_idle (sym was) ∙ quiet_by _ refl (left_true _ _ (sym d.idle_is ∙ quiet))) m f)
+      by : (ready : Bool) (queue : List Request) (o : Bool) → ready && (length (queue ++ r ∷ []) == 0) && o ≡ false
+      by true [] o = refl
+      by true (x ∷ xs) o = ap (λ b. b && o) (some_there (length (xs ++ r ∷ [])))
+      by false queue o = refl
 
--- ---- an entry that loads
+      used_with : (found : Option Entry) → is_idle (with_request clock r found) ≡ false
+      used_with None = refl
+      used_with (Some e) = by (is_ready e.phase) e.queue (map.len e.turns == 0)
 
-pub since_loading : (e : Entry) → e.phase ≡ loading → idle_since (Some e) ≡ None
-since_loading e is = ap (λ p. idle_since (Some (record e { phase = p }))) is
+  -- it goes
+  pub gone_noted : (new : Entries) (later : FinMap grain_cmp ℕ) → new ≡ map.remove entries g → later ≡ map.remove lasts g → AreNoted new later
+  gone_noted new later is gone = subst (λ (p : Entries × FinMap grain_cmp ℕ). AreNoted p.0 p.1) (λ i. (sym is i, sym gone i)) (noted-gone entries lasts noted g)
 
-module _ (entries : Entries) (notes : Notes) (are : AreNoted entries notes.lasts) (g : Grain) (e : Entry) (found : map.get entries g ≡ Some e) (is : e.phase ≡ loading) where
-  pub used-loading : idle_since (map.get entries g) ≡ None
-  used-loading = ap idle_since found ∙ since_loading e is
+-- ---- it was in use, and becomes another
 
-  -- once it is ready
-  pub loaded_noted : (state : Tree) (version : Option ℕ) (quiet : Bool) (mid : Notes) → quiet ≡ is_quiet e → mid ≡ cond quiet (noted notes g e.last) notes → AreNoted (map.insert entries g (record e { phase = ready state version })) mid.lasts
-  loaded_noted state version quiet mid idle_after m = subst (λ (n : Notes). AreNoted (map.insert entries g (record e { phase = ready state version })) n.lasts) (sym m) (by quiet idle_after)
-    where
-      by : (b : Bool) → b ≡ is_quiet e → AreNoted (map.insert entries g (record e { phase = ready state version })) (cond b (noted notes g e.last) notes).lasts
-      by true q = noted-idle entries notes.lasts are g (record e { phase = ready state version }) e.last (ap (λ b. cond b (Some e.last) None) (sym q))
-      by false q = noted-same entries notes.lasts are g (record e { phase = ready state version }) (ap (λ b. cond b (Some e.last) None) (sym q) ∙ sym used-loading)
+module _ (entries : Entries) (c : Collection) (noted : AreNoted entries c.notes.lasts) (g : Grain) (before after : Entry) (found : map.get entries g ≡ Some before) (used : is_idle before ≡ false) where
+  pub becomes_used : None ≡ idle_since (Some after) → (new : Entries) → new ≡ map.insert entries g after → AreNoted new c.notes.lasts
+  becomes_used still new put = used_still entries c.notes.lasts noted g before after found used (sym still) new put
 
-  -- where it goes
-  pub unloaded_noted : AreNoted (map.remove entries g) notes.lasts
-  unloaded_noted = noted-without entries notes.lasts are g used-loading
+  -- where no request waits there is room for its note
+  module _ (room : none_waits before ≡ true → c.expected ≡ Some g) (same : none_waits after ≡ none_waits before) (last : ℕ) (since : Some last ≡ idle_since (Some after)) where
+    expected_is : c.expected ≡ Some g
+    expected_is = room (sym same ∙ since-none_waits after last (sym since))
+
+    pub expected_apart : IfSome c.expected (λ id. map.get c.notes.lasts id ≡ None)
+    expected_apart = subst (λ o. IfSome o (λ id. map.get c.notes.lasts id ≡ None)) (sym expected_is) (noted g ∙ ap idle_since found ∙ since_used before used)
+
+    pub becomes_idle : (new : Entries) → new ≡ map.insert entries g after → (next : Collection) → next ≡ record { notes = noted_if c.notes c.expected last; expected = None } → AreNoted new next.notes.lasts
+    becomes_idle new put next is =
+        subst (λ (p : Entries × Collection). AreNoted p.0 p.1.notes.lasts) (λ i. (sym put i, sym (is ∙ ap (λ o. record { notes = noted_if c.notes o last; expected = None }) expected_is) i))
+        (noted-idle entries c.notes.lasts noted g after last (sym since))

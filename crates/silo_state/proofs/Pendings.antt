@@ -1,5 +1,5 @@
 -- Which requests of a client wait or are open: at an activation, and at all grains of its tenant.
-use Rattle.std.proofs.Common.{◌≡◌, ◌++◌, ℕ, Bool, true, false, cond, List, [], ◌∷◌, Option, Some, None, refl, ap, sym, ◌∙◌, true≢false}
+use Rattle.std.proofs.Common.{◌≡◌, Bool, true, false, cond, List, [], ◌∷◌, Option, Some, None, refl, ap, sym, ◌∙◌, true≢false}
 use Rattle.std.specs.Prelude.{◌&&◌, ◌||◌, not, flat_map, option_map, map as map_list}
 use Rattle.std.specs.Ordering.{nat_cmp}
 use Rattle.std.specs.Cmp.{nat_cmp_total}
@@ -14,9 +14,9 @@ use Rattle.silo_event.specs.declared.reply.Party.{Party}
 use Rattle.silo_event.specs.declared.reply.Party.TheVariants as party
 use Rattle.turn_mailbox.specs.Contents.{came_from, has_from, is_from}
 use Rattle.turn_mailbox.specs.declared.request.Request.{Request}
-use Rattle.turn_mailbox.specs.Mapped.{map_values}
-use Rattle.turn_mailbox.proofs.Mapped.{all-mapped, get-mapped}
-use Rattle.turn_mailbox.proofs.Values.{all-values, of-all-values}
+use Rattle.finite_maps.specs.Mapped.{map_values}
+use Rattle.finite_maps.proofs.Mapped.{all-mapped, get-mapped}
+use Rattle.finite_maps.proofs.Values.{values_pass, found_passes}
 use Rattle.activation_directory.specs.declared.activation.Activation.{Activation}
 use Rattle.silo_model.specs.Machine as model
 use Rattle.silo_model.specs.Machine.{Entry, Entries}
@@ -100,7 +100,7 @@ module _ (client : Client) where
   pub none_pending : (entries : Entries) → ((id : Grain) → pending_of (map.get (part_of entries) id) ≡ false) → pending_in_part client entries ≡ false
   none_pending entries none =
       any_flat asked pending_at (map.values (part_of entries))
-      ∙ ap not (all-values grain_cmp_total grain_cmp_exact (λ e. not (list_any asked (pending_at e))) (part_of entries) (λ k v found. ap not (ap pending_of (sym found) ∙ none k)))
+      ∙ ap not (values_pass grain_cmp_total (λ e. not (list_any asked (pending_at e))) (part_of entries) (λ k v found. ap not (ap pending_of (sym found) ∙ none k)))
 
   pub one_pending : (entries : Entries) (id : Grain) → pending_of (map.get (part_of entries) id) ≡ true → pending_in_part client entries ≡ true
   one_pending entries id one = by_entry (map.get (part_of entries) id) refl one
@@ -108,7 +108,7 @@ module _ (client : Client) where
       by_all : (e : Entry) → map.get (part_of entries) id ≡ Some e → list_any asked (pending_at e) ≡ true → (b : Bool) → list_all (λ x. not (list_any asked (pending_at x))) (map.values (part_of entries)) ≡ b → not b ≡ true
       by_all e found some false all = refl
       by_all e found some true all =
-          absurd (true≢false (sym (of-all-values grain_cmp_total grain_cmp_exact (λ x. not (list_any asked (pending_at x))) (part_of entries) id e found all) ∙ ap not some))
+          absurd (true≢false (sym (found_passes (λ x. not (list_any asked (pending_at x))) (part_of entries) id e found all) ∙ ap not some))
 
       by_entry : (o : Option Entry) → map.get (part_of entries) id ≡ o → pending_of o ≡ true → pending_in_part client entries ≡ true
       by_entry None found some = absurd (true≢false (sym some))

@@ -16,7 +16,7 @@ use Rattle.request_codec.specs.Tree.{Tree}
 use Rattle.silo_event.specs.declared.reply.Party.{Party}
 use Rattle.turn_mailbox.specs.declared.request.Request.{Request}
 use Rattle.turn_mailbox.specs.Contents.{Contents, begun, may_begin, is_idle as mail_is_idle}
-use Rattle.turn_mailbox.proofs.Mapped.{get-mapped, mapped-insert, mapped-remove, len-mapped}
+use Rattle.finite_maps.proofs.Mapped.{get-mapped, mapped-insert, mapped-remove, len-mapped}
 use Rattle.activation_directory.specs.declared.activation.Activation.{Activation}
 use Rattle.activation_directory.specs.declared.activation.Phase.{Phase}
 use Rattle.activation_directory.specs.declared.activation.Phase.TheVariants.{Waiting, Loading, Ready}
@@ -25,10 +25,10 @@ use Rattle.silo_state.specs.Reads.{is_quiet}
 use Rattle.silo_state.proofs.Idle.{the_same}
 use Rattle.silo_model.specs.Turns as model
 use Rattle.silo_state.specs.Shown.{request_of, phase_of, entry_of, entries_of}
-use Rattle.silo_state.specs.Notes.{is_idle}
+use Rattle.silo_state.specs.Notes.{is_idle, none_waits}
 use Rattle.silo_model.specs.Idle.{is_ready}
 use Rattle.silo_state.specs.Marks.{AreMarked, AllMarked}
-use Rattle.silo_state.specs.Changes.{Starts, turn_at, opens_at, mail_begun, ClosesTurn}
+use Rattle.silo_state.specs.Changes.{Starts, turn_at, opens_at, mail_begun, ClosesTurn, EndsTurn}
 use Rattle.silo_state.specs.Entries.{Activates, Begins, opened_turn, closed_entry, ClosesEntry, Closes}
 use Rattle.silo_state.proofs.Requests.{marked-put, marked-begun, marked-closed}
 use Rattle.silo_state.proofs.Turns.{turn-opened, begins, is_some-turn_at}
@@ -127,25 +127,36 @@ module _ (logic : Logic) (m : FinMap grain_cmp Activation) (g : Grain) (a after 
       last = last;
     })
 
-    pub close_shows : (idle : Bool) → idle ≡ is_idle (entry_of after) → ClosesEntry (entries_of m) g turn (option_map phase_of phase) last sender idle (entries_of (map.insert m g after))
-    close_shows idle is = record {
+    close_shows : ClosesEntry (entries_of m) g turn (option_map phase_of phase) last sender (entries_of (map.insert m g after))
+    close_shows = record {
       before = entry_of a;
       request = request_of d.request;
       found = get-entries m g (Some a) found;
       open_turn = get-mapped nat_cmp_total nat_cmp-IsAntisymmetric request_of a.mailbox.opened turn ∙ ap (option_map request_of) d.open_turn;
       sender_is = d.sender_is;
-      idle_is = is ∙ ap is_idle closed_is;
       put = entries-put m g after ∙ ap (map.insert (entries_of m) g) closed_is;
     }
 
-    pub close_marked : AllMarked logic (map.insert m g after)
+    close_marked : AllMarked logic (map.insert m g after)
     close_marked = marked-put logic m g after all (subst (λ (x : Activation). AreMarked logic g x.mailbox) (sym d.left) (marked-closed logic g a.mailbox turn (all g a found)))
 
-  pub close_not : (map.get a.mailbox.opened turn ≡ None) × (after ≡ a) → Closes (entries_of m) g turn (option_map phase_of phase) last None (entries_of (map.insert m g after))
+  close_not : (map.get a.mailbox.opened turn ≡ None) × (after ≡ a) → Closes (entries_of m) g turn (option_map phase_of phase) last None (entries_of (map.insert m g after))
   close_not d = (
     ap (option_and_then (λ e. map.get e.turns turn)) (get-entries m g (Some a) found) ∙ get-mapped nat_cmp_total nat_cmp-IsAntisymmetric request_of a.mailbox.opened turn ∙ ap (option_map request_of) d.0,
     unmoved logic m g a after found d.1,
   )
+
+  pub closes : (closed : Option Party) → EndsTurn a turn phase last closed after → Closes (entries_of m) g turn (option_map phase_of phase) last closed (entries_of (map.insert m g after))
+  closes None d = close_not d
+  closes (Some sender) d = close_shows sender d
+
+  pub closes_marked : (closed : Option Party) → EndsTurn a turn phase last closed after → AllMarked logic (map.insert m g after)
+  closes_marked None d = same_mail logic m g a after found all (ap (λ (x : Activation). x.mailbox) d.1)
+  closes_marked (Some sender) d = close_marked sender d
+
+-- its waiting requests stay
+pub closed_queue : (a after : Activation) (turn : ℕ) (phase : Option Phase) (last : ℕ) (sender : Party) → ClosesTurn a turn phase last sender after → none_waits (entry_of after) ≡ none_waits (entry_of a)
+closed_queue a after turn phase last sender d = ap (λ (x : Activation). none_waits (entry_of x)) d.left
 
 -- a turn of an activation is one of its entry
 pub turn_shown : (entries : Entries) (g : Grain) (a : Activation) (turn : ℕ) (found : Option Request) → map.get entries g ≡ Some (entry_of a) → map.get a.mailbox.opened turn ≡ found

@@ -1,10 +1,10 @@
 -- What closing a turn that asks for the storage comes to, as a step of the whole.
-use Rattle.std.proofs.Common.{◌≡◌, ℕ, suc, arith, Bool, true, false, cond, List, [], ◌∷◌, ◌++◌, length, ◌==◌, ◌&&◌, Option, Some, None, refl, ap, sym, ◌∙◌, subst}
-use Rattle.std.specs.Prelude.{Result, Ok, Err, option_and_then, unwrap_or, if◌then◌else◌}
+use Rattle.std.proofs.Common.{◌≡◌, ℕ, suc, arith, Bool, true, false, List, [], ◌∷◌, ◌++◌, length, ◌==◌, Option, Some, None, refl, ap, sym, ◌∙◌, subst}
+use Rattle.std.specs.Prelude.{Result, Ok, Err, option_and_then, if◌then◌else◌}
 use Rattle.std.specs.FinMap as map
 use Rattle.grain_id.specs.Names.{Grain}
 use Rattle.grain_id.proofs.Order.{grain_cmp_total, grain_cmp_exact}
-use Rattle.grain_id.proofs.Maps as maps
+use Rattle.finite_maps.proofs.Maps as maps
 use Rattle.request_codec.specs.Tree.{Tree}
 use Rattle.grain_storage.specs.declared.row.Row.{Row}
 use Rattle.grain_storage.specs.declared.fault.StoreFault.{StoreFault}
@@ -13,7 +13,6 @@ use Rattle.grain_storage.specs.Rows.{Rows, RowFault, stale, spent, written, clea
 use Rattle.grain_kinds.specs.Logic.{Logic, Plan, StorageCall, asks_nothing, reads_row, writes_row, clears_row}
 use Rattle.grain_kinds.specs.Finished.{turn_plan}
 use Rattle.grain_kinds.specs.declared.turn.OpenedTurn.{OpenedTurn}
-use Rattle.idle_collector.specs.Notes.{Notes, noted, forgotten}
 use Rattle.silo_event.specs.declared.fault.Fault.{Fault}
 use Rattle.silo_event.specs.declared.fault.Fault.TheVariants.{StorageFailed, StateChanged, VersionsSpent}
 use Rattle.silo_event.specs.declared.reply.Party.{Party}
@@ -22,7 +21,6 @@ use Rattle.silo_event.specs.declared.step.Answer.{Answer}
 use Rattle.silo_event.specs.declared.step.StepFault.{StepFault}
 use Rattle.silo_event.specs.declared.step.Step.TheVariants.{Store}
 use Rattle.silo_model.specs.Machine.{Entry, Entries, Request, Phase, waiting, loading, ready}
-use Rattle.silo_model.specs.Idle.{is_ready}
 use Rattle.silo_model.specs.Effect.{Change, change_at}
 use Rattle.silo_model.specs.Calls.{reply_to}
 use Rattle.silo_model.specs.Turns.{plan_of, ends_activation, row_changed, stored_by}
@@ -30,9 +28,9 @@ use Rattle.silo_model.specs.Stores.{row_written, row_cleared, at_row, version_va
 use Rattle.silo_model.specs.Whole.{Whole, whole_step}
 use Rattle.silo_model.proofs.Stored.{stores_at_one_row}
 use Rattle.silo_model.proofs.TurnSteps.{closed_turn, seen_at, store_absent, store_closed, store_waiting, store_loading, store_not, store_failed, store_read, store_changed, store_spent, store_stale}
+use Rattle.silo_state.specs.Activations.{Activations}
 use Rattle.silo_state.specs.Held.{Held}
 use Rattle.silo_state.specs.Moves.{Moves}
-use Rattle.silo_state.specs.Notes.{AreNoted, idle_since}
 use Rattle.silo_state.specs.Entries.{closed_entry, ClosesEntry}
 use Rattle.silo_state.specs.Finds.{open_in, IsOwn, asks}
 use Rattle.silo_state.specs.Closings.{ClosesTold, ClosesBy}
@@ -40,8 +38,7 @@ use Rattle.silo_state.specs.Storing.{read_again, with_state, given, Gives, Gives
 use Rattle.silo_state.specs.declared.storing.StorageAnswer.{StorageAnswer}
 use Rattle.silo_state.proofs.Ends.{planned, same_entry, same_phase, same_plan}
 use Rattle.silo_state.proofs.AtRows.{same_Ok, done_at, refused_at}
-use Rattle.silo_state.proofs.Idle.{told_age, back_age, used-turn, settled_back, closing_noted, noted-same, noted-without, some_waits}
-use Rattle.silo_state.proofs.Steps.{since_waiting}
+use Rattle.silo_state.proofs.Idle.{some_waits}
 
 -- no such turn is open
 pub store_none : (logic : Logic) (h : Held) (g : Grain) (turn : ℕ) (failed : Bool) → option_and_then (λ e. open_in e turn e.phase) (map.get h.whole.entries g) ≡ None → whole_step logic h.whole (Store g turn failed) ≡ None
@@ -79,7 +76,7 @@ module _ (logic : Logic) (h : Held) (g : Grain) (turn : ℕ) (version : Option �
       by clears_row is e = absurd cc
 
   -- the activation ends: it goes if nothing waits, and otherwise waits
-  module _ (last : ℕ) (still : last ≡ own.entry.last) (sender : Party) (idle : Bool) (between : Entries) (d : ClosesEntry h.whole.entries g turn (Some waiting) last sender idle between) where
+  module _ (last : ℕ) (still : last ≡ own.entry.last) (sender : Party) (between : Entries) (d : ClosesEntry h.whole.entries g turn (Some waiting) last sender between) where
     ends_by : (queue : List Request) → change_at h.whole.entries g (ends_activation d.before d.request queue)
         ≡ (if length queue == 0 then map.remove (map.insert h.whole.entries g (closed_entry d.before d.request (Some waiting) d.before.last)) g else map.insert h.whole.entries g (closed_entry d.before d.request (Some waiting) d.before.last))
     ends_by [] = sym (maps.remove-insert grain_cmp_total grain_cmp_exact h.whole.entries g (closed_entry d.before d.request (Some waiting) d.before.last))
@@ -88,10 +85,10 @@ module _ (logic : Logic) (h : Held) (g : Grain) (turn : ℕ) (version : Option �
         (sym (some_waits (suc (length others)) (omega arith)))
 
     was_entry : d.before ≡ own.entry
-    was_entry = same_entry logic h g turn version idle_after input own (Some waiting) last sender idle between d
+    was_entry = same_entry logic h g turn version idle_after input own (Some waiting) last sender between d
 
     idle_by : idle_after ≡ (length d.before.queue == 0)
-    idle_by = own.idle_after_is ∙ (λ i. is_ready (own.is_open.phase_is i) && (length (sym was_entry i).queue == 0))
+    idle_by = own.idle_after_is ∙ ap (λ (e : Entry). length e.queue == 0) (sym was_entry)
 
     ends_is : change_at h.whole.entries g (ends_activation d.before d.request d.before.queue) ≡ (if idle_after then map.remove between g else between)
     ends_is =
@@ -113,12 +110,12 @@ module _ (logic : Logic) (h : Held) (g : Grain) (turn : ℕ) (version : Option �
   stores failed after = whole_step logic h.whole (Store g turn failed) ≡ Some after
 
   -- the entry is kept but for its turn
-  module _ (sender : Party) (idle : Bool) (new : Entries) (d : ClosesEntry h.whole.entries g turn None h.whole.clock sender idle new) where
+  module _ (sender : Party) (new : Entries) (d : ClosesEntry h.whole.entries g turn None h.whole.clock sender new) where
     kept_ready : d.before.phase ≡ ready own.state version
-    kept_ready = same_phase logic h g turn version idle_after input own None h.whole.clock sender idle new d
+    kept_ready = same_phase logic h g turn version idle_after input own None h.whole.clock sender new d
 
     kept_planned : plan_of logic g own.state d.request ≡ plan
-    kept_planned = same_plan logic h g turn version idle_after input own None h.whole.clock sender idle new d
+    kept_planned = same_plan logic h g turn version idle_after input own None h.whole.clock sender new d
 
     kept_is : (outcome : Result Tree Fault) → told_whole (map.insert h.whole.entries g (closed_turn h.whole d.before d.request own.state version)) h.whole.rows d.request.sender outcome ≡ told_whole new h.whole.rows sender outcome
     kept_is outcome = λ i.
@@ -136,10 +133,10 @@ module _ (logic : Logic) (h : Held) (g : Grain) (turn : ℕ) (version : Option �
 
   -- the row is read again
   read_step : plan.storage ≡ reads_row → (state : Tree) (at : Option ℕ) (rows : Rows) → read_again logic h.whole.rows g ≡ ((state, at), rows)
-      → (sender : Party) (idle : Bool) (new : Entries) → ClosesEntry h.whole.entries g turn (Some (ready state at)) h.whole.clock sender idle new → stores false (told_whole new rows sender (Ok (version_value at)))
-  read_step asking state at rows parts sender idle new d =
+      → (sender : Party) (new : Entries) → ClosesEntry h.whole.entries g turn (Some (ready state at)) h.whole.clock sender new → stores false (told_whole new rows sender (Ok (version_value at)))
+  read_step asking state at rows parts sender new d =
       let phase = Some (ready state at) in
-      store_read logic h.whole g turn d.before d.found d.request d.open_turn own.state version (same_phase logic h g turn version idle_after input own phase h.whole.clock sender idle new d) plan (same_plan logic h g turn version idle_after input own phase h.whole.clock sender idle new d) asking
+      store_read logic h.whole g turn d.before d.found d.request d.open_turn own.state version (same_phase logic h g turn version idle_after input own phase h.whole.clock sender new d) plan (same_plan logic h g turn version idle_after input own phase h.whole.clock sender new d) asking
       ∙ (λ i. Some (told_whole (map.insert h.whole.entries g (closed_turn h.whole d.before d.request (parts i).0.0 (parts i).0.1)) (parts i).1 (sym d.sender_is i) (Ok (version_value (parts i).0.1))))
       ∙ ap (λ es. Some (told_whole es rows sender (Ok (version_value at)))) (sym d.put)
 
@@ -148,139 +145,106 @@ module _ (logic : Logic) (h : Held) (g : Grain) (turn : ℕ) (version : Option �
       (changes : (e : Entry) (request : Request) → stored_by logic (seen_at h.whole g) g e request own.state version storage ≡ Some (row_changed (seen_at h.whole g) g e request own.state version state one)) where
     -- the row was changed
     changed_step : (new_state : Tree) (at : Option ℕ) (rows : Rows) → with_state state all ≡ Ok ((new_state, at), rows)
-        → (sender : Party) (idle : Bool) (new : Entries) → ClosesEntry h.whole.entries g turn (Some (ready new_state at)) h.whole.clock sender idle new → stores false (told_whole new rows sender (Ok (version_value at)))
-    changed_step new_state at rows gives sender idle new d =
+        → (sender : Party) (new : Entries) → ClosesEntry h.whole.entries g turn (Some (ready new_state at)) h.whole.clock sender new → stores false (told_whole new rows sender (Ok (version_value at)))
+    changed_step new_state at rows gives sender new d =
         let phase = Some (ready new_state at) in
         let made = with_state_done state all new_state at rows gives in
         let done = done_at h.whole.rows g one at rows (sym same ∙ made.0) in
-        store_changed logic h.whole g turn d.before d.found d.request d.open_turn own.state version (same_phase logic h g turn version idle_after input own phase h.whole.clock sender idle new d) plan (same_plan logic h g turn version idle_after input own phase h.whole.clock sender idle new d)
+        store_changed logic h.whole g turn d.before d.found d.request d.open_turn own.state version (same_phase logic h g turn version idle_after input own phase h.whole.clock sender new d) plan (same_plan logic h g turn version idle_after input own phase h.whole.clock sender new d)
         storage asking state one (changes d.before d.request) at done.row done.answer
         ∙ (λ i. Some (told_whole (map.insert h.whole.entries g (closed_turn h.whole d.before d.request (sym made.1 i) at)) (done.rows_are i) (sym d.sender_is i) (Ok (version_value at))))
         ∙ ap (λ es. Some (told_whole es rows sender (Ok (version_value at)))) (sym d.put)
 
     -- it has no version left
-    spent_step : with_state state all ≡ Err spent → (sender : Party) (idle : Bool) (new : Entries) → ClosesEntry h.whole.entries g turn None h.whole.clock sender idle new → stores false (told_whole new h.whole.rows sender (Err (VersionsSpent g)))
-    spent_step gives sender idle new d =
-        store_spent logic h.whole g turn d.before d.found d.request d.open_turn own.state version (kept_ready sender idle new d) plan (kept_planned sender idle new d)
+    spent_step : with_state state all ≡ Err spent → (sender : Party) (new : Entries) → ClosesEntry h.whole.entries g turn None h.whole.clock sender new → stores false (told_whole new h.whole.rows sender (Err (VersionsSpent g)))
+    spent_step gives sender new d =
+        store_spent logic h.whole g turn d.before d.found d.request d.open_turn own.state version (kept_ready sender new d) plan (kept_planned sender new d)
         storage asking state one (changes d.before d.request) (refused_at h.whole.rows g one spent (sym same ∙ with_state_refused state all spent gives))
-        ∙ ap Some (kept_is sender idle new d (Err (VersionsSpent g)))
+        ∙ ap Some (kept_is sender new d (Err (VersionsSpent g)))
 
     -- it has another version than the grain's state stands on
-    stale_step : (found : Option ℕ) → with_state state all ≡ Err (stale found) → (last : ℕ) → last ≡ own.entry.last → (sender : Party) (idle : Bool) (between new : Entries) → ClosesEntry h.whole.entries g turn (Some waiting) last sender idle between
+    stale_step : (found : Option ℕ) → with_state state all ≡ Err (stale found) → (last : ℕ) → last ≡ own.entry.last → (sender : Party) (between new : Entries) → ClosesEntry h.whole.entries g turn (Some waiting) last sender between
         → new ≡ (if idle_after then map.remove between g else between) → stores false (told_whole new h.whole.rows sender (Err (StateChanged g)))
-    stale_step found gives last still sender idle between new d left =
-        store_stale logic h.whole g turn d.before d.found d.request d.open_turn own.state version (same_phase logic h g turn version idle_after input own (Some waiting) last sender idle between d) plan (same_plan logic h g turn version idle_after input own (Some waiting) last sender idle between d)
+    stale_step found gives last still sender between new d left =
+        store_stale logic h.whole g turn d.before d.found d.request d.open_turn own.state version (same_phase logic h g turn version idle_after input own (Some waiting) last sender between d) plan (same_plan logic h g turn version idle_after input own (Some waiting) last sender between d)
         storage asking state one (changes d.before d.request) found (refused_at h.whole.rows g one (stale found) (sym same ∙ with_state_refused state all (stale found) gives))
-        ∙ (λ i. Some (told_whole ((ends_is last still sender idle between d ∙ sym left) i) h.whole.rows (sym d.sender_is i) (Err (StateChanged g))))
+        ∙ (λ i. Some (told_whole ((ends_is last still sender between d ∙ sym left) i) h.whole.rows (sym d.sender_is i) (Err (StateChanged g))))
 
   -- what is given is of the turn's own state
   own_given : (call : StorageCall) → given logic h.whole.rows g input.state version call ≡ given logic h.whole.rows g own.state version call
   own_given call = ap (λ t. given logic h.whole.rows g t version call) own.is_of.state_is
 
   given_step : (call : StorageCall) → plan.storage ≡ call → asks call ≡ true → (state : Tree) (at : Option ℕ) (rows : Rows) → given logic h.whole.rows g own.state version call ≡ Ok ((state, at), rows)
-      → (sender : Party) (idle : Bool) (new : Entries) → ClosesEntry h.whole.entries g turn (Some (ready state at)) h.whole.clock sender idle new → stores false (told_whole new rows sender (Ok (version_value at)))
-  given_step asks_nothing is asking state at rows gives sender idle new d = absurd cc
-  given_step reads_row is asking state at rows gives sender idle new d =
-      read_step is state at rows (same_Ok (given logic h.whole.rows g own.state version reads_row) (read_again logic h.whole.rows g) ((state, at), rows) refl gives) sender idle new d
-  given_step writes_row is asking state at rows gives sender idle new d =
-      changed_step writes_row is own.state (row_written version (map.get h.whole.rows g) own.state) (written h.whole.rows g version own.state) (stores_at_one_row.writes h.whole.rows g version own.state) (λ e request. refl) state at rows gives sender idle new d
-  given_step clears_row is asking state at rows gives sender idle new d =
-      changed_step clears_row is (logic.empty g.kind) (row_cleared version (map.get h.whole.rows g)) (cleared h.whole.rows g version) (stores_at_one_row.clears h.whole.rows g version) (λ e request. refl) state at rows gives sender idle new d
+      → (sender : Party) (new : Entries) → ClosesEntry h.whole.entries g turn (Some (ready state at)) h.whole.clock sender new → stores false (told_whole new rows sender (Ok (version_value at)))
+  given_step asks_nothing is asking state at rows gives sender new d = absurd cc
+  given_step reads_row is asking state at rows gives sender new d =
+      read_step is state at rows (same_Ok (given logic h.whole.rows g own.state version reads_row) (read_again logic h.whole.rows g) ((state, at), rows) refl gives) sender new d
+  given_step writes_row is asking state at rows gives sender new d =
+      changed_step writes_row is own.state (row_written version (map.get h.whole.rows g) own.state) (written h.whole.rows g version own.state) (stores_at_one_row.writes h.whole.rows g version own.state) (λ e request. refl) state at rows gives sender new d
+  given_step clears_row is asking state at rows gives sender new d =
+      changed_step clears_row is (logic.empty g.kind) (row_cleared version (map.get h.whole.rows g)) (cleared h.whole.rows g version) (stores_at_one_row.clears h.whole.rows g version) (λ e request. refl) state at rows gives sender new d
 
   refused_spent : (call : StorageCall) → plan.storage ≡ call → asks call ≡ true → given logic h.whole.rows g own.state version call ≡ Err spent
-      → (sender : Party) (idle : Bool) (new : Entries) → ClosesEntry h.whole.entries g turn None h.whole.clock sender idle new → stores false (told_whole new h.whole.rows sender (Err (VersionsSpent g)))
-  refused_spent asks_nothing is asking gives sender idle new d = absurd cc
-  refused_spent reads_row is asking gives sender idle new d = absurd cc
-  refused_spent writes_row is asking gives sender idle new d =
-      spent_step writes_row is own.state (row_written version (map.get h.whole.rows g) own.state) (written h.whole.rows g version own.state) (stores_at_one_row.writes h.whole.rows g version own.state) (λ e request. refl) gives sender idle new d
-  refused_spent clears_row is asking gives sender idle new d =
-      spent_step clears_row is (logic.empty g.kind) (row_cleared version (map.get h.whole.rows g)) (cleared h.whole.rows g version) (stores_at_one_row.clears h.whole.rows g version) (λ e request. refl) gives sender idle new d
+      → (sender : Party) (new : Entries) → ClosesEntry h.whole.entries g turn None h.whole.clock sender new → stores false (told_whole new h.whole.rows sender (Err (VersionsSpent g)))
+  refused_spent asks_nothing is asking gives sender new d = absurd cc
+  refused_spent reads_row is asking gives sender new d = absurd cc
+  refused_spent writes_row is asking gives sender new d =
+      spent_step writes_row is own.state (row_written version (map.get h.whole.rows g) own.state) (written h.whole.rows g version own.state) (stores_at_one_row.writes h.whole.rows g version own.state) (λ e request. refl) gives sender new d
+  refused_spent clears_row is asking gives sender new d =
+      spent_step clears_row is (logic.empty g.kind) (row_cleared version (map.get h.whole.rows g)) (cleared h.whole.rows g version) (stores_at_one_row.clears h.whole.rows g version) (λ e request. refl) gives sender new d
 
   refused_stale : (call : StorageCall) → plan.storage ≡ call → asks call ≡ true → (found : Option ℕ) → given logic h.whole.rows g own.state version call ≡ Err (stale found)
-      → (last : ℕ) → last ≡ own.entry.last → (sender : Party) (idle : Bool) (between new : Entries) → ClosesEntry h.whole.entries g turn (Some waiting) last sender idle between
+      → (last : ℕ) → last ≡ own.entry.last → (sender : Party) (between new : Entries) → ClosesEntry h.whole.entries g turn (Some waiting) last sender between
       → new ≡ (if idle_after then map.remove between g else between) → stores false (told_whole new h.whole.rows sender (Err (StateChanged g)))
-  refused_stale asks_nothing is asking found gives last still sender idle between new d left = absurd cc
-  refused_stale reads_row is asking found gives last still sender idle between new d left = absurd cc
-  refused_stale writes_row is asking found gives last still sender idle between new d left =
-      stale_step writes_row is own.state (row_written version (map.get h.whole.rows g) own.state) (written h.whole.rows g version own.state) (stores_at_one_row.writes h.whole.rows g version own.state) (λ e request. refl) found gives last still sender idle between new d left
-  refused_stale clears_row is asking found gives last still sender idle between new d left =
-      stale_step clears_row is (logic.empty g.kind) (row_cleared version (map.get h.whole.rows g)) (cleared h.whole.rows g version) (stores_at_one_row.clears h.whole.rows g version) (λ e request. refl) found gives last still sender idle between new d left
+  refused_stale asks_nothing is asking found gives last still sender between new d left = absurd cc
+  refused_stale reads_row is asking found gives last still sender between new d left = absurd cc
+  refused_stale writes_row is asking found gives last still sender between new d left =
+      stale_step writes_row is own.state (row_written version (map.get h.whole.rows g) own.state) (written h.whole.rows g version own.state) (stores_at_one_row.writes h.whole.rows g version own.state) (λ e request. refl) found gives last still sender between new d left
+  refused_stale clears_row is asking found gives last still sender between new d left =
+      stale_step clears_row is (logic.empty g.kind) (row_cleared version (map.get h.whole.rows g)) (cleared h.whole.rows g version) (stores_at_one_row.clears h.whole.rows g version) (λ e request. refl) found gives last still sender between new d left
 
   -- ---- what a call comes to
 
-  -- the state with other notes, entries, rows, replies and failures
-  abbrev pub left : ℕ → Entries → Rows → List Reply → ℕ → Held
-  left age entries rows replies count = record { whole = record h.whole { age = age; entries = entries; rows = rows; replies = replies }; failures = count }
+  -- the state with other activations, other rows, replies and failures
+  abbrev pub left : Activations → Rows → List Reply → ℕ → Held
+  left c rows replies count = record { whole = record h.whole { age = c.age; entries = c.entries; rows = rows; replies = replies }; failures = count }
 
   -- the step's parts, put together
   put_together : (failed : Bool) (entries : Entries) (rows : Rows) (sender : Party) (outcome : Result Tree Fault) → stores failed (told_whole entries rows sender outcome)
       → (age : ℕ) → age ≡ h.whole.age → (at : Rows) → at ≡ rows → (replies : List Reply) → replies ≡ h.whole.replies ++ reply_to sender outcome → stores failed (record h.whole { age = age; entries = entries; rows = at; replies = replies })
   put_together failed entries rows sender outcome step age aged at are replies told = step ∙ (λ i. Some (record h.whole { age = sym aged i; entries = entries; rows = sym are i; replies = sym told i }))
 
-  module _ (call : StorageCall) (is : plan.storage ≡ call) (asking : asks call ≡ true) (mid : Notes) (aged : mid.age ≡ h.whole.age) (last : ℕ) (still : last ≡ own.entry.last) where
-    failed_moves : (new : Entries) (final : Notes) (replies : List Reply) → ClosesTold h.whole.entries mid h.whole.replies g turn None idle_after h.whole.clock (Err StorageFailed) new final replies → (rows : Rows) → rows ≡ h.whole.rows
-        → stores true (record h.whole { age = final.age; entries = new; rows = rows; replies = replies })
-    failed_moves new final replies d rows are =
-        put_together true new h.whole.rows d.sender (Err StorageFailed) (failed_step d.sender d.idle new d.closes (ap asks is ∙ asking)) final.age (told_age mid final g idle_after d.idle d.settled ∙ aged) rows are replies d.told_is
+  module _ (call : StorageCall) (is : plan.storage ≡ call) (asking : asks call ≡ true) (new : Activations) (aged : new.age ≡ h.whole.age) (last : ℕ) (still : last ≡ own.entry.last) where
+    failed_moves : (replies : List Reply) → ClosesTold h.whole.entries h.whole.replies g turn None h.whole.clock (Err StorageFailed) new.entries replies → (rows : Rows) → rows ≡ h.whole.rows
+        → stores true (record h.whole { age = new.age; entries = new.entries; rows = rows; replies = replies })
+    failed_moves replies d rows are =
+        put_together true new.entries h.whole.rows d.sender (Err StorageFailed) (failed_step d.sender new.entries d.closes (ap asks is ∙ asking)) new.age aged rows are replies d.told_is
 
     answer_moves : (r : Result StorageAnswer StoreFault) (rows : Rows) (count : ℕ) → Gives (given logic h.whole.rows g input.state version call) h.whole.rows h.failures r rows count
-        → (result : Result Answer StepFault) (new : Entries) (final : Notes) (replies : List Reply) → ClosesBy h.whole.entries mid h.whole.replies g turn idle_after h.whole.clock last false r result new final replies
-        → Moves logic h (Store g turn false) result (left final.age new rows replies count)
-    answer_moves (Ok s) rows count gives result new final replies d =
-        let step = given_step call is asking s.state s.version rows (sym (own_given call) ∙ gives.0) d.1.sender d.1.idle new d.1.closes in
-        subst (λ x. Moves logic h (Store g turn false) x (left final.age new rows replies count)) (sym d.0)
-        (put_together false new rows d.1.sender (Ok (version_value s.version)) step final.age (told_age mid final g idle_after d.1.idle d.1.settled ∙ aged) rows refl replies (d.1.told_is ∙ ap (λ t. h.whole.replies ++ reply_to d.1.sender (Ok t)) gives.1), gives.2)
-    answer_moves (Err storage.Failed) rows count gives result new final replies d =
-        subst (λ x. Moves logic h (Store g turn false) x (left final.age new rows replies count)) (sym d.0) (refl, failed_moves new final replies d.1 rows gives.0, gives.1)
-    answer_moves (Err (storage.Stale found)) rows count gives result new final replies d =
-        let step = refused_stale call is asking found (sym (own_given call) ∙ gives.0) last still d.1.sender d.1.idle d.1.between new d.1.closes d.1.left in
-        subst (λ x. Moves logic h (Store g turn false) x (left final.age new rows replies count)) (sym d.0)
-        (put_together false new h.whole.rows d.1.sender (Err (StateChanged g)) step final.age (back_age mid final g idle_after d.1.back ∙ aged) rows gives.1 replies d.1.told_is, gives.2)
-    answer_moves (Err storage.Spent) rows count gives result new final replies d =
-        let step = refused_spent call is asking (sym (own_given call) ∙ gives.0) d.1.sender d.1.idle new d.1.closes in
-        subst (λ x. Moves logic h (Store g turn false) x (left final.age new rows replies count)) (sym d.0)
-        (put_together false new h.whole.rows d.1.sender (Err (VersionsSpent g)) step final.age (told_age mid final g idle_after d.1.idle d.1.settled ∙ aged) rows gives.1 replies d.1.told_is, gives.2)
-    answer_moves (Err storage.Memory) rows count gives result new final replies d =
-        subst (λ x. Moves logic h (Store g turn false) x (left final.age new rows replies count)) (sym d.0)
-        (λ i. left ((back_age mid final g idle_after d.2 ∙ aged) i) (d.1 i) (gives.0 i) (d.3 i) (gives.1 i))
+        → (result : Result Answer StepFault) (replies : List Reply) → ClosesBy h.whole.entries h.whole.replies g turn idle_after h.whole.clock last false r result new.entries replies
+        → Moves logic h (Store g turn false) result (left new rows replies count)
+    answer_moves (Ok s) rows count gives result replies d =
+        let step = given_step call is asking s.state s.version rows (sym (own_given call) ∙ gives.0) d.1.sender new.entries d.1.closes in
+        subst (λ x. Moves logic h (Store g turn false) x (left new rows replies count)) (sym d.0)
+        (put_together false new.entries rows d.1.sender (Ok (version_value s.version)) step new.age aged rows refl replies (d.1.told_is ∙ ap (λ t. h.whole.replies ++ reply_to d.1.sender (Ok t)) gives.1), gives.2)
+    answer_moves (Err storage.Failed) rows count gives result replies d =
+        subst (λ x. Moves logic h (Store g turn false) x (left new rows replies count)) (sym d.0) (refl, failed_moves replies d.1 rows gives.0, gives.1)
+    answer_moves (Err (storage.Stale found)) rows count gives result replies d =
+        let step = refused_stale call is asking found (sym (own_given call) ∙ gives.0) last still d.1.sender d.1.between new.entries d.1.closes d.1.left in
+        subst (λ x. Moves logic h (Store g turn false) x (left new rows replies count)) (sym d.0)
+        (put_together false new.entries h.whole.rows d.1.sender (Err (StateChanged g)) step new.age aged rows gives.1 replies d.1.told_is, gives.2)
+    answer_moves (Err storage.Spent) rows count gives result replies d =
+        let step = refused_spent call is asking (sym (own_given call) ∙ gives.0) d.1.sender new.entries d.1.closes in
+        subst (λ x. Moves logic h (Store g turn false) x (left new rows replies count)) (sym d.0)
+        (put_together false new.entries h.whole.rows d.1.sender (Err (VersionsSpent g)) step new.age aged rows gives.1 replies d.1.told_is, gives.2)
+    answer_moves (Err storage.Memory) rows count gives result replies d =
+        subst (λ x. Moves logic h (Store g turn false) x (left new rows replies count)) (sym d.0)
+        (λ i. record { whole = record h.whole { age = aged i; entries = d.1 i; rows = gives.0 i; replies = d.2 i }; failures = gives.1 i })
 
     pub stored_moves : (failed : Bool) (r : Result StorageAnswer StoreFault) (rows : Rows) (count : ℕ) → GivesMarked failed (given logic h.whole.rows g input.state version call) h.whole.rows h.failures r rows count
-        → (result : Result Answer StepFault) (new : Entries) (final : Notes) (replies : List Reply) → ClosesBy h.whole.entries mid h.whole.replies g turn idle_after h.whole.clock last failed r result new final replies
-        → Moves logic h (Store g turn failed) result (left final.age new rows replies count)
-    stored_moves true r rows count gives result new final replies closes =
-        let d = subst (λ x. ClosesBy h.whole.entries mid h.whole.replies g turn idle_after h.whole.clock last true x result new final replies) gives.0 closes in
-        subst (λ x. Moves logic h (Store g turn true) x (left final.age new rows replies count)) (sym d.0) (failed_moves new final replies d.1 rows gives.1, gives.2)
-    stored_moves false r rows count gives result new final replies closes = answer_moves r rows count gives result new final replies closes
-
--- ---- the notes
-
-module _ (entries : Entries) (notes : Notes) (are : AreNoted entries notes.lasts) (g : Grain) (turn : ℕ) (version : Option ℕ) (idle_after : Bool) (input : OpenedTurn) (own : IsOwn g (map.get entries g) turn version idle_after input)
-    (now : ℕ) (mid : Notes) (expects : mid ≡ cond idle_after (noted notes g now) notes) where
-  in_use : idle_since (map.get entries g) ≡ None
-  in_use = ap idle_since own.is_open.found_is ∙ used-turn own.entry turn own.request own.is_open.open_turn
-
-  -- a turn was closed
-  told_noted : (phase : Option Phase) → (is_ready (unwrap_or phase own.entry.phase) ≡ true → is_ready own.entry.phase ≡ true) → (replies : List Reply) (outcome : Result Tree Fault) (new : Entries) (final : Notes) (told : List Reply)
-      → ClosesTold entries mid replies g turn phase idle_after now outcome new final told → AreNoted new final.lasts
-  told_noted phase was replies outcome new final told d =
-      closing_noted entries notes are g turn phase now d.sender d.idle new d.closes own.entry own.is_open.found_is was idle_after mid final own.idle_after_is expects d.settled
-
-  same_noted : (final : Notes) → final ≡ cond idle_after (forgotten mid g) mid → (new : Entries) → AreNoted new notes.lasts → AreNoted new final.lasts
-  same_noted final back new still = subst (λ (n : Notes). AreNoted new n.lasts) (sym (settled_back entries notes mid final g now are in_use idle_after expects back)) still
-
-  -- the activation ended
-  ended_noted : (b : Bool) (after : Entry) → after.phase ≡ waiting → AreNoted (if b then map.remove (map.insert entries g after) g else map.insert entries g after) notes.lasts
-  ended_noted true after waits =
-      subst (λ (es : Entries). AreNoted es notes.lasts) (sym (maps.remove-insert grain_cmp_total grain_cmp_exact entries g after)) (noted-without entries notes.lasts are g in_use)
-  ended_noted false after waits = noted-same entries notes.lasts are g after (since_waiting after waits ∙ sym in_use)
-
-  pub stored_noted : (failed : Bool) (last : ℕ) (replies : List Reply) (r : Result StorageAnswer StoreFault) (result : Result Answer StepFault) (new : Entries) (final : Notes) (told : List Reply)
-      → ClosesBy entries mid replies g turn idle_after now last failed r result new final told → AreNoted new final.lasts
-  stored_noted failed last replies (Ok s) result new final told d = told_noted (Some (ready s.state s.version)) (λ is. ap is_ready own.is_open.phase_is) replies (Ok s.told) new final told d.1
-  stored_noted failed last replies (Err storage.Failed) result new final told d = told_noted None (λ is. is) replies (Err StorageFailed) new final told d.1
-  stored_noted failed last replies (Err (storage.Stale found)) result new final told d =
-      same_noted final d.1.back new
-      (subst (λ (es : Entries). AreNoted es notes.lasts) (sym (d.1.left ∙ ap (λ (es : Entries). if idle_after then map.remove es g else es) d.1.closes.put))
-      (ended_noted idle_after (closed_entry d.1.closes.before d.1.closes.request (Some waiting) last) refl))
-  stored_noted failed last replies (Err storage.Spent) result new final told d = told_noted None (λ is. is) replies (Err (VersionsSpent g)) new final told d.1
-  stored_noted failed last replies (Err storage.Memory) result new final told d = same_noted final d.2 new (subst (λ (es : Entries). AreNoted es notes.lasts) (sym d.1) are)
+        → (result : Result Answer StepFault) (replies : List Reply) → ClosesBy h.whole.entries h.whole.replies g turn idle_after h.whole.clock last failed r result new.entries replies
+        → Moves logic h (Store g turn failed) result (left new rows replies count)
+    stored_moves true r rows count gives result replies closes =
+        let d = subst (λ x. ClosesBy h.whole.entries h.whole.replies g turn idle_after h.whole.clock last true x result new.entries replies) gives.0 closes in
+        subst (λ x. Moves logic h (Store g turn true) x (left new rows replies count)) (sym d.0) (failed_moves replies d.1 rows gives.1, gives.2)
+    stored_moves false r rows count gives result replies closes = answer_moves r rows count gives result replies closes

@@ -14,7 +14,6 @@ use Rattle.silo_model.specs.Machine.{Entry, Entries}
 use Rattle.silo_model.specs.Idle.{is_kept, kept_entries}
 use Rattle.silo_state.specs.Notes.{is_idle, idle_since, AreNoted}
 use Rattle.silo_state.specs.Sweeps.{without}
-use Rattle.silo_state.proofs.Idle.{noted-gone}
 
 twice : {X : Type 0} (a b : Bool) (o : Option X) → cond b None (cond a None o) ≡ cond (a || b) None o
 twice true true o = refl
@@ -29,11 +28,6 @@ get-without m (g ∷ grains) q =
     get-without (map.remove m g) grains q
     ∙ ap (cond (list_any (eq_by_cmp grain_cmp q) grains) None) (map.get-remove grain_cmp_total m g q)
     ∙ twice (eq_by_cmp grain_cmp q g) (list_any (eq_by_cmp grain_cmp q) grains) (map.get m q)
-
--- the notes stay those of the idle entries
-pub noted-without : (entries : Entries) (lasts : FinMap grain_cmp ℕ) (grains : List Grain) → AreNoted entries lasts → AreNoted (without entries grains) (without lasts grains)
-noted-without entries lasts [] noted = noted
-noted-without entries lasts (g ∷ grains) noted = noted-without (map.remove entries g) (map.remove lasts g) grains (noted-gone entries lasts noted g)
 
 -- one that is idle is due by its note exactly if it is due
 kept_is : (clock age : ℕ) (o : Option Entry) → cond (is_due age clock (idle_since o)) None o ≡ cond (is_kept clock age o) o None

@@ -12,7 +12,7 @@ use Rattle.request_codec.specs.Tree.{Tree}
 use Rattle.grain_kinds.specs.Logic.{Logic}
 use Rattle.turn_mailbox.specs.declared.request.Request.{Request}
 use Rattle.turn_mailbox.specs.Contents.{Contents, begun, front_may_open, turn_of}
-use Rattle.turn_mailbox.proofs.Mapped.{mapped-insert}
+use Rattle.finite_maps.proofs.Mapped.{mapped-insert}
 use Rattle.activation_directory.specs.declared.activation.Activation.{Activation}
 use Rattle.activation_directory.specs.declared.activation.Phase.{Phase}
 use Rattle.activation_directory.specs.declared.activation.Phase.TheVariants.{Waiting, Loading, Ready}
@@ -22,7 +22,7 @@ use Rattle.silo_model.specs.Idle.{is_ready}
 use Rattle.silo_model.specs.Turns as model
 use Rattle.silo_state.specs.Shown.{request_of, phase_of, entry_of}
 use Rattle.silo_state.specs.Marks.{IsMarked, AreMarked}
-use Rattle.silo_state.specs.Notes.{idle_since}
+use Rattle.silo_state.specs.Notes.{is_idle}
 use Rattle.silo_state.specs.Changes.{turn_at, opens_at, mail_begun}
 use Rattle.silo_state.specs.Entries.{front_turn, turn_in, opened_turn, Begins}
 use Rattle.silo_state.proofs.Requests.{may_open-marked}
@@ -70,19 +70,19 @@ module _ (logic : Logic) (g : Grain) (a : Activation) (marked : AreMarked logic 
         (ap (option_and_then (λ e. model.opened_if_ready logic g e e.phase)) found ∙ none, ap (map.insert entries g) same ∙ insert-again entries g (entry_of a) found)
 
     -- with a waiting request, or with an open turn, an entry is in use
-    used-waiting : (first : Request) (others : List Request) → a.mailbox.waiting ≡ first ∷ others → idle_since (Some (entry_of a)) ≡ None
+    used-waiting : (first : Request) (others : List Request) → a.mailbox.waiting ≡ first ∷ others → is_idle (entry_of a) ≡ false
     used-waiting first others is =
         let ready = is_ready (phase_of a.phase) in
         let none_open = map.len (entry_of a).turns == 0 in
-        ap (λ ws. if ready && (length (map_list request_of ws) == 0) && none_open then Some a.last else None) is
-        ∙ ap (λ b. if ready && b && none_open then Some a.last else None) (some_waits (length (map_list request_of (first ∷ others))) (omega arith))
-        ∙ ap (λ b. if b && none_open then Some a.last else None) (and_false ready)
+        ap (λ ws. ready && (length (map_list request_of ws) == 0) && none_open) is
+        ∙ ap (λ b. ready && b && none_open) (some_waits (length (map_list request_of (first ∷ others))) (omega arith))
+        ∙ ap (λ b. b && none_open) (and_false ready)
 
-    used-open : (first : Request) (others : List Request) → idle_since (Some (with_mail (begun a.mailbox (first ∷ others)))) ≡ None
+    used-open : (first : Request) (others : List Request) → is_idle (with_mail (begun a.mailbox (first ∷ others))) ≡ false
     used-open first others =
         let open_one = ap (λ (turns : FinMap nat_cmp _). map.len turns == 0) (mapped-insert nat_cmp_total nat_cmp-IsAntisymmetric request_of a.mailbox.opened first.number first) ∙ some_open (entry_of a).turns first.number (request_of first) in
-        ap (λ b. if (is_ready (phase_of a.phase) && (length (map_list request_of others) == 0)) && b then Some a.last else None) open_one
-        ∙ ap (λ b. if b then Some a.last else None) (and_false (is_ready (phase_of a.phase) && (length (map_list request_of others) == 0)))
+        ap (λ b. (is_ready (phase_of a.phase) && (length (map_list request_of others) == 0)) && b) open_one
+        ∙ and_false (is_ready (phase_of a.phase) && (length (map_list request_of others) == 0))
 
     by_front : (state : Tree) (version : Option ℕ) → a.phase ≡ Ready state version → (waiting : List Request) → a.mailbox.waiting ≡ waiting → AllByRecursion (IsMarked logic g) waiting
         → (may : Bool) → front_may_open a.mailbox.opened waiting ≡ may → Begins logic entries g may (map.insert entries g (with_mail (if may then begun a.mailbox waiting else a.mailbox)))

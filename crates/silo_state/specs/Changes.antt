@@ -1,5 +1,5 @@
 -- What becomes of one activation.
-use Rattle.std.specs.Prelude.{◌≡◌, ℕ, Bool, false, Option, Some, None, option_map, if◌then◌else◌, unwrap_or}
+use Rattle.std.specs.Prelude.{◌≡◌, ℕ, Bool, false, Option, Some, None, if◌then◌else◌, unwrap_or}
 use Rattle.std.specs.FinMap as map
 use Rattle.grain_id.specs.Names.{Grain}
 use Rattle.grain_kinds.specs.declared.turn.OpenedTurn.{OpenedTurn}
@@ -46,7 +46,13 @@ pub record ClosesTurn (old : Activation) (turn : ℕ) (phase : Option Phase) (la
   pub request : Request
   pub open_turn : map.get old.mailbox.opened turn ≡ Some request
   pub sender_is : sender ≡ request.sender
-  pub left : new ≡ record old { phase = unwrap_or phase old.phase; mailbox = record old.mailbox { opened = map.remove old.mailbox.opened turn }; last = last }
+  pub left : new ≡ record old {
+    phase = unwrap_or phase old.phase;
+    mailbox = record old.mailbox {
+      opened = map.remove old.mailbox.opened turn;
+    };
+    last = last;
+  }
 
 -- Who asked for the turn that is closed; or that turn isn't open, and nothing changed.
 abbrev pub EndsTurn : Activation → ℕ → Option Phase → ℕ → Option Party → Activation → Type 0

@@ -1,8 +1,7 @@
--- What closing a turn leaves of activations, notes and replies, where its grain was noted before.
+-- What closing a turn leaves of entries and replies.
 use Rattle.std.specs.Prelude.{◌≡◌, ℕ, Bool, List, ◌++◌, Option, Some, None, Result, Ok, Err, if◌then◌else◌}
 use Rattle.std.specs.FinMap as map
 use Rattle.grain_id.specs.Names.{Grain}
-use Rattle.idle_collector.specs.Notes.{Notes, forgotten}
 use Rattle.request_codec.specs.Tree.{Tree}
 use Rattle.grain_storage.specs.declared.fault.StoreFault.{StoreFault}
 use Rattle.grain_storage.specs.declared.fault.StoreFault.TheVariants as storage
@@ -19,38 +18,37 @@ use Rattle.silo_model.specs.Calls.{reply_to}
 use Rattle.silo_state.specs.Entries.{ClosesEntry}
 use Rattle.silo_state.specs.declared.storing.StorageAnswer.{StorageAnswer}
 
--- The turn is closed, the note of a grain that isn't idle is dropped again, and the turn's sender is told.
-pub record ClosesTold (old : Entries) (notes : Notes) (replies : List Reply) (grain : Grain) (turn : ℕ) (phase : Option Phase) (idle_after : Bool) (last : ℕ) (outcome : Result Tree Fault) (new : Entries) (after : Notes) (told : List Reply) : Type 0 where
+-- The turn is closed, and its sender is told.
+pub record ClosesTold (old : Entries) (replies : List Reply) (grain : Grain) (turn : ℕ) (phase : Option Phase) (last : ℕ)
+    (outcome : Result Tree Fault) (new : Entries) (told : List Reply) : Type 0 where
   pub sender : Party
-  pub idle : Bool
-  pub closes : ClosesEntry old grain turn phase last sender idle new
-  pub settled : after ≡ (if idle_after then (if idle then notes else forgotten notes grain) else notes)
+  pub closes : ClosesEntry old grain turn phase last sender new
   pub told_is : told ≡ replies ++ reply_to sender outcome
 
--- The activation ends: its turn is closed, it waits again, or goes if nothing waits; the note is dropped again, and the turn's sender is told.
-pub record EndsTold (old : Entries) (notes : Notes) (replies : List Reply) (grain : Grain) (turn : ℕ) (idle_after : Bool) (last : ℕ) (outcome : Result Tree Fault) (new : Entries) (after : Notes) (told : List Reply) : Type 0 where
+-- The activation ends: its turn is closed, it waits again, or goes if nothing waits, and the turn's sender is told.
+pub record EndsTold (old : Entries) (replies : List Reply) (grain : Grain) (turn : ℕ) (idle_after : Bool) (last : ℕ)
+    (outcome : Result Tree Fault) (new : Entries) (told : List Reply) : Type 0 where
   pub sender : Party
-  pub idle : Bool
   pub between : Entries
-  pub closes : ClosesEntry old grain turn (Some waiting) last sender idle between
+  pub closes : ClosesEntry old grain turn (Some waiting) last sender between
   pub left : new ≡ (if idle_after then map.remove between grain else between)
-  pub back : after ≡ (if idle_after then forgotten notes grain else notes)
   pub told_is : told ≡ replies ++ reply_to sender outcome
 
 -- the answer of a step in which a storage call failed, or which is marked so
 abbrev pub answer_failed : Bool → Answer
 answer_failed failed = if failed then answer.Done else answer.Failed
 
--- What is made of the storage's answer, by a step that is marked as failed or not: the grain has the new state; or the storage failed; or the row has another version, and the activation ends;
--- or the row has the last version; or memory was refused, and nothing changed but that the note is dropped again.
-abbrev pub ClosesBy : Entries → Notes → List Reply → Grain → ℕ → Bool → ℕ → ℕ → Bool → Result StorageAnswer StoreFault → Result Answer StepFault → Entries → Notes → List Reply → Type 0
-ClosesBy old notes replies grain turn idle_after now last failed (Ok s) result new after told =
-    (result ≡ Ok answer.Done) × ClosesTold old notes replies grain turn (Some (ready s.state s.version)) idle_after now (Ok s.told) new after told
-ClosesBy old notes replies grain turn idle_after now last failed (Err storage.Failed) result new after told =
-    (result ≡ Ok (answer_failed failed)) × ClosesTold old notes replies grain turn None idle_after now (Err StorageFailed) new after told
-ClosesBy old notes replies grain turn idle_after now last failed (Err (storage.Stale found)) result new after told =
-    (result ≡ Ok answer.Done) × EndsTold old notes replies grain turn idle_after last (Err (StateChanged grain)) new after told
-ClosesBy old notes replies grain turn idle_after now last failed (Err storage.Spent) result new after told =
-    (result ≡ Ok answer.Done) × ClosesTold old notes replies grain turn None idle_after now (Err (VersionsSpent grain)) new after told
-ClosesBy old notes replies grain turn idle_after now last failed (Err storage.Memory) result new after told =
-    (result ≡ Err faults.Memory) × (new ≡ old) × (after ≡ (if idle_after then forgotten notes grain else notes)) × (told ≡ replies)
+-- What is made of the storage's answer, by a step that is marked as failed or not: the grain has the new state; or the storage
+-- failed; or the row has another version, and the activation ends; or the row has the last version; or memory was refused, and nothing changed.
+abbrev pub ClosesBy : Entries → List Reply → Grain → ℕ → Bool → ℕ → ℕ → Bool → Result StorageAnswer StoreFault
+    → Result Answer StepFault → Entries → List Reply → Type 0
+ClosesBy old replies grain turn idle_after now last failed (Ok s) result new told =
+    (result ≡ Ok answer.Done) × ClosesTold old replies grain turn (Some (ready s.state s.version)) now (Ok s.told) new told
+ClosesBy old replies grain turn idle_after now last failed (Err storage.Failed) result new told =
+    (result ≡ Ok (answer_failed failed)) × ClosesTold old replies grain turn None now (Err StorageFailed) new told
+ClosesBy old replies grain turn idle_after now last failed (Err (storage.Stale found)) result new told =
+    (result ≡ Ok answer.Done) × EndsTold old replies grain turn idle_after last (Err (StateChanged grain)) new told
+ClosesBy old replies grain turn idle_after now last failed (Err storage.Spent) result new told =
+    (result ≡ Ok answer.Done) × ClosesTold old replies grain turn None now (Err (VersionsSpent grain)) new told
+ClosesBy old replies grain turn idle_after now last failed (Err storage.Memory) result new told =
+    (result ≡ Err faults.Memory) × (new ≡ old) × (told ≡ replies)

@@ -1,5 +1,5 @@
 -- What the calls of the activations answer and leave, in the words of entries.
-use Rattle.std.specs.Prelude.{◌≡◌, ℕ, Bool, true, false, unwrap_or, List, [], ◌∷◌, Option, Some, None, option_and_then, option_map, if◌then◌else◌}
+use Rattle.std.specs.Prelude.{◌≡◌, ℕ, Bool, true, false, unwrap_or, List, [], ◌∷◌, Option, Some, None, option_and_then, if◌then◌else◌}
 use Rattle.std.specs.FinMap as map
 use Rattle.grain_id.specs.Names.{Grain}
 use Rattle.request_codec.specs.Tree.{Tree}
@@ -11,7 +11,7 @@ use Rattle.silo_event.specs.declared.step.Answer.TheVariants.{Done, Failed, NotN
 use Rattle.silo_model.specs.Machine.{Entry, Entries, Request, Phase, waiting, loading, ready}
 use Rattle.silo_model.specs.Effect.{on_entry}
 use Rattle.silo_model.specs.Turns.{activated, reads, may_open, opened_if_ready}
-use Rattle.silo_state.specs.Notes.{is_idle, idle_since}
+use Rattle.silo_state.specs.Notes.{is_idle}
 
 -- ---- activating
 
@@ -53,8 +53,8 @@ pub record Opens (logic : Logic) (old : Entries) (grain : Grain) (new : Entries)
   pub after : Entry
   pub found : map.get old grain ≡ Some before
   pub does : opened_if_ready logic grain before before.phase ≡ Some (on_entry after)
-  pub used : idle_since (Some before) ≡ None
-  pub in_use : idle_since (Some after) ≡ None
+  pub used : is_idle before ≡ false
+  pub in_use : is_idle after ≡ false
   pub put : new ≡ map.insert old grain after
 
 abbrev pub Begins : Logic → Entries → Grain → Bool → Entries → Type 0
@@ -67,17 +67,17 @@ Begins logic old grain true new = Opens logic old grain new
 abbrev pub closed_entry : Entry → Request → Option Phase → ℕ → Entry
 closed_entry e request phase last = record e { phase = unwrap_or phase e.phase; turns = map.remove e.turns request.number; last = last }
 
--- A turn of a request was open, under its number, and is closed; the sender asked for it, and the entry is idle or not.
-pub record ClosesEntry (old : Entries) (grain : Grain) (turn : ℕ) (phase : Option Phase) (last : ℕ) (sender : Party) (idle : Bool) (new : Entries) : Type 0 where
+-- A turn of a request was open, under its number, and is closed; the sender asked for it.
+pub record ClosesEntry (old : Entries) (grain : Grain) (turn : ℕ) (phase : Option Phase) (last : ℕ) (sender : Party)
+    (new : Entries) : Type 0 where
   pub before : Entry
   pub request : Request
   pub found : map.get old grain ≡ Some before
   pub open_turn : map.get before.turns turn ≡ Some request
   pub sender_is : sender ≡ request.sender
-  pub idle_is : idle ≡ is_idle (closed_entry before request phase last)
   pub put : new ≡ map.insert old grain (closed_entry before request phase last)
 
 -- A turn is closed; or that turn isn't open, and nothing changed.
-abbrev pub Closes : Entries → Grain → ℕ → Option Phase → ℕ → Option (Party × Bool) → Entries → Type 0
+abbrev pub Closes : Entries → Grain → ℕ → Option Phase → ℕ → Option Party → Entries → Type 0
 Closes old grain turn phase last None new = (option_and_then (λ e. map.get e.turns turn) (map.get old grain) ≡ None) × (new ≡ old)
-Closes old grain turn phase last (Some closed) new = ClosesEntry old grain turn phase last closed.0 closed.1 new
+Closes old grain turn phase last (Some sender) new = ClosesEntry old grain turn phase last sender new

@@ -7,7 +7,7 @@ use Rattle.request_codec.specs.Call.{Call}
 use Rattle.grain_kinds.specs.Logic.{StorageCall, asks_nothing, reads_row, writes_row, clears_row}
 use Rattle.grain_kinds.specs.declared.turn.OpenedTurn.{OpenedTurn}
 use Rattle.silo_model.specs.Machine.{Entry, Request, Phase, waiting, loading, ready}
-use Rattle.silo_state.specs.Notes.{may_be_idle}
+use Rattle.silo_state.specs.Notes.{none_waits}
 use Rattle.silo_state.specs.declared.finding.GrainAtClose.{GrainAtClose}
 use Rattle.silo_state.specs.declared.finding.TurnMatch.{TurnMatch}
 use Rattle.silo_state.specs.declared.finding.TurnMatch.TheVariants.{NotOpen, Stranger, Own}
@@ -40,12 +40,13 @@ pub record IsStranger (grain : Grain) (found : Option Entry) (turn : ℕ) (input
   pub other : IsOf grain.kind state request.call input → ⊥
 
 -- The turn is open, and the finished turn is its own.
-pub record IsOwn (grain : Grain) (found : Option Entry) (turn : ℕ) (version : Option ℕ) (idle_after : Bool) (input : OpenedTurn) : Type 0 where
+pub record IsOwn (grain : Grain) (found : Option Entry) (turn : ℕ) (version : Option ℕ)
+    (idle_after : Bool) (input : OpenedTurn) : Type 0 where
   pub entry : Entry
   pub state : Tree
   pub request : Request
   pub is_open : IsOpen found turn entry state version request
-  pub idle_after_is : idle_after ≡ may_be_idle entry
+  pub idle_after_is : idle_after ≡ none_waits entry
   pub is_of : IsOf grain.kind state request.call input
 
 abbrev pub Finds : Grain → Option Entry → ℕ → OpenedTurn → TurnMatch → Type 0

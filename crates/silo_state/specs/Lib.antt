@@ -2,6 +2,7 @@ pub mod Sends
 pub mod Shown
 pub mod Marks
 pub mod Notes
+pub mod Activations
 pub mod Accounts
 pub mod Lending
 pub mod Changes

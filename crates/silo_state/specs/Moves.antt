@@ -10,10 +10,12 @@ use Rattle.grain_kinds.specs.Logic.{Logic}
 use Rattle.silo_model.specs.Whole.{whole_step}
 use Rattle.silo_state.specs.Held.{Held}
 
--- The whole is one step on; or the storage failed, and the whole is on by the step that is marked so; or the step isn't possible now, and nothing changed; or memory was refused, and nothing changed.
+-- The whole is one step on; or the storage failed, and the whole is on by the step that is marked so; or the step isn't possible
+-- now, and nothing changed; or memory was refused, and nothing changed.
 abbrev pub Moves : Logic → Held → Step → Result Answer StepFault → Held → Type 0
 Moves logic old s (Ok Done) new = (whole_step logic old.whole s ≡ Some new.whole) × (new.failures ≡ old.failures)
-Moves logic old s (Ok Failed) new = (may_fail s ≡ true) × (whole_step logic old.whole (as_failed s) ≡ Some new.whole) × (new.failures ≡ old.failures + 1)
+Moves logic old s (Ok Failed) new =
+    (may_fail s ≡ true) × (whole_step logic old.whole (as_failed s) ≡ Some new.whole) × (new.failures ≡ old.failures + 1)
 Moves logic old s (Ok NotNow) new = (whole_step logic old.whole s ≡ None) × (new ≡ old)
 Moves logic old s (Err Memory) new = new ≡ old
 Moves logic old s (Err Stranger) new = ⊥

@@ -19,6 +19,6 @@ idle_since (Some e) = if is_idle e then Some e.last else None
 abbrev pub AreNoted : Entries → FinMap grain_cmp ℕ → Type 0
 AreNoted entries lasts = (grain : Grain) → map.get lasts grain ≡ idle_since (map.get entries grain)
 
--- ready, with no request that waits: idle, once no turn is open
-abbrev pub may_be_idle : Entry → Bool
-may_be_idle e = is_ready e.phase && (length e.queue == 0)
+-- no request waits: a ready one is idle, once no turn is open
+abbrev pub none_waits : Entry → Bool
+none_waits e = length e.queue == 0

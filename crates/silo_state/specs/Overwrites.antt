@@ -11,8 +11,10 @@ use Rattle.silo_model.specs.Stores.{version_value}
 
 -- The row is overwritten and its version told; or it has the last version; or the storage failed.
 abbrev pub Overwrites : Rows → ℕ → Grain → Tree → Answer → Result Tree Fault → Rows → ℕ → Type 0
-Overwrites rows failures grain content Done (Ok told) after count = (version : Option ℕ) × (poked rows grain content ≡ Ok (version, after)) × (told ≡ version_value version) × (count ≡ failures)
-Overwrites rows failures grain content Done (Err why) after count = (poked rows grain content ≡ Err spent) × (why ≡ VersionsSpent grain) × (after ≡ rows) × (count ≡ failures)
+Overwrites rows failures grain content Done (Ok told) after count =
+    (version : Option ℕ) × (poked rows grain content ≡ Ok (version, after)) × (told ≡ version_value version) × (count ≡ failures)
+Overwrites rows failures grain content Done (Err why) after count =
+    (poked rows grain content ≡ Err spent) × (why ≡ VersionsSpent grain) × (after ≡ rows) × (count ≡ failures)
 Overwrites rows failures grain content Failed (Ok told) after count = ⊥
 Overwrites rows failures grain content Failed (Err why) after count = (why ≡ StorageFailed) × (after ≡ rows) × (count ≡ failures + 1)
 Overwrites rows failures grain content NotNow told after count = ⊥

@@ -29,5 +29,6 @@ is_quiet e = (length e.queue == 0) && (map.len e.turns == 0)
 -- The row's content, or the kind's empty state, and the row's version; the rows stay. Otherwise as a read answers.
 abbrev pub ReadsState : Logic → Rows → ℕ → Grain → Result (Tree × Option ℕ) StoreFault → Rows → ℕ → Type 0
 ReadsState logic rows failures grain (Ok found) after count =
-    (found.0 ≡ content_or (logic.empty grain.kind) (map.get rows grain)) × (found.1 ≡ version_of (map.get rows grain)) × (after ≡ rows) × (count ≡ failures)
+    (found.0 ≡ content_or (logic.empty grain.kind) (map.get rows grain)) × (found.1 ≡ version_of (map.get rows grain))
+    × (after ≡ rows) × (count ≡ failures)
 ReadsState logic rows failures grain (Err why) after count = ReadAnswers rows failures grain (Err why) after count

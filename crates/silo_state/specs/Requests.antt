@@ -21,6 +21,10 @@ with_accepted h sender grain call None = h
 with_accepted h sender grain call (Some a) = record h {
   whole = record h.whole {
     accounts = map.insert h.whole.accounts (tenant_of sender) (record a { count = a.count + 1 });
-    entries = map.insert h.whole.entries grain (with_request h.whole.clock (record { number = a.count + 1; sender = sender; call = call }) (map.get h.whole.entries grain));
+    entries = map.insert h.whole.entries grain (with_request h.whole.clock (record {
+      number = a.count + 1;
+      sender = sender;
+      call = call;
+    }) (map.get h.whole.entries grain));
   };
 }

@@ -3,7 +3,7 @@ use Rattle.std.specs.Prelude.{map as map_list}
 use Rattle.std.specs.FinMap.{FinMap}
 use Rattle.grain_id.specs.Names.{grain_cmp}
 use Rattle.turn_mailbox.specs.declared.request.Request.{Request}
-use Rattle.turn_mailbox.specs.Mapped.{map_values}
+use Rattle.finite_maps.specs.Mapped.{map_values}
 use Rattle.activation_directory.specs.declared.activation.Activation.{Activation}
 use Rattle.activation_directory.specs.declared.activation.Phase.{Phase}
 use Rattle.activation_directory.specs.declared.activation.Phase.TheVariants.{Waiting, Loading, Ready}
@@ -21,7 +21,12 @@ phase_of (Ready state version) = ready state version
 
 -- an activation, as an entry
 abbrev pub entry_of : Activation → Entry
-entry_of a = record { phase = phase_of a.phase; queue = map_list request_of a.mailbox.waiting; turns = map_values request_of a.mailbox.opened; last = a.last }
+entry_of a = record {
+  phase = phase_of a.phase;
+  queue = map_list request_of a.mailbox.waiting;
+  turns = map_values request_of a.mailbox.opened;
+  last = a.last;
+}
 
 -- all activations, as entries
 abbrev pub entries_of : FinMap grain_cmp Activation → Entries

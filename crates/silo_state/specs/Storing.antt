@@ -32,7 +32,8 @@ given logic rows grain state version clears_row = with_state (logic.empty grain.
 
 -- It is given, and its version is told; or why not.
 abbrev pub Gives : Result Given RowFault → Rows → ℕ → Result StorageAnswer StoreFault → Rows → ℕ → Type 0
-Gives planned rows failures (Ok s) after count = (planned ≡ Ok ((s.state, s.version), after)) × (s.told ≡ version_value s.version) × (count ≡ failures)
+Gives planned rows failures (Ok s) after count =
+    (planned ≡ Ok ((s.state, s.version), after)) × (s.told ≡ version_value s.version) × (count ≡ failures)
 Gives planned rows failures (Err storage.Failed) after count = (after ≡ rows) × (count ≡ failures + 1)
 Gives planned rows failures (Err (storage.Stale found)) after count = (planned ≡ Err (stale found)) × (after ≡ rows) × (count ≡ failures)
 Gives planned rows failures (Err storage.Spent) after count = (planned ≡ Err spent) × (after ≡ rows) × (count ≡ failures)

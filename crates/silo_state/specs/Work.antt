@@ -35,4 +35,5 @@ is_settled (Some e) = is_quiet e
 
 -- a request of the client waits or is open at a grain of its tenant
 abbrev pub pending_in_part : Client → Entries → Bool
-pending_in_part client entries = list_any (λ q. is_of_client client q.sender) (flat_map pending_at (map.values (map.retain_keys entries (is_of client.tenant))))
+pending_in_part client entries =
+    list_any (λ q. is_of_client client q.sender) (flat_map pending_at (map.values (map.retain_keys entries (is_of client.tenant))))

@@ -101,7 +101,8 @@ impl Accounts {
         tenant: &str,
         sent: VecDeque<Sent>,
     ) -> Result<(), AllocError>
-        ensures done { OnOk result (self.new ≡ change_at self.old tenant.now (with_more (map.get self.old tenant.now) (map_list send_of sent.items))) }
+        ensures done { OnOk result (self.new ≡ change_at self.old tenant.now (with_more (map.get self.old tenant.now) (map_list send_of
+            sent.items))) }
         ensures unchanged { OnErr result (self.new ≡ self.old) }
     {
         if sent.is_empty() {
@@ -121,7 +122,8 @@ fn add(
     tenant: &Tenant,
     limits: Limits,
 ) -> Result<(), AllocError>
-    ensures { OnOk result ((name : List ℕ) → get_by_text by_name.new name ≡ (if same_text tenant.now name then Some (fresh_account limits) else get_by_text by_name.old name)) }
+    ensures { OnOk result ((name : List ℕ) → get_by_text by_name.new name ≡ (if same_text tenant.now name then Some (fresh_account limits)
+        else get_by_text by_name.old name)) }
 {
     by_name.insert(
         String::from_str(alloc, tenant.text())?,

@@ -1,4 +1,4 @@
-//! The activations of all grains, as entries.
+//! The activations of all grains, as entries, and the notes of those that are idle.
 
 ghost use Rattle.std.specs.Prelude.{◌≡◌, ◌<◌, ◌^◌, IfOk, OnOk, OnErr, IfSome, None};
 ghost use Rattle.std.specs.Option.{is_some, option_copied, option_map};
@@ -12,6 +12,7 @@ use crate::change;
 use activation_directory::{Activation, Directory};
 use grain_id::GrainId;
 use grain_kinds::{GrainLogic, OpenedTurn};
+use idle_collector::Collector;
 use silo_event::Answer;
 use std::alloc::{AllocError, Global};
 use std::marker::{Model, PhantomData};
@@ -21,44 +22,49 @@ mod close;
 mod walk;
 
 /// The activations of all grains. Each request is marked as one that only reads exactly if the logic
-/// says so of its method.
+/// says so of its method. The collector has notes of exactly those that are idle. What makes one idle
+/// takes no memory: room for its note is made before.
 #[derive(Drop)]
 pub struct Activations<L: GrainLogic> {
     directory: Directory,
+    collector: Collector,
     of: PhantomData<L>,
 }
 
 impl<L: GrainLogic> Model for Activations<L> {
     ghost use Rattle.std.specs.Coded.{codes};
     ghost use Rattle.request_codec.specs.Code.{coded_tree};
+    ghost use Rattle.grain_id.specs.Names.{coded_grain};
     ghost use Rattle.silo_model.specs.Codes.{by_grain_code, by_number_code};
-    ghost use Rattle.silo_model.specs.Machine.{Entries};
+    ghost use Rattle.silo_state.specs.Activations.{Activations, shown};
     ghost use Rattle.silo_state.specs.Shown.{entries_of};
     ghost use Rattle.silo_state.specs.Marks.{AllMarked};
+    ghost use Rattle.silo_state.specs.Notes.{AreNoted};
 
-    ghost Value = { Entries };
+    ghost Value = { Activations };
 
-    ghost coded = { Prim.hlevel (codes, by_grain_code, by_number_code, coded_tree) };
+    ghost coded = { Prim.hlevel (codes, coded_grain, by_grain_code, by_number_code, coded_tree) };
 
-    ghost view = { λ a. entries_of a.directory.activations };
+    ghost view = { λ a. shown a.directory.activations a.collector };
 
-    ghost invariant = { λ a. AllMarked L.logic a.directory.activations };
+    ghost invariant = { λ a. AllMarked L.logic a.directory.activations × AreNoted (entries_of a.directory.activations) a.collector.notes.lasts };
 }
 
 impl<L: GrainLogic> Activations<L> {
-    /// No grain has an activation.
-    pub fn new(alloc: Global) -> Activations<L>
-        ensures { result ≡ map.empty }
+    /// No grain has an activation. An idle one goes after the age, in milliseconds.
+    pub fn new(alloc: Global, age: u64) -> Activations<L>
+        ensures { result ≡ record { age = age; entries = map.empty; expected = None } }
     {
         Activations {
             directory: Directory::new(alloc),
+            collector: Collector::new(alloc, age),
             of: PhantomData,
         }
     }
 
     /// The grain's activation.
     pub fn get(&self, grain: &GrainId) -> Option<&Activation>
-        ensures entry { option_map entry_of (option_copied result) ≡ map.get self.now grain.now }
+        ensures entry { option_map entry_of (option_copied result) ≡ map.get self.now.entries grain.now }
         ensures marked { IfSome result (λ a. AreMarked L.logic grain.now a.now.mailbox) }
     {
         self.directory.get(grain)
@@ -66,7 +72,7 @@ impl<L: GrainLogic> Activations<L> {
 
     /// How many grains of a tenant have an activation.
     pub fn count(&self, tenant: &str) -> usize
-        ensures count { result ≡ active_in self.now tenant.now }
+        ensures count { result ≡ active_in self.now.entries tenant.now }
         ensures bound { result < 2 ^ 63 }
     {
         self.directory.count(tenant)
@@ -74,7 +80,8 @@ impl<L: GrainLogic> Activations<L> {
 
     /// The grain's activation begins to load, if it waits.
     pub fn activate(&mut self, grain: &GrainId) -> Answer
-        ensures { Activates self.old grain.now result self.new }
+        ensures activates { Activates self.old.entries grain.now result self.new.entries }
+        ensures age { self.new.age ≡ self.old.age }
     {
         let Some(activation) = self.directory.get_mut(grain) else {
             return Answer::NotNow;
@@ -88,9 +95,10 @@ impl<L: GrainLogic> Activations<L> {
     ///
     /// Out of memory: nothing changed.
     pub fn begin(&mut self, grain: &GrainId) -> Result<Option<OpenedTurn>, AllocError>
-        ensures begins { IfOk result (λ turn. Begins L.logic self.old grain.now (is_some turn) self.new) }
-        ensures turn { IfOk result (λ turn. turn ≡ opened_turn L.logic grain.now (map.get self.old grain.now)) }
-        ensures unchanged { OnErr result (self.new ≡ self.old) }
+        ensures begins { IfOk result (λ turn. Begins L.logic self.old.entries grain.now (is_some turn) self.new.entries) }
+        ensures turn { IfOk result (λ turn. turn ≡ opened_turn L.logic grain.now (map.get self.old.entries grain.now)) }
+        ensures unchanged { OnErr result (self.new.entries ≡ self.old.entries) }
+        ensures age { self.new.age ≡ self.old.age }
     {
         let Some(activation) = self.directory.get_mut(grain) else {
             return Ok(None);
@@ -104,8 +112,9 @@ impl<L: GrainLogic> Activations<L> {
     ///
     /// Out of memory: nothing changed.
     pub fn open(&mut self, grain: &GrainId) -> Result<bool, AllocError>
-        ensures begins { IfOk result (λ opened. Begins L.logic self.old grain.now opened self.new) }
-        ensures unchanged { OnErr result (self.new ≡ self.old) }
+        ensures begins { IfOk result (λ opened. Begins L.logic self.old.entries grain.now opened self.new.entries) }
+        ensures unchanged { OnErr result (self.new.entries ≡ self.old.entries) }
+        ensures age { self.new.age ≡ self.old.age }
     {
         let Some(activation) = self.directory.get_mut(grain) else {
             return Ok(false);

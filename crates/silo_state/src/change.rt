@@ -1,9 +1,9 @@
 //! What becomes of one activation.
 
-ghost use Rattle.std.specs.Prelude.{◌≡◌, IfOk, OnOk, OnErr};
+ghost use Rattle.std.specs.Prelude.{◌≡◌, IfOk, OnOk, OnErr, Some};
 ghost use Rattle.silo_state.specs.Changes.{Starts, turn_at, opens_at, mail_begun, EndsTurn};
 ghost use Rattle.silo_state.specs.Shown.{phase_of, entry_of};
-ghost use Rattle.silo_state.specs.Notes.{may_be_idle, is_idle};
+ghost use Rattle.silo_state.specs.Notes.{none_waits, is_idle, idle_since};
 ghost use Rattle.silo_state.specs.Reads.{is_loading, is_quiet};
 ghost use Rattle.silo_state.specs.Work.{step_at, work_at};
 
@@ -117,14 +117,11 @@ pub fn close(
     Some(request.sender)
 }
 
-/// Whether it is ready, and no request waits.
-pub fn may_be_idle(activation: &Activation) -> bool
-    ensures { result ≡ may_be_idle (entry_of activation.now) }
+/// Whether no request waits.
+pub fn none_waits(activation: &Activation) -> bool
+    ensures { result ≡ none_waits (entry_of activation.now) }
 {
-    match activation.phase {
-        Phase::Ready { .. } => activation.mailbox.len() == 0,
-        _ => false,
-    }
+    activation.mailbox.len() == 0
 }
 
 /// Whether it is ready, no request waits and no turn is open.
@@ -135,6 +132,16 @@ pub fn is_idle(activation: &Activation) -> bool
         Phase::Ready { .. } => activation.mailbox.is_idle(),
         _ => false,
     }
+}
+
+/// When it was last used, if it is ready, no request waits and no turn is open.
+pub fn idle_since(activation: &Activation) -> Option<u64>
+    ensures { result ≡ idle_since (Some (entry_of activation.now)) }
+{
+    if is_idle(activation) {
+        return Some(activation.last);
+    }
+    None
 }
 
 /// Whether it loads.

@@ -4,22 +4,21 @@ ghost use Rattle.std.specs.Prelude.{◌≡◌, ◌<◌, IsSome, Err, if◌then�
 ghost use Rattle.std.specs.Option.{option_map, option_and_then};
 ghost use Rattle.std.specs.FinMap as map;
 ghost use Rattle.silo_state.specs.Shown.{phase_of};
+ghost use Rattle.silo_state.specs.Activations.{HasRoom};
 ghost use Rattle.silo_state.specs.Closings.{ClosesTold, EndsTold, ClosesBy, answer_failed};
 
 use crate::activations::Activations;
-use crate::notes;
 use crate::storing::StorageAnswer;
 use crate::telling::tell;
 use activation_directory::Phase;
 use grain_id::GrainId;
 use grain_kinds::GrainLogic;
 use grain_storage::StoreFault;
-use idle_collector::Collector;
 use request_codec::StateBytes;
 use silo_event::{Answer, Fault, Reply, StepFault};
 
-/// A turn that is closed: of which grain, under which number, whether the grain was noted as one that
-/// is idle after it, and the moment.
+/// A turn that is closed: of which grain, under which number, whether no request waits there, and the
+/// moment.
 #[derive(Clone, Copy)]
 pub struct ClosedTurn<'a> {
     pub grain: &'a GrainId,
@@ -28,25 +27,24 @@ pub struct ClosedTurn<'a> {
     pub now: u64,
 }
 
-/// Closes an open turn of a grain that was noted if it may be idle after it, and tells the turn's
-/// sender. Takes no memory.
+/// Closes an open turn, and tells its sender. Takes no memory.
 pub fn close_turn<L: GrainLogic>(
     activations: &mut Activations<L>,
-    collector: &mut Collector,
     replies: &mut Vec<Reply>,
     closing: ClosedTurn<'_>,
     phase: Option<Phase>,
     outcome: Result<StateBytes, Fault>,
 )
-    requires is_open { IsSome (option_and_then (λ e. map.get e.turns closing.turn) (map.get activations.old closing.grain.now)) }
+    requires is_open { IsSome (option_and_then (λ e. map.get e.turns closing.turn) (map.get activations.old.entries closing.grain.now)) }
+    requires expected { HasRoom activations.old closing.grain.now }
     requires room { vec_len replies.old < vec_capacity replies.old }
-    ensures { ClosesTold activations.old collector.old replies.old.items closing.entry.grain.now closing.entry.turn (option_map phase_of phase) closing.entry.idle_after closing.entry.now outcome activations.new collector.new replies.new.items }
+    ensures closes { ClosesTold activations.old.entries replies.old.items closing.entry.grain.now closing.entry.turn (option_map phase_of phase)
+        closing.entry.now outcome activations.new.entries replies.new.items }
+    ensures age { activations.new.age ≡ activations.old.age }
 {
-    let Some((sender, idle)) = activations.close(closing.grain, closing.turn, phase, closing.now)
-    else {
+    let Some(sender) = activations.close(closing.grain, closing.turn, phase, closing.now) else {
         unreachable!()
     };
-    notes::settle(collector, closing.grain, closing.idle_after, idle);
     tell(replies, sender, outcome);
 }
 
@@ -54,32 +52,30 @@ pub fn close_turn<L: GrainLogic>(
 /// requests wait for a new one, and it goes if none waits. Takes no memory.
 fn end_activation<L: GrainLogic>(
     activations: &mut Activations<L>,
-    collector: &mut Collector,
     replies: &mut Vec<Reply>,
     closing: ClosedTurn<'_>,
     last: u64,
     why: Fault,
 )
-    requires is_open { IsSome (option_and_then (λ e. map.get e.turns closing.turn) (map.get activations.old closing.grain.now)) }
+    requires is_open { IsSome (option_and_then (λ e. map.get e.turns closing.turn) (map.get activations.old.entries closing.grain.now)) }
+    requires expected { HasRoom activations.old closing.grain.now }
     requires room { vec_len replies.old < vec_capacity replies.old }
-    ensures { EndsTold activations.old collector.old replies.old.items closing.entry.grain.now closing.entry.turn closing.entry.idle_after last (Err why) activations.new collector.new replies.new.items }
+    ensures ends { EndsTold activations.old.entries replies.old.items closing.entry.grain.now closing.entry.turn closing.entry.idle_after last
+        (Err why) activations.new.entries replies.new.items }
+    ensures age { activations.new.age ≡ activations.old.age }
 {
-    let Some((sender, _)) = activations.close(
-        closing.grain,
-        closing.turn,
-        Some(Phase::Waiting),
-        last,
-    ) else {
+    let Some(sender) = activations.close(closing.grain, closing.turn, Some(Phase::Waiting), last)
+    else {
         unreachable!()
     };
     drop_if(activations, closing.grain, closing.idle_after);
-    notes::take_back(collector, closing.grain, closing.idle_after);
     tell(replies, sender, Err(why));
 }
 
 /// Takes the grain's activation out, if nothing waits at it.
 fn drop_if<L: GrainLogic>(activations: &mut Activations<L>, grain: &GrainId, idle_after: bool)
-    ensures { activations.new ≡ (if idle_after then map.remove activations.old grain.now else activations.old) }
+    ensures left { activations.new.entries ≡ (if idle_after then map.remove activations.old.entries grain.now else activations.old.entries) }
+    ensures age { activations.new.age ≡ activations.old.age }
 {
     if idle_after {
         drop(activations.remove(grain));
@@ -91,10 +87,9 @@ fn drop_if<L: GrainLogic>(activations: &mut Activations<L>, grain: &GrainId, idl
 ///
 /// # Errors
 ///
-/// `Memory` if that is what the storage answered: the turn stays open, and the note is dropped again.
+/// `Memory` if that is what the storage answered: the turn stays open.
 pub fn close_by<L: GrainLogic>(
     activations: &mut Activations<L>,
-    collector: &mut Collector,
     replies: &mut Vec<Reply>,
     closing: ClosedTurn<'_>,
     last: u64,
@@ -102,16 +97,18 @@ pub fn close_by<L: GrainLogic>(
     stored: Result<StorageAnswer, StoreFault>,
     named: GrainId,
 ) -> Result<Answer, StepFault>
-    requires is_open { IsSome (option_and_then (λ e. map.get e.turns closing.turn) (map.get activations.old closing.grain.now)) }
+    requires is_open { IsSome (option_and_then (λ e. map.get e.turns closing.turn) (map.get activations.old.entries closing.grain.now)) }
+    requires expected { HasRoom activations.old closing.grain.now }
     requires room { vec_len replies.old < vec_capacity replies.old }
     requires named { named ≡ closing.grain.now }
-    ensures { ClosesBy activations.old collector.old replies.old.items closing.entry.grain.now closing.entry.turn closing.entry.idle_after closing.entry.now last failed stored result activations.new collector.new replies.new.items }
+    ensures closes { ClosesBy activations.old.entries replies.old.items closing.entry.grain.now closing.entry.turn closing.entry.idle_after
+        closing.entry.now last failed stored result activations.new.entries replies.new.items }
+    ensures age { activations.new.age ≡ activations.old.age }
 {
     let stored = match stored {
         Ok(stored) => stored,
         Err(fault) => return close_refused(
             activations,
-            collector,
             replies,
             closing,
             last,
@@ -124,21 +121,13 @@ pub fn close_by<L: GrainLogic>(
         state: stored.state,
         version: stored.version,
     };
-    close_turn(
-        activations,
-        collector,
-        replies,
-        closing,
-        Some(phase),
-        Ok(stored.told),
-    );
+    close_turn(activations, replies, closing, Some(phase), Ok(stored.told));
     Ok(Answer::Done)
 }
 
 /// Closes an open turn whose storage call was refused.
 fn close_refused<L: GrainLogic>(
     activations: &mut Activations<L>,
-    collector: &mut Collector,
     replies: &mut Vec<Reply>,
     closing: ClosedTurn<'_>,
     last: u64,
@@ -146,31 +135,31 @@ fn close_refused<L: GrainLogic>(
     fault: StoreFault,
     named: GrainId,
 ) -> Result<Answer, StepFault>
-    requires is_open { IsSome (option_and_then (λ e. map.get e.turns closing.turn) (map.get activations.old closing.grain.now)) }
+    requires is_open { IsSome (option_and_then (λ e. map.get e.turns closing.turn) (map.get activations.old.entries closing.grain.now)) }
+    requires expected { HasRoom activations.old closing.grain.now }
     requires room { vec_len replies.old < vec_capacity replies.old }
     requires named { named ≡ closing.grain.now }
-    ensures { ClosesBy activations.old collector.old replies.old.items closing.entry.grain.now closing.entry.turn closing.entry.idle_after closing.entry.now last failed (Err fault) result activations.new collector.new replies.new.items }
+    ensures closes { ClosesBy activations.old.entries replies.old.items closing.entry.grain.now closing.entry.turn closing.entry.idle_after
+        closing.entry.now last failed (Err fault) result activations.new.entries replies.new.items }
+    ensures age { activations.new.age ≡ activations.old.age }
 {
     match fault {
         StoreFault::Failed => {
             let why = Err(Fault::StorageFailed);
-            close_turn(activations, collector, replies, closing, None, why);
+            close_turn(activations, replies, closing, None, why);
             Ok(answer_failed(failed))
         }
         StoreFault::Spent => {
             let why = Err(Fault::VersionsSpent(named));
-            close_turn(activations, collector, replies, closing, None, why);
+            close_turn(activations, replies, closing, None, why);
             Ok(Answer::Done)
         }
         StoreFault::Stale(_) => {
             let why = Fault::StateChanged(named);
-            end_activation(activations, collector, replies, closing, last, why);
+            end_activation(activations, replies, closing, last, why);
             Ok(Answer::Done)
         }
-        StoreFault::Memory => {
-            notes::take_back(collector, closing.grain, closing.idle_after);
-            Err(StepFault::Memory)
-        }
+        StoreFault::Memory => Err(StepFault::Memory),
     }
 }
 

@@ -77,7 +77,7 @@ pub fn find(grain: &GrainId, activation: &Activation, turn: u64, input: &OpenedT
     if is_of(grain.kind(), state, &request.message, input) {
         return TurnMatch::Own {
             version: *version,
-            idle_after: change::may_be_idle(activation),
+            idle_after: change::none_waits(activation),
         };
     }
     TurnMatch::Stranger
@@ -112,7 +112,7 @@ pub fn open_turn(
     };
     let at_close = GrainAtClose {
         version: *version,
-        idle_after: change::may_be_idle(activation),
+        idle_after: change::none_waits(activation),
     };
     Ok(Some((opened, at_close)))
 }

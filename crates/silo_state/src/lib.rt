@@ -4,7 +4,7 @@
 //! storage's failed calls, and each call is one kind of step: what it answers and leaves is what the
 //! model says (`specs/Moves.antt`). How the parts that the state is made of are seen is in
 //! `specs/Shown.antt`, which requests are marked as readers in `specs/Marks.antt`, and which entries the
-//! collector has notes of in `specs/Notes.antt`.
+//! collector has notes of in `specs/Notes.antt`: `Activations` alone keep them.
 //!
 //! The modules that are public work on one activation, on one value or on the storage alone. A plain
 //! machine of one tenant, which shares no directory, collector or accounts with the state, stands on them.
@@ -17,7 +17,6 @@ pub mod arrival;
 pub mod change;
 mod closing;
 pub mod finding;
-mod notes;
 pub mod reading;
 mod state;
 pub mod status;

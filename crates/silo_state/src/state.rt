@@ -8,7 +8,6 @@ use crate::activations::Activations;
 use grain_id::Tenant;
 use grain_kinds::GrainLogic;
 use grain_storage::GrainStorage;
-use idle_collector::Collector;
 use silo_event::{Moment, Reply};
 use std::alloc::{AllocError, Global};
 use std::marker::Model;
@@ -25,13 +24,11 @@ mod turn;
 mod work;
 
 /// All tenants' accounts, activations and rows, and the replies in the order in which they were made.
-/// The collector has notes of exactly the activations that are idle.
 #[derive(Drop)]
 pub struct SiloState<S: GrainStorage, L: GrainLogic> {
     accounts: Accounts,
     clock: Moment,
     activations: Activations<L>,
-    collector: Collector,
     storage: S,
     logic: L,
     replies: Vec<Reply>,
@@ -42,26 +39,13 @@ impl<S: GrainStorage, L: GrainLogic> Model for SiloState<S, L> {
     ghost use Rattle.request_codec.specs.Code.{coded_tree};
     ghost use Rattle.request_codec.specs.contracts.state.StateBytes as state;
     ghost use Rattle.silo_model.specs.Codes.{by_grain_code, by_text_code, by_number_code};
-    ghost use Rattle.silo_state.specs.Held.{Held};
-    ghost use Rattle.silo_state.specs.Notes.{AreNoted};
+    ghost use Rattle.silo_state.specs.Held.{Held, held_of};
 
     ghost Value = { Held };
 
     ghost coded = { Prim.hlevel (codes, by_grain_code, by_text_code, by_number_code, coded_tree, state.the_row.coded) };
 
-    ghost view = { λ b. record {
-      whole = record {
-        accounts = b.accounts;
-        age = b.collector.age;
-        clock = b.clock;
-        entries = b.activations;
-        rows = S.rows b.storage;
-        replies = b.replies.items;
-      };
-      failures = S.failed b.storage;
-    } };
-
-    ghost invariant = { λ b. AreNoted b.activations b.collector.lasts };
+    ghost view = { λ b. held_of b.accounts b.activations b.clock (S.rows b.storage) b.replies.items (S.failed b.storage) };
 }
 
 /// The moment at which the clock begins.
@@ -88,13 +72,15 @@ impl<S: GrainStorage + Drop, L: GrainLogic + Drop> SiloState<S, L> {
         storage: S,
         logic: L,
     ) -> Result<SiloState<S, L>, AllocError>
-        ensures { IfOk result (λ b. b ≡ record { whole = opening (record { tenants = tenants.now; age = age; rows = S.rows storage }); failures = S.failed storage }) }
+        ensures { IfOk result (λ b. b ≡ record {
+          whole = opening (record { tenants = tenants.now; age = age; rows = S.rows storage });
+          failures = S.failed storage;
+        }) }
     {
         Ok(SiloState {
             accounts: Accounts::new(alloc, tenants)?,
             clock: beginning(),
-            activations: Activations::new(alloc),
-            collector: Collector::new(alloc, age),
+            activations: Activations::new(alloc, age),
             storage,
             logic,
             replies: Vec::new(alloc),

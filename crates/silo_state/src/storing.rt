@@ -41,7 +41,8 @@ pub fn ask<S: GrainStorage, L: GrainLogic>(
 ) -> Result<StorageAnswer, StoreFault>
     requires known { L.logic.knows grain.now.kind ≡ true }
     requires asking { asks (storage_call call) ≡ true }
-    ensures { GivesMarked failed (given L.logic (S.rows storage.old) grain.now state.now version (storage_call call)) (S.rows storage.old) (S.failed storage.old) result (S.rows storage.new) (S.failed storage.new) }
+    ensures { GivesMarked failed (given L.logic (S.rows storage.old) grain.now state.now version (storage_call call)) (S.rows storage.old)
+        (S.failed storage.old) result (S.rows storage.new) (S.failed storage.new) }
 {
     if failed {
         return Err(StoreFault::Failed);
@@ -62,7 +63,8 @@ fn read<S: GrainStorage, L: GrainLogic>(
     grain: &GrainId,
 ) -> Result<StorageAnswer, StoreFault>
     requires { L.logic.knows grain.now.kind ≡ true }
-    ensures { Gives (Ok (read_again L.logic (S.rows storage.old) grain.now)) (S.rows storage.old) (S.failed storage.old) result (S.rows storage.new) (S.failed storage.new) }
+    ensures { Gives (Ok (read_again L.logic (S.rows storage.old) grain.now)) (S.rows storage.old) (S.failed storage.old) result (S.rows
+        storage.new) (S.failed storage.new) }
 {
     let (state, version) = match read_state(alloc, storage, logic, grain) {
         Ok(found) => found,
@@ -85,7 +87,8 @@ fn write<S: GrainStorage>(
     state: &StateBytes,
     version: Option<u64>,
 ) -> Result<StorageAnswer, StoreFault>
-    ensures { Gives (with_state state.now (written (S.rows storage.old) grain.now version state.now)) (S.rows storage.old) (S.failed storage.old) result (S.rows storage.new) (S.failed storage.new) }
+    ensures { Gives (with_state state.now (written (S.rows storage.old) grain.now version state.now)) (S.rows storage.old) (S.failed
+        storage.old) result (S.rows storage.new) (S.failed storage.new) }
 {
     let content = state.clone()?;
     let state = state.clone()?;
@@ -110,7 +113,8 @@ fn clear<S: GrainStorage, L: GrainLogic>(
     version: Option<u64>,
 ) -> Result<StorageAnswer, StoreFault>
     requires { L.logic.knows grain.now.kind ≡ true }
-    ensures { Gives (with_state (L.logic.empty grain.now.kind) (cleared (S.rows storage.old) grain.now version)) (S.rows storage.old) (S.failed storage.old) result (S.rows storage.new) (S.failed storage.new) }
+    ensures { Gives (with_state (L.logic.empty grain.now.kind) (cleared (S.rows storage.old) grain.now version)) (S.rows storage.old)
+        (S.failed storage.old) result (S.rows storage.new) (S.failed storage.new) }
 {
     let state = logic.empty(alloc, grain.kind())?;
     let told = version_value(alloc, cleared_version(version))?;

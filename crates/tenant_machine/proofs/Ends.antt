@@ -15,12 +15,11 @@ use Rattle.silo_model.specs.Effect.{Effect, applied, context_at, change_option}
 use Rattle.silo_model.specs.Calls.{reply_to}
 use Rattle.silo_model.specs.Step.{machine_step, effect_of, at_turn}
 use Rattle.silo_model.specs.Turns.{plan_of, sent_by, with_sends, outcome_of, ended, ended_by, abandoned}
-use Rattle.silo_state.specs.Entries.{closed_entry}
+use Rattle.silo_state.specs.Entries.{closed_entry, ClosesEntry}
 use Rattle.silo_state.specs.Finds.{open_in, IsOwn, asks}
 use Rattle.silo_state.specs.Sends.{with_more}
 use Rattle.silo_state.proofs.Idle.{the_same}
-use Rattle.tenant_machine.specs.Entries.{ClosesEntry}
-use Rattle.tenant_machine.specs.Closings.{ClosesTold}
+use Rattle.silo_state.specs.Closings.{ClosesTold}
 use Rattle.tenant_machine.specs.Requests.{seen_at}
 
 -- what a turn sends comes to the account in one way

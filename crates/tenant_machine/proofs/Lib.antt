@@ -2,7 +2,6 @@ pub mod Parts
 pub mod Owners
 pub mod Trees
 pub mod Firsts
-pub mod Closed
 pub mod Swept
 pub mod Gate
 pub mod Calls

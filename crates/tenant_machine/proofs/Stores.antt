@@ -4,7 +4,7 @@ use Rattle.std.specs.Prelude.{Result, Ok, Err, option_map, option_and_then, if�
 use Rattle.std.specs.FinMap as map
 use Rattle.grain_id.specs.Names.{Grain}
 use Rattle.grain_id.proofs.Order.{grain_cmp_total, grain_cmp_exact}
-use Rattle.grain_id.proofs.Maps as maps
+use Rattle.finite_maps.proofs.Maps as maps
 use Rattle.request_codec.specs.Tree.{Tree}
 use Rattle.grain_storage.specs.declared.row.Row.{Row}
 use Rattle.grain_storage.specs.declared.fault.StoreFault.{StoreFault}
@@ -25,14 +25,14 @@ use Rattle.silo_model.specs.Step.{machine_step, effect_of}
 use Rattle.silo_model.specs.Stores.{row_written, row_cleared, at_row, version_value}
 use Rattle.silo_model.specs.Turns.{closed, ends_activation, row_changed, stored, stored_by}
 use Rattle.silo_model.proofs.Stored.{stores_at_one_row}
-use Rattle.silo_state.specs.Entries.{closed_entry}
+use Rattle.silo_state.specs.Entries.{closed_entry, ClosesEntry}
 use Rattle.silo_state.specs.Finds.{open_in, IsOwn, asks}
 use Rattle.silo_state.specs.Storing.{read_again, with_state, given, Gives, GivesMarked}
 use Rattle.silo_state.specs.declared.storing.StorageAnswer.{StorageAnswer}
 use Rattle.silo_state.proofs.AtRows.{same_Ok, done_at, refused_at}
 use Rattle.silo_state.proofs.Idle.{some_waits}
-use Rattle.tenant_machine.specs.Entries.{ClosesEntry}
-use Rattle.tenant_machine.specs.Closings.{ClosesTold, ClosesBy}
+use Rattle.silo_state.specs.Closings.{ClosesTold}
+use Rattle.tenant_machine.specs.Closings.{ClosesBy}
 use Rattle.tenant_machine.specs.Machines.{StepAnswers}
 use Rattle.tenant_machine.specs.Requests.{seen_at}
 use Rattle.tenant_machine.proofs.Ends.{plan, turn_at, not_open, planned, put_own, sent_own}
@@ -196,14 +196,11 @@ module _ (logic : Logic) (m : Machine) (g : Grain) (turn : ℕ) (version : Optio
     ends_by (first ∷ others) =
         ap (λ b. if b then map.remove (map.insert m.entries g ended_entry) g else map.insert m.entries g ended_entry) (sym (some_waits (suc (length others)) (omega arith)))
 
-    idle_by : idle_after ≡ (length own.entry.queue == 0)
-    idle_by = own.idle_after_is ∙ (λ i. is_ready (own.is_open.phase_is i) && (length own.entry.queue == 0))
-
     between_is : between ≡ map.insert m.entries g ended_entry
     between_is = put_own logic m g turn version idle_after input own (Some waiting) last sender between d ∙ ap (λ n. map.insert m.entries g (closed_entry own.entry own.request (Some waiting) n)) still
 
     ends_is : change_at m.entries g (ends_activation own.entry own.request own.entry.queue) ≡ (if idle_after then map.remove between g else between)
-    ends_is = ends_by own.entry.queue ∙ (λ i. if sym idle_by i then map.remove (sym between_is i) g else sym between_is i)
+    ends_is = ends_by own.entry.queue ∙ (λ i. if sym own.idle_after_is i then map.remove (sym between_is i) g else sym between_is i)
 
   -- ---- what a call comes to
 

@@ -7,7 +7,7 @@ use Rattle.grain_id.specs.Names.{Grain, grain_cmp}
 use Rattle.grain_id.proofs.Order.{grain_cmp_total, grain_cmp_exact}
 use Rattle.grain_id.proofs.ByGrain.{alike, get-part}
 use Rattle.grain_kinds.specs.Logic.{Logic}
-use Rattle.turn_mailbox.proofs.Mapped.{get-mapped}
+use Rattle.finite_maps.proofs.Mapped.{get-mapped}
 use Rattle.activation_directory.specs.declared.activation.Activation.{Activation}
 use Rattle.silo_model.specs.Idle.{is_due, is_kept, kept_entries}
 use Rattle.silo_state.specs.Marks.{AllMarked}

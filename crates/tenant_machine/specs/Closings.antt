@@ -12,21 +12,7 @@ use Rattle.silo_event.specs.declared.reply.Reply.{Reply}
 use Rattle.silo_model.specs.Machine.{Entries, Phase, waiting, ready}
 use Rattle.silo_model.specs.Calls.{reply_to}
 use Rattle.silo_state.specs.declared.storing.StorageAnswer.{StorageAnswer}
-use Rattle.tenant_machine.specs.Entries.{ClosesEntry}
-
--- The turn is closed, and its sender is told.
-pub record ClosesTold (old : Entries) (replies : List Reply) (grain : Grain) (turn : ℕ) (phase : Option Phase) (last : ℕ) (outcome : Result Tree Fault) (new : Entries) (told : List Reply) : Type 0 where
-  pub sender : Party
-  pub closes : ClosesEntry old grain turn phase last sender new
-  pub told_is : told ≡ replies ++ reply_to sender outcome
-
--- The activation ends: its turn is closed, it waits again, or goes if nothing waits, and the turn's sender is told.
-pub record EndsTold (old : Entries) (replies : List Reply) (grain : Grain) (turn : ℕ) (idle_after : Bool) (last : ℕ) (outcome : Result Tree Fault) (new : Entries) (told : List Reply) : Type 0 where
-  pub sender : Party
-  pub between : Entries
-  pub closes : ClosesEntry old grain turn (Some waiting) last sender between
-  pub left : new ≡ (if idle_after then map.remove between grain else between)
-  pub told_is : told ≡ replies ++ reply_to sender outcome
+use Rattle.silo_state.specs.Closings.{ClosesTold, EndsTold}
 
 -- What is made of the storage's answer: the grain has the new state; or the storage failed; or the row has another version, and the activation ends;
 -- or the row has the last version; or memory was refused, and nothing changed.

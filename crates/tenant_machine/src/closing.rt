@@ -7,7 +7,8 @@ ghost use Rattle.silo_event.specs.declared.fault.Fault.TheVariants.{StorageFaile
 ghost use Rattle.silo_model.specs.Calls.{reply_to};
 ghost use Rattle.silo_model.specs.Machine.{Entry};
 ghost use Rattle.silo_state.specs.Shown.{phase_of};
-ghost use Rattle.tenant_machine.specs.Closings.{ClosesTold, EndsTold, ClosesBy};
+ghost use Rattle.silo_state.specs.Closings.{ClosesTold, EndsTold};
+ghost use Rattle.tenant_machine.specs.Closings.{ClosesBy};
 
 use crate::entries::Entries;
 use activation_directory::Phase;

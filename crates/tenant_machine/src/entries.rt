@@ -6,10 +6,9 @@ ghost use Rattle.std.specs.FinMap as map;
 ghost use Rattle.silo_model.specs.Calls.{with_request};
 ghost use Rattle.silo_model.specs.Idle.{kept_entries};
 ghost use Rattle.silo_model.specs.Machine.{Entry};
-ghost use Rattle.silo_state.specs.Entries.{Activates, Begins};
+ghost use Rattle.silo_state.specs.Entries.{Activates, Begins, Closes};
 ghost use Rattle.silo_state.specs.Marks.{AreMarked, IsMarked};
 ghost use Rattle.silo_state.specs.Shown.{entry_of, phase_of, request_of};
-ghost use Rattle.tenant_machine.specs.Entries.{Closes};
 
 use crate::by_grain::ByGrain;
 use activation_directory::{Activation, Phase};

@@ -35,13 +35,17 @@ impl<S: GrainStorage, L: GrainLogic> Silo<S, L> {
         ensures answers { AreAnswers L.logic self.old.whole (take (vec_len result.answers) steps.items) result.answers.items }
 
         // The steps that were answered, each as it was taken, are done one after another.
-        ensures whole { self.new.whole ≡ whole_run L.logic self.old.whole (marked (take (vec_len result.answers) steps.items) result.answers.items) }
-        ensures journal { self.new.journal ≡ self.old.journal ++ done_by (whole_step L.logic) self.old.whole (marked (take (vec_len result.answers) steps.items) result.answers.items) }
+        ensures whole { self.new.whole
+            ≡ whole_run L.logic self.old.whole (marked (take (vec_len result.answers) steps.items) result.answers.items) }
+        ensures journal { self.new.journal
+            ≡ self.old.journal
+            ++ done_by (whole_step L.logic) self.old.whole (marked (take (vec_len result.answers) steps.items) result.answers.items) }
         ensures setup { self.new.setup ≡ self.old.setup }
         ensures failures { self.new.failures ≡ failed_since (failed_in result.answers.items) self.old.failures }
 
         // For every tenant, the run of a silo of its own.
-        ensures parts { RunsInParts L.logic self.old.whole (marked (take (vec_len result.answers) steps.items) result.answers.items) self.new.whole }
+        ensures parts { RunsInParts L.logic self.old.whole
+            (marked (take (vec_len result.answers) steps.items) result.answers.items) self.new.whole }
         ensures own_answers { RunAnswersInParts L.logic self.old.whole (take (vec_len result.answers) steps.items) result.answers.items }
         ensures alone { (tenant : List ℕ) → AllConcern tenant steps.items
             → AreMachineAnswers L.logic (shown_to tenant self.old.whole) (take (vec_len result.answers) steps.items) result.answers.items }
@@ -49,11 +53,15 @@ impl<S: GrainStorage, L: GrainLogic> Silo<S, L> {
         // On a new silo each part is that run from the start of the tenant's own machine, a turn that may write is the only
         // open turn of its grain at every prefix of the list, and what a client asked is answered once, or waits, or is open.
         ensures from_start { self.old.journal ≡ [] → (tenant : List ℕ) → shown_to tenant self.new.whole
-            ≡ machine_run L.logic (start_of self.old.setup tenant) (restricted_to tenant (marked (take (vec_len result.answers) steps.items) result.answers.items)) }
-        ensures exclusive { self.old.journal ≡ [] → Exclusive L.logic self.old.setup (take (vec_len result.answers) steps.items) result.answers.items }
+            ≡ machine_run L.logic (start_of self.old.setup tenant)
+            (restricted_to tenant (marked (take (vec_len result.answers) steps.items) result.answers.items)) }
+        ensures exclusive { self.old.journal ≡ []
+            → Exclusive L.logic self.old.setup (take (vec_len result.answers) steps.items) result.answers.items }
         ensures settled { self.old.journal ≡ [] → (tenant : List ℕ)
-            → Settled (restricted_to tenant (marked (take (vec_len result.answers) steps.items) result.answers.items)) (shown_to tenant self.new.whole) }
+            → Settled (restricted_to tenant (marked (take (vec_len result.answers) steps.items) result.answers.items))
+            (shown_to tenant self.new.whole) }
     {
+        // Looked at, so that the proof sees where the journal leads.
         let _ = &self.journal;
         self.take_each(alloc, steps)
     }

@@ -125,7 +125,8 @@ impl<S: GrainStorage, L: GrainLogic> Silo<S, L> {
         ensures turn { IfOk result (λ turn. turn ≡ opened_turn L.logic grain (map.get self.old.whole.entries grain)) }
         ensures fault { IfErr result (λ fault. fault ≡ StepFault.Memory) }
         ensures unchanged { OnErr result (self.new ≡ self.old) }
-        ensures parts { IfOk result (λ turn. StepAnswersInParts L.logic self.old.whole (step.Begin grain) (Ok (done_if turn)) self.new.whole) }
+        ensures parts { IfOk result
+            (λ turn. StepAnswersInParts L.logic self.old.whole (step.Begin grain) (Ok (done_if turn)) self.new.whole) }
     {
         self.journal.reserve(1)?;
         let Some(turn) = self.state.begin(&grain)? else {
@@ -147,8 +148,10 @@ impl<S: GrainStorage, L: GrainLogic> Silo<S, L> {
         finished: &FinishedTurn<L>,
         failed: bool,
     ) -> Result<Answer, StepFault>
-        ensures answered { AnsweredTurn L.logic self.old (step.Store finished.now.grain finished.now.number failed) finished.now result self.new }
-        ensures parts { StepAnswersInParts L.logic self.old.whole (step.Store finished.now.grain finished.now.number failed) result self.new.whole }
+        ensures answered { AnsweredTurn L.logic self.old
+            (step.Store finished.now.grain finished.now.number failed) finished.now result self.new }
+        ensures parts { StepAnswersInParts L.logic self.old.whole
+            (step.Store finished.now.grain finished.now.number failed) result self.new.whole }
     {
         self.journal.reserve(1)?;
         let grain = finished.grain().clone()?;
@@ -213,6 +216,7 @@ impl<S: GrainStorage, L: GrainLogic> Silo<S, L> {
         ensures answered { Answered L.logic self.old step result self.new }
         ensures parts { StepAnswersInParts L.logic self.old.whole step result self.new.whole }
     {
+        // Looked at, so that the proof sees where the journal leads.
         let _ = &self.journal;
         self.take(alloc, step)
     }

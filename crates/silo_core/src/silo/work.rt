@@ -5,7 +5,9 @@ ghost use Rattle.std.specs.Prelude.{◌≡◌, option_map};
 ghost use Rattle.std.specs.FinMap as map;
 ghost use Rattle.std.specs.Option.{option_copied};
 ghost use Rattle.silo_model.specs.Sends.{first_target};
+ghost use Rattle.silo_model.specs.Pending.{sends_of};
 ghost use Rattle.silo_model.specs.Todo.{work_on};
+ghost use Rattle.silo_state.specs.Sends.{first_source};
 ghost use Rattle.silo_state.specs.Work.{step_at, is_settled};
 
 use crate::silo::Silo;
@@ -27,6 +29,13 @@ impl<S: GrainStorage, L: GrainLogic> Silo<S, L> {
         ensures { option_copied result ≡ first_target (map.get self.now.whole.accounts grain.now.tenant) grain.now }
     {
         self.state.first_target(grain)
+    }
+
+    /// The grain that sent the oldest of what the tenant's grains sent, and is not yet delivered.
+    pub fn oldest_sender(&self, tenant: &str) -> Option<&GrainId>
+        ensures { option_copied result ≡ first_source (sends_of (map.get self.now.whole.accounts tenant.now)) }
+    {
+        self.state.oldest_sender(tenant)
     }
 
     /// Whether no request waits at the grain, and no turn of it is open.

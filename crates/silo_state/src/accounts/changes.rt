@@ -11,7 +11,8 @@ impl Accounts {
     /// The first call that the grain sent is taken out of what its tenant's grains sent. Takes no
     /// memory.
     pub fn take_first(&mut self, grain: &GrainId)
-        ensures { self.new ≡ changed_account (λ a. record a { sends = without_first grain.now a.sends }) self.old grain.now.tenant (map.get self.old grain.now.tenant) }
+        ensures { self.new ≡ changed_account (λ a. record a { sends = without_first grain.now a.sends }) self.old grain.now.tenant
+            (map.get self.old grain.now.tenant) }
     {
         if let Some(account) = self.get_mut(grain.tenant()) {
             account.take_first(grain);

@@ -3,12 +3,13 @@
 ghost use Rattle.std.specs.Prelude.{◌≡◌, true, OnOk, OnErr, length};
 ghost use Rattle.std.specs.Option.{option_map};
 ghost use Rattle.std.specs.FinMap as map;
-ghost use Rattle.silo_model.specs.Calls.{with_request};
-ghost use Rattle.silo_state.specs.Shown.{request_of};
-ghost use Rattle.silo_state.specs.Marks.{IsMarked};
+ghost use Rattle.silo_state.specs.Arrivals.{with_waiting};
+ghost use Rattle.silo_state.specs.Shown.{request_of, entries_of};
+ghost use Rattle.silo_state.specs.Marks.{IsMarked, AllMarked};
 
 use crate::activations::Activations;
 use crate::arrival;
+use activation_directory::Directory;
 use grain_id::GrainId;
 use grain_kinds::GrainLogic;
 use std::alloc::{AllocError, Global};
@@ -17,7 +18,7 @@ use turn_mailbox::Request;
 impl<L: GrainLogic> Activations<L> {
     /// How many requests wait at the grain, if it has an activation.
     pub fn waiting(&self, grain: &GrainId) -> Option<usize>
-        ensures { result ≡ option_map (λ e. length e.queue) (map.get self.now grain.now) }
+        ensures { result ≡ option_map (λ e. length e.queue) (map.get self.now.entries grain.now) }
     {
         let Some(activation) = self.get(grain) else {
             return None;
@@ -40,21 +41,47 @@ impl<L: GrainLogic> Activations<L> {
     ) -> Result<(), AllocError>
         requires known { L.logic.knows grain.now.kind ≡ true }
         requires marked { IsMarked L.logic grain.now request }
-        ensures waits { OnOk result (self.new ≡ map.insert self.old grain.now (with_request clock (request_of request) (map.get self.old grain.now))) }
-        ensures unchanged { OnErr result (self.new ≡ self.old) }
+        ensures waits { OnOk result (self.new.entries ≡ with_waiting self.old.entries grain.now (request_of request) clock) }
+        ensures unchanged { OnErr result (self.new.entries ≡ self.old.entries) }
+        ensures age { self.new.age ≡ self.old.age }
     {
-        if let Some(activation) = self.directory.get_mut(grain) {
-            return arrival::arrive(activation, request, clock);
-        }
-        let named = grain.clone()?;
-        let activation = arrival::first(alloc, request, clock)?;
-        match self.directory.insert(alloc, named, activation) {
-            Ok(()) => {}
-            Err(refused) => {
-                drop(refused);
-                return Err(AllocError);
-            }
-        }
+        enter::<L>(alloc, &mut self.directory, grain, request, clock)?;
+        self.collector.forget(grain);
         Ok(())
     }
+}
+
+/// One request more waits at the grain, or at a new activation of it.
+///
+/// # Errors
+///
+/// Out of memory: nothing changed.
+fn enter<L: GrainLogic>(
+    alloc: Global,
+    directory: &mut Directory,
+    grain: &GrainId,
+    request: Request,
+    clock: u64,
+) -> Result<(), AllocError>
+    requires marks { AllMarked L.logic directory.old.activations }
+    requires known { L.logic.knows grain.now.kind ≡ true }
+    requires marked { IsMarked L.logic grain.now request }
+    ensures waits { OnOk result (entries_of directory.new.activations ≡ with_waiting (entries_of directory.old.activations) grain.now
+        (request_of request) clock) }
+    ensures unchanged { OnErr result (entries_of directory.new.activations ≡ entries_of directory.old.activations) }
+    ensures marks { AllMarked L.logic directory.new.activations }
+{
+    if let Some(activation) = directory.get_mut(grain) {
+        return arrival::arrive(activation, request, clock);
+    }
+    let named = grain.clone()?;
+    let activation = arrival::first(alloc, request, clock)?;
+    match directory.insert(alloc, named, activation) {
+        Ok(()) => {}
+        Err(refused) => {
+            drop(refused);
+            return Err(AllocError);
+        }
+    }
+    Ok(())
 }

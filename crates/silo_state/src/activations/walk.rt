@@ -18,7 +18,7 @@ impl<L: GrainLogic> Activations<L> {
     /// What is to do with the grain's activation, if anything is: at most one of the three is
     /// possible.
     pub fn work_on(&self, grain: &GrainId) -> Option<PossibleStep>
-        ensures { option_map (step_at grain.now) result ≡ work_on L.logic grain.now (map.get self.now grain.now) }
+        ensures { option_map (step_at grain.now) result ≡ work_on L.logic grain.now (map.get self.now.entries grain.now) }
     {
         let Some(activation) = self.get(grain) else {
             return None;
@@ -28,7 +28,7 @@ impl<L: GrainLogic> Activations<L> {
 
     /// Whether no request waits at the grain, and no turn of it is open.
     pub fn is_settled(&self, grain: &GrainId) -> bool
-        ensures { result ≡ is_settled (map.get self.now grain.now) }
+        ensures { result ≡ is_settled (map.get self.now.entries grain.now) }
     {
         let Some(activation) = self.get(grain) else {
             return true;
@@ -39,8 +39,9 @@ impl<L: GrainLogic> Activations<L> {
     /// A grain with whose activation something is to do, and what, or none if there is none. It walks
     /// over all activations.
     pub fn first_work(&self) -> Option<(&GrainId, PossibleStep)>
-        ensures found { IfSome result (λ found. work_on L.logic found.0.now (map.get self.now found.0.now) ≡ Some (step_at found.0.now found.1)) }
-        ensures none { IfNone result ((id : Grain) → work_on L.logic id (map.get self.now id) ≡ None) }
+        ensures found { IfSome result (λ found. work_on L.logic found.0.now (map.get self.now.entries found.0.now) ≡ Some (step_at found.0.now
+            found.1)) }
+        ensures none { IfNone result ((id : Grain) → work_on L.logic id (map.get self.now.entries id) ≡ None) }
     {
         'places: for place in 0..self.directory.len() {
             let Some((grain, _)) = self.directory.at(place) else {
@@ -56,7 +57,7 @@ impl<L: GrainLogic> Activations<L> {
     /// Whether a request of the client waits or is open at a grain of its tenant. It walks over all
     /// activations.
     pub fn has_from(&self, client: &Caller) -> bool
-        ensures { result ≡ pending_in_part client.now self.now }
+        ensures { result ≡ pending_in_part client.now self.now.entries }
     {
         'places: for place in 0..self.directory.len() {
             let Some((grain, activation)) = self.directory.at(place) else {
@@ -71,7 +72,7 @@ impl<L: GrainLogic> Activations<L> {
 
     /// Whether at no grain a request waits or a turn is open. It walks over all activations.
     pub fn are_settled(&self) -> bool
-        ensures { IsTrue result ↔ ((id : Grain) → is_settled (map.get self.now id) ≡ true) }
+        ensures { IsTrue result ↔ ((id : Grain) → is_settled (map.get self.now.entries id) ≡ true) }
     {
         'places: for place in 0..self.directory.len() {
             let Some((grain, _)) = self.directory.at(place) else {

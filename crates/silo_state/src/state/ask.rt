@@ -93,7 +93,8 @@ fn overwrite<S: GrainStorage>(
     grain: &GrainId,
     state: &StateBytes,
 ) -> Result<(Answer, Result<StateBytes, Fault>), AllocError>
-    ensures answers { IfOk result (λ told. Overwrites (S.rows storage.old) (S.failed storage.old) grain.now state.now told.0 told.1 (S.rows storage.new) (S.failed storage.new)) }
+    ensures answers { IfOk result (λ told. Overwrites (S.rows storage.old) (S.failed storage.old) grain.now state.now told.0 told.1 (S.rows
+        storage.new) (S.failed storage.new)) }
     ensures rows { OnErr result (S.rows storage.new ≡ S.rows storage.old) }
     ensures failures { OnErr result (S.failed storage.new ≡ S.failed storage.old) }
 {

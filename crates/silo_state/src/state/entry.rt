@@ -9,11 +9,10 @@ ghost use Rattle.silo_event.specs.declared.step.Step.TheVariants as step;
 ghost use Rattle.silo_state.specs.Moves.{Moves};
 
 use crate::activations::Activations;
+use crate::change;
 use crate::reading::read_state;
 use crate::state::SiloState;
 use crate::telling::refuse_all;
-use crate::{change, notes};
-use activation_directory::Phase;
 use grain_id::GrainId;
 use grain_kinds::GrainLogic;
 use grain_storage::{GrainStorage, StoreFault};
@@ -48,29 +47,23 @@ impl<S: GrainStorage, L: GrainLogic> SiloState<S, L> {
         if !change::is_loading(activation) {
             return Ok(Answer::NotNow);
         }
-        let quiet = change::is_quiet(activation);
-        let last = activation.last;
+        let idle_after = change::none_waits(activation);
         self.replies.reserve(activation.mailbox.len())?;
         if failed {
             unload(&mut self.activations, &mut self.replies, grain);
             return Ok(Answer::Done);
         }
-        notes::expect(&mut self.collector, grain, quiet, last)?;
+        self.activations.expect(grain, idle_after)?;
         match read_state(alloc, &mut self.storage, &self.logic, grain) {
             Ok((state, version)) => {
-                self.activations
-                    .set_phase(grain, Phase::Ready { state, version });
+                self.activations.make_ready(grain, state, version);
                 Ok(Answer::Done)
             }
             Err(StoreFault::Failed) => {
-                notes::take_back(&mut self.collector, grain, quiet);
                 unload(&mut self.activations, &mut self.replies, grain);
                 Ok(Answer::Failed)
             }
-            Err(StoreFault::Memory) => {
-                notes::take_back(&mut self.collector, grain, quiet);
-                Err(StepFault::Memory)
-            }
+            Err(StoreFault::Memory) => Err(StepFault::Memory),
             Err(StoreFault::Stale(_)) => unreachable!(),
             Err(StoreFault::Spent) => unreachable!(),
         }
@@ -83,9 +76,12 @@ fn unload<L: GrainLogic>(
     replies: &mut Vec<Reply>,
     grain: &GrainId,
 )
-    requires { (e : Entry) → map.get activations.old grain.now ≡ Some e → length e.queue + vec_len replies.old ≤ vec_capacity replies.old }
-    ensures gone { activations.new ≡ map.remove activations.old grain.now }
-    ensures told { (e : Entry) → map.get activations.old grain.now ≡ Some e → replies.new.items ≡ replies.old.items ++ flat_map (λ q. reply_to q.sender (Err StorageFailed)) e.queue }
+    requires { (e : Entry) → map.get activations.old.entries grain.now ≡ Some e → length e.queue + vec_len replies.old ≤ vec_capacity
+        replies.old }
+    ensures gone { activations.new.entries ≡ map.remove activations.old.entries grain.now }
+    ensures age { activations.new.age ≡ activations.old.age }
+    ensures told { (e : Entry) → map.get activations.old.entries grain.now ≡ Some e → replies.new.items ≡ replies.old.items ++ flat_map (λ q.
+        reply_to q.sender (Err StorageFailed)) e.queue }
 {
     let Some(activation) = activations.remove(grain) else {
         return;

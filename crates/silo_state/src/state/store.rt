@@ -9,7 +9,6 @@ ghost use Rattle.silo_state.specs.Moves.{Moves, Ends};
 
 use crate::closing::{ClosedTurn, close_by};
 use crate::finding::{TurnMatch, asks_storage};
-use crate::notes;
 use crate::state::SiloState;
 use crate::storing::ask;
 use grain_id::GrainId;
@@ -73,7 +72,7 @@ impl<S: GrainStorage, L: GrainLogic> SiloState<S, L> {
         let now = self.clock.get();
         let named = grain.clone()?;
         self.replies.reserve(1)?;
-        notes::expect(&mut self.collector, grain, idle_after, now)?;
+        self.activations.expect(grain, idle_after)?;
         let stored = ask(
             alloc,
             &mut self.storage,
@@ -92,7 +91,6 @@ impl<S: GrainStorage, L: GrainLogic> SiloState<S, L> {
         };
         close_by(
             &mut self.activations,
-            &mut self.collector,
             &mut self.replies,
             closing,
             last,

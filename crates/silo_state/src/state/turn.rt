@@ -12,7 +12,7 @@ use crate::closing::{ClosedTurn, close_turn};
 use crate::finding::{TurnMatch, asks_storage};
 use crate::state::SiloState;
 use crate::telling::{copied, told};
-use crate::{account, change, finding, notes};
+use crate::{account, change, finding};
 use activation_directory::Phase;
 use grain_id::GrainId;
 use grain_kinds::{FinishedTurn, GrainLogic, OpenedTurn};
@@ -93,14 +93,8 @@ impl<S: GrainStorage, L: GrainLogic> SiloState<S, L> {
         let sent = account::sent_by(alloc, grain, finished.sends())?;
         let outcome = copied(finished.outcome())?;
         let state = finished.state().clone()?;
-        notes::expect(&mut self.collector, grain, idle_after, now)?;
-        match self.accounts.send(alloc, grain.tenant(), sent) {
-            Ok(()) => {}
-            Err(AllocError) => {
-                notes::take_back(&mut self.collector, grain, idle_after);
-                return Err(StepFault::Memory);
-            }
-        }
+        self.activations.expect(grain, idle_after)?;
+        self.accounts.send(alloc, grain.tenant(), sent)?;
         let phase = Phase::Ready { state, version };
         let closing = ClosedTurn {
             grain,
@@ -110,7 +104,6 @@ impl<S: GrainStorage, L: GrainLogic> SiloState<S, L> {
         };
         close_turn(
             &mut self.activations,
-            &mut self.collector,
             &mut self.replies,
             closing,
             Some(phase),
@@ -133,10 +126,10 @@ impl<S: GrainStorage, L: GrainLogic> SiloState<S, L> {
         let Some(_open) = activation.mailbox.opened(turn) else {
             return Ok(Answer::NotNow);
         };
-        let idle_after = change::may_be_idle(activation);
+        let idle_after = change::none_waits(activation);
         let now = self.clock.get();
         self.replies.reserve(1)?;
-        notes::expect(&mut self.collector, grain, idle_after, now)?;
+        self.activations.expect(grain, idle_after)?;
         let closing = ClosedTurn {
             grain,
             turn,
@@ -145,7 +138,6 @@ impl<S: GrainStorage, L: GrainLogic> SiloState<S, L> {
         };
         close_turn(
             &mut self.activations,
-            &mut self.collector,
             &mut self.replies,
             closing,
             None,

@@ -6,11 +6,11 @@ ghost use Rattle.std.specs.FinMap as map;
 ghost use Rattle.std.specs.Option.{option_copied};
 ghost use Rattle.grain_id.specs.Names.{Grain};
 ghost use Rattle.silo_model.specs.Sends.{first_target};
-ghost use Rattle.silo_model.specs.Pending.{has_pending};
+ghost use Rattle.silo_model.specs.Pending.{has_pending, sends_of};
 ghost use Rattle.silo_model.specs.Todo.{work_on};
 ghost use Rattle.silo_model.specs.Whole.{shown_to};
 ghost use Rattle.silo_state.specs.Work.{step_at, is_settled};
-ghost use Rattle.silo_state.specs.Sends.{HasSent, NothingSent};
+ghost use Rattle.silo_state.specs.Sends.{HasSent, NothingSent, first_source};
 
 use crate::change::PossibleStep;
 use crate::state::SiloState;
@@ -40,6 +40,16 @@ impl<S: GrainStorage, L: GrainLogic> SiloState<S, L> {
         Some(&sent.target)
     }
 
+    /// The grain that sent the oldest of what the tenant's grains sent, and is not yet delivered.
+    pub fn oldest_sender(&self, tenant: &str) -> Option<&GrainId>
+        ensures { option_copied result ≡ first_source (sends_of (map.get self.now.whole.accounts tenant.now)) }
+    {
+        let Some(account) = self.accounts.get(tenant) else {
+            return None;
+        };
+        account.first_sender()
+    }
+
     /// Whether no request waits at the grain, and no turn of it is open.
     pub fn is_settled(&self, grain: &GrainId) -> bool
         ensures { result ≡ is_settled (map.get self.now.whole.entries grain.now) }
@@ -50,7 +60,8 @@ impl<S: GrainStorage, L: GrainLogic> SiloState<S, L> {
     /// A grain with whose activation something is to do, and what, or none if there is none. It walks
     /// over all activations.
     pub fn first_work(&self) -> Option<(&GrainId, PossibleStep)>
-        ensures found { IfSome result (λ found. work_on L.logic found.0.now (map.get self.now.whole.entries found.0.now) ≡ Some (step_at found.0.now found.1)) }
+        ensures found { IfSome result (λ found. work_on L.logic found.0.now (map.get self.now.whole.entries found.0.now) ≡ Some (step_at
+            found.0.now found.1)) }
         ensures none { IfNone result ((id : Grain) → work_on L.logic id (map.get self.now.whole.entries id) ≡ None) }
     {
         self.activations.first_work()

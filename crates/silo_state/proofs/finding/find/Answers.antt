@@ -16,7 +16,7 @@ returns-then-is_of c =
       state = c.in-Ready.state;
       request = request_of request;
       is_open = is_open a c.in-Ready.state c.in-Ready.version c.in-Ready.is c.args.turn request (sym c.in-Some.ensures);
-      idle_after_is = c.may_be_idle.ensures;
+      idle_after_is = c.none_waits.ensures;
       is_of = subst (λ kind. IsOf kind c.in-Ready.state request.message c.args.input.now) c.kind.ensures (c.if-is_of.ensures.own refl);
     }
 

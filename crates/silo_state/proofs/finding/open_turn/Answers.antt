@@ -16,6 +16,6 @@ returns c =
       state = c.in-Ready.state;
       request = request_of request;
       is_open = is_open a c.in-Ready.state c.in-Ready.version c.in-Ready.is c.args.turn request (sym c.in-Some.ensures);
-      idle_after_is = c.may_be_idle.ensures;
+      idle_after_is = c.none_waits.ensures;
       is_of = record { kind_is = ap (λ (g : Grain). g.kind) c.in_ok-clone.ensures.cases; state_is = c.in_ok-clone-2.ensures.cases; message_is = c.in_ok-clone-3.ensures.cases };
     }

@@ -6,4 +6,4 @@ use Rattle.silo_state.proofs.activations.Activations.are_settled.Given as goal
 
 -- the grains so far are settled
 abbrev pub invariant-places : goal.invariant-places
-invariant-places g l = HoldsBelow (λ id. is_settled (map.get l.self id) ≡ true) l.self-inside.directory.order l.place
+invariant-places g l = HoldsBelow (λ id. is_settled (map.get l.self.entries id) ≡ true) l.self-inside.directory.order l.place

@@ -1,40 +1,95 @@
-use Rattle.std.proofs.Common.{None, refl, ap, sym, subst}
+use Rattle.std.proofs.Common.{None, Some, refl, ap, sym, subst}
 use Rattle.std.specs.Prelude.{option_and_then, option_map}
 use Rattle.std.specs.FinMap as map
-use Rattle.silo_model.specs.Machine.{Entries}
-use Rattle.silo_state.specs.Shown.{phase_of, entries_of}
-use Rattle.silo_state.specs.Entries.{ClosesEntry, Closes}
-use Rattle.activation_directory.specs.declared.activation.Activation.{Activation}
-use Rattle.silo_state.proofs.Shows.{get-entries, close_shows, close_marked, close_not, same_mail}
+use Rattle.silo_state.specs.Activations.{Activations, HasRoom}
+use Rattle.silo_state.specs.Notes.{AreNoted}
+use Rattle.silo_state.specs.Shown.{phase_of, entry_of, entries_of}
+use Rattle.silo_state.specs.Entries.{Closes}
+use Rattle.silo_state.proofs.Idle.{used-turn, becomes_used, becomes_idle, expected_apart}
+use Rattle.silo_state.proofs.Shows.{get-entries, get-turns, entries-put, closes, closes_marked, closed_queue, unmoved}
 use Rattle.silo_state.proofs.activations.Activations.close.Goals as goal
 
-pub returns-in_default : goal.returns-in_default
-returns-in_default g c =
+pub returns-in_default-clause-closes : goal.returns-in_default-clause-closes
+returns-in_default-clause-closes g c =
     let m = c.self.inside.directory.activations in
     let grain = c.args.grain.now in
-    subst (λ (old : Entries). Closes old grain c.args.turn (option_map phase_of c.args.phase) c.args.last None (entries_of m)) c.self.view_is
+    subst (λ (k : Activations). Closes k.entries grain c.args.turn (option_map phase_of c.args.phase) c.args.last None (entries_of m)) c.self.view_is
     (ap (option_and_then (λ e. map.get e.turns c.args.turn)) (get-entries m grain None (sym c.in_default.ensures.value)), refl)
+
+-- ---- no such turn is open
 
 pub invariant_of-self-in_default-close : goal.invariant_of-self-in_default-close
 invariant_of-self-in_default-close g c =
-    same_mail g.L.GrainLogic.logic c.self.inside.directory.activations c.args.grain.now c.in-Some.activation.now c.close.new.activation (sym c.in-Some.ensures.value) c.self.invariant (ap (λ (a : Activation). a.mailbox) c.in_default-close.ensures.1)
+    let inside = c.self.inside in
+    let m = inside.directory.activations in
+    let grain = c.args.grain.now in
+    let a = c.in-Some.activation.now in
+    let after = c.close.new.activation in (
+      closes_marked g.L.GrainLogic.logic m grain a after (sym c.in-Some.ensures.value) c.self.invariant.0 c.args.turn c.args.phase c.args.last None c.in_default-close.ensures,
+      subst (λ es. AreNoted es inside.collector.notes.lasts) (sym (unmoved g.L.GrainLogic.logic m grain a after (sym c.in-Some.ensures.value) c.in_default-close.ensures.1)) c.self.invariant.1,
+    )
 
-pub returns-in_default-close : goal.returns-in_default-close
-returns-in_default-close g c =
+pub returns-in_default-close-clause-closes : goal.returns-in_default-close-clause-closes
+returns-in_default-close-clause-closes g c =
     let m = c.self.inside.directory.activations in
     let grain = c.args.grain.now in
     let after = c.close.new.activation in
-    subst (λ (old : Entries). Closes old grain c.args.turn (option_map phase_of c.args.phase) c.args.last None (entries_of (map.insert m grain after))) c.self.view_is
-    (close_not g.L.GrainLogic.logic m grain c.in-Some.activation.now after (sym c.in-Some.ensures.value) c.self.invariant c.args.turn c.args.phase c.args.last c.in_default-close.ensures)
+    subst (λ (k : Activations). Closes k.entries grain c.args.turn (option_map phase_of c.args.phase) c.args.last None (entries_of (map.insert m grain after))) c.self.view_is
+    (closes g.L.GrainLogic.logic m grain c.in-Some.activation.now after (sym c.in-Some.ensures.value) c.self.invariant.0 c.args.turn c.args.phase c.args.last None c.in_default-close.ensures)
+
+-- ---- it was, and the activation is still in use
+
+pub invariant_of-self-in_default-idle_since : goal.invariant_of-self-in_default-idle_since
+invariant_of-self-in_default-idle_since g c =
+    let inside = c.self.inside in
+    let m = inside.directory.activations in
+    let grain = c.args.grain.now in
+    let a = c.in-Some.activation.now in
+    let after = c.close.new.activation in
+    let found = sym c.in-Some.ensures.value in
+    let used = used-turn (entry_of a) c.args.turn _ (get-turns a c.args.turn _ c.in-Some-close.ensures.open_turn) in (
+      closes_marked g.L.GrainLogic.logic m grain a after found c.self.invariant.0 c.args.turn c.args.phase c.args.last (Some c.in-Some-close.sender) c.in-Some-close.ensures,
+      becomes_used (entries_of m) inside.collector c.self.invariant.1 grain (entry_of a) (entry_of after) (get-entries m grain (Some a) found) used c.in_default-idle_since.ensures (entries_of (map.insert m grain after)) (entries-put m grain after),
+    )
+
+pub returns-in_default-idle_since-clause-closes : goal.returns-in_default-idle_since-clause-closes
+returns-in_default-idle_since-clause-closes g c =
+    let m = c.self.inside.directory.activations in
+    rw (← c.self.view_is)
+    (closes g.L.GrainLogic.logic m c.args.grain.now c.in-Some.activation.now c.close.new.activation (sym c.in-Some.ensures.value) c.self.invariant.0 c.args.turn c.args.phase c.args.last (Some c.in-Some-close.sender) c.in-Some-close.ensures)
+
+-- ---- it is idle now
+
+pub note_expected-requires : goal.note_expected-requires
+note_expected-requires g c =
+    let inside = c.self.inside in
+    let m = inside.directory.activations in
+    let grain = c.args.grain.now in
+    let a = c.in-Some.activation.now in
+    let after = c.close.new.activation in
+    let found = get-entries m grain (Some a) (sym c.in-Some.ensures.value) in
+    let used = used-turn (entry_of a) c.args.turn _ (get-turns a c.args.turn _ c.in-Some-close.ensures.open_turn) in
+    let room = subst (λ (k : Activations). HasRoom k grain) (sym c.self.view_is) c.requires (entry_of a) found in
+    expected_apart (entries_of m) inside.collector c.self.invariant.1 grain (entry_of a) (entry_of after) found used room (closed_queue a after c.args.turn c.args.phase c.args.last c.in-Some-close.sender c.in-Some-close.ensures)
+    c.in-Some-idle_since.since c.in-Some-idle_since.ensures
 
 pub invariant_of-self-2 : goal.invariant_of-self-2
 invariant_of-self-2 g c =
-    close_marked g.L.GrainLogic.logic c.self.inside.directory.activations c.args.grain.now c.in-Some.activation.now c.close.new.activation (sym c.in-Some.ensures.value) c.self.invariant c.args.turn c.args.phase c.args.last c.in-Some-close.sender c.in-Some-close.ensures
-
-pub returns : goal.returns
-returns g c =
-    let m = c.self.inside.directory.activations in
+    let inside = c.self.inside in
+    let m = inside.directory.activations in
     let grain = c.args.grain.now in
+    let a = c.in-Some.activation.now in
     let after = c.close.new.activation in
-    subst (λ (old : Entries). ClosesEntry old grain c.args.turn (option_map phase_of c.args.phase) c.args.last c.in-Some-close.sender c.is_idle.result (entries_of (map.insert m grain after))) c.self.view_is
-    (close_shows g.L.GrainLogic.logic m grain c.in-Some.activation.now after (sym c.in-Some.ensures.value) c.self.invariant c.args.turn c.args.phase c.args.last c.in-Some-close.sender c.in-Some-close.ensures c.is_idle.result c.is_idle.ensures)
+    let found = get-entries m grain (Some a) (sym c.in-Some.ensures.value) in
+    let used = used-turn (entry_of a) c.args.turn _ (get-turns a c.args.turn _ c.in-Some-close.ensures.open_turn) in
+    let room = subst (λ (k : Activations). HasRoom k grain) (sym c.self.view_is) c.requires (entry_of a) found in (
+      closes_marked g.L.GrainLogic.logic m grain a after (sym c.in-Some.ensures.value) c.self.invariant.0 c.args.turn c.args.phase c.args.last (Some c.in-Some-close.sender) c.in-Some-close.ensures,
+      becomes_idle (entries_of m) inside.collector c.self.invariant.1 grain (entry_of a) (entry_of after) found used room (closed_queue a after c.args.turn c.args.phase c.args.last c.in-Some-close.sender c.in-Some-close.ensures)
+          c.in-Some-idle_since.since c.in-Some-idle_since.ensures (entries_of (map.insert m grain after)) (entries-put m grain after) c.note_expected.new.self c.note_expected.ensures,
+    )
+
+pub returns-clause-closes : goal.returns-clause-closes
+returns-clause-closes g c =
+    let m = c.self.inside.directory.activations in
+    rw (← c.self.view_is)
+    (closes g.L.GrainLogic.logic m c.args.grain.now c.in-Some.activation.now c.close.new.activation (sym c.in-Some.ensures.value) c.self.invariant.0 c.args.turn c.args.phase c.args.last (Some c.in-Some-close.sender) c.in-Some-close.ensures)

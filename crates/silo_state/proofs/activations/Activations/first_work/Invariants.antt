@@ -6,4 +6,4 @@ use Rattle.silo_state.proofs.activations.Activations.first_work.Given as goal
 
 -- nothing is to do at the grains so far
 abbrev pub invariant-places : goal.invariant-places
-invariant-places g l = HoldsBelow (λ id. work_on g.L.GrainLogic.logic id (map.get l.self id) ≡ None) l.self-inside.directory.order l.place
+invariant-places g l = HoldsBelow (λ id. work_on g.L.GrainLogic.logic id (map.get l.self.entries id) ≡ None) l.self-inside.directory.order l.place

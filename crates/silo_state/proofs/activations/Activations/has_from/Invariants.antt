@@ -6,4 +6,4 @@ use Rattle.silo_state.proofs.activations.Activations.has_from.Given as goal
 
 -- nothing of the client waits or is open at the grains so far
 abbrev pub invariant-places : goal.invariant-places
-invariant-places g l = HoldsBelow (λ id. pending_of l.client (map.get (part_of l.client l.self) id) ≡ false) l.self-inside.directory.order l.place
+invariant-places g l = HoldsBelow (λ id. pending_of l.client (map.get (part_of l.client l.self.entries) id) ≡ false) l.self-inside.directory.order l.place

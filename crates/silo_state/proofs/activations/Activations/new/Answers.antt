@@ -1,14 +1,24 @@
 use Rattle.std.proofs.Common.{ap, sym, ◌∙◌, subst}
 use Rattle.grain_id.proofs.Order.{grain_cmp_total, grain_cmp_exact}
-use Rattle.turn_mailbox.proofs.Mapped.{mapped-empty}
+use Rattle.finite_maps.proofs.Mapped.{mapped-empty}
 use Rattle.activation_directory.specs.Register.{Register}
+use Rattle.idle_collector.specs.Notes.{Collection}
+use Rattle.silo_model.specs.Machine.{Entries}
 use Rattle.silo_state.specs.Shown.{entry_of, entries_of}
 use Rattle.silo_state.specs.Marks.{AllMarked}
+use Rattle.silo_state.specs.Notes.{AreNoted}
 use Rattle.silo_state.proofs.Requests.{none_marked}
+use Rattle.silo_state.proofs.Idle.{none_noted}
 use Rattle.silo_state.proofs.activations.Activations.new.Goals as goal
 
 pub invariant_of-result : goal.invariant_of-result
-invariant_of-result g c = subst (λ (d : Register). AllMarked g.L.GrainLogic.logic d.activations) (sym c.new.ensures) (none_marked g.L.GrainLogic.logic)
+invariant_of-result g c =
+    let entries = ap (λ (d : Register). entries_of d.activations) c.new.ensures ∙ mapped-empty grain_cmp_total grain_cmp_exact entry_of in (
+      subst (λ (d : Register). AllMarked g.L.GrainLogic.logic d.activations) (sym c.new.ensures) (none_marked g.L.GrainLogic.logic),
+      subst (λ (p : Entries × Collection). AreNoted p.0 p.1.notes.lasts) (λ i. (sym entries i, sym c.new-2.ensures i)) none_noted,
+    )
 
 pub returns : goal.returns
-returns g c = ap (λ (d : Register). entries_of d.activations) c.new.ensures ∙ mapped-empty grain_cmp_total grain_cmp_exact entry_of
+returns g c =
+    let entries = ap (λ (d : Register). entries_of d.activations) c.new.ensures ∙ mapped-empty grain_cmp_total grain_cmp_exact entry_of in
+    λ i. record { age = (c.new-2.ensures i).notes.age; entries = entries i; expected = (c.new-2.ensures i).expected }

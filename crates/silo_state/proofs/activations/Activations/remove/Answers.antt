@@ -3,24 +3,33 @@ use Rattle.std.specs.FinMap as map
 use Rattle.std.specs.FinMap.{FinMap}
 use Rattle.grain_id.specs.Names.{grain_cmp}
 use Rattle.grain_id.proofs.Order.{grain_cmp_total, grain_cmp_exact}
-use Rattle.turn_mailbox.proofs.Mapped.{mapped-remove}
+use Rattle.finite_maps.proofs.Mapped.{mapped-remove}
 use Rattle.activation_directory.specs.declared.activation.Activation.{Activation}
+use Rattle.idle_collector.specs.Notes.{Collection}
+use Rattle.silo_state.specs.Activations.{Activations}
 use Rattle.silo_state.specs.Shown.{entry_of, entries_of}
 use Rattle.silo_state.specs.Marks.{AllMarked}
 use Rattle.silo_state.proofs.Requests.{marked-removed}
+use Rattle.silo_state.proofs.Idle.{gone_noted}
 use Rattle.silo_state.proofs.Shows.{get-entries}
 use Rattle.silo_state.proofs.activations.Activations.remove.Goals as goal
 
 pub invariant_of-self : goal.invariant_of-self
 invariant_of-self g c =
-    subst (λ (m : FinMap grain_cmp Activation). AllMarked g.L.GrainLogic.logic m) (sym c.remove.ensures.removed) (marked-removed g.L.GrainLogic.logic c.self.inside.directory.activations c.args.grain.now c.self.invariant)
+    let inside = c.self.inside in
+    let m = inside.directory.activations in
+    let grain = c.args.grain.now in
+    let removed = ap entries_of c.remove.ensures.removed ∙ mapped-remove grain_cmp_total grain_cmp_exact entry_of m grain in (
+      subst (λ (m : FinMap grain_cmp Activation). AllMarked g.L.GrainLogic.logic m) (sym c.remove.ensures.removed) (marked-removed g.L.GrainLogic.logic m grain c.self.invariant.0),
+      gone_noted (entries_of m) inside.collector.notes.lasts c.self.invariant.1 grain _ _ removed (ap (λ (k : Collection). k.notes.lasts) c.forget.ensures),
+    )
 
 pub returns-clause-found : goal.returns-clause-found
 returns-clause-found g c =
-    sym (get-entries c.self.inside.directory.activations c.args.grain.now c.remove.result (sym c.remove.ensures.found)) ∙ ap (λ entries. map.get entries c.args.grain.now) c.self.view_is
+    sym (get-entries c.self.inside.directory.activations c.args.grain.now c.remove.result (sym c.remove.ensures.found)) ∙ ap (λ (k : Activations). map.get k.entries c.args.grain.now) c.self.view_is
 
 pub returns-clause-removed : goal.returns-clause-removed
 returns-clause-removed g c =
     ap entries_of c.remove.ensures.removed
     ∙ mapped-remove grain_cmp_total grain_cmp_exact entry_of c.self.inside.directory.activations c.args.grain.now
-    ∙ ap (λ entries. map.remove entries c.args.grain.now) c.self.view_is
+    ∙ ap (λ (k : Activations). map.remove k.entries c.args.grain.now) c.self.view_is

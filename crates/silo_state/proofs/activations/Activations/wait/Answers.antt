@@ -1,53 +1,22 @@
-use Rattle.std.proofs.Common.{◌≡◌, ap, sym, ◌∙◌, subst}
-use Rattle.std.specs.Prelude.{OnOk, OnErr}
-use Rattle.std.specs.FinMap as map
-use Rattle.std.specs.FinMap.{FinMap}
-use Rattle.grain_id.specs.Names.{grain_cmp}
-use Rattle.activation_directory.specs.declared.activation.Activation.{Activation}
-use Rattle.activation_directory.specs.Register.{Register}
+use Rattle.std.proofs.Common.{ap, sym, ◌∙◌, subst}
+use Rattle.idle_collector.specs.Notes.{Collection}
 use Rattle.silo_model.specs.Machine.{Entries}
-use Rattle.silo_model.specs.Calls.{with_request}
+use Rattle.silo_state.specs.Activations.{Activations}
+use Rattle.silo_state.specs.Arrivals.{with_waiting}
+use Rattle.silo_state.specs.Notes.{AreNoted}
 use Rattle.silo_state.specs.Shown.{request_of, entries_of}
-use Rattle.silo_state.specs.Marks.{AllMarked}
-use Rattle.silo_state.proofs.Arrivals.{arrive_shows, arrive_leaves, arrive_marked, first_shows, first_marked}
+use Rattle.silo_state.proofs.Idle.{wait_noted}
 use Rattle.silo_state.proofs.activations.Activations.wait.Goals as goal
 
 pub invariant_of-self : goal.invariant_of-self
-invariant_of-self g c =
-    arrive_marked g.L.GrainLogic.logic c.self.inside.directory.activations c.args.grain.now c.args.request c.args.clock c.in-Some.activation.now c.arrive.new.activation (sym c.in-Some.ensures.value)
-    c.arrive.new.activation.mailbox.capacity c.arrive.result c.arrive.ensures.arrived c.arrive.ensures.unchanged c.self.invariant c.requires.marked
-
-pub returns-in-Some-clause-waits : goal.returns-in-Some-clause-waits
-returns-in-Some-clause-waits g c =
-    let m = c.self.inside.directory.activations in
-    let grain = c.args.grain.now in
-    let after = c.arrive.new.activation in
-    subst (λ (old : Entries). OnOk c.arrive.result (entries_of (map.insert m grain after) ≡ map.insert old grain (with_request c.args.clock (request_of c.args.request) (map.get old grain)))) c.self.view_is
-    (arrive_shows g.L.GrainLogic.logic m grain c.args.request c.args.clock c.in-Some.activation.now after (sym c.in-Some.ensures.value) after.mailbox.capacity c.arrive.result c.arrive.ensures.arrived c.arrive.ensures.unchanged)
-
-pub returns-in-Some-clause-unchanged : goal.returns-in-Some-clause-unchanged
-returns-in-Some-clause-unchanged g c =
-    let m = c.self.inside.directory.activations in
-    let grain = c.args.grain.now in
-    let after = c.arrive.new.activation in
-    subst (λ (old : Entries). OnErr c.arrive.result (entries_of (map.insert m grain after) ≡ old)) c.self.view_is
-    (arrive_leaves g.L.GrainLogic.logic m grain c.args.request c.args.clock c.in-Some.activation.now after (sym c.in-Some.ensures.value) after.mailbox.capacity c.arrive.result c.arrive.ensures.arrived c.arrive.ensures.unchanged)
-
-pub invariant_of-self-in-Err : goal.invariant_of-self-in-Err
-invariant_of-self-in-Err g c = subst (λ (r : Register). AllMarked g.L.GrainLogic.logic r.activations) (sym c.in-Err.ensures.unchanged) c.self.invariant
+invariant_of-self g c = (c.enter.ensures.marks, subst (λ (es : Entries). AreNoted es c.self.inside.collector.notes.lasts) (sym c.in_err-enter.ensures.unchanged) c.self.invariant.1)
 
 pub invariant_of-self-2 : goal.invariant_of-self-2
 invariant_of-self-2 g c =
-    let m = c.self.inside.directory.activations in
-    let a = c.in_ok-activation.activation in
-    subst (λ (after : FinMap grain_cmp Activation). AllMarked g.L.GrainLogic.logic after) (sym (c.in-Ok.ensures.entered ∙ ap (λ k. map.insert m k a) c.in_ok-named.ensures.cases))
-    (first_marked g.L.GrainLogic.logic m c.args.grain.now c.args.request c.args.clock a c.in_ok-activation.ensures (sym c.in_default.ensures.value) c.self.invariant c.requires.known c.requires.marked)
+    let inside = c.self.inside in (
+      c.enter.ensures.marks,
+      wait_noted (entries_of inside.directory.activations) inside.collector.notes.lasts c.self.invariant.1 c.args.grain.now c.args.clock (request_of c.args.request) _ _ c.in_ok-enter.ensures.waits (ap (λ (k : Collection). k.notes.lasts) c.forget.ensures),
+    )
 
 pub returns-clause-waits : goal.returns-clause-waits
-returns-clause-waits g c =
-    let m = c.self.inside.directory.activations in
-    let grain = c.args.grain.now in
-    let a = c.in_ok-activation.activation in
-    subst (λ (old : Entries). entries_of c.insert.new.self.activations ≡ map.insert old grain (with_request c.args.clock (request_of c.args.request) (map.get old grain))) c.self.view_is
-    (ap entries_of (c.in-Ok.ensures.entered ∙ ap (λ k. map.insert m k a) c.in_ok-named.ensures.cases)
-    ∙ first_shows g.L.GrainLogic.logic m grain c.args.request c.args.clock a c.in_ok-activation.ensures (sym c.in_default.ensures.value))
+returns-clause-waits g c = c.in_ok-enter.ensures.waits ∙ ap (λ (k : Activations). with_waiting k.entries c.args.grain.now (request_of c.args.request) c.args.clock) c.self.view_is

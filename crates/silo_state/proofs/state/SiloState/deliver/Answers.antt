@@ -4,7 +4,7 @@ use Rattle.std.specs.Option.{option_copied}
 use Rattle.std.specs.FinMap as map
 use Rattle.silo_event.specs.declared.reply.Party.TheVariants as party
 use Rattle.silo_model.proofs.SendSteps.{deliver_unknown, deliver_nothing}
-use Rattle.silo_state.specs.Held.{Held}
+use Rattle.silo_state.specs.Held.{Held, held_of}
 use Rattle.silo_state.specs.Requests.{with_told, with_accepted}
 use Rattle.silo_state.specs.Sends.{send_of}
 use Rattle.silo_state.specs.Verdicts.{verdict, Settles}
@@ -34,16 +34,11 @@ returns g c =
     let target = c.in_ok-target.target in
     let b = c.self-2.inside in
     let known = sym (ap option_copied (sym c.in-Some.is) ∙ c.get.ensures ∙ (λ i. map.get (c.self.view_is i).whole.accounts (c.tenant.ensures i))) in
-    let new : Held = record {
-      whole = record { accounts = c.take_first.new.self; age = b.collector.age; clock = b.clock; entries = b.activations; rows = g.S.GrainStorage.rows b.storage; replies = b.replies.items };
-      failures = g.S.GrainStorage.failed b.storage;
-    } in
-    let accounts = c.take_first.ensures in
+    let rows = g.S.GrainStorage.rows b.storage in
+    let failures = g.S.GrainStorage.failed b.storage in
+    let new = held_of c.take_first.new.self b.activations b.clock rows b.replies.items failures in
     let left : new ≡ without_sent c.match-branch-5.self grain =
-    (λ i. record {
-      whole = record { accounts = accounts i; age = b.collector.age; clock = b.clock; entries = b.activations; rows = g.S.GrainStorage.rows b.storage; replies = b.replies.items };
-      failures = g.S.GrainStorage.failed b.storage;
-    }) ∙ ap (λ (x : Held). without_sent x grain) c.self-2.view_is in
+    ap (λ accounts. held_of accounts b.activations b.clock rows b.replies.items failures) c.take_first.ensures ∙ ap (λ (x : Held). without_sent x grain) c.self-2.view_is in
     elim c.match-branch-5.branch [
       | in-Some-2 w ↦
           deliver_told logic h c.match-branch-5.self new grain c.in-Some.account.now known (send_of c.in-Some-first_from.sent.now) c.in-Some-first_from.ensures left

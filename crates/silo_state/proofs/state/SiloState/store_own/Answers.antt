@@ -4,28 +4,26 @@ use Rattle.grain_kinds.specs.Planned.{storage_call}
 use Rattle.grain_kinds.specs.declared.turn.OpenedTurn.{OpenedTurn}
 use Rattle.silo_event.specs.declared.reply.Reply.{Reply}
 use Rattle.silo_event.specs.declared.step.Step.TheVariants as step
-use Rattle.silo_model.specs.Machine.{Entry}
-use Rattle.silo_state.specs.Held.{Held}
+use Rattle.silo_model.specs.Machine.{Entry, Entries}
+use Rattle.silo_state.specs.Held.{Held, held_of}
 use Rattle.silo_state.specs.Moves.{Moves}
 use Rattle.silo_state.specs.Shown.{entry_of}
 use Rattle.silo_state.specs.Finds.{IsOwn, asks}
 use Rattle.silo_state.specs.Closings.{ClosesBy}
 use Rattle.silo_state.specs.Storing.{given, GivesMarked}
-use Rattle.silo_state.proofs.Idle.{expected_age, the_same}
-use Rattle.silo_state.proofs.Stores.{store_silent, stored_moves, stored_noted, left}
+use Rattle.silo_state.proofs.Idle.{the_same}
+use Rattle.silo_state.proofs.Ends.{waits_known}
+use Rattle.silo_state.proofs.Stores.{store_silent, stored_moves, left}
 use Rattle.silo_state.proofs.state.SiloState.store_own.Goals as goal
 
 pub returns-then-not-asks_storage : goal.returns-then-not-asks_storage
 returns-then-not-asks_storage g c =
     (store_silent g.L.GrainLogic.logic c.args.self.now c.args.grain.now c.args.turn c.args.version c.args.idle_after c.args.finished.now c.requires c.args.failed (ap asks (sym c.store_call-call.ensures) ∙ sym c.if-not-asks_storage.ensures), refl)
 
-pub invariant_of-self-2 : goal.invariant_of-self-2
-invariant_of-self-2 g c =
-    let b = c.self.inside in
-    let grain = c.args.grain.now in
-    let own = subst (λ (h : Held). IsOwn grain (map.get h.whole.entries grain) c.args.turn c.args.version c.args.idle_after c.args.finished.now) (sym c.self.view_is) c.requires in
-    stored_noted b.activations b.collector c.self.invariant grain c.args.turn c.args.version c.args.idle_after c.args.finished.now own c.get-now.result c.expect.new.collector c.in_ok-expect.ensures.done
-    c.args.failed _ _ c.ask-stored.result c.close_by.result c.close_by.new.activations c.close_by.new.collector c.close_by.new.replies.items c.close_by.ensures
+pub expect-requires : goal.expect-requires
+expect-requires g c =
+    let own = subst (λ (h : Held). IsOwn c.args.grain.now (map.get h.whole.entries c.args.grain.now) c.args.turn c.args.version c.args.idle_after c.args.finished.now) (sym c.self.view_is) c.requires in
+    waits_known c.args.grain.now _ c.args.turn c.args.version c.args.idle_after c.args.finished.now own
 
 pub returns : goal.returns
 returns g c =
@@ -33,10 +31,6 @@ returns g c =
     let rows = g.S.GrainStorage.rows in
     let failed = g.S.GrainStorage.failed in
     let logic = g.L.GrainLogic.logic in
-    let old : Held = record {
-      whole = record { accounts = b.accounts; age = b.collector.age; clock = b.clock; entries = b.activations; rows = rows b.storage; replies = b.replies.items };
-      failures = failed b.storage;
-    } in
     let grain = c.args.grain.now in
     let turn = c.args.turn in
     let version = c.args.version in
@@ -46,12 +40,12 @@ returns g c =
     let call = storage_call c.store_call-call.result in
     let last = c.in-Some.activation.now.last in
     let still = ap (λ (e : Entry). e.last) (the_same (entry_of c.in-Some.activation.now) own.entry (c.in-Some.ensures.entry ∙ own.is_open.found_is)) in
-    let aged = expected_age b.collector c.expect.new.collector grain c.get-now.result idle_after c.in_ok-expect.ensures.done in
     let after = c.ask-stored.new.storage in
+    let new = c.close_by.new.activations in
     let gives = subst (λ (t : OpenedTurn). GivesMarked c.args.failed (given logic (rows b.storage) grain t.state version call) (rows b.storage) (failed b.storage) c.ask-stored.result (rows after) (failed after)) c.input.ensures c.ask-stored.ensures in
-    let closes = subst (λ (p : List Reply × ℕ). ClosesBy b.activations c.expect.new.collector p.0 grain turn idle_after p.1 last c.args.failed c.ask-stored.result c.close_by.result c.close_by.new.activations c.close_by.new.collector c.close_by.new.replies.items)
-    (λ i. (c.in_ok-reserve.ensures.items i, c.get-now.ensures.value i)) c.close_by.ensures in
-    subst (λ (h : Held). Moves logic h (step.Store grain turn c.args.failed) c.close_by.result
-    (left logic old grain turn version idle_after input own c.close_by.new.collector.age c.close_by.new.activations (rows after) c.close_by.new.replies.items (failed after))) c.self.view_is
-    (stored_moves logic old grain turn version idle_after input own call (sym c.store_call-call.ensures) (sym c.if-not-asks_storage.ensures) c.expect.new.collector aged last still
-    c.args.failed c.ask-stored.result (rows after) (failed after) gives c.close_by.result c.close_by.new.activations c.close_by.new.collector c.close_by.new.replies.items closes)
+    let closes = subst (λ (p : Entries × (List Reply × ℕ)). ClosesBy p.0 p.1.0 grain turn idle_after p.1.1 last c.args.failed c.ask-stored.result c.close_by.result new.entries c.close_by.new.replies.items)
+    (λ i. (c.expect.ensures.entries i, (c.in_ok-reserve.ensures.items i, c.get-now.ensures.value i))) c.close_by.ensures.closes in
+    let old = held_of b.accounts b.activations b.clock (rows b.storage) b.replies.items (failed b.storage) in
+    subst (λ (h : Held). Moves logic h (step.Store grain turn c.args.failed) c.close_by.result (left logic old grain turn version idle_after input own new (rows after) c.close_by.new.replies.items (failed after))) c.self.view_is
+    (stored_moves logic old grain turn version idle_after input own call (sym c.store_call-call.ensures) (sym c.if-not-asks_storage.ensures) new (c.close_by.ensures.age ∙ c.expect.ensures.age) last still
+    c.args.failed c.ask-stored.result (rows after) (failed after) gives c.close_by.result c.close_by.new.replies.items closes)

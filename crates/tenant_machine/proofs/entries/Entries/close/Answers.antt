@@ -3,9 +3,8 @@ use Rattle.std.specs.Prelude.{option_and_then, option_map}
 use Rattle.std.specs.FinMap as map
 use Rattle.silo_model.specs.Machine.{Entries}
 use Rattle.silo_state.specs.Shown.{phase_of, entries_of}
-use Rattle.silo_state.proofs.Shows.{get-entries}
-use Rattle.tenant_machine.specs.Entries.{Closes}
-use Rattle.tenant_machine.proofs.Closed.{closes, closes_marked}
+use Rattle.silo_state.specs.Entries.{Closes}
+use Rattle.silo_state.proofs.Shows.{get-entries, closes, closes_marked}
 use Rattle.tenant_machine.proofs.entries.Entries.close.Goals as goal
 
 pub returns-in_default : goal.returns-in_default

@@ -2,7 +2,7 @@ use Rattle.std.proofs.Common.{ap, sym, ◌∙◌}
 use Rattle.std.specs.Option.{option_map}
 use Rattle.std.specs.FinMap as map
 use Rattle.grain_id.proofs.Order.{grain_cmp_total, grain_cmp_exact}
-use Rattle.turn_mailbox.proofs.Mapped.{get-mapped}
+use Rattle.finite_maps.proofs.Mapped.{get-mapped}
 use Rattle.silo_state.specs.Shown.{entry_of}
 use Rattle.tenant_machine.proofs.entries.Entries.get.Goals as goal
 

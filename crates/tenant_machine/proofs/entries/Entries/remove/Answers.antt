@@ -3,7 +3,7 @@ use Rattle.std.specs.FinMap as map
 use Rattle.std.specs.FinMap.{FinMap}
 use Rattle.grain_id.specs.Names.{grain_cmp}
 use Rattle.grain_id.proofs.Order.{grain_cmp_total, grain_cmp_exact}
-use Rattle.turn_mailbox.proofs.Mapped.{mapped-remove}
+use Rattle.finite_maps.proofs.Mapped.{mapped-remove}
 use Rattle.activation_directory.specs.declared.activation.Activation.{Activation}
 use Rattle.silo_state.specs.Shown.{entry_of, entries_of}
 use Rattle.silo_state.specs.Marks.{AllMarked}

@@ -4,7 +4,7 @@ use Rattle.std.specs.FinMap as map
 use Rattle.silo_event.specs.declared.fault.Fault.TheVariants.{NoMemory}
 use Rattle.silo_event.specs.declared.reply.Reply.{Reply}
 use Rattle.silo_state.proofs.Shows.{turn_shown}
-use Rattle.tenant_machine.specs.Closings.{ClosesTold}
+use Rattle.silo_state.specs.Closings.{ClosesTold}
 use Rattle.tenant_machine.proofs.Ends.{abandon_not, abandon_done}
 use Rattle.tenant_machine.proofs.machine.TenantMachine.abandon.Goals as goal
 

@@ -11,7 +11,7 @@ use Rattle.silo_model.specs.Step.{machine_step}
 use Rattle.silo_model.specs.Turns.{sent_by, outcome_of}
 use Rattle.silo_state.specs.Finds.{IsOwn, asks}
 use Rattle.silo_state.specs.Sends.{with_more}
-use Rattle.tenant_machine.specs.Closings.{ClosesTold}
+use Rattle.silo_state.specs.Closings.{ClosesTold}
 use Rattle.tenant_machine.proofs.Ends.{end_asks, end_done}
 use Rattle.tenant_machine.proofs.Parts.{machine_of}
 use Rattle.tenant_machine.proofs.machine.TenantMachine.end_own.Goals as goal
