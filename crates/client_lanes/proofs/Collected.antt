@@ -1,19 +1,18 @@
 -- Replies, as they are collected by client and given to lanes.
 use Rattle.std.proofs.Common.{◌≡◌, ℕ, Bool, true, false, cond, List, [], ◌∷◌, ◌++◌, Option, Some, None, refl, ap, sym, ◌∙◌, append_assoc}
 use Rattle.std.specs.Prelude.{map as map_list, unwrap_or, option_map, if◌then◌else◌}
-use Rattle.std.specs.BTreeMap.{BTreeMap, get}
-use Rattle.std.specs.Ordering.{eq_by_cmp}
 use Rattle.std.specs.Global.{Vec}
+use Rattle.indexmap.specs.IndexMap.{IndexMap, get}
 use Rattle.std.specs.List.{AllByRecursion}
 use Rattle.std.proofs.lemmas.List.{append-nil}
-use Rattle.grain_id.specs.Names.{Client, Grain, client_cmp, client_eq}
+use Rattle.grain_id.specs.Names.{Client, Grain, client_eq}
+use Rattle.grain_id.proofs.Order.{client_eq_decides}
 use Rattle.silo_event.specs.declared.reply.Party.TheVariants as party
 use Rattle.silo_event.specs.declared.reply.Reply.{Reply}
 use Rattle.silo_model.specs.Pending.{is_of_client}
 use Rattle.lane_model.specs.Lanes.{Lane, same_lane}
 use Rattle.lane_model.specs.Serving.{replies_to}
 use Rattle.client_lanes.specs.RepliesByClient.{told_to, told_by, only_to}
-use Rattle.client_lanes.proofs.Keys.{tied_clients, tests_alike}
 
 -- ---- by client
 
@@ -36,10 +35,10 @@ module _ (client : Client) (reply : Reply) (others : List Reply) where
 -- ---- by lane
 
 -- each of the lanes has what its client is told
-abbrev pub EachHas : BTreeMap Client (Vec Reply) → List Reply → List Lane → Type 0
+abbrev pub EachHas : {S : Type 0} → IndexMap Client (Vec Reply) S → List Reply → List Lane → Type 0
 EachHas told replies lanes = AllByRecursion (λ (lane : Lane). told_by told lane.from ≡ replies_to lane.from replies) lanes
 
-module _ (told : BTreeMap Client (Vec Reply)) (replies : List Reply) where
+module _ {S : Type 0} (told : IndexMap Client (Vec Reply) S) (replies : List Reply) where
   by_lane : ((client : Client) → told_to told client ≡ replies_to (Some client) replies) → (from : Option Client) → told_by told from ≡ replies_to from replies
   by_lane holds None = refl
   by_lane holds (Some client) = holds client
@@ -48,7 +47,7 @@ module _ (told : BTreeMap Client (Vec Reply)) (replies : List Reply) where
   each_has holds [] = tt
   each_has holds (lane ∷ lanes) = (by_lane holds lane.from, each_has holds lanes)
 
-  module _ (after : BTreeMap Client (Vec Reply)) (from : Option Client) (kept : (client : Client) → same_lane from (Some client) ≡ false → told_to after client ≡ told_to told client) where
+  module _ (after : IndexMap Client (Vec Reply) S) (from : Option Client) (kept : (client : Client) → same_lane from (Some client) ≡ false → told_to after client ≡ told_to told client) where
     kept_by : (other : Option Client) → same_lane from other ≡ false → told_by after other ≡ told_by told other
     kept_by None apart = refl
     kept_by (Some client) apart = kept client apart
@@ -60,8 +59,8 @@ module _ (told : BTreeMap Client (Vec Reply)) (replies : List Reply) where
 
 -- ---- one reply more
 
-module _ (old new : BTreeMap Client (Vec Reply)) (caller : Client) (reply : Reply) (list : Vec Reply)
-    (put : (q : Client) → get client_cmp new q ≡ cond (eq_by_cmp client_cmp caller q) (Some list) (get client_cmp old q))
+module _ {S : Type 0} (old new : IndexMap Client (Vec Reply) S) (caller : Client) (reply : Reply) (list : Vec Reply)
+    (put : (q : Client) → get client_eq new q ≡ cond (client_eq caller q) (Some list) (get client_eq old q))
     (grown : list.items ≡ told_to old caller ++ reply ∷ []) where
   shown_to : Option (Vec Reply) → List Reply
   shown_to found = unwrap_or (option_map (λ v. v.items) found) []
@@ -69,16 +68,16 @@ module _ (old new : BTreeMap Client (Vec Reply)) (caller : Client) (reply : Repl
   -- what a client is told has the reply last, if it is the client's
   pub told_more : (client : Client) → told_to new client ≡ told_to old client ++ only_to caller client reply
   unfolding shown_to
-  told_more client = by_tie (eq_by_cmp client_cmp caller client) refl
+  told_more client = by_test (client_eq caller client) refl
     where
-      by_tie : (b : Bool) → eq_by_cmp client_cmp caller client ≡ b → told_to new client ≡ told_to old client ++ only_to caller client reply
-      by_tie true tied =
-          ap shown_to (put client ∙ ap (λ b. cond b (Some list) (get client_cmp old client)) tied) ∙ grown
-          ∙ ap (λ (c : Client). told_to old c ++ reply ∷ []) (tied_clients caller client tied)
-          ∙ ap (λ b. told_to old client ++ (if b then reply ∷ [] else [])) (sym (tests_alike caller client true tied))
-      by_tie false untied =
-          ap shown_to (put client ∙ ap (λ b. cond b (Some list) (get client_cmp old client)) untied) ∙ sym (append-nil (told_to old client))
-          ∙ ap (λ b. told_to old client ++ (if b then reply ∷ [] else [])) (sym (tests_alike caller client false untied))
+      by_test : (b : Bool) → client_eq caller client ≡ b → told_to new client ≡ told_to old client ++ only_to caller client reply
+      by_test true same =
+          ap shown_to (put client ∙ ap (λ b. cond b (Some list) (get client_eq old client)) same) ∙ grown
+          ∙ ap (λ (c : Client). told_to old c ++ reply ∷ []) ((client_eq_decides caller client).0 same)
+          ∙ ap (λ b. told_to old client ++ (if b then reply ∷ [] else [])) (sym same)
+      by_test false apart =
+          ap shown_to (put client ∙ ap (λ b. cond b (Some list) (get client_eq old client)) apart) ∙ sym (append-nil (told_to old client))
+          ∙ ap (λ b. told_to old client ++ (if b then reply ∷ [] else [])) (sym apart)
 
 -- one more of a list is answered
 pub answered_more : {V A B : Type 0} (items : V → B) (f : A → B) (vs : List V) (v : V) (x : A) (xs ys : List A) → items v ≡ f x → ys ≡ x ∷ xs

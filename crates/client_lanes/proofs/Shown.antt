@@ -1,16 +1,16 @@
 -- Entries that are seen by what their values show, as a finite map.
 use Rattle.std.proofs.Common.{◌≡◌, Bool, true, false, ◌&&◌, cond, List, [], ◌∷◌, Option, Some, refl, ap, sym, subst, ◌∙◌}
-use Rattle.std.specs.Prelude.{T, map as map_list, option_map}
+use Rattle.std.specs.Prelude.{All, map as map_list, option_map, IfSome, IsTrue}
 use Rattle.std.specs.declared.cmp.Ordering.{Ordering}
-use Rattle.std.specs.declared.cmp.Ordering.TheVariants.{Less}
-use Rattle.std.specs.Ordering.{eq_by_cmp, is_lt}
-use Rattle.std.specs.Cmp.{IsTotalOrder, eq_by_cmp_equiv}
-use Rattle.std.specs.List.{AllByRecursion}
-use Rattle.std.specs.List.Sorted.{IsStrictlySortedBy}
-use Rattle.std.specs.Map.{keys_of, lookup}
+use Rattle.std.specs.Ordering.{eq_by_cmp}
+use Rattle.std.specs.Cmp.{IsEquivalence, IsTotalOrder, eq_by_cmp_equiv}
+use Rattle.std.specs.List.{AllByRecursion, AllPass, IsDistinct, list_all}
+use Rattle.std.specs.Map.{keys_of, lookup, values_of}
 use Rattle.std.specs.FinMap as finite
-use Rattle.std.specs.FinMap.{IsAntisymmetric, find, from_entries, is_sorted}
-use Rattle.std.specs.FinMap.Entries.{below_all}
+use Rattle.std.specs.FinMap.{FinMap, IsAntisymmetric, find, from_entries}
+use Rattle.std.proofs.lemmas.List.Sums.{AllPass-from_list_all, list_all-from_AllPass}
+use Rattle.std.proofs.lemmas.Map.Views.{All-values_from_lookup, IfSome-lookup_from_All}
+use Rattle.finite_maps.proofs.Values.{found_passes, found_entries}
 
 -- one of two, seen
 seen_choice : {V W : Type 0} (f : V → W) (b : Bool) (x y : Option V) → option_map f (cond b x y) ≡ cond b (option_map f x) (option_map f y)
@@ -20,7 +20,13 @@ seen_choice f false x y = refl
 both_true : (a b : Bool) → a ≡ true → b ≡ true → a && b ≡ true
 both_true a b p q = ap (λ x. x && b) p ∙ q
 
-module _ {K V W : Type 0} {R : K → K → Ordering} (total : IsTotalOrder R) (exact : IsAntisymmetric R) (f : V → W) where
+-- two tests of which each passes if the other does
+alike : (a b : Bool) → (a ≡ true → b ≡ true) → (b ≡ true → a ≡ true) → a ≡ b
+alike true b on back = sym (on refl)
+alike false true on back = back refl
+alike false false on back = refl
+
+module _ {K V W : Type 0} {R : K → K → Ordering} {eq : K → K → Bool} (total : IsTotalOrder R) (exact : IsAntisymmetric R) (tests : eq ≡ eq_by_cmp R) (f : V → W) where
   abbrev pub shown : List (K × V) → List (K × W)
   shown es = map_list (λ e. (e.0, f e.1)) es
 
@@ -30,30 +36,48 @@ module _ {K V W : Type 0} {R : K → K → Ordering} (total : IsTotalOrder R) (e
       ap (cond (eq_by_cmp R q e.0) (Some (f e.1))) (find-shown es q) ∙ sym (seen_choice f (eq_by_cmp R q e.0) (Some e.1) (lookup (λ k. eq_by_cmp R q k) es))
 
   -- the map has at a key what a look-up finds, seen
-  pub get-shown : (es : List (K × V)) (q : K) → finite.get (from_entries {R = R} (shown es)) q ≡ option_map f (lookup (λ k. eq_by_cmp R q k) es)
-  get-shown es q = finite.get-from_entries total (shown es) q ∙ find-shown es q
+  pub get-shown : (es : List (K × V)) (q : K) → finite.get (from_entries {R = R} (shown es)) q ≡ option_map f (lookup (eq q) es)
+  get-shown es q = finite.get-from_entries total (shown es) q ∙ find-shown es q ∙ ap (λ (t : K → K → Bool). option_map f (lookup (t q) es)) (sym tests)
 
   -- one key has another value, and each other look-up finds what it found
-  pub shown-insert : (es fs : List (K × V)) (k : K) (v : V) → ((q : K) → lookup (λ x. eq_by_cmp R q x) fs ≡ cond (eq_by_cmp R k q) (Some v) (lookup (λ x. eq_by_cmp R q x) es))
+  pub shown-insert : (es fs : List (K × V)) (k : K) (v : V) → ((q : K) → lookup (eq q) fs ≡ cond (eq k q) (Some v) (lookup (eq q) es))
       → from_entries {R = R} (shown fs) ≡ finite.insert (from_entries (shown es)) k (f v)
   shown-insert es fs k v l = finite.same_map total exact _ _ (λ q.
-      get-shown fs q ∙ ap (option_map f) (l q) ∙ seen_choice f (eq_by_cmp R k q) (Some v) (lookup (λ x. eq_by_cmp R q x) es)
-      ∙ ap (cond (eq_by_cmp R k q) (Some (f v))) (sym (get-shown es q))
-      ∙ ap (λ b. cond b (Some (f v)) (finite.get (from_entries {R = R} (shown es)) q)) ((eq_by_cmp_equiv total).symm k q)
+      get-shown fs q ∙ ap (option_map f) (l q) ∙ seen_choice f (eq k q) (Some v) (lookup (eq q) es)
+      ∙ ap (cond (eq k q) (Some (f v))) (sym (get-shown es q))
+      ∙ ap (λ b. cond b (Some (f v)) (finite.get (from_entries {R = R} (shown es)) q)) (ap (λ (t : K → K → Bool). t k q) tests ∙ (eq_by_cmp_equiv total).symm k q)
       ∙ sym (finite.get-insert total (from_entries (shown es)) k (f v) q))
 
-  below_all-shown : (k : K) (es : List (K × V)) → AllByRecursion (λ y. R k y ≡ Less) (keys_of es) → below_all R k (shown es) ≡ true
-  below_all-shown k [] all = refl
-  below_all-shown k (e ∷ es) all = both_true _ _ (ap is_lt all.0) (below_all-shown k es all.1)
+  -- ---- a test that all values pass
 
-  sorted-shown : (es : List (K × V)) → IsStrictlySortedBy R (keys_of es) → is_sorted R (shown es) ≡ true
-  unfolding IsStrictlySortedBy
-  sorted-shown [] ascending = refl
-  sorted-shown (e ∷ es) ascending = both_true _ _ (below_all-shown e.0 es ascending.0) (sorted-shown es ascending.1)
+  module _ (p : W → Bool) (es : List (K × V)) where
+    abbrev pub seen_all : FinMap R W
+    seen_all = from_entries (shown es)
 
-  -- entries whose keys ascend are those of their map
-  pub entries-shown : (es : List (K × V)) → IsStrictlySortedBy R (keys_of es) → finite.entries (from_entries {R = R} (shown es)) ≡ shown es
-  entries-shown es ascending =
-      let sorted : T (is_sorted R (shown es)) = subst T (sym (sorted-shown es ascending)) tt in
-      ap finite.entries (finite.same_map total exact (from_entries (shown es)) (finite.from_sorted (shown es)) (λ q. finite.get-from_entries total (shown es) q ∙ sym (finite.get-from_sorted R (shown es) q sorted)))
-      ∙ finite.entries-from_sorted R (shown es) sorted
+    of_found : (o : Option V) (w : W) → IfSome o (λ v. IsTrue (p (f v))) → option_map f o ≡ Some w → p w ≡ true
+    of_found o w passes is = by o passes is
+      where
+        by : (o : Option V) → IfSome o (λ v. IsTrue (p (f v))) → option_map f o ≡ Some w → p w ≡ true
+        by (Some v) passes is = subst (λ (o : Option W). IfSome o (λ x. p x ≡ true)) is passes
+        by _ passes is = absurd cc
+
+    each_passes : ((q : K) → IfSome (lookup (eq q) es) (λ v. IsTrue (p (f v)))) → (fs : List (K × W)) → AllByRecursion (λ e. finite.get seen_all e.0 ≡ Some e.1) fs → list_all p (map_list (λ e. e.1) fs) ≡ true
+    each_passes passes [] found = refl
+    each_passes passes (e ∷ fs) found = both_true _ _ (of_found (lookup (eq e.0) es) e.1 (passes e.0) (sym (get-shown es e.0) ∙ found.0)) (each_passes passes fs found.1)
+
+    -- where the keys differ, all values pass a test exactly if all of the map do
+    pub all-shown : IsDistinct eq (keys_of es) → list_all (λ v. p (f v)) (values_of es) ≡ list_all p (finite.values seen_all)
+    all-shown distinct = alike _ _ on back
+      where
+        on : list_all (λ v. p (f v)) (values_of es) ≡ true → list_all p (finite.values seen_all) ≡ true
+        on all = each_passes (λ q. IfSome-lookup_from_All (λ v. IsTrue (p (f v))) (eq q) es (AllPass-from_list_all (λ v. p (f v)) (values_of es) all)) (finite.entries seen_all) (found_entries total seen_all)
+
+        there : list_all p (finite.values seen_all) ≡ true → (q : K) → IfSome (lookup (eq q) es) (λ v. IsTrue (p (f v)))
+        there all q = by (lookup (eq q) es) refl
+          where
+            by : (o : Option V) → lookup (eq q) es ≡ o → IfSome o (λ v. IsTrue (p (f v)))
+            by (Some v) is = found_passes p seen_all q (f v) (get-shown es q ∙ ap (option_map f) is) all
+            by _ is = tt
+
+        back : list_all p (finite.values seen_all) ≡ true → list_all (λ v. p (f v)) (values_of es) ≡ true
+        back all = list_all-from_AllPass (λ v. p (f v)) (values_of es) (All-values_from_lookup (subst IsEquivalence (sym tests) (eq_by_cmp_equiv total)) (λ v. IsTrue (p (f v))) es distinct (there all))

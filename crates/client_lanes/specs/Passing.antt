@@ -1,10 +1,10 @@
 -- One pass over a journal, as code makes it: with a map from whose a lane is to what is left of it.
 use Rattle.std.specs.Prelude.{◌≡◌, List, Bool, map as map_list, Option, Some, None, if◌then◌else◌}
 use Rattle.std.specs.Borrow.{Bor}
-use Rattle.std.specs.BTreeMap.{BTreeMap}
 use Rattle.std.specs.declared.collections.VecDeque.{VecDeque}
 use Rattle.std.specs.Global.{Global}
 use Rattle.std.specs.FinMap.{from_entries}
+use Rattle.indexmap.specs.IndexMap.{IndexMap}
 use Rattle.grain_id.specs.Names.{Client}
 use Rattle.silo_event.specs.declared.step.Step.{Step}
 use Rattle.lane_model.specs.Lanes.{Remaining, TellsApart, lane_of, remaining_after}
@@ -14,7 +14,7 @@ abbrev pub steps_at : VecDeque (Bor Step) Global → List Step
 steps_at waiting = map_list (λ s. s.now) waiting.items
 
 -- what is left of each lane
-abbrev pub left_in : BTreeMap (Option Client) (VecDeque (Bor Step) Global) → Remaining
+abbrev pub left_in : {S : Type 0} → IndexMap (Option Client) (VecDeque (Bor Step) Global) S → Remaining
 left_in left = from_entries (map_list (λ e. (e.0, steps_at e.1)) left.entries)
 
 -- If the step was the next of the lane that gives it, or if no lane does, the rest is left after it; otherwise there is none.

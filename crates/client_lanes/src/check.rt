@@ -2,21 +2,20 @@
 //! lane.
 
 ghost use Rattle.std.specs.Prelude.{◌≡◌, ◌==◌, ◌↔◌, IsTrue, IfOk, Some, count_by, length};
-ghost use Rattle.std.specs.BTreeMap.{IsOrdered, values};
+ghost use Rattle.indexmap.specs.IndexMap.{IsUnique, values};
 ghost use Rattle.std.specs.List.{list_all};
-ghost use Rattle.std.specs.Option.{option_cmp};
-ghost use Rattle.grain_id.specs.Names.{client_cmp};
-ghost use Rattle.lane_model.specs.Lanes.{AreDistinct, LanesStand, done_steps_of, has_failed as failed_step, is_used_up, remaining_of, without_ticks_below};
+ghost use Rattle.lane_model.specs.Lanes.{AreDistinct, LanesStand, done_steps_of, has_failed as failed_step, is_used_up, remaining_of, same_lane, without_ticks_below};
 ghost use Rattle.client_lanes.specs.Passing.{Passes, Takes, left_in, steps_at};
 
 use crate::lane::Lane;
 use grain_id::Caller;
+use indexmap::IndexMap;
 use silo_event::{Step, same_but_failed};
 use std::alloc::{AllocError, Global};
-use std::collections::{BTreeMap, VecDeque};
+use std::collections::VecDeque;
 
 /// What is left of each lane.
-type Left<'l> = BTreeMap<Option<Caller>, VecDeque<&'l Step>>;
+type Left<'l> = IndexMap<Option<Caller>, VecDeque<&'l Step>>;
 
 /// Whether the lanes stand in the journal, and each of its steps that a lane gives is of one of them.
 /// One pass over the journal, with a look-up for each step that a lane gives.
@@ -43,7 +42,7 @@ pub fn lanes_stand(alloc: Global, lanes: &[Lane], journal: &[Step]) -> Result<bo
 fn all_left<'l>(alloc: Global, lanes: &'l [Lane]) -> Result<Left<'l>, AllocError>
     ensures { IfOk result (λ left. left_in left ≡ remaining_of lanes.now) }
 {
-    let mut left = BTreeMap::new(alloc);
+    let mut left = IndexMap::new(alloc);
     let mut rest = lanes;
     'lanes: while let Some((lane, earlier)) = rest.split_last() {
         let key = key_of(lane)?;
@@ -162,8 +161,10 @@ fn is_used_up(left: &Left<'_>) -> bool
 /// Whether no steps stand there for any lane.
 fn are_empty(left: &Left<'_>) -> bool
     ensures empty { result ≡ list_all (λ steps. length steps.items == 0) (values left.now) }
-    ensures ordered { IsOrdered (option_cmp client_cmp) left.now }
+    ensures unique { IsUnique same_lane left.now }
 {
+    // For the proof: no lane stands there twice.
+    let _ = left.len();
     left.values().all(|steps| steps.is_empty())
 }
 

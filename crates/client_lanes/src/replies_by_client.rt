@@ -8,12 +8,12 @@ ghost use Rattle.client_lanes.specs.RepliesByClient.{HoldsReplies, only_to, told
 
 use crate::lane::Lane;
 use grain_id::Caller;
+use indexmap::IndexMap;
 use silo_event::{Party, Reply, copy_of_reply};
 use std::alloc::{AllocError, Global};
-use std::collections::BTreeMap;
 
 /// The replies to each client, in order.
-type RepliesByClient = BTreeMap<Caller, Vec<Reply>>;
+type RepliesByClient = IndexMap<Caller, Vec<Reply>>;
 
 /// For each lane the replies to its client, in order; for nobody's lane none. One pass over the
 /// replies, with a look-up for each that a client is told.
@@ -43,7 +43,7 @@ pub fn answers(
 fn told_by_client(alloc: Global, replies: &[Reply]) -> Result<RepliesByClient, AllocError>
     ensures { IfOk result (λ told. HoldsReplies told replies.now) }
 {
-    let mut told: RepliesByClient = BTreeMap::new(alloc);
+    let mut told: RepliesByClient = IndexMap::new(alloc);
     let mut rest = replies;
     'replies: while let Some((reply, others)) = rest.split_first() {
         if let Party::Client(caller, _) = &reply.recipient {
@@ -83,7 +83,7 @@ fn take_of(alloc: Global, told: &mut RepliesByClient, from: &Option<Caller>) -> 
     let Some(client) = from else {
         return Vec::new(alloc);
     };
-    match told.remove(client) {
+    match told.swap_remove(client) {
         Some(list) => list,
         None => Vec::new(alloc),
     }

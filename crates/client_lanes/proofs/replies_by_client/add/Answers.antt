@@ -1,9 +1,8 @@
 use Rattle.std.proofs.Common.{◌≡◌, ◌++◌, cond, [], ◌∷◌, Some, refl, ap, sym, subst, ◌∙◌}
 use Rattle.std.specs.Prelude.{unwrap_or, option_map}
-use Rattle.std.specs.BTreeMap.{BTreeMap, get}
 use Rattle.std.specs.Global.{Vec}
-use Rattle.std.specs.Ordering.{eq_by_cmp}
-use Rattle.grain_id.specs.Names.{Client, client_cmp}
+use Rattle.indexmap.specs.IndexMap.{IndexMap, get}
+use Rattle.grain_id.specs.Names.{Client, client_eq}
 use Rattle.silo_event.specs.declared.reply.Reply.{Reply}
 use Rattle.client_lanes.proofs.Collected.{told_more}
 use Rattle.client_lanes.proofs.replies_by_client.add.Goals as goal
@@ -19,7 +18,7 @@ returns c =
     let old = c.args.told.now in
     let new = c.insert.new.self in
     let first = c.in_ok-first.first in
-    let put = subst (λ (m : BTreeMap Client (Vec Reply)). (q : Client) → get client_cmp new q ≡ cond (eq_by_cmp client_cmp c.in_ok-key.key q) (Some first) (get client_cmp m q)) c.get_mut.follows.holds-at-none c.in_ok-insert.ensures.updates.0 in
+    let put = subst (λ m. (q : Client) → get client_eq new q ≡ cond (client_eq c.in_ok-key.key q) (Some first) (get client_eq m q)) c.get_mut.follows.holds-at-none c.in_ok-insert.ensures.updates.0 in
     told_more old new c.args.caller.now c.args.reply.now first
-    (subst (λ (k : Client). (q : Client) → get client_cmp new q ≡ cond (eq_by_cmp client_cmp k q) (Some first) (get client_cmp old q)) c.in_ok-key.ensures.cases put)
+    (subst (λ (k : Client). (q : Client) → get client_eq new q ≡ cond (client_eq k q) (Some first) (get client_eq old q)) c.in_ok-key.ensures.cases put)
     (c.in_ok-first.ensures.items ∙ (λ i. unwrap_or (option_map (λ v. v.items) (c.in_default.ensures.value i)) [] ++ c.in_ok-copy-2.ensures i ∷ []))
