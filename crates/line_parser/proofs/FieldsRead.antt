@@ -15,7 +15,7 @@ use Rattle.serde_json.specs.Read.{of_members, converted}
 use Rattle.request_codec.specs.Tree.{fields_count}
 use Rattle.request_codec.specs.Json.{json_depth, json_members_depth}
 use Rattle.request_codec.specs.Formed.{FieldsFormed}
-use Rattle.line_parser.specs.Lenient.{lenient_value, lenient_fields, is_not_whole, fields_not_whole}
+use Rattle.request_codec.specs.Lenient.{lenient_value, lenient_fields, is_not_whole, fields_not_whole}
 use Rattle.request_codec.specs.Written.{text_spelling, spelling, fields_spelling}
 use Rattle.line_parser.specs.Argument.{too_deep, is_deep, AddsFaults, PutsValue, PutsFields}
 use Rattle.line_parser.specs.Fields.{PlacedField, placed_bytes, placed_spelling, members_of, HoldsFields, AreBehind, AreSorted, field_spelling}

@@ -10,7 +10,7 @@ use Rattle.serde_json.specs.Read.{of_json, of_items, of_members, converted}
 use Rattle.request_codec.specs.Tree.{members_count}
 use Rattle.request_codec.specs.Json.{json_depth, items_depth}
 use Rattle.request_codec.specs.Formed.{AreFormed}
-use Rattle.line_parser.specs.Lenient.{lenient_value, lenient_members, is_not_whole, are_not_whole}
+use Rattle.request_codec.specs.Lenient.{lenient_value, lenient_members, is_not_whole, are_not_whole}
 use Rattle.request_codec.specs.Written.{spelling, members_spelling}
 use Rattle.request_codec.proofs.Spelled.{length-spelling, some_length}
 use Rattle.line_parser.specs.Argument.{too_deep, is_deep, AddsFaults, PutsValue, PutsItems}

@@ -14,7 +14,7 @@ use Rattle.serde_json.specs.Data.{Data, Members, no_members, member, put}
 use Rattle.request_codec.specs.Spelling.{IsBelowFirst}
 use Rattle.request_codec.specs.Formed.{IsFormed, FieldsFormed}
 use Rattle.request_codec.proofs.Entries.{is_less}
-use Rattle.line_parser.specs.Lenient.{lenient_value, lenient_fields}
+use Rattle.request_codec.specs.Lenient.{lenient_value, lenient_fields}
 use Rattle.line_parser.specs.Fields.{PlacedField, members_of, place_of, Ascend}
 
 abbrev IsBelow : List ℕ → List ℕ → Type 0

@@ -12,7 +12,7 @@ use Rattle.request_codec.specs.Formed.{IsFormed}
 use Rattle.request_codec.specs.Json.{items_depth, json_members_depth}
 use Rattle.request_codec.specs.Tree as tree
 use Rattle.request_codec.specs.Tree.{list, map}
-use Rattle.line_parser.specs.Lenient.{lenient_value, lenient_members, lenient_fields, integer_or_null}
+use Rattle.request_codec.specs.Lenient.{lenient_value, lenient_members, lenient_fields, integer_or_null}
 use Rattle.request_codec.specs.Written.{spelling}
 use Rattle.line_parser.specs.Number.{IsWhole, IsNotWhole}
 use Rattle.line_parser.specs.Argument.{is_deep, AddsFaults, PutsValue, PutsItems, PutsFields}

@@ -5,12 +5,12 @@ use Rattle.std.proofs.lemmas.Bool.{lt-leb}
 use Rattle.std.proofs.lemmas.Bool.Decides.{nat_tests}
 use Rattle.serde_json.specs.Data.{Data, null, unsigned, Members, object}
 use Rattle.serde_json.specs.Find.{get, get_member, as_bool, as_str, as_i64, as_number}
-use Rattle.request_codec.specs.Limits.{message_limit, state_limit}
+use Rattle.request_codec.specs.Limits.{message_version, message_limit, state_limit}
 use Rattle.request_codec.specs.Tree.{Tree}
 use Rattle.request_codec.specs.Call.{asks, message_call, state_value}
 use Rattle.request_codec.specs.Answers.{message_length, spelled_length}
-use Rattle.line_parser.specs.Lenient.{lenient_value}
-use Rattle.request_codec.specs.Written.{text_spelling, spelling}
+use Rattle.request_codec.specs.Lenient.{lenient_value}
+use Rattle.request_codec.specs.Written.{text_spelling, spelling, message_spelling}
 use Rattle.request_codec.proofs.Encoded.{encoded_message, same_found}
 use Rattle.request_codec.proofs.JsonDepths.{within_depth}
 use Rattle.request_codec.proofs.Spelled.{length-message, length-spelling, state_spelled}
@@ -123,12 +123,12 @@ state_refused why code l json is some = ap (λ asked. unless_refused asked (λ v
 short_message : (method argument : List ℕ) (json : Data) → IsArgument json argument → 5 + length method + length argument ≤ message_limit → message_length method (lenient_value json) ≤ message_limit
 short_message method argument json is short = omega (arith, short, ap length is.spelled, length-spelling (lenient_value json))
 
-pub message_of : (items method argument : List ℕ) (json : Data) → IsUtf8 method → IsArgument json argument → items ≡ 1 ∷ (text_spelling method ++ argument) → 5 + length method + length argument ≤ message_limit
+pub message_of : (items method argument : List ℕ) (json : Data) → IsUtf8 method → IsArgument json argument → items ≡ message_version ∷ (text_spelling method ++ argument) → 5 + length method + length argument ≤ message_limit
     → message_call items ≡ Some (asks method (lenient_value json))
 message_of items method argument json valid is put short =
     let v = lenient_value json in
-    let bytes : items ≡ 1 ∷ (text_spelling method ++ spelling v) = put ∙ ap (λ (a : List ℕ). 1 ∷ (text_spelling method ++ a)) is.spelled in
-    let fits : length (1 ∷ (text_spelling method ++ spelling v)) ≤ message_limit = omega (arith, short_message method argument json is short, length-message method v) in
+    let bytes : items ≡ message_spelling (asks method v) = put ∙ ap (λ (a : List ℕ). message_version ∷ (text_spelling method ++ a)) is.spelled in
+    let fits : length (message_spelling (asks method v)) ≤ message_limit = omega (arith, short_message method argument json is short, length-message method v) in
     encoded_message items method v valid (within_depth json v is.deep is.whole.0, is.whole.1) (bytes, fits)
 
 pub message_fits : (method argument : List ℕ) (json : Data) → IsArgument json argument → 5 + length method + length argument ≤ message_limit → message_asked method json ≡ Ok (asks method (lenient_value json))

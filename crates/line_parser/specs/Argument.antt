@@ -10,7 +10,7 @@ use Rattle.request_codec.specs.Json.{json_depth, items_depth, json_members_depth
 use Rattle.request_codec.specs.Formed.{IsFormed, AreFormed, FieldsFormed}
 use Rattle.silo_event.specs.declared.refusal.Refusal.{Refusal}
 use Rattle.silo_event.specs.declared.refusal.Refusal.TheVariants as refusal
-use Rattle.line_parser.specs.Lenient.{lenient_value, lenient_members, lenient_fields, is_not_whole, are_not_whole, fields_not_whole}
+use Rattle.request_codec.specs.Lenient.{lenient_value, lenient_members, lenient_fields, is_not_whole, are_not_whole, fields_not_whole}
 use Rattle.line_parser.specs.declared.faults.Faults.{Faults}
 use Rattle.request_codec.specs.Written.{spelling, members_spelling, fields_spelling}
 

@@ -5,7 +5,7 @@ use Rattle.std.specs.List.Sorted.{IsPermutation}
 use Rattle.serde_json.specs.Data.{Data, Members, no_members, member}
 use Rattle.request_codec.specs.Reading.{is_above}
 use Rattle.request_codec.specs.Written.{text_spelling, spelling}
-use Rattle.line_parser.specs.Lenient.{lenient_value}
+use Rattle.request_codec.specs.Lenient.{lenient_value}
 use Rattle.line_parser.specs.declared.fields.Known.{Known}
 use Rattle.line_parser.specs.declared.fields.Fields.{Fields}
 

@@ -11,7 +11,7 @@ use Rattle.request_codec.specs.Json.{json_depth}
 use Rattle.silo_event.specs.declared.refusal.Refusal.{Refusal}
 use Rattle.silo_event.specs.declared.step.Step.{Step}
 use Rattle.line_parser.specs.Form.{value_asked, step_of_json}
-use Rattle.line_parser.specs.Lenient.{lenient_value, HasValue}
+use Rattle.request_codec.specs.Lenient.{lenient_value, HasValue}
 use Rattle.request_codec.specs.Written.{spelling}
 use Rattle.line_parser.specs.declared.line_members.Name.{Name}
 use Rattle.line_parser.specs.declared.line_members.Name.TheVariants.{Op, From, Id, Grain, Method, Turn, Now, Failed, Args, State}

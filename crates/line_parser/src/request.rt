@@ -2,6 +2,7 @@
 
 ghost use Rattle.std.specs.Prelude.{◌≡◌, ◌<◌, ◌^◌, ◌∷◌, ◌++◌, length, IfOk, OnOk, MatchOption, None, Some};
 ghost use Rattle.serde_json.specs.Data.{Data};
+ghost use Rattle.request_codec.specs.Limits.{message_version};
 ghost use Rattle.request_codec.specs.Written.{text_spelling};
 ghost use Rattle.line_parser.specs.Form.{argument_at, message_asked, state_asked, call_of, poke_of, status_of};
 ghost use Rattle.line_parser.specs.LineMembers.{IsAsked};
@@ -11,7 +12,7 @@ use crate::asked::{call_with, message_of_json, poke_with, state_of_json};
 use crate::line_members::{LineMembers, ValueIn};
 use crate::named::caller_of;
 use grain_id::NameCache;
-use request_codec::limits::{MAX_MESSAGE_BYTES, MAX_STATE_BYTES};
+use request_codec::limits::{MAX_MESSAGE_BYTES, MAX_STATE_BYTES, MESSAGE_VERSION};
 use request_codec::{CodecFault, Message, StateBytes};
 use silo_event::{Refusal, Step};
 use std::alloc::{AllocError, Global};
@@ -29,10 +30,10 @@ const MESSAGE_HEAD_BYTES: usize = 5;
 /// Writes a message's bytes: those of a method, and those of its argument.
 fn write_message(out: &mut Vec<u8>, method: &str, argument: &[u8]) -> Result<(), AllocError>
     requires { length method.now < 2 ^ 32 }
-    ensures { OnOk result (out.new.items ≡ 1 ∷ (text_spelling method.now ++ argument.now)) }
+    ensures { OnOk result (out.new.items ≡ message_version ∷ (text_spelling method.now ++ argument.now)) }
 {
     out.clear();
-    out.push(1)?;
+    out.push(MESSAGE_VERSION)?;
     out.extend_from_slice(&(method.len() as u32).to_be_bytes())?;
     out.extend_from_slice(method.as_bytes())?;
     out.extend_from_slice(argument)

@@ -6,12 +6,9 @@ use Rattle.std.proofs.lemmas.Bool.Decides.{nat_tests}
 use Rattle.std.proofs.lemmas.Grind.{flat_map-append}
 use Rattle.std.proofs.lemmas.List.Concat.{flat_map-cons}
 use Rattle.json.specs.Print.{escape_byte, escape, quoted}
+use Rattle.std.proofs.lemmas.Bool.{and_parts}
 use Rattle.grain_id.specs.Words.{is_word, is_word_byte}
 use Rattle.grain_id.specs.Names.{Client, is_client, client_text}
-
-both : (a b : Bool) → (a && b) ≡ true → (a ≡ true) × (b ≡ true)
-both true b h = (refl, h)
-both false b h = absurd cc
 
 escape_byte-plain : (x : ℕ) → 45 ≤ x → x ≢ 92 → escape_byte x ≡ x ∷ []
 unfolding escape_byte
@@ -32,16 +29,16 @@ word_byte-plain x h = escape_byte-plain x (grind (arith, nat_tests)) (λ e. grin
 escape-plain : (s : List ℕ) → list_all is_word_byte s ≡ true → escape s ≡ s
 escape-plain [] h = refl
 escape-plain (x ∷ s) h =
-    let parts = both (is_word_byte x) (list_all is_word_byte s) h in
+    let parts = and_parts (is_word_byte x) (list_all is_word_byte s) h in
     flat_map-cons escape_byte x s ∙ ap₂ (λ l m. l ++ m) (word_byte-plain x parts.0) (escape-plain s parts.1)
 
 escape-word : (s : List ℕ) → is_word s ≡ true → escape s ≡ s
 unfolding is_word
-escape-word s h = escape-plain s (both _ (list_all is_word_byte s) h).1
+escape-word s h = escape-plain s (and_parts _ (list_all is_word_byte s) h).1
 
 -- a caller's text has nothing to escape
 pub quoted-client_text : (c : Client) → IsTrue (is_client c) → quoted (client_text c) ≡ 34 ∷ (client_text c ++ 34 ∷ [])
 quoted-client_text c h =
-    let parts = both (is_word c.tenant) (is_word c.client) h in
+    let parts = and_parts (is_word c.tenant) (is_word c.client) h in
     let slash : escape (47 ∷ c.client) ≡ 47 ∷ c.client = flat_map-cons escape_byte 47 c.client ∙ ap₂ (λ l m. l ++ m) (escape_byte-plain 47 (omega arith) (omega arith)) (escape-word c.client parts.1) in
     ap (λ l. 34 ∷ (l ++ 34 ∷ [])) (flat_map-append escape_byte c.tenant (47 ∷ c.client) ∙ ap₂ (λ l m. l ++ m) (escape-word c.tenant parts.0) slash)

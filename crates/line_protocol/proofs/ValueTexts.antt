@@ -13,7 +13,7 @@ use Rattle.request_codec.specs.declared.fault.CodecFault.TheVariants as faults
 use Rattle.request_codec.specs.Build.{Named}
 use Rattle.request_codec.proofs.MemberLoops.{with_members, members-start, members-go_on, members-done, with_fields, fields-start, fields-go_on, fields-done}
 use Rattle.line_protocol.specs.Text.{text_of, more_members, more_fields}
-use Rattle.line_protocol.specs.ValueText.{AddsValue, AddsMembers, AddsFields, AddsNone}
+use Rattle.line_protocol.specs.inside.ValueText.{AddsValue, AddsMembers, AddsFields, AddsNone}
 
 -- ---- texts with commas between them
 

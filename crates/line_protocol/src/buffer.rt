@@ -37,7 +37,7 @@ pub(crate) enum Place {
 }
 
 impl Buffer {
-    ghost use Rattle.line_protocol.specs.Buffers.{IsInside, ahead_in, left_in};
+    ghost use Rattle.line_protocol.specs.inside.Buffers.{IsInside, ahead_in, left_in};
 
     /// Nothing is read yet. Takes 65,536 bytes.
     pub(crate) fn new(alloc: Global) -> Result<Buffer, AllocError>

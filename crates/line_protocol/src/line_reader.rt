@@ -23,7 +23,7 @@ pub struct LineReader {
 
 impl Model for LineReader {
     ghost use Rattle.std.specs.Prelude.{vec_len};
-    ghost use Rattle.line_protocol.specs.Buffers.{IsInside, ahead_in, bytes_at};
+    ghost use Rattle.line_protocol.specs.inside.Buffers.{IsInside, ahead_in, bytes_at};
     ghost use Rattle.line_protocol.specs.Reading.{Reading};
 
     ghost Value = { Reading };
@@ -53,7 +53,11 @@ impl LineReader {
 
     /// Whether there is a byte to take. Reads until there is one or the input ends; a read that is
     /// interrupted is made again, and each counts. After an `Err` nothing is read ahead.
-    pub(crate) fn fill<R: Read>(&mut self, reader: &mut R) -> Result<bool, LineFault>
+    ///
+    /// # Errors
+    ///
+    /// `Read` if a call of the reader failed, and `TooMuch` if one more than 1,073,741,824 would be needed.
+    pub fn fill<R: Read>(&mut self, reader: &mut R) -> Result<bool, LineFault>
         ensures bytes { Keeps (left_of self.old (R.remaining reader.old)) (left_of self.new (R.remaining reader.new)) }
         ensures some { result ≡ Ok true → self.new.ahead ≢ [] }
         ensures none { result ≡ Ok false → self.new.ahead ≡ [] }
@@ -113,8 +117,12 @@ impl LineReader {
     }
 
     /// Takes the next line. If that takes a read, which may wait, what was written goes out before. After
-    /// an `Err` a part of the line may have been taken.
-    pub(crate) fn next_flushed<R: Read, W: Write>(
+    /// an `Err` a part of the line may have been taken. Of a line above 65,536 bytes the first 65,537 are kept.
+    ///
+    /// # Errors
+    ///
+    /// Those of `fill`; `Write` if what was written didn't go out, and `Memory` if memory was refused.
+    pub fn next_flushed<R: Read, W: Write>(
         &mut self,
         reader: &mut R,
         output: &mut Output<W>,
@@ -138,7 +146,7 @@ impl LineReader {
     }
 
     /// The line that was taken last.
-    pub(crate) fn line(&self) -> &[u8]
+    pub fn line(&self) -> &[u8]
         ensures { result.now ≡ self.now.line }
     {
         match self.place {

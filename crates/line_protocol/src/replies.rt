@@ -228,8 +228,8 @@ pub fn push_refusal(
     pushed
 }
 
-/// Adds the line of a step that isn't possible now, without its LF.
-pub(crate) fn push_not_now(text: &mut String) -> Result<(), AllocError>
+/// Adds the line of a step that isn't possible now, without its LF. After an `Err` the text is as it was.
+pub fn push_not_now(text: &mut String) -> Result<(), AllocError>
     ensures { OnOk result (string_bytes text.new ≡ string_bytes text.old ++ not_now_line) }
 {
     text.push_str("{\"text\":\"not now\"}")

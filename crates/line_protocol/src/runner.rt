@@ -17,8 +17,8 @@ use silo_core::Silo;
 use std::alloc::Global;
 use std::io::{Read, Write};
 
-/// Lines of an input.
-pub(crate) const LINES_LIMIT: u64 = 1_000_000;
+/// Lines that an input may have.
+pub const LINES_LIMIT: u64 = 1_000_000;
 
 /// Takes what a line says, and writes its text at once.
 fn write_answer<W: Write, S: GrainStorage, L: GrainLogic>(

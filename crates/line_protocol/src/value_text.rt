@@ -4,7 +4,7 @@ ghost use Rattle.std.specs.Prelude.{◌≡◌, ◌++◌, None, IfOk, IfErr, OnOk
 ghost use Rattle.request_codec.specs.Tree.{truth};
 ghost use Rattle.request_codec.specs.Reading.{value_at, members_at, fields_at};
 ghost use Rattle.line_protocol.specs.Text.{text_of};
-ghost use Rattle.line_protocol.specs.ValueText.{AddsValue, AddsMembers, AddsFields, AddsNone};
+ghost use Rattle.line_protocol.specs.inside.ValueText.{AddsValue, AddsMembers, AddsFields, AddsNone};
 
 use crate::text::{push, push_quoted, push_whole};
 use request_codec::bytes::{Start, may_follow, start_of, text_of};

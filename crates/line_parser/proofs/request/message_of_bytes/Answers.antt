@@ -1,7 +1,7 @@
 use Rattle.std.proofs.Common.{◌+◌, ◌≤◌, length, ap, ◌∙◌, sym, Ok, arith}
 use Rattle.request_codec.specs.Limits.{message_limit}
 use Rattle.request_codec.specs.Call.{asks}
-use Rattle.line_parser.specs.Lenient.{lenient_value}
+use Rattle.request_codec.specs.Lenient.{lenient_value}
 use Rattle.request_codec.proofs.Encoded.{same_found}
 use Rattle.request_codec.proofs.Whole.{message_is_some}
 use Rattle.line_parser.proofs.Steps.{not_refused, message_refused, message_of, message_fits, message_too_long}

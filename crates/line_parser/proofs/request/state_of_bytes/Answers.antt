@@ -1,5 +1,5 @@
 use Rattle.std.proofs.Common.{Err, ap, ◌∙◌}
-use Rattle.line_parser.specs.Lenient.{lenient_value}
+use Rattle.request_codec.specs.Lenient.{lenient_value}
 use Rattle.line_parser.proofs.Steps.{not_refused, state_refused, state_spells, state_fits, state_too_large}
 use Rattle.line_parser.proofs.request.state_of_bytes.Goals as goal
 

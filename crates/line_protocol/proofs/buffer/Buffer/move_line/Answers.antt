@@ -2,7 +2,7 @@ use Rattle.std.proofs.Common.{◌≡◌, ◌<◌, ◌++◌, [], Ok, inr, length,
 use Rattle.std.proofs.lemmas.List.{nil_from_length}
 use Rattle.std.specs.Io.KnownBytes.{Consumes}
 use Rattle.std.proofs.KnownBytes.{Consumes-kept}
-use Rattle.line_protocol.specs.Buffers.{ahead_in}
+use Rattle.line_protocol.specs.inside.Buffers.{ahead_in}
 use Rattle.line_protocol.specs.Limits.{kept_limit}
 use Rattle.line_protocol.proofs.Pieces.{some_unless, take_again, slice_range_empty}
 use Rattle.line_protocol.proofs.LinesOfBytes.{HasNoBreak-append, IsAtEnd-left, Consumes-none, step_broken, step_whole}

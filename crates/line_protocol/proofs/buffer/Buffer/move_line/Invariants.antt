@@ -1,7 +1,7 @@
 use Rattle.std.proofs.Common.{◌≡◌, ◌+◌, ◌-◌, ◌*◌, min, ℕ, List, take}
 use Rattle.std.specs.Io.KnownBytes.{Consumes}
 use Rattle.line_protocol.specs.Limits.{calls_limit, kept_limit}
-use Rattle.line_protocol.specs.Buffers.{left_in}
+use Rattle.line_protocol.specs.inside.Buffers.{left_in}
 use Rattle.line_protocol.specs.Reading.{HasNoBreak}
 use Rattle.line_protocol.proofs.buffer.Buffer.move_line.Given as goal
 
