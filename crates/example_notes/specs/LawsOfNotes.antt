@@ -4,7 +4,8 @@ use Rattle.std.specs.Prelude.{if◌then◌else◌}
 use Rattle.request_codec.specs.Call.{asks}
 use Rattle.request_codec.specs.Tree.{Tree, null}
 use Rattle.grain_kinds.specs.Laws.{IsLawful, FitsState, FitsMessage, ChangesNothing}
-use Rattle.grain_kinds.specs.LawsOfForms.{ObeysLaws, null_fits, if_holds, keeps_changes_nothing, keeps_obeys, becomes_obeys, asks_obeys, fault_obeys}
+use Rattle.grain_kinds.specs.LawsOfForms.{ObeysLaws, null_fits, if_holds, keeps_changes_nothing, keeps_obeys, becomes_obeys, asks_obeys}
+use Rattle.grain_kinds.specs.LawsOfForms.{fault_obeys}
 use Rattle.grain_kinds.specs.Logic.{Plan, writes_row}
 use Rattle.grain_kinds.specs.Shared.{keeps}
 use Rattle.grain_kinds.specs.declared.fault.MethodFault.TheVariants.{UnknownMethod}
@@ -23,7 +24,8 @@ obeys : (method : List ℕ) (state argument : Tree) → ObeysLaws state (asks me
 obeys method state argument =
     let call = asks method argument in
     if_holds (ObeysLaws state call) (is_get method) _ _ (λ is. keeps_obeys state call (Ok state) (λ fits asked. fits))
-    (λ is. if_holds (ObeysLaws state call) (is_put method) _ _ (λ is. becomes_obeys state call argument null (λ fits asked. (argument_fits method argument asked, null_fits)))
+    (λ is. if_holds (ObeysLaws state call) (is_put method) _ _
+    (λ is. becomes_obeys state call argument null (λ fits asked. (argument_fits method argument asked, null_fits)))
     (λ is. if_holds (ObeysLaws state call) (is_save method) _ _ (λ is. asks_obeys state call writes_row)
     (λ is. fault_obeys state call UnknownMethod)))
 
@@ -38,5 +40,6 @@ notes_lawful = record {
   faults_change_nothing = λ kind method state argument. (obeys method state argument).faults_change_nothing;
   askers_leave_all = λ kind method state argument. (obeys method state argument).askers_leave_all;
   plans_keep_limits = λ kind method state argument. (obeys method state argument).keeps_limits;
+  stays_in_range = λ kind method state argument. (obeys method state argument).stays_in_range;
   empty_fits = λ kind known. null_fits;
 }

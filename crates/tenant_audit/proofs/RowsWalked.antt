@@ -14,7 +14,8 @@ use Rattle.silo_model.specs.Whole.{is_of}
 use Rattle.silo_core.proofs.Opened.{rows_again}
 use Rattle.journal_text.specs.Rules.{are_ascending}
 use Rattle.audit_model.specs.Difference.{RowsDifferAt}
-use Rattle.audit_model.proofs.Reports.{ascend, keys_filter}
+use Rattle.finite_maps.proofs.Parts.{keys_of-filter}
+use Rattle.audit_model.proofs.Reports.{ascend}
 use Rattle.audit_model.proofs.Tenants.{keys_ascend}
 use Rattle.tenant_audit.specs.Comparison.{lesser_of}
 use Rattle.tenant_audit.proofs.Lists.{split_at}
@@ -31,7 +32,7 @@ module _ (tenant : List â„•) (recorded own : Entries) (rows : Rows) (i place : â
   theirs = filter is_its recorded
 
   sorted : Sorted theirs
-  sorted = subst (IsStrictlySortedBy grain_cmp) (sym (keys_filter (is_of tenant) recorded)) (IsStrictlySortedBy-filter grain_cmp (is_of tenant) (keys_of recorded) (ascend recorded ascending))
+  sorted = subst (IsStrictlySortedBy grain_cmp) (sym (keys_of-filter (is_of tenant) recorded)) (IsStrictlySortedBy-filter grain_cmp (is_of tenant) (keys_of recorded) (ascend recorded ascending))
 
   sorted_own : Sorted own
   sorted_own = subst Sorted (sym listed) (own_sorted rows)

@@ -88,6 +88,7 @@ pub fn merge(
     ensures tenants { IfOk result (λ all. map (λ (r : Reported). r.tenant) all.items ≡ tenants.now) }
     ensures each { IfOk result (λ all. AreReports journal.now all.items) }
 {
+    // Looked at, so that the proof sees that the journal keeps its rules.
     let _ = journal;
     let mut all = Vec::with_capacity(alloc, tenants.len())?;
     'places: for index in 0..tenants.len() {

@@ -6,6 +6,7 @@ fn the_laws_are_stated() {
     request_codec::laws::one_spelling();
     request_codec::laws::no_prefix();
     grain_kinds::laws::lawful();
+    grain_kinds::laws::kinds_keep_same();
     silo_event::laws::texts_are_visible();
     journal_text::laws::one_line();
     journal_text::laws::plain_line();

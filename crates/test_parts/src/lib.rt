@@ -5,6 +5,8 @@
 #![tactic(auto)]
 
 #[cfg(test)]
+mod ages;
+#[cfg(test)]
 mod arena;
 #[cfg(test)]
 mod codec;
@@ -32,6 +34,8 @@ mod laws;
 mod mailbox;
 #[cfg(test)]
 mod names;
+#[cfg(test)]
+mod resting;
 #[cfg(test)]
 mod spelled;
 #[cfg(test)]

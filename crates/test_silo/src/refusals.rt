@@ -12,10 +12,12 @@ fn are_done(answers: &[Answer]) -> bool {
     answers.iter().all(|answer| *answer == Answer::Done)
 }
 
-/// Takes the steps in one run: how many were answered, or none if one of them wasn't done.
+/// Takes the steps in one run: how many were answered, or none if one of them wasn't done, or the run doesn't say that it
+/// was stopped exactly if it was.
 fn done(alloc: Global, silo: &mut TestedSilo, steps: Vec<Step>) -> Option<usize> {
+    let count = steps.len();
     let report = run(alloc, silo, steps);
-    if are_done(&report.answers) {
+    if are_done(&report.answers) && report.stopped == (report.answers.len() < count) {
         Some(report.answers.len())
     } else {
         None

@@ -5,7 +5,7 @@ use Rattle.std.specs.BTreeMap.{BTreeMap, get}
 use Rattle.std.specs.Ordering.{eq_by_cmp}
 use Rattle.grain_id.specs.Names.{Client, client_cmp, client_eq}
 use Rattle.grain_id.proofs.Order.{client_eq_decides}
-use Rattle.client_lanes.proofs.Keys.{tests_alike}
+use Rattle.client_lanes.proofs.Keys.{clients_alike}
 use Rattle.worker_host.specs.Working.{owing_to}
 
 shown : Option ℕ → ℕ
@@ -19,9 +19,9 @@ module _ (old new : BTreeMap Client ℕ) (caller : Client) (n : ℕ) (put : (q :
     where
       by_tie : (b : Bool) → eq_by_cmp client_cmp caller client ≡ b → owing_to new client ≡ cond (client_eq caller client) n (owing_to old client)
       by_tie true tied =
-          ap shown (put client ∙ ap (λ b. cond b (Some n) (get client_cmp old client)) tied) ∙ ap (λ b. cond b n (owing_to old client)) (sym (tests_alike caller client true tied))
+          ap shown (put client ∙ ap (λ b. cond b (Some n) (get client_cmp old client)) tied) ∙ ap (λ b. cond b n (owing_to old client)) (sym (clients_alike caller client true tied))
       by_tie false untied =
-          ap shown (put client ∙ ap (λ b. cond b (Some n) (get client_cmp old client)) untied) ∙ ap (λ b. cond b n (owing_to old client)) (sym (tests_alike caller client false untied))
+          ap shown (put client ∙ ap (λ b. cond b (Some n) (get client_cmp old client)) untied) ∙ ap (λ b. cond b n (owing_to old client)) (sym (clients_alike caller client false untied))
 
   pub one_more : n ≡ owing_to old caller + 1 → (client : Client) → owing_to new client ≡ owing_to old client + cond (client_eq caller client) 1 0
   one_more is client = owing_put client ∙ by_test (client_eq caller client) refl
