@@ -6,6 +6,7 @@ from random import Random
 from typing import Iterable, NamedTuple, Optional
 
 from . import codes, lines
+from .answer import DEFAULT_SENDS, MAX_SENDS, answer_lines, is_asked
 from .audit import audit
 from .journal import (MAX_ACTIVATIONS, MAX_AGE, MAX_MAILBOX, MAX_TENANTS, RefusedAt, journal_of, journal_text,
                       read_journal)
@@ -13,7 +14,6 @@ from .machine import Limits
 from .names import is_word
 from .serve import answers_of, lanes_of, replies_to_grains, serve
 from .silo import DEFAULT_AGE, Setup, Silo
-from .steps import OF_A_CALLER, OF_NOBODY
 
 MAX_WORKERS = 64
 DEFAULT_WORKERS = 4
@@ -53,9 +53,10 @@ def is_decimal(text: str, most: int) -> bool:
     return not text.startswith("0") and is_number(text, most)
 
 
-def is_option_number(text: str, most: int) -> bool:
+def is_option_number(text: str, most: int, least: int = 1) -> bool:
     """As the reader of arguments takes a number: a plus sign and zeros may stand before it."""
-    return is_number(text[1:] if text.startswith("+") else text, most)
+    digits = text[1:] if text.startswith("+") else text
+    return is_number(digits, most) or (least == 0 and digits != "" and digits.strip("0") == "")
 
 
 def tenant_of(word: str) -> Optional[tuple[str, Limits]]:
@@ -82,7 +83,13 @@ def tenants_of(words: list[str]) -> tuple[tuple[str, Limits], ...]:
 IS_AGE = ("--age", lambda text: is_option_number(text, MAX_AGE))
 IS_WORKERS = ("--workers", lambda text: is_option_number(text, MAX_WORKERS))
 IS_PATH = ("--journal", lambda text: True)
-OPTIONS = {"steps": dict([IS_AGE]), "serve": dict([IS_AGE, IS_WORKERS, IS_PATH]), "audit": {}}
+IS_SENDS = ("--sends", lambda text: is_option_number(text, MAX_SENDS, 0))
+OPTIONS = {
+    "steps": dict([IS_AGE]),
+    "answer": dict([IS_AGE, IS_SENDS, IS_PATH]),
+    "serve": dict([IS_AGE, IS_WORKERS, IS_PATH]),
+    "audit": {},
+}
 
 
 def split_words(words: list[str], options: dict) -> tuple[dict, list[str]]:
@@ -113,7 +120,7 @@ def asks_for_help(words: list[str]) -> bool:
     return words in [["--help"], ["-h"], ["help"], *of_commands]
 
 
-# ---- the three commands
+# ---- the commands
 
 def run_steps(given: dict, words: list[str], data: bytes, written: list[bytes]) -> None:
     if not words:
@@ -123,6 +130,21 @@ def run_steps(given: dict, words: list[str], data: bytes, written: list[bytes]) 
         lines.run_lines(Silo(setup), [data], written.append)
     except lines.TooMuchInput as error:
         raise Ended(BROKEN, "silo: too much input") from error
+
+
+def run_answer(given: dict, words: list[str], data: bytes, files: dict, written: list[bytes]) -> None:
+    if not words:
+        raise Ended(BAD_WORDS)
+    silo = Silo(Setup(tenants_of(words), int(given.get("--age", DEFAULT_AGE))))
+    if "--journal" in given:
+        files[given["--journal"]] = journal_text(journal_of(silo))
+    try:
+        answer_lines(silo, [data], int(given.get("--sends", DEFAULT_SENDS)), written.append)
+    except lines.TooMuchInput as error:
+        raise Ended(BROKEN, "silo: too much input") from error
+    finally:
+        if "--journal" in given:
+            files[given["--journal"]] = journal_text(journal_of(silo))
 
 
 def written_lines(texts: Iterable[str]) -> bytes:
@@ -153,7 +175,7 @@ def sort_lines(read: list) -> tuple[list[int], list]:
     for said in read:
         if isinstance(said, int):
             refusals.append(said)
-        elif isinstance(said, OF_A_CALLER + OF_NOBODY):
+        elif said is not None and is_asked(said):
             steps.append(said)
         elif said is not None:
             refusals.append(codes.NOT_A_REQUEST)
@@ -194,6 +216,8 @@ def run_program(words: list[str], data: bytes = b"", files: Optional[dict] = Non
         given, others = split_words(words[1:], OPTIONS[words[0]])
         if words[0] == "steps":
             run_steps(given, others, data, written)
+        elif words[0] == "answer":
+            run_answer(given, others, data, files, written)
         elif words[0] == "serve":
             written.append(run_serve(given, others, data, files, chance))
         else:

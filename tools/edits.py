@@ -1,0 +1,292 @@
+"""Must-fail edits: what they change, which of them can be tried together, and what the prover says against each.
+
+The functions of a file are found in the form that `rt fmt` gives it. A function that can't be copied beside itself, such as one
+that constants may be made by, takes no second edit in one check.
+"""
+
+from __future__ import annotations
+
+import dataclasses
+import pathlib
+import re
+import sys
+from collections.abc import Iterator
+
+ROOT = pathlib.Path(__file__).resolve().parent.parent
+
+FUNCTION = re.compile(r"( *)(?:pub(?:\([a-z: ]+\))? )?(?P<const>const )?(?:unsafe )?fn (?P<name>\w+)")
+CLAUSE = re.compile(r"(?:requires|ensures|ghost|where)\b")
+BLOCK = re.compile(r"impl(?:<.*?>)? (?:(?P<trait>[\w:]+)(?:<(?P<args>[^>]*)>)? for )?(?P<ref>&(?:'\w+ )?)?(?P<type>[\w:]+)")
+
+TYPE = re.compile(r"^(?:pub(?:\([a-z: ]+\))? )?(?:struct|enum) (\w+)", re.M)
+
+# What the prover says of a place in the sources, of one in a function's proof, and of a function.
+AT_SOURCE = re.compile(r"(?:note: )?(?:\./)?(src/\S+?\.rt):(\d+):\d+: (.*)")
+AT_PROOF = re.compile(r"(?:note: )?(?:\./)?proofs/(\S+)/\w+\.antt:\d+:\d+: (error.*)")
+OF_FUNCTION = re.compile(r"fn (\S+): (not proved|no proof|could not tell)(.*)")
+UNKNOWN = re.compile(r"has no function `([^`]+)`")
+# A proof that cites what was not proved elsewhere.
+CITES = re.compile(r"has no field|is not in scope|has no `|was not admitted")
+
+# What refused an edit, the strongest first; and the goals that are a contract's, by the beginnings of their names.
+BY_CONTRACT, BY_BODY, BY_PROOF = range(3)
+KINDS = ("a goal of the contract", "another goal of the body", "a proof that no longer fits")
+OPEN_GOAL = re.compile(r"not proved that .*\(`([^`]+)`\)")
+OPEN_GOALS = re.compile(r"did not prove (.*)")
+OF_CONTRACT = ("returns", "invariant_of")
+
+
+@dataclasses.dataclass(frozen=True)
+class Body:
+    """A function of a file: its path in the crate as the prover prints it, the first and last line of it and of its body,
+    and the lines round a copy of it, if a copy can stand beside it."""
+
+    file: str
+    path: str
+    first: int
+    opens: int
+    last: int
+    round: tuple[tuple[str, ...], tuple[str, ...]] | None
+
+
+@dataclasses.dataclass
+class Edit:
+    """The pairs of texts to change in files, the functions whose bodies that changes, and those that a line names."""
+
+    crate: str
+    name: str
+    pairs: list[tuple[str, str, str]] = dataclasses.field(default_factory=list)
+    bodies: list[Body] = dataclasses.field(default_factory=list)
+    named: list[str] = dataclasses.field(default_factory=list)
+    suffix: str = ""
+
+    def functions(self) -> list[str]:
+        return self.named or [it.path + self.suffix for it in self.bodies]
+
+    def may_be_copied(self) -> bool:
+        """Whether it changes one function alone, of which a copy can stand beside it."""
+        return not self.named and len(set(self.bodies)) == 1 and len(self.bodies) == len(self.pairs) and self.bodies[0].round is not None
+
+
+@dataclasses.dataclass
+class Crate:
+    """A line of crates.txt: the toolchain's libraries and the project's own ones that a crate stands on."""
+
+    name: str
+    kit: list[str]
+    deps: list[str]
+
+    @property
+    def folder(self) -> pathlib.Path:
+        return ROOT / "crates" / self.name
+
+    def top(self) -> str:
+        return "src/main.rt" if (self.folder / "src/main.rt").is_file() else "src/lib.rt"
+
+    def text(self, file: str) -> str:
+        return (self.folder / file).read_text(encoding="utf-8")
+
+    def types(self) -> dict[str, list[list[str]]]:
+        """The modules that have a type of a name."""
+        found: dict[str, list[list[str]]] = {}
+        for path in sorted((self.folder / "src").glob("**/*.rt")):
+            file = str(path.relative_to(self.folder))
+            for name in TYPE.findall(self.text(file)):
+                found.setdefault(name, []).append(module_of(file))
+        return found
+
+
+@dataclasses.dataclass
+class Result:
+    edit: Edit
+    is_refused: bool
+    said: str
+
+    def kind(self) -> int:
+        return kind_of(self.said)
+
+    def show(self) -> None:
+        verdict = f"refused by {KINDS[self.kind()]}" if self.is_refused else "NOT REFUSED"
+        print(f"{self.edit.crate}/{self.edit.name}: {verdict}: {self.said[:200]}", flush=True)
+
+
+# ---- what stands in the files
+
+def read_crates() -> dict[str, Crate]:
+    found: dict[str, Crate] = {}
+    for line in (ROOT / "crates.txt").read_text(encoding="utf-8").splitlines():
+        name, colon, rest = line.partition("#")[0].partition(":")
+        if colon:
+            words = rest.split()
+            own = [word for word in words if word in found]
+            found[name.strip()] = Crate(name.strip(), [word for word in words if word not in found], own)
+    return found
+
+
+def below(crates: dict[str, Crate], name: str) -> list[str]:
+    """The project's own crates that a crate stands on, lowest first."""
+    found: list[str] = []
+    for dep in crates[name].deps:
+        found += [it for it in [*below(crates, dep), dep] if it not in found]
+    return found
+
+
+def block_name(line: str) -> tuple[str, str]:
+    """The name that the prover gives an impl block, which is its type and behind it the trait and its arguments, and the type.
+    A type behind a reference is named with `Ref` before it."""
+    found = BLOCK.match(line)
+    if not found:
+        return "", ""
+    name, trait = (part.split("::")[-1] for part in (found["type"], found["trait"] or ""))
+    return ("Ref" if found["ref"] else "") + name + trait + "".join(re.findall(r"\w+", found["args"] or "")), name
+
+
+def lines_of_body(lines: list[str], first: int, indent: str) -> tuple[int, int] | None:
+    """Where the body of a function that begins at a line opens and closes, in the form that `rt fmt` gives it."""
+    opens = None
+    for at in range(first, len(lines)):
+        line = lines[at]
+        if opens is None and line.endswith("{") and (line == indent + "{" or not CLAUSE.match(line.strip())):
+            opens = at
+        elif opens is None and line.endswith(";") and not line.startswith(indent + " "):
+            return None
+        elif opens is not None and line == indent + "}":
+            return opens, at
+    return None
+
+
+def module_of(file: str) -> list[str]:
+    return [it for it in pathlib.PurePosixPath(file).with_suffix("").parts[1:] if it not in ("lib", "main", "mod")]
+
+
+def bodies_of(crate: Crate, file: str) -> list[Body]:
+    """The functions of a file, but for those that constants may be made by. The prover names a method by the module of its type,
+    and one of a trait by the module of its block."""
+    types, lines = crate.types(), crate.text(file).split("\n")
+    found, block, opens, closes = [], [], (), ()
+    for first, line in enumerate(lines):
+        if line.startswith("impl"):
+            name, of = block_name(line)
+            is_here = name != of or module_of(file) in types.get(of, [module_of(file)])
+            block = [*(module_of(file) if is_here else types[of][0]), name]
+            opens, closes = ((line,), ("}",)) if line.endswith("{") and name == of else (None, None)
+        elif line == "}":
+            block, opens, closes = [], (), ()
+        elif opens and line.startswith("    ghost use "):
+            opens = (*opens, line)
+        head = FUNCTION.match(line)
+        held = lines_of_body(lines, first, head[1]) if head and not head["const"] else None
+        if held:
+            path = "::".join([*(block or module_of(file)), head["name"]])
+            in_cycle = first > 0 and lines[first - 1].strip().startswith("#[cycle")
+            found.append(Body(file, path, first + 1, held[0] + 1, held[1] + 1, None if opens is None or in_cycle else (opens, closes)))
+    return found
+
+
+def read_edit(crate: Crate, file: pathlib.Path) -> Edit:
+    edit = Edit(crate.name, file.stem)
+    path, old = "", ""
+    for line in file.read_text(encoding="utf-8").split("\n"):
+        key, _colon, said = line.partition(":")
+        said = said.removeprefix(" ")
+        if key == "file":
+            path = said.strip()
+        elif key == "old":
+            old = said
+        elif key == "new":
+            edit.pairs.append((path, old, said))
+        elif key == "refused":
+            edit.named.append(said.strip())
+    for path, old, _new in edit.pairs:
+        text = crate.text(path)
+        line = text[: text.index(old)].count("\n") + 1 if text.count(old) == 1 else 0
+        held = [it for it in bodies_of(crate, path) if it.opens <= line <= it.last] if path.startswith("src/") else []
+        edit.bodies += held[-1:]
+        if not held and not edit.named:
+            sys.exit(f"tools/try-edits: {crate.name}/{edit.name} changes no function's body, and no line `refused:` names one")
+    return edit
+
+
+def batches_of(edits: list[Edit]) -> list[list[Edit]]:
+    """Puts edits together of which no two change the same function: a second edit of a function is made in a copy of it,
+    if it can be. One that names what must be refused stands alone."""
+    batches: list[list[Edit]] = []
+    copies: dict[tuple[str, int], int] = {}
+    for edit in edits:
+        mine = {(it.file, it.first) for it in edit.bodies}
+        for batch in batches:
+            theirs = {(it.file, it.first) for other in batch for it in other.bodies if not other.suffix}
+            if edit.named or any(other.named for other in batch):
+                continue
+            if not mine & theirs:
+                batch.append(edit)
+                break
+            if edit.may_be_copied():
+                (of,) = mine
+                copies[of] = copies.get(of, 0) + 1
+                edit.suffix = f"_edited_{copies[of]}"
+                batch.append(edit)
+                break
+        else:
+            batches.append([edit])
+    return batches
+
+
+# ---- what the prover says
+
+def kind_of(line: str) -> int:
+    """What refused an edit of which the prover says this."""
+    one, several = OPEN_GOAL.search(line), OPEN_GOALS.search(line)
+    goals = [one[1]] if one else re.findall(r"`([^`]+)`", several[1]) if several else []
+    if any(goal.startswith(OF_CONTRACT) for goal in goals):
+        return BY_CONTRACT
+    return BY_BODY if goals else BY_PROOF
+
+
+def not_read(crate: Crate, batch: list[Edit], lines: list[str]) -> list[Edit]:
+    """The edits for which a shared check ended before any proof: what they made doesn't compile, or the prover knows their
+    function by another name. They take the verdict from the others, so these are checked again without them."""
+    if lines[-1].startswith("only="):
+        return []
+    found: list[Edit] = []
+    for line in lines:
+        source, unknown = AT_SOURCE.match(line), UNKNOWN.search(line)
+        for edit in batch:
+            is_named = unknown and unknown[1] in edit.functions()
+            for body in edit.bodies if source and "error[" in source[3] and source[1] in {it.file for it in edit.bodies} else ():
+                length = crate.text(body.file).count("\n") + 1
+                is_named = is_named or (int(source[2]) > length if edit.suffix else body.first <= int(source[2]) <= body.last)
+            if is_named and edit not in found:
+                found.append(edit)
+    return found
+
+
+def refusal(edit: Edit, lines: list[str]) -> str | None:
+    """What is said against a body of the edit itself, if anything is: the strongest of it."""
+    return min(refusals(edit, lines), key=kind_of, default=None)
+
+
+def refusals(edit: Edit, lines: list[str]) -> Iterator[str]:
+    for line in lines if lines[-1].startswith("only=") else []:
+        source, proof, function = AT_SOURCE.match(line), AT_PROOF.match(line), OF_FUNCTION.match(line)
+        for body in edit.bodies:
+            in_place = source and not edit.suffix and source[1] == body.file and body.first <= int(source[2]) <= body.last
+            if in_place and "not proved" in source[3]:
+                yield line
+            path = body.path + edit.suffix
+            if proof and proof[1] == path.replace("::", "/") and not CITES.search(proof[2]):
+                yield line
+            is_own = function and ("it calls" not in function[3] or "` did not prove `" in function[3])
+            if is_own and function[1] == f"{edit.crate}::{path}" and function[2] != "could not tell":
+                yield line
+
+
+def verdict_alone(edit: Edit, status: int, lines: list[str]) -> Result:
+    """What came of an edit that was tried alone. The prover may also meet a limit of its own at it."""
+    for line in lines:
+        told = OF_FUNCTION.match(line)
+        if told and any(f"::{told[1]}".endswith(f"::{it}") for it in edit.functions()):
+            if status == 1 or status == 3 and told[2] == "could not tell":
+                return Result(edit, True, refusal(edit, lines) or line)
+    rejected = next((it for it in lines if re.search(r"\berror\[[\w-]+\]", it)), "")
+    return Result(edit, False, rejected or f"status {status}: {lines[-1]}")
