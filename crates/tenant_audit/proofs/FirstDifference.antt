@@ -1,5 +1,7 @@
 -- The first difference of a tenant, by where its machine was compared with what was recorded.
-use Rattle.std.proofs.Common.{◌≡◌, ℕ, List, Option, Some, None, ap, sym, ◌∙◌, subst}
+use Rattle.std.proofs.Common.{◌≡◌, ℕ, true, List, Option, Some, None, ap, sym, ◌∙◌, subst}
+use Rattle.std.specs.List.{AllByRecursion}
+use Rattle.std.proofs.lemmas.List.Elements.{filter_passes, recursion_from_All}
 use Rattle.grain_storage.specs.Memory.{rows_of}
 use Rattle.tenant_gate.specs.declared.limits.Limits.{Limits}
 use Rattle.tenant_gate.specs.Table.{limits_of}
@@ -8,7 +10,7 @@ use Rattle.silo_event.specs.declared.step.Step.{Step}
 use Rattle.silo_model.specs.Machine.{Machine}
 use Rattle.silo_model.specs.Opening.{start_of}
 use Rattle.silo_model.specs.Journal.{machine_all_done}
-use Rattle.silo_model.specs.Run.{restricted_to}
+use Rattle.silo_model.specs.Run.{concerns}
 use Rattle.journal_text.specs.Text.{History}
 use Rattle.audit_model.specs.Difference.{Difference, at_step, at_reply, at_row}
 use Rattle.audit_model.specs.Parts.{setup_of, steps_for, replies_for, rows_for}
@@ -25,15 +27,22 @@ pub starts_as : (journal : History) (tenant : List ℕ) (start : Machine) → st
 unfolding start_of
 starts_as journal tenant start is = ap (λ (m : Machine). m.tenant) is
 
-module _ (logic : Logic) (journal : History) (tenant : List ℕ) (start end : Machine) (is : start ≡ start_of (setup_of journal) tenant) (steps : List Step) (taken : steps ≡ journal.steps) where
+-- the machine is handed steps that concern it
+pub all_concern : (journal : History) (tenant : List ℕ) (start : Machine) → start ≡ start_of (setup_of journal) tenant → (steps : List Step) → steps ≡ steps_for tenant journal
+    → AllByRecursion (λ step. concerns start.tenant step ≡ true) steps
+all_concern journal tenant start is steps taken =
+    subst (λ (t : List ℕ). AllByRecursion (λ step. concerns t step ≡ true) steps) (sym (starts_as journal tenant start is))
+    (subst (AllByRecursion (λ step. concerns tenant step ≡ true)) (sym taken) (recursion_from_All _ (steps_for tenant journal) (filter_passes (concerns tenant) journal.steps)))
+
+module _ (logic : Logic) (journal : History) (tenant : List ℕ) (start end : Machine) (is : start ≡ start_of (setup_of journal) tenant) (steps : List Step) (taken : steps ≡ steps_for tenant journal) where
   -- where the machine stopped, it stops from the journal's setup
-  pub stops_so : (place : Option ℕ) → Stops logic start (restricted_to tenant steps) place end → Stops logic (start_of (setup_of journal) tenant) (steps_for tenant journal) place end
+  pub stops_so : (place : Option ℕ) → Stops logic start steps place end → Stops logic (start_of (setup_of journal) tenant) (steps_for tenant journal) place end
   stops_so place stops =
       subst (λ (m : Machine). Stops logic m (steps_for tenant journal) place end) is
-      (subst (λ (list : List Step). Stops logic start (restricted_to tenant list) place end) taken stops)
+      (subst (λ (list : List Step). Stops logic start list place end) taken stops)
 
   -- all its steps were done, and then the records are compared
-  pub apart_differs : (place : Option ℕ) → place ≡ None → Stops logic start (restricted_to tenant steps) place end → (d : Option Difference) → AreApart (replies_for tenant journal) (rows_of (rows_for tenant journal)) end d → IsFirstDifference logic journal tenant d
+  pub apart_differs : (place : Option ℕ) → place ≡ None → Stops logic start steps place end → (d : Option Difference) → AreApart (replies_for tenant journal) (rows_of (rows_for tenant journal)) end d → IsFirstDifference logic journal tenant d
   apart_differs place none stops = by_place
     where
       done : machine_all_done logic (start_of (setup_of journal) tenant) (steps_for tenant journal) ≡ Some end

@@ -1,11 +1,13 @@
 mod Starts
 mod SiloJournal
 mod Steps
-mod Lists
 mod RowsApart
 mod Owners
-mod RepliesWalked
+mod Held
+mod Merged
+mod Walked
 mod RowsWalked
+mod Recorded
 mod FirstDifference
 mod Tables
 mod Lines

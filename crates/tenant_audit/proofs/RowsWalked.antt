@@ -1,10 +1,9 @@
 -- Recorded rows beside a machine's, as far as both were walked.
-use Rattle.std.proofs.Common.{◌≡◌, ℕ, ◌+◌, ◌<◌, ◌≤◌, Bool, true, List, ◌∷◌, ◌++◌, None, length, take, drop, get_or, ap, sym, ◌∙◌, subst}
-use Rattle.std.specs.Prelude.{filter}
+use Rattle.std.proofs.Common.{◌≡◌, List, [], ◌∷◌, ◌++◌, None, ap, sym, ◌∙◌, subst, true}
 use Rattle.std.specs.FinMap as map
 use Rattle.std.specs.List.Sorted.{IsStrictlySortedBy}
 use Rattle.std.specs.Map.{keys_of}
-use Rattle.std.proofs.lemmas.List.{append-nil, take-append-drop, drop_more, take_all}
+use Rattle.std.proofs.lemmas.List.{append-nil}
 use Rattle.std.proofs.lemmas.List.Kept.{IsStrictlySortedBy-filter}
 use Rattle.grain_id.specs.Names.{Grain, grain_cmp}
 use Rattle.grain_storage.specs.declared.row.Row.{Row}
@@ -13,60 +12,53 @@ use Rattle.grain_storage.specs.Rows.{Rows}
 use Rattle.silo_model.specs.Whole.{is_of}
 use Rattle.silo_core.proofs.Opened.{rows_again}
 use Rattle.journal_text.specs.Rules.{are_ascending}
+use Rattle.journal_text.specs.Text.{History}
 use Rattle.audit_model.specs.Difference.{RowsDifferAt}
+use Rattle.audit_model.specs.Parts.{rows_for}
 use Rattle.finite_maps.proofs.Parts.{keys_of-filter}
 use Rattle.audit_model.proofs.Reports.{ascend}
 use Rattle.audit_model.proofs.Tenants.{keys_ascend}
 use Rattle.tenant_audit.specs.Comparison.{lesser_of}
-use Rattle.tenant_audit.proofs.Lists.{split_at}
 use Rattle.tenant_audit.proofs.RowsApart.{Entries, Sorted, only_recorded, only_own, both_part}
+use Rattle.tenant_audit.proofs.Walked.{Walked, all_walked}
 
-own_sorted : (rows : Rows) → Sorted (map.entries rows)
-own_sorted rows = keys_ascend grain_cmp (map.entries rows) (map.entries_sorted rows)
+-- a tenant's rows ascend as all of them do
+pub own_ascend : (tenant : List _) (journal : History) (rows : Entries) → are_ascending None journal.rows ≡ true → rows ≡ rows_for tenant journal → Sorted rows
+own_ascend tenant journal rows ascending its =
+    subst Sorted (sym its)
+    (subst (IsStrictlySortedBy grain_cmp) (sym (keys_of-filter (is_of tenant) journal.rows)) (IsStrictlySortedBy-filter grain_cmp (is_of tenant) (keys_of journal.rows) (ascend journal.rows ascending)))
 
-module _ (tenant : List ℕ) (recorded own : Entries) (rows : Rows) (i place : ℕ) (ascending : are_ascending None recorded ≡ true) (listed : own ≡ map.entries rows) (same : filter (λ row. is_of tenant row.0) (take i recorded) ≡ take place own) where
-  abbrev is_its : Grain × Row → Bool
-  is_its row = is_of tenant row.0
+module _ (recorded own : Entries) (rows : Rows) (sorted : Sorted recorded) (listed : own ≡ map.entries rows) (left right : Entries) (walked : Walked recorded own left right) where
+  abbrev common : Entries
+  common = walked.common
 
-  abbrev theirs : Entries
-  theirs = filter is_its recorded
+  -- the machine's rows, by what is left of them
+  rows_are : (rest : Entries) → right ≡ rest → map.entries rows ≡ common ++ rest
+  rows_are rest is = sym listed ∙ walked.right_parts ∙ ap (λ es. common ++ es) is
 
-  sorted : Sorted theirs
-  sorted = subst (IsStrictlySortedBy grain_cmp) (sym (keys_of-filter (is_of tenant) recorded)) (IsStrictlySortedBy-filter grain_cmp (is_of tenant) (keys_of recorded) (ascend recorded ascending))
+  own_sorted : (rest : Entries) → right ≡ rest → Sorted (common ++ rest)
+  own_sorted rest is = subst Sorted (rows_are rest is) (keys_ascend grain_cmp (map.entries rows) (map.entries_sorted rows))
 
-  sorted_own : Sorted own
-  sorted_own = subst Sorted (sym listed) (own_sorted rows)
+  recorded_are : (rest : Entries) → left ≡ rest → recorded ≡ common ++ rest
+  recorded_are rest is = walked.left_parts ∙ ap (λ es. common ++ es) is
 
-  own_parts : (f : Grain × Row) → place < length own → f ≡ get_or own place f → own ≡ take place own ++ f ∷ drop (place + 1) own
-  own_parts f inside at = sym (take-append-drop place own) ∙ ap (λ ys. take place own ++ ys) (drop_more own place f inside ∙ ap (λ y. y ∷ drop (place + 1) own) (sym at))
-
-  module _ (e : Grain × Row) (before : i < length recorded) (at : e ≡ get_or recorded i e) (passes : is_its e ≡ true) where
-    parts : theirs ≡ take place own ++ e ∷ filter is_its (drop (i + 1) recorded)
-    parts = split_at is_its recorded i e before at passes ∙ ap (λ front. front ++ e ∷ filter is_its (drop (i + 1) recorded)) same
-
+  module _ (e : Grain × Row) (later : Entries) (first : left ≡ e ∷ later) where
     -- the machine has no more
-    pub row_over : length own ≤ place → RowsDifferAt (rows_of theirs) rows e.0
-    row_over over =
-        let whole : take place own ≡ own = take_all place own over in
-        subst (λ (es : Entries). RowsDifferAt (rows_of es) rows e.0) (sym parts)
-        (only_recorded rows (take place own) (filter is_its (drop (i + 1) recorded)) e (sym listed ∙ sym whole) (subst Sorted parts sorted))
+    pub row_over : right ≡ [] → RowsDifferAt (rows_of recorded) rows e.0
+    row_over none =
+        subst (λ (es : Entries). RowsDifferAt (rows_of es) rows e.0) (sym (recorded_are (e ∷ later) first))
+        (only_recorded rows common later e (rows_are [] none ∙ append-nil common) (subst Sorted (recorded_are (e ∷ later) first) sorted))
 
-    -- the machine's next is another
-    pub row_apart : (f : Grain × Row) → place < length own → f ≡ get_or own place f → ((e.0 ≡ f.0) × (e.1 ≡ f.1) → ⊥) → RowsDifferAt (rows_of theirs) rows (lesser_of e.0 f.0)
-    row_apart f inside at_own unlike =
-        let own_is = own_parts f inside at_own in
-        subst (λ (es : Entries). RowsDifferAt (rows_of es) rows (lesser_of e.0 f.0)) (sym parts)
-        (both_part rows (take place own) (filter is_its (drop (i + 1) recorded)) (drop (place + 1) own) e f (sym listed ∙ own_is) (subst Sorted parts sorted) (subst Sorted own_is sorted_own) unlike)
-
-  all_passed : length recorded ≤ i → theirs ≡ take place own
-  all_passed over = ap (filter is_its) (sym (take_all i recorded over)) ∙ same
+    -- both have more, and not alike
+    pub row_apart : (f : Grain × Row) (others : Entries) → right ≡ f ∷ others → (e ≡ f → ⊥) → RowsDifferAt (rows_of recorded) rows (lesser_of e.0 f.0)
+    row_apart f others next unlike =
+        subst (λ (es : Entries). RowsDifferAt (rows_of es) rows (lesser_of e.0 f.0)) (sym (recorded_are (e ∷ later) first))
+        (both_part rows common later others e f (rows_are (f ∷ others) next) (subst Sorted (recorded_are (e ∷ later) first) sorted) (own_sorted (f ∷ others) next) (λ same. unlike (λ i. (same.0 i, same.1 i))))
 
   -- the machine has one more
-  pub row_left : (f : Grain × Row) → length recorded ≤ i → place < length own → f ≡ get_or own place f → RowsDifferAt (rows_of theirs) rows f.0
-  row_left f over inside at_own =
-      let own_is = own_parts f inside at_own in
-      subst (λ (es : Entries). RowsDifferAt (rows_of es) rows f.0) (append-nil (take place own) ∙ sym (all_passed over))
-      (only_own rows (take place own) (drop (place + 1) own) f (sym listed ∙ own_is) (subst Sorted own_is sorted_own))
+  pub row_left : (f : Grain × Row) (others : Entries) → left ≡ [] → right ≡ f ∷ others → RowsDifferAt (rows_of recorded) rows f.0
+  row_left f others none next =
+      subst (λ (es : Entries). RowsDifferAt (rows_of es) rows f.0) (sym (recorded_are [] none)) (only_own rows common others f (rows_are (f ∷ others) next) (own_sorted (f ∷ others) next))
 
-  pub rows_same : length recorded ≤ i → length own ≤ place → rows_of theirs ≡ rows
-  rows_same over over_too = ap rows_of (all_passed over ∙ take_all place own over_too ∙ listed) ∙ rows_again rows
+  pub rows_same : left ≡ [] → right ≡ [] → rows_of recorded ≡ rows
+  rows_same none none_too = ap rows_of (all_walked recorded own left right walked none none_too ∙ listed) ∙ rows_again rows

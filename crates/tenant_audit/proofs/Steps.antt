@@ -1,41 +1,53 @@
 -- Steps that a machine takes one after another.
-use Rattle.std.proofs.Common.{◌≡◌, ℕ, ◌+◌, ◌<◌, Bool, true, false, subst, List, [], ◌∷◌, ◌++◌, Some, None, length, take, drop, get_or, ap, sym, ◌∙◌, length-append}
+use Rattle.std.proofs.Common.{◌≡◌, ℕ, ◌+◌, ◌-◌, Bool, true, false, subst, List, [], ◌∷◌, ◌++◌, Some, None, length, length-append, append_assoc, refl, ap, sym, ◌∙◌, arith}
 use Rattle.std.specs.Prelude.{option_and_then, Ok}
 use Rattle.silo_event.specs.declared.step.Step.{Step}
 use Rattle.grain_kinds.specs.Logic.{Logic}
 use Rattle.silo_model.specs.Machine.{Machine}
-use Rattle.silo_model.specs.Run.{concerns, restricted_to}
 use Rattle.silo_model.specs.Step.{machine_step}
 use Rattle.silo_model.specs.Journal.{machine_all_done}
 use Rattle.audit_model.specs.Difference.{StopsAt}
 use Rattle.audit_model.proofs.Differences.{done_then}
 use Rattle.tenant_machine.specs.Machines.{StepAnswers}
-use Rattle.tenant_audit.proofs.Lists.{kept_more, split_at}
 
--- one step more was done
-pub done_more : (logic : Logic) (m reached next : Machine) (before : List Step) (s : Step) → machine_all_done logic m before ≡ Some reached → machine_step logic reached s ≡ Some next → machine_all_done logic m (before ++ s ∷ []) ≡ Some next
-done_more logic m reached next before s done step = done_then logic m reached before (s ∷ []) done ∙ ap (option_and_then (λ x. Some x)) step
+-- The steps before those that are left were done, and led to this machine.
+pub record Taken (logic : Logic) (m : Machine) (steps : List Step) (reached : Machine) (left : List Step) : Type 0 where
+  pub before : List Step
+  pub parts : steps ≡ before ++ left
+  pub done : machine_all_done logic m before ≡ Some reached
 
--- the steps so far that concern the tenant were done, and the next one concerns it too
-module _ (logic : Logic) (m reached : Machine) (tenant : List ℕ) (steps : List Step) (i : ℕ) (s : Step) (within : i < length steps) (at : s ≡ get_or steps i s) (concerned : concerns tenant s ≡ true) (done : machine_all_done logic m (restricted_to tenant (take i steps)) ≡ Some reached) where
-  pub done_next : (next : Machine) → machine_step logic reached s ≡ Some next → machine_all_done logic m (restricted_to tenant (take (i + 1) steps)) ≡ Some next
-  done_next next step = ap (machine_all_done logic m) (kept_more (concerns tenant) steps i s within at concerned) ∙ done_more logic m reached next (restricted_to tenant (take i steps)) s done step
+pub none_taken : (logic : Logic) (m : Machine) (steps : List Step) → Taken logic m steps m steps
+none_taken logic m steps = record { before = []; parts = refl; done = refl }
 
-  pub stops_next : (taken : ℕ) → taken ≡ length (restricted_to tenant (take i steps)) → machine_step logic reached s ≡ None → StopsAt logic m (restricted_to tenant steps) (taken + 1)
-  stops_next taken counted none = record {
-    before = restricted_to tenant (take i steps);
-    step = s;
-    after = restricted_to tenant (drop (i + 1) steps);
-    reached = reached;
-    parts = split_at (concerns tenant) steps i s within at concerned;
-    place = ap (λ n. n + 1) counted;
-    done = done;
-    stops = none;
-  }
+module _ (logic : Logic) (m : Machine) (steps : List Step) (reached : Machine) (left : List Step) (taken : Taken logic m steps reached left) where
+  module _ (s : Step) (later : List Step) (first : left ≡ s ∷ later) where
+    parted : steps ≡ taken.before ++ s ∷ later
+    parted = taken.parts ∙ ap (λ ss. taken.before ++ ss) first
 
-pub counted_next : (tenant : List ℕ) (steps : List Step) (i taken : ℕ) (s : Step) → i < length steps → s ≡ get_or steps i s → concerns tenant s ≡ true → taken ≡ length (restricted_to tenant (take i steps)) → taken + 1 ≡ length (restricted_to tenant (take (i + 1) steps))
-counted_next tenant steps i taken s within at concerned counted =
-    ap (λ n. n + 1) counted ∙ sym (length-append (restricted_to tenant (take i steps)) (s ∷ [])) ∙ ap length (sym (kept_more (concerns tenant) steps i s within at concerned))
+    -- one step more was done
+    pub one_taken : (next : Machine) → machine_step logic reached s ≡ Some next → Taken logic m steps next later
+    one_taken next step = record {
+      before = taken.before ++ s ∷ [];
+      parts = parted ∙ sym (append_assoc taken.before (s ∷ []) later);
+      done = done_then logic m reached taken.before (s ∷ []) taken.done ∙ ap (option_and_then (λ x. Some x)) step;
+    }
+
+    -- the next one isn't done
+    pub stops_here : (all behind : ℕ) → all ≡ length steps → behind ≡ length later → machine_step logic reached s ≡ None → StopsAt logic m steps (all - behind)
+    stops_here all behind counted as_many none = record {
+      before = taken.before;
+      step = s;
+      after = later;
+      reached = reached;
+      parts = parted;
+      place = omega (arith, counted, as_many, ap length parted, length-append taken.before (s ∷ later));
+      done = taken.done;
+      stops = none;
+    }
+
+  -- there is no next one
+  pub all_taken : left ≡ [] → machine_all_done logic m steps ≡ Some reached
+  all_taken none = ap (machine_all_done logic m) (taken.parts ∙ ap (λ ss. taken.before ++ ss) none) ∙ done_then logic m reached taken.before [] taken.done
 
 -- what an answer says, when it is known
 pub not_done : (E : Type 0) (logic : Logic) (m new : Machine) (s : Step) (b : Bool) → b ≡ false → StepAnswers {E = E} logic m s (Ok b) new → machine_step logic m s ≡ None

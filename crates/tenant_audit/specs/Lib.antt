@@ -4,3 +4,4 @@ pub mod ReportView
 pub mod Owners
 pub mod ReportText
 pub mod Parts
+pub mod Parted

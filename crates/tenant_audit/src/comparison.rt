@@ -11,6 +11,7 @@ ghost use Rattle.tenant_audit.specs.Comparison.{IsFirstRow, AreApart};
 ghost use Rattle.tenant_audit.specs.ReportView.{difference_of};
 
 use crate::difference::{Difference, first_not_done};
+use crate::parted_journal::PartedJournal;
 use crate::replies::first_reply_apart;
 use crate::rows::first_row_apart;
 use grain_id::{GrainId, Tenant};
@@ -48,27 +49,27 @@ fn machine_for<L: GrainLogic + Drop>(
 /// The least grain of the tenant whose recorded row isn't the machine's.
 fn row_apart<L: GrainLogic>(
     alloc: Global,
-    journal: &Journal,
+    journal: &PartedJournal<'_>,
     tenant: &Tenant,
     machine: &TenantMachine<L>,
 ) -> Result<Option<GrainId>, AllocError>
     ensures { IfOk result (λ grain. IsFirstRow (rows_of (rows_for tenant.now journal.now)) machine.now.rows grain) }
 {
     let own = machine.rows(alloc)?;
-    first_row_apart(journal.rows(), tenant, own.as_slice())
+    first_row_apart(journal.rows_for(tenant), own.as_slice())
 }
 
 /// Where the tenant's recorded replies and rows first differ from the machine's.
 fn record_apart<L: GrainLogic>(
     alloc: Global,
-    journal: &Journal,
+    journal: &PartedJournal<'_>,
     tenant: &Tenant,
     machine: &TenantMachine<L>,
 ) -> Result<Option<Difference>, AllocError>
     ensures { IfOk result (λ difference. AreApart (replies_for tenant.now journal.now) (rows_of (rows_for tenant.now journal.now)) machine.now (option_map difference_of difference)) }
 {
-    let replies = machine.replies();
-    if let Some(reply) = first_reply_apart(alloc, journal.replies(), tenant, replies)? {
+    let told = journal.replies_for(tenant);
+    if let Some(reply) = first_reply_apart(alloc, told, machine.replies())? {
         return Ok(Some(Difference::Reply(reply)));
     }
     match row_apart(alloc, journal, tenant, machine)? {
@@ -81,14 +82,14 @@ fn record_apart<L: GrainLogic>(
 /// no step yet.
 fn difference_from<L: GrainLogic>(
     alloc: Global,
-    journal: &Journal,
+    journal: &PartedJournal<'_>,
     tenant: &Tenant,
     machine: &mut TenantMachine<L>,
 ) -> Result<Option<Difference>, AllocError>
     requires { machine.old ≡ start_of (setup_of journal.now) tenant.now }
     ensures { IfOk result (λ difference. IsFirstDifference L.logic journal.now tenant.now (option_map difference_of difference)) }
 {
-    if let Some(step) = first_not_done(alloc, machine, tenant, journal.steps())? {
+    if let Some(step) = first_not_done(alloc, machine, journal.steps_for(tenant))? {
         return Ok(Some(Difference::Step(step)));
     }
     record_apart(alloc, journal, tenant, machine)
@@ -98,13 +99,13 @@ fn difference_from<L: GrainLogic>(
 /// does.
 pub fn first_difference<L: GrainLogic + Drop>(
     alloc: Global,
-    journal: &Journal,
+    journal: &PartedJournal<'_>,
     tenant: &Tenant,
     logic: L,
 ) -> Result<Option<Difference>, AllocError>
     ensures { IfOk result (λ difference. IsFirstDifference L.logic journal.now tenant.now (option_map difference_of difference)) }
 {
-    let mut machine = machine_for(alloc, journal, tenant, logic)?;
+    let mut machine = machine_for(alloc, journal.journal(), tenant, logic)?;
     let found = difference_from(alloc, journal, tenant, &mut machine);
     drop(machine);
     found

@@ -1,13 +1,13 @@
 //! The first difference between what a journal recorded of a tenant and what its machine does.
 
-ghost use Rattle.std.specs.Prelude.{◌≡◌, IfOk};
-ghost use Rattle.silo_model.specs.Run.{restricted_to};
-ghost use Rattle.tenant_audit.specs.Comparison.{Stops};
+ghost use Rattle.std.specs.Prelude.{◌≡◌, IfOk, true};
+ghost use Rattle.std.specs.List.{AllByRecursion};
 ghost use Rattle.silo_model.specs.Run.{concerns};
+ghost use Rattle.tenant_audit.specs.Comparison.{Stops};
 
-use grain_id::{GrainId, Tenant};
+use crate::steps_of_tenant::StepsOfTenant;
+use grain_id::GrainId;
 use grain_kinds::GrainLogic;
-use silo_event::Step;
 use std::alloc::{AllocError, Global};
 use tenant_machine::TenantMachine;
 
@@ -24,35 +24,23 @@ pub enum Difference {
     Row(GrainId),
 }
 
-/// Whether a step is the tenant's or nobody's.
-pub fn is_for(step: &Step, tenant: &Tenant) -> bool
-    ensures { result ≡ concerns tenant.now step.now }
-{
-    match step.owner() {
-        Some(owner) => owner == tenant.text(),
-        None => true,
-    }
-}
-
-/// Takes those of the steps that concern the tenant, up to the first that isn't done: the place of that
-/// one among them, counted from 1.
+/// Takes the steps, each of which concerns the machine's tenant, up to the first that isn't done: the
+/// place of that one among them, counted from 1.
 pub fn first_not_done<L: GrainLogic>(
     alloc: Global,
     machine: &mut TenantMachine<L>,
-    tenant: &Tenant,
-    steps: &[Step],
+    steps: StepsOfTenant<'_, '_>,
 ) -> Result<Option<usize>, AllocError>
-    requires { machine.old.tenant ≡ tenant.now }
-    ensures { IfOk result (λ place. Stops L.logic machine.old (restricted_to tenant.now steps.now) place machine.new) }
+    requires { AllByRecursion (λ step. concerns machine.old.tenant step ≡ true) steps }
+    ensures { IfOk result (λ place. Stops L.logic machine.old steps.entry place machine.new) }
 {
-    let mut taken = 0;
-    'steps: for step in steps {
-        if is_for(step, tenant) {
-            if !machine.step(alloc, step)? {
-                return Ok(Some(taken + 1));
-            }
-            taken += 1;
+    let all = steps.len();
+    let mut rest = steps;
+    'steps: while let Some((step, later)) = rest.split_first() {
+        if !machine.step(alloc, step)? {
+            return Ok(Some(all - later.len()));
         }
+        rest = later;
     }
     Ok(None)
 }

@@ -10,6 +10,7 @@ mod comparison;
 mod difference;
 mod gate;
 pub mod laws;
+mod parted_journal;
 mod parts;
 mod plain_audit;
 mod replies;
@@ -17,6 +18,7 @@ mod report;
 mod report_lines;
 mod rows;
 mod silo_journal;
+mod steps_of_tenant;
 mod tenants;
 mod threads;
 

@@ -7,6 +7,7 @@ ghost use Rattle.tenant_audit.specs.Parts.{AreReports, AreParts, IsPart, TakesFi
 ghost use Rattle.tenant_audit.specs.declared.report.TenantReport.{TenantReport as Reported};
 
 use crate::gate::AuditGate;
+use crate::parted_journal::PartedJournal;
 use crate::report::{TenantReport, report_on};
 use grain_id::Tenant;
 use grain_kinds::Kinds;
@@ -25,7 +26,7 @@ pub struct Share {
 fn keep<G: AuditGate>(
     alloc: Global,
     reports: &mut VecDeque<TenantReport>,
-    journal: &Journal,
+    journal: &PartedJournal<'_>,
     tenants: &[Tenant],
     gate: &G,
     share: Share,
@@ -55,9 +56,10 @@ pub fn part<G: AuditGate>(
     requires { 0 < share.stride }
     ensures { IfOk result (λ reports. IsPart journal.now tenants.now share.stride share.place 0 reports.items) }
 {
+    let parted = PartedJournal::new(alloc, journal)?;
     let mut reports = VecDeque::new(alloc);
     'places: for index in 0..tenants.len() {
-        keep(alloc, &mut reports, journal, tenants, gate, share, index)?;
+        keep(alloc, &mut reports, &parted, tenants, gate, share, index)?;
     }
     Ok(reports)
 }

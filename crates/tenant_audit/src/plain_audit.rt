@@ -4,6 +4,7 @@ ghost use Rattle.std.specs.Prelude.{IfOk, map};
 ghost use Rattle.audit_model.specs.Report.{IsReport};
 ghost use Rattle.tenant_audit.specs.ReportView.{tenant_report_of};
 
+use crate::parted_journal::PartedJournal;
 use crate::report::{Report, TenantReport, report_on};
 use crate::tenants::tenants_of;
 use grain_kinds::GrainLogic;
@@ -37,9 +38,10 @@ fn reports_under<L: GrainLogic + Copy + Drop>(
 ) -> Result<Vec<TenantReport>, AllocError>
     ensures { IfOk result (λ reports. IsReport L.logic journal.now (map tenant_report_of reports.items)) }
 {
+    let parted = PartedJournal::new(alloc, journal)?;
     let mut reports = Vec::new(alloc);
     'tenants: for tenant in tenants_of(alloc, journal)? {
-        reports.push(report_on(alloc, journal, tenant, logic)?)?;
+        reports.push(report_on(alloc, &parted, tenant, logic)?)?;
     }
     Ok(reports)
 }

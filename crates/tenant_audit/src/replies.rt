@@ -1,11 +1,11 @@
 //! The first reply in which a record differs.
 
-ghost use Rattle.std.specs.Prelude.{◌≡◌, ◌↔◌, IsTrue, IfOk, filter};
+ghost use Rattle.std.specs.Prelude.{◌≡◌, ◌↔◌, IsTrue, IfOk};
 ghost use Rattle.journal_text.specs.RecordedReply.{recorded_of};
-ghost use Rattle.audit_model.specs.Parts.{all_recorded, is_told};
+ghost use Rattle.audit_model.specs.Parts.{all_recorded};
 ghost use Rattle.tenant_audit.specs.Comparison.{IsPlace};
+ghost use Rattle.tenant_audit.specs.Parted.{pointees};
 
-use grain_id::Tenant;
 use journal_text::RecordedReply;
 use request_codec::StateBytes;
 use silo_event::Reply;
@@ -32,30 +32,29 @@ fn is_record_of(alloc: Global, recorded: &RecordedReply, reply: &Reply) -> Resul
     }
 }
 
-/// The first place, counted from 1, at which the tenant's recorded replies and the replies differ, or
-/// which only one of the two has.
+/// The first place, counted from 1, at which the recorded replies and the replies differ, or which only
+/// one of the two has.
 pub fn first_reply_apart(
     alloc: Global,
-    recorded: &[RecordedReply],
-    tenant: &Tenant,
+    recorded: &[&RecordedReply],
     replies: &[Reply],
 ) -> Result<Option<usize>, AllocError>
-    ensures { IfOk result (λ place. IsPlace (filter (is_told tenant.now) recorded.now) (all_recorded replies.now) place) }
+    ensures { IfOk result (λ place. IsPlace (pointees recorded.now) (all_recorded replies.now) place) }
 {
     let mut place = 0;
+    let mut given = replies;
     'recorded: for told in recorded {
-        if told.recipient.tenant() == tenant.text() {
-            let Some(reply) = replies.get(place) else {
-                return Ok(Some(place + 1));
-            };
-            if !is_record_of(alloc, told, reply)? {
-                return Ok(Some(place + 1));
-            }
-            place += 1;
+        let Some((reply, others)) = given.split_first() else {
+            return Ok(Some(place + 1));
+        };
+        if !is_record_of(alloc, told, reply)? {
+            return Ok(Some(place + 1));
         }
+        place += 1;
+        given = others;
     }
-    if place < replies.len() {
-        return Ok(Some(place + 1));
+    if given.is_empty() {
+        return Ok(None);
     }
-    Ok(None)
+    Ok(Some(place + 1))
 }

@@ -1,19 +1,14 @@
 //! What an audit reports of one tenant.
 
-ghost use Rattle.std.specs.Prelude.{◌≡◌, IfOk, length, filter, map};
-ghost use Rattle.silo_model.specs.Run.{restricted_to};
-ghost use Rattle.silo_model.specs.Whole.{is_of};
-ghost use Rattle.audit_model.specs.Parts.{is_told};
+ghost use Rattle.std.specs.Prelude.{◌≡◌, IfOk, map};
 ghost use Rattle.audit_model.specs.Report.{IsTenantReport};
 ghost use Rattle.tenant_audit.specs.ReportView.{tenant_report_of};
 
 use crate::comparison::first_difference;
-use crate::difference::{Difference, is_for};
-use grain_id::{GrainId, Tenant};
+use crate::difference::Difference;
+use crate::parted_journal::PartedJournal;
+use grain_id::Tenant;
 use grain_kinds::GrainLogic;
-use grain_storage::Row;
-use journal_text::{Journal, RecordedReply};
-use silo_event::Step;
 use std::alloc::{AllocError, Global};
 use std::marker::Model;
 
@@ -64,36 +59,10 @@ impl Report {
     }
 }
 
-/// How many of the steps concern the tenant.
-fn steps_for(steps: &[Step], tenant: &Tenant) -> usize
-    ensures { result ≡ length (restricted_to tenant.now steps.now) }
-{
-    steps.iter().filter(|step| is_for(step, tenant)).count()
-}
-
-/// How many of the replies are to the tenant's callers and grains.
-fn replies_for(replies: &[RecordedReply], tenant: &Tenant) -> usize
-    ensures { result ≡ length (filter (is_told tenant.now) replies.now) }
-{
-    replies
-        .iter()
-        .filter(|reply| reply.recipient.tenant() == tenant.text())
-        .count()
-}
-
-/// How many of the rows are of the tenant's grains.
-fn rows_for(rows: &[(GrainId, Row)], tenant: &Tenant) -> usize
-    ensures { result ≡ length (filter (λ row. is_of tenant.now row.0) rows.now) }
-{
-    rows.iter()
-        .filter(|row| row.0.tenant() == tenant.text())
-        .count()
-}
-
 /// What is reported of one tenant.
 pub fn report_on<L: GrainLogic + Drop>(
     alloc: Global,
-    journal: &Journal,
+    journal: &PartedJournal<'_>,
     tenant: Tenant,
     logic: L,
 ) -> Result<TenantReport, AllocError>
@@ -101,11 +70,14 @@ pub fn report_on<L: GrainLogic + Drop>(
     ensures tenant { IfOk result (λ report. report.tenant ≡ tenant) }
 {
     let difference = first_difference(alloc, journal, &tenant, logic)?;
+    let steps = journal.steps_for(&tenant).len();
+    let replies = journal.replies_for(&tenant).len();
+    let rows = journal.rows_for(&tenant).len();
     Ok(TenantReport {
-        steps: steps_for(journal.steps(), &tenant),
-        replies: replies_for(journal.replies(), &tenant),
-        rows: rows_for(journal.rows(), &tenant),
-        difference,
         tenant,
+        steps,
+        replies,
+        rows,
+        difference,
     })
 }

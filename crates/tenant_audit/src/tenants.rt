@@ -17,7 +17,7 @@ use std::collections::BTreeSet;
 use tenant_gate::Limits;
 
 /// Whose the step is, if it is anybody's: who asks by it, or else the grain that it names.
-fn owner_in(alloc: Global, step: &Step) -> Result<Option<Tenant>, AllocError>
+pub fn owner_in(alloc: Global, step: &Step) -> Result<Option<Tenant>, AllocError>
     ensures { IfOk result (λ owner. owner ≡ owner_of step.now) }
 {
     if let Some(caller) = step.asker() {
@@ -30,7 +30,7 @@ fn owner_in(alloc: Global, step: &Step) -> Result<Option<Tenant>, AllocError>
 }
 
 /// The tenant of a client or of a grain.
-fn tenant_in(alloc: Global, party: &Party) -> Result<Tenant, AllocError>
+pub fn tenant_in(alloc: Global, party: &Party) -> Result<Tenant, AllocError>
     ensures { IfOk result (λ tenant. tenant ≡ tenant_of party.now) }
 {
     match party {

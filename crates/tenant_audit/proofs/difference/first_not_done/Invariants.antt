@@ -1,13 +1,16 @@
-use Rattle.std.proofs.Common.{◌≡◌, ◌≤◌, Some, length, take}
-use Rattle.silo_model.specs.Journal.{machine_all_done}
-use Rattle.silo_model.specs.Run.{restricted_to}
+use Rattle.std.proofs.Common.{◌≡◌, true, length}
+use Rattle.std.specs.List.{AllByRecursion}
+use Rattle.silo_model.specs.Run.{concerns}
+use Rattle.tenant_audit.proofs.Steps.{Taken}
 use Rattle.tenant_audit.proofs.difference.first_not_done.Given as goal
 
--- those of the steps so far that concern the tenant were done
+-- the steps so far were done
 abbrev pub invariant-steps : goal.invariant-steps
 invariant-steps g l = record {
-  done : machine_all_done g.L.GrainLogic.logic l.fn.machine (restricted_to l.tenant (take l.step-index l.steps)) ≡ Some l.machine;
-  counted : l.taken ≡ length (restricted_to l.tenant (take l.step-index l.steps));
-  within : l.taken ≤ l.step-index;
-  same : l.machine.tenant ≡ l.tenant;
+  taken : Taken g.L.GrainLogic.logic l.fn.machine l.fn.steps l.machine l.rest;
+  same : l.machine.tenant ≡ l.fn.machine.tenant;
+  concern : AllByRecursion (λ step. concerns l.fn.machine.tenant step ≡ true) l.rest;
 }
+
+abbrev pub decreases-steps : goal.decreases-steps
+decreases-steps g l = length l.rest

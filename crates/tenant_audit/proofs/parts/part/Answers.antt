@@ -1,4 +1,6 @@
-use Rattle.std.proofs.Common.{◌<◌, ◌++◌, [], length, get_or, ap, sym, ◌∙◌, rules}
+use Rattle.std.proofs.Common.{◌<◌, ◌++◌, [], length, get_or, ap, sym, ◌∙◌, subst, rules}
+use Rattle.journal_text.specs.Text.{History}
+use Rattle.tenant_audit.specs.Parts.{AreReports}
 use Rattle.tenant_audit.proofs.Strided.{strided_more, last_of}
 use Rattle.tenant_audit.proofs.parts.part.Goals as goal
 
@@ -7,10 +9,13 @@ places-preserved g c =
     let share = c.args.share in
     let tenants = c.args.tenants.now in
     let within : c.places.index < length tenants = search rules in
+    let parted = c.in_ok-parted.ensures in
     record {
       tenants =
           c.in_ok-keep.ensures.tenants
           ∙ ap (λ names. names ++ last_of share.stride share.place c.places.index (get_or tenants c.places.index [])) c.places.invariant.tenants
           ∙ sym (strided_more share.stride share.place tenants c.places.index [] within);
-      each = c.in_ok-keep.ensures.each c.places.invariant.each;
+      each =
+          subst (λ (j : History). AreReports j c.keep.new.reports.items) parted
+          (c.in_ok-keep.ensures.each (subst (λ (j : History). AreReports j c.places.reports.items) (sym parted) c.places.invariant.each));
     }

@@ -1,5 +1,5 @@
 use Rattle.std.proofs.Common.{◌≡◌, rules}
-use Rattle.tenant_audit.proofs.RepliesWalked.{same_ok}
+use Rattle.tenant_audit.proofs.Recorded.{same_ok}
 use Rattle.tenant_audit.proofs.replies.is_record_of.Goals as goal
 
 pub returns-in-Ok-Ok : goal.returns-in-Ok-Ok

@@ -1,11 +1,8 @@
-use Rattle.std.proofs.Common.{◌≡◌, ◌≤◌, length, take}
-use Rattle.std.specs.Prelude.{filter}
-use Rattle.silo_model.specs.Whole.{is_of}
+use Rattle.std.proofs.Common.{drop}
+use Rattle.tenant_audit.specs.Parted.{pointees}
+use Rattle.tenant_audit.proofs.Walked.{Walked}
 use Rattle.tenant_audit.proofs.rows.first_row_apart.Given as goal
 
--- the tenant's recorded rows so far are the first of its own
+-- the rows so far are alike
 abbrev pub invariant-recorded : goal.invariant-recorded
-invariant-recorded l = record {
-  same : filter (λ row. is_of l.tenant row.0) (take l.grain-index l.recorded) ≡ take l.place l.own;
-  within : l.place ≤ length l.own;
-}
+invariant-recorded l = Walked (pointees l.recorded) l.fn.own (pointees (drop l.stored-index l.recorded)) l.held
