@@ -7,3 +7,5 @@
 mod audits;
 #[cfg(test)]
 mod lanes;
+#[cfg(test)]
+mod served;
