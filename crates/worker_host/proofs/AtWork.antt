@@ -1,68 +1,139 @@
--- A silo at work keeps what it knows, whatever a step was answered; and its journal stays paced.
-use Rattle.std.proofs.Common.{◌≡◌, ℕ, ◌+◌, ◌-◌, Bool, true, false, List, [], ◌∷◌, ◌++◌, length, drop, None, refl, ap}
-use Rattle.std.specs.Prelude.{Result, Ok}
-use Rattle.std.specs.BTreeMap.{BTreeMap}
-use Rattle.grain_id.specs.Names.{Grain, Client}
-use Rattle.grain_kinds.specs.Logic.{Logic}
+-- A silo at work is at work still, whatever a step was answered.
+use Rattle.std.proofs.Common.{◌≡◌, ℕ, ◌+◌, ◌-◌, ◌≤◌, true, false, Bool, List, [], ◌++◌, length, drop, take, Option, Some, None, refl, ap, sym, ◌∙◌, subst, arith, true≢false}
+use Rattle.std.specs.Prelude.{◌==◌, not, unwrap_or, Result, Ok, Err, IfOk, OnErr}
+use Rattle.std.proofs.Math.Seq.{take-length}
+use Rattle.std.proofs.lemmas.List.{length-append}
+use Rattle.std.specs.Map.{lookup}
+use Rattle.indexmap.specs.IndexMap.{IndexMap}
+use Rattle.grain_id.specs.Names.{Client, Grain, client_eq}
 use Rattle.grain_kinds.specs.Laws.{ReadersAskNothing}
+use Rattle.grain_kinds.specs.Logic.{Logic}
 use Rattle.grain_kinds.specs.declared.turn.OpenedTurn.{OpenedTurn}
+use Rattle.silo_event.specs.Failed.{as_failed}
+use Rattle.silo_event.specs.declared.reply.Reply.{Reply}
 use Rattle.silo_event.specs.declared.step.Step.{Step}
+use Rattle.silo_event.specs.declared.step.Step.TheVariants.{Begin}
 use Rattle.silo_event.specs.declared.step.Answer.{Answer}
+use Rattle.silo_event.specs.declared.step.Answer.TheVariants.{Done, Failed, NotNow}
 use Rattle.silo_event.specs.declared.step.StepFault.{StepFault}
-use Rattle.silo_model.specs.Todo.{sender_by}
-use Rattle.silo_model.specs.Whole.{Whole}
-use Rattle.lane_model.specs.Asking.{asker_of, ids_told}
-use Rattle.lane_model.specs.Candidates.{grain_changed_by}
-use Rattle.silo_core.specs.History.{History, Answered}
-use Rattle.worker_host.specs.Looking.{AreMore}
-use Rattle.worker_host.specs.Working.{IsWorking, asks_once, closing_step, may_ask_in, owing_to, was_done}
-use Rattle.worker_host.proofs.Answering.{watched_same, watched_settled, watched_told}
-use Rattle.worker_host.proofs.Growth.{watched_more}
-use Rattle.worker_host.proofs.Pace.{paced_answer, stays_paced}
+use Rattle.silo_event.specs.declared.step.StepFault.TheVariants.{Memory, Stranger}
+use Rattle.silo_model.specs.Journal.{LeadsTo}
+use Rattle.silo_model.specs.Opening.{Setup, opening}
+use Rattle.silo_model.specs.Pending.{has_pending}
+use Rattle.silo_model.specs.Whole.{Whole, shown_to}
+use Rattle.silo_model.proofs.Journals.{journals_begin, journals_grow}
+use Rattle.lane_model.specs.Asking.{asker_of, ids_asked, ids_told}
+use Rattle.lane_model.specs.Pacing.{is_paced}
+use Rattle.lane_model.proofs.CountsOfAll.{pending_by_counts, told_within}
+use Rattle.silo_state.specs.Moves.{done_if}
+use Rattle.silo_core.specs.History.{Advances, Answered, History}
+use Rattle.silo_core.specs.Turns.{AnsweredTurn}
+use Rattle.silo_core.proofs.Steps.{done_parts}
+use Rattle.worker_host.specs.Working.{IsWorking, asks_once, may_ask_in, owing_to, was_done}
+use Rattle.worker_host.proofs.Owing.{owed_less, owed_on, owes_some, told_parts}
+use Rattle.worker_host.proofs.Paced.{asker_failed, paced_answer}
 
-module _ (logic : Logic) (old new : History) (entries senders busy : List Grain) (owing : BTreeMap Client ℕ) (had : IsWorking logic old entries senders busy owing) where
-  -- while more candidates are noted
-  pub working_more : (more_entries more_senders more_busy : List Grain) (after : BTreeMap Client ℕ) → new ≡ old → AreMore entries more_entries → AreMore senders more_senders → AreMore busy more_busy
-      → ((client : Client) → owing_to after client ≡ owing_to owing client) → IsWorking logic new more_entries more_senders more_busy after
-  working_more more_entries more_senders more_busy after stays e n b same = record {
-    watched = watched_more logic old new entries senders busy more_entries more_senders more_busy owing after stays e n b same had.watched;
-    paced = stays_paced logic old new had.paced stays;
+-- ---- after a step
+
+module _ {S : Type 0} (logic : Logic) (old new : History) (owing : IndexMap Client ℕ S) (seen : ℕ) (had : IsWorking logic old owing seen) where
+  -- where nothing changed
+  pub working_same : (after : IndexMap Client ℕ S) → new ≡ old → ((client : Client) → owing_to after client ≡ owing_to owing client) → IsWorking logic new after seen
+  working_same after stays same =
+      subst (λ (h : History). IsWorking logic h after seen) (sym stays)
+      (record {
+        leads = had.leads;
+        paced = had.paced;
+        within = had.within;
+        owed = λ client. ap (λ n. n + length (ids_told client (take seen old.whole.replies))) (same client) ∙ had.owed client;
+      })
+
+  -- where it was done
+  working_on : (s : Step) (n : ℕ) → Advances logic old s n new → is_paced logic new.setup new.journal ≡ true → (after : IndexMap Client ℕ S)
+      → ((client : Client) → owing_to after client ≡ owing_to owing client + asks_once (asker_of s) client) → IsWorking logic new after seen
+  working_on s n step paced after asks =
+      let parts = done_parts logic old.setup old.journal old.whole new.whole s had.leads step.whole in
+      record {
+        leads =
+            subst (λ (setup : Setup). LeadsTo logic setup new.journal new.whole) (sym step.setup)
+            (subst (λ (journal : List Step). LeadsTo logic old.setup journal new.whole) (sym step.journal) (journals_grow logic old.setup old.journal old.whole new.whole s had.leads step.whole));
+        paced = paced;
+        within = within_more seen old.whole.replies parts.added new.whole.replies parts.replies had.within;
+        owed = λ client.
+            subst (λ (replies : List Reply). owing_to after client + length (ids_told client (take seen replies)) ≡ length (ids_asked client new.journal)) (sym parts.replies)
+            (subst (λ (journal : List Step). owing_to after client + length (ids_told client (take seen (old.whole.replies ++ parts.added))) ≡ length (ids_asked client journal)) (sym step.journal)
+            (owed_on client (owing_to owing client) (owing_to after client) seen old.whole.replies parts.added old.journal s had.within (had.owed client) (asks client)));
+      }
+    where
+      within_more : (seen : ℕ) (replies added more : List Reply) → more ≡ replies ++ added → seen ≤ length replies → seen ≤ length more
+      within_more seen replies added more is within = omega (arith, ap length is, length-append replies added, within)
+
+  -- whatever it was answered, once what was asked by it is accounted for
+  pub working_settled : (s : Step) → may_ask_in old.whole (asker_of s) ≡ true → (r : Result Answer StepFault) → Answered logic old s r new → (asked after : IndexMap Client ℕ S)
+      → ((client : Client) → owing_to asked client ≡ owing_to owing client + asks_once (asker_of s) client)
+      → (was_done r ≡ true → (client : Client) → owing_to after client ≡ owing_to asked client)
+      → (was_done r ≡ false → (client : Client) → owing_to after client ≡ owing_to asked client - asks_once (asker_of s) client) → IsWorking logic new after seen
+  working_settled s may r h asked after asks done back = by r h done back (paced_answer logic old new had.paced had.leads s r may h)
+    where
+      taken_back : (new ≡ old) → ((client : Client) → owing_to after client ≡ owing_to asked client - asks_once (asker_of s) client) → IsWorking logic new after seen
+      taken_back stays back = working_same after stays (λ client. omega (arith, asks client, back client))
+
+      by : (r : Result Answer StepFault) → Answered logic old s r new → (was_done r ≡ true → (client : Client) → owing_to after client ≡ owing_to asked client)
+          → (was_done r ≡ false → (client : Client) → owing_to after client ≡ owing_to asked client - asks_once (asker_of s) client) → is_paced logic new.setup new.journal ≡ true → IsWorking logic new after seen
+      by (Ok Done) h done back paced = working_on s 0 h paced after (λ client. done refl client ∙ asks client)
+      by (Ok Failed) h done back paced = working_on (as_failed s) 1 h.advances paced after (λ client. done refl client ∙ asks client ∙ ap (λ asker. owing_to owing client + asks_once asker client) (sym (asker_failed s)))
+      by (Ok NotNow) h done back paced = taken_back h.unchanged (back refl)
+      by (Err Memory) h done back paced = taken_back h (back refl)
+      by (Err Stranger) h done back paced = absurd h
+
+  -- where nobody asks by it
+  working_unasked : (s : Step) → asker_of s ≡ None → (r : Result Answer StepFault) → Answered logic old s r new → IsWorking logic new owing seen
+  working_unasked s none r h =
+      working_settled s (ap (may_ask_in old.whole) none) r h owing owing (λ client. omega (arith, ap (λ asker. asks_once asker client) none)) (λ done client. refl)
+      (λ not_done client. omega (arith, ap (λ asker. asks_once asker client) none))
+
+  -- a turn was opened, or not
+  pub working_begun : (grain : Grain) (r : Result (Option OpenedTurn) StepFault) → IfOk r (λ turn. Answered logic old (Begin grain) (Ok (done_if turn)) new) → OnErr r (new ≡ old) → IsWorking logic new owing seen
+  working_begun grain (Ok turn) answered stays = working_unasked (Begin grain) refl (Ok (done_if turn)) answered
+  working_begun grain (Err why) answered stays = working_same owing stays (λ client. refl)
+
+  -- a turn was closed, or not
+  pub working_closed : (s : Step) → asker_of s ≡ None → (input : OpenedTurn) (r : Result Answer StepFault) → AnsweredTurn logic old s input r new → IsWorking logic new owing seen
+  working_closed s none input (Ok a) h = working_unasked s none (Ok a) h.0
+  working_closed s none input (Err Memory) h = working_same owing h (λ client. refl)
+  working_closed s none input (Err Stranger) h = working_same owing h.1 (λ client. refl)
+
+-- ---- what a client is owed
+
+module _ {S : Type 0} (logic : Logic) (law : ReadersAskNothing logic) (h : History) (owing : IndexMap Client ℕ S) (seen : ℕ) (had : IsWorking logic h owing seen) where
+  -- once all replies were looked at
+  pub working_seen : (after : IndexMap Client ℕ S) → ((client : Client) → owing_to after client ≡ owing_to owing client - length (ids_told client (drop seen h.whole.replies))) → IsWorking logic h after (length h.whole.replies)
+  working_seen after less = record {
+    leads = had.leads;
+    paced = had.paced;
+    within = omega arith;
+    owed = λ client.
+        ap (λ (replies : List Reply). owing_to after client + length (ids_told client replies)) (take-length h.whole.replies)
+        ∙ owed_less (owing_to owing client) (owing_to after client) (length (ids_told client (take seen h.whole.replies))) (length (ids_told client (drop seen h.whole.replies))) (length (ids_told client h.whole.replies)) (length (ids_asked client h.journal))
+        (had.owed client) (told_parts client seen h.whole.replies) (told_within logic law h.setup h.journal h.whole client had.leads) (less client);
   }
 
-  module _ (s : Step) (more_entries more_senders more_busy : List Grain) (e : more_entries ≡ entries ++ grain_changed_by old.whole s) (n : more_senders ≡ senders ++ sender_by s) (b : more_busy ≡ busy ++ grain_changed_by old.whole s) where
-    -- where nothing changed
-    pub working_same : (after : BTreeMap Client ℕ) → new ≡ old → ((client : Client) → owing_to after client ≡ owing_to owing client) → IsWorking logic new more_entries more_senders more_busy after
-    working_same after stays same = record {
-      watched = watched_same logic old new entries senders busy owing had.watched s more_entries more_senders more_busy e n b after stays same;
-      paced = stays_paced logic old new had.paced stays;
-    }
+  -- a client is owed more than the new replies tell it exactly if something of it waits or is open
+  pub is_owed : (client : Client) → not (owing_to owing client == length (ids_told client (drop seen h.whole.replies))) ≡ has_pending client (shown_to client.tenant h.whole)
+  is_owed client =
+      let counts = pending_by_counts logic law h.setup h.journal h.whole client had.leads in
+      owes_some (has_pending client (shown_to client.tenant h.whole)) (owing_to owing client) (length (ids_told client (take seen h.whole.replies))) (length (ids_told client (drop seen h.whole.replies))) (length (ids_told client h.whole.replies))
+      (length (ids_asked client h.journal)) (told_parts client seen h.whole.replies) (had.owed client) counts.0 counts.1
 
-    -- where what was asked by it was accounted for
-    pub working_settled : ReadersAskNothing logic → may_ask_in old.whole (asker_of s) ≡ true → (r : Result Answer StepFault) → Answered logic old s r new → (asked after : BTreeMap Client ℕ)
-        → ((client : Client) → owing_to asked client ≡ owing_to owing client + asks_once (asker_of s) client)
-        → (was_done r ≡ true → (client : Client) → owing_to after client ≡ owing_to asked client - length (ids_told client (drop (length old.whole.replies) new.whole.replies)))
-        → (was_done r ≡ false → (client : Client) → owing_to after client ≡ owing_to asked client - asks_once (asker_of s) client) → IsWorking logic new more_entries more_senders more_busy after
-    working_settled law may r h asked after asks told back = record {
-      watched = watched_settled logic old new entries senders busy owing had.watched s more_entries more_senders more_busy e n b law r h asked after asks told back;
-      paced = paced_answer logic old new had.paced had.watched.leads s r may h;
-    }
+-- ---- where a silo opens
 
-    -- where nobody asks by it
-    pub working_told : ReadersAskNothing logic → asker_of s ≡ None → (a : Answer) → Answered logic old s (Ok a) new → (after : BTreeMap Client ℕ)
-        → ((client : Client) → owing_to after client ≡ owing_to owing client - length (ids_told client (drop (length old.whole.replies) new.whole.replies))) → IsWorking logic new more_entries more_senders more_busy after
-    working_told law none a h after told = record {
-      watched = watched_told logic old new entries senders busy owing had.watched s more_entries more_senders more_busy e n b law none a h after told;
-      paced = paced_answer logic old new had.paced had.watched.leads s (Ok a) (ap (may_ask_in old.whole) none) h;
-    }
-
--- ---- the step that closes a turn
-
--- it is nobody's question
-pub closing_asks_none : (stores : Bool) (input : OpenedTurn) → asker_of (closing_step stores input) ≡ None
-closing_asks_none true input = refl
-closing_asks_none false input = refl
-
--- and changes the turn's own grain
-pub closing_changes : (w : Whole) (stores : Bool) (input : OpenedTurn) → input.grain ∷ [] ≡ grain_changed_by w (closing_step stores input)
-closing_changes w true input = refl
-closing_changes w false input = refl
+pub working_at_opening : {S : Type 0} (logic : Logic) (h : History) (owing : IndexMap Client ℕ S) → h.whole ≡ opening h.setup → h.journal ≡ [] → owing.entries ≡ [] → IsWorking logic h owing 0
+unfolding opening
+working_at_opening logic h owing opens none nobody = record {
+  leads = subst (λ (j : List Step). LeadsTo logic h.setup j h.whole) (sym none) (subst (λ (w : Whole). LeadsTo logic h.setup [] w) (sym opens) (journals_begin logic h.setup));
+  paced = ap (is_paced logic h.setup) none;
+  within = omega arith;
+  owed = λ client.
+      let zero : owing_to owing client ≡ 0 = ap (λ (es : List (Client × ℕ)). unwrap_or (lookup (client_eq client) es) 0) nobody in
+      let asked : length (ids_asked client h.journal) ≡ 0 = ap (λ (j : List Step). length (ids_asked client j)) none in
+      omega (arith, zero, asked);
+}

@@ -1,9 +1,5 @@
 pub mod Owing
 pub mod Places
-pub mod Kept
-pub mod Quiet
-pub mod Growth
-pub mod Pace
-pub mod Answering
+pub mod Paced
 pub mod AtWork
 pub mod Served

@@ -1,14 +1,14 @@
 //! Workers: a silo that is served to several clients by threads.
 //!
-//! One lock holds the silo. A worker takes steps under it until there is a turn to run; the bodies of
+//! One lock holds the silo. A worker takes steps under it until there are turns to run; the bodies of
 //! turns run without it.
 //! A layer above may rely on this: where `serve` answers `Ok`, the lanes stand in the silo's journal at
 //! their clients' pace, nothing is left to do, and each lane has its answers.
 #![tactic(auto)]
 
-mod candidates;
 mod gate;
 mod owed;
+mod pace;
 mod report;
 mod schedule;
 mod work;

@@ -1,4 +1,4 @@
-//! How many answers each client is owed: it asked so often, and wasn't told yet.
+//! How many answers each client is owed: it asked so often, less what it was told and that was looked at.
 
 ghost use Rattle.std.specs.Prelude.{◌≡◌, ◌+◌, ◌-◌, ◌≤◌, ◌==◌, not, IfOk, IsFalse, IsTrue, OnErr, OnOk, length, drop, if◌then◌else◌};
 ghost use Rattle.grain_id.specs.Names.{Client, client_eq};
@@ -6,12 +6,12 @@ ghost use Rattle.lane_model.specs.Asking.{asker_of, ids_told};
 ghost use Rattle.worker_host.specs.Working.{asks_once, owing_to};
 
 use grain_id::Caller;
+use indexmap::IndexMap;
 use silo_event::{Party, Reply, Step};
 use std::alloc::AllocError;
-use std::collections::BTreeMap;
 
 /// How many answers each client is owed. One that isn't there is owed none.
-pub type Owing = BTreeMap<Caller, u64>;
+pub type Owing = IndexMap<Caller, u64>;
 
 /// The client that asks by the step, if one does, asked once more.
 ///
@@ -57,16 +57,16 @@ fn owing_of(owing: &Owing, client: &Caller) -> u64
     }
 }
 
-/// Accounts for a step by which this client, if any, asked last: the replies behind so many were told;
-/// or, if it wasn't done, it isn't asked. Takes no memory.
-pub fn settle(owing: &mut Owing, asker: &Option<Caller>, done: bool, replies: &[Reply], seen: usize)
-    requires { seen ≤ length replies.now }
-    ensures done { IsTrue done → (client : Client) → owing_to owing.new client ≡ owing_to owing.old client - length (ids_told client (drop seen replies.now)) }
+/// Accounts for a step by which this client, if any, asked last: if it wasn't done, it isn't asked. Takes no
+/// memory.
+pub fn settle(owing: &mut Owing, asker: &Option<Caller>, done: bool)
+    ensures done { IsTrue done → (client : Client) → owing_to owing.new client ≡ owing_to owing.old client }
     ensures not_done { IsFalse done → (client : Client) → owing_to owing.new client ≡ owing_to owing.old client - asks_once asker.now client }
 {
     if done {
-        tell_new(owing, replies, seen);
-    } else if let Some(caller) = asker {
+        return;
+    }
+    if let Some(caller) = asker {
         tell(owing, caller);
     }
 }
@@ -102,9 +102,29 @@ fn tell_all(owing: &mut Owing, replies: &[Reply])
     }
 }
 
-/// Whether the client is owed an answer.
-pub fn owes(owing: &Owing, client: &Caller) -> bool
-    ensures { result ≡ not (owing_to owing.now client.now == 0) }
+/// Whether the client is owed another number of answers than the replies behind so many tell it.
+pub fn owes_beside(owing: &Owing, client: &Caller, replies: &[Reply], seen: usize) -> bool
+    requires { seen ≤ length replies.now }
+    ensures { result ≡ not (owing_to owing.now client.now == length (ids_told client.now (drop seen replies.now))) }
 {
-    owing_of(owing, client) != 0
+    let (_, new) = replies.split_at(seen);
+    let told = told_by(new, client);
+    owing_of(owing, client) != told
+}
+
+/// How often the client is told something by the replies.
+fn told_by(replies: &[Reply], client: &Caller) -> u64
+    ensures { result ≡ length (ids_told client.now replies.now) }
+{
+    let mut count = 0;
+    let mut rest = replies;
+    'replies: while let Some((reply, others)) = rest.split_first() {
+        if let Party::Client(caller, _) = &reply.recipient {
+            if caller == client {
+                count += 1;
+            }
+        }
+        rest = others;
+    }
+    count
 }

@@ -205,11 +205,11 @@ pub fn settle<S: GrainStorage + Drop, L: GrainLogic + Drop>(
     ensures served { IfOk result (λ report. AreServed L.logic report.silo.setup lanes.now report.silo.journal report.silo.whole report.silo.failures.at_opening report.silo.failures.now (map_list (λ v. v.items) report.answers.items)) }
     ensures answered { IfOk result (λ report. AreAnswered lanes.now report.silo.whole.replies) }
 {
-    let Some(mut working) = schedule.into_silo() else {
+    let Some(working) = schedule.into_silo() else {
         return Err(ServeFault::Memory);
     };
-    must_hold(working.is_quiet())?;
     let silo = working.into_silo();
+    must_hold(silo.is_quiet())?;
     let answers = served_answers(alloc, &silo, opened, lanes)?;
     Ok(ServeReport { silo, answers })
 }

@@ -1,23 +1,28 @@
-//! What stands under the lock: the silo, and the places in the lanes. The places are hints: what was
-//! served is looked at once, when the workers have ended.
+//! What stands under the lock: the silo, the places in the lanes, and the grains at which something may be
+//! to do. All but the silo are hints: what was served is looked at once, when the workers have ended.
 
+use crate::pace::Pace;
 use crate::working::WorkingSilo;
 use client_lanes::Lane;
 use grain_id::{Caller, GrainId};
 use grain_kinds::{FinishedTurn, GrainLogic, OpenedTurn, StoreCall};
 use grain_storage::GrainStorage;
+use indexmap::IndexMap;
+use silo_core::PossibleStep;
 use silo_event::{Answer, Party, Reply, Step, StepFault};
 use std::alloc::{AllocError, Global};
-use std::collections::{BTreeMap, VecDeque};
+use std::collections::VecDeque;
+
+/// A turn that a worker took: opened, and once its body ran what it came to, or opened still if memory was
+/// refused. None while its body runs.
+pub type TakenTurn<L> = Option<Result<FinishedTurn<L>, OpenedTurn>>;
 
 /// What a worker does next.
-#[derive(Drop)]
+#[derive(Clone, Copy)]
 pub enum Task {
-    /// It runs the turn.
-    Turn(OpenedTurn),
-    /// It took a step, and looks on.
-    Again,
-    /// It waits until another worker changed something.
+    /// It runs the turns that it took.
+    Run,
+    /// It waits until another worker wakes it.
     Wait,
     /// It ends.
     Over,
@@ -27,23 +32,28 @@ pub enum Task {
 #[derive(Drop)]
 pub struct Schedule<S: GrainStorage, L: GrainLogic> {
     silo: WorkingSilo<S, L>,
+    lanes: LanePlaces,
+    /// Grains at which something may be to do.
+    grains: VecDeque<GrainId>,
+    /// Grains that may have sent something.
+    senders: VecDeque<GrainId>,
+    /// How many turns are open.
+    open: usize,
+    pub pace: Pace,
+    stopped: bool,
+}
+
+/// The places in the lanes.
+#[derive(Drop)]
+pub struct LanePlaces {
     /// How many steps of each lane were given.
-    places: Vec<usize>,
+    given: Vec<usize>,
     /// Which lane is a client's.
-    lane_of: BTreeMap<Caller, usize>,
+    lane_of: IndexMap<Caller, usize>,
     /// The lanes that may give their next step.
     ready: VecDeque<usize>,
     /// How many replies were looked at.
     seen: usize,
-    stopped: bool,
-}
-
-/// The places in the lanes before any step was given.
-#[derive(Drop)]
-pub struct LanePlaces {
-    places: Vec<usize>,
-    lane_of: BTreeMap<Caller, usize>,
-    ready: VecDeque<usize>,
 }
 
 impl LanePlaces {
@@ -53,58 +63,77 @@ impl LanePlaces {
     ///
     /// Out of memory.
     pub fn new(alloc: Global, lanes: &[Lane]) -> Result<LanePlaces, AllocError> {
-        let mut places = Vec::new(alloc);
-        let mut lane_of = BTreeMap::new(alloc);
+        let mut given = Vec::new(alloc);
+        let mut lane_of = IndexMap::new(alloc);
         let mut ready = VecDeque::new(alloc);
         for (index, lane) in lanes.iter().enumerate() {
-            places.push(0)?;
+            given.push(0)?;
             ready.push_back(index)?;
             if let Some(caller) = lane.from() {
                 lane_of.insert(caller.clone()?, index)?;
             }
         }
         Ok(LanePlaces {
-            places,
-            lane_of,
-            ready,
-        })
-    }
-}
-
-/// Puts the lanes behind the ready ones whose client was told something.
-fn note_told(
-    replies: &[Reply],
-    lane_of: &BTreeMap<Caller, usize>,
-    ready: &mut VecDeque<usize>,
-    seen: usize,
-) -> Result<usize, AllocError> {
-    let Some(new) = replies.get(seen..) else {
-        return Ok(replies.len());
-    };
-    for reply in new {
-        if let Party::Client(caller, _) = &reply.recipient {
-            if let Some(index) = lane_of.get(caller) {
-                ready.push_back(*index)?;
-            }
-        }
-    }
-    Ok(replies.len())
-}
-
-impl<S: GrainStorage + Drop, L: GrainLogic + Drop> Schedule<S, L> {
-    /// The silo with the places before any step was given.
-    pub fn new(silo: WorkingSilo<S, L>, places: LanePlaces) -> Schedule<S, L> {
-        let LanePlaces {
-            places,
-            lane_of,
-            ready,
-        } = places;
-        Schedule {
-            silo,
-            places,
+            given,
             lane_of,
             ready,
             seen: 0,
+        })
+    }
+
+    /// Puts the lanes behind the ready ones whose client was told something since.
+    fn note_told(&mut self, replies: &[Reply]) -> Result<(), AllocError> {
+        if let Some(new) = replies.get(self.seen..) {
+            for reply in new {
+                if let Party::Client(caller, _) = &reply.recipient {
+                    if let Some(index) = self.lane_of.get(caller) {
+                        self.ready.push_back(*index)?;
+                    }
+                }
+            }
+        }
+        self.seen = replies.len();
+        Ok(())
+    }
+
+    /// A copy of the lane's next step, if it has one.
+    fn next_step(&self, lane: &Lane, index: usize) -> Result<Option<Step>, AllocError> {
+        let Some(place) = self.given.get(index) else {
+            return Ok(None);
+        };
+        match lane.steps().get(*place) {
+            Some(step) => Ok(Some(step.clone()?)),
+            None => Ok(None),
+        }
+    }
+
+    /// The lane gave its next step. A lane of nobody is ready again at once.
+    fn note_given(&mut self, lane: &Lane, index: usize) -> Result<(), AllocError> {
+        if let Some(place) = self.given.get_mut(index) {
+            *place = place.saturating_add(1);
+        }
+        if lane.from().is_none() {
+            self.ready.push_back(index)?;
+        }
+        Ok(())
+    }
+}
+
+impl<S: GrainStorage + Drop, L: GrainLogic + Drop> Schedule<S, L> {
+    /// The silo with the places before any step was given, for so many workers.
+    pub fn new(
+        alloc: Global,
+        silo: WorkingSilo<S, L>,
+        lanes: LanePlaces,
+        workers: usize,
+    ) -> Schedule<S, L> {
+        Schedule {
+            silo,
+            lanes,
+            grains: VecDeque::new(alloc),
+            senders: VecDeque::new(alloc),
+            open: 0,
+            pace: Pace::new(workers),
             stopped: false,
         }
     }
@@ -117,23 +146,38 @@ impl<S: GrainStorage + Drop, L: GrainLogic + Drop> Schedule<S, L> {
 }
 
 impl<S: GrainStorage, L: GrainLogic> Schedule<S, L> {
-    /// Closes a turn by what it came to. If that fails, or there is nothing, the turn is abandoned; if
-    /// that fails too, all is given up.
-    pub fn close(&mut self, alloc: Global, finished: &Result<FinishedTurn<L>, OpenedTurn>) {
-        let closed = match finished {
-            Ok(finished) => self.close_by(alloc, finished).is_ok(),
-            Err(_) => false,
-        };
-        if closed {
-            return;
+    /// Closes turns by what they came to. If memory is refused for more than that, all is given up.
+    pub fn close_all(&mut self, alloc: Global, turns: &[TakenTurn<L>]) {
+        for turn in turns {
+            if let Some(turn) = turn {
+                self.open = self.open.saturating_sub(1);
+                if self.close(alloc, turn).is_err() {
+                    self.stopped = true;
+                }
+            }
         }
-        let opened = match finished {
-            Ok(finished) => finished.input(),
+    }
+
+    /// Closes a turn by what it came to. If that fails, or there is nothing, the turn is abandoned.
+    fn close(
+        &mut self,
+        alloc: Global,
+        turn: &Result<FinishedTurn<L>, OpenedTurn>,
+    ) -> Result<(), StepFault> {
+        let opened = match turn {
+            Ok(finished) => {
+                if self.close_by(alloc, finished).is_ok() {
+                    return self.note_closed(finished);
+                }
+                finished.input()
+            }
             Err(opened) => opened,
         };
-        if self.abandon(alloc, &opened.grain, opened.number).is_err() {
-            self.stopped = true;
-        }
+        let grain = opened.grain.clone()?;
+        let turn = opened.number;
+        self.silo.take(alloc, Step::Abandon { grain, turn })?;
+        self.note_more(&opened.grain)?;
+        Ok(())
     }
 
     /// Closes a turn by its plan.
@@ -144,104 +188,220 @@ impl<S: GrainStorage, L: GrainLogic> Schedule<S, L> {
         }
     }
 
-    /// Closes a turn that ran out of memory.
-    fn abandon(&mut self, alloc: Global, grain: &GrainId, turn: u64) -> Result<Answer, StepFault> {
-        let grain = grain.clone()?;
-        self.silo.take(alloc, Step::Abandon { grain, turn })
+    /// Notes what a turn that was closed may have left to do.
+    fn note_closed(&mut self, finished: &FinishedTurn<L>) -> Result<(), StepFault> {
+        let grain = finished.grain();
+        if !finished.sends().is_empty() {
+            let sender = grain.clone()?;
+            push(&mut self.senders, sender)?;
+        }
+        self.note_more(grain)
     }
 
-    /// Whether another worker could do something now.
+    /// Notes the grain, if something is to do at it.
+    fn note_more(&mut self, grain: &GrainId) -> Result<(), StepFault> {
+        if self.silo.silo().work_on(grain).is_some() {
+            let grain = grain.clone()?;
+            push(&mut self.grains, grain)?;
+        }
+        Ok(())
+    }
+
+    /// Whether something may be left to do.
     pub fn has_more(&self) -> bool {
-        self.stopped
-            || !self.ready.is_empty()
-            || self.seen < self.silo.replies().len()
-            || self.silo.may_have_todo()
+        self.stopped || self.seen_work() != 0 || !self.senders.is_empty()
     }
 
-    /// Takes at most one step, and says what the worker does next. If memory is refused, all is given
-    /// up.
-    pub fn next(&mut self, alloc: Global, lanes: &[Lane]) -> Task {
+    /// How much is seen that can be done.
+    fn seen_work(&self) -> usize {
+        self.lanes.ready.len().saturating_add(self.grains.len())
+    }
+
+    /// Takes steps until the worker has its share of turns, or nothing can be done now. If memory is
+    /// refused, all is given up.
+    pub fn fill(
+        &mut self,
+        alloc: Global,
+        lanes: &[Lane],
+        turns: &mut Vec<TakenTurn<L>>,
+        first: bool,
+    ) -> Task {
+        if !self.stopped && self.take_turns(alloc, lanes, turns, first).is_err() {
+            self.stopped = true;
+        }
         if self.stopped {
-            return Task::Over;
-        }
-        match self.advance(alloc, lanes) {
-            Ok(task) => task,
-            Err(_) => {
-                self.stopped = true;
-                Task::Over
-            }
+            Task::Over
+        } else if !turns.is_empty() {
+            Task::Run
+        } else if self.open == 0 {
+            Task::Over
+        } else {
+            Task::Wait
         }
     }
 
-    /// Takes at most one step: what is to do comes first, and then a lane's next step.
-    fn advance(&mut self, alloc: Global, lanes: &[Lane]) -> Result<Task, StepFault> {
-        match self.silo.todo()? {
-            Some(Step::Begin { grain }) => self.open(alloc, grain),
-            Some(step) => self.step(alloc, step),
-            None => {
-                self.seen = note_told(
-                    self.silo.replies(),
-                    &self.lane_of,
-                    &mut self.ready,
-                    self.seen,
-                )?;
-                self.ask_next(alloc, lanes)
+    /// Takes steps until the worker has its share of turns, or nothing can be done now.
+    fn take_turns(
+        &mut self,
+        alloc: Global,
+        lanes: &[Lane],
+        turns: &mut Vec<TakenTurn<L>>,
+        first: bool,
+    ) -> Result<(), StepFault> {
+        self.note_told()?;
+        let share = self.pace.share_of(first, self.seen_work());
+        for _ in 0..u64::MAX {
+            if turns.len() >= share || !self.advance(alloc, lanes, turns)? {
+                break;
             }
         }
+        Ok(())
+    }
+
+    /// Looks at the replies since.
+    fn note_told(&mut self) -> Result<(), AllocError> {
+        self.silo.look_at_replies();
+        self.lanes.note_told(self.silo.silo().replies())
+    }
+
+    /// Does what is to do at one grain, delivers a call, or lets a lane give a step. False if there is
+    /// none of these.
+    fn advance(
+        &mut self,
+        alloc: Global,
+        lanes: &[Lane],
+        turns: &mut Vec<TakenTurn<L>>,
+    ) -> Result<bool, StepFault> {
+        if let Some(grain) = self.grains.pop_front() {
+            self.go_on(alloc, grain, turns)?;
+            return Ok(true);
+        }
+        if let Some(grain) = self.senders.pop_front() {
+            self.deliver(alloc, grain, turns)?;
+            return Ok(true);
+        }
+        if self.lanes.ready.is_empty() {
+            self.note_told()?;
+        }
+        let Some(index) = self.lanes.ready.pop_front() else {
+            return Ok(false);
+        };
+        if let Some(lane) = lanes.get(index) {
+            self.ask(alloc, lane, index, turns)?;
+        }
+        Ok(true)
+    }
+
+    /// Opens a turn of the grain, if one begins; otherwise takes what other step is to do at it.
+    fn go_on(
+        &mut self,
+        alloc: Global,
+        grain: GrainId,
+        turns: &mut Vec<TakenTurn<L>>,
+    ) -> Result<(), StepFault> {
+        let own = grain.clone()?;
+        if self.begin(alloc, own, turns)? {
+            return Ok(());
+        }
+        match self.silo.silo().work_on(&grain) {
+            Some(PossibleStep::Activate) => {
+                let own = grain.clone()?;
+                self.silo.take(alloc, Step::Activate { grain: own })?;
+                self.load(alloc, grain, turns)
+            }
+            Some(PossibleStep::Load) => self.load(alloc, grain, turns),
+            Some(PossibleStep::Begin) | None => Ok(()),
+        }
+    }
+
+    /// Loads the grain, and opens a turn of it.
+    fn load(
+        &mut self,
+        alloc: Global,
+        grain: GrainId,
+        turns: &mut Vec<TakenTurn<L>>,
+    ) -> Result<(), StepFault> {
+        let load = Step::Load {
+            grain: grain.clone()?,
+            failed: false,
+        };
+        self.silo.take(alloc, load)?;
+        self.begin(alloc, grain, turns)?;
+        Ok(())
     }
 
     /// Opens a turn of the grain, if one begins.
-    fn open(&mut self, alloc: Global, grain: GrainId) -> Result<Task, StepFault> {
-        match self.silo.begin(alloc, grain)? {
-            Some(turn) => Ok(Task::Turn(turn)),
-            None => Ok(Task::Again),
+    fn begin(
+        &mut self,
+        alloc: Global,
+        grain: GrainId,
+        turns: &mut Vec<TakenTurn<L>>,
+    ) -> Result<bool, StepFault> {
+        let Some(turn) = self.silo.begin(alloc, grain)? else {
+            return Ok(false);
+        };
+        self.open = self.open.saturating_add(1);
+        if turn.reading {
+            self.note_more(&turn.grain)?;
         }
+        let Ok(()) = turns.push(Some(Err(turn))) else {
+            return Err(StepFault::Memory);
+        };
+        Ok(true)
     }
 
-    /// Takes a step.
-    fn step(&mut self, alloc: Global, step: Step) -> Result<Task, StepFault> {
+    /// Delivers what the grain sent first, and lets its target go on.
+    fn deliver(
+        &mut self,
+        alloc: Global,
+        grain: GrainId,
+        turns: &mut Vec<TakenTurn<L>>,
+    ) -> Result<(), StepFault> {
+        let target = match self.silo.silo().first_target(&grain) {
+            Some(target) => target.clone()?,
+            None => return Ok(()),
+        };
+        let own = grain.clone()?;
+        self.silo.take(alloc, Step::Deliver { grain: own })?;
+        let Ok(()) = self.senders.push_front(grain) else {
+            return Err(StepFault::Memory);
+        };
+        self.go_on(alloc, target, turns)
+    }
+
+    /// Gives the lane's next step, if it has one, and lets the grain go on that it calls.
+    fn ask(
+        &mut self,
+        alloc: Global,
+        lane: &Lane,
+        index: usize,
+        turns: &mut Vec<TakenTurn<L>>,
+    ) -> Result<(), StepFault> {
+        let Some(step) = self.lanes.next_step(lane, index)? else {
+            return Ok(());
+        };
+        let called = called_by(&step)?;
         self.silo.take(alloc, step)?;
-        Ok(Task::Again)
-    }
-
-    /// Gives a step of the lane that has been ready for longest.
-    fn ask_next(&mut self, alloc: Global, lanes: &[Lane]) -> Result<Task, StepFault> {
-        let Some(index) = self.ready.pop_front() else {
-            return Ok(if self.silo.is_quiet() {
-                Task::Over
-            } else {
-                Task::Wait
-            });
-        };
-        if let Some(lane) = lanes.get(index) {
-            self.ask(alloc, lane, index)?;
+        self.lanes.note_given(lane, index)?;
+        match called {
+            Some(grain) => self.go_on(alloc, grain, turns),
+            None => Ok(()),
         }
-        Ok(Task::Again)
     }
+}
 
-    /// Takes a copy of a lane's step.
-    fn give(&mut self, alloc: Global, step: &Step) -> Result<Answer, StepFault> {
-        let step = step.clone()?;
-        self.silo.take(alloc, step)
+/// Adds a grain behind the others.
+fn push(grains: &mut VecDeque<GrainId>, grain: GrainId) -> Result<(), StepFault> {
+    match grains.push_back(grain) {
+        Ok(()) => Ok(()),
+        Err(_) => Err(StepFault::Memory),
     }
+}
 
-    /// Gives the lane's next step, if it has one. A lane of nobody is ready again at once.
-    fn ask(&mut self, alloc: Global, lane: &Lane, index: usize) -> Result<(), StepFault> {
-        let Some(place) = self.places.get(index).copied() else {
-            return Ok(());
-        };
-        let Some(step) = lane.steps().get(place) else {
-            return Ok(());
-        };
-        self.give(alloc, step)?;
-        if let Some(at) = self.places.get_mut(index) {
-            *at = place.saturating_add(1);
-        }
-        if lane.from().is_none() {
-            let Ok(()) = self.ready.push_back(index) else {
-                return Err(StepFault::Memory);
-            };
-        }
-        Ok(())
+/// The grain that is called by the step, if one is.
+fn called_by(step: &Step) -> Result<Option<GrainId>, AllocError> {
+    match step {
+        Step::Call { grain, .. } => Ok(Some(grain.clone()?)),
+        _ => Ok(None),
     }
 }

@@ -10,52 +10,106 @@ ghost use Rattle.worker_host.specs.SetupCopy.{AreAnswered};
 
 use crate::gate::TurnGate;
 use crate::report::{ServeFault, ServeReport, SetupCopy, settle};
-use crate::schedule::{LanePlaces, Schedule, Task};
+use crate::schedule::{LanePlaces, Schedule, TakenTurn, Task};
 use crate::working::WorkingSilo;
 use bumpalo::Bump;
 use client_lanes::Lane;
-use grain_kinds::{FinishedTurn, GrainLogic, OpenedTurn, run_turn};
+use grain_kinds::{GrainLogic, run_turn};
 use grain_storage::GrainStorage;
 use silo_core::Setup;
 use std::alloc::Global;
-use std::sync::{Condvar, Mutex, Wait};
+use std::mem::swap;
+use std::sync::{Condvar, Mutex, MutexGuard, Wait};
 use std::thread;
 use std::thread::Threads;
 
-/// Takes the lock, closes the worker's last turn, and holds the lock until there is another turn to run
-/// or nothing that can be done now. None if all is over.
-fn next_turn<'b, S: GrainStorage, L: GrainLogic, R: Wait>(
+/// A worker's turns, and whether it was at the lock before.
+#[derive(Drop)]
+struct Worker<L: GrainLogic> {
+    /// Those whose bodies ran.
+    ran: Vec<TakenTurn<L>>,
+    /// Those that it took since.
+    taken: Vec<TakenTurn<L>>,
+    started: bool,
+}
+
+/// Takes the lock, and says whether another had it.
+fn come<'b, S: GrainStorage, L: GrainLogic, R: Wait>(
+    rt: &R,
+    schedule: &'b Mutex<Schedule<S, L>>,
+) -> (MutexGuard<'b, Schedule<S, L>>, bool) {
+    match schedule.try_lock() {
+        Some(held) => (held, false),
+        None => (schedule.lock(rt), true),
+    }
+}
+
+/// Takes the lock, closes the worker's last turns, and takes steps until it has turns to run. False if all is
+/// over.
+fn next_turns<S: GrainStorage, L: GrainLogic, R: Wait>(
     rt: &R,
     alloc: Global,
-    schedule: &'b Mutex<Schedule<S, L>>,
+    schedule: &Mutex<Schedule<S, L>>,
     changed: &Condvar,
     lanes: &[Lane],
-    finished: &Option<Result<FinishedTurn<L>, OpenedTurn>>,
-) -> Option<OpenedTurn> {
-    let mut held = schedule.lock(rt);
-    if let Some(finished) = finished {
-        held.close(alloc, finished);
+    worker: &mut Worker<L>,
+) -> bool {
+    let (mut held, met) = come(rt, schedule);
+    let first = !worker.started;
+    if first {
+        held.pace.start();
+        worker.started = true;
+    } else {
+        held.pace.come_back(met);
     }
+    held.close_all(alloc, worker.ran.as_slice());
+    let mut rests = held.pace.rests();
     for _ in rt.forever() {
-        match held.next(alloc, lanes) {
-            Task::Turn(turn) => {
-                let wakes = held.has_more();
+        let task = if rests {
+            Task::Wait
+        } else {
+            held.fill(alloc, lanes, &mut worker.taken, first)
+        };
+        match task {
+            Task::Run => {
+                let wakes = held.has_more() && held.pace.wakes();
                 drop(held);
                 if wakes {
                     changed.notify_one();
                 }
-                return Some(turn);
+                return true;
             }
-            Task::Again => {}
-            Task::Wait => held = changed.wait(rt, held),
+            Task::Wait => {
+                rests = false;
+                held.pace.sleep();
+                held = changed.wait(rt, held);
+                held.pace.wake_up();
+            }
             Task::Over => {
                 drop(held);
                 changed.notify_all();
-                return None;
+                return false;
             }
         }
     }
     unreachable!()
+}
+
+/// Runs the body of a turn that is opened, in an arena that is reset after it.
+fn run<L: GrainLogic, G: TurnGate>(
+    alloc: Global,
+    arena: &mut Bump,
+    gate: &G,
+    logic: &L,
+    turn: &mut TakenTurn<L>,
+) {
+    if let Some(Err(opened)) = turn.take() {
+        gate.entered(&opened.grain, opened.number);
+        *turn = Some(run_turn(alloc, arena, logic, opened));
+    }
+    if arena.reset().is_err() {
+        *arena = Bump::new(alloc);
+    }
 }
 
 /// One worker, with an arena of its own.
@@ -69,15 +123,19 @@ fn work<S: GrainStorage, L: GrainLogic + Drop, G: TurnGate, R: Wait>(
     logic: L,
 ) {
     let mut arena = Bump::new(alloc);
-    let mut finished = None;
+    let mut worker = Worker {
+        ran: Vec::new(alloc),
+        taken: Vec::new(alloc),
+        started: false,
+    };
     for _ in rt.forever() {
-        let Some(turn) = next_turn(rt, alloc, schedule, changed, lanes, &finished) else {
+        if !next_turns(rt, alloc, schedule, changed, lanes, &mut worker) {
             break;
-        };
-        gate.entered(&turn.grain, turn.number);
-        finished = Some(run_turn(alloc, &arena, &logic, turn));
-        if arena.reset().is_err() {
-            arena = Bump::new(alloc);
+        }
+        worker.ran.clear();
+        swap(&mut worker.ran, &mut worker.taken);
+        for turn in worker.ran.as_mut_slice() {
+            run(alloc, &mut arena, gate, &logic, turn);
         }
     }
 }
@@ -156,7 +214,7 @@ pub fn serve<
     let places = LanePlaces::new(alloc, lanes)?;
     let logic = setup.logic;
     let silo = WorkingSilo::new(alloc, setup)?;
-    let schedule = Mutex::new(Schedule::new(silo, places));
+    let schedule = Mutex::new(Schedule::new(alloc, silo, places, workers));
     let changed = Condvar::new();
     if !run_workers(rt, alloc, &schedule, &changed, lanes, workers, gate, logic) {
         return Err(ServeFault::NoWorker);

@@ -1,14 +1,12 @@
-//! A silo at work: with the grains at which something may be to do, and a journal that is paced.
+//! A silo at work: with what each client is owed, and a journal that is paced.
 
-ghost use Rattle.std.specs.Prelude.{◌≡◌, ◌↔◌, [], true, false, IfOk, IfErr, IsTrue, OnErr, Ok, None};
+ghost use Rattle.std.specs.Prelude.{◌≡◌, [], true, false, IfOk, IfErr, OnErr, Ok};
 ghost use Rattle.std.specs.FinMap as map;
-ghost use Rattle.std.specs.Option.{option_copied, option_to_list};
 ghost use Rattle.silo_event.specs.declared.step.Answer.TheVariants as answer;
 ghost use Rattle.silo_event.specs.declared.step.Step.TheVariants as step;
 ghost use Rattle.silo_model.specs.Journal.{LeadsTo};
 ghost use Rattle.silo_model.specs.Opening.{opening};
-ghost use Rattle.silo_model.specs.Pending.{AllQuiet, has_pending};
-ghost use Rattle.silo_model.specs.Todo.{IsTodo, sender_by};
+ghost use Rattle.silo_model.specs.Pending.{has_pending};
 ghost use Rattle.silo_model.specs.Whole.{shown_to};
 ghost use Rattle.lane_model.specs.Asking.{asker_of};
 ghost use Rattle.lane_model.specs.Pacing.{is_paced};
@@ -16,29 +14,27 @@ ghost use Rattle.silo_state.specs.Entries.{opened_turn};
 ghost use Rattle.silo_state.specs.Moves.{done_if};
 ghost use Rattle.silo_core.specs.History.{Answered};
 ghost use Rattle.silo_core.specs.Turns.{AnsweredTurn};
-ghost use Rattle.worker_host.specs.Working.{closing_step, may_ask_in, was_done};
+ghost use Rattle.worker_host.specs.Working.{may_ask_in, was_done};
 
+use crate::owed;
 use crate::owed::Owing;
-use crate::{candidates, owed};
 use grain_id::{Caller, GrainId};
 use grain_kinds::{FinishedTurn, GrainLogic, OpenedTurn};
 use grain_storage::GrainStorage;
+use indexmap::IndexMap;
 use silo_core::{Setup, Silo};
-use silo_event::{Answer, Reply, Step, StepFault};
+use silo_event::{Answer, Step, StepFault};
 use std::alloc::{AllocError, Global};
-use std::collections::{BTreeMap, VecDeque};
 use std::marker::Model;
 
-/// A silo with the grains at which something may be to do, those that may have sent something, those
-/// at which something may wait or be open, and how many answers each client is owed. Just before each
-/// step of its journal by which a client asks, no request of the client waits or is open.
+/// A silo with how many answers each client is owed, as far as its replies were looked at. Just before
+/// each step of its journal by which a client asks, no request of the client waits or is open.
 #[derive(Drop)]
 pub struct WorkingSilo<S: GrainStorage, L: GrainLogic> {
     silo: Silo<S, L>,
-    entries: VecDeque<GrainId>,
-    senders: VecDeque<GrainId>,
-    busy: VecDeque<GrainId>,
     owing: Owing,
+    /// How many replies were looked at.
+    seen: usize,
 }
 
 impl<S: GrainStorage, L: GrainLogic> Model for WorkingSilo<S, L> {
@@ -55,7 +51,7 @@ impl<S: GrainStorage, L: GrainLogic> Model for WorkingSilo<S, L> {
 
     ghost view = { λ w. w.silo };
 
-    ghost invariant = { λ w. IsWorking L.logic w.silo w.entries.items w.senders.items w.busy.items w.owing };
+    ghost invariant = { λ w. IsWorking L.logic w.silo w.owing w.seen };
 }
 
 /// Whether a step with this answer was done.
@@ -63,31 +59,6 @@ fn was_done(answer: &Result<Answer, StepFault>) -> bool
     ensures { result ≡ was_done answer.now }
 {
     matches!(answer, Ok(Answer::Done | Answer::Failed))
-}
-
-/// The grain that may send something by the turn's closing, if it isn't the storage that closes it.
-fn sender_of<L: GrainLogic>(finished: &FinishedTurn<L>, stores: bool) -> Option<&GrainId>
-    ensures { option_to_list (option_copied result) ≡ sender_by (closing_step stores finished.now) }
-{
-    if stores {
-        return None;
-    }
-    Some(finished.grain())
-}
-
-/// Closes an open turn: by what the storage answers, or by its plan.
-fn close_turn<S: GrainStorage, L: GrainLogic>(
-    silo: &mut Silo<S, L>,
-    alloc: Global,
-    finished: &FinishedTurn<L>,
-    stores: bool,
-) -> Result<Answer, StepFault>
-    ensures { AnsweredTurn L.logic silo.old (closing_step stores finished.now) finished.now result silo.new }
-{
-    if stores {
-        return silo.store(alloc, finished, false);
-    }
-    silo.end(alloc, finished)
 }
 
 impl<S: GrainStorage + Drop, L: GrainLogic + Drop> WorkingSilo<S, L> {
@@ -103,20 +74,18 @@ impl<S: GrainStorage + Drop, L: GrainLogic + Drop> WorkingSilo<S, L> {
     {
         Ok(WorkingSilo {
             silo: Silo::new(alloc, setup)?,
-            entries: VecDeque::new(alloc),
-            senders: VecDeque::new(alloc),
-            busy: VecDeque::new(alloc),
-            owing: BTreeMap::new(alloc),
+            owing: IndexMap::new(alloc),
+            seen: 0,
         })
     }
 }
 
 impl<S: GrainStorage, L: GrainLogic> WorkingSilo<S, L> {
-    /// All replies.
-    pub fn replies(&self) -> &[Reply]
-        ensures { result.now ≡ self.now.whole.replies }
+    /// The silo, to look at.
+    pub fn silo(&self) -> &Silo<S, L>
+        ensures { result.now ≡ self.now }
     {
-        self.silo.replies()
+        &self.silo
     }
 
     /// The silo alone.
@@ -128,29 +97,6 @@ impl<S: GrainStorage, L: GrainLogic> WorkingSilo<S, L> {
         silo
     }
 
-    /// An `Activate`, `Load`, `Begin` or `Deliver` that would be done now, or none exactly if there is
-    /// none.
-    ///
-    /// # Errors
-    ///
-    /// Out of memory.
-    pub fn todo(&mut self) -> Result<Option<Step>, AllocError>
-        ensures todo { IfOk result (λ found. IsTodo L.logic self.old.whole found) }
-        ensures unchanged { self.new ≡ self.old }
-    {
-        if let Some(step) = candidates::next_work(&self.silo, &mut self.entries)? {
-            return Ok(Some(step));
-        }
-        candidates::next_delivery(&self.silo, &mut self.senders)
-    }
-
-    /// Whether something may be to do: it is looked at by `todo`. If not, nothing is.
-    pub fn may_have_todo(&self) -> bool
-        ensures { result ≡ false → IsTodo L.logic self.now.whole None }
-    {
-        !self.entries.is_empty() || !self.senders.is_empty()
-    }
-
     /// Whether a request of the client waits or is open.
     pub fn has_pending(&self, client: &Caller) -> bool
         ensures pending { result ≡ has_pending client.now (shown_to client.now.tenant self.now.whole) }
@@ -158,17 +104,16 @@ impl<S: GrainStorage, L: GrainLogic> WorkingSilo<S, L> {
         // What the tenant is shown is where the journal leads.
         ensures leads { LeadsTo L.logic self.now.setup self.now.journal self.now.whole }
     {
-        owed::owes(&self.owing, client)
+        owed::owes_beside(&self.owing, client, self.silo.replies(), self.seen)
     }
 
-    /// Whether no request waits, no turn is open, and no send is left.
-    pub fn is_quiet(&mut self) -> bool
-        ensures quiet { IsTrue result ↔ AllQuiet self.old.whole }
-        ensures unchanged { self.new ≡ self.old }
+    /// Looks at the replies that weren't looked at yet. Takes no memory.
+    pub fn look_at_replies(&mut self)
+        ensures { self.new ≡ self.old }
     {
-        candidates::drop_settled(&self.silo, &mut self.busy);
-        candidates::drop_delivered(&self.silo, &mut self.senders);
-        self.busy.is_empty() && self.senders.is_empty()
+        let replies = self.silo.replies();
+        owed::tell_new(&mut self.owing, replies, self.seen);
+        self.seen = replies.len();
     }
 
     /// Takes a step by which nobody asks, or a client of whom nothing waits or is open.
@@ -180,24 +125,13 @@ impl<S: GrainStorage, L: GrainLogic> WorkingSilo<S, L> {
         requires { may_ask_in self.old.whole (asker_of step) ≡ true }
         ensures { Answered L.logic self.old step result self.new }
     {
-        let Ok(()) = candidates::note(
-            &mut self.entries,
-            &mut self.senders,
-            &mut self.busy,
-            candidates::changed_by(&self.silo, &step),
-            candidates::sender_by(&step),
-        ) else {
-            drop(step);
-            return Err(StepFault::Memory);
-        };
         let Ok(asker) = owed::ask(&mut self.owing, &step) else {
             drop(step);
             return Err(StepFault::Memory);
         };
-        let seen = self.silo.replies().len();
         let answer = self.silo.apply(alloc, step);
         let done = was_done(&answer);
-        owed::settle(&mut self.owing, &asker, done, self.silo.replies(), seen);
+        owed::settle(&mut self.owing, &asker, done);
         answer
     }
 
@@ -240,39 +174,7 @@ impl<S: GrainStorage, L: GrainLogic> WorkingSilo<S, L> {
         ensures unchanged { OnErr result (self.new ≡ self.old) }
         ensures fault { IfErr result (λ fault. fault ≡ StepFault.Memory) }
     {
-        candidates::note(
-            &mut self.entries,
-            &mut self.senders,
-            &mut self.busy,
-            Some(&grain),
-            None,
-        )?;
-        let seen = self.silo.replies().len();
-        let turn = self.silo.begin(alloc, grain)?;
-        owed::tell_new(&mut self.owing, self.silo.replies(), seen);
-        Ok(turn)
-    }
-
-    /// Closes an open turn: by what the storage answers, or by its plan.
-    fn close(
-        &mut self,
-        alloc: Global,
-        finished: &FinishedTurn<L>,
-        stores: bool,
-    ) -> Result<Answer, StepFault>
-        ensures { AnsweredTurn L.logic self.old (closing_step stores finished.now) finished.now result self.new }
-    {
-        candidates::note(
-            &mut self.entries,
-            &mut self.senders,
-            &mut self.busy,
-            Some(finished.grain()),
-            sender_of(finished, stores),
-        )?;
-        let seen = self.silo.replies().len();
-        let answer = close_turn(&mut self.silo, alloc, finished, stores)?;
-        owed::tell_new(&mut self.owing, self.silo.replies(), seen);
-        Ok(answer)
+        self.silo.begin(alloc, grain)
     }
 
     /// The open turn that asks for the storage is closed.
@@ -284,7 +186,7 @@ impl<S: GrainStorage, L: GrainLogic> WorkingSilo<S, L> {
     pub fn store(&mut self, alloc: Global, finished: &FinishedTurn<L>) -> Result<Answer, StepFault>
         ensures { AnsweredTurn L.logic self.old (step.Store finished.now.grain finished.now.number false) finished.now result self.new }
     {
-        self.close(alloc, finished, true)
+        self.silo.store(alloc, finished, false)
     }
 
     /// The open turn that asks for nothing of the storage is closed.
@@ -295,6 +197,6 @@ impl<S: GrainStorage, L: GrainLogic> WorkingSilo<S, L> {
     pub fn end(&mut self, alloc: Global, finished: &FinishedTurn<L>) -> Result<Answer, StepFault>
         ensures { AnsweredTurn L.logic self.old (step.End finished.now.grain finished.now.number) finished.now result self.new }
     {
-        self.close(alloc, finished, false)
+        self.silo.end(alloc, finished)
     }
 }

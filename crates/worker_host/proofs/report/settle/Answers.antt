@@ -1,14 +1,10 @@
-use Rattle.std.proofs.Common.{sym, subst, ◌∙◌}
 use Rattle.std.specs.Prelude.{map as map_list}
 use Rattle.silo_model.proofs.Lawful.{lawful_readers}
-use Rattle.silo_model.specs.Pending.{AllQuiet}
-use Rattle.silo_core.specs.History.{History}
 use Rattle.worker_host.proofs.Served.{all_answered}
 use Rattle.worker_host.proofs.report.settle.Goals as goal
 
 pub served_answers-requires-clause-quiet : goal.served_answers-requires-clause-quiet
-served_answers-requires-clause-quiet g c =
-    subst (λ (h : History). AllQuiet h.whole) (sym (c.into_silo-silo.ensures.same ∙ c.is_quiet.ensures.unchanged)) (c.is_quiet.ensures.quiet.0 c.in_ok-must_hold.ensures)
+served_answers-requires-clause-quiet g c = c.is_quiet.ensures.0 c.in_ok-must_hold.ensures
 
 pub returns-clause-answered : goal.returns-clause-answered
 returns-clause-answered g c =

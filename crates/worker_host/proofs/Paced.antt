@@ -1,9 +1,10 @@
 -- A paced journal is paced still after a step by which nobody asks, or a client of whom nothing waits or is open.
-use Rattle.std.proofs.Common.{◌≡◌, ℕ, true, ap, ◌∙◌}
+use Rattle.std.proofs.Common.{◌≡◌, ℕ, true, refl, ap, ◌∙◌}
 use Rattle.std.specs.Prelude.{◌&&◌, Result, Ok, Err}
 use Rattle.grain_kinds.specs.Logic.{Logic}
 use Rattle.silo_event.specs.Failed.{as_failed}
 use Rattle.silo_event.specs.declared.step.Step.{Step}
+use Rattle.silo_event.specs.declared.step.Step.TheVariants.{Refuse}
 use Rattle.silo_event.specs.declared.step.Answer.{Answer}
 use Rattle.silo_event.specs.declared.step.Answer.TheVariants.{Done, Failed, NotNow}
 use Rattle.silo_event.specs.declared.step.StepFault.{StepFault}
@@ -15,7 +16,11 @@ use Rattle.lane_model.specs.Pacing.{is_paced}
 use Rattle.lane_model.proofs.PacedGrowth.{paced_grows}
 use Rattle.silo_core.specs.History.{History, Advances, Answered}
 use Rattle.worker_host.specs.Working.{may_ask_in}
-use Rattle.worker_host.proofs.Growth.{asker_failed}
+
+-- a step whose storage call failed is asked by the same client
+pub asker_failed : (s : Step) → asker_of (as_failed s) ≡ asker_of s
+asker_failed (Refuse caller id code) = refl
+asker_failed _ = refl
 
 module _ (logic : Logic) (old new : History) (paced : is_paced logic old.setup old.journal ≡ true) where
   pub stays_paced : new ≡ old → is_paced logic new.setup new.journal ≡ true

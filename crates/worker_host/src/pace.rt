@@ -1,0 +1,139 @@
+//! How many workers go on at once, and how many turns each takes. These are hints: no clause rests on
+//! them.
+//!
+//! Steps are taken under the lock, and only the bodies of turns run beside one another. So where bodies
+//! are short, more workers only wait for the lock. That is seen by the lock alone, without a clock: a
+//! worker that comes back from its bodies and finds the lock held has met another. If workers meet often,
+//! one of them rests; after a while it's woken again, to see whether it still is so.
+
+/// How many turns a worker takes at once, at most.
+const MOST_TURNS: usize = 32;
+
+/// How many meetings at the lock make it crowded.
+const CROWDED: u32 = 4;
+
+/// How many times in a row workers come back to the lock without a crowd, until it isn't known as crowded
+/// any more.
+const CALM: u32 = 32;
+
+/// For how many turns at the lock nobody is woken, at most.
+const LONGEST_REST: u32 = 63;
+
+/// How the workers of one silo go on.
+#[derive(Drop)]
+pub struct Pace {
+    /// How many workers there may be.
+    workers: usize,
+    /// How many of them have come to the lock.
+    come: usize,
+    /// How many of those that have come aren't waiting.
+    awake: usize,
+    /// How many turns a worker takes at once while others are awake.
+    share: usize,
+    /// How often of late a worker met another at the lock.
+    crowd: u32,
+    /// How often in a row workers came back since one was sent to rest.
+    calm: u32,
+    /// A worker was woken, and hasn't come yet.
+    woken: bool,
+    /// For how many turns at the lock nobody is woken: from now on, and when one rested last.
+    rest: u32,
+    rested: u32,
+}
+
+impl Pace {
+    /// The pace of so many workers that are about to start: each takes one turn.
+    pub fn new(workers: usize) -> Pace {
+        Pace {
+            workers,
+            come: 0,
+            awake: 0,
+            share: 1,
+            crowd: 0,
+            calm: 0,
+            woken: false,
+            rest: 0,
+            rested: 0,
+        }
+    }
+
+    /// A worker comes to the lock for the first time.
+    pub fn start(&mut self) {
+        self.come = self.come.saturating_add(1);
+        self.awake = self.awake.saturating_add(1);
+    }
+
+    /// A worker comes back from the bodies of its turns, and maybe met another at the lock.
+    pub fn come_back(&mut self, met: bool) {
+        if self.awake <= 1 {
+            self.crowd = 0;
+            return;
+        }
+        if met {
+            self.crowd = self.crowd.saturating_add(1);
+            self.share = self.share.saturating_mul(2).min(MOST_TURNS);
+        } else {
+            self.crowd = self.crowd.saturating_sub(1);
+            self.share = (self.share / 2).max(1);
+        }
+        self.calm = self.calm.saturating_add(1);
+        if self.calm >= CALM {
+            self.rested = 0;
+        }
+    }
+
+    /// Whether this worker is better off at rest, since the lock is what all wait for. Another is awake
+    /// then.
+    pub fn rests(&mut self) -> bool {
+        if self.crowd < CROWDED || self.awake <= 1 {
+            return false;
+        }
+        self.crowd = 0;
+        self.calm = 0;
+        self.rested = self
+            .rested
+            .saturating_mul(2)
+            .saturating_add(1)
+            .min(LONGEST_REST);
+        self.rest = self.rested;
+        true
+    }
+
+    /// A worker waits from now on.
+    pub fn sleep(&mut self) {
+        self.awake = self.awake.saturating_sub(1);
+    }
+
+    /// A worker waits no more.
+    pub fn wake_up(&mut self) {
+        self.awake = self.awake.saturating_add(1);
+        self.woken = false;
+    }
+
+    /// How many turns a worker takes now, of so much that can be done. A worker's first turn is one, so
+    /// that at the start each has its own; and one that is alone leaves half to the next that comes.
+    pub fn share_of(&self, first: bool, seen: usize) -> usize {
+        if first {
+            1
+        } else if self.awake > 1 {
+            self.share
+        } else if self.come < self.workers || (self.come > 1 && self.rest == 0) {
+            (seen / 2).clamp(1, MOST_TURNS)
+        } else {
+            MOST_TURNS
+        }
+    }
+
+    /// Whether another worker is woken to do what is left.
+    pub fn wakes(&mut self) -> bool {
+        if self.woken || self.awake >= self.come {
+            return false;
+        }
+        if self.rest > 0 {
+            self.rest -= 1;
+            return false;
+        }
+        self.woken = true;
+        true
+    }
+}
