@@ -49,12 +49,6 @@ module _ (rs : List Reply) (i : ℕ) (r : Reply) (within : i < length rs) (at : 
   one_more : take (i + 1) rs ≡ take i rs ++ r ∷ []
   one_more = take_more rs i r within ∙ ap (λ x. take i rs ++ x ∷ []) (sym at)
 
-  -- their text, and one reply's line more
-  pub texts-next : (start before after line : List ℕ) → before ≡ start ++ texts_of (take i rs) → line ≡ ended (line_of r) → after ≡ before ++ line → after ≡ start ++ texts_of (take (i + 1) rs)
-  texts-next start before after line had said added =
-      added ∙ (λ j. had j ++ said j) ∙ append_assoc start (texts_of (take i rs)) (ended (line_of r))
-      ∙ ap (λ text. start ++ text) (sym (ap texts_of one_more ∙ texts_of-more (take i rs) r))
-
   pub told_more : (grain told : Grain) → r.recipient ≡ party.Grain told → (before after : Option (List ℕ))
       → before ≡ lines_if_any (replies_to_grain grain (take i rs)) → after ≡ with_line told (ended (line_of r)) grain before
       → after ≡ lines_if_any (replies_to_grain grain (take (i + 1) rs))

@@ -9,10 +9,10 @@ ghost use Rattle.line_service.specs.Places.{ArePlaced};
 use crate::giver::{copy_of, giver_of};
 use client_lanes::Lane;
 use grain_id::Caller;
+use indexmap::IndexMap;
 use line_parser::{Line, LineRefusal};
 use silo_event::Step;
 use std::alloc::{AllocError, Global};
-use std::collections::BTreeMap;
 
 /// What the lines of an input ask for: lanes, and refusals of the lines that are of none.
 #[derive(Drop)]
@@ -24,7 +24,7 @@ pub struct LanesAndRefusals {
 }
 
 /// The place of each lane, by whose it is.
-type Places = BTreeMap<Option<Caller>, usize>;
+type Places = IndexMap<Option<Caller>, usize>;
 
 /// The lanes that the lines ask for, and the refusals of the other lines. A step goes to the lane that
 /// gives it; a step that no lane gives, or that has the mark of a failure, is refused as no request. One
@@ -40,7 +40,7 @@ pub fn asked_by(alloc: Global, lines: Vec<Line>) -> Result<LanesAndRefusals, All
 {
     let mut lanes = Vec::new(alloc);
     let mut refusals = Vec::new(alloc);
-    let mut places = BTreeMap::new(alloc);
+    let mut places = IndexMap::new(alloc);
     'lines: for line in lines {
         match line {
             Line::Nothing => {}

@@ -19,7 +19,7 @@ use std::collections::BTreeMap;
 type LinesByGrain = BTreeMap<GrainId, String>;
 
 /// The line of a reply, with its LF.
-pub(crate) fn reply_line(alloc: Global, reply: &Reply) -> Result<String, AllocError>
+fn reply_line(alloc: Global, reply: &Reply) -> Result<String, AllocError>
     ensures { IfOk result (λ line. string_bytes line ≡ ended (line_of reply.now)) }
 {
     let mut line = reply_text(alloc, reply)?;

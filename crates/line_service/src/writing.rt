@@ -7,9 +7,9 @@ ghost use Rattle.line_protocol.specs.declared.fault.LineFault.TheVariants as lin
 ghost use Rattle.line_service.specs.ServedText.{StopsWriting, refusals_text, served_text};
 
 use crate::serving::ServedInput;
-use crate::told::{push_told, reply_line};
+use crate::told::push_told;
 use line_parser::LineRefusal;
-use line_protocol::{LineFault, Output, refusal_text};
+use line_protocol::{LineFault, Output, push_refusal, push_replies};
 use silo_event::Reply;
 use std::alloc::{AllocError, Global};
 use std::io::Write;
@@ -23,20 +23,8 @@ fn push_refusals(
     ensures { OnOk result (string_bytes text.new ≡ string_bytes text.old ++ refusals_text refusals.now) }
 {
     'refusals: for refusal in refusals {
-        let line = refusal_text(alloc, *refusal)?;
-        text.push_str(line.as_str())?;
+        push_refusal(alloc, text, *refusal)?;
         text.push_str("\n")?;
-    }
-    Ok(())
-}
-
-/// Adds the line of each reply.
-fn push_replies(alloc: Global, text: &mut String, replies: &[Reply]) -> Result<(), AllocError>
-    ensures { OnOk result (string_bytes text.new ≡ string_bytes text.old ++ texts_of replies.now) }
-{
-    'replies: for reply in replies {
-        let line = reply_line(alloc, reply)?;
-        text.push_str(line.as_str())?;
     }
     Ok(())
 }

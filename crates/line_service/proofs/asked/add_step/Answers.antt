@@ -1,9 +1,8 @@
 use Rattle.std.proofs.Common.{ap, sym, subst, ◌∙◌, List, Option, arith}
-use Rattle.std.specs.BTreeMap.{get}
-use Rattle.std.specs.Option.{option_cmp}
+use Rattle.indexmap.specs.IndexMap.{get}
 use Rattle.std.proofs.lemmas.List.{length-map}
-use Rattle.grain_id.specs.Names.{Client, client_cmp}
-use Rattle.lane_model.specs.Lanes.{Lane}
+use Rattle.grain_id.specs.Names.{Client}
+use Rattle.lane_model.specs.Lanes.{Lane, same_lane}
 use Rattle.line_service.specs.Places.{ArePlaced, IsPlaceOf}
 use Rattle.line_service.proofs.Added.{first_is, froms_of, froms_stay, pushed_from, written_is}
 use Rattle.line_service.proofs.Places.{placed_more}
@@ -26,7 +25,7 @@ returns-in-Some-clause-placed c = λ giver.
     let lanes = c.args.lanes.now in
     let lane = c.index_mut.result.now in
     let new = c.push.new.self in
-    subst (λ (gs : List (Option Client)). IsPlaceOf gs giver (get (option_cmp client_cmp) c.args.places.now giver))
+    subst (λ (gs : List (Option Client)). IsPlaceOf gs giver (get same_lane c.args.places.now giver))
     (sym (froms_stay lanes.items c.in-Some.place.now lane new c.index_mut.ensures.value (pushed_from c.args.step lane new c.in_ok-push.ensures.added)))
     (c.requires.placed giver)
 
