@@ -1,0 +1,65 @@
+"""A shell by hand over a silo: python -m silo TENANT:ACT:MAIL.."""
+
+from __future__ import annotations
+
+import json
+import os
+import sys
+from typing import Any
+
+from silo import Silo, SiloEnded, SiloError
+
+HELP = """GRAIN METHOD [NAME=VALUE..]   calls a method: counter/red:a add by=3
+GRAIN poke VALUE              writes the grain's row past the grain
+status TENANT, tick NOW, sweep, help, quit"""
+
+
+def value_of(text: str) -> Any:
+    """A word as JSON, or else as text."""
+    try:
+        return json.loads(text)
+    except ValueError:
+        return text
+
+
+def obey(silo: Silo, words: list[str]) -> Any:
+    """What a line of the shell gives."""
+    if words == ["sweep"]:
+        return silo.sweep()
+    if words[0] == "tick" and len(words) == 2:
+        return silo.tick(int(words[1]))
+    if words[0] == "status" and len(words) == 2:
+        return silo.status(f"{words[1]}/shell")
+    kind, slash, rest = words[0].partition("/")
+    if not slash or len(words) < 2:
+        raise ValueError(HELP)
+    caller = f"{rest.partition(':')[0]}/shell"
+    if words[1] == "poke" and len(words) == 3:
+        return silo.poke(caller, words[0], value_of(words[2]))
+    pairs = [word.partition("=") for word in words[2:]]
+    return silo.call(caller, words[0], words[1], {name: value_of(text) for name, _, text in pairs} or None)
+
+
+def shell(tenants: list[str]) -> int:
+    """Reads lines until they end or one says `quit`; gives the status of the silo."""
+    program = os.environ.get("SILO", "silo")
+    silo = Silo(*tenants, program=program, on_told=lambda grain, outcome: print(f"{grain} is told {outcome}"))
+    while True:
+        print("> " if sys.stdin.isatty() else "", end="", flush=True)
+        words = sys.stdin.readline()
+        if not words or words.split() == ["quit"]:
+            return silo.close()
+        try:
+            if words.strip():
+                print(json.dumps(obey(silo, words.split()), ensure_ascii=False), flush=True)
+        except (SiloError, ValueError) as fault:
+            print(fault, flush=True)
+        except SiloEnded as fault:
+            print(fault, file=sys.stderr)
+            return fault.status
+
+
+if __name__ == "__main__":
+    if len(sys.argv) < 2 or sys.argv[1].startswith("-"):
+        sys.exit("usage: python -m silo TENANT:ACT:MAIL..")
+    sys.exit(shell(sys.argv[1:]))
