@@ -1,17 +1,15 @@
 -- What is noted of a value while it is put.
-use Rattle.std.proofs.Common.{◌≡◌, ℕ, suc, max, ◌+◌, ◌-◌, ◌<◌, ◌≤◌, Bool, true, false, ◌||◌, cond, List, [], Option, Some, None, ℤ, refl, sym, ap, subst, ◌∙◌, arith, ltb-true, ltb-false, le-leb}
-use Rattle.std.specs.Prelude.{is_none, option_map, option_and_then}
+use Rattle.std.proofs.Common.{◌≡◌, ℕ, suc, max, ◌+◌, ◌-◌, ◌<◌, ◌≤◌, Bool, true, false, ◌||◌, cond, List, [], Option, Some, None, refl, sym, ap, subst, ◌∙◌, arith, ltb-true, ltb-false, le-leb}
 use Rattle.std.proofs.lemmas.Bool.{lt-leb}
 use Rattle.std.proofs.lemmas.Bool.Decides.{nat_tests}
 use Rattle.serde_json.specs.Data as json
-use Rattle.serde_json.specs.Find.{as_i64}
 use Rattle.json.specs.Token.{Token}
 use Rattle.request_codec.specs.Formed.{IsFormed}
 use Rattle.request_codec.specs.Limits.{depth_limit}
 use Rattle.request_codec.specs.Written.{spelling}
 use Rattle.silo_event.specs.declared.refusal.Refusal.{Refusal}
-use Rattle.request_codec.specs.Tree.{integer, list, map, member, field}
-use Rattle.request_codec.specs.Json.{value_of_json, members_of_json, fields_of_json, json_depth}
+use Rattle.request_codec.specs.Tree.{list, map}
+use Rattle.request_codec.specs.Json.{value_of_json, json_depth}
 use Rattle.request_codec.specs.Lenient.{lenient_value, is_not_whole}
 use Rattle.request_codec.proofs.JsonShown.{value_unless}
 use Rattle.line_parser.specs.Argument.{too_deep, is_deep, AddsFaults, PutsValue, why_by, why_of}

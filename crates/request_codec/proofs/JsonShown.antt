@@ -6,7 +6,7 @@ use Rattle.serde_json.specs.Find.{as_i64}
 use Rattle.serde_json.specs.View.{items_view, members_view}
 use Rattle.serde_json.specs.declared.value.Value.{Value, Array, Object}
 use Rattle.serde_json.proofs.Views.{view-Array, view-Object}
-use Rattle.request_codec.specs.Tree.{Tree, integer, list, map, member, field, members_of, fields_of}
+use Rattle.request_codec.specs.Tree.{integer, list, map, member, field, members_of, fields_of}
 use Rattle.request_codec.specs.Json.{value_of_json, members_of_json, fields_of_json}
 use Rattle.request_codec.specs.Lenient.{lenient_value, lenient_members, lenient_fields, integer_or_null, is_not_whole, are_not_whole, fields_not_whole, json_value, json_entry}
 use Rattle.request_codec.proofs.JsonParts.{JsonEntry}
@@ -17,7 +17,7 @@ items_shown : (vs : List Value) → lenient_members (items_view vs) ≡ members_
 items_shown [] = refl
 items_shown (v ∷ vs) = ap (member (json_value v)) (items_shown vs)
 
-pub members_shown : (es : List JsonEntry) → lenient_fields (members_view es) ≡ fields_of (each json_entry es)
+members_shown : (es : List JsonEntry) → lenient_fields (members_view es) ≡ fields_of (each json_entry es)
 members_shown [] = refl
 members_shown (e ∷ es) = ap (field (string_bytes e.0) (json_value e.1)) (members_shown es)
 
@@ -57,6 +57,6 @@ mutual
   members_unless json.no_items = refl
   members_unless (json.item d ds) = both member (is_not_whole d) (are_not_whole ds) (lenient_value d) (lenient_members ds) (value_of_json d) (members_of_json ds) (value_unless d) (members_unless ds)
 
-  pub fields_unless : (ms : json.Members) → fields_of_json ms ≡ cond (fields_not_whole ms) None (Some (lenient_fields ms))
+  fields_unless : (ms : json.Members) → fields_of_json ms ≡ cond (fields_not_whole ms) None (Some (lenient_fields ms))
   fields_unless json.no_members = refl
   fields_unless (json.member n d ms) = both (field n) (is_not_whole d) (fields_not_whole ms) (lenient_value d) (lenient_fields ms) (value_of_json d) (fields_of_json ms) (value_unless d) (fields_unless ms)

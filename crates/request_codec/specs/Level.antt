@@ -17,12 +17,9 @@ level_value listed named (levels.Map n fields) = tree.map (fields_of (named fiel
 
 -- as many items or fields are given as the level says
 abbrev pub IsCounted : {I F : Type 0} → (I → List Tree) → (F → List Named) → Level I F → Type 0
-IsCounted listed named levels.Null = Unit {0}
-IsCounted listed named (levels.Bool b) = Unit {0}
-IsCounted listed named (levels.Int i) = Unit {0}
-IsCounted listed named (levels.Text s) = Unit {0}
 IsCounted listed named (levels.List n items) = n ≡ length (listed items)
 IsCounted listed named (levels.Map n fields) = n ≡ length (named fields)
+IsCounted listed named _ = Unit {0}
 
 -- what holds of each of some values
 abbrev pub AreKept : (Tree → Type 0) → List Tree → Type 0
@@ -31,9 +28,6 @@ AreKept kept (v ∷ vs) = kept v × AreKept kept vs
 
 -- what holds of what gives the members of a list or the fields of a map
 abbrev pub HoldsInside : {I F : Type 0} → (I → Type 0) → (F → Type 0) → Level I F → Type 0
-HoldsInside items_hold fields_hold levels.Null = Unit {0}
-HoldsInside items_hold fields_hold (levels.Bool b) = Unit {0}
-HoldsInside items_hold fields_hold (levels.Int i) = Unit {0}
-HoldsInside items_hold fields_hold (levels.Text s) = Unit {0}
 HoldsInside items_hold fields_hold (levels.List n items) = items_hold items
 HoldsInside items_hold fields_hold (levels.Map n fields) = fields_hold fields
+HoldsInside items_hold fields_hold _ = Unit {0}

@@ -91,7 +91,8 @@ impl Message {
         ensures reads { Reads (λ read. read) result (message_call bytes.now) }
         ensures spelled { IfOk result (λ read. SpellsMessage read.method read.argument bytes.now) }
         ensures exact { IfOk result (λ read. message_spelling read ≡ bytes.now) }
-        ensures none { result ≡ Err faults.NotAMessage → (method : List ℕ) → (v : Tree) → SpellsMessage method v bytes.now → ⊥ }
+        ensures none { result ≡ Err faults.NotAMessage
+            → (method : List ℕ) → (v : Tree) → SpellsMessage method v bytes.now → ⊥ }
     {
         if !is_message(bytes) {
             return Err(CodecFault::NotAMessage);

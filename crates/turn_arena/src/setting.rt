@@ -1,6 +1,7 @@
 //! Setting one field of a state that is a map, by its bytes: what is in front of the field and behind it stays as it is.
 
-ghost use Rattle.std.specs.Prelude.{◌≡◌, ◌≤◌, ◌∷◌, ◌++◌, ◌-◌, Some, None, IfOk, option_map, length, take, nat_lt, if◌then◌else◌};
+ghost use Rattle.std.specs.Prelude.{◌≡◌, ◌≤◌, ◌∷◌, ◌++◌, ◌-◌, Some, None, IfOk};
+ghost use Rattle.std.specs.Prelude.{option_map, length, take, nat_lt, if◌then◌else◌};
 ghost use Rattle.std.specs.Int.{w32, to_be_bytes};
 ghost use Rattle.request_codec.specs.Answers.{spelled_length};
 ghost use Rattle.request_codec.specs.Formed.{IsFormed};
@@ -108,7 +109,8 @@ fn joined(
     name: &str,
     value: Node<'_>,
 ) -> Result<Vec<u8>, CodecFault>
-    ensures { WritesAll state_limit result (6 ∷ (to_be_bytes w32 place.entry.count ++ (place.entry.front.now ++ (text_spelling name.now ++ (spelling (node_value value.entry) ++ place.entry.behind.now))))) }
+    ensures { WritesAll state_limit result (6 ∷ (to_be_bytes w32 place.entry.count
+        ++ (place.entry.front.now ++ (text_spelling name.now ++ (spelling (node_value value.entry) ++ place.entry.behind.now))))) }
 {
     let mut out = Vec::with_capacity(alloc, room)?;
     put_start(&mut out, MAX_STATE_BYTES, Start::Map(place.count))?;
@@ -132,7 +134,8 @@ pub fn put_spelled(
 ) -> Result<Option<StateBytes>, AllocError>
     requires formed { IsFormed (value_put name.now (node_value value) state.now) }
     requires shallow { depth (value_put name.now (node_value value) state.now) ≤ depth_limit }
-    ensures { IfOk result (λ made. made ≡ (if nat_lt state_limit (spelled_length (value_put name.now (node_value value.entry) state.now)) then None else Some (value_put name.now (node_value value.entry) state.now))) }
+    ensures { IfOk result (λ made. made ≡ (if nat_lt state_limit (spelled_length (value_put name.now (node_value value.entry) state.now))
+        then None else Some (value_put name.now (node_value value.entry) state.now))) }
 {
     let place = place_of(state, name);
     match joined(alloc, room, place, name, value) {

@@ -1,4 +1,4 @@
-use Rattle.std.proofs.Common.{ℕ, ◌+◌, ◌*◌, Bool, length}
+use Rattle.std.proofs.Common.{◌+◌, ◌*◌, Bool, length}
 use Rattle.request_codec.specs.Tree.{members_of, fields_of}
 use Rattle.request_codec.specs.Formed.{TestDepths, TestFieldDepths}
 use Rattle.request_codec.specs.Level.{AreKept}

@@ -7,7 +7,7 @@ use Rattle.serde_json.specs.View.{view, items_view, members_view}
 use Rattle.serde_json.specs.declared.value.Value.{Value}
 use Rattle.serde_json.proofs.Views.{view-Object}
 use Rattle.request_codec.specs.Tree as tree
-use Rattle.request_codec.specs.Tree.{Tree, Fields, members_of, fields_of}
+use Rattle.request_codec.specs.Tree.{Tree}
 use Rattle.request_codec.specs.Seen.{value_of, entry_of}
 use Rattle.request_codec.specs.Json.{value_of_json, members_of_json, fields_of_json}
 use Rattle.request_codec.proofs.DatumValue.{value_of-Map}

@@ -1,8 +1,6 @@
-use Rattle.std.proofs.Common.{◌≡◌, ℕ, ◌<◌, ◌≤◌, Bool, true, false, cond, Option, Some, None, sym, ap, subst, ◌∙◌}
+use Rattle.std.proofs.Common.{◌≡◌, ℕ, ◌<◌, ◌≤◌, Bool, true, false, cond, Some, None, sym, ap, subst, ◌∙◌}
 use Rattle.serde_json.specs.View.{view}
 use Rattle.request_codec.specs.Limits.{depth_limit}
-use Rattle.request_codec.specs.Tree.{Tree}
-use Rattle.request_codec.specs.Json.{value_of_json, json_depth}
 use Rattle.request_codec.specs.Lenient.{lenient_value, is_not_whole}
 use Rattle.request_codec.proofs.JsonDepths.{lenient_deep}
 use Rattle.request_codec.proofs.JsonShown.{value_unless}
