@@ -1,0 +1,491 @@
+-- Steps that are tried one after another.
+use Rattle.std.proofs.Common.{◌≡◌, ◌≢◌, ℕ, zero, suc, ◌+◌, ◌-◌, ◌==◌, Bool, true, false, cond, List, [], ◌∷◌, ◌++◌, length, Option, Some, None, unwrap_or, refl, ap, sym, ◌∙◌, subst, arith, append_assoc, true≢false}
+use Rattle.std.specs.Prelude.{is_some, Ok, if◌then◌else◌}
+use Rattle.std.specs.FinMap as map
+use Rattle.std.proofs.lemmas.List.{append-nil}
+use Rattle.std.proofs.lemmas.Option.{none-some, same_Some}
+use Rattle.grain_id.specs.Names.{Client, Grain}
+use Rattle.request_codec.specs.Tree.{Tree}
+use Rattle.grain_kinds.specs.declared.turn.OpenedTurn.{OpenedTurn}
+use Rattle.silo_event.specs.Asker.{asker_of}
+use Rattle.silo_event.specs.Owner.{owner_of}
+use Rattle.silo_event.specs.Failed.{has_failed, may_fail, as_failed}
+use Rattle.silo_event.specs.declared.step.Step.{Step}
+use Rattle.silo_event.specs.declared.step.Step.TheVariants.{Refuse, Call, Poke, Status, Deliver, Activate, Load, Begin, Store, End, Abandon, Tick, Sweep}
+use Rattle.silo_event.specs.declared.step.Answer.TheVariants.{Done, Failed, NotNow}
+use Rattle.grain_kinds.specs.Logic.{Logic}
+use Rattle.silo_model.specs.Machine.{Entry, Request, Send, Phase, waiting, loading, ready}
+use Rattle.silo_model.specs.Opening.{Setup}
+use Rattle.silo_model.specs.Journal.{LeadsTo}
+use Rattle.silo_model.specs.Pending.{sends_of}
+use Rattle.silo_model.specs.Sends.{first_target}
+use Rattle.silo_model.specs.Turns.{may_open, reads}
+use Rattle.silo_model.specs.Whole.{Whole, whole_step}
+use Rattle.silo_model.specs.Run.{if_possible, done_by, whole_run}
+use Rattle.silo_model.proofs.Runs.{whole_after, run_by-append, done_by-append}
+use Rattle.silo_state.specs.Entries.{front_turn, turn_in, opened_turn}
+use Rattle.silo_state.specs.Sends.{first_source}
+use Rattle.silo_core.specs.History.{History, Failures, Advances, Fails, StaysAsItWas, Answered, failed_since}
+use Rattle.answer_model.specs.Answering.{Luck, Closing, well, storage_failed, out_of_memory, Stepper, whole_stepper, can, taken_by, raising, ending, closing, turn_of, turn_of_first, turning, serving, serving_if, bringing, is_accepted, delivering, deliveries, deliveries_of, good, is_asked, called_grain}
+use Rattle.answer_model.proofs.Served.{source_own, target_is}
+use Rattle.line_answer.specs.Trying.{failed_among, Tries, is_possible, TakesNow, IsFirst, Begins, Brings, IsOldest, Delivers, AnswersAsked}
+
+-- ---- lists of steps that are tried
+
+failed_among-append : (steps others : List Step) → failed_among (steps ++ others) ≡ failed_among steps + failed_among others
+failed_among-append [] others = omega arith
+failed_among-append (s ∷ steps) others = omega (arith, failed_among-append steps others)
+
+since : (n m k : ℕ) (f : Failures) → k ≡ n + m → failed_since k f ≡ failed_since m (failed_since n f)
+since n m k f is = λ i. record { at_opening = f.at_opening; now = sums i }
+  where
+    sums : f.now + k ≡ f.now + n + m
+    sums = omega arith
+
+since_none : (f : Failures) → f ≡ failed_since 0 f
+since_none f = λ i. record { at_opening = f.at_opening; now = sums i }
+  where
+    sums : f.now ≡ f.now + 0
+    sums = omega arith
+
+module _ (logic : Logic) where
+  pub tries_none : (old : History) → Tries logic old [] old
+  tries_none old = record { setup = refl; whole = refl; journal = sym (append-nil old.journal); failures = since_none old.failures }
+
+  pub tries_on : (old mid new : History) (steps others : List Step) → Tries logic old steps mid → Tries logic mid others new → Tries logic old (steps ++ others) new
+  tries_on old mid new steps others p q =
+      let done = done_by (whole_step logic) old.whole steps in
+      let later : done_by (whole_step logic) mid.whole others ≡ done_by (whole_step logic) (whole_run logic old.whole steps) others = ap (λ w. done_by (whole_step logic) w others) p.whole in
+      let all : done_by (whole_step logic) old.whole (steps ++ others) ≡ done ++ done_by (whole_step logic) mid.whole others = done_by-append (whole_step logic) old.whole steps others ∙ ap (λ ss. done ++ ss) (sym later) in
+      record {
+        setup = q.setup ∙ p.setup;
+        whole = q.whole ∙ ap (λ w. whole_run logic w others) p.whole ∙ sym (run_by-append (whole_step logic) old.whole steps others);
+        journal = q.journal ∙ ap (λ j. j ++ done_by (whole_step logic) mid.whole others) p.journal ∙ append_assoc old.journal done _ ∙ ap (λ ss. old.journal ++ ss) (sym all);
+        failures =
+            q.failures ∙ ap (failed_since (failed_among (done_by (whole_step logic) mid.whole others))) p.failures
+            ∙ sym (since (failed_among done) (failed_among (done_by (whole_step logic) mid.whole others)) (failed_among (done_by (whole_step logic) old.whole (steps ++ others))) old.failures
+            (ap failed_among all ∙ failed_among-append done (done_by (whole_step logic) mid.whole others)));
+      }
+
+  -- a step that isn't possible changes nothing
+  pub tries_not : (old : History) (s : Step) → is_possible logic old.whole s ≡ false → Tries logic old (s ∷ []) old
+  tries_not old s never = by_step (whole_step logic old.whole s) refl
+    where
+      none_of : (r : Option Whole) → whole_step logic old.whole s ≡ r → r ≡ None → Tries logic old (s ∷ []) old
+      none_of r is none =
+          let step = is ∙ none in
+          record {
+            setup = refl;
+            whole = sym (ap (λ o. unwrap_or o old.whole) step);
+            journal = sym (append-nil old.journal) ∙ sym (ap (λ o. old.journal ++ (if_possible s o ++ [])) step);
+            failures = since_none old.failures ∙ sym (ap (λ o. failed_since (failed_among (if_possible s o ++ [])) old.failures) step);
+          }
+
+      by_step : (r : Option Whole) → whole_step logic old.whole s ≡ r → Tries logic old (s ∷ []) old
+      by_step None is = none_of None is refl
+      by_step (Some after) is = absurd (true≢false (sym (ap is_some is) ∙ never))
+
+  -- a step that is done
+  tries_step : (old new : History) (s : Step) (failed : ℕ) → failed ≡ failed_among (s ∷ []) → Advances logic old s failed new → Tries logic old (s ∷ []) new
+  tries_step old new s failed marked adv = record {
+    setup = adv.setup;
+    whole = sym (ap (λ o. unwrap_or o old.whole) adv.whole);
+    journal = adv.journal ∙ sym (ap (λ o. old.journal ++ (if_possible s o ++ [])) adv.whole);
+    failures = adv.failures ∙ ap (λ n. failed_since n old.failures) marked ∙ sym (ap (λ o. failed_since (failed_among (if_possible s o ++ [])) old.failures) adv.whole);
+  }
+
+  marked_once : (s : Step) → may_fail s ≡ true → failed_among (as_failed s ∷ []) ≡ 1
+  marked_once (Poke failed caller id grain state) h = refl
+  marked_once (Load grain failed) h = refl
+  marked_once (Store grain turn failed) h = refl
+  marked_once (Refuse caller id code) h = absurd (true≢false (sym h))
+  marked_once (Call caller id grain message) h = absurd (true≢false (sym h))
+  marked_once (Status caller id) h = absurd (true≢false (sym h))
+  marked_once (Deliver grain) h = absurd (true≢false (sym h))
+  marked_once (Activate grain) h = absurd (true≢false (sym h))
+  marked_once (Begin grain) h = absurd (true≢false (sym h))
+  marked_once (End grain turn) h = absurd (true≢false (sym h))
+  marked_once (Abandon grain turn) h = absurd (true≢false (sym h))
+  marked_once (Tick now) h = absurd (true≢false (sym h))
+  marked_once Sweep h = absurd (true≢false (sym h))
+
+  pub takes_done : (old new : History) (s : Step) → has_failed s ≡ false → Advances logic old s 0 new → TakesNow logic old s true new
+  takes_done old new s plain adv = (false, tries_step old new s 0 (sym (ap (λ b. (if b then 1 else 0) + 0) plain)) adv, ap is_some adv.whole)
+
+  pub takes_failed : (old new : History) (s : Step) → Fails logic old s new → TakesNow logic old s true new
+  takes_failed old new s fails = (true, tries_step old new (as_failed s) 1 (sym (marked_once s fails.calls)) fails.advances, ap is_some fails.advances.whole)
+
+  pub takes_not : (old new : History) (s : Step) → StaysAsItWas logic old s new → TakesNow logic old s false new
+  takes_not old new s stays = (ap is_some stays.impossible, stays.unchanged)
+
+  -- ---- one request
+
+  -- a step whose storage is never called is taken as it is
+  plain_activate : (b : Bool) (g : Grain) → taken_by b (Activate g) ≡ Activate g
+  plain_activate true g = refl
+  plain_activate false g = refl
+
+  plain_end : (b : Bool) (g : Grain) (turn : ℕ) → taken_by b (End g turn) ≡ End g turn
+  plain_end true g turn = refl
+  plain_end false g turn = refl
+
+  plain_abandon : (b : Bool) (g : Grain) (turn : ℕ) → taken_by b (Abandon g turn) ≡ Abandon g turn
+  plain_abandon true g turn = refl
+  plain_abandon false g turn = refl
+
+  marked_load : (b : Bool) (g : Grain) → taken_by b (Load g false) ≡ Load g b
+  marked_load true g = refl
+  marked_load false g = refl
+
+  marked_store : (b : Bool) (g : Grain) (turn : ℕ) → taken_by b (Store g turn false) ≡ Store g turn b
+  marked_store true g turn = refl
+  marked_store false g turn = refl
+
+  -- a step that was taken or not was tried
+  pub tried : (old new : History) (s : Step) (done : Bool) → TakesNow logic old s done new → (failed : Bool) × Tries logic old (taken_by failed s ∷ []) new × (is_possible logic old.whole (taken_by failed s) ≡ done)
+  tried old new s true takes = takes
+  tried old new s false takes = (false, subst (Tries logic old (s ∷ [])) (sym takes.1) (tries_not old s takes.0), takes.0)
+
+  module _ (old mid new : History) (g : Grain) where
+    abbrev Raised : Type 0
+    Raised = (failed : Bool) × Tries logic old (raising (whole_stepper logic) old.whole g failed) new
+
+    pub raised : (done : Bool) → TakesNow logic old (Activate g) true mid → TakesNow logic mid (Load g false) done new → Raised
+    raised done up loads =
+        let all = tried mid new (Load g false) done loads in
+        let possible = ap (is_possible logic old.whole) (sym (plain_activate up.0 g)) ∙ up.2 in (
+          all.0,
+          subst (λ b. Tries logic old (if b then Activate g ∷ Load g all.0 ∷ [] else []) new) (sym possible)
+              (tries_on old mid new (Activate g ∷ []) (Load g all.0 ∷ [])
+              (subst (λ s. Tries logic old (s ∷ []) mid) (plain_activate up.0 g) up.1)
+              (subst (λ s. Tries logic mid (s ∷ []) new) (marked_load all.0 g) all.1)),
+        )
+
+  pub not_raised : (old new : History) (g : Grain) → TakesNow logic old (Activate g) false new → Raised old old new g
+  not_raised old new g takes =
+      (false, subst (λ b. Tries logic old (if b then Activate g ∷ Load g false ∷ [] else []) new) (sym takes.0) (subst (Tries logic old []) (sym takes.1) (tries_none old)))
+
+  abbrev EndsTurn : History → Grain → ℕ → History → Type 0
+  EndsTurn old g turn new = (failed : Bool) × Tries logic old (ending (whole_stepper logic) old.whole g turn failed) new
+
+  pub ended : (old new : History) (g : Grain) (turn : ℕ) → TakesNow logic old (End g turn) true new → EndsTurn old g turn new
+  ended old new g turn takes =
+      let possible = ap (is_possible logic old.whole) (sym (plain_end takes.0 g turn)) ∙ takes.2 in (
+        false,
+        subst (λ b. Tries logic old (if b then End g turn ∷ [] else Store g turn false ∷ []) new) (sym possible)
+            (subst (λ s. Tries logic old (s ∷ []) new) (plain_end takes.0 g turn) takes.1),
+      )
+
+  pub stored : (old mid new : History) (g : Grain) (turn : ℕ) (done : Bool) → TakesNow logic old (End g turn) false mid → TakesNow logic mid (Store g turn false) done new
+      → EndsTurn old g turn new
+  stored old mid new g turn done not takes =
+      let all = tried mid new (Store g turn false) done takes in (
+        all.0,
+        subst (λ b. Tries logic old (if b then End g turn ∷ [] else Store g turn all.0 ∷ []) new) (sym not.0)
+            (subst (λ h. Tries logic h (Store g turn all.0 ∷ []) new) not.1 (subst (λ s. Tries logic mid (s ∷ []) new) (marked_store all.0 g turn) all.1)),
+      )
+
+  abbrev ClosesTurn : History → Grain → ℕ → History → Type 0
+  ClosesTurn old g turn new = (how : Closing) × Tries logic old (closing (whole_stepper logic) old.whole g turn how) new
+
+  pub closed : (old new : History) (g : Grain) (turn : ℕ) → EndsTurn old g turn new → ClosesTurn old g turn new
+  closed old new g turn (false, tries) = (well, tries)
+  closed old new g turn (true, tries) = (storage_failed, tries)
+
+  pub given_up : (old new : History) (g : Grain) (turn : ℕ) (done : Bool) → TakesNow logic old (Abandon g turn) done new → ClosesTurn old g turn new
+  given_up old new g turn done takes =
+      let all = tried old new (Abandon g turn) done takes in
+      (out_of_memory, subst (λ s. Tries logic old (s ∷ []) new) (plain_abandon all.0 g turn) all.1)
+
+  -- ---- the request's turn, and all of it
+
+  first_of : (g : Grain) (e : Entry) (state : Tree) (turn : OpenedTurn) (queue : List Request) → e.queue ≡ queue → front_turn logic g e state queue ≡ Some turn
+      → (first : Request) × (others : List Request) × (e.queue ≡ first ∷ others) × (first.number ≡ turn.number)
+  first_of g e state turn [] is front = absurd (none-some turn front)
+  first_of g e state turn (first ∷ others) is front = (first, others, is, by_test (may_open logic g e first) front)
+    where
+      by_test : (b : Bool) → (if b then Some (record { grain = g; number = first.number; reading = reads logic g first; state = state; message = first.call }) else None) ≡ Some turn
+          → first.number ≡ turn.number
+      by_test true same = ap (λ (x : OpenedTurn). x.number) (same_Some _ turn same)
+      by_test false same = absurd (none-some turn same)
+
+  first_in : (w : Whole) (g : Grain) (turn : OpenedTurn) (e : Entry) → map.get w.entries g ≡ Some e → (p : Phase) → turn_in logic g e p ≡ Some turn → IsFirst w g turn.number
+  first_in w g turn e found waiting is = absurd (none-some turn is)
+  first_in w g turn e found loading is = absurd (none-some turn is)
+  first_in w g turn e found (ready state version) is =
+      let first = first_of g e state turn e.queue refl is in
+      record { entry = e; first = first.0; others = first.1; found = found; queue = first.2; numbered = first.3 }
+
+  first_at : (w : Whole) (g : Grain) (turn : OpenedTurn) (found : Option Entry) → map.get w.entries g ≡ found → opened_turn logic g found ≡ Some turn → IsFirst w g turn.number
+  first_at w g turn None found is = absurd (none-some turn is)
+  first_at w g turn (Some e) found is = first_in w g turn e found e.phase is
+
+  -- a turn began
+  pub begun : (old new : History) (g : Grain) (turn : OpenedTurn) → Answered logic old (Begin g) (Ok Done) new → opened_turn logic g (map.get old.whole.entries g) ≡ Some turn
+      → Begins logic old g (Some turn.number) new
+  begun old new g turn answered is = (
+    tries_step old new (Begin g) 0 refl answered,
+    ap is_some answered.whole,
+    first_at old.whole g turn (map.get old.whole.entries g) refl is,
+  )
+
+  abbrev Serves : History → Grain → History → Type 0
+  Serves old g new = (luck : Luck) × Tries logic old (serving (whole_stepper logic) old.whole g luck) new
+
+  abbrev with_luck : Bool → Closing → Luck
+  with_luck failed how = record { asking_failed = false; loading_failed = failed; closing = how }
+
+  -- in the whole where the steps before led
+  turning_at : (old mid new : History) (g : Grain) (failed : Bool) (how : Closing) → Tries logic old (raising (whole_stepper logic) old.whole g failed) mid
+      → Tries logic mid (turning (whole_stepper logic) mid.whole g how) new → Serves old g new
+  turning_at old mid new g failed how up turn =
+      let steps = raising (whole_stepper logic) old.whole g failed in (
+        with_luck failed how,
+        tries_on old mid new steps _ up (subst (λ w. Tries logic mid (turning (whole_stepper logic) w g how) new) up.whole turn),
+      )
+
+  pub served_not : (old mid new : History) (g : Grain) → Raised old old mid g → Begins logic mid g None new → Serves old g new
+  served_not old mid new g up begins =
+      turning_at old mid new g up.0 well up.1
+      (subst (λ b. Tries logic mid (if b then turn_of (whole_stepper logic) mid.whole g well (map.get mid.whole.entries g) else []) new) (sym begins.0)
+      (subst (Tries logic mid []) (sym begins.1) (tries_none mid)))
+
+  pub served : (old mid begun new : History) (g : Grain) (number : ℕ) → Raised old old mid g → Begins logic mid g (Some number) begun → ClosesTurn begun g number new
+      → Serves old g new
+  served old mid begun new g number up begins closes =
+      let by = whole_stepper logic in
+      let w = mid.whole in
+      let first = begins.2 in
+      turning_at old mid new g up.0 closes.0 up.1
+      (subst (λ b. Tries logic mid (if b then turn_of by w g closes.0 (map.get w.entries g) else []) new) (sym begins.1)
+      (subst (λ found. Tries logic mid (turn_of by w g closes.0 found) new) (sym first.found)
+      (subst (λ queue. Tries logic mid (turn_of_first by w g closes.0 queue) new) (sym first.queue)
+      (tries_on mid begun new (Begin g ∷ []) _ begins.0
+      (subst (λ n. Tries logic begun (closing by (whole_after logic w (Begin g)) g n closes.0) new) (sym first.numbered)
+      (subst (λ x. Tries logic begun (closing by x g number closes.0) new) begins.0.whole closes.1))))))
+
+  -- ---- a step that may bring a request
+
+  abbrev Bringing : History → Step → Option Grain → Bool → History → Type 0
+  Bringing = Brings logic
+
+  module _ (old mid : History) (s : Step) (done : Bool) (takes : TakesNow logic old s done mid) where
+    abbrev all_of : (failed : Bool) × Tries logic old (taken_by failed s ∷ []) mid × (is_possible logic old.whole (taken_by failed s) ≡ done)
+    all_of = tried old mid s done takes
+
+    abbrev asking_luck : Luck
+    asking_luck = record { asking_failed = all_of.0; loading_failed = false; closing = well }
+
+    pub brought_none : Bringing old s None done mid
+    brought_none = (asking_luck, all_of.1, all_of.2)
+
+    same_test : (g : Grain) (b : Bool) → (length mid.whole.replies == length old.whole.replies) ≡ b
+        → is_accepted (whole_stepper logic) old.whole (whole_after logic old.whole (taken_by all_of.0 s)) ≡ b
+    same_test g b is = ap (λ (w : Whole). length w.replies == length old.whole.replies) (sym all_of.1.whole) ∙ is
+
+    pub brought_refused : (g : Grain) → (length mid.whole.replies == length old.whole.replies) ≡ false → Bringing old s (Some g) done mid
+    brought_refused g refused =
+        let after = whole_after logic old.whole (taken_by all_of.0 s) in (
+          asking_luck,
+          subst (λ b. Tries logic old (taken_by all_of.0 s ∷ (if b then serving (whole_stepper logic) after g asking_luck else [])) mid) (sym (same_test g false refused)) all_of.1,
+          all_of.2,
+        )
+
+    pub brought : (g : Grain) (new : History) → (length mid.whole.replies == length old.whole.replies) ≡ true → Serves mid g new → Bringing old s (Some g) done new
+    brought g new accepted serves =
+        let after = whole_after logic old.whole (taken_by all_of.0 s) in
+        let luck : Luck = record serves.0 { asking_failed = all_of.0 } in (
+          luck,
+          subst (λ b. Tries logic old (taken_by all_of.0 s ∷ (if b then serving (whole_stepper logic) after g luck else [])) new) (sym (same_test g true accepted))
+              (tries_on old mid new (taken_by all_of.0 s ∷ []) (serving (whole_stepper logic) after g luck) all_of.1
+              (subst (λ w. Tries logic mid (serving (whole_stepper logic) w g luck) new) all_of.1.whole serves.1)),
+          all_of.2,
+        )
+
+-- ---- what a tenant's grains sent
+
+plain_deliver : (b : Bool) (g : Grain) → taken_by b (Deliver g) ≡ Deliver g
+plain_deliver true g = refl
+plain_deliver false g = refl
+
+module _ (logic : Logic) (setup : Setup) (journal : List Step) (w : Whole) (tenant : List ℕ) (leads : LeadsTo logic setup journal w) where
+  first_by : (source : Grain) (sends : List Send) → first_source sends ≡ Some source → (oldest : Send) × (others : List Send) × (sends ≡ oldest ∷ others) × (oldest.source ≡ source)
+  first_by source [] is = absurd (none-some source is)
+  first_by source (oldest ∷ others) is = (oldest, others, refl, same_Some oldest.source source is)
+
+  target_of : (source : Grain) (oldest : Send) (others : List Send) → sends_of (map.get w.accounts tenant) ≡ oldest ∷ others → oldest.source ≡ source
+      → first_target (map.get w.accounts source.tenant) source ≡ Some oldest.message.target
+  target_of source oldest others is same =
+      let own = source_own logic setup tenant oldest others w (journal, leads) is in
+      ap (λ (g : Grain). first_target (map.get w.accounts g.tenant) g) (sym same)
+      ∙ ap (λ t. first_target (map.get w.accounts t) oldest.source) own
+      ∙ target_is logic setup tenant oldest others w is
+
+  pub has_target : (source : Grain) → first_source (sends_of (map.get w.accounts tenant)) ≡ Some source → first_target (map.get w.accounts source.tenant) source ≡ None → ⊥
+  has_target source first none =
+      let found = first_by source (sends_of (map.get w.accounts tenant)) first in
+      none-some found.0.message.target (sym none ∙ target_of source found.0 found.1 found.2 found.3)
+
+  pub oldest_is : (source target : Grain) → first_source (sends_of (map.get w.accounts tenant)) ≡ Some source → first_target (map.get w.accounts source.tenant) source ≡ Some target
+      → IsOldest w tenant (Some (source, target))
+  oldest_is source target first second =
+      let found = first_by source (sends_of (map.get w.accounts tenant)) first in
+      (found.0, found.1, found.2, found.3, same_Some found.0.message.target target (sym (target_of source found.0 found.1 found.2 found.3) ∙ second))
+
+  none_by : (sends : List Send) → first_source sends ≡ None → sends ≡ []
+  none_by [] is = refl
+  none_by (oldest ∷ others) is = absurd (none-some oldest.source (sym is))
+
+  pub oldest_none : first_source (sends_of (map.get w.accounts tenant)) ≡ None → IsOldest w tenant None
+  oldest_none none = none_by (sends_of (map.get w.accounts tenant)) none
+
+module _ (logic : Logic) (old new : History) (tenant : List ℕ) where
+  pub delivered : (source target : Grain) (done : Bool) → IsOldest old.whole tenant (Some (source, target)) → Brings logic old (Deliver source) (Some target) done new
+      → Delivers logic old tenant true new
+  delivered source target done (oldest, others, is, from, to) brings =
+      let by = whole_stepper logic in (
+        brings.0,
+        subst (λ sends. Tries logic old (delivering by old.whole sends brings.0) new) (sym is)
+            (subst (λ (g : Grain). Tries logic old (bringing by old.whole (Deliver g) (Some oldest.message.target) brings.0) new) (sym from)
+            (subst (λ (g : Grain). Tries logic old (bringing by old.whole (Deliver source) (Some g) brings.0) new) (sym to)
+            (subst (λ s. Tries logic old (bringing by old.whole s (Some target) brings.0) new) (plain_deliver brings.0.asking_failed source) brings.1))),
+      )
+
+-- so many deliveries are left
+pub record Goes (logic : Logic) (n : ℕ) (tenant : List ℕ) (old : History) (left : ℕ) (now : History) : Type 0 where
+  pub done : List Step
+  pub lucks : List Luck
+  pub tries : Tries logic old done now
+  pub rest : (more : List Luck) → deliveries (whole_stepper logic) n old.whole tenant (lucks ++ more) ≡ done ++ deliveries (whole_stepper logic) left now.whole tenant more
+
+module _ (logic : Logic) (n : ℕ) (tenant : List ℕ) (old : History) where
+  abbrev HasDelivered : History → Type 0
+  HasDelivered new = (lucks : List Luck) × Tries logic old (deliveries (whole_stepper logic) n old.whole tenant lucks) new
+
+  goes_none : Goes logic n tenant old n old
+  goes_none = record { done = []; lucks = []; tries = tries_none logic old; rest = λ more. refl }
+
+  pub goes_start : (left : ℕ) → n ≡ left → Goes logic n tenant old left old
+  goes_start left is = subst (λ k. Goes logic n tenant old k old) is goes_none
+
+  goes_on : (left : ℕ) (mid new : History) → Goes logic n tenant old (suc left) mid → Delivers logic mid tenant true new → Goes logic n tenant old left new
+  goes_on left mid new p (luck, tries) =
+      let by = whole_stepper logic in
+      let steps = delivering by mid.whole (sends_of (map.get mid.whole.accounts tenant)) luck in
+      record {
+        done = p.done ++ steps;
+        lucks = p.lucks ++ luck ∷ [];
+        tries = tries_on logic old mid new p.done steps p.tries tries;
+        rest = λ more.
+            ap (λ lucks. deliveries by n old.whole tenant lucks) (append_assoc p.lucks (luck ∷ []) more)
+            ∙ p.rest (luck ∷ more)
+            ∙ ap (λ w. p.done ++ (steps ++ deliveries by left w tenant more)) (sym tries.whole)
+            ∙ sym (append_assoc p.done steps (deliveries by left new.whole tenant more));
+      }
+
+  pub goes_more : (left next : ℕ) (mid new : History) → left ≡ next + 1 → Goes logic n tenant old left mid → Delivers logic mid tenant true new → Goes logic n tenant old next new
+  goes_more left next mid new is p delivers = goes_on next mid new (subst (λ k. Goes logic n tenant old k mid) (is ∙ more_is next) p) delivers
+    where
+      more_is : (k : ℕ) → k + 1 ≡ suc k
+      more_is k = omega arith
+
+  no_more : (k : ℕ) (w : Whole) → sends_of (map.get w.accounts tenant) ≡ [] → deliveries (whole_stepper logic) k w tenant [] ≡ []
+  no_more zero w none = refl
+  no_more (suc k) w none =
+      ap (λ sends. delivering (whole_stepper logic) w sends good ++ deliveries (whole_stepper logic) k (whole_run logic w (delivering (whole_stepper logic) w sends good)) tenant []) none
+      ∙ no_more k w none
+
+  pub goes_out : (left : ℕ) (mid new : History) → Goes logic n tenant old left mid → Delivers logic mid tenant false new → HasDelivered new
+  goes_out left mid new p (none, same) =
+      let by = whole_stepper logic in (
+        p.lucks,
+        subst (λ h. Tries logic old (deliveries by n old.whole tenant p.lucks) h) (sym same)
+            (subst (λ steps. Tries logic old steps mid)
+            (sym (ap (λ lucks. deliveries by n old.whole tenant lucks) (sym (append-nil p.lucks)) ∙ p.rest [] ∙ ap (λ ss. p.done ++ ss) (no_more left mid.whole none) ∙ append-nil p.done))
+            p.tries),
+      )
+
+  pub goes_all : (left : ℕ) (new : History) → left ≡ 0 → Goes logic n tenant old left new → HasDelivered new
+  goes_all left new none p =
+      let by = whole_stepper logic in (
+        p.lucks,
+        subst (λ steps. Tries logic old steps new)
+            (sym (ap (λ lucks. deliveries by n old.whole tenant lucks) (sym (append-nil p.lucks)) ∙ p.rest []
+            ∙ ap (λ k. p.done ++ deliveries by k new.whole tenant []) none ∙ append-nil p.done))
+            p.tries,
+      )
+
+-- ---- all that is asked
+
+owner_by_asker : (s : Step) (caller : Client) → asker_of s ≡ Some caller → owner_of s ≡ Some caller.tenant
+owner_by_asker (Refuse c id code) caller is = ap (λ (x : Client). Some x.tenant) (same_Some c caller is)
+owner_by_asker (Call c id grain message) caller is = ap (λ (x : Client). Some x.tenant) (same_Some c caller is)
+owner_by_asker (Poke failed c id grain state) caller is = ap (λ (x : Client). Some x.tenant) (same_Some c caller is)
+owner_by_asker (Status c id) caller is = ap (λ (x : Client). Some x.tenant) (same_Some c caller is)
+owner_by_asker (Deliver grain) caller is = absurd (none-some caller is)
+owner_by_asker (Activate grain) caller is = absurd (none-some caller is)
+owner_by_asker (Load grain failed) caller is = absurd (none-some caller is)
+owner_by_asker (Begin grain) caller is = absurd (none-some caller is)
+owner_by_asker (Store grain turn failed) caller is = absurd (none-some caller is)
+owner_by_asker (End grain turn) caller is = absurd (none-some caller is)
+owner_by_asker (Abandon grain turn) caller is = absurd (none-some caller is)
+owner_by_asker (Tick now) caller is = absurd (none-some caller is)
+owner_by_asker Sweep caller is = absurd (none-some caller is)
+
+nobodys : (s : Step) → asker_of s ≡ None → is_asked s ≡ true → owner_of s ≡ None
+nobodys (Tick now) none asked = refl
+nobodys Sweep none asked = refl
+nobodys (Refuse c id code) none asked = absurd (none-some c (sym none))
+nobodys (Call c id grain message) none asked = absurd (none-some c (sym none))
+nobodys (Poke failed c id grain state) none asked = absurd (none-some c (sym none))
+nobodys (Status c id) none asked = absurd (none-some c (sym none))
+nobodys (Deliver grain) none asked = absurd (true≢false (sym asked))
+nobodys (Activate grain) none asked = absurd (true≢false (sym asked))
+nobodys (Load grain failed) none asked = absurd (true≢false (sym asked))
+nobodys (Begin grain) none asked = absurd (true≢false (sym asked))
+nobodys (Store grain turn failed) none asked = absurd (true≢false (sym asked))
+nobodys (End grain turn) none asked = absurd (true≢false (sym asked))
+nobodys (Abandon grain turn) none asked = absurd (true≢false (sym asked))
+
+-- what is asked has no mark of a failure
+pub asked_plain : (s : Step) → is_asked s ≡ true → has_failed s ≡ false
+asked_plain (Poke true c id grain state) asked = absurd (true≢false (sym asked))
+asked_plain (Poke false c id grain state) asked = refl
+asked_plain (Load grain failed) asked = absurd (true≢false (sym asked))
+asked_plain (Store grain turn failed) asked = absurd (true≢false (sym asked))
+asked_plain (Refuse c id code) asked = refl
+asked_plain (Call c id grain message) asked = refl
+asked_plain (Status c id) asked = refl
+asked_plain (Deliver grain) asked = refl
+asked_plain (Activate grain) asked = refl
+asked_plain (Begin grain) asked = refl
+asked_plain (End grain turn) asked = refl
+asked_plain (Abandon grain turn) asked = refl
+asked_plain (Tick now) asked = refl
+asked_plain Sweep asked = refl
+
+module _ (logic : Logic) (n : ℕ) (old mid new : History) (s : Step) (done : Bool) (brings : Brings logic old s (called_grain s) done mid) where
+  abbrev Answers : Type 0
+  Answers = AnswersAsked logic n old s done new
+
+  -- with the deliveries behind it
+  answers_by : (owner : Option (List ℕ)) (later : List Luck) → owner_of s ≡ owner
+      → Tries logic mid (deliveries_of (whole_stepper logic) n mid.whole owner later) new → Answers
+  answers_by owner later is delivers =
+      let by = whole_stepper logic in
+      let steps = bringing by old.whole (taken_by brings.0.asking_failed s) (called_grain s) brings.0 in
+      record {
+        lucks = brings.0 ∷ later;
+        tries = tries_on logic old mid new steps _ brings.1
+            (subst (λ w. Tries logic mid (deliveries_of by n w (owner_of s) later) new) brings.1.whole
+            (subst (λ o. Tries logic mid (deliveries_of by n mid.whole o later) new) (sym is) delivers));
+        possible = brings.2;
+      }
+
+  -- a client asked
+  pub answers_client : (caller : Client) → asker_of s ≡ Some caller → (lucks : List Luck) × Tries logic mid (deliveries (whole_stepper logic) n mid.whole caller.tenant lucks) new → Answers
+  answers_client caller is (lucks, tries) = answers_by (Some caller.tenant) lucks (owner_by_asker s caller is) tries
+
+  -- nobody did
+  pub answers_nobody : asker_of s ≡ None → is_asked s ≡ true → new ≡ mid → Answers
+  answers_nobody none asked same = answers_by None [] (nobodys s none asked) (subst (Tries logic mid []) (sym same) (tries_none logic mid))

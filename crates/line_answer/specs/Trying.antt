@@ -1,0 +1,71 @@
+-- Steps that are tried one after another in a silo: those that are possible are done.
+use Rattle.std.specs.Prelude.{◌≡◌, ℕ, ◌+◌, Bool, true, false, List, [], ◌∷◌, ◌++◌, Option, Some, None, is_some, if◌then◌else◌}
+use Rattle.std.specs.FinMap as map
+use Rattle.grain_id.specs.Names.{Grain}
+use Rattle.silo_event.specs.Failed.{has_failed}
+use Rattle.silo_event.specs.declared.step.Step.{Step}
+use Rattle.silo_event.specs.declared.step.Step.TheVariants.{Begin}
+use Rattle.grain_kinds.specs.Logic.{Logic}
+use Rattle.silo_model.specs.Machine.{Entry, Request, Send}
+use Rattle.silo_model.specs.Pending.{sends_of}
+use Rattle.silo_model.specs.Whole.{Whole, whole_step}
+use Rattle.silo_model.specs.Run.{done_by, whole_run}
+use Rattle.silo_core.specs.History.{History, failed_since}
+use Rattle.answer_model.specs.Answering.{Luck, Asked, taken_by, taken, first_luck, bringing, delivering, answering, whole_stepper}
+
+-- how many of the steps have the mark of a failure
+abbrev pub failed_among : List Step → ℕ
+failed_among [] = 0
+failed_among (s ∷ steps) = (if has_failed s then 1 else 0) + failed_among steps
+
+-- The steps were tried, and led from the old history to the new one: those that were done stand in the journal, and so many calls of the storage failed as have the mark.
+pub record Tries (logic : Logic) (old : History) (steps : List Step) (new : History) : Type 0 where
+  pub setup : new.setup ≡ old.setup
+  pub whole : new.whole ≡ whole_run logic old.whole steps
+  pub journal : new.journal ≡ old.journal ++ done_by (whole_step logic) old.whole steps
+  pub failures : new.failures ≡ failed_since (failed_among (done_by (whole_step logic) old.whole steps)) old.failures
+
+abbrev pub is_possible : Logic → Whole → Step → Bool
+is_possible logic w s = is_some (whole_step logic w s)
+
+-- The step was possible, and was taken, with the mark of a failure if the storage failed; or it isn't possible, and nothing changed.
+abbrev pub TakesNow : Logic → History → Step → Bool → History → Type 0
+TakesNow logic old s true new = (failed : Bool) × Tries logic old (taken_by failed s ∷ []) new × (is_possible logic old.whole (taken_by failed s) ≡ true)
+TakesNow logic old s false new = (is_possible logic old.whole s ≡ false) × (new ≡ old)
+
+-- The first request that waits at the grain has this number.
+pub record IsFirst (w : Whole) (grain : Grain) (number : ℕ) : Type 0 where
+  pub entry : Entry
+  pub first : Request
+  pub others : List Request
+  pub found : map.get w.entries grain ≡ Some entry
+  pub queue : entry.queue ≡ first ∷ others
+  pub numbered : first.number ≡ number
+
+-- A turn began, of the request of this number; or none can begin, and nothing changed.
+abbrev pub Begins : Logic → History → Grain → Option ℕ → History → Type 0
+Begins logic old grain None new = (is_possible logic old.whole (Begin grain) ≡ false) × (new ≡ old)
+Begins logic old grain (Some number) new = Tries logic old (Begin grain ∷ []) new × (is_possible logic old.whole (Begin grain) ≡ true) × IsFirst old.whole grain number
+
+-- The step was taken and the request that it brought was served, with this luck; and whether the step was possible.
+abbrev pub Brings : Logic → History → Step → Option Grain → Bool → History → Type 0
+Brings logic old s grain done new =
+    (luck : Luck) × Tries logic old (bringing (whole_stepper logic) old.whole (taken_by luck.asking_failed s) grain luck) new
+    × (is_possible logic old.whole (taken_by luck.asking_failed s) ≡ done)
+
+-- The oldest of what the tenant's grains sent has this source and this target; or there is none.
+abbrev pub IsOldest : Whole → List ℕ → Option (Grain × Grain) → Type 0
+IsOldest w tenant None = sends_of (map.get w.accounts tenant) ≡ []
+IsOldest w tenant (Some found) =
+    (oldest : Send) × (others : List Send) × (sends_of (map.get w.accounts tenant) ≡ oldest ∷ others) × (oldest.source ≡ found.0) × (oldest.message.target ≡ found.1)
+
+-- The oldest of what the tenant's grains sent was delivered; or there is none, and nothing changed.
+abbrev pub Delivers : Logic → History → List ℕ → Bool → History → Type 0
+Delivers logic old tenant true new = (luck : Luck) × Tries logic old (delivering (whole_stepper logic) old.whole (sends_of (map.get old.whole.accounts tenant)) luck) new
+Delivers logic old tenant false new = (sends_of (map.get old.whole.accounts tenant) ≡ []) × (new ≡ old)
+
+-- What is asked was answered with some luck; and whether its step was possible.
+pub record AnswersAsked (logic : Logic) (n : ℕ) (old : History) (s : Step) (done : Bool) (new : History) : Type 0 where
+  pub lucks : List Luck
+  pub tries : Tries logic old (answering (whole_stepper logic) n old.whole (record { step = s; lucks = lucks })) new
+  pub possible : is_possible logic old.whole (taken (record { step = s; lucks = lucks })) ≡ done

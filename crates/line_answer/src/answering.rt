@@ -1,0 +1,133 @@
+//! A silo that answers at once.
+
+ghost use Rattle.std.specs.Prelude.{◌≡◌, [], false, true, IfOk, OnErr, OnOk};
+ghost use Rattle.silo_model.specs.Journal.{LeadsTo};
+ghost use Rattle.silo_model.specs.Opening.{opening};
+ghost use Rattle.answer_model.specs.Answering.{is_asked};
+ghost use Rattle.answer_model.specs.Resting.{AllRest};
+ghost use Rattle.line_answer.specs.Trying.{AnswersAsked};
+
+use crate::bringing::answer_step;
+use grain_kinds::GrainLogic;
+use grain_storage::GrainStorage;
+use silo_core::{Setup, Silo};
+use silo_event::{Reply, Step};
+use std::alloc::{AllocError, Global};
+use std::marker::Model;
+
+/// A silo in which nothing waits and nothing is open, unless it stopped for want of memory.
+#[derive(Drop)]
+pub struct AnsweringSilo<S: GrainStorage, L: GrainLogic> {
+    silo: Silo<S, L>,
+    stopped: bool,
+}
+
+impl<S: GrainStorage, L: GrainLogic> Model for AnsweringSilo<S, L> {
+    ghost use Rattle.std.specs.Prelude.{◌≡◌, false};
+    ghost use Rattle.std.specs.Coded.{codes};
+    ghost use Rattle.request_codec.specs.Code.{coded_tree};
+    ghost use Rattle.request_codec.specs.contracts.state.StateBytes as state;
+    ghost use Rattle.silo_model.specs.Codes.{by_grain_code, by_text_code, by_number_code};
+    ghost use Rattle.answer_model.specs.Resting.{AllRest};
+    ghost use Rattle.line_answer.specs.Answering.{Answering};
+
+    ghost Value = { Answering };
+
+    ghost coded = { Prim.hlevel (codes, by_grain_code, by_text_code, by_number_code, coded_tree, state.the_row.coded) };
+
+    ghost view = { λ a. record { history = a.silo; stopped = a.stopped } };
+
+    ghost invariant = { λ a. a.stopped ≡ false → AllRest a.silo.whole.entries };
+}
+
+impl<S: GrainStorage + Drop, L: GrainLogic + Drop> AnsweringSilo<S, L> {
+    /// A silo at its opening.
+    ///
+    /// # Errors
+    ///
+    /// Out of memory.
+    pub fn new(alloc: Global, setup: Setup<S, L>) -> Result<AnsweringSilo<S, L>, AllocError>
+        ensures setup { IfOk result (λ a. a.history.setup ≡ record { tenants = setup.tenants; age = setup.age; rows = S.rows setup.storage }) }
+        ensures opening { IfOk result (λ a. (a.history.whole ≡ opening a.history.setup) × (a.history.journal ≡ [])) }
+        ensures failures { IfOk result (λ a. a.history.failures ≡ record { at_opening = S.failed setup.storage; now = S.failed setup.storage }) }
+        ensures ready { IfOk result (λ a. a.stopped ≡ false) }
+    {
+        Ok(AnsweringSilo {
+            silo: Silo::new(alloc, setup)?,
+            stopped: false,
+        })
+    }
+}
+
+impl<S: GrainStorage, L: GrainLogic> AnsweringSilo<S, L> {
+    /// Whether it stopped for want of memory: then it answers nothing more.
+    pub fn is_stopped(&self) -> bool
+        ensures { result ≡ self.now.stopped }
+    {
+        self.stopped
+    }
+
+    /// The silo, to look at.
+    pub fn silo(&self) -> &Silo<S, L>
+        ensures { result.now ≡ self.now.history }
+    {
+        &self.silo
+    }
+
+    /// All replies, in the order in which they were made.
+    pub fn replies(&self) -> &[Reply]
+        ensures { result.now ≡ self.now.history.whole.replies }
+    {
+        self.silo.replies()
+    }
+
+    /// The steps that were done, in order.
+    pub fn journal(&self) -> &[Step]
+        ensures steps { result.now ≡ self.now.history.journal }
+
+        // They lead from the opening to what the silo shows.
+        ensures leads { LeadsTo L.logic self.now.history.setup self.now.history.journal self.now.history.whole }
+
+        // Nothing waits and nothing is open, unless it stopped.
+        ensures rests { self.now.stopped ≡ false → AllRest self.now.history.whole.entries }
+    {
+        self.silo.journal()
+    }
+
+    /// The silo alone.
+    pub fn into_silo(self) -> Silo<S, L>
+        ensures same { result ≡ self.history }
+
+        // Nothing waits and nothing is open.
+        ensures rests { self.stopped ≡ false → AllRest self.history.whole.entries }
+    {
+        let AnsweringSilo { silo, .. } = self;
+        silo
+    }
+
+    /// Answers what is asked: its step is taken; if a call was accepted, its grain is brought up and it is given its turn;
+    /// and then at most so many of what its tenant's grains sent are delivered, the oldest first, each with its turn. Says
+    /// whether the step was possible: only a tick may not be.
+    ///
+    /// # Errors
+    ///
+    /// Out of memory: it has stopped, and some of this may have been done.
+    #[tactic(auto, using(crate::proofs::Rests::rests_after))]
+    pub fn answer(&mut self, alloc: Global, step: Step, most: u64) -> Result<bool, AllocError>
+        requires asked { is_asked step ≡ true }
+        requires ready { self.old.stopped ≡ false }
+        ensures answered { IfOk result (λ done. AnswersAsked L.logic most self.old.history step done self.new.history) }
+
+        // Nothing waits and nothing is open.
+        ensures rests { OnOk result (AllRest self.new.history.whole.entries) }
+        ensures ready { OnOk result (self.new.stopped ≡ false) }
+        ensures stopped { OnErr result (self.new.stopped ≡ true) }
+    {
+        // For the proof: where the journal leads.
+        let _ = self.silo.journal();
+        self.stopped = true;
+        let done = answer_step(alloc, &mut self.silo, step, most)?;
+        self.stopped = false;
+        Ok(done)
+    }
+}

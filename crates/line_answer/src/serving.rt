@@ -1,0 +1,163 @@
+//! One request that was accepted: its grain is brought up, and it is given its turn.
+
+ghost use Rattle.std.specs.Prelude.{◌≡◌, ◌∷◌, Bool, false, IfOk, OnErr, OnOk};
+ghost use Rattle.silo_event.specs.Failed.{has_failed};
+ghost use Rattle.answer_model.specs.Answering.{Closing, Luck, closing, ending, raising, serving, whole_stepper};
+ghost use Rattle.line_answer.specs.Trying.{Begins, TakesNow, Tries};
+
+use grain_id::GrainId;
+use grain_kinds::GrainLogic;
+use grain_storage::GrainStorage;
+use silo_core::Silo;
+use silo_event::{Answer, Step, StepFault};
+use std::alloc::{AllocError, Global};
+
+/// Takes a step, if it is possible now, and says whether it was.
+///
+/// # Errors
+///
+/// Out of memory: nothing changed.
+pub fn take<S: GrainStorage, L: GrainLogic>(
+    alloc: Global,
+    silo: &mut Silo<S, L>,
+    step: Step,
+) -> Result<bool, AllocError>
+    requires { has_failed step ≡ false }
+    ensures taken { IfOk result (λ done. TakesNow L.logic silo.old step done silo.new) }
+    ensures unchanged { OnErr result (silo.new ≡ silo.old) }
+{
+    match silo.apply(alloc, step) {
+        Ok(Answer::Done) => Ok(true),
+        Ok(Answer::Failed) => Ok(true),
+        Ok(Answer::NotNow) => Ok(false),
+        Err(StepFault::Memory) => Err(AllocError),
+        Err(StepFault::Stranger) => unreachable!(),
+    }
+}
+
+/// An entry that waits is activated, and loaded.
+///
+/// # Errors
+///
+/// Out of memory: some of it may have been done.
+fn raise<S: GrainStorage, L: GrainLogic>(
+    alloc: Global,
+    silo: &mut Silo<S, L>,
+    grain: &GrainId,
+) -> Result<(), AllocError>
+    ensures { OnOk result ((failed : Bool) × Tries L.logic silo.old (raising (whole_stepper L.logic) silo.old.whole grain.now failed) silo.new) }
+{
+    let activate = Step::Activate {
+        grain: grain.clone()?,
+    };
+    if !take(alloc, silo, activate)? {
+        return Ok(());
+    }
+    let load = Step::Load {
+        grain: grain.clone()?,
+        failed: false,
+    };
+    take(alloc, silo, load)?;
+    Ok(())
+}
+
+/// The first request that waits at the grain is given its turn, if it can begin: its number.
+///
+/// # Errors
+///
+/// Out of memory: nothing changed.
+fn begin<S: GrainStorage, L: GrainLogic>(
+    alloc: Global,
+    silo: &mut Silo<S, L>,
+    grain: &GrainId,
+) -> Result<Option<u64>, AllocError>
+    ensures { IfOk result (λ turn. Begins L.logic silo.old grain.now turn silo.new) }
+{
+    let grain = grain.clone()?;
+    match silo.begin(alloc, grain) {
+        Ok(Some(turn)) => {
+            let number = turn.number;
+            drop(turn);
+            Ok(Some(number))
+        }
+        Ok(None) => Ok(None),
+        Err(_) => Err(AllocError),
+    }
+}
+
+/// An open turn ends by its plan, or else by what the storage answers.
+///
+/// # Errors
+///
+/// Out of memory: nothing changed.
+fn end<S: GrainStorage, L: GrainLogic>(
+    alloc: Global,
+    silo: &mut Silo<S, L>,
+    grain: &GrainId,
+    turn: u64,
+) -> Result<(), AllocError>
+    ensures ended { OnOk result ((failed : Bool)
+        × Tries L.logic silo.old (ending (whole_stepper L.logic) silo.old.whole grain.now turn failed) silo.new) }
+    ensures unchanged { OnErr result (silo.new ≡ silo.old) }
+{
+    let end = Step::End {
+        grain: grain.clone()?,
+        turn,
+    };
+    if take(alloc, silo, end)? {
+        return Ok(());
+    }
+    let store = Step::Store {
+        grain: grain.clone()?,
+        turn,
+        failed: false,
+    };
+    take(alloc, silo, store)?;
+    Ok(())
+}
+
+/// An open turn is closed. If there is no memory for its end, it is given up.
+///
+/// # Errors
+///
+/// Out of memory: nothing changed.
+fn close<S: GrainStorage, L: GrainLogic>(
+    alloc: Global,
+    silo: &mut Silo<S, L>,
+    grain: GrainId,
+    turn: u64,
+) -> Result<(), AllocError>
+    ensures { OnOk result ((how : Closing) × Tries L.logic silo.old (closing (whole_stepper L.logic) silo.old.whole grain turn how) silo.new) }
+{
+    match end(alloc, silo, &grain, turn) {
+        Ok(()) => {
+            drop(grain);
+            Ok(())
+        }
+        Err(AllocError) => {
+            take(alloc, silo, Step::Abandon { grain, turn })?;
+            Ok(())
+        }
+    }
+}
+
+/// The request that waits at the grain is served.
+///
+/// # Errors
+///
+/// Out of memory: some of it may have been done.
+pub fn serve<S: GrainStorage, L: GrainLogic>(
+    alloc: Global,
+    silo: &mut Silo<S, L>,
+    grain: GrainId,
+) -> Result<(), AllocError>
+    ensures { OnOk result ((luck : Luck) × Tries L.logic silo.old (serving (whole_stepper L.logic) silo.old.whole grain luck) silo.new) }
+{
+    raise(alloc, silo, &grain)?;
+    let Some(turn) = begin(alloc, silo, &grain)? else {
+        drop(grain);
+        return Ok(());
+    };
+    close(alloc, silo, grain, turn)?;
+    Ok(())
+}
