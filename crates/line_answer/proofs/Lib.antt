@@ -1,2 +1,3 @@
 pub mod Trying
-pub mod Rests
+pub mod Asked
+pub mod LineRuns

@@ -1,2 +1,3 @@
 pub mod Trying
-pub mod Answering
+pub mod Texts
+pub mod Runs

@@ -1,10 +1,11 @@
 //! A silo that answers at once.
 
 ghost use Rattle.std.specs.Prelude.{◌≡◌, [], false, true, IfOk, OnErr, OnOk};
+ghost use Rattle.silo_event.specs.Asker.{asking_of};
 ghost use Rattle.silo_model.specs.Journal.{LeadsTo};
 ghost use Rattle.silo_model.specs.Opening.{opening};
 ghost use Rattle.answer_model.specs.Answering.{is_asked};
-ghost use Rattle.answer_model.specs.Resting.{AllRest};
+ghost use Rattle.answer_model.specs.Resting.{AllRest, TellsAsker};
 ghost use Rattle.line_answer.specs.Trying.{AnswersAsked};
 
 use crate::bringing::answer_step;
@@ -29,7 +30,7 @@ impl<S: GrainStorage, L: GrainLogic> Model for AnsweringSilo<S, L> {
     ghost use Rattle.request_codec.specs.contracts.state.StateBytes as state;
     ghost use Rattle.silo_model.specs.Codes.{by_grain_code, by_text_code, by_number_code};
     ghost use Rattle.answer_model.specs.Resting.{AllRest};
-    ghost use Rattle.line_answer.specs.Answering.{Answering};
+    ghost use Rattle.line_answer.specs.Runs.{Answering};
 
     ghost Value = { Answering };
 
@@ -112,7 +113,7 @@ impl<S: GrainStorage, L: GrainLogic> AnsweringSilo<S, L> {
     /// # Errors
     ///
     /// Out of memory: it has stopped, and some of this may have been done.
-    #[tactic(auto, using(crate::proofs::Rests::rests_after))]
+    #[tactic(auto, using(crate::proofs::Asked::rests_after))]
     pub fn answer(&mut self, alloc: Global, step: Step, most: u64) -> Result<bool, AllocError>
         requires asked { is_asked step ≡ true }
         requires ready { self.old.stopped ≡ false }
@@ -120,6 +121,9 @@ impl<S: GrainStorage, L: GrainLogic> AnsweringSilo<S, L> {
 
         // Nothing waits and nothing is open.
         ensures rests { OnOk result (AllRest self.new.history.whole.entries) }
+
+        // Who asked has one reply, the first of all that are new, of which the others are told to grains.
+        ensures told { OnOk result (TellsAsker (asking_of step) self.old.history.whole.replies self.new.history.whole.replies) }
         ensures ready { OnOk result (self.new.stopped ≡ false) }
         ensures stopped { OnErr result (self.new.stopped ≡ true) }
     {

@@ -1,12 +1,17 @@
-//! A silo that answers at once: what is asked of it is answered before anything else is taken.
+//! Lines that are answered at once: what a line asks is answered before the next line is read.
 //!
-//! A layer above may rely on this: between two things that are asked nothing waits and nothing is open, and what is done for
-//! what is asked is what `answer_model` says, where tenants are apart with no schedule in sight. The silo's journal is its own.
+//! A layer above may rely on this: between two lines no request waits and no turn is open; each client's
+//! line is answered by one reply to it, first of all that its line brings; and each tenant is answered as
+//! if it were alone. What is done for a line is in `specs/` of `answer_model`, and what is written in
+//! `specs/Texts.antt`. The silo's journal is its own.
 #![tactic(auto)]
 
 mod answering;
 mod bringing;
+mod lines;
+mod runner;
 mod serving;
 
 pub use answering::AnsweringSilo;
-pub use bringing::is_asked;
+pub use line_protocol::{Input, LineFault, Output};
+pub use runner::answer_lines;

@@ -1,7 +1,7 @@
 use Rattle.std.proofs.Common.{sym, subst}
 use Rattle.silo_model.specs.Whole.{Whole}
 use Rattle.answer_model.specs.Resting.{AllRest}
-use Rattle.line_answer.proofs.Rests.{opening_rests}
+use Rattle.line_answer.proofs.Asked.{opening_rests}
 use Rattle.line_answer.proofs.answering.AnsweringSilo.new.Goals as goal
 
 pub invariant_of-result : goal.invariant_of-result

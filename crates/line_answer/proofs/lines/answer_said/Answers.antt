@@ -1,0 +1,20 @@
+use Rattle.std.proofs.Common.{rules, ◌≡◌, ◌∙◌, length, drop, string_bytes, sym}
+use Rattle.line_protocol.specs.LineTexts.{ended, texts_of}
+use Rattle.line_protocol.specs.Text.{refusal_line}
+use Rattle.line_parser.specs.declared.line.LineRefusal.TheVariants.{NotARequest}
+use Rattle.line_answer.proofs.Asked.{asked_line, not_asked}
+use Rattle.line_answer.proofs.lines.answer_said.Goals as goal
+
+pub returns-then-not-is_asked-clause-ok : goal.returns-then-not-is_asked-clause-ok
+returns-then-not-is_asked-clause-ok g c =
+    let is : string_bytes c.refuse.new.text ≡ ended (refusal_line NotARequest) = search rules in
+    not_asked g.L.GrainLogic.logic c.args.most c.args.silo.now.history c.args.step (string_bytes c.refuse.new.text)
+    (sym c.is_asked.ensures ∙ c.if-not-is_asked.true) is (c.journal.ensures.rests c.requires)
+
+pub returns-then-branch-clause-ok : goal.returns-then-branch-clause-ok
+returns-then-branch-clause-ok g c =
+    let old = c.args.silo.now.history in
+    let new = c.answer.new.self.history in
+    let is : string_bytes c.push_replies.new.text ≡ texts_of (drop (length old.whole.replies) new.whole.replies) = search rules in
+    asked_line g.L.GrainLogic.logic c.args.most old new c.args.step _ (string_bytes c.push_replies.new.text)
+    (sym c.is_asked.ensures ∙ c.if-not-is_asked.false) (rw c.if-branch.true at c.in_ok-answer.ensures.answered) is c.in_ok-answer.ensures.rests

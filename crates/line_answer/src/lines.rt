@@ -1,0 +1,91 @@
+//! What one line leaves in the silo, and its text.
+
+ghost use Rattle.std.specs.Prelude.{◌≡◌, ◌++◌, false, OnOk, string_bytes};
+ghost use Rattle.line_protocol.specs.LineTexts.{ended};
+ghost use Rattle.line_protocol.specs.Text.{refusal_line};
+ghost use Rattle.line_parser.specs.Meaning.{meaning_of};
+ghost use Rattle.line_parser.specs.declared.line.Line.TheVariants as line;
+ghost use Rattle.line_answer.specs.Runs.{AnswersLine};
+
+use crate::answering::AnsweringSilo;
+use crate::bringing::is_asked;
+use grain_kinds::GrainLogic;
+use grain_storage::GrainStorage;
+use line_parser::{Line, LineRefusal, LineScratch, read_line};
+use line_protocol::{push_not_now, push_refusal, push_replies};
+use silo_event::Step;
+use std::alloc::{AllocError, Global};
+
+/// Adds the line of a refusal, with its LF.
+fn refuse(alloc: Global, text: &mut String, refusal: LineRefusal) -> Result<(), AllocError>
+    ensures { OnOk result (string_bytes text.new ≡ string_bytes text.old ++ ended (refusal_line refusal)) }
+{
+    push_refusal(alloc, text, refusal)?;
+    text.push_str("\n")
+}
+
+/// Answers a step that a line says, and puts its text in place of another: the replies that it added, or that it isn't
+/// possible now. A step that is no client's to ask is refused as no request.
+#[tactic(auto, using(crate::proofs::Asked::asked_line))]
+fn answer_said<S: GrainStorage, L: GrainLogic>(
+    alloc: Global,
+    silo: &mut AnsweringSilo<S, L>,
+    step: Step,
+    most: u64,
+    text: &mut String,
+) -> Result<(), AllocError>
+    requires { silo.old.stopped ≡ false }
+    ensures ok { OnOk result (AnswersLine L.logic most silo.old.history (line.Step step) silo.new.history (string_bytes text.new)) }
+    ensures ready { OnOk result (silo.new.stopped ≡ false) }
+{
+    text.clear();
+
+    // For the proof: what isn't asked anything rests as it did.
+    let _ = silo.journal();
+    if !is_asked(&step) {
+        drop(step);
+        refuse(alloc, text, LineRefusal::NotARequest)?;
+        return Ok(());
+    }
+    let before = silo.replies().len();
+    if silo.answer(alloc, step, most)? {
+        push_replies(alloc, text, &silo.replies()[before..])?;
+        return Ok(());
+    }
+    push_not_now(text)?;
+    text.push_str("\n")
+}
+
+/// Answers what a line says, and puts its text in place of another.
+///
+/// # Errors
+///
+/// Out of memory: the silo may have stopped.
+#[tactic(auto, using(crate::proofs::Asked::nothing_asked))]
+pub fn answer_line<S: GrainStorage, L: GrainLogic>(
+    alloc: Global,
+    scratch: &mut LineScratch,
+    silo: &mut AnsweringSilo<S, L>,
+    most: u64,
+    line: &[u8],
+    text: &mut String,
+) -> Result<(), AllocError>
+    requires { silo.old.stopped ≡ false }
+    ensures ok { OnOk result (AnswersLine L.logic most silo.old.history (meaning_of line.now) silo.new.history (string_bytes text.new)) }
+    ensures ready { OnOk result (silo.new.stopped ≡ false) }
+{
+    // For the proof: what isn't asked anything rests as it did.
+    let _ = silo.journal();
+    match read_line(alloc, scratch, line)? {
+        Line::Nothing => {
+            text.clear();
+            Ok(())
+        }
+        Line::Refusal(refusal) => {
+            text.clear();
+            refuse(alloc, text, refusal)?;
+            Ok(())
+        }
+        Line::Step(step) => answer_said(alloc, silo, step, most, text),
+    }
+}

@@ -1,0 +1,96 @@
+//! Every line of an input, answered before the next is read.
+
+ghost use Rattle.std.specs.Prelude.{◌≡◌, ◌≤◌, false, List, ℕ, IfOk, IfErr, IfSome, OnOk};
+ghost use Rattle.std.specs.Io.KnownBytes.{Appends};
+ghost use Rattle.line_parser.specs.Meaning.{meaning_of};
+ghost use Rattle.line_protocol.specs.Limits.{lines_limit};
+ghost use Rattle.line_protocol.specs.Reading.{left_of};
+ghost use Rattle.line_answer.specs.Runs.{AnswersLine, AnswersAll, LineStopsBy, MayStop, StopsBy};
+
+use crate::answering::AnsweringSilo;
+use crate::lines::answer_line;
+use grain_kinds::GrainLogic;
+use grain_storage::GrainStorage;
+use line_parser::LineScratch;
+use line_protocol::{Input, LINES_LIMIT, LineFault, Output};
+use std::alloc::Global;
+use std::io::{Read, Write};
+
+/// Answers what a line says, and writes its text at once.
+fn write_answer<W: Write, S: GrainStorage, L: GrainLogic>(
+    alloc: Global,
+    scratch: &mut LineScratch,
+    output: &mut Output<W>,
+    silo: &mut AnsweringSilo<S, L>,
+    most: u64,
+    line: &[u8],
+    text: &mut String,
+) -> Result<(), LineFault>
+    requires { silo.old.stopped ≡ false }
+    ensures ok { OnOk result ((written : List ℕ) × AnswersLine L.logic most silo.old.history (meaning_of line.now) silo.new.history written
+        × Appends (W.contents output.old.writer) (W.contents output.new.writer) written) }
+    ensures ready { OnOk result (silo.new.stopped ≡ false) }
+    ensures err { IfErr result (λ e. LineStopsBy L.logic most e (meaning_of line.now) output.new.calls silo.old.history silo.new.history
+        (W.contents output.old.writer) (W.contents output.new.writer)) }
+    ensures stopped { IfErr result (λ e. MayStop e silo.new.stopped) }
+    ensures unfailed { OnOk result (output.new.calls.failed ≡ output.old.calls.failed) }
+{
+    answer_line(alloc, scratch, silo, most, line, text)?;
+    output.write_whole(text.as_str().as_bytes())
+}
+
+/// Answers each line before the next is read: what a client asks, the clock, and sweeping. Behind what a client asks at
+/// most so many of what its tenant's grains sent are delivered; what is left goes on behind the tenant's next line.
+/// Answers the number of lines, at most 1,000,000.
+///
+/// All that one line answers is written in one go, and goes out before a read that may wait. What was read ahead comes
+/// first.
+///
+/// # Errors
+///
+/// `Read` if a call of the reader failed, and `Write` if a call of the writer failed: the output notes that, so pass one
+/// that notes none. `Memory` if memory was refused: the silo may have stopped. `TooMuch` at more than 1,000,000 lines, or
+/// if one more call of the reader than 1,073,741,824 would be needed.
+pub fn answer_lines<R: Read, W: Write, S: GrainStorage, L: GrainLogic>(
+    alloc: Global,
+    input: &mut Input<R>,
+    output: &mut Output<W>,
+    silo: &mut AnsweringSilo<S, L>,
+    most: u64,
+) -> Result<u64, LineFault>
+    requires { silo.old.stopped ≡ false }
+    ensures ok { IfOk result (λ n. IfSome (left_of input.old.lines (R.remaining input.old.reader)) (λ bytes.
+        AnswersAll L.logic most bytes n silo.old.history silo.new.history (R.remaining input.new.reader)
+        (W.contents output.old.writer) (W.contents output.new.writer))) }
+    ensures err { IfErr result (λ e. IfSome (left_of input.old.lines (R.remaining input.old.reader)) (λ bytes.
+        StopsBy L.logic most bytes input.new.lines (R.remaining input.new.reader) output.new.calls silo.old.history silo.new.history
+        (W.contents output.old.writer) (W.contents output.new.writer) e)) }
+    ensures ready { OnOk result (silo.new.stopped ≡ false) }
+    ensures stopped { IfErr result (λ e. MayStop e silo.new.stopped) }
+    ensures bound { IfOk result (λ n. n ≤ lines_limit) }
+    ensures unfailed { OnOk result (output.new.calls.failed ≡ output.old.calls.failed) }
+{
+    // For the proof: where the silo's journal leads.
+    let _ = silo.journal();
+    let mut scratch = LineScratch::new(alloc)?;
+    let mut text = String::new(alloc);
+    for count in 0..LINES_LIMIT {
+        if !input.lines.next_flushed(&mut input.reader, output)? {
+            return Ok(count);
+        }
+        write_answer(
+            alloc,
+            &mut scratch,
+            output,
+            silo,
+            most,
+            input.lines.line(),
+            &mut text,
+        )?;
+    }
+    output.flush()?;
+    if input.lines.fill(&mut input.reader)? {
+        return Err(LineFault::TooMuch);
+    }
+    Ok(LINES_LIMIT)
+}
