@@ -6,6 +6,7 @@
 //! journal, and `files` is what the program knows of files. How the program ends stands in `specs/Ends.antt`.
 #![tactic(auto)]
 
+mod answering;
 mod auditing;
 mod failure;
 mod files;

@@ -11,6 +11,7 @@ ghost use Rattle.silo_program.specs.Files.{claims};
 ghost use Rattle.silo_program.specs.Ends.{AreRefusedBy, AskForJournal, EndsAs, FailsBy, IsFaultOf, IsServingFault, IsStreamFault};
 ghost use Rattle.silo_program.specs.Ends.{LeavesFiles, RefusesJournal, ServesInput, ServesSteps, ShowsText};
 
+use crate::answering::answer_input;
 use crate::auditing::audit_file;
 use crate::failure::{Cause, End, ProgramFault, cause_of, say, status_of_end, tell};
 use crate::files::WholeFiles;
@@ -100,6 +101,29 @@ fn take_steps<R: Read, W: Write>(
     match answer_steps(alloc, tenants, age, input, output) {
         Ok(()) => Ok(End::Well),
         Err(why) => Err(ProgramFault::Failed(cause_of(why))),
+    }
+}
+
+/// Answers the lines of the input at once, for the tenants of the arguments.
+fn answer_tenants<F: WholeFiles, R: Read, W: Write>(
+    alloc: Global,
+    age: Age,
+    sends: u64,
+    journal: Option<&str>,
+    arguments: &[&str],
+    files: &mut F,
+    input: &mut Input<R>,
+    output: &mut Output<W>,
+) -> Result<End, ProgramFault> {
+    let tenants = match read_tenants(alloc, arguments) {
+        Ok(tenants) => tenants,
+        Err(why) => return Err(explain_tenants(alloc, why)),
+    };
+    match answer_input(
+        alloc, tenants, age, sends, journal, files, input, output,
+    ) {
+        Ok(()) => Ok(End::Well),
+        Err(why) => Err(ProgramFault::Failed(why)),
     }
 }
 
@@ -193,6 +217,21 @@ pub fn answer<
         Task::Steps { age, tenants } => {
             take_steps(alloc, *age, tenants.as_slice(), input, output)
         }
+        Task::Answer {
+            age,
+            sends,
+            journal,
+            tenants,
+        } => answer_tenants(
+            alloc,
+            *age,
+            *sends,
+            *journal,
+            tenants.as_slice(),
+            files,
+            input,
+            output,
+        ),
         Task::Serve {
             workers,
             age,

@@ -24,6 +24,10 @@ age_rule = record (new_rule (codes "age")) { long = Some (codes "age"); value_na
 abbrev pub workers_rule : Rule
 workers_rule = record (new_rule (codes "workers")) { long = Some (codes "workers"); value_names = 1; parser = Some (Unsigned 1 64) }
 
+-- `--sends N`, a number from 0 to 1,000,000
+abbrev pub sends_rule : Rule
+sends_rule = record (new_rule (codes "sends")) { long = Some (codes "sends"); value_names = 1; parser = Some (Unsigned 0 1000000) }
+
 -- `--journal PATH`, a text
 abbrev pub journal_rule : Rule
 journal_rule = record (new_rule (codes "journal")) { long = Some (codes "journal"); value_names = 1 }
@@ -40,7 +44,11 @@ path_rule = record (new_rule (codes "path")) { value_names = 1; required = true 
 abbrev pub steps_app : App
 steps_app = with_rule (with_rule (new_app (codes "steps")) age_rule) tenants_rule
 
--- `serve`, with these and two options more
+-- `answer`, with these and two options more
+abbrev pub answer_app : App
+answer_app = with_rule (with_rule (with_rule (with_rule (new_app (codes "answer")) age_rule) sends_rule) journal_rule) tenants_rule
+
+-- `serve`, with those of `steps` and two options more
 abbrev pub serve_app : App
 serve_app = with_rule (with_rule (with_rule (with_rule (new_app (codes "serve")) workers_rule) age_rule) journal_rule) tenants_rule
 
@@ -48,16 +56,19 @@ serve_app = with_rule (with_rule (with_rule (with_rule (new_app (codes "serve"))
 abbrev pub audit_app : App
 audit_app = with_rule (new_app (codes "audit")) path_rule
 
--- `silo`, which has a version and wants one of the three
+-- `silo`, which has a version and wants one of the four
 abbrev pub silo_shape : Shape
 silo_shape = record (new_app (codes "silo")).top { has_version = true; subcommand_required = true }
 
--- `silo` with the first, with the first two, and with all
+-- `silo` with the first, with the first two, with the first three, and with all
 abbrev pub stepping_app : App
 stepping_app = with_subcommand (record (new_app (codes "silo")) { top = silo_shape }) steps_app.top
 
+abbrev pub answering_app : App
+answering_app = with_subcommand stepping_app answer_app.top
+
 abbrev pub serving_app : App
-serving_app = with_subcommand stepping_app serve_app.top
+serving_app = with_subcommand answering_app serve_app.top
 
 abbrev pub silo_app : App
 silo_app = with_subcommand serving_app audit_app.top
@@ -91,18 +102,22 @@ AreRefused words = (kind : ErrorKind) × (kind ≢ DisplayHelp) × (kind ≢ Dis
 abbrev pub Writes : Text → ℕ → Type 0
 Writes text number = IsNumeral 10 (without_leading_plus text) × (digits_value 10 (without_leading_plus text) ≡ number)
 
--- the usual number if none is given, and otherwise the one that is written, if it is from 1 to the most
-abbrev pub IsNumber : ℕ → ℕ → Option Text → ℕ → Type 0
-IsNumber usual most None number = number ≡ usual
-IsNumber usual most (Some text) number = Writes text number × (1 ≤ number) × (number ≤ most)
+-- the usual number if none is given, and otherwise the one that is written, if it is from the least to the most
+abbrev pub IsNumber : ℕ → ℕ → ℕ → Option Text → ℕ → Type 0
+IsNumber usual least most None number = number ≡ usual
+IsNumber usual least most (Some text) number = Writes text number × (least ≤ number) × (number ≤ most)
 
 -- the milliseconds of an age, 900,000 if none are given
 abbrev pub IsAge : Option Text → ℕ → Type 0
-IsAge given age = IsNumber 900000 86400000 given age
+IsAge given age = IsNumber 900000 1 86400000 given age
 
 -- how many workers, 4 if no number is given
 abbrev pub IsWorkers : Option Text → ℕ → Type 0
-IsWorkers given workers = IsNumber 4 64 given workers
+IsWorkers given workers = IsNumber 4 1 64 given workers
+
+-- how many deliveries behind a line, 1,000 if no number is given
+abbrev pub IsSends : Option Text → ℕ → Type 0
+IsSends given sends = IsNumber 1000 0 1000000 given sends
 
 -- the age that was found is none
 abbrev pub IsNoAge : List Row → Type 0
@@ -111,6 +126,10 @@ IsNoAge rows = (age : ℕ) → ¬ IsAge (one_of (codes "age") rows) age
 -- the number of workers that was found is none
 abbrev pub IsNoWorkers : List Row → Type 0
 IsNoWorkers rows = (workers : ℕ) → ¬ IsWorkers (one_of (codes "workers") rows) workers
+
+-- the number of deliveries that was found is none
+abbrev pub IsNoSends : List Row → Type 0
+IsNoSends rows = (sends : ℕ) → ¬ IsSends (one_of (codes "sends") rows) sends
 
 -- ---- what is asked of what clap found: a subcommand's name, and the rows of its options and arguments
 
@@ -122,6 +141,14 @@ tenants_in rows = unwrap_or (all_of (codes "tenants") rows) []
 pub record FindSteps (name : Text) (rows : List Row) (age : ℕ) (tenants : List Text) : Type 0 where
   pub command : name ≡ codes "steps"
   pub within : IsAge (one_of (codes "age") rows) age
+  pub named : tenants ≡ tenants_in rows
+
+-- `answer`, with the age, the deliveries, the journal's path and the tenant arguments that were found
+pub record FindAnswering (name : Text) (rows : List Row) (age sends : ℕ) (journal : Option Text) (tenants : List Text) : Type 0 where
+  pub command : name ≡ codes "answer"
+  pub within : IsAge (one_of (codes "age") rows) age
+  pub behind : IsSends (one_of (codes "sends") rows) sends
+  pub kept : journal ≡ first_of (codes "journal") rows
   pub named : tenants ≡ tenants_in rows
 
 -- `serve`, with the workers, the age, the journal's path and the tenant arguments that were found
@@ -151,6 +178,14 @@ pub record AskForSteps (words : List Text) (age : ℕ) (tenants : List Text) : T
   pub is : found_in words ≡ Some (name, rows)
   pub found : FindSteps name rows age tenants
 
+-- The words ask to answer lines at once under this age, with so many deliveries behind each, for these tenant arguments, and to keep the journal at a path if there is one.
+pub record AskForAnswering (words : List Text) (age sends : ℕ) (journal : Option Text) (tenants : List Text) : Type 0 where
+  pub taken : AreTaken words
+  pub name : Text
+  pub rows : List Row
+  pub is : found_in words ≡ Some (name, rows)
+  pub found : FindAnswering name rows age sends journal tenants
+
 -- The words ask so many workers to serve under this age, for these tenant arguments, and to keep the journal at a path if there is one.
 pub record AskForServing (words : List Text) (workers age : ℕ) (journal : Option Text) (tenants : List Text) : Type 0 where
   pub taken : AreTaken words
@@ -170,6 +205,7 @@ pub record AskForAudit (words : List Text) (path : Text) : Type 0 where
 -- what was found makes no task
 pub record MakesNoTask (name : Text) (rows : List Row) : Type 0 where
   pub steps : (age : ℕ) (tenants : List Text) → ¬ FindSteps name rows age tenants
+  pub answering : (age sends : ℕ) (journal : Option Text) (tenants : List Text) → ¬ FindAnswering name rows age sends journal tenants
   pub serving : (workers age : ℕ) (journal : Option Text) (tenants : List Text) → ¬ FindServing name rows workers age journal tenants
   pub audit : (path : Text) → ¬ FindAudit name rows path
 
@@ -185,6 +221,7 @@ pub record IsOutOfRange (words : List Text) : Type 0 where
 -- the task has what was found
 abbrev pub IsTaskOf : Text → List Row → Task → Type 0
 IsTaskOf name rows (task.Steps age tenants) = FindSteps name rows age (map (λ t. t.now) tenants.items)
+IsTaskOf name rows (task.Answer age sends journal tenants) = FindAnswering name rows age sends (option_map (λ path. path.now) journal) (map (λ t. t.now) tenants.items)
 IsTaskOf name rows (task.Serve workers age journal tenants) = FindServing name rows workers age (option_map (λ path. path.now) journal) (map (λ t. t.now) tenants.items)
 IsTaskOf name rows (task.Audit path) = FindAudit name rows path.now
 
@@ -198,6 +235,7 @@ IsNoTaskFor name rows (fault.Wrong text) = MakesNoTask name rows
 -- the words ask for the task
 abbrev pub AskFor : List Text → Task → Type 0
 AskFor words (task.Steps age tenants) = AskForSteps words age (map (λ t. t.now) tenants.items)
+AskFor words (task.Answer age sends journal tenants) = AskForAnswering words age sends (option_map (λ path. path.now) journal) (map (λ t. t.now) tenants.items)
 AskFor words (task.Serve workers age journal tenants) = AskForServing words workers age (option_map (λ path. path.now) journal) (map (λ t. t.now) tenants.items)
 AskFor words (task.Audit path) = AskForAudit words path.now
 
@@ -229,6 +267,8 @@ after_silo words = codes "silo" ∷ words
 pub record TellsWordsApart : Type 0 where
   pub steps : AskForSteps (after_silo (codes "steps" ∷ codes "red:2:4" ∷ [])) 900000 (codes "red:2:4" ∷ [])
   pub aged : AskForSteps (after_silo (codes "steps" ∷ codes "--age" ∷ codes "5" ∷ codes "red:2:4" ∷ [])) 5 (codes "red:2:4" ∷ [])
+  pub answering : AskForAnswering (after_silo (codes "answer" ∷ codes "red:2:4" ∷ [])) 900000 1000 None (codes "red:2:4" ∷ [])
+  pub no_delivery : AskForAnswering (after_silo (codes "answer" ∷ codes "--sends" ∷ codes "0" ∷ codes "red:2:4" ∷ [])) 900000 0 None (codes "red:2:4" ∷ [])
   pub serving : AskForServing (after_silo (codes "serve" ∷ codes "red:2:4" ∷ [])) 4 900000 None (codes "red:2:4" ∷ [])
   pub journaled : AskForServing (after_silo (codes "serve" ∷ codes "--workers" ∷ codes "8" ∷ codes "--age" ∷ codes "5" ∷ codes "--journal" ∷ codes "day" ∷ codes "red:2:4" ∷ [])) 8 5 (Some (codes "day")) (codes "red:2:4" ∷ [])
   pub audit : AskForAudit (after_silo (codes "audit" ∷ codes "day" ∷ [])) (codes "day")
@@ -241,5 +281,6 @@ pub record TellsWordsApart : Type 0 where
   pub no_tenant : AreRefused (after_silo (codes "steps" ∷ []))
   pub no_worker : AreRefused (after_silo (codes "serve" ∷ codes "--workers" ∷ codes "0" ∷ codes "red:2:4" ∷ []))
   pub too_many_workers : AreRefused (after_silo (codes "serve" ∷ codes "--workers" ∷ codes "65" ∷ codes "red:2:4" ∷ []))
+  pub too_many_deliveries : AreRefused (after_silo (codes "answer" ∷ codes "--sends" ∷ codes "1000001" ∷ codes "red:2:4" ∷ []))
   pub no_tenant_to_serve : AreRefused (after_silo (codes "serve" ∷ []))
   pub no_path : AreRefused (after_silo (codes "audit" ∷ []))

@@ -3,7 +3,7 @@
 ghost use Rattle.std.specs.Prelude.{◌≡◌, IfOk, false, true};
 ghost use Rattle.clap.specs.Words.{app_of, rule_of};
 ghost use Rattle.clap.specs.declared.builder.command.Command.TheViews.{out-Command as fields_of};
-ghost use Rattle.silo_words.specs.Words.{age_rule, audit_app, journal_rule, path_rule, serve_app, serving_app, silo_app, stepping_app, steps_app, tenants_rule, workers_rule};
+ghost use Rattle.silo_words.specs.Words.{age_rule, answer_app, answering_app, audit_app, journal_rule, path_rule, sends_rule, serve_app, serving_app, silo_app, stepping_app, steps_app, tenants_rule, workers_rule};
 
 use clap::{Arg, ArgAction, Command, value_parser};
 use std::alloc::{AllocError, Global};
@@ -36,6 +36,17 @@ fn workers_option<'a>(alloc: Global) -> Arg<'a>
         .value_parser(value_parser!(u64).range(1..=64))
 }
 
+fn sends_option<'a>(alloc: Global) -> Arg<'a>
+    ensures rule { rule_of result ≡ sends_rule }
+    ensures local { result.global ≡ false }
+{
+    Arg::new(alloc, "sends")
+        .long("sends")
+        .value_name("N")
+        .help("How many calls that grains sent are delivered behind a line, 0 to 1000000 [default: 1000]")
+        .value_parser(value_parser!(u64).range(0..=1_000_000))
+}
+
 fn journal_option<'a>(alloc: Global) -> Arg<'a>
     ensures rule { rule_of result ≡ journal_rule }
     ensures local { result.global ≡ false }
@@ -64,7 +75,7 @@ fn path_argument<'a>(alloc: Global) -> Arg<'a>
 {
     Arg::new(alloc, "path")
         .value_name("PATH")
-        .help("The file of a journal that `silo serve` wrote")
+        .help("The file of a journal that `silo serve` or `silo answer` wrote")
         .required(true)
 }
 
@@ -75,6 +86,18 @@ fn steps_command<'a>(alloc: Global) -> Result<Command<'a>, AllocError>
     Command::new(alloc, "steps")
         .about("Reads every step from standard input")
         .arg(age_option(alloc))?
+        .arg(tenant_arguments(alloc))
+}
+
+fn answer_command<'a>(alloc: Global) -> Result<Command<'a>, AllocError>
+    ensures app { IfOk result (λ c. app_of c ≡ answer_app) }
+    ensures local { IfOk result (λ c. (fields_of c).has_globals ≡ false) }
+{
+    Command::new(alloc, "answer")
+        .about("Answers each line on standard input before the next is read")
+        .arg(age_option(alloc))?
+        .arg(sends_option(alloc))?
+        .arg(journal_option(alloc))?
         .arg(tenant_arguments(alloc))
 }
 
@@ -113,13 +136,22 @@ fn stepping_command<'a>(alloc: Global) -> Result<Command<'a>, AllocError>
         .subcommand(steps_command(alloc)?)
 }
 
-/// The command line with `steps` and `serve`.
+/// The command line with `steps` and `answer`.
+fn answering_command<'a>(alloc: Global) -> Result<Command<'a>, AllocError>
+    ensures app { IfOk result (λ c. app_of c ≡ answering_app) }
+    ensures local { IfOk result (λ c. (fields_of c).has_globals ≡ false) }
+    ensures wanted { IfOk result (λ c. (fields_of c).subcommand_required ≡ true) }
+{
+    stepping_command(alloc)?.subcommand(answer_command(alloc)?)
+}
+
+/// The command line with `steps`, `answer` and `serve`.
 fn serving_command<'a>(alloc: Global) -> Result<Command<'a>, AllocError>
     ensures app { IfOk result (λ c. app_of c ≡ serving_app) }
     ensures local { IfOk result (λ c. (fields_of c).has_globals ≡ false) }
     ensures wanted { IfOk result (λ c. (fields_of c).subcommand_required ≡ true) }
 {
-    stepping_command(alloc)?.subcommand(serve_command(alloc)?)
+    answering_command(alloc)?.subcommand(serve_command(alloc)?)
 }
 
 /// The whole command line.

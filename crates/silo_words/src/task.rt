@@ -2,7 +2,7 @@
 
 ghost use Rattle.std.specs.Prelude.{◌≡◌, ℕ, List, IfOk, IfErr, IfSome, IfNone, codes, map, option_map};
 ghost use Rattle.clap.specs.Words.{Row, Text, first_of, found_of, one_of, rows_of};
-ghost use Rattle.silo_words.specs.Words.{IsAge, IsNoAge, IsNoTaskFor, IsNoWorkers, IsNumber, IsTaskOf, IsWorkers, MakesNoTask, tenants_in};
+ghost use Rattle.silo_words.specs.Words.{IsAge, IsNoAge, IsNoSends, IsNoTaskFor, IsNoWorkers, IsNumber, IsSends, IsTaskOf, IsWorkers, MakesNoTask, tenants_in};
 
 use crate::fault::WordsFault;
 use clap::ArgMatches;
@@ -18,12 +18,27 @@ const DEFAULT_WORKERS: u64 = 4;
 /// The most workers that may be asked for.
 const MAX_WORKERS: u64 = 64;
 
+/// The deliveries behind a line when `--sends` is left out.
+const DEFAULT_SENDS: u64 = 1_000;
+
+/// The most deliveries that may be asked for.
+const MAX_SENDS: u64 = 1_000_000;
+
 /// What the words ask for. Tenant arguments and paths are as they are written.
 #[derive(Drop)]
 pub enum Task<'a> {
     /// Read every step from standard input.
     Steps {
         age: Age,
+        tenants: Vec<&'a str>,
+    },
+
+    /// Answer each line on standard input before the next is read, with so many deliveries behind it (0 to 1,000,000), and
+    /// write the journal if it has a path.
+    Answer {
+        age: Age,
+        sends: u64,
+        journal: Option<&'a str>,
         tenants: Vec<&'a str>,
     },
 
@@ -42,13 +57,19 @@ pub enum Task<'a> {
 }
 
 /// The number of an option, if what was found is one within its range, and the usual one if nothing was.
-fn number_of(found: &ArgMatches<'_>, option: &str, usual: u64, most: u64) -> Option<u64>
-    ensures some { IfSome result (λ number. IsNumber usual most (one_of option.now (rows_of (found_of found.now))) number) }
-    ensures none { IfNone result ((number : ℕ) → ¬ IsNumber usual most (one_of option.now (rows_of (found_of found.now))) number) }
+fn number_of(
+    found: &ArgMatches<'_>,
+    option: &str,
+    usual: u64,
+    least: u64,
+    most: u64,
+) -> Option<u64>
+    ensures some { IfSome result (λ number. IsNumber usual least most (one_of option.now (rows_of (found_of found.now))) number) }
+    ensures none { IfNone result ((number : ℕ) → ¬ IsNumber usual least most (one_of option.now (rows_of (found_of found.now))) number) }
 {
     match found.try_get_one::<u64>(option) {
         Ok(None) => Some(usual),
-        Ok(Some(number)) if 1 <= number && number <= most => Some(number),
+        Ok(Some(number)) if least <= number && number <= most => Some(number),
         Ok(Some(_)) => None,
         Err(_) => None,
     }
@@ -59,7 +80,13 @@ fn age_of(found: &ArgMatches<'_>) -> Option<Age>
     ensures some { IfSome result (λ age. IsAge (one_of (codes "age") (rows_of (found_of found.now))) age) }
     ensures none { IfNone result (IsNoAge (rows_of (found_of found.now))) }
 {
-    let milliseconds = number_of(found, "age", DEFAULT_AGE_MILLISECONDS, MAX_AGE_MILLISECONDS)?;
+    let milliseconds = number_of(
+        found,
+        "age",
+        DEFAULT_AGE_MILLISECONDS,
+        1,
+        MAX_AGE_MILLISECONDS,
+    )?;
     let Some(age) = Age::new(milliseconds) else {
         unreachable!();
     };
@@ -71,7 +98,15 @@ fn workers_of(found: &ArgMatches<'_>) -> Option<u64>
     ensures some { IfSome result (λ workers. IsWorkers (one_of (codes "workers") (rows_of (found_of found.now))) workers) }
     ensures none { IfNone result (IsNoWorkers (rows_of (found_of found.now))) }
 {
-    number_of(found, "workers", DEFAULT_WORKERS, MAX_WORKERS)
+    number_of(found, "workers", DEFAULT_WORKERS, 1, MAX_WORKERS)
+}
+
+/// How many deliveries.
+fn sends_of(found: &ArgMatches<'_>) -> Option<u64>
+    ensures some { IfSome result (λ sends. IsSends (one_of (codes "sends") (rows_of (found_of found.now))) sends) }
+    ensures none { IfNone result (IsNoSends (rows_of (found_of found.now))) }
+{
+    number_of(found, "sends", DEFAULT_SENDS, 0, MAX_SENDS)
 }
 
 /// The tenant arguments that were found, as they are written.
@@ -112,6 +147,27 @@ fn steps_task<'a>(alloc: Global, found: &ArgMatches<'a>) -> Result<Task<'a>, Wor
         Ok(tenants) => Ok(Task::Steps { age, tenants }),
         Err(_) => Err(WordsFault::Memory),
     }
+}
+
+fn answer_task<'a>(alloc: Global, found: &ArgMatches<'a>) -> Result<Task<'a>, WordsFault>
+    ensures task { IfOk result (λ task. IsTaskOf (codes "answer") (rows_of (found_of found.now)) task) }
+    ensures fault { IfErr result (λ fault. IsNoTaskFor (codes "answer") (rows_of (found_of found.now)) fault) }
+{
+    let Some(age) = age_of(found) else {
+        return Err(no_task(alloc));
+    };
+    let Some(sends) = sends_of(found) else {
+        return Err(no_task(alloc));
+    };
+    let Ok(tenants) = tenants_of(alloc, found) else {
+        return Err(WordsFault::Memory);
+    };
+    Ok(Task::Answer {
+        age,
+        sends,
+        journal: text_of(found, "journal"),
+        tenants,
+    })
 }
 
 fn serve_task<'a>(alloc: Global, found: &ArgMatches<'a>) -> Result<Task<'a>, WordsFault>
@@ -156,6 +212,7 @@ pub fn task_of<'a>(
 {
     match name {
         "steps" => steps_task(alloc, found),
+        "answer" => answer_task(alloc, found),
         "serve" => serve_task(alloc, found),
         "audit" => audit_task(alloc, found),
         _ => Err(no_task(alloc)),
