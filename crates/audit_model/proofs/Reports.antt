@@ -18,7 +18,6 @@ use Rattle.grain_id.specs.Names.{Grain, grain_cmp}
 use Rattle.grain_id.proofs.Order.{grain_cmp_total, grain_cmp_exact}
 use Rattle.grain_storage.specs.declared.row.Row.{Row}
 use Rattle.grain_storage.specs.Memory.{rows_of}
-pub use Rattle.finite_maps.proofs.Parts.{keys_of-filter as keys_filter}
 use Rattle.silo_event.specs.declared.reply.Reply.{Reply}
 use Rattle.silo_event.specs.declared.step.Step.{Step}
 use Rattle.grain_kinds.specs.Logic.{Logic}

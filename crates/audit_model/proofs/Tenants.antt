@@ -15,8 +15,8 @@ use Rattle.std.proofs.lemmas.Map.Keys.{IsDistinct-from_sorted}
 use Rattle.std.proofs.lemmas.Option.{none-some}
 use Rattle.std.proofs.lemmas.Bool.{false_from_ne_true, or_parts}
 use Rattle.std.proofs.Math.Bool.{and-false}
+use Rattle.finite_maps.proofs.Ascending.{keys_ascend}
 use Rattle.grain_id.proofs.Keys.{texts}
-use Rattle.finite_maps.proofs.Ascending.{ascend, true_from_T}
 use Rattle.finite_maps.proofs.Keys.{key_itself, key_ties}
 use Rattle.finite_maps.proofs.Lists.{IsDistinct-append}
 use Rattle.finite_maps.proofs.Options.{none_from_option_map}
@@ -65,13 +65,10 @@ is_other journal tenant =
     listed_filter (λ t. not (is_listed (names_of journal.tenants) t)) tenant (ascending (owners_in journal))
     ∙ ap (λ b. b && not (is_listed (names_of journal.tenants) tenant)) (listed_ascending tenant (owners_in journal))
 
-pub keys_ascend : {K X : Type 0} (R : K → K → Ordering) (es : List (K × X)) → T (is_sorted R es) → IsStrictlySortedBy R (map_list (λ e. e.0) es)
-keys_ascend R es h = ascend R es (true_from_T _ h)
-
 others_ascend : (journal : History) → IsStrictlySortedBy text_cmp (others_in journal)
 others_ascend journal =
     let m : FinMap text_cmp (Unit {0}) = map.from_entries (map_list (λ t. (t, tt {0})) (owners_in journal)) in
-    IsStrictlySortedBy-filter text_cmp (λ t. not (is_listed (names_of journal.tenants) t)) (map.keys m) (keys_ascend text_cmp (map.entries m) (map.entries_sorted m))
+    IsStrictlySortedBy-filter text_cmp (λ t. not (is_listed (names_of journal.tenants) t)) (map.keys m) (keys_ascend text_cmp m)
 
 and_not : (a b : Bool) → a ≡ true → (b && not a) ≡ false
 and_not a true is = ap not is

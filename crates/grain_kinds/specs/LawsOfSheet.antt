@@ -7,9 +7,9 @@ use Rattle.std.specs.Cmp.Lexicographic.{slice_cmp}
 use Rattle.std.specs.FinMap.{slice_cmp-IsAntisymmetric, nat_cmp-IsAntisymmetric}
 use Rattle.std.specs.Ordering.{is_lt, ordering_reverse}
 use Rattle.std.proofs.lemmas.Cmp.{nat_list_cmp_total}
+use Rattle.finite_maps.proofs.Ascending.{less_from_is_lt}
 use Rattle.grain_id.specs.Names.{same_text}
 use Rattle.grain_id.specs.Order.{same_text_decides}
-use Rattle.request_codec.proofs.Entries.{is_less}
 use Rattle.request_codec.proofs.Spelled.{some_length}
 use Rattle.request_codec.specs.Answers.{spelled_length, members_length, fields_length}
 use Rattle.request_codec.specs.Call.{Call, asks}
@@ -41,7 +41,7 @@ by_order_holds P Greater before here behind l e g = g refl
 
 below_first : (m n : List ℕ) (fs : Fields) → IsTrue (is_lt (slice_cmp nat_cmp m n)) → IsBelowFirst n fs → IsBelowFirst m fs
 below_first m n no_fields lt h = tt
-below_first m n (field k v fs) lt h = ap is_lt (nat_list_cmp_total.trans m n k (is_less _ lt) (is_less _ h))
+below_first m n (field k v fs) lt h = ap is_lt (nat_list_cmp_total.trans m n k (less_from_is_lt _ lt) (less_from_is_lt _ h))
 
 -- ---- a field set
 

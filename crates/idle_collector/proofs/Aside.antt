@@ -5,6 +5,7 @@ use Rattle.std.proofs.lemmas.List.Sums.{sum_by-append}
 use Rattle.std.specs.Prelude.{nat_le, count_by}
 use Rattle.std.specs.Ordering.{eq_by_cmp}
 use Rattle.std.specs.FinMap as map
+use Rattle.finite_maps.proofs.Choices.{cond-again, cond-apart}
 use Rattle.grain_id.specs.Names.{Grain, grain_cmp, grain_eq}
 use Rattle.grain_id.proofs.Order.{grain_cmp_total, grain_cmp_exact, grain_eq_decides, eq_by_cmp-Decides}
 use Rattle.idle_collector.specs.declared.latest.Latest.{Latest}
@@ -13,15 +14,10 @@ use Rattle.idle_collector.specs.Aside.{is_of, with_latest, expected_of, held_wit
 use Rattle.idle_collector.specs.Notes.{Notes, Collection, noted, forgotten, is_due, HoldsDue}
 use Rattle.idle_collector.proofs.Lasts.{taken_back}
 use Rattle.idle_collector.proofs.OneMoment.{alike, get-noted, get-forgotten}
-use Rattle.idle_collector.proofs.Ties.{same_choice, choices_apart}
 
 -- a note of a grain whose note was dropped
 pub noted-forgotten : (n : Notes) (id : Grain) (last : ℕ) → noted (forgotten n id) id last ≡ noted n id last
-noted-forgotten n id last = alike _ _ refl (λ q.
-    get-noted (forgotten n id) id last q
-    ∙ ap (cond (grain_eq id q) (Some last)) (get-forgotten n id q)
-    ∙ same_choice (grain_eq id q) (Some last) None (map.get n.lasts q)
-    ∙ sym (get-noted n id last q))
+noted-forgotten n id last = ap (λ lasts. record { age = n.age; lasts = lasts }) (maps.insert-remove grain_cmp_total grain_cmp_exact n.lasts id last)
 
 -- ---- a note that is dropped
 
@@ -50,7 +46,7 @@ others-forgotten (Expected other) n id e = refl
 others-forgotten (Noted other last) n id e = alike _ _ refl (λ q.
     get-noted (forgotten n id) other last q
     ∙ ap (cond (grain_eq other q) (Some last)) (get-forgotten n id q)
-    ∙ choices_apart (grain_eq other q) (grain_eq id q) (Some last) None (map.get n.lasts q)
+    ∙ cond-apart (grain_eq other q) (grain_eq id q) (Some last) None (map.get n.lasts q)
     (λ a b. true≢false (sym ((grain_eq_decides other id).1 ((grain_eq_decides other q).0 a ∙ sym ((grain_eq_decides id q).0 b))) ∙ e))
     ∙ ap (cond (grain_eq id q) None) (sym (get-noted n other last q))
     ∙ sym (get-forgotten (noted n other last) id q))

@@ -7,26 +7,17 @@ use Rattle.std.specs.Option.{option_map}
 use Rattle.std.specs.Ordering.{eq_by_cmp}
 use Rattle.std.specs.FinMap as map
 use Rattle.std.specs.FinMap.{find, from_entries}
+use Rattle.grain_id.proofs.Keys.{grains}
+use Rattle.finite_maps.proofs.Entries.{get-lookup_seen, seen-alike, seen-insert, seen-remove}
 use Rattle.grain_id.specs.Names.{Grain, grain_cmp, grain_eq}
 use Rattle.grain_id.proofs.Order.{grain_cmp_total, grain_cmp_exact, grain_eq_decides, grain_ties}
 use Rattle.finite_maps.proofs.Maps as maps
 use Rattle.idle_collector.specs.Notes.{Notes, noted, forgotten}
 use Rattle.idle_collector.specs.Ties.{moments}
 
-find-lookup : (es : List (Grain × ℕ)) (q : Grain) → find grain_cmp q es ≡ lookup (grain_eq q) es
-find-lookup [] q = refl
-find-lookup (e ∷ es) q = λ i. cond (sym (grain_ties q e.0) i) (Some e.1) (find-lookup es q i)
-
 -- the map has at a grain the moment that a look-up finds
 pub get-lasts : (es : List (Grain × (ℕ × ℕ))) (q : Grain) → map.get (from_entries {R = grain_cmp} (moments es)) q ≡ option_map (λ p. p.0) (lookup (grain_eq q) es)
-get-lasts es q = map.get-from_entries grain_cmp_total (moments es) q ∙ find-lookup (moments es) q ∙ lookup-map_values (λ p. p.0) (grain_eq q) es
-
-turned : (k q : Grain) → grain_eq k q ≡ eq_by_cmp grain_cmp q k
-turned k q = grain_ties k q ∙ (eq_by_cmp_equiv grain_cmp_total).symm k q
-
-moment_of : (b : Bool) (o p : Option (ℕ × ℕ)) → option_map (λ p. p.0) (cond b o p) ≡ cond b (option_map (λ p. p.0) o) (option_map (λ p. p.0) p)
-moment_of true o p = refl
-moment_of false o p = refl
+get-lasts es q = get-lookup_seen grains (λ (p : ℕ × ℕ). p.0) es q
 
 -- what a look-up finds in the same entries
 pub found : (es fs : List (Grain × (ℕ × ℕ))) (f : Grain → Option (ℕ × ℕ)) → fs ≡ es → ((q : Grain) → lookup (grain_eq q) es ≡ f q) → (q : Grain) → lookup (grain_eq q) fs ≡ f q
@@ -47,25 +38,19 @@ shown age es = record { age = age; lasts = from_entries (moments es) }
 module _ (age : ℕ) (es fs : List (Grain × (ℕ × ℕ))) where
   -- each look-up finds what it found
   pub shown-same : ((q : Grain) → lookup (grain_eq q) fs ≡ lookup (grain_eq q) es) → shown age fs ≡ shown age es
-  shown-same l = ap (λ lasts. record { age = age; lasts = lasts }) (maps.alike grain_cmp_total grain_cmp_exact _ _ (λ q. get-lasts fs q ∙ ap (option_map (λ p. p.0)) (l q) ∙ sym (get-lasts es q)))
-
-  module _ (k : Grain) (o : Option (ℕ × ℕ)) (l : (q : Grain) → lookup (grain_eq q) fs ≡ cond (grain_eq k q) o (lookup (grain_eq q) es)) where
-    get-changed : (q : Grain) → map.get (from_entries {R = grain_cmp} (moments fs)) q ≡ cond (eq_by_cmp grain_cmp q k) (option_map (λ p. p.0) o) (map.get (from_entries {R = grain_cmp} (moments es)) q)
-    get-changed q =
-        get-lasts fs q ∙ ap (option_map (λ p. p.0)) (l q) ∙ moment_of (grain_eq k q) o (lookup (grain_eq q) es)
-        ∙ (λ i. cond (turned k q i) (option_map (λ p. p.0) o) (sym (get-lasts es q) i))
+  shown-same l = ap (λ lasts. record { age = age; lasts = lasts }) (seen-alike grains (λ (p : ℕ × ℕ). p.0) es fs l)
 
   -- one grain is noted, and each other look-up finds what it found
   pub shown-noted : (k : Grain) (note : ℕ × ℕ) → ((q : Grain) → lookup (grain_eq q) fs ≡ cond (grain_eq k q) (Some note) (lookup (grain_eq q) es)) → shown age fs ≡ noted (shown age es) k note.0
-  shown-noted k note l = ap (λ lasts. record { age = age; lasts = lasts }) (maps.alike grain_cmp_total grain_cmp_exact _ _ (λ q. get-changed k (Some note) l q ∙ sym (map.get-insert grain_cmp_total (from_entries (moments es)) k note.0 q)))
+  shown-noted k note l = ap (λ lasts. record { age = age; lasts = lasts }) (seen-insert grains (λ (p : ℕ × ℕ). p.0) es fs k note l)
 
   -- one grain is forgotten
   pub shown-forgotten : (k : Grain) → ((q : Grain) → lookup (grain_eq q) fs ≡ cond (grain_eq k q) None (lookup (grain_eq q) es)) → shown age fs ≡ forgotten (shown age es) k
-  shown-forgotten k l = ap (λ lasts. record { age = age; lasts = lasts }) (maps.alike grain_cmp_total grain_cmp_exact _ _ (λ q. get-changed k None l q ∙ sym (map.get-remove grain_cmp_total (from_entries (moments es)) k q)))
+  shown-forgotten k l = ap (λ lasts. record { age = age; lasts = lasts }) (seen-remove grains (λ (p : ℕ × ℕ). p.0) es fs k l)
 
 -- the note of a grain that wasn't noted, taken back, leaves the notes as they were
 pub taken_back : (notes : Notes) (grain : Grain) (last : ℕ) → map.get notes.lasts grain ≡ None → forgotten (noted notes grain last) grain ≡ notes
 taken_back notes grain last none = λ i. record {
   age = notes.age;
-  lasts = (maps.remove-insert grain_cmp_total grain_cmp_exact notes.lasts grain last ∙ maps.remove-absent grain_cmp_total grain_cmp_exact notes.lasts grain none) i;
+  lasts = maps.taken_back grain_cmp_total grain_cmp_exact notes.lasts grain last none i;
 }

@@ -7,6 +7,9 @@ use Rattle.std.proofs.lemmas.Option.{same_Some}
 use Rattle.std.specs.Ordering.{eq_by_cmp}
 use Rattle.std.specs.FinMap as map
 use Rattle.std.specs.Cmp.{eq_by_cmp_equiv}
+use Rattle.grain_id.proofs.Keys.{grains}
+use Rattle.finite_maps.proofs.Keys.{key_turned}
+use Rattle.finite_maps.proofs.Entries.{get-insert_key, get-remove_key}
 use Rattle.grain_id.specs.Names.{Grain, grain_cmp, grain_eq}
 use Rattle.grain_id.proofs.Order.{grain_cmp_total, grain_cmp_exact, grain_eq_decides, grain_ties}
 use Rattle.finite_maps.proofs.Maps as maps
@@ -20,17 +23,11 @@ use Rattle.idle_collector.proofs.Due.{tie}
 pub alike : (n p : Notes) → n.age ≡ p.age → ((q : Grain) → map.get n.lasts q ≡ map.get p.lasts q) → n ≡ p
 alike n p age each = λ i. record { age = age i; lasts = maps.alike grain_cmp_total grain_cmp_exact n.lasts p.lasts each i }
 
-swapped : (k q : Grain) → eq_by_cmp grain_cmp q k ≡ grain_eq k q
-swapped k q = sym (grain_ties k q ∙ (eq_by_cmp_equiv grain_cmp_total).symm k q)
-
-turned : (k q : Grain) → grain_eq q k ≡ grain_eq k q
-turned k q = grain_ties q k ∙ swapped k q
-
 pub get-noted : (n : Notes) (k : Grain) (m : ℕ) (q : Grain) → map.get (noted n k m).lasts q ≡ cond (grain_eq k q) (Some m) (map.get n.lasts q)
-get-noted n k m q = map.get-insert grain_cmp_total n.lasts k m q ∙ ap (λ b. cond b (Some m) (map.get n.lasts q)) (swapped k q)
+get-noted n k m q = get-insert_key grains n.lasts k m q
 
 pub get-forgotten : (n : Notes) (k q : Grain) → map.get (forgotten n k).lasts q ≡ cond (grain_eq k q) None (map.get n.lasts q)
-get-forgotten n k q = map.get-remove grain_cmp_total n.lasts k q ∙ ap (λ b. cond b None (map.get n.lasts q)) (swapped k q)
+get-forgotten n k q = get-remove_key grains n.lasts k q
 
 either : (b c : Bool) (m o : Option ℕ) → cond c m (cond b m o) ≡ cond (b || c) m o
 either true true m o = refl
@@ -45,7 +42,7 @@ get-all : (n : Notes) (gs : List Grain) (m : ℕ) (q : Grain) → map.get (all_n
 get-all n [] m q = refl
 get-all n (g ∷ gs) m q =
     get-all (noted n g m) gs m q
-    ∙ ap (cond (list_any (grain_eq q) gs) (Some m)) (get-noted n g m q ∙ ap (λ b. cond b (Some m) (map.get n.lasts q)) (sym (turned g q)))
+    ∙ ap (cond (list_any (grain_eq q) gs) (Some m)) (get-noted n g m q ∙ ap (λ b. cond b (Some m) (map.get n.lasts q)) (sym (key_turned grains q g)))
     ∙ either (grain_eq q g) (list_any (grain_eq q) gs) (Some m) (map.get n.lasts q)
 
 -- ---- one grain more

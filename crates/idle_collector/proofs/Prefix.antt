@@ -11,11 +11,13 @@ use Rattle.std.specs.Map.{lookup}
 use Rattle.std.specs.Ordering.{nat_cmp, is_eq, is_lt, eq_by_cmp, ordering_then}
 use Rattle.std.specs.List.{AllByRecursion, list_any}
 use Rattle.std.specs.List.Sorted.{IsStrictlySortedBy}
+use Rattle.std.proofs.lemmas.Option.{same_Some}
+use Rattle.std.proofs.Math.Bool.{and-false}
 use Rattle.grain_id.specs.Names.{Grain, grain_cmp, grain_eq}
 use Rattle.grain_id.proofs.Order.{grain_cmp_total, grain_cmp_exact, eq_by_cmp-Decides}
 use Rattle.idle_collector.specs.Notes.{is_due, HoldsDue}
 use Rattle.idle_collector.specs.Ties.{time_cmp, moments, AreTied}
-use Rattle.idle_collector.proofs.Ties.{same_note, some_is, refuted}
+use Rattle.idle_collector.proofs.Ties.{same_note, refuted}
 use Rattle.idle_collector.proofs.Lasts.{get-lasts}
 
 -- one more grain, if there is one
@@ -45,10 +47,6 @@ count_is p xs = is_count_by (count p) p refl (λ x xs. refl) xs
 passed : (b : Bool) (n m : ℕ) → b ≡ false → n ≡ m → cond b (1 + n) n ≡ m
 passed false n m e h = h
 passed true n m e h = absurd (true≢false e)
-
-no_and : (b : Bool) → b && false ≡ false
-no_and true = refl
-no_and false = refl
 
 -- ---- the order of time
 
@@ -134,12 +132,12 @@ module _ (note_of : Grain → Option (ℕ × ℕ)) (grain_at : ℕ → Option Gr
       let same = (eq_by_cmp-Decides grain_cmp_total grain_cmp_exact q g).0 t in
       let e : Some k ≡ o = sym note ∙ ap note_of (sym same) ∙ is in
       subst (λ o. nat_le age (now - k.0) && true ≡ is_due age now (option_map (λ p. p.0) o) && is_note o k) e (ap (λ b. nat_le age (now - k.0) && b) (sym ((same_note k k).1 refl)))
-  its_note k g false None at note t is = no_and (nat_le age (now - k.0))
+  its_note k g false None at note t is = and-false (nat_le age (now - k.0))
   its_note k g false (Some p) at note t is =
       let other : is_eq (time_cmp p k) ≡ false = refuted _ (same_note p k) (λ (one : p ≡ k).
-      let same : q ≡ g = some_is q g (sym (tied.placed q p is) ∙ ap (λ k. grain_at k.1) one ∙ at) in
+      let same : q ≡ g = same_Some q g (sym (tied.placed q p is) ∙ ap (λ k. grain_at k.1) one ∙ at) in
       let tie : eq_by_cmp grain_cmp q g ≡ true = (eq_by_cmp-Decides grain_cmp_total grain_cmp_exact q g).1 same in cc) in
-      no_and (nat_le age (now - k.0)) ∙ sym (ap (λ b. nat_le age (now - p.0) && b) other ∙ no_and (nat_le age (now - p.0)))
+      and-false (nat_le age (now - k.0)) ∙ sym (ap (λ b. nat_le age (now - p.0) && b) other ∙ and-false (nat_le age (now - p.0)))
 
   ripe_is : (k : ℕ × ℕ) → stands k ≡ true → ripe grain_at age now q k ≡ is_due age now (option_map (λ p. p.0) (note_of q)) && is_note (note_of q) k
   ripe_is k there =

@@ -8,6 +8,11 @@ use Rattle.std.specs.Cmp.{IsTotalOrder}
 use Rattle.std.proofs.lemmas.Cmp.{nat_cmp_total, on_total, then_total}
 use Rattle.std.proofs.lemmas.Bool.Decides.{Decides-eqb}
 use Rattle.std.specs.FinMap.{IsAntisymmetric, nat_cmp-IsAntisymmetric}
+use Rattle.std.proofs.lemmas.Option.{same_Some}
+use Rattle.std.proofs.lemmas.Bool.{cond-true, cond-false}
+use Rattle.finite_maps.proofs.Choices.{cond-again, cond-apart}
+use Rattle.grain_id.proofs.Keys.{grains}
+use Rattle.finite_maps.proofs.Keys.{key_itself}
 use Rattle.grain_id.specs.Names.{Grain, grain_eq}
 use Rattle.grain_id.proofs.Order.{eq_by_cmp-Decides, grain_eq_decides}
 use Rattle.idle_collector.specs.Ties.{time_cmp, AreTied}
@@ -33,21 +38,9 @@ pub refuted : {P : Type 0} (b : Bool) → Decides b P → (P → ⊥) → b ≡ 
 refuted true d h = absurd (h (d.0 refl))
 refuted false d h = refl
 
-pub some_is : {X : Type 0} (x y : X) → Some x ≡ Some y → x ≡ y
-some_is x y e = cc
-
-at_true : {X : Type 0} (b : Bool) (x y : X) → b ≡ true → cond b x y ≡ x
-at_true b x y e = ap (λ b. cond b x y) e
-
-at_false : {X : Type 0} (b : Bool) (x y : X) → b ≡ false → cond b x y ≡ y
-at_false b x y e = ap (λ b. cond b x y) e
-
 either_true : (b c : Bool) → c ≡ true → cond b true c ≡ true
 either_true true c e = refl
 either_true false c e = e
-
-itself : (g : Grain) → grain_eq g g ≡ true
-itself g = (grain_eq_decides g g).1 refl
 
 module _ {note_of later_note : Grain → Option (ℕ × ℕ)} {grain_at later_grain : ℕ → Option Grain} {stands later_stands : ℕ × ℕ → Bool} (tied : AreTied note_of grain_at stands) where
   -- nothing changes
@@ -67,20 +60,20 @@ module _ {note_of later_note : Grain → Option (ℕ × ℕ)} {grain_at later_gr
     kept_place g p e = others p.1 (λ (one : p.1 ≡ place). let n : grain_at p.1 ≡ None = ap grain_at one ∙ vacant in cc) ∙ e
 
     first_placed : (g : Grain) (p : ℕ × ℕ) (b : Bool) → grain_eq id g ≡ b → cond b (Some (last, place)) (note_of g) ≡ Some p → later_grain p.1 ≡ Some g
-    first_placed g p true t e = ap (λ q. later_grain q.1) (sym (some_is (last, place) p e)) ∙ there ∙ ap Some ((grain_eq_decides id g).0 t)
+    first_placed g p true t e = ap (λ q. later_grain q.1) (sym (same_Some (last, place) p e)) ∙ there ∙ ap Some ((grain_eq_decides id g).0 t)
     first_placed g p false t e = kept_place g p (tied.placed g p e)
 
     first_entered : (g : Grain) (p : ℕ × ℕ) (b : Bool) → cond b (Some (last, place)) (note_of g) ≡ Some p → later_stands p ≡ true
-    first_entered g p true e = l p ∙ at_true _ true (stands p) ((same_note (last, place) p).1 (some_is (last, place) p e))
+    first_entered g p true e = l p ∙ cond-true _ true (stands p) ((same_note (last, place) p).1 (same_Some (last, place) p e))
     first_entered g p false e = l p ∙ either_true _ (stands p) (tied.entered g p e)
 
     first_noted : (p : ℕ × ℕ) (b : Bool) → is_eq (time_cmp (last, place) p) ≡ b → cond b true (stands p) ≡ true → (g : Grain) × (later_grain p.1 ≡ Some g) × (later_note g ≡ Some p)
     first_noted p true t e =
         let same = (same_note (last, place) p).0 t in
-        (id, ap (λ q. later_grain q.1) (sym same) ∙ there, a id ∙ at_true _ (Some (last, place)) (note_of id) (itself id) ∙ ap Some same)
+        (id, ap (λ q. later_grain q.1) (sym same) ∙ there, a id ∙ cond-true _ (Some (last, place)) (note_of id) (key_itself grains id) ∙ ap Some same)
     first_noted p false t e =
         let n = tied.noted p e in
-        (n.0, kept_place n.0 p n.1, a n.0 ∙ at_false _ (Some (last, place)) (note_of n.0) (refuted _ (grain_eq_decides id n.0) (λ (one : id ≡ n.0). let found : note_of id ≡ Some p = ap note_of one ∙ n.2 in cc)) ∙ n.2)
+        (n.0, kept_place n.0 p n.1, a n.0 ∙ cond-false _ (Some (last, place)) (note_of n.0) (refuted _ (grain_eq_decides id n.0) (λ (one : id ≡ n.0). let found : note_of id ≡ Some p = ap note_of one ∙ n.2 in cc)) ∙ n.2)
 
     pub tied-first : AreTied later_note later_grain later_stands
     tied-first = record {
@@ -97,13 +90,13 @@ module _ {note_of later_note : Grain → Option (ℕ × ℕ)} {grain_at later_gr
     -- another grain has another place
     apart : (g : Grain) (p : ℕ × ℕ) → grain_at p.1 ≡ Some g → grain_eq id g ≡ false → p.1 ≢ gone.1
     apart g p e t one =
-        let same : id ≡ g = some_is id g (sym (tied.placed id gone was) ∙ ap grain_at (sym one) ∙ e) in
+        let same : id ≡ g = same_Some id g (sym (tied.placed id gone was) ∙ ap grain_at (sym one) ∙ e) in
         let f : grain_eq id g ≡ true = (grain_eq_decides id g).1 same in cc
 
     -- and a note in the order of time that isn't the one that goes is another grain's
     another : (p : ℕ × ℕ) (g : Grain) → note_of g ≡ Some p → is_eq (time_cmp gone p) ≡ false → grain_eq id g ≡ false
     another p g e t = refuted _ (grain_eq_decides id g) (λ (one : id ≡ g).
-        let same : gone ≡ p = some_is gone p (sym was ∙ ap note_of one ∙ e) in
+        let same : gone ≡ p = same_Some gone p (sym was ∙ ap note_of one ∙ e) in
         let f : is_eq (time_cmp gone p) ≡ true = (same_note gone p).1 same in cc)
 
     gone_placed : (g : Grain) (p : ℕ × ℕ) (b : Bool) → grain_eq id g ≡ b → cond b None (note_of g) ≡ Some p → later_grain p.1 ≡ Some g
@@ -113,14 +106,14 @@ module _ {note_of later_note : Grain → Option (ℕ × ℕ)} {grain_at later_gr
     gone_entered : (g : Grain) (p : ℕ × ℕ) (b : Bool) → grain_eq id g ≡ b → cond b None (note_of g) ≡ Some p → later_stands p ≡ true
     gone_entered g p true t e = absurd cc
     gone_entered g p false t e =
-        l p ∙ at_false _ false (stands p) (refuted _ (same_note gone p) (λ (one : gone ≡ p). apart g p (tied.placed g p e) t (ap (λ q. q.1) (sym one)))) ∙ tied.entered g p e
+        l p ∙ cond-false _ false (stands p) (refuted _ (same_note gone p) (λ (one : gone ≡ p). apart g p (tied.placed g p e) t (ap (λ q. q.1) (sym one)))) ∙ tied.entered g p e
 
     gone_noted : (p : ℕ × ℕ) (b : Bool) → is_eq (time_cmp gone p) ≡ b → cond b false (stands p) ≡ true → (g : Grain) × (later_grain p.1 ≡ Some g) × (later_note g ≡ Some p)
     gone_noted p true t e = absurd cc
     gone_noted p false t e =
         let n = tied.noted p e in
         let other = another p n.0 n.2 t in
-        (n.0, others p.1 (apart n.0 p n.1 other) ∙ n.1, a n.0 ∙ at_false _ None (note_of n.0) other ∙ n.2)
+        (n.0, others p.1 (apart n.0 p n.1 other) ∙ n.1, a n.0 ∙ cond-false _ None (note_of n.0) other ∙ n.2)
 
     pub tied-gone : AreTied later_note later_grain later_stands
     tied-gone = record {
@@ -131,25 +124,16 @@ module _ {note_of later_note : Grain → Option (ℕ × ℕ)} {grain_at later_gr
 
 -- ---- a noted grain gets another moment: it's forgotten, and noted at the place that it had
 
-pub same_choice : {X : Type 0} (b : Bool) (x y z : X) → cond b x (cond b y z) ≡ cond b x z
-same_choice true x y z = refl
-same_choice false x y z = refl
-
-pub choices_apart : {X : Type 0} (b c : Bool) (x y z : X) → (b ≡ true → c ≡ true → ⊥) → cond b x (cond c y z) ≡ cond c y (cond b x z)
-choices_apart true true x y z h = absurd (h refl refl)
-choices_apart true false x y z h = refl
-choices_apart false c x y z h = refl
-
 -- the grains by place, but for that of one place
 module _ (grain_at : ℕ → Option Grain) (place : ℕ) where
   abbrev without : ℕ → Option Grain
   without n = cond (place == n) None (grain_at n)
 
   without-place : without place ≡ None
-  without-place = at_true (place == place) None (grain_at place) ((Decides-eqb place place).1 refl)
+  without-place = cond-true (place == place) None (grain_at place) ((Decides-eqb place place).1 refl)
 
   without-other : (n : ℕ) → n ≢ place → without n ≡ grain_at n
-  without-other n other = at_false (place == n) None (grain_at n) (refuted (place == n) (Decides-eqb place n) (λ (one : place ≡ n). other (sym one)))
+  without-other n other = cond-false (place == n) None (grain_at n) (refuted (place == n) (Decides-eqb place n) (λ (one : place ≡ n). other (sym one)))
 
 module _ {note_of later_note : Grain → Option (ℕ × ℕ)} {grain_at : ℕ → Option Grain} {stands later_stands : ℕ × ℕ → Bool} where
   pub tied-moved : AreTied note_of grain_at stands → (id : Grain) (before last place : ℕ) → note_of id ≡ Some (before, place) → before ≢ last
@@ -159,8 +143,8 @@ module _ {note_of later_note : Grain → Option (ℕ × ℕ)} {grain_at : ℕ �
   tied-moved tied id before last place was moves a l =
       let gone : AreTied (λ g. cond (grain_eq id g) None (note_of g)) (without grain_at place) (λ p. cond (is_eq (time_cmp (before, place) p)) false (stands p)) =
       tied-gone tied id (before, place) was (λ g. refl) (without-place grain_at place) (without-other grain_at place) (λ p. refl) in
-      tied-first gone id last place (at_true _ None (note_of id) (itself id)) (without-place grain_at place)
-      (λ g. a g ∙ sym (same_choice (grain_eq id g) (Some (last, place)) None (note_of g)))
+      tied-first gone id last place (cond-true _ None (note_of id) (key_itself grains id)) (without-place grain_at place)
+      (λ g. a g ∙ sym (cond-again (grain_eq id g) (Some (last, place)) None (note_of g)))
       (tied.placed id (before, place) was) (λ n other. sym (without-other grain_at place n other))
-      (λ p. l p ∙ choices_apart (is_eq (time_cmp (before, place) p)) (is_eq (time_cmp (last, place) p)) false true (stands p)
+      (λ p. l p ∙ cond-apart (is_eq (time_cmp (before, place) p)) (is_eq (time_cmp (last, place) p)) false true (stands p)
       (λ e f. moves (ap (λ q. q.0) ((same_note (before, place) p).0 e ∙ sym ((same_note (last, place) p).0 f)))))

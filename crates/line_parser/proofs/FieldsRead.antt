@@ -12,6 +12,7 @@ use Rattle.json.specs.Json.{value, members, read_key}
 use Rattle.json.proofs.Grammar.{read_key-shorter}
 use Rattle.serde_json.specs.Data.{Data, Members, no_members, put}
 use Rattle.serde_json.specs.Read.{of_members, converted}
+use Rattle.std.proofs.Math.Bool.{or-false, or_assoc}
 use Rattle.request_codec.specs.Tree.{fields_count}
 use Rattle.request_codec.specs.Json.{json_depth, json_members_depth}
 use Rattle.request_codec.specs.Formed.{FieldsFormed}
@@ -21,7 +22,7 @@ use Rattle.line_parser.specs.Argument.{too_deep, is_deep, AddsFaults, PutsValue,
 use Rattle.line_parser.specs.Fields.{PlacedField, placed_bytes, placed_spelling, members_of, HoldsFields, AreBehind, AreSorted, field_spelling}
 use Rattle.line_parser.specs.declared.fields.Fields.{Fields}
 use Rattle.line_parser.specs.declared.faults.Faults.{Faults}
-use Rattle.line_parser.proofs.Noted.{or_false, or_more, adds_both, adds_as, deep_max, nothing_added}
+use Rattle.line_parser.proofs.Noted.{adds_both, adds_as, deep_max, nothing_added}
 use Rattle.line_parser.proofs.Ordered.{Collects, collects_none, collects_more, formed_put, put_in_order}
 use Rattle.line_parser.proofs.Places.{one_behind}
 use Rattle.line_parser.proofs.ItemsRead.{SetsCount, counted_bytes, longer}
@@ -53,11 +54,11 @@ deep_more : (depth : ℕ) (cs : List PlacedField) (c : PlacedField) → (any_too
 deep_more depth cs c = or_last (list_any (field_too_deep depth) cs) (is_deep depth 0) (field_too_deep depth c) ∙ ap (λ b. b || is_deep depth 0) (sym (list_any-append (field_too_deep depth) cs (c ∷ [])))
 
 not_whole_more : (cs : List PlacedField) (c : PlacedField) → (any_not_whole cs || field_not_whole c) ≡ any_not_whole (cs ++ c ∷ [])
-not_whole_more cs c = ap (λ b. any_not_whole cs || b) (sym (or_false (field_not_whole c))) ∙ sym (list_any-append field_not_whole cs (c ∷ []))
+not_whole_more cs c = ap (λ b. any_not_whole cs || b) (sym (or-false (field_not_whole c))) ∙ sym (list_any-append field_not_whole cs (c ∷ []))
 
 deep_is : (depth : ℕ) (cs : List PlacedField) → any_too_deep depth cs ≡ is_deep depth (json_members_depth (members_of cs))
 deep_is depth [] = refl
-deep_is depth (c ∷ cs) = or_more (field_too_deep depth c) (list_any (field_too_deep depth) cs) (is_deep depth 0) ∙ ap (λ b. field_too_deep depth c || b) (deep_is depth cs) ∙ deep_max depth (json_depth c.value) (json_members_depth (members_of cs))
+deep_is depth (c ∷ cs) = or_assoc (field_too_deep depth c) (list_any (field_too_deep depth) cs) (is_deep depth 0) ∙ ap (λ b. field_too_deep depth c || b) (deep_is depth cs) ∙ deep_max depth (json_depth c.value) (json_members_depth (members_of cs))
 
 not_whole_is : (cs : List PlacedField) → any_not_whole cs ≡ fields_not_whole (members_of cs)
 not_whole_is [] = refl

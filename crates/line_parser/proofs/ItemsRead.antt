@@ -7,6 +7,7 @@ use Rattle.json.specs.Json.{value, items, members, parse_map, after_end_array, r
 use Rattle.json.proofs.Grammar.{read_key-shorter, after_end_array-shorter, value-begin_object}
 use Rattle.serde_json.specs.Data.{Data, Items, no_items, item, Members, no_members, put, object}
 use Rattle.serde_json.specs.Read.{of_json, of_items, of_members, converted}
+use Rattle.std.proofs.Math.Bool.{or-false, or_assoc}
 use Rattle.request_codec.specs.Tree.{members_count}
 use Rattle.request_codec.specs.Json.{json_depth, items_depth}
 use Rattle.request_codec.specs.Formed.{AreFormed}
@@ -18,7 +19,7 @@ use Rattle.line_parser.specs.LineMembers.{name_text, HoldsLineMembers, TakesMemb
 use Rattle.line_parser.specs.declared.line_members.Name.{Name}
 use Rattle.line_parser.specs.declared.line_members.LineMembers.{LineMembers}
 use Rattle.line_parser.specs.declared.faults.Faults.{Faults}
-use Rattle.line_parser.proofs.Noted.{or_false, or_more, adds_both, adds_as, deep_max, nothing_added}
+use Rattle.line_parser.proofs.Noted.{adds_both, adds_as, deep_max, nothing_added}
 use Rattle.line_parser.proofs.GrammarLoops.{item_read, items_over, member_read, members_over, parse_map-twice, converted-object, whole_read}
 
 -- ---- the items of a list
@@ -88,7 +89,7 @@ items_next depth initial ts r before mid after count first old new s going v =
       levels = max s.levels (json_depth v.json);
       deepest = λ ds. omega (arith, s.deepest (item v.json ds));
       some_not_whole = s.some_not_whole || is_not_whole v.json;
-      numbers = λ ds. s.numbers (item v.json ds) ∙ sym (or_more s.some_not_whole (is_not_whole v.json) (are_not_whole ds));
+      numbers = λ ds. s.numbers (item v.json ds) ∙ sym (or_assoc s.some_not_whole (is_not_whole v.json) (are_not_whole ds));
       noted = adds_as first new _ _ _ _ (adds_both first old new _ _ _ _ s.noted v.noted) (deep_max depth s.levels (json_depth v.json)) refl;
       counted = λ ds. omega (arith, s.counted (item v.json ds));
       done = s.done ++ spelling (lenient_value v.json);
@@ -121,7 +122,7 @@ items_stop depth initial ts r before after new at count first noted s over is se
       json = s.json no_items;
       read = s.read ∙ ap (parse_map s.json) (items_over (value depth) s.turns ts r s.enough over);
       formed = s.formed no_items tt;
-      noted = adds_as first noted _ _ _ _ s.noted (ap (is_deep depth) levels) (sym (s.numbers no_items ∙ or_false s.some_not_whole));
+      noted = adds_as first noted _ _ _ _ s.noted (ap (is_deep depth) levels) (sym (s.numbers no_items ∙ or-false s.some_not_whole));
       bytes = counted_bytes 5 at count before after new s.done is s.bytes set ∙ ap₂ (λ k l. before ++ (5 ∷ (to_be_bytes w32 k ++ l))) n all;
       shorter = omega (arith, s.shorter, after_end_array-shorter ts r over);
     }

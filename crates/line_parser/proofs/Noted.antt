@@ -4,6 +4,7 @@ use Rattle.std.proofs.lemmas.Bool.{lt-leb}
 use Rattle.std.proofs.lemmas.Bool.Decides.{nat_tests}
 use Rattle.serde_json.specs.Data as json
 use Rattle.json.specs.Token.{Token}
+use Rattle.std.proofs.Math.Bool.{or-false, or_assoc}
 use Rattle.request_codec.specs.Formed.{IsFormed}
 use Rattle.request_codec.specs.Limits.{depth_limit}
 use Rattle.request_codec.specs.Written.{spelling}
@@ -18,18 +19,10 @@ use Rattle.line_parser.specs.declared.faults.Faults.{Faults}
 
 -- ---- what is noted
 
-pub or_false : (a : Bool) → (a || false) ≡ a
-or_false true = refl
-or_false false = refl
-
-pub or_more : (a b c : Bool) → ((a || b) || c) ≡ (a || (b || c))
-or_more true b c = refl
-or_more false b c = refl
-
 pub adds_both : (first next last : Faults) (deep split deeper more : Bool) → AddsFaults first next deep split → AddsFaults next last deeper more → AddsFaults first last (deep || deeper) (split || more)
 adds_both first next last deep split deeper more a b = record {
-  depth = b.depth ∙ ap (λ x. x || deeper) a.depth ∙ or_more first.too_deep deep deeper;
-  numbers = b.numbers ∙ ap (λ x. x || more) a.numbers ∙ or_more first.not_whole split more;
+  depth = b.depth ∙ ap (λ x. x || deeper) a.depth ∙ or_assoc first.too_deep deep deeper;
+  numbers = b.numbers ∙ ap (λ x. x || more) a.numbers ∙ or_assoc first.not_whole split more;
 }
 
 pub adds_as : (old new : Faults) (deep split deeper more : Bool) → AddsFaults old new deep split → deep ≡ deeper → split ≡ more → AddsFaults old new deeper more
@@ -48,7 +41,7 @@ deep_outer depth n some = grind (arith, nat_tests)
 
 -- nothing was put yet
 pub nothing_added : (depth : ℕ) (f : Faults) → (depth < too_deep → f.too_deep ≡ true) → AddsFaults f f (is_deep depth 0) false
-nothing_added depth f h = record { depth = grind (arith, nat_tests); numbers = sym (or_false f.not_whole) }
+nothing_added depth f h = record { depth = grind (arith, nat_tests); numbers = sym (or-false f.not_whole) }
 
 -- ---- why a value is refused
 

@@ -11,9 +11,9 @@ use Rattle.std.proofs.lemmas.List.Sorted.{IsPermutation-sym, All-permutation}
 use Rattle.std.proofs.lemmas.Map.Text.{is_eq-slice_cmp}
 use Rattle.std.proofs.lemmas.Slice.Eq.{bytes_eq-Decides}
 use Rattle.serde_json.specs.Data.{Data, Members, no_members, member, put}
+use Rattle.finite_maps.proofs.Ascending.{less_from_is_lt}
 use Rattle.request_codec.specs.Spelling.{IsBelowFirst}
 use Rattle.request_codec.specs.Formed.{IsFormed, FieldsFormed}
-use Rattle.request_codec.proofs.Entries.{is_less}
 use Rattle.request_codec.specs.Lenient.{lenient_value, lenient_fields}
 use Rattle.line_parser.specs.Fields.{PlacedField, members_of, place_of, Ascend}
 
@@ -176,8 +176,8 @@ ascending_in_order last (c ∷ cs) (a, h) = (first_above c.name cs h, ascending_
 
 later_above : (k : List ℕ) (ms : Members) (j : List ℕ) (x : Data) → IsBelowFirst k (lenient_fields ms) → InOrder ms → Has ms j x → IsBelow k j
 later_above k no_members j x b o h = absurd h
-later_above k (member l e ms) j x b (f, o) (inl (i, v)) = subst (IsBelow k) (sym i) (is_less _ b)
-later_above k (member l e ms) j x b (f, o) (inr h) = nat_list_cmp_total.trans k l j (is_less _ b) (later_above l ms j x f o h)
+later_above k (member l e ms) j x b (f, o) (inl (i, v)) = subst (IsBelow k) (sym i) (less_from_is_lt _ b)
+later_above k (member l e ms) j x b (f, o) (inr h) = nat_list_cmp_total.trans k l j (less_from_is_lt _ b) (later_above l ms j x f o h)
 
 -- a name has one value
 one_value : (ms : Members) (k : List ℕ) (d e : Data) → InOrder ms → Has ms k d → Has ms k e → d ≡ e

@@ -12,6 +12,7 @@ use Rattle.serde_json.specs.Data.{Data, null, Members, put, object}
 use Rattle.serde_json.specs.Events.{members_len}
 use Rattle.serde_json.specs.Find.{get_member, as_str}
 use Rattle.serde_json.specs.Read.{of_json, of_members, converted}
+use Rattle.finite_maps.proofs.Options.{some_from_and_then}
 use Rattle.silo_event.specs.declared.step.Step.{Step}
 use Rattle.silo_event.specs.declared.step.Step.TheVariants as step
 use Rattle.grain_id.specs.Names.{Grain}
@@ -58,10 +59,6 @@ module _ (p : Parse json.Json) (n : ℕ) (k : List ℕ) (ts s : List Token) (som
 
 -- ---- what a form has
 
-bound : {A B : Type 0} (f : A → Option B) (o : Option A) (b : B) → option_and_then f o ≡ Some b → (a : A) × (o ≡ Some a) × (f a ≡ Some b)
-bound f None b e = absurd (cc)
-bound f (Some a) b e = (a, refl, e)
-
 mapped : {A B : Type 0} (f : A → B) (o : Option A) (b : B) → option_map f o ≡ Some b → (a : A) × (o ≡ Some a)
 mapped f None b e = absurd (cc)
 mapped f (Some a) b e = (a, refl)
@@ -88,11 +85,11 @@ module _ (k : List ℕ) (ms : Members) (other : named k ≡ None) (has : Has ms 
   full ns n e apart all count = omega (arith, one_more k ns ms other has apart all, eqb-true (members_len ms) n count, e)
 
   there : {A : Type 0} (f : Data → Option A) (name : List ℕ) (a : A) → option_and_then f (get_member name ms) ≡ Some a → Has ms name
-  there f name a e = let b = bound f (get_member name ms) a e in (b.0, b.1)
+  there f name a e = let b = some_from_and_then f (get_member name ms) a e in (b.0, b.1)
 
   -- of which a text is read
   read_there : {A : Type 0} (f : List ℕ → Option A) (name : List ℕ) (a : A) → option_and_then f (text_at name (object ms)) ≡ Some a → Has ms name
-  read_there f name a e = let b = bound f (text_at name (object ms)) a e in there as_str name b.0 b.1
+  read_there f name a e = let b = some_from_and_then f (text_at name (object ms)) a e in there as_str name b.0 b.1
 
   module _ (op : Has ms (codes "op")) where
     no_sweep : (x : Step) → sweep_of (object ms) ≡ Some x → ⊥
@@ -116,7 +113,7 @@ module _ (k : List ℕ) (ms : Members) (other : named k ≡ None) (has : Has ms 
     no_turn make x e =
         let m = mapped _ (turn_alone (object ms)) x e in
         let u = under (has_members 3 (object ms)) _ m.0 m.1 in
-        let g = bound _ (grain_at (object ms)) m.0 u.1 in
+        let g = some_from_and_then _ (grain_at (object ms)) m.0 u.1 in
         let t = mapped _ (natural_at (codes "turn") (object ms)) m.0 g.2 in
         full (Op ∷ name.Grain ∷ Turn ∷ []) 3 refl refl (op, (read_there _ (codes "grain") g.0 g.1, (there _ (codes "turn") t.0 t.1, tt))) u.0
 
@@ -124,7 +121,7 @@ module _ (k : List ℕ) (ms : Members) (other : named k ≡ None) (has : Has ms 
     unfolding status_of
     no_status x e =
         let u = under (has_members 3 (object ms)) _ x e in
-        let c = bound _ (caller_at (object ms)) x u.1 in
+        let c = some_from_and_then _ (caller_at (object ms)) x u.1 in
         let i = mapped _ (natural_at (codes "id") (object ms)) x c.2 in
         full (Op ∷ From ∷ Id ∷ []) 3 refl refl (op, (read_there _ (codes "from") c.0 c.1, (there _ (codes "id") i.0 i.1, tt))) u.0
 
@@ -132,16 +129,16 @@ module _ (k : List ℕ) (ms : Members) (other : named k ≡ None) (has : Has ms 
     unfolding poke_of
     no_poke x e =
         let u = under (has_members 5 (object ms)) _ x e in
-        let c = bound _ (caller_at (object ms)) x u.1 in
-        let i = bound _ (natural_at (codes "id") (object ms)) x c.2 in
-        let g = bound _ (text_at (codes "grain") (object ms)) x i.2 in
+        let c = some_from_and_then _ (caller_at (object ms)) x u.1 in
+        let i = some_from_and_then _ (natural_at (codes "id") (object ms)) x c.2 in
+        let g = some_from_and_then _ (text_at (codes "grain") (object ms)) x i.2 in
         let v = mapped _ (get_member (codes "state") ms) x g.2 in
         full (Op ∷ From ∷ Id ∷ name.Grain ∷ State ∷ []) 5 refl refl (op, (read_there _ (codes "from") c.0 c.1, (there _ (codes "id") i.0 i.1, (there _ (codes "grain") g.0 g.1, ((v.0, v.1), tt))))) u.0
 
     no_load : (x : Step) → load_of (object ms) ≡ Some x → ⊥
     unfolding load_of
     no_load x e =
-        let f = bound _ (failed_at 2 (object ms)) x e in
+        let f = some_from_and_then _ (failed_at 2 (object ms)) x e in
         let g = mapped _ (grain_at (object ms)) x f.2 in
         elim (either (has_members 2 (object ms)) (has_members 3 (object ms)) (truth_at (codes "failed") (object ms)) false f.0 f.1) [
           | inl two ↦ full (Op ∷ name.Grain ∷ []) 2 refl refl (op, (read_there _ (codes "grain") g.0 g.1, tt)) two
@@ -151,8 +148,8 @@ module _ (k : List ℕ) (ms : Members) (other : named k ≡ None) (has : Has ms 
     no_store : (x : Step) → store_of (object ms) ≡ Some x → ⊥
     unfolding store_of
     no_store x e =
-        let f = bound _ (failed_at 3 (object ms)) x e in
-        let g = bound _ (grain_at (object ms)) x f.2 in
+        let f = some_from_and_then _ (failed_at 3 (object ms)) x e in
+        let g = some_from_and_then _ (grain_at (object ms)) x f.2 in
         let t = mapped _ (natural_at (codes "turn") (object ms)) x g.2 in
         elim (either (has_members 3 (object ms)) (has_members 4 (object ms)) (truth_at (codes "failed") (object ms)) false f.0 f.1) [
           | inl three ↦ full (Op ∷ name.Grain ∷ Turn ∷ []) 3 refl refl (op, (read_there _ (codes "grain") g.0 g.1, (there _ (codes "turn") t.0 t.1, tt))) three
@@ -162,10 +159,10 @@ module _ (k : List ℕ) (ms : Members) (other : named k ≡ None) (has : Has ms 
     no_call : (x : Step) → call_of (object ms) ≡ Some x → ⊥
     unfolding call_of
     no_call x e =
-        let a = bound _ (argument_at (object ms)) x e in
-        let c = bound _ (caller_at (object ms)) x a.2 in
-        let i = bound _ (natural_at (codes "id") (object ms)) x c.2 in
-        let g = bound _ (text_at (codes "grain") (object ms)) x i.2 in
+        let a = some_from_and_then _ (argument_at (object ms)) x e in
+        let c = some_from_and_then _ (caller_at (object ms)) x a.2 in
+        let i = some_from_and_then _ (natural_at (codes "id") (object ms)) x c.2 in
+        let g = some_from_and_then _ (text_at (codes "grain") (object ms)) x i.2 in
         let m = mapped _ (text_at (codes "method") (object ms)) x g.2 in
         let from = read_there _ (codes "from") c.0 c.1 in
         let id = there _ (codes "id") i.0 i.1 in

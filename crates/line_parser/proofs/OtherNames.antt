@@ -9,6 +9,7 @@ use Rattle.std.proofs.lemmas.Map.Lookups.{exact_bytes}
 use Rattle.serde_json.specs.Data.{Data, Members, no_members, member}
 use Rattle.serde_json.specs.Events.{members_len}
 use Rattle.serde_json.specs.Find.{get_member}
+use Rattle.finite_maps.proofs.Options.{none_from_cond}
 use Rattle.line_parser.specs.LineMembers.{name_text, named}
 use Rattle.line_parser.specs.declared.line_members.Name.{Name}
 use Rattle.line_parser.specs.declared.line_members.Name.TheVariants.{Op, From, Grain, Method, Id, Turn, Now, Failed, Args, State}
@@ -83,22 +84,18 @@ at_least (n ∷ ns) ms e h =
 
 -- ---- a name beside them
 
-not_first : {A : Type 0} (b : Bool) (a : A) (o : Option A) → cond b (Some a) o ≡ None → (b ≡ false) × (o ≡ None)
-not_first true a o e = absurd (cc)
-not_first false a o e = (refl, e)
-
 differs : (k : List ℕ) → named k ≡ None → (n : Name) → bytes_eq k (name_text n) ≡ false
 unfolding named
-differs k e Op = (not_first _ Op _ e).0
-differs k e From = (not_first _ From _ (not_first _ Op _ e).1).0
-differs k e Grain = (not_first _ Grain _ (not_first _ From _ (not_first _ Op _ e).1).1).0
-differs k e Method = (not_first _ Method _ (not_first _ Grain _ (not_first _ From _ (not_first _ Op _ e).1).1).1).0
-differs k e Id = (not_first _ Id _ (not_first _ Method _ (not_first _ Grain _ (not_first _ From _ (not_first _ Op _ e).1).1).1).1).0
-differs k e Turn = (not_first _ Turn _ (not_first _ Id _ (not_first _ Method _ (not_first _ Grain _ (not_first _ From _ (not_first _ Op _ e).1).1).1).1).1).0
-differs k e Now = (not_first _ Now _ (not_first _ Turn _ (not_first _ Id _ (not_first _ Method _ (not_first _ Grain _ (not_first _ From _ (not_first _ Op _ e).1).1).1).1).1).1).0
-differs k e Failed = (not_first _ Failed _ (not_first _ Now _ (not_first _ Turn _ (not_first _ Id _ (not_first _ Method _ (not_first _ Grain _ (not_first _ From _ (not_first _ Op _ e).1).1).1).1).1).1).1).0
-differs k e Args = (not_first _ Args _ (not_first _ Failed _ (not_first _ Now _ (not_first _ Turn _ (not_first _ Id _ (not_first _ Method _ (not_first _ Grain _ (not_first _ From _ (not_first _ Op _ e).1).1).1).1).1).1).1).1).0
-differs k e State = (not_first _ State _ (not_first _ Args _ (not_first _ Failed _ (not_first _ Now _ (not_first _ Turn _ (not_first _ Id _ (not_first _ Method _ (not_first _ Grain _ (not_first _ From _ (not_first _ Op _ e).1).1).1).1).1).1).1).1).1).0
+differs k e Op = (none_from_cond _ Op _ e).0
+differs k e From = (none_from_cond _ From _ (none_from_cond _ Op _ e).1).0
+differs k e Grain = (none_from_cond _ Grain _ (none_from_cond _ From _ (none_from_cond _ Op _ e).1).1).0
+differs k e Method = (none_from_cond _ Method _ (none_from_cond _ Grain _ (none_from_cond _ From _ (none_from_cond _ Op _ e).1).1).1).0
+differs k e Id = (none_from_cond _ Id _ (none_from_cond _ Method _ (none_from_cond _ Grain _ (none_from_cond _ From _ (none_from_cond _ Op _ e).1).1).1).1).0
+differs k e Turn = (none_from_cond _ Turn _ (none_from_cond _ Id _ (none_from_cond _ Method _ (none_from_cond _ Grain _ (none_from_cond _ From _ (none_from_cond _ Op _ e).1).1).1).1).1).0
+differs k e Now = (none_from_cond _ Now _ (none_from_cond _ Turn _ (none_from_cond _ Id _ (none_from_cond _ Method _ (none_from_cond _ Grain _ (none_from_cond _ From _ (none_from_cond _ Op _ e).1).1).1).1).1).1).0
+differs k e Failed = (none_from_cond _ Failed _ (none_from_cond _ Now _ (none_from_cond _ Turn _ (none_from_cond _ Id _ (none_from_cond _ Method _ (none_from_cond _ Grain _ (none_from_cond _ From _ (none_from_cond _ Op _ e).1).1).1).1).1).1).1).0
+differs k e Args = (none_from_cond _ Args _ (none_from_cond _ Failed _ (none_from_cond _ Now _ (none_from_cond _ Turn _ (none_from_cond _ Id _ (none_from_cond _ Method _ (none_from_cond _ Grain _ (none_from_cond _ From _ (none_from_cond _ Op _ e).1).1).1).1).1).1).1).1).0
+differs k e State = (none_from_cond _ State _ (none_from_cond _ Args _ (none_from_cond _ Failed _ (none_from_cond _ Now _ (none_from_cond _ Turn _ (none_from_cond _ Id _ (none_from_cond _ Method _ (none_from_cond _ Grain _ (none_from_cond _ From _ (none_from_cond _ Op _ e).1).1).1).1).1).1).1).1).1).0
 
 apart_from : (k j : List ℕ) → bytes_eq k j ≡ false → is_eq (order j k) ≡ false
 apart_from k j e = is_eq-slice_cmp j k ∙ false_from_ne_true (bytes_eq j k) (λ same. true≢false (sym ((bytes_eq-Decides k j).1 (sym ((bytes_eq-Decides j k).0 same))) ∙ e))

@@ -8,6 +8,7 @@ use Rattle.serde_json.specs.Data as json
 use Rattle.serde_json.specs.Data.{Data, array, object}
 use Rattle.serde_json.specs.Find.{of_integer, as_i64}
 use Rattle.serde_json.specs.Read.{of_json, converted, number_of}
+use Rattle.std.proofs.Math.Bool.{or-false}
 use Rattle.request_codec.specs.Formed.{IsFormed}
 use Rattle.request_codec.specs.Json.{items_depth, json_members_depth}
 use Rattle.request_codec.specs.Tree as tree
@@ -17,7 +18,7 @@ use Rattle.request_codec.specs.Written.{spelling}
 use Rattle.line_parser.specs.Number.{IsWhole, IsNotWhole}
 use Rattle.line_parser.specs.Argument.{is_deep, AddsFaults, PutsValue, PutsItems, PutsFields}
 use Rattle.line_parser.specs.declared.faults.Faults.{Faults}
-use Rattle.line_parser.proofs.Noted.{or_false, adds_both, adds_as, deep_outer}
+use Rattle.line_parser.proofs.Noted.{adds_both, adds_as, deep_outer}
 use Rattle.line_parser.proofs.GrammarLoops.{converted-array, converted-object}
 use Rattle.line_parser.proofs.Numbers.{as_i64-of_integer}
 
@@ -79,7 +80,7 @@ put_other_number depth old new before after s first mid last deep e (n, is, othe
       json = json.number n;
       read = ap (converted of_json) (read_at depth old new (Token.number s) e ∙ value_is depth (Token.number s ∷ new)) ∙ ap (λ o. option_map {U = Data × List Token} (λ d. (d, new)) (option_map json.number o)) is;
       formed = subst IsFormed (sym seen) tt;
-      noted = adds_as first last _ _ _ _ (adds_both first mid last _ _ _ _ deep more) (or_false (is_deep depth 1)) (sym (ap is_none other));
+      noted = adds_as first last _ _ _ _ (adds_both first mid last _ _ _ _ deep more) (or-false (is_deep depth 1)) (sym (ap is_none other));
       bytes = b ∙ ap (λ v. before ++ spelling v) (sym seen);
       shorter = one_less new (Token.number s) old e;
     }

@@ -2,6 +2,7 @@
 use Rattle.std.proofs.Common.{◌≡◌, ℕ, ◌+◌, ◌-◌, ◌≤◌, ◌<◌, Bool, true, false, nat_lt, List, length, option_map, if◌then◌else◌, [], ◌∷◌, ◌++◌, Option, Some, None, codes, refl, sym, ap, ap₂, ◌∙◌, append_assoc, append-nil, arith}
 use Rattle.std.proofs.lemmas.Option.{some_pair_parts}
 use Rattle.json.specs.Print.{quoted}
+use Rattle.request_codec.proofs.Whole.{if_ended-some}
 use Rattle.request_codec.specs.Tree.{Tree, list, map, members_of, fields_of}
 use Rattle.request_codec.specs.Reading.{Parse, text_at, members_at, fields_at, is_above, value_at, if_ended}
 use Rattle.request_codec.specs.Limits.{depth_limit, state_limit}
@@ -164,11 +165,6 @@ leaf_added limit bytes v rest before after some start e = record {
   read = value_at-leaf limit bytes v v rest some start refl;
   added = e;
 }
-
-if_ended-some : {A : Type 0} (found : Option (A × List ℕ)) (x : A) → if_ended found ≡ Some x → found ≡ Some (x, [])
-if_ended-some {A = A} None x e = absurd (cc)
-if_ended-some {A = A} (Some (y, [])) x e = ap (λ (z : Option A). option_map (λ v. (v, [])) z) e
-if_ended-some {A = A} (Some (y, b ∷ rest)) x e = absurd (cc)
 
 unless_long : (b : Bool) (found : Option Tree) (v : Tree) → (if b then None else found) ≡ Some v → found ≡ Some v
 unless_long true found v e = absurd (cc)

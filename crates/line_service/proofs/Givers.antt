@@ -7,6 +7,7 @@ use Rattle.std.specs.Cmp.Lexicographic.{options_equiv}
 use Rattle.std.proofs.lemmas.List.{append-nil}
 use Rattle.std.proofs.lemmas.List.Elements.{filter-append}
 use Rattle.std.proofs.lemmas.Map.Keys.{IsDistinct-head, IsDistinct-tail, IsDistinct-cons}
+use Rattle.std.proofs.lemmas.Bool.{or_parts}
 use Rattle.grain_id.specs.Names.{Client}
 use Rattle.grain_id.proofs.Order.{client_eq_equiv}
 use Rattle.silo_event.specs.declared.step.Step.{Step}
@@ -24,18 +25,10 @@ turned a b t e = lanes_equiv.symm b a ∙ e
 abbrev pub is_there : Option Client → List (Option Client) → Bool
 is_there giver givers = list_any (same_lane giver) givers
 
-first_not : (b c : Bool) → b || c ≡ false → b ≡ false
-first_not true c e = e
-first_not false c e = refl
-
-second_not : (b c : Bool) → b || c ≡ false → c ≡ false
-second_not true c e = absurd (true≢false e)
-second_not false c e = e
-
 -- where the giver isn't, each is another
 pub all_others : (giver : Option Client) (ks : List (Option Client)) → is_there giver ks ≡ false → AllByRecursion (λ k. same_lane giver k ≡ false) ks
 all_others giver [] none = tt
-all_others giver (k ∷ ks) none = (first_not _ _ none, all_others giver ks (second_not _ _ none))
+all_others giver (k ∷ ks) none = ((or_parts _ _ none).0, all_others giver ks ((or_parts _ _ none).1))
 
 -- ---- the others than one giver
 
@@ -135,8 +128,8 @@ given_not : (giver : Option Client) (first : Option (Option Client)) (gs : List 
     → is_there giver (with_first first gs) ≡ false → (is_there giver gs ≡ false → rest ≡ []) → (if is_given_by giver first then s ∷ rest else rest) ≡ []
 given_not giver None gs s rest none others = others none
 given_not giver (Some other) gs s rest none others =
-    let apart = first_not _ _ none in
-    ap (λ t. if t then s ∷ rest else rest) (turned giver other false apart) ∙ others (sym (among_others giver other apart gs) ∙ second_not _ _ none)
+    let apart = (or_parts _ _ none).0 in
+    ap (λ t. if t then s ∷ rest else rest) (turned giver other false apart) ∙ others (sym (among_others giver other apart gs) ∙ (or_parts _ _ none).1)
 
 -- who isn't there gives none of the steps
 pub none_given : (giver : Option Client) (steps : List Step) → is_there giver (givers_of steps) ≡ false → given_by giver steps ≡ []

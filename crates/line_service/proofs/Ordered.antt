@@ -14,6 +14,10 @@ use Rattle.std.specs.FinMap as finite
 use Rattle.std.specs.FinMap.{find, is_sorted}
 use Rattle.std.specs.FinMap.Entries.{below_all, same_entries}
 use Rattle.std.proofs.lemmas.Map.Made.{keys_of-map_values, lookup-map_values}
+use Rattle.grain_id.proofs.Keys.{grains}
+use Rattle.finite_maps.proofs.Keys.{keys_by_order}
+use Rattle.finite_maps.proofs.Entries.{find-lookup, ties_turned}
+use Rattle.finite_maps.proofs.Ascending.{is_sorted-true}
 use Rattle.grain_id.specs.Names.{Grain, grain_cmp, grain_eq}
 use Rattle.grain_id.proofs.Order.{grain_cmp_total, grain_cmp_exact, grain_ties, eq_by_cmp-Decides}
 use Rattle.silo_event.specs.declared.reply.Party.{Party}
@@ -65,12 +69,9 @@ is_told q (r ∷ rs) = by_party (is_told q rs) r.recipient
     by_test others true = refl
     by_test others false = others
 
-    turned : (told : Grain) → grain_eq told q ≡ ties q told
-    turned told = grain_ties told q ∙ (eq_by_cmp_equiv grain_cmp_total).symm told q
-
     by_party : has_any (replies_to_grain q rs) ≡ list_any (ties q) (grains_told rs) → (p : Party) → has_any (if is_grain q p then r ∷ replies_to_grain q rs else replies_to_grain q rs) ≡ list_any (ties q) (grain_of p ++ grains_told rs)
     by_party others (party.Client caller id) = others
-    by_party others (party.Grain told) = by_test others (grain_eq told q) ∙ ap (λ b. b || list_any (ties q) (grains_told rs)) (turned told)
+    by_party others (party.Grain told) = by_test others (grain_eq told q) ∙ ap (λ b. b || list_any (ties q) (grains_told rs)) (sym (ties_turned grains told q))
 
 get-lines_by_grain : (q : Grain) (rs : List Reply) → find grain_cmp q (finite.entries (lines_by_grain rs)) ≡ lines_if_any (replies_to_grain q rs)
 get-lines_by_grain q rs =
@@ -83,22 +84,6 @@ get-lines_by_grain q rs =
 
 -- ---- in the order of the grains
 
-find-lookup : (es : List (Grain × List ℕ)) (q : Grain) → find grain_cmp q es ≡ lookup (λ k. ties q k) es
-find-lookup [] q = refl
-find-lookup (e ∷ es) q = ap (cond (ties q e.0) (Some e.1)) (find-lookup es q)
-
-both_true : (a b : Bool) → a ≡ true → b ≡ true → (a && b) ≡ true
-both_true a b p q = ap (λ x. x && b) p ∙ q
-
-below_all-true : (k : Grain) (es : List (Grain × List ℕ)) → AllByRecursion (λ y. grain_cmp k y ≡ Less) (keys_of es) → below_all grain_cmp k es ≡ true
-below_all-true k [] all = refl
-below_all-true k (e ∷ es) all = both_true _ _ (ap is_lt all.0) (below_all-true k es all.1)
-
-is_sorted-true : (es : List (Grain × List ℕ)) → IsStrictlySortedBy grain_cmp (keys_of es) → is_sorted grain_cmp es ≡ true
-unfolding IsStrictlySortedBy
-is_sorted-true [] ascending = refl
-is_sorted-true (e ∷ es) ascending = both_true _ _ (below_all-true e.0 es ascending.0) (is_sorted-true es ascending.1)
-
 abbrev shown : List (Grain × String Global) → List (Grain × List ℕ)
 shown es = map_list (λ (e : Grain × String Global). (e.0, string_bytes e.1)) es
 
@@ -110,8 +95,8 @@ values_shown (e ∷ es) = ap (λ ls. string_bytes e.1 ∷ ls) (values_shown es)
 pub collected_in_order : (told : BTreeMap Grain (String Global)) (rs : List Reply) → HoldLines told rs → IsOrdered grain_cmp told → map_list string_bytes (values told) ≡ finite.values (lines_by_grain rs)
 collected_in_order told rs hold ordered =
     let es = shown told.entries in
-    let sorted : T (is_sorted grain_cmp es) = subst T (sym (is_sorted-true es (subst (IsStrictlySortedBy grain_cmp) (sym (keys_of-map_values string_bytes told.entries)) ordered))) tt in
+    let sorted : T (is_sorted grain_cmp es) = subst T (sym (is_sorted-true grain_cmp es (subst (IsStrictlySortedBy grain_cmp) (sym (keys_of-map_values string_bytes told.entries)) ordered))) tt in
     let found : (q : Grain) → find grain_cmp q es ≡ find grain_cmp q (finite.entries (lines_by_grain rs)) =
-    (λ q. find-lookup es q ∙ lookup-map_values string_bytes (λ k. ties q k) told.entries ∙ hold q ∙ sym (get-lines_by_grain q rs)) in
+    (λ q. find-lookup (keys_by_order grain_cmp_total grain_cmp_exact) es q ∙ lookup-map_values string_bytes (λ k. ties q k) told.entries ∙ hold q ∙ sym (get-lines_by_grain q rs)) in
     values_shown told.entries
     ∙ ap (map_list (λ (e : Grain × List ℕ). e.1)) (same_entries grain_cmp grain_cmp_total grain_cmp_exact es (finite.entries (lines_by_grain rs)) sorted (finite.entries_sorted (lines_by_grain rs)) found)

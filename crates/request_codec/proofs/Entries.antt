@@ -7,6 +7,7 @@ use Rattle.std.specs.BTreeMap.{insert_entry}
 use Rattle.std.specs.List.Sorted.{IsStrictlySortedBy}
 use Rattle.std.specs.Map.{keys_of}
 use Rattle.std.proofs.lemmas.Map.Keys.{sorted_tail}
+use Rattle.finite_maps.proofs.Ascending.{less_from_is_lt}
 use Rattle.request_codec.specs.Tree.{Tree, fields_of}
 use Rattle.request_codec.specs.Spelling.{IsBelowFirst}
 use Rattle.request_codec.specs.declared.datum.Datum.{Datum}
@@ -18,11 +19,6 @@ Entry = String Global × Datum
 abbrev pub AreBelow : List Entry → List ℕ → Type 0
 AreBelow [] name = Unit {0}
 AreBelow (e ∷ es) name = (slice_cmp nat_cmp (string_bytes e.0) name ≡ Less) × AreBelow es name
-
-pub is_less : (o : Ordering) → is_lt o ≡ true → o ≡ Less
-is_less Less e = refl
-is_less Equal e = absurd cc
-is_less Greater e = absurd cc
 
 pub AreBelow-later : (es : List Entry) (name next : List ℕ) → AreBelow es name → slice_cmp nat_cmp name next ≡ Less → AreBelow es next
 AreBelow-later [] name next h lt = tt

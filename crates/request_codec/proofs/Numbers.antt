@@ -8,9 +8,10 @@ use Rattle.std.proofs.lemmas.List.{take_at, drop_at, take-append-drop, length-ap
 use Rattle.std.proofs.lemmas.Nat.{from_be_bytes-to_be_bytes_4, from_be_bytes-to_be_bytes_8, be_bytes_4, be_bytes_8}
 use Rattle.std.proofs.lemmas.Option.{some_pair_parts}
 use Rattle.std.proofs.lemmas.Str.{is_utf8-from_IsUtf8, IsUtf8-from_is_utf8}
+use Rattle.finite_maps.proofs.Options.{some_if_fails, some_if_passes}
 use Rattle.request_codec.specs.Spelling.{SpellsText}
 use Rattle.request_codec.specs.Reading.{number_at, characters_at, text_at}
-use Rattle.request_codec.proofs.Steps.{bound, unless, provided}
+use Rattle.request_codec.proofs.Steps.{bound}
 
 abbrev pub IsBytes : List ℕ → Type 0
 IsBytes bytes = (i : ℕ) → get_or bytes i 0 < 256
@@ -79,7 +80,7 @@ IsBytes-rest b bytes h i = h (suc i)
 pub number_found : (w : Width) (limit : ℕ) (wide : IsWide w limit) (bytes : List ℕ) (n : ℕ) (rest : List ℕ) → IsBytes bytes → number_at w bytes ≡ Some (n, rest) → (bytes ≡ to_be_bytes w n ++ rest) × (n < limit) × IsBytes rest
 unfolding number_at
 number_found w limit wide bytes n rest fits e =
-    let g = unless (ltb (length bytes) (byte_len w)) (Some (from_be_bytes w (take (byte_len w) bytes), drop (byte_len w) bytes)) (n, rest) e in
+    let g = some_if_fails (ltb (length bytes) (byte_len w)) (Some (from_be_bytes w (take (byte_len w) bytes), drop (byte_len w) bytes)) (n, rest) e in
     let long : byte_len w ≤ length bytes = ltb-false _ _ g.0 in
     let is = some_pair_parts _ _ _ _ g.1 in
     let front : to_be_bytes w n ≡ take (byte_len w) bytes = rw (← is.0) (wide.back (take (byte_len w) bytes) (omega (arith, length-take (byte_len w) bytes)) (IsBytes-take (byte_len w) bytes fits)) in
@@ -88,9 +89,9 @@ number_found w limit wide bytes n rest fits e =
 -- behind a length k
 text_parts : (k : ℕ) (m s rest : List ℕ) → IsBytes m → characters_at k m ≡ Some (s, rest) → (length s ≡ k) × IsUtf8 s × (m ≡ s ++ rest) × IsBytes rest
 text_parts k m s rest fits e =
-    let g = unless (ltb (length m) k) _ (s, rest) e in
+    let g = some_if_fails (ltb (length m) k) _ (s, rest) e in
     let long : k ≤ length m = ltb-false _ _ g.0 in
-    let valid = provided (is_utf8 (take k m)) _ (s, rest) g.1 in
+    let valid = some_if_passes (is_utf8 (take k m)) _ (s, rest) g.1 in
     let is = some_pair_parts _ _ _ _ valid.1 in
     (rw (← is.0) (omega (arith, length-take k m)), rw (← is.0) (IsUtf8-from_is_utf8 _ valid.0), rw (← is.0, ← is.1) (sym (take-append-drop k m)), rw (← is.1) (IsBytes-drop k m fits))
 

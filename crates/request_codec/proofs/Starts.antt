@@ -6,10 +6,11 @@ use Rattle.std.specs.Str.{is_utf8}
 use Rattle.std.proofs.lemmas.Bool.{ltb-true, ltb-false}
 use Rattle.std.proofs.lemmas.List.{length-drop}
 use Rattle.std.proofs.lemmas.Option.{some_pair_parts}
+use Rattle.finite_maps.proofs.Options.{some_if_fails, some_if_passes}
 use Rattle.request_codec.specs.Tree.{Tree, list, map, Members, Fields}
 use Rattle.request_codec.specs.Reading.{Parse, ◌>>=◌, number_at, characters_at, text_at, members_at, fields_at, is_above, node_at, value_at}
 use Rattle.request_codec.specs.Start.{Begun, leaf, list_of, map_of, if_enough, count_at, start_at, value_behind}
-use Rattle.request_codec.proofs.Steps.{bound, unless, provided}
+use Rattle.request_codec.proofs.Steps.{bound}
 
 -- ---- what is read takes a byte at least
 
@@ -19,15 +20,15 @@ Shrinks {A} read = (bytes : List ℕ) (x : A) (rest : List ℕ) → read bytes �
 number_left : (w : Width) (bytes : List ℕ) (n : ℕ) (rest : List ℕ) → number_at w bytes ≡ Some (n, rest) → length rest + byte_len w ≡ length bytes
 unfolding number_at
 number_left w bytes n rest e =
-    let g = unless (ltb (length bytes) (byte_len w)) (Some (from_be_bytes w (take (byte_len w) bytes), drop (byte_len w) bytes)) (n, rest) e in
+    let g = some_if_fails (ltb (length bytes) (byte_len w)) (Some (from_be_bytes w (take (byte_len w) bytes), drop (byte_len w) bytes)) (n, rest) e in
     let long : byte_len w ≤ length bytes = ltb-false _ _ g.0 in
     let is = some_pair_parts _ _ _ _ g.1 in
     rw (← is.1) (omega (arith, length-drop (byte_len w) bytes))
 
 characters_left : (k : ℕ) (bytes s rest : List ℕ) → characters_at k bytes ≡ Some (s, rest) → length rest ≤ length bytes
 characters_left k bytes s rest e =
-    let g = unless (ltb (length bytes) k) _ (s, rest) e in
-    let valid = provided (is_utf8 (take k bytes)) _ (s, rest) g.1 in
+    let g = some_if_fails (ltb (length bytes) k) _ (s, rest) e in
+    let valid = some_if_passes (is_utf8 (take k bytes)) _ (s, rest) g.1 in
     let is = some_pair_parts _ _ _ _ valid.1 in
     rw (← is.1) (omega (arith, length-drop k bytes))
 
@@ -61,7 +62,7 @@ fields_left read shrinks (suc n) last bytes fs rest e =
     let a = bound (text_at bytes) _ (fs, rest) e in
     let name = text_left bytes a.0.0 a.0.1 a.1 in
     let b = bound (if is_above last a.0.0 then read a.0.1 else None) _ (fs, rest) a.2 in
-    let above = provided (is_above last a.0.0) (read a.0.1) b.0 b.1 in
+    let above = some_if_passes (is_above last a.0.0) (read a.0.1) b.0 b.1 in
     let first = shrinks a.0.1 b.0.0 b.0.1 above.1 in
     let c = bound (fields_at read n (Some a.0.0) b.0.1) _ (fs, rest) b.2 in
     let others = fields_left read shrinks n (Some a.0.0) b.0.1 c.0.0 c.0.1 c.1 in

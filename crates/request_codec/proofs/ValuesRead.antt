@@ -4,11 +4,12 @@ use Rattle.std.specs.Prelude.{FitsSigned, if◌then◌else◌}
 use Rattle.std.specs.Int.{w32, w64, to_be_bytes, cast_signed}
 use Rattle.std.proofs.Math.Nat.{max-le}
 use Rattle.std.proofs.lemmas.Int.{of_z-to_z, wrapping_add-bits, SFits-int_wrap}
-use Rattle.std.proofs.lemmas.Option.{some_pair_parts}
+use Rattle.std.proofs.lemmas.Option.{some_pair_parts, same_Some}
+use Rattle.finite_maps.proofs.Options.{some_if_passes}
 use Rattle.request_codec.specs.Tree.{Tree, null, truth, integer, text, list, map, Members, no_members, member, Fields, no_fields, field, members_count, fields_count, depth, members_depth, fields_depth}
 use Rattle.request_codec.specs.Spelling.{SpellsText, Spells, SpellEach, SpellFields, IsBelowFirst}
 use Rattle.request_codec.specs.Reading.{Parse, number_at, text_at, members_at, is_above, fields_at, node_at, value_at}
-use Rattle.request_codec.proofs.Steps.{bound, provided, pair_is}
+use Rattle.request_codec.proofs.Steps.{bound}
 use Rattle.request_codec.proofs.Numbers.{IsBytes, IsBytes-rest, Found, wide32, wide64, number_found, text_found}
 use Rattle.request_codec.proofs.SpellingsRead.{AreAbove}
 
@@ -30,7 +31,7 @@ unfolding members_at
 members_found read d reads zero bytes vs rest fits e =
     let is = some_pair_parts _ _ _ _ e in
     let result : Found (SpellEach no_members) bytes bytes × (members_depth no_members ≤ d) × (members_count no_members ≡ 0) = (record { used = []; wanted = refl; parts = refl; rest_fits = fits }, omega arith, refl) in
-    subst (λ (p : Members × List ℕ). Found (SpellEach p.0) bytes p.1 × (members_depth p.0 ≤ d) × (members_count p.0 ≡ 0)) (pair_is e) result
+    subst (λ (p : Members × List ℕ). Found (SpellEach p.0) bytes p.1 × (members_depth p.0 ≤ d) × (members_count p.0 ≡ 0)) (same_Some _ _ e) result
 members_found read d reads (suc n) bytes vs rest fits e =
     let b = bound (read bytes) _ (vs, rest) e in
     let first = reads bytes b.0.0 b.0.1 fits b.1 in
@@ -46,7 +47,7 @@ members_found read d reads (suc n) bytes vs rest fits e =
       max-le first.1 others.1,
       ap (λ (k : ℕ). suc k) others.2,
     ) in
-    subst (λ (p : Members × List ℕ). Found (SpellEach p.0) bytes p.1 × (members_depth p.0 ≤ d) × (members_count p.0 ≡ suc n)) (pair_is c.2) result
+    subst (λ (p : Members × List ℕ). Found (SpellEach p.0) bytes p.1 × (members_depth p.0 ≤ d) × (members_count p.0 ≡ suc n)) (same_Some _ _ c.2) result
 
 below_first : (n : List ℕ) (fs : Fields) → AreAbove (Some n) fs → IsBelowFirst n fs
 below_first n no_fields h = tt
@@ -56,12 +57,12 @@ fields_found : (read : Parse Tree) (d : ℕ) → IsRead read d → (n : ℕ) (la
 unfolding fields_at
 fields_found read d reads zero last bytes fs rest fits e =
     let result : Found (SpellFields no_fields) bytes bytes × (fields_depth no_fields ≤ d) × (fields_count no_fields ≡ 0) × AreAbove last no_fields = (record { used = []; wanted = refl; parts = refl; rest_fits = fits }, omega arith, refl, tt) in
-    subst (λ (p : Fields × List ℕ). Found (SpellFields p.0) bytes p.1 × (fields_depth p.0 ≤ d) × (fields_count p.0 ≡ 0) × AreAbove last p.0) (pair_is e) result
+    subst (λ (p : Fields × List ℕ). Found (SpellFields p.0) bytes p.1 × (fields_depth p.0 ≤ d) × (fields_count p.0 ≡ 0) × AreAbove last p.0) (same_Some _ _ e) result
 fields_found read d reads (suc n) last bytes fs rest fits e =
     let a = bound (text_at bytes) _ (fs, rest) e in
     let name = text_found bytes a.0.0 a.0.1 fits a.1 in
     let b = bound (if is_above last a.0.0 then read a.0.1 else None) _ (fs, rest) a.2 in
-    let above = provided (is_above last a.0.0) (read a.0.1) b.0 b.1 in
+    let above = some_if_passes (is_above last a.0.0) (read a.0.1) b.0 b.1 in
     let first = reads a.0.1 b.0.0 b.0.1 name.rest_fits above.1 in
     let c = bound (fields_at read n (Some a.0.0) b.0.1) _ (fs, rest) b.2 in
     let others = fields_found read d reads n (Some a.0.0) b.0.1 c.0.0 c.0.1 first.0.rest_fits c.1 in
@@ -76,7 +77,7 @@ fields_found read d reads (suc n) last bytes fs rest fits e =
       ap (λ (k : ℕ). suc k) others.2,
       above.0,
     ) in
-    subst (λ (p : Fields × List ℕ). Found (SpellFields p.0) bytes p.1 × (fields_depth p.0 ≤ d) × (fields_count p.0 ≡ suc n) × AreAbove last p.0) (pair_is c.2) result
+    subst (λ (p : Fields × List ℕ). Found (SpellFields p.0) bytes p.1 × (fields_depth p.0 ≤ d) × (fields_count p.0 ≡ suc n) × AreAbove last p.0) (same_Some _ _ c.2) result
 
 SFits-cast_signed : (n : ℕ) → n < 2 ^ 64 → FitsSigned w64 (cast_signed w64 n)
 SFits-cast_signed n lt =
@@ -91,13 +92,13 @@ node_found : (read : Parse Tree) (d : ℕ) → IsRead read d → (b : ℕ) (byte
 unfolding node_at
 node_found read d reads zero bytes v rest fits e =
     let result : Found (Spells null) (0 ∷ bytes) bytes × (depth null ≤ suc d) = (record { used = 0 ∷ []; wanted = refl; parts = refl; rest_fits = fits }, omega arith) in
-    subst (λ (p : Tree × List ℕ). Found (Spells p.0) (0 ∷ bytes) p.1 × (depth p.0 ≤ suc d)) (pair_is e) result
+    subst (λ (p : Tree × List ℕ). Found (Spells p.0) (0 ∷ bytes) p.1 × (depth p.0 ≤ suc d)) (same_Some _ _ e) result
 node_found read d reads (suc zero) bytes v rest fits e =
     let result : Found (Spells (truth false)) (1 ∷ bytes) bytes × (depth (truth false) ≤ suc d) = (record { used = 1 ∷ []; wanted = refl; parts = refl; rest_fits = fits }, omega arith) in
-    subst (λ (p : Tree × List ℕ). Found (Spells p.0) (1 ∷ bytes) p.1 × (depth p.0 ≤ suc d)) (pair_is e) result
+    subst (λ (p : Tree × List ℕ). Found (Spells p.0) (1 ∷ bytes) p.1 × (depth p.0 ≤ suc d)) (same_Some _ _ e) result
 node_found read d reads (suc (suc zero)) bytes v rest fits e =
     let result : Found (Spells (truth true)) (2 ∷ bytes) bytes × (depth (truth true) ≤ suc d) = (record { used = 2 ∷ []; wanted = refl; parts = refl; rest_fits = fits }, omega arith) in
-    subst (λ (p : Tree × List ℕ). Found (Spells p.0) (2 ∷ bytes) p.1 × (depth p.0 ≤ suc d)) (pair_is e) result
+    subst (λ (p : Tree × List ℕ). Found (Spells p.0) (2 ∷ bytes) p.1 × (depth p.0 ≤ suc d)) (same_Some _ _ e) result
 node_found read d reads (suc (suc (suc zero))) bytes v rest fits e =
     let b = bound (number_at w64 bytes) _ (v, rest) e in
     let t = number_found w64 (2 ^ 64) wide64 bytes b.0.0 b.0.1 fits b.1 in
@@ -110,7 +111,7 @@ node_found read d reads (suc (suc (suc zero))) bytes v rest fits e =
       },
       omega arith,
     ) in
-    subst (λ (p : Tree × List ℕ). Found (Spells p.0) (3 ∷ bytes) p.1 × (depth p.0 ≤ suc d)) (pair_is b.2) result
+    subst (λ (p : Tree × List ℕ). Found (Spells p.0) (3 ∷ bytes) p.1 × (depth p.0 ≤ suc d)) (same_Some _ _ b.2) result
 node_found read d reads (suc (suc (suc (suc zero)))) bytes v rest fits e =
     let b = bound (text_at bytes) _ (v, rest) e in
     let t = text_found bytes b.0.0 b.0.1 fits b.1 in
@@ -123,7 +124,7 @@ node_found read d reads (suc (suc (suc (suc zero)))) bytes v rest fits e =
       },
       omega arith,
     ) in
-    subst (λ (p : Tree × List ℕ). Found (Spells p.0) (4 ∷ bytes) p.1 × (depth p.0 ≤ suc d)) (pair_is b.2) result
+    subst (λ (p : Tree × List ℕ). Found (Spells p.0) (4 ∷ bytes) p.1 × (depth p.0 ≤ suc d)) (same_Some _ _ b.2) result
 node_found read d reads (suc (suc (suc (suc (suc zero))))) bytes v rest fits e =
     let b = bound (number_at w32 bytes) _ (v, rest) e in
     let t = number_found w32 (2 ^ 32) wide32 bytes b.0.0 b.0.1 fits b.1 in
@@ -138,7 +139,7 @@ node_found read d reads (suc (suc (suc (suc (suc zero))))) bytes v rest fits e =
       },
       omega (arith, m.1),
     ) in
-    subst (λ (p : Tree × List ℕ). Found (Spells p.0) (5 ∷ bytes) p.1 × (depth p.0 ≤ suc d)) (pair_is c.2) result
+    subst (λ (p : Tree × List ℕ). Found (Spells p.0) (5 ∷ bytes) p.1 × (depth p.0 ≤ suc d)) (same_Some _ _ c.2) result
 node_found read d reads (suc (suc (suc (suc (suc (suc zero)))))) bytes v rest fits e =
     let b = bound (number_at w32 bytes) _ (v, rest) e in
     let t = number_found w32 (2 ^ 32) wide32 bytes b.0.0 b.0.1 fits b.1 in
@@ -153,7 +154,7 @@ node_found read d reads (suc (suc (suc (suc (suc (suc zero)))))) bytes v rest fi
       },
       omega (arith, m.1),
     ) in
-    subst (λ (p : Tree × List ℕ). Found (Spells p.0) (6 ∷ bytes) p.1 × (depth p.0 ≤ suc d)) (pair_is c.2) result
+    subst (λ (p : Tree × List ℕ). Found (Spells p.0) (6 ∷ bytes) p.1 × (depth p.0 ≤ suc d)) (same_Some _ _ c.2) result
 node_found read d reads (suc (suc (suc (suc (suc (suc (suc b))))))) bytes v rest fits e = absurd cc
 
 -- What is read as a value, no deeper than d, spells it.

@@ -6,20 +6,21 @@ use Rattle.std.proofs.lemmas.Option.{same_Some, some_pair_parts}
 use Rattle.std.proofs.lemmas.Result.{IfOk-weaker}
 use Rattle.std.proofs.lemmas.Bool.{ltb-false, le-ltb, eqb-true}
 use Rattle.std.proofs.lemmas.List.{append-nil}
+use Rattle.finite_maps.proofs.Options.{some_none, some_if_fails, some_if_passes}
 use Rattle.request_codec.specs.Limits.{message_version, depth_limit, message_limit, state_limit}
 use Rattle.request_codec.specs.Tree.{Tree, null}
 use Rattle.request_codec.specs.Spelling.{Spells, SpellsMessage, SpellsState}
 use Rattle.request_codec.specs.Reading.{text_at, value_at, if_ended}
 use Rattle.request_codec.specs.Call.{Call, asks, call_behind, behind_version, message_call, state_value, call_of, value_of_state, no_call}
-use Rattle.request_codec.proofs.Steps.{bound, unless, provided, pair_is}
+use Rattle.request_codec.proofs.Steps.{bound}
 use Rattle.request_codec.proofs.Numbers.{IsBytes, IsBytes-rest, text_found, text_again}
 use Rattle.request_codec.proofs.ValuesRead.{value_found}
 use Rattle.request_codec.proofs.OneSpelling.{value_again_within}
 
-pub ended : {A : Type 0} (o : Option (A × List ℕ)) (x : A) → if_ended o ≡ Some x → o ≡ Some (x, [])
-ended None x e = absurd cc
-ended (Some (y, [])) x e = ap (λ (z : _). Some (z, [])) (same_Some y x e)
-ended (Some (y, b ∷ rest)) x e = absurd cc
+pub if_ended-some : {A : Type 0} (o : Option (A × List ℕ)) (x : A) → if_ended o ≡ Some x → o ≡ Some (x, [])
+if_ended-some None x e = absurd cc
+if_ended-some (Some (y, [])) x e = ap (λ (z : _). Some (z, [])) (same_Some y x e)
+if_ended-some (Some (y, b ∷ rest)) x e = absurd cc
 
 known : {A : Type 0} (o : Option A) (default : A) → IsSome o → o ≡ Some (unwrap_or o default)
 known None default h = absurd cc
@@ -31,9 +32,6 @@ is_there o x e = rw e refl
 is_it : {A : Type 0} (o : Option A) (default x : A) → o ≡ Some x → unwrap_or o default ≡ x
 is_it {A} o default x e = ap (λ (p : Option A). unwrap_or p default) e
 
-nothing : {A : Type 0} (o : Option A) (x : A) → o ≡ None → o ≡ Some x → ⊥
-nothing o x none some = absurd cc
-
 denied : {A : Type 0} (o : Option A) (x : A) → false ≡ is_some o → o ≡ Some x → ⊥
 denied o x e there = true≢false (sym (e ∙ ap is_some there))
 
@@ -42,8 +40,8 @@ denied o x e there = true≢false (sym (e ∙ ap is_some there))
 pub state_found : (bytes : List ℕ) (v : Tree) → IsBytes bytes → state_value bytes ≡ Some v → SpellsState v bytes
 unfolding state_value
 state_found bytes v fits e =
-    let g = unless (ltb state_limit (length bytes)) (if_ended (value_at depth_limit bytes)) v e in
-    let whole_read = ended (value_at depth_limit bytes) v g.1 in
+    let g = some_if_fails (ltb state_limit (length bytes)) (if_ended (value_at depth_limit bytes)) v e in
+    let whole_read = if_ended-some (value_at depth_limit bytes) v g.1 in
     let found = value_found depth_limit bytes v [] fits whole_read in
     let all : bytes ≡ found.0.used = found.0.parts ∙ append-nil found.0.used in
     record { value_spelled = subst (Spells v) (sym all) found.0.wanted; depth_within = found.1; length_within = ltb-false _ _ g.0 }
@@ -72,7 +70,7 @@ call_found bytes call fits short e =
     let name = bound (text_at bytes) _ call e in
     let text = text_found bytes name.0.0 name.0.1 fits name.1 in
     let value = bound (if_ended (value_at depth_limit name.0.1)) _ call name.2 in
-    let found = value_found depth_limit name.0.1 value.0 [] text.rest_fits (ended (value_at depth_limit name.0.1) value.0 value.1) in
+    let found = value_found depth_limit name.0.1 value.0 [] text.rest_fits (if_ended-some (value_at depth_limit name.0.1) value.0 value.1) in
     let all : name.0.1 ≡ found.0.used = found.0.parts ∙ append-nil found.0.used in
     let message : SpellsMessage name.0.0 value.0 (message_version ∷ bytes) = record {
       name = text.used;
@@ -83,19 +81,19 @@ call_found bytes call fits short e =
       depth_within = found.1;
       length_within = short;
     } in
-    subst (λ (c : Call). SpellsMessage c.method c.argument (message_version ∷ bytes)) (pair_is value.2) message
+    subst (λ (c : Call). SpellsMessage c.method c.argument (message_version ∷ bytes)) (same_Some _ _ value.2) message
 
 version_found : (bytes : List ℕ) (call : Call) → IsBytes bytes → length bytes ≤ message_limit → behind_version bytes ≡ Some call → SpellsMessage call.method call.argument bytes
 version_found [] call fits short e = absurd cc
 version_found (b ∷ bytes) call fits short e =
-    let g = provided (eqb b message_version) (call_behind bytes) call e in
+    let g = some_if_passes (eqb b message_version) (call_behind bytes) call e in
     let one : message_version ≡ b = sym (eqb-true _ _ g.0) in
     subst (λ (v : ℕ). SpellsMessage call.method call.argument (v ∷ bytes)) one (call_found bytes call (IsBytes-rest b bytes fits) short g.1)
 
 pub message_found : (bytes : List ℕ) (call : Call) → IsBytes bytes → message_call bytes ≡ Some call → SpellsMessage call.method call.argument bytes
 unfolding message_call
 message_found bytes call fits e =
-    let g = unless (ltb message_limit (length bytes)) (behind_version bytes) call e in
+    let g = some_if_fails (ltb message_limit (length bytes)) (behind_version bytes) call e in
     version_found bytes call fits (ltb-false _ _ g.0) g.1
 
 call_again : (method : List ℕ) (v : Tree) (name rest : List ℕ) → text_at (name ++ rest) ≡ Some (method, rest) → value_at depth_limit rest ≡ Some (v, []) → behind_version (message_version ∷ (name ++ rest)) ≡ Some (asks method v)
@@ -134,21 +132,21 @@ pub is_message : {X E : Type 0} (view : X → Call) (r : Result X E) (bytes : Li
 is_message view r bytes fits = IfOk-weaker r _ _ (λ x. message_found bytes (view x) fits)
 
 pub no_state : (bytes : List ℕ) → state_value bytes ≡ None → (v : Tree) → SpellsState v bytes → ⊥
-no_state bytes e v is = nothing (state_value bytes) v e (state_again bytes v is)
+no_state bytes e v is = some_none (state_value bytes) v e (state_again bytes v is)
 
 pub no_message : (bytes : List ℕ) → message_call bytes ≡ None → (method : List ℕ) → (v : Tree) → SpellsMessage method v bytes → ⊥
-no_message bytes e method v is = nothing (message_call bytes) (asks method v) e (message_again bytes method v is)
+no_message bytes e method v is = some_none (message_call bytes) (asks method v) e (message_again bytes method v is)
 
 -- where a message spells a call, its method stands behind the first byte
 pub method_behind : (bytes : List ℕ) (call : Call) → message_call bytes ≡ Some call → (rest : List ℕ) × (text_at (drop 1 bytes) ≡ Some (call.method, rest))
 unfolding message_call
 method_behind [] call e = absurd cc
 method_behind (b ∷ bytes) call e =
-    let g = unless (ltb message_limit (length (b ∷ bytes))) (behind_version (b ∷ bytes)) call e in
-    let version = provided (eqb b message_version) (call_behind bytes) call g.1 in
+    let g = some_if_fails (ltb message_limit (length (b ∷ bytes))) (behind_version (b ∷ bytes)) call e in
+    let version = some_if_passes (eqb b message_version) (call_behind bytes) call g.1 in
     let name = bound (text_at bytes) _ call version.1 in
     let value = bound (if_ended (value_at depth_limit name.0.1)) _ call name.2 in
-    let same : name.0.0 ≡ call.method = ap (λ (c : Call). c.method) (pair_is value.2) in
+    let same : name.0.0 ≡ call.method = ap (λ (c : Call). c.method) (same_Some _ _ value.2) in
     (name.0.1, name.1 ∙ ap (λ (s : List ℕ). Some (s, name.0.1)) same)
 
 pub no_empty_message : (bytes : List ℕ) → length bytes < 1 → IsSome (message_call bytes) → ⊥
@@ -156,7 +154,7 @@ unfolding message_call
 no_empty_message [] lt h = absurd cc
 no_empty_message (b ∷ bytes) lt h = omega arith
 
--- within the limit the length takes nothing away
+-- within the limit the length takes some_none away
 pub state_value-short : (bytes : List ℕ) → length bytes ≤ state_limit → state_value bytes ≡ if_ended (value_at depth_limit bytes)
 unfolding state_value
 state_value-short bytes le =

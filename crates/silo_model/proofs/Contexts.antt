@@ -10,7 +10,6 @@ use Rattle.silo_event.specs.declared.step.Step.{Step}
 use Rattle.grain_kinds.specs.Logic.{Logic}
 use Rattle.silo_model.specs.Effect.{Effect, context_at}
 use Rattle.silo_model.specs.Step.{grain_of, effect_of}
-pub use Rattle.std.proofs.lemmas.Bool.{false_from_ne_true as not_true}
 pub use Rattle.silo_model.specs.Contexts.{active_of, context_of}
 use Rattle.silo_model.specs.Whole.{Whole, is_of, shown_to, spread, whole_owned_step, whole_step_by, whole_step}
 use Rattle.grain_id.proofs.Order.{same_text_decides}

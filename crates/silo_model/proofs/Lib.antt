@@ -9,7 +9,6 @@ pub mod Isolation
 pub mod Runs
 pub mod Opening
 pub mod Journals
-pub mod Counts
 pub mod Fair
 pub mod Moves
 pub mod StepMoves

@@ -8,6 +8,7 @@ use Rattle.std.specs.Cmp.{nat_cmp_total}
 use Rattle.std.specs.Ordering.{nat_cmp}
 use Rattle.std.proofs.lemmas.List.{map-append}
 use Rattle.std.proofs.lemmas.Option.{none-some}
+use Rattle.finite_maps.proofs.Lists.{all_append}
 use Rattle.grain_id.specs.Names.{Grain, grain_cmp}
 use Rattle.grain_kinds.specs.Logic.{Logic}
 use Rattle.turn_mailbox.specs.declared.request.Request.{Request}
@@ -20,10 +21,6 @@ use Rattle.silo_state.specs.Marks.{IsMarked, AreMarked, AllMarked}
 use Rattle.silo_state.specs.Arrivals.{arrived, IsFirst}
 use Rattle.silo_state.proofs.Requests.{marked-put}
 use Rattle.silo_state.proofs.Shows.{get-entries, entries-put, unmoved, same_mail}
-
-all-more : {X : Type 0} (P : X → Type 0) (xs : List X) (x : X) → AllByRecursion P xs → P x → AllByRecursion P (xs ++ x ∷ [])
-all-more P [] x all p = (p, tt)
-all-more P (y ∷ ys) x all p = (all.0, all-more P ys x all.1 p)
 
 module _ (logic : Logic) (m : FinMap grain_cmp Activation) (g : Grain) (request : Request) (clock : ℕ) where
   abbrev waits : Entries
@@ -42,7 +39,7 @@ module _ (logic : Logic) (m : FinMap grain_cmp Activation) (g : Grain) (request 
     mail_arrived : (capacity : ℕ) → AreMarked logic g a.mailbox → IsMarked logic g request → AreMarked logic g (arrived a capacity request clock).mailbox
     mail_arrived capacity marked mark = record {
       known = marked.known;
-      waiting = all-more (IsMarked logic g) a.mailbox.waiting request marked.waiting mark;
+      waiting = all_append (IsMarked logic g) a.mailbox.waiting (request ∷ []) marked.waiting (mark, tt);
       opened = marked.opened;
       numbered = marked.numbered;
     }

@@ -5,6 +5,7 @@ use Rattle.std.specs.FinMap as map
 use Rattle.std.specs.FinMap.{FinMap}
 use Rattle.std.proofs.lemmas.Bool.Decides.{nat_tests}
 use Rattle.std.proofs.lemmas.Option.{same_Some}
+use Rattle.std.proofs.lemmas.Bool.{lt-ltb}
 use Rattle.grain_id.specs.Names.{Grain, Client, text_cmp}
 use Rattle.grain_id.proofs.Order.{text_cmp_total, text_cmp_exact}
 use Rattle.finite_maps.proofs.Maps.{get-insert_same, insert-insert}
@@ -30,9 +31,6 @@ use Rattle.silo_state.proofs.Verdicts.{accepts, call_made, call_is, delivery_mad
 not_equal : (m n : ℕ) → m ≢ n → (m == n) ≡ false
 not_equal m n apart = grind (arith, nat_tests)
 
-below : (m n : ℕ) → m < n → nat_lt m n ≡ true
-below m n less = grind (arith, nat_tests)
-
 pub nothing_waits : (found : Option Entry) → None ≡ option_map (λ e. length e.queue) found → found ≡ None
 nothing_waits None is = refl
 nothing_waits (Some e) is = absurd cc
@@ -46,10 +44,10 @@ module _ (logic : Logic) (w : Whole) (t : List ℕ) (g : Grain) (a : Account) (p
   numbered = ap (admitted (context_of w t g) g) passes
 
   pub settles_new : map.get w.entries g ≡ None → active_of w t < a.limits.activations → Settles (verdict logic w t g) None
-  settles_new absent free = (a, numbered ∙ rw (not_equal a.count last_number left, absent, below (active_of w t) a.limits.activations free) refl)
+  settles_new absent free = (a, numbered ∙ rw (not_equal a.count last_number left, absent, lt-ltb (active_of w t) a.limits.activations free) refl)
 
   pub settles_again : (e : Entry) → map.get w.entries g ≡ Some e → length e.queue < a.limits.mailbox → Settles (verdict logic w t g) None
-  settles_again e found free = (a, numbered ∙ rw (not_equal a.count last_number left, found, below (length e.queue) a.limits.mailbox free) refl)
+  settles_again e found free = (a, numbered ∙ rw (not_equal a.count last_number left, found, lt-ltb (length e.queue) a.limits.mailbox free) refl)
 
 -- ---- calls
 

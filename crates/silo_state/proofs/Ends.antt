@@ -3,6 +3,7 @@ use Rattle.std.proofs.Common.{◌≡◌, ℕ, Bool, true, false, List, [], ◌�
 use Rattle.std.specs.Prelude.{Ok, option_and_then}
 use Rattle.std.specs.FinMap as map
 use Rattle.std.specs.FinMap.{FinMap}
+use Rattle.std.proofs.lemmas.Option.{same_Some}
 use Rattle.grain_id.specs.Names.{Grain, text_cmp}
 use Rattle.grain_kinds.specs.Logic.{Logic, Outgoing, StorageCall, asks_nothing, reads_row, writes_row, clears_row}
 use Rattle.grain_kinds.specs.Finished.{turn_plan}
@@ -25,17 +26,16 @@ use Rattle.silo_state.specs.Sends.{with_more}
 use Rattle.silo_state.specs.Entries.{ClosesEntry}
 use Rattle.silo_state.specs.Closings.{ClosesTold}
 use Rattle.silo_state.specs.Finds.{open_in, IsOwn, asks}
-use Rattle.silo_state.proofs.Idle.{the_same}
 
 -- what a turn sends comes to the account in one way
-more_sent : (g : Grain) (account : Option Account) (outgoing : List Outgoing) → with_sends g account outgoing ≡ with_more account (sent_by g outgoing)
+pub more_sent : (g : Grain) (account : Option Account) (outgoing : List Outgoing) → with_sends g account outgoing ≡ with_more account (sent_by g outgoing)
 more_sent g account [] = refl
 more_sent g None (o ∷ outgoing) = refl
 more_sent g (Some a) (o ∷ outgoing) = refl
 
 -- whether no request waits is known of the turn that is closed
 pub waits_known : (g : Grain) (found : Option Entry) (turn : ℕ) (version : Option ℕ) (idle_after : Bool) (input : OpenedTurn) → IsOwn g found turn version idle_after input → (e : Entry) → found ≡ Some e → idle_after ≡ none_waits e
-waits_known g found turn version idle_after input own e is = own.idle_after_is ∙ ap none_waits (the_same own.entry e (sym own.is_open.found_is ∙ is))
+waits_known g found turn version idle_after input own e is = own.idle_after_is ∙ ap none_waits (same_Some own.entry e (sym own.is_open.found_is ∙ is))
 
 -- no such turn is open
 pub end_none : (logic : Logic) (h : Held) (g : Grain) (turn : ℕ) → option_and_then (λ e. open_in e turn e.phase) (map.get h.whole.entries g) ≡ None → whole_step logic h.whole (End g turn) ≡ None
@@ -73,10 +73,10 @@ module _ (logic : Logic) (h : Held) (g : Grain) (turn : ℕ) (version : Option �
   -- the entry and the request that are closed are those that were found
   module _ (phase : Option Phase) (last : ℕ) (sender : Party) (new : Entries) (d : ClosesEntry h.whole.entries g turn phase last sender new) where
     pub same_entry : d.before ≡ own.entry
-    same_entry = the_same d.before own.entry (sym d.found ∙ own.is_open.found_is)
+    same_entry = same_Some d.before own.entry (sym d.found ∙ own.is_open.found_is)
 
     pub same_request : d.request ≡ own.request
-    same_request = the_same d.request own.request (sym d.open_turn ∙ ap (λ (e : Entry). map.get e.turns turn) same_entry ∙ own.is_open.open_turn)
+    same_request = same_Some d.request own.request (sym d.open_turn ∙ ap (λ (e : Entry). map.get e.turns turn) same_entry ∙ own.is_open.open_turn)
 
     pub same_phase : d.before.phase ≡ ready own.state version
     same_phase = ap (λ (e : Entry). e.phase) same_entry ∙ own.is_open.phase_is

@@ -6,6 +6,8 @@ use Rattle.std.specs.Cmp.{nat_cmp_total}
 use Rattle.std.specs.FinMap as map
 use Rattle.std.specs.FinMap.{FinMap, nat_cmp-IsAntisymmetric}
 use Rattle.std.proofs.lemmas.Bool.Decides.{Decides-eqb}
+use Rattle.std.proofs.Math.Bool.{and-false}
+use Rattle.std.proofs.lemmas.Option.{same_Some}
 use Rattle.grain_id.specs.Names.{Grain, grain_cmp}
 use Rattle.grain_id.proofs.Order.{grain_cmp_total, grain_cmp_exact, eq_by_cmp-Decides}
 use Rattle.finite_maps.proofs.Maps as maps
@@ -58,19 +60,9 @@ module _ (entries : Entries) (lasts : FinMap grain_cmp ℕ) (noted : AreNoted en
 
 -- ---- entries in use
 
-pub the_same : {X : Type 0} (x y : X) → Some x ≡ Some y → x ≡ y
-the_same x y e = cc (e)
-
-pub and_false : (b : Bool) → b && false ≡ false
-and_false true = refl
-and_false false = refl
-
 -- some turn is open
 pub some_open : (turns : FinMap nat_cmp Request) (n : ℕ) (turn : Request) → (map.len (map.insert turns n turn) == 0) ≡ false
-some_open turns n turn = false_from_ne_true _ (λ none.
-    let gone : map.get (map.insert turns n turn) n ≡ None = ap (λ (m : FinMap nat_cmp Request). map.get m n) (map.empty_of_len (map.insert turns n turn) ((Decides-eqb _ 0).0 none)) ∙ map.get-empty nat_cmp n in
-    let there = maps.get-insert_same nat_cmp_total nat_cmp-IsAntisymmetric turns n turn in
-    cc (gone, there))
+some_open turns n turn = false_from_ne_true _ (λ none. maps.found_some (map.insert turns n turn) n turn (maps.get-insert_same nat_cmp_total nat_cmp-IsAntisymmetric turns n turn) ((Decides-eqb _ 0).0 none))
 
 -- some request waits
 pub some_waits : (n : ℕ) → 0 < n → (n == 0) ≡ false
@@ -79,10 +71,8 @@ some_waits n some = false_from_ne_true _ (λ none. let zero = (Decides-eqb n 0).
 -- an entry with an open turn is in use
 pub used-turn : (e : Entry) (n : ℕ) (turn : Request) → map.get e.turns n ≡ Some turn → is_idle e ≡ false
 used-turn e n turn at =
-    let some : (map.len e.turns == 0) ≡ false = false_from_ne_true _ (λ none.
-    let gone : map.get e.turns n ≡ None = ap (λ (m : FinMap nat_cmp Request). map.get m n) (map.empty_of_len e.turns ((Decides-eqb _ 0).0 none)) ∙ map.get-empty nat_cmp n in
-    cc (gone, at)) in
-    ap (λ b. is_ready e.phase && none_waits e && b) some ∙ and_false (is_ready e.phase && none_waits e)
+    let some : (map.len e.turns == 0) ≡ false = false_from_ne_true _ (λ none. maps.found_some e.turns n turn at ((Decides-eqb _ 0).0 none)) in
+    ap (λ b. is_ready e.phase && none_waits e && b) some ∙ and-false (is_ready e.phase && none_waits e)
 
 -- and one that isn't ready
 used-phase : (e : Entry) (phase : Phase) → is_ready phase ≡ false → e.phase ≡ phase → is_idle e ≡ false
@@ -90,7 +80,7 @@ used-phase e phase not is = ap (λ p. is_ready p && none_waits e && (map.len e.t
 
 -- one that loads
 pub used_loading : (e : Entry) (o : Option Entry) → o ≡ Some e → IsLoading o → is_idle e ≡ false
-used_loading e o found is = used-phase e loading refl (ap (λ (x : Entry). x.phase) (the_same e is.0 (sym found ∙ is.1)) ∙ is.2)
+used_loading e o found is = used-phase e loading refl (ap (λ (x : Entry). x.phase) (same_Some e is.0 (sym found ∙ is.1)) ∙ is.2)
 
 since_used : (e : Entry) → is_idle e ≡ false → idle_since (Some e) ≡ None
 since_used e used = ap (λ b. cond b (Some e.last) None) used

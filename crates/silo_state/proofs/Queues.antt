@@ -6,7 +6,8 @@ use Rattle.std.specs.Cmp.{Equal-is, tied_itself}
 use Rattle.std.specs.BTreeMap.{get}
 use Rattle.std.specs.declared.collections.VecDeque.{VecDeque}
 use Rattle.std.specs.declared.alloc.Global.{Global}
-use Rattle.std.proofs.lemmas.List.{append-nil}
+use Rattle.std.proofs.lemmas.List.{append-nil, nil_from_length, same_from_push}
+use Rattle.finite_maps.proofs.Lists.{push_not_empty}
 use Rattle.grain_id.specs.Names.{Grain, grain_cmp}
 use Rattle.grain_id.proofs.Order.{grain_cmp_total, grain_cmp_exact}
 use Rattle.silo_state.specs.Undelivered.{Index, is_grain, in_queue, numbers_at, IsSameIndex, AddsLast, TakesFirst, TakesLast, only_at}
@@ -26,10 +27,6 @@ own_grain g = (Equal-is (grain_cmp g g)).1 (tied_itself grain_cmp_total g)
 
 pub only_own : (g : Grain) (ns : List ℕ) → only_at g ns g ≡ ns
 only_own g ns = ap (λ b. if b then ns else []) (own_grain g)
-
-pub none_of_length : {X : Type 0} (xs : List X) → length xs ≡ 0 → xs ≡ []
-none_of_length [] h = refl
-none_of_length (x ∷ xs) h = absurd (omega (arith, h))
 
 module _ (old new : Index) (g : Grain) (was : Option Queue) (found : was ≡ get grain_cmp old g) (w : Option Queue) (puts : Puts old new g w) where
   -- what is had before and after, at the grain and at each other
@@ -79,13 +76,6 @@ all_but_last (y ∷ z ∷ xs) x =
     let less : suc (suc many - 1) ≡ suc (suc many) - 1 = omega arith in
     ap (λ rest. y ∷ rest) (all_but_last (z ∷ xs) x) ∙ ap (λ n. take n (y ∷ z ∷ (xs ++ x ∷ []))) less
 
-before_last : {X : Type 0} (xs ys : List X) (x y : X) → xs ++ x ∷ [] ≡ ys ++ y ∷ [] → xs ≡ ys
-before_last xs ys x y same = all_but_last xs x ∙ ap (λ zs. take (length zs - 1) zs) same ∙ sym (all_but_last ys y)
-
-not_none : {X : Type 0} (xs : List X) (x : X) → xs ++ x ∷ [] ≡ [] → ⊥
-not_none [] x e = cc
-not_none (y ∷ xs) x e = cc
-
 -- where the last of the grain's numbers goes, and its numbers end with n, what is left is what stands before n
 pub last_gone : (mid new : Index) (g : Grain) (r : Option ℕ) (n : ℕ) (left : Grain → List ℕ) → TakesLast mid g r new → IfNone r (numbers_at mid g ≡ [])
     → ((q : Grain) → numbers_at mid q ≡ left q ++ only_at g (n ∷ []) q) → (q : Grain) → numbers_at new q ≡ left q
@@ -93,9 +83,9 @@ last_gone mid new g r n left takes none ends q = by (is_grain g q) refl r (takes
   where
     by : (b : Bool) → is_grain g q ≡ b → (r : Option ℕ) → numbers_at mid q ≡ numbers_at new q ++ only_at g (option_to_list r) q → IfNone r (numbers_at mid g ≡ []) → numbers_at new q ≡ left q
     by true t None is none =
-        absurd (not_none (left q) n (ap (λ b. left q ++ (if b then n ∷ [] else [])) (sym t) ∙ sym (ends q) ∙ ap (numbers_at mid) (sym (same_grain_of g q t)) ∙ none))
+        absurd (push_not_empty (left q) n (ap (λ b. left q ++ (if b then n ∷ [] else [])) (sym t) ∙ sym (ends q) ∙ ap (numbers_at mid) (sym (same_grain_of g q t)) ∙ none))
     by true t (Some k) is none =
-        before_last (numbers_at new q) (left q) k n (ap (λ b. numbers_at new q ++ (if b then k ∷ [] else [])) (sym t) ∙ sym is ∙ ends q ∙ ap (λ b. left q ++ (if b then n ∷ [] else [])) t)
+        (same_from_push (numbers_at new q) (left q) k n (ap (λ b. numbers_at new q ++ (if b then k ∷ [] else [])) (sym t) ∙ sym is ∙ ends q ∙ ap (λ b. left q ++ (if b then n ∷ [] else [])) t)).0
     by false f r is none =
         sym (append-nil (numbers_at new q)) ∙ ap (λ b. numbers_at new q ++ (if b then option_to_list r else [])) (sym f) ∙ sym is ∙ ends q
         ∙ ap (λ b. left q ++ (if b then n ∷ [] else [])) f ∙ append-nil (left q)

@@ -11,7 +11,7 @@ use Rattle.grain_id.proofs.Order.{grain_cmp_total, grain_cmp_exact}
 use Rattle.grain_kinds.specs.Logic.{Logic}
 use Rattle.turn_mailbox.specs.declared.request.Request.{Request}
 use Rattle.turn_mailbox.specs.Contents.{Contents, begun, may_open}
-use Rattle.finite_maps.proofs.Values.{values_pass, found_passes}
+use Rattle.finite_maps.proofs.Values.{values_pass, found_passes, values_alike}
 use Rattle.finite_maps.proofs.Mapped.{all-mapped, len-mapped}
 use Rattle.activation_directory.specs.declared.activation.Activation.{Activation}
 use Rattle.silo_model.specs.Effect.{put, drop}
@@ -53,20 +53,10 @@ module _ (logic : Logic) where
 
 -- ---- the turn rule
 
-pub both_ways : (a b : Bool) → (a ≡ true → b ≡ true) → (b ≡ true → a ≡ true) → a ≡ b
-both_ways true b f g = sym (f refl)
-both_ways false true f g = g refl
-both_ways false false f g = refl
-
-all-alike : {K X : Type 0} {R : K → K → Ordering} → IsTotalOrder R → IsAntisymmetric R → (p q : X → Bool) (m : FinMap R X) → ((k : K) (v : X) → map.get m k ≡ Some v → p v ≡ q v) → list_all p (map.values m) ≡ list_all q (map.values m)
-all-alike total exact p q m same = both_ways _ _
-    (λ all. values_pass total q m (λ k v at. sym (same k v at) ∙ found_passes p m k v at all))
-    (λ all. values_pass total p m (λ k v at. same k v at ∙ found_passes q m k v at all))
-
 module _ (logic : Logic) (g : Grain) (a : Activation) (marked : AreMarked logic g a.mailbox) where
   all_read : list_all (λ turn. turn.reading) (map.values a.mailbox.opened) ≡ list_all (reads logic g) (map.values (entry_of a).turns)
   all_read =
-      all-alike nat_cmp_total nat_cmp-IsAntisymmetric (λ (turn : Request). turn.reading) (λ turn. reads logic g (request_of turn)) a.mailbox.opened marked.opened
+      values_alike nat_cmp_total (λ (turn : Request). turn.reading) (λ turn. reads logic g (request_of turn)) a.mailbox.opened marked.opened
       ∙ sym (all-mapped nat_cmp_total nat_cmp-IsAntisymmetric request_of (reads logic g) a.mailbox.opened)
 
   -- a request may begin by its mark exactly if it may by the logic

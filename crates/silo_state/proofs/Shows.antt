@@ -5,6 +5,7 @@ use Rattle.std.specs.FinMap as map
 use Rattle.std.specs.FinMap.{FinMap, nat_cmp-IsAntisymmetric}
 use Rattle.std.specs.Cmp.{nat_cmp_total}
 use Rattle.std.proofs.lemmas.List.{length-map}
+use Rattle.std.proofs.lemmas.Option.{same_Some}
 use Rattle.grain_id.specs.Names.{Grain, grain_cmp}
 use Rattle.grain_id.proofs.Order.{grain_cmp_total, grain_cmp_exact}
 use Rattle.grain_id.proofs.ByGrain.{insert-again}
@@ -22,7 +23,6 @@ use Rattle.activation_directory.specs.declared.activation.Phase.{Phase}
 use Rattle.activation_directory.specs.declared.activation.Phase.TheVariants.{Waiting, Loading, Ready}
 use Rattle.silo_model.specs.Machine.{Entry, Entries}
 use Rattle.silo_state.specs.Reads.{is_quiet}
-use Rattle.silo_state.proofs.Idle.{the_same}
 use Rattle.silo_model.specs.Turns as model
 use Rattle.silo_state.specs.Shown.{request_of, phase_of, entry_of, entries_of}
 use Rattle.silo_state.specs.Notes.{is_idle, none_waits}
@@ -175,5 +175,5 @@ quiet_mail a = λ i. (sym (length-map a.mailbox.waiting request_of) i == 0) && (
 module _ (logic : Logic) (m : FinMap grain_cmp Activation) (g : Grain) (a : Activation) (found : map.get m g ≡ Some a) (phase : Phase) where
   pub phase_shows : (e : Entry) → map.get (entries_of m) g ≡ Some e → entries_of (map.insert m g (record a { phase = phase })) ≡ map.insert (entries_of m) g (record e { phase = phase_of phase })
   phase_shows e is =
-      let same : entry_of a ≡ e = the_same (entry_of a) e (sym (get-entries m g (Some a) found) ∙ is) in
+      let same : entry_of a ≡ e = same_Some (entry_of a) e (sym (get-entries m g (Some a) found) ∙ is) in
       entries-put m g (record a { phase = phase }) ∙ ap (λ (x : Entry). map.insert (entries_of m) g (record x { phase = phase_of phase })) same

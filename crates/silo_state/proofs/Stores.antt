@@ -54,13 +54,13 @@ store_none logic h g turn failed none = by (map.get h.whole.entries g) refl none
     by (Some e) is none = by_phase e is e.phase refl none
 
 -- a change gives the state that its grain has then
-with_state_done : (state : Tree) (r : Result (Option ℕ × Rows) RowFault) (s : Tree) (version : Option ℕ) (after : Rows) → with_state state r ≡ Ok ((s, version), after) → (r ≡ Ok (version, after)) × (s ≡ state)
+pub with_state_done : (state : Tree) (r : Result (Option ℕ × Rows) RowFault) (s : Tree) (version : Option ℕ) (after : Rows) → with_state state r ≡ Ok ((s, version), after) → (r ≡ Ok (version, after)) × (s ≡ state)
 with_state_done state (Ok changed) s version after e =
     let parts = same_Ok (with_state state (Ok changed)) ((state, changed.0), changed.1) ((s, version), after) refl e in
     (λ i. Ok ((parts i).0.1, (parts i).1), ap (λ p. p.0.0) (sym parts))
 with_state_done state (Err why) s version after e = absurd cc
 
-with_state_refused : (state : Tree) (r : Result (Option ℕ × Rows) RowFault) (why : RowFault) → with_state state r ≡ Err why → r ≡ Err why
+pub with_state_refused : (state : Tree) (r : Result (Option ℕ × Rows) RowFault) (why : RowFault) → with_state state r ≡ Err why → r ≡ Err why
 with_state_refused state (Ok changed) why e = absurd cc
 with_state_refused state (Err other) why e = cc (e)
 

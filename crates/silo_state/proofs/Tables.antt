@@ -2,20 +2,21 @@
 use Rattle.std.proofs.Common.{◌≡◌, ℕ, Bool, true, false, cond, List, [], ◌∷◌, ◌++◌, Option, Some, None, is_some, refl, ap, sym, ◌∙◌}
 use Rattle.std.specs.Prelude.{option_map, if◌then◌else◌}
 use Rattle.std.specs.Option.{option_or}
+use Rattle.grain_id.proofs.Keys.{texts}
+use Rattle.finite_maps.proofs.Keys.{key_turned}
+use Rattle.finite_maps.proofs.Entries.{lookup_push}
 use Rattle.grain_id.specs.Names.{same_text}
 use Rattle.grain_id.proofs.Order.{same_text_decides}
 use Rattle.tenant_gate.specs.declared.limits.Limits.{Limits}
 use Rattle.tenant_gate.specs.Table.{Table, limits_of}
-use Rattle.tenant_gate.proofs.IndexLemmas.{limits_of-push}
 use Rattle.silo_model.specs.Opening.{fresh_account}
-use Rattle.silo_state.proofs.Requests.{both_ways}
 
 module _ (table : Table) (name : List ℕ) (limits : Limits) (q : List ℕ) where
   turned : same_text q name ≡ same_text name q
-  turned = both_ways _ _ (λ e. (same_text_decides name q).1 (sym ((same_text_decides q name).0 e))) (λ e. (same_text_decides q name).1 (sym ((same_text_decides name q).0 e)))
+  turned = key_turned texts q name
 
   pushed : limits_of (table ++ (name, limits) ∷ []) q ≡ option_or (limits_of table q) (cond (same_text name q) (Some limits) None)
-  pushed = limits_of-push table name limits q ∙ ap (λ b. option_or (limits_of table q) (cond b (Some limits) None)) turned
+  pushed = lookup_push (same_text q) table name limits ∙ ap (λ b. option_or (limits_of table q) (cond b (Some limits) None)) turned
 
   named : same_text name q ≡ true → limits_of table name ≡ limits_of table q
   named e = ap (limits_of table) ((same_text_decides name q).0 e)

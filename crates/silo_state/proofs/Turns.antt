@@ -6,6 +6,7 @@ use Rattle.std.specs.Cmp.{nat_cmp_total}
 use Rattle.std.specs.List.{AllByRecursion}
 use Rattle.std.specs.FinMap as map
 use Rattle.std.specs.FinMap.{FinMap, nat_cmp-IsAntisymmetric}
+use Rattle.std.proofs.Math.Bool.{and-false}
 use Rattle.grain_id.specs.Names.{Grain}
 use Rattle.grain_id.proofs.ByGrain.{insert-again}
 use Rattle.request_codec.specs.Tree.{Tree}
@@ -26,7 +27,7 @@ use Rattle.silo_state.specs.Notes.{is_idle}
 use Rattle.silo_state.specs.Changes.{turn_at, opens_at, mail_begun}
 use Rattle.silo_state.specs.Entries.{front_turn, turn_in, opened_turn, Begins}
 use Rattle.silo_state.proofs.Requests.{may_open-marked}
-use Rattle.silo_state.proofs.Idle.{and_false, some_open, some_waits}
+use Rattle.silo_state.proofs.Idle.{some_open, some_waits}
 
 module _ (logic : Logic) (g : Grain) (a : Activation) (marked : AreMarked logic g a.mailbox) where
   -- ---- the turn
@@ -76,13 +77,13 @@ module _ (logic : Logic) (g : Grain) (a : Activation) (marked : AreMarked logic 
         let none_open = map.len (entry_of a).turns == 0 in
         ap (λ ws. ready && (length (map_list request_of ws) == 0) && none_open) is
         ∙ ap (λ b. ready && b && none_open) (some_waits (length (map_list request_of (first ∷ others))) (omega arith))
-        ∙ ap (λ b. b && none_open) (and_false ready)
+        ∙ ap (λ b. b && none_open) (and-false ready)
 
     used-open : (first : Request) (others : List Request) → is_idle (with_mail (begun a.mailbox (first ∷ others))) ≡ false
     used-open first others =
         let open_one = ap (λ (turns : FinMap nat_cmp _). map.len turns == 0) (mapped-insert nat_cmp_total nat_cmp-IsAntisymmetric request_of a.mailbox.opened first.number first) ∙ some_open (entry_of a).turns first.number (request_of first) in
         ap (λ b. (is_ready (phase_of a.phase) && (length (map_list request_of others) == 0)) && b) open_one
-        ∙ and_false (is_ready (phase_of a.phase) && (length (map_list request_of others) == 0))
+        ∙ and-false (is_ready (phase_of a.phase) && (length (map_list request_of others) == 0))
 
     by_front : (state : Tree) (version : Option ℕ) → a.phase ≡ Ready state version → (waiting : List Request) → a.mailbox.waiting ≡ waiting → AllByRecursion (IsMarked logic g) waiting
         → (may : Bool) → front_may_open a.mailbox.opened waiting ≡ may → Begins logic entries g may (map.insert entries g (with_mail (if may then begun a.mailbox waiting else a.mailbox)))

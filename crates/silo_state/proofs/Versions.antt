@@ -4,12 +4,12 @@ use Rattle.std.specs.Prelude.{Ok, Err, if◌then◌else◌, nat_eq, min}
 use Rattle.std.specs.Option.{option_eq}
 use Rattle.std.specs.FinMap as map
 use Rattle.std.proofs.lemmas.Bool.Decides.{nat_tests}
+use Rattle.std.proofs.lemmas.Option.{same_Some}
 use Rattle.grain_id.specs.Names.{Grain}
 use Rattle.request_codec.specs.Tree.{Tree}
 use Rattle.grain_storage.specs.declared.row.Row.{Row}
 use Rattle.grain_storage.specs.Rows.{Rows, stale, spent, last_version, next_version, version_of, is_spent, changed, written, emptied, cleared}
 use Rattle.silo_state.specs.Versions.{version_after, cleared_version, IsVersion}
-use Rattle.silo_state.proofs.Idle.{the_same}
 
 -- what a change that was done says of the row before it
 record Changed {A : Type 0} (expected : Option ℕ) (found : Option Row) (x y : A) : Type 0 where
@@ -47,7 +47,7 @@ pub written_version : (rows : Rows) (g : Grain) (expected : Option ℕ) (content
 unfolding written
 written_version rows g expected content now after is fits =
     let d = changed_done expected (map.get rows g) _ _ is in
-    let next = the_same (next_version (map.get rows g)) now (ap (λ p. p.0) d.same) in
+    let next = same_Some (next_version (map.get rows g)) now (ap (λ p. p.0) d.same) in
     sym next ∙ next_is (map.get rows g) d.not_last (subst IsVersion d.expects fits) ∙ ap version_after (sym d.expects)
 
 pub emptied_version : (rows : Rows) (g : Grain) (expected now : Option ℕ) (after : Rows) → cleared rows g expected ≡ Ok (now, after) → IsVersion expected → now ≡ cleared_version expected

@@ -5,6 +5,7 @@ use Rattle.std.specs.List.{list_any}
 use Rattle.std.proofs.lemmas.Bool.Decides.{nat_tests}
 use Rattle.std.proofs.lemmas.List.{map-append, take-append-drop, drop_more, take_more}
 use Rattle.std.proofs.lemmas.Option.{none-some, same_Some}
+use Rattle.tenant_gate.proofs.Repeats.{first_repeat-push}
 use Rattle.grain_id.specs.Names.{same_text}
 use Rattle.tenant_gate.specs.Table.{Table, names_of, is_within, are_in_range, first_repeat, first_out_of_range, table_fault}
 use Rattle.tenant_gate.specs.declared.limits.Limits.{Limits}
@@ -14,17 +15,6 @@ use Rattle.tenant_gate.proofs.Faults.{fault_empty, fault_later}
 use Rattle.silo_words.specs.Tenants.{IsWithin, AreLimits, IsTenantText, WriteTenants, WriteDistinct, MayFollow, is_named, IsRefusedBehind, IsRefusedAt, IsFirstRefused}
 
 -- ---- names
-
-not_repeated : (b : Bool) (name : List ℕ) (rest more : Option (List ℕ)) → cond b (Some name) rest ≡ None → (rest ≡ None → more ≡ None) → cond b (Some name) more ≡ None
-not_repeated true name rest more none later = absurd (cc (none))
-not_repeated false name rest more none later = later none
-
--- a name that isn't there repeats none
-first_repeat-push : (before names : List (List ℕ)) (name : List ℕ) → first_repeat before names ≡ None → list_any (same_text name) (before ++ names) ≡ false → first_repeat before (names ++ name ∷ []) ≡ None
-first_repeat-push before [] name none new = ap (λ b. cond b (Some name) None) (ap (list_any (same_text name)) (sym (append-nil before)) ∙ new)
-first_repeat-push before (n ∷ names) name none new =
-    not_repeated (list_any (same_text n) before) n (first_repeat (before ++ n ∷ []) names) (first_repeat (before ++ n ∷ []) (names ++ name ∷ [])) none
-    (λ rest. first_repeat-push (before ++ n ∷ []) names name rest (ap (list_any (same_text name)) (append_assoc before (n ∷ []) names) ∙ new))
 
 -- a name among those of a table
 any_of_names : (tenant : List ℕ) (table : Table) → list_any (same_text tenant) (names_of table) ≡ is_named table tenant

@@ -12,6 +12,9 @@ use Rattle.std.specs.FinMap.Entries.{below_all}
 use Rattle.std.specs.BTreeSet.{insert_key}
 use Rattle.std.proofs.lemmas.List.{flat_map_more, map_more, take_more}
 use Rattle.std.proofs.lemmas.List.Folds.{list_any-append}
+use Rattle.std.proofs.Math.Bool.{or-false, or_assoc}
+use Rattle.grain_id.proofs.Keys.{texts}
+use Rattle.finite_maps.proofs.Sets.{keys-set_of, set_of-alike}
 use Rattle.grain_id.specs.Names.{text_cmp, same_text}
 use Rattle.grain_id.proofs.Order.{text_cmp_total, text_cmp_exact, same_text_decides, ties_from_Decides}
 use Rattle.grain_id.proofs.ByGrain.{text_alike}
@@ -20,17 +23,9 @@ use Rattle.tenant_audit.specs.Owners.{Gains}
 
 -- ---- names more
 
-or_assoc : (a b c : Bool) → ((a || b) || c) ≡ (a || (b || c))
-or_assoc true b c = refl
-or_assoc false b c = refl
-
-or_false : (a : Bool) → a ≡ (a || false)
-or_false true = refl
-or_false false = refl
-
 or_again : (a b : Bool) → (a || b) ≡ ((a || b) || (a || false))
 or_again true b = refl
-or_again false b = or_false b
+or_again false b = sym (or-false b)
 
 or_last : (a b : Bool) → (a || b) ≡ (b || (a || false))
 or_last true true = refl
@@ -39,7 +34,7 @@ or_last false true = refl
 or_last false false = refl
 
 pub gains_none : (old : List (List ℕ)) → Gains old [] old
-gains_none old = λ name. or_false (is_listed old name)
+gains_none old = λ name. sym (or-false (is_listed old name))
 
 pub gains_more : (old mid new some more : List (List ℕ)) → Gains old some mid → Gains mid more new → Gains old (some ++ more) new
 gains_more old mid new some more first second = λ name.
@@ -63,52 +58,9 @@ gains_one (x ∷ names) k name = by_order (text_cmp k x) refl (gains_one names k
 
 -- ---- names that ascend
 
-abbrev paired : List (List ℕ) → List (List ℕ × Unit {0})
-paired names = map_list (λ t. (t, tt {0})) names
-
-abbrev found : Bool → Option (Unit {0})
-found b = cond b (Some tt) None
-
-find-paired : (name : List ℕ) (names : List (List ℕ)) → find text_cmp name (paired names) ≡ found (is_listed names name)
-find-paired name [] = refl
-find-paired name (t ∷ names) = by_tie (same_text name t) (sym (ties_from_Decides same_text text_cmp_total text_cmp_exact same_text_decides name t)) (find-paired name names)
-  where
-    by_tie : (b : Bool) → eq_by_cmp text_cmp name t ≡ b → find text_cmp name (paired names) ≡ found (is_listed names name) → cond (eq_by_cmp text_cmp name t) (Some tt) (find text_cmp name (paired names)) ≡ found (b || is_listed names name)
-    by_tie true tied rest = ap (λ b. cond b (Some tt) (find text_cmp name (paired names))) tied
-    by_tie false tied rest = ap (λ b. cond b (Some tt) (find text_cmp name (paired names))) tied ∙ rest
-
-abbrev set_of : List (List ℕ) → FinMap text_cmp (Unit {0})
-set_of names = map.from_entries (paired names)
-
-same_set : (names others : List (List ℕ)) → ((name : List ℕ) → is_listed names name ≡ is_listed others name) → set_of names ≡ set_of others
-same_set names others same = text_alike _ _ (λ q.
-    map.get-from_entries text_cmp_total (paired names) q ∙ find-paired q names ∙ ap found (same q) ∙ sym (find-paired q others) ∙ sym (map.get-from_entries text_cmp_total (paired others) q))
-
-both_true : (a b : Bool) → a ≡ true → b ≡ true → (a && b) ≡ true
-both_true a b p q = ap (λ x. x && b) p ∙ q
-
-below_all-true : (k : List ℕ) (names : List (List ℕ)) → AllByRecursion (λ y. text_cmp k y ≡ Less) names → below_all text_cmp k (paired names) ≡ true
-below_all-true k [] all = refl
-below_all-true k (t ∷ names) all = both_true _ _ (ap is_lt all.0) (below_all-true k names all.1)
-
-is_sorted-true : (names : List (List ℕ)) → IsStrictlySortedBy text_cmp names → is_sorted text_cmp (paired names) ≡ true
-unfolding IsStrictlySortedBy
-is_sorted-true [] sorted = refl
-is_sorted-true (t ∷ names) sorted = both_true _ _ (below_all-true t names sorted.0) (is_sorted-true names sorted.1)
-
-keys_paired : (names : List (List ℕ)) → map_list (λ (e : List ℕ × Unit {0}). e.0) (paired names) ≡ names
-keys_paired [] = refl
-keys_paired (t ∷ names) = ap (λ ts. t ∷ ts) (keys_paired names)
-
-of_sorted : (names : List (List ℕ)) → IsStrictlySortedBy text_cmp names → ascending names ≡ names
-of_sorted names sorted_so =
-    let sorted : T (is_sorted text_cmp (paired names)) = subst T (sym (is_sorted-true names sorted_so)) tt in
-    let same = map.same_map text_cmp_total text_cmp_exact (set_of names) (map.from_sorted (paired names)) (λ q. map.get-from_entries text_cmp_total (paired names) q ∙ sym (map.get-from_sorted text_cmp (paired names) q sorted)) in
-    ap map.keys same ∙ ap (map_list (λ (e : List ℕ × Unit {0}). e.0)) (map.entries-from_sorted text_cmp (paired names) sorted) ∙ keys_paired names
-
 -- names that ascend are those that they are
 pub ascending_are : (names owners : List (List ℕ)) → IsStrictlySortedBy text_cmp names → ((name : List ℕ) → is_listed names name ≡ is_listed owners name) → names ≡ ascending owners
-ascending_are names owners sorted same = sym (of_sorted names sorted) ∙ ap map.keys (same_set names owners same)
+ascending_are names owners sorted same = sym (keys-set_of texts names sorted) ∙ ap map.keys (set_of-alike texts names owners same)
 
 -- ---- names of a list of things, one thing more
 

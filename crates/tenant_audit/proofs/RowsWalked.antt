@@ -5,6 +5,7 @@ use Rattle.std.specs.List.Sorted.{IsStrictlySortedBy}
 use Rattle.std.specs.Map.{keys_of}
 use Rattle.std.proofs.lemmas.List.{append-nil}
 use Rattle.std.proofs.lemmas.List.Kept.{IsStrictlySortedBy-filter}
+use Rattle.finite_maps.proofs.Ascending.{keys_ascend}
 use Rattle.grain_id.specs.Names.{Grain, grain_cmp}
 use Rattle.grain_storage.specs.declared.row.Row.{Row}
 use Rattle.grain_storage.specs.Memory.{rows_of}
@@ -17,7 +18,6 @@ use Rattle.audit_model.specs.Difference.{RowsDifferAt}
 use Rattle.audit_model.specs.Parts.{rows_for}
 use Rattle.finite_maps.proofs.Parts.{keys_of-filter}
 use Rattle.audit_model.proofs.Reports.{ascend}
-use Rattle.audit_model.proofs.Tenants.{keys_ascend}
 use Rattle.tenant_audit.specs.Comparison.{lesser_of}
 use Rattle.tenant_audit.proofs.RowsApart.{Entries, Sorted, only_recorded, only_own, both_part}
 use Rattle.tenant_audit.proofs.Walked.{Walked, all_walked}
@@ -37,7 +37,7 @@ module _ (recorded own : Entries) (rows : Rows) (sorted : Sorted recorded) (list
   rows_are rest is = sym listed ∙ walked.right_parts ∙ ap (λ es. common ++ es) is
 
   own_sorted : (rest : Entries) → right ≡ rest → Sorted (common ++ rest)
-  own_sorted rest is = subst Sorted (rows_are rest is) (keys_ascend grain_cmp (map.entries rows) (map.entries_sorted rows))
+  own_sorted rest is = subst Sorted (rows_are rest is) (keys_ascend grain_cmp rows)
 
   recorded_are : (rest : Entries) → left ≡ rest → recorded ≡ common ++ rest
   recorded_are rest is = walked.left_parts ∙ ap (λ es. common ++ es) is

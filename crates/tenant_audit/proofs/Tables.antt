@@ -6,10 +6,5 @@ use Rattle.grain_id.specs.Names.{same_text}
 use Rattle.tenant_gate.specs.declared.limits.Limits.{Limits}
 use Rattle.tenant_gate.specs.Table.{Table, limits_of}
 
--- a test of what stands in a list of pairs is one of a list
-pub any_mapped : {X Y : Type 0} (p : Y → Bool) (f : X → Y) (xs : List X) → list_any (λ x. p (f x)) xs ≡ list_any p (map_list f xs)
-any_mapped p f [] = refl
-any_mapped p f (x ∷ xs) = ap (λ b. p (f x) || b) (any_mapped p f xs)
-
 pub limits_there : (t : List ℕ) (table others : Table) (limits : Option Limits) → limits ≡ limits_of table t → table ≡ others → limits ≡ limits_of others t
 limits_there t table others limits is same = is ∙ ap (λ (list : Table). limits_of list t) same

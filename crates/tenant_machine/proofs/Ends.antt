@@ -2,6 +2,8 @@
 use Rattle.std.proofs.Common.{◌≡◌, ℕ, ◌++◌, Bool, true, false, List, [], ◌∷◌, Option, Some, None, refl, ap, sym, ◌∙◌}
 use Rattle.std.specs.Prelude.{Err, option_map, option_and_then}
 use Rattle.std.specs.FinMap as map
+use Rattle.std.proofs.lemmas.Option.{same_Some}
+use Rattle.silo_state.proofs.Ends.{more_sent}
 use Rattle.grain_id.specs.Names.{Grain}
 use Rattle.grain_kinds.specs.Logic.{Logic, Plan, Outgoing, StorageCall, asks_nothing, reads_row, writes_row, clears_row}
 use Rattle.grain_kinds.specs.Finished.{turn_plan}
@@ -18,15 +20,8 @@ use Rattle.silo_model.specs.Turns.{plan_of, sent_by, with_sends, outcome_of, end
 use Rattle.silo_state.specs.Entries.{closed_entry, ClosesEntry}
 use Rattle.silo_state.specs.Finds.{open_in, IsOwn, asks}
 use Rattle.silo_state.specs.Sends.{with_more}
-use Rattle.silo_state.proofs.Idle.{the_same}
 use Rattle.silo_state.specs.Closings.{ClosesTold}
 use Rattle.tenant_machine.specs.Requests.{seen_at}
-
--- what a turn sends comes to the account in one way
-more_sent : (g : Grain) (account : Option Account) (outgoing : List Outgoing) → with_sends g account outgoing ≡ with_more account (sent_by g outgoing)
-more_sent g account [] = refl
-more_sent g None (o ∷ outgoing) = refl
-more_sent g (Some a) (o ∷ outgoing) = refl
 
 -- ---- what is done to an open turn
 
@@ -88,10 +83,10 @@ module _ (logic : Logic) (m : Machine) (g : Grain) (turn : ℕ) (version : Optio
   -- the entry and the request that are closed are those that were found
   module _ (phase : Option Phase) (last : ℕ) (sender : Party) (new : Entries) (d : ClosesEntry m.entries g turn phase last sender new) where
     pub same_entry : d.before ≡ own.entry
-    same_entry = the_same d.before own.entry (sym d.found ∙ own.is_open.found_is)
+    same_entry = same_Some d.before own.entry (sym d.found ∙ own.is_open.found_is)
 
     pub same_request : d.request ≡ own.request
-    same_request = the_same d.request own.request (sym d.open_turn ∙ ap (λ (e : Entry). map.get e.turns turn) same_entry ∙ own.is_open.open_turn)
+    same_request = same_Some d.request own.request (sym d.open_turn ∙ ap (λ (e : Entry). map.get e.turns turn) same_entry ∙ own.is_open.open_turn)
 
     pub put_own : new ≡ map.insert m.entries g (closed_entry own.entry own.request phase last)
     put_own = d.put ∙ (λ i. map.insert m.entries g (closed_entry (same_entry i) (same_request i) phase last))

@@ -2,6 +2,7 @@
 use Rattle.std.proofs.Common.{◌≡◌, ℕ, ◌==◌, ◌<◌, Bool, true, false, length, Option, Some, None, refl, ap, sym, ◌∙◌, arith}
 use Rattle.std.specs.Prelude.{Result, Ok, Err, nat_lt, if◌then◌else◌}
 use Rattle.std.proofs.lemmas.Bool.Decides.{nat_tests}
+use Rattle.std.proofs.lemmas.Bool.{lt-ltb}
 use Rattle.grain_id.specs.Names.{Grain, same_text}
 use Rattle.silo_event.specs.declared.fault.Fault.{Fault}
 use Rattle.silo_event.specs.declared.fault.Fault.TheVariants.{UnknownKind, AcrossTenants, NoNumber, NoActivation, MailboxFull}
@@ -62,13 +63,10 @@ accepts logic m g a e =
 
 -- ---- room
 
-below : (m n : ℕ) → m < n → nat_lt m n ≡ true
-below m n less = grind (arith, nat_tests)
-
 module _ (s : Context) (g : Grain) (a : Account) (found : Option Entry) where
   pub new_free : found ≡ None → s.active < a.limits.activations → Settles (room s a g found) None
-  new_free is free = (a, ap (room s a g) is ∙ ap (λ b. if b then Ok a else Err (NoActivation s.tenant)) (below s.active a.limits.activations free))
+  new_free is free = (a, ap (room s a g) is ∙ ap (λ b. if b then Ok a else Err (NoActivation s.tenant)) (lt-ltb s.active a.limits.activations free))
 
   module _ (e : Entry) (is : found ≡ Some e) where
     pub again_free : length e.queue < a.limits.mailbox → Settles (room s a g found) None
-    again_free free = (a, ap (room s a g) is ∙ ap (λ b. if b then Ok a else Err (MailboxFull g)) (below (length e.queue) a.limits.mailbox free))
+    again_free free = (a, ap (room s a g) is ∙ ap (λ b. if b then Ok a else Err (MailboxFull g)) (lt-ltb (length e.queue) a.limits.mailbox free))

@@ -2,6 +2,7 @@
 use Rattle.std.proofs.Common.{◌≡◌, ℕ, suc, arith, ◌++◌, ◌==◌, ◌&&◌, Bool, true, false, List, [], ◌∷◌, length, Option, Some, None, refl, ap, sym, ◌∙◌, subst}
 use Rattle.std.specs.Prelude.{Result, Ok, Err, option_map, option_and_then, if◌then◌else◌}
 use Rattle.std.specs.FinMap as map
+use Rattle.silo_state.proofs.Stores.{with_state_done, with_state_refused}
 use Rattle.grain_id.specs.Names.{Grain}
 use Rattle.grain_id.proofs.Order.{grain_cmp_total, grain_cmp_exact}
 use Rattle.finite_maps.proofs.Maps as maps
@@ -36,17 +37,6 @@ use Rattle.tenant_machine.specs.Closings.{ClosesBy}
 use Rattle.tenant_machine.specs.Machines.{StepAnswers}
 use Rattle.tenant_machine.specs.Requests.{seen_at}
 use Rattle.tenant_machine.proofs.Ends.{plan, turn_at, not_open, planned, put_own, sent_own}
-
--- a change gives the state that its grain has then
-with_state_done : (state : Tree) (r : Result (Option ℕ × Rows) RowFault) (s : Tree) (version : Option ℕ) (after : Rows) → with_state state r ≡ Ok ((s, version), after) → (r ≡ Ok (version, after)) × (s ≡ state)
-with_state_done state (Ok changed) s version after e =
-    let parts = same_Ok (with_state state (Ok changed)) ((state, changed.0), changed.1) ((s, version), after) refl e in
-    (λ i. Ok ((parts i).0.1, (parts i).1), ap (λ p. p.0.0) (sym parts))
-with_state_done state (Err why) s version after e = absurd cc
-
-with_state_refused : (state : Tree) (r : Result (Option ℕ × Rows) RowFault) (why : RowFault) → with_state state r ≡ Err why → r ≡ Err why
-with_state_refused state (Ok changed) why e = absurd cc
-with_state_refused state (Err other) why e = cc (e)
 
 -- no such turn is open
 pub store_not : (logic : Logic) (m : Machine) (g : Grain) (turn : ℕ) (failed : Bool) → option_and_then (λ e. open_in e turn e.phase) (map.get m.entries g) ≡ None → machine_step logic m (Store g turn failed) ≡ None

@@ -14,8 +14,12 @@ use Rattle.std.specs.FinMap.{FinMap, find, from_entries, is_sorted}
 use Rattle.std.specs.FinMap.Entries.{below_all}
 use Rattle.std.proofs.lemmas.Map.Entries.{lookup-filter-values, option_filter}
 use Rattle.std.proofs.lemmas.Map.Keys.{IsDistinct-from_sorted}
+use Rattle.finite_maps.proofs.Ascending.{len-ascending}
+use Rattle.finite_maps.proofs.Entries.{from_entries-insert, from_entries-remove, get-lookup}
+use Rattle.finite_maps.proofs.Keys.{keys_by_order}
+use Rattle.finite_maps.specs.Keys.{AreKeys}
 use Rattle.grain_id.specs.Names.{Grain, grain_cmp}
-use Rattle.grain_id.proofs.Order.{grain_cmp_total}
+use Rattle.grain_id.proofs.Order.{grain_cmp_total, grain_cmp_exact}
 use Rattle.grain_id.proofs.ByGrain.{alike}
 use Rattle.activation_directory.specs.declared.activation.Activation.{Activation}
 use Rattle.silo_model.specs.Idle.{is_due}
@@ -29,44 +33,23 @@ Tree = BTreeMap Grain Activation
 abbrev pub shown : Tree → FinMap grain_cmp Activation
 shown m = from_entries m.entries
 
-find-entries : (es : List (Grain × Activation)) (q : Grain) → find grain_cmp q es ≡ lookup (λ k. is_eq (grain_cmp q k)) es
-find-entries [] q = refl
-find-entries (e ∷ es) q = ap (cond (eq_by_cmp grain_cmp q e.0) (Some e.1)) (find-entries es q)
+by_order : AreKeys (eq_by_cmp grain_cmp) grain_cmp
+by_order = keys_by_order grain_cmp_total grain_cmp_exact
 
 pub get-shown : (m : Tree) (q : Grain) → map.get (shown m) q ≡ tree.get grain_cmp m q
-get-shown m q = map.get-from_entries grain_cmp_total m.entries q ∙ find-entries m.entries q
-
-turned : (k q : Grain) → eq_by_cmp grain_cmp k q ≡ eq_by_cmp grain_cmp q k
-turned = (eq_by_cmp_equiv grain_cmp_total).symm
+get-shown m q = get-lookup by_order m.entries q
 
 module _ (m n : Tree) (k : Grain) where
   pub put-shown : (a : Activation) → UpdatesBy grain_cmp (grain_cmp k) m n (Some a) → shown n ≡ map.insert (shown m) k a
-  put-shown a u = alike _ _ (λ q.
-      get-shown n q ∙ u.0 q ∙ (λ i. cond (turned k q i) (Some a) (sym (get-shown m q) i)) ∙ sym (map.get-insert grain_cmp_total (shown m) k a q))
+  put-shown a u = from_entries-insert by_order m.entries n.entries k a u.0
 
   pub removed-shown : UpdatesBy grain_cmp (grain_cmp k) m n None → shown n ≡ map.remove (shown m) k
-  removed-shown u = alike _ _ (λ q.
-      get-shown n q ∙ u.0 q ∙ (λ i. cond (turned k q i) None (sym (get-shown m q) i)) ∙ sym (map.get-remove grain_cmp_total (shown m) k q))
+  removed-shown u = from_entries-remove by_order m.entries n.entries k u.0
 
 -- ---- how many there are
 
-below-keys : (k : Grain) (es : List (Grain × Activation)) → AllByRecursion (λ y. grain_cmp k y ≡ Less) (keys_of es) → below_all grain_cmp k es ≡ true
-below-keys k [] h = refl
-below-keys k (e ∷ es) h = ap (λ b. b && below_all grain_cmp k es) (ap is_lt h.0) ∙ below-keys k es h.1
-
-sorted-keys : (es : List (Grain × Activation)) → IsStrictlySortedBy grain_cmp (keys_of es) → is_sorted grain_cmp es ≡ true
-unfolding IsStrictlySortedBy
-sorted-keys [] h = refl
-sorted-keys (e ∷ es) h = ap (λ b. b && is_sorted grain_cmp es) (below-keys e.0 es h.0) ∙ sorted-keys es h.1
-
-entries-shown : (m : Tree) → IsOrdered grain_cmp m → map.entries (shown m) ≡ m.entries
-entries-shown m ordered =
-    let sorted : T (is_sorted grain_cmp m.entries) = subst T (sym (sorted-keys m.entries ordered)) tt in
-    ap map.entries (alike (shown m) (map.from_sorted m.entries) (λ q. map.get-from_entries grain_cmp_total m.entries q ∙ sym (map.get-from_sorted grain_cmp m.entries q sorted)))
-    ∙ map.entries-from_sorted grain_cmp m.entries sorted
-
 pub len-shown : (m : Tree) → IsOrdered grain_cmp m → length m.entries ≡ map.len (shown m)
-len-shown m ordered = ap length (sym (entries-shown m ordered)) ∙ sym (map.len-entries (shown m))
+len-shown m ordered = sym (len-ascending grain_cmp_total grain_cmp_exact m.entries ordered)
 
 -- ---- what a sweep leaves
 

@@ -8,8 +8,9 @@ use Rattle.std.specs.Cmp.Lexicographic.{slice_cmp}
 use Rattle.std.specs.List.{AllByRecursion}
 use Rattle.std.specs.List.Sorted.{IsStrictlySortedBy, IsNonDecreasingBy, IsSearchInRange, IsBinarySearchResult}
 use Rattle.std.specs.Ordering.{is_lt, ordering_index, ordering_reverse}
+use Rattle.finite_maps.proofs.Lists.{all_weaker}
+use Rattle.finite_maps.proofs.Ascending.{less_from_is_lt}
 use Rattle.request_codec.specs.Tree.{field}
-use Rattle.request_codec.proofs.Entries.{is_less}
 use Rattle.turn_arena.specs.Ascending.{NamesAscend, MapsAscend, FieldsAscend}
 use Rattle.turn_arena.specs.Fields.{by_order, field_put, field_dropped, put_field, dropped_field, IsPlaceOf, IsGapFor}
 use Rattle.turn_arena.specs.NodeValue.{node_value, field_values}
@@ -104,10 +105,6 @@ by_order-holds P Less before here behind l e g = l refl
 by_order-holds P Equal before here behind l e g = e refl
 by_order-holds P Greater before here behind l e g = g refl
 
-all_weaker : (P Q : List ℕ → Type 0) → ((n : List ℕ) → P n → Q n) → (ns : List (List ℕ)) → AllByRecursion P ns → AllByRecursion Q ns
-all_weaker P Q weaker [] all = tt
-all_weaker P Q weaker (n ∷ ns) all = (weaker n all.0, all_weaker P Q weaker ns all.1)
-
 all_put : (P : List ℕ → Type 0) (f : Field) (fs : List Field) → P f.name.now → AllByRecursion P (names fs) → AllByRecursion P (names (put_field f fs))
 all_put P f [] here all = (here, tt)
 all_put P f (g ∷ fs) here all =
@@ -129,8 +126,8 @@ NamesAscend-put f (g ∷ fs) up =
     let n = f.name.now in
     let m = g.name.now in
     by_order-holds NamesAscend (order n m) _ _ _
-    (λ less. ((less, all_weaker _ _ (λ y h. nat_list_cmp_total.trans n m y less h) (names fs) up.0), up))
-    (λ same. (all_weaker _ _ (λ y h. nat_list_cmp_total.congr n m y same ∙ h) (names fs) up.0, up.1))
+    (λ less. ((less, all_weaker _ _ (names fs) (λ y h. nat_list_cmp_total.trans n m y less h) up.0), up))
+    (λ same. (all_weaker _ _ (names fs) (λ y h. nat_list_cmp_total.congr n m y same ∙ h) up.0, up.1))
     (λ greater. (all_put (λ y. order m y ≡ Less) f fs (order-back n m Greater greater) up.0, NamesAscend-put f fs up.1))
 
 pub NamesAscend-dropped : (n : List ℕ) (fs : List Field) → NamesAscend fs → NamesAscend (dropped_field n fs)
@@ -159,8 +156,8 @@ names_ascend [] h = tt
 names_ascend (f ∷ []) h = (tt, tt)
 names_ascend (f ∷ g ∷ fs) h =
     let up = names_ascend (g ∷ fs) h.2 in
-    let less = is_less (order f.name.now g.name.now) h.1 in
-    ((less, all_weaker _ _ (λ y k. nat_list_cmp_total.trans f.name.now g.name.now y less k) (names fs) up.0), up)
+    let less = less_from_is_lt (order f.name.now g.name.now) h.1 in
+    ((less, all_weaker _ _ (names fs) (λ y k. nat_list_cmp_total.trans f.name.now g.name.now y less k) up.0), up)
 
 -- ---- what a binary search by name tells
 

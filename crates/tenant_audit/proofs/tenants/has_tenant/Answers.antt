@@ -1,12 +1,12 @@
 use Rattle.std.proofs.Common.{ℕ, List, ◌∙◌, rules, tests}
 use Rattle.std.proofs.lemmas.Iterator.{YieldsList-from_slice}
 use Rattle.std.proofs.lemmas.Iterator.Search.{any_from_yields_List}
+use Rattle.finite_maps.proofs.Lists.{list_any-map}
 use Rattle.tenant_gate.specs.declared.limits.Limits.{Limits}
 use Rattle.grain_id.specs.Names.{same_text}
-use Rattle.tenant_audit.proofs.Tables.{any_mapped}
 use Rattle.tenant_audit.proofs.tenants.has_tenant.Goals as goal
 
 pub returns : goal.returns
 returns c =
     any_from_yields_List (λ (e : List ℕ × Limits). same_text c.args.tenant.now e.0) _ _ c.any.result c.any.ensures.ran (YieldsList-from_slice c.args.table.now cc) (λ x b q k. search (rules, tests))
-    ∙ any_mapped (same_text c.args.tenant.now) (λ (e : List ℕ × Limits). e.0) c.args.table.now
+    ∙ sym (list_any-map (same_text c.args.tenant.now) (λ (e : List ℕ × Limits). e.0) c.args.table.now)

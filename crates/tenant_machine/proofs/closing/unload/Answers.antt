@@ -1,12 +1,12 @@
 use Rattle.std.proofs.Common.{◌≡◌, ◌+◌, ◌≤◌, ◌++◌, length, ap, sym, ◌∙◌, subst, vec_len, vec_capacity}
 use Rattle.std.specs.Prelude.{Err, flat_map}
 use Rattle.std.proofs.lemmas.List.{length-map}
+use Rattle.std.proofs.lemmas.Option.{same_Some}
 use Rattle.silo_event.specs.declared.fault.Fault.TheVariants.{StorageFailed}
 use Rattle.silo_model.specs.Machine.{Entry}
 use Rattle.silo_model.specs.Calls.{reply_to}
 use Rattle.silo_state.specs.Shown.{request_of, entry_of}
 use Rattle.silo_state.specs.Reads.{refused}
-use Rattle.silo_state.proofs.Idle.{the_same}
 use Rattle.silo_state.proofs.Loads.{refused_shown}
 use Rattle.tenant_machine.proofs.closing.unload.Goals as goal
 
@@ -19,7 +19,7 @@ refuse_all-requires g c =
 pub returns-clause-told : goal.returns-clause-told
 returns-clause-told g c e is =
     let waiting = c.in-Some.activation.mailbox.waiting in
-    let same : entry_of c.in-Some.activation ≡ e = the_same (entry_of c.in-Some.activation) e (c.in-Some.ensures.found ∙ is) in
+    let same : entry_of c.in-Some.activation ≡ e = same_Some (entry_of c.in-Some.activation) e (c.in-Some.ensures.found ∙ is) in
     c.refuse_all.ensures
     ∙ ap (λ told. c.args.replies.now.items ++ told)
     (ap (flat_map refused) c.into_waiting.ensures ∙ refused_shown waiting ∙ ap (λ (x : Entry). flat_map (λ q. reply_to q.sender (Err StorageFailed)) x.queue) same)

@@ -1,6 +1,7 @@
 use Rattle.std.proofs.Common.{ℕ, List, None, Some, refl, ap, sym, ◌∙◌, subst}
 use Rattle.std.specs.Prelude.{Err, IsSome, option_and_then}
 use Rattle.std.specs.FinMap as map
+use Rattle.std.proofs.lemmas.Option.{same_Some}
 use Rattle.silo_event.specs.declared.fault.Fault.TheVariants.{NoMemory}
 use Rattle.silo_event.specs.declared.reply.Reply.{Reply}
 use Rattle.silo_model.specs.Machine.{Entries}
@@ -8,7 +9,6 @@ use Rattle.silo_state.specs.Closings.{ClosesTold}
 use Rattle.silo_state.specs.Notes.{none_waits}
 use Rattle.silo_state.specs.Shown.{entry_of}
 use Rattle.silo_state.proofs.Shows.{turn_shown}
-use Rattle.silo_state.proofs.Idle.{the_same}
 use Rattle.silo_state.proofs.Steps.{abandon_none, abandon_moves}
 use Rattle.silo_state.proofs.state.SiloState.abandon.Goals as goal
 
@@ -24,7 +24,7 @@ returns-in_default-opened g c =
     (rw (← c.self.view_is) (abandon_none g.L.GrainLogic.logic (record { whole = _; failures = 0 }) c.args.grain.now c.args.turn closed), refl)
 
 pub expect-requires : goal.expect-requires
-expect-requires g c e found = c.none_waits-idle_after.ensures ∙ ap none_waits (the_same (entry_of c.in-Some.activation.now) e (c.in-Some.ensures.entry ∙ found))
+expect-requires g c e found = c.none_waits-idle_after.ensures ∙ ap none_waits (same_Some (entry_of c.in-Some.activation.now) e (c.in-Some.ensures.entry ∙ found))
 
 pub close_turn-requires-clause-is_open : goal.close_turn-requires-clause-is_open
 close_turn-requires-clause-is_open g c =

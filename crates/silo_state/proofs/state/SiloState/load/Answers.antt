@@ -1,13 +1,13 @@
 use Rattle.std.proofs.Common.{◌++◌, refl, ap, sym, ◌∙◌}
 use Rattle.std.specs.Prelude.{Err, flat_map}
 use Rattle.std.specs.FinMap as map
+use Rattle.std.proofs.lemmas.Option.{same_Some}
 use Rattle.silo_event.specs.declared.fault.Fault.TheVariants.{StorageFailed}
 use Rattle.silo_model.specs.Machine.{Entries, ready}
 use Rattle.silo_model.specs.Calls.{reply_to}
 use Rattle.silo_model.proofs.EntrySteps.{load_absent}
 use Rattle.silo_state.specs.Notes.{none_waits}
 use Rattle.silo_state.specs.Shown.{entry_of}
-use Rattle.silo_state.proofs.Idle.{the_same}
 use Rattle.silo_state.proofs.Loads.{loads, load_not, load_moves, load_marked, load_failed}
 use Rattle.silo_state.proofs.state.SiloState.load.Goals as goal
 
@@ -27,7 +27,7 @@ returns-then-failed g c =
     (load_marked g.L.GrainLogic.logic _ c.args.grain.now e found (loads e.phase (sym c.if-not-is_loading.ensures)) c.unload.new.activations c.unload.ensures.age c.unload.new.replies.items c.unload.ensures.gone told c.args.failed c.if-failed.true)
 
 pub expect-requires : goal.expect-requires
-expect-requires g c e found = c.none_waits-idle_after.ensures ∙ ap none_waits (the_same (entry_of c.in-Some.activation.now) e (c.in-Some.ensures.entry ∙ found))
+expect-requires g c e found = c.none_waits-idle_after.ensures ∙ ap none_waits (same_Some (entry_of c.in-Some.activation.now) e (c.in-Some.ensures.entry ∙ found))
 
 pub make_ready-requires-clause-loading : goal.make_ready-requires-clause-loading
 make_ready-requires-clause-loading g c =

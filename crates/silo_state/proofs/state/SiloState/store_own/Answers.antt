@@ -1,5 +1,6 @@
 use Rattle.std.proofs.Common.{ℕ, List, refl, ap, sym, ◌∙◌, subst}
 use Rattle.std.specs.FinMap as map
+use Rattle.std.proofs.lemmas.Option.{same_Some}
 use Rattle.grain_kinds.specs.Planned.{storage_call}
 use Rattle.grain_kinds.specs.declared.turn.OpenedTurn.{OpenedTurn}
 use Rattle.silo_event.specs.declared.reply.Reply.{Reply}
@@ -11,7 +12,6 @@ use Rattle.silo_state.specs.Shown.{entry_of}
 use Rattle.silo_state.specs.Finds.{IsOwn, asks}
 use Rattle.silo_state.specs.Closings.{ClosesBy}
 use Rattle.silo_state.specs.Storing.{given, GivesMarked}
-use Rattle.silo_state.proofs.Idle.{the_same}
 use Rattle.silo_state.proofs.Ends.{waits_known}
 use Rattle.silo_state.proofs.Stores.{store_silent, stored_moves, left}
 use Rattle.silo_state.proofs.state.SiloState.store_own.Goals as goal
@@ -39,7 +39,7 @@ returns g c =
     let own = subst (λ (h : Held). IsOwn grain (map.get h.whole.entries grain) turn version idle_after input) (sym c.self.view_is) c.requires in
     let call = storage_call c.store_call-call.result in
     let last = c.in-Some.activation.now.last in
-    let still = ap (λ (e : Entry). e.last) (the_same (entry_of c.in-Some.activation.now) own.entry (c.in-Some.ensures.entry ∙ own.is_open.found_is)) in
+    let still = ap (λ (e : Entry). e.last) (same_Some (entry_of c.in-Some.activation.now) own.entry (c.in-Some.ensures.entry ∙ own.is_open.found_is)) in
     let after = c.ask-stored.new.storage in
     let new = c.close_by.new.activations in
     let gives = subst (λ (t : OpenedTurn). GivesMarked c.args.failed (given logic (rows b.storage) grain t.state version call) (rows b.storage) (failed b.storage) c.ask-stored.result (rows after) (failed after)) c.input.ensures c.ask-stored.ensures in

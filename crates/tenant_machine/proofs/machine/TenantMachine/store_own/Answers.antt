@@ -1,5 +1,6 @@
 use Rattle.std.proofs.Common.{ℕ, List, refl, ap, sym, ◌∙◌, subst}
 use Rattle.std.specs.FinMap as map
+use Rattle.std.proofs.lemmas.Option.{same_Some}
 use Rattle.grain_kinds.specs.Planned.{storage_call}
 use Rattle.grain_kinds.specs.declared.turn.OpenedTurn.{OpenedTurn}
 use Rattle.silo_event.specs.declared.reply.Reply.{Reply}
@@ -8,7 +9,6 @@ use Rattle.silo_model.specs.Machine.{Machine, Entry}
 use Rattle.silo_state.specs.Finds.{IsOwn, asks}
 use Rattle.silo_state.specs.Shown.{entry_of}
 use Rattle.silo_state.specs.Storing.{given, GivesMarked}
-use Rattle.silo_state.proofs.Idle.{the_same}
 use Rattle.tenant_machine.specs.Closings.{ClosesBy}
 use Rattle.tenant_machine.specs.Machines.{StepAnswers}
 use Rattle.tenant_machine.proofs.Stores.{store_silent, store_answers, left}
@@ -32,7 +32,7 @@ returns g c =
     let own = subst (λ (m : Machine). IsOwn grain (map.get m.entries grain) turn at.version at.idle_after input) (sym c.self.view_is) c.requires in
     let call = storage_call c.store_call-call.result in
     let last = c.in-Some.activation.now.last in
-    let still = ap (λ (e : Entry). e.last) (the_same (entry_of c.in-Some.activation.now) own.entry (c.in-Some.ensures.entry ∙ own.is_open.found_is)) in
+    let still = ap (λ (e : Entry). e.last) (same_Some (entry_of c.in-Some.activation.now) own.entry (c.in-Some.ensures.entry ∙ own.is_open.found_is)) in
     let after = c.ask-stored.new.storage in
     let gives = subst (λ (t : OpenedTurn). GivesMarked c.args.failed (given logic b.storage grain t.state at.version call) b.storage 0 c.ask-stored.result after 0) c.input.ensures c.ask-stored.ensures in
     let closes = subst (λ (p : List Reply × ℕ). ClosesBy b.entries p.0 grain turn at.idle_after p.1 last c.ask-stored.result c.close_by.result c.close_by.new.entries c.close_by.new.replies.items)
