@@ -3,7 +3,7 @@ use Rattle.std.proofs.Common.{◌≡◌, ◌<◌, ◌≤◌, ℕ, List, [], ◌�
 use Rattle.std.specs.Prelude.{option_and_then, IsUtf8}
 use Rattle.std.specs.Str.{is_utf8}
 use Rattle.std.proofs.lemmas.Bool.Decides.{nat_tests}
-use Rattle.std.proofs.lemmas.Str.{is_utf8-from_IsUtf8}
+use Rattle.std.proofs.lemmas.Str.{IsUtf8-from_is_utf8, is_utf8-from_IsUtf8}
 use Rattle.serde_json.specs.Data.{Data}
 use Rattle.serde_json.specs.Read.{read}
 use Rattle.line_parser.specs.Form.{step_of_json}
@@ -25,6 +25,14 @@ meaning_of-under (b ∷ bytes) = refl
 some_bytes : (bytes : List ℕ) {b : Bool} → b ≡ (length bytes == 0) → b ≡ false → 0 < length bytes
 some_bytes [] test is = absurd (true≢false (sym test ∙ is))
 some_bytes (b ∷ bytes) test is = omega arith
+
+-- what is no UTF-8, or is no JSON, has no JSON
+json_none : (bytes : List ℕ) (b : Bool) → is_utf8 bytes ≡ b → (IsUtf8 bytes → read bytes ≡ None) → cond b (read bytes) None ≡ None
+json_none bytes true e h = h (IsUtf8-from_is_utf8 bytes e)
+json_none bytes false e h = refl
+
+pub json_of_line_none : (bytes : List ℕ) → (IsUtf8 bytes → read bytes ≡ None) → json_of_line bytes ≡ None
+json_of_line_none bytes h = json_none bytes (is_utf8 bytes) refl h
 
 pub json_of_line_some : (bytes : List ℕ) (d : Data) → IsUtf8 bytes → read bytes ≡ Some d → json_of_line bytes ≡ Some d
 json_of_line_some bytes d u e = let is : is_utf8 bytes ≡ true = is_utf8-from_IsUtf8 bytes u in ap (λ b. cond b (read bytes) None) is ∙ e
