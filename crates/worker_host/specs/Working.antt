@@ -1,5 +1,7 @@
--- What a silo at work knows beside its history: how much each client is owed, as far as its replies were looked at; and that its journal is paced.
-use Rattle.std.specs.Prelude.{◌≡◌, ℕ, ◌+◌, ◌≤◌, Bool, true, false, length, take, Option, Some, None, unwrap_or, if◌then◌else◌, Result, Ok, Err}
+-- What a silo at work knows beside its history: how much each client is owed, as far as its replies were looked at; and that its
+-- journal is paced.
+use Rattle.std.specs.Prelude.{◌≡◌, ℕ, ◌+◌, ◌≤◌, Bool, true, false, length, take, if◌then◌else◌}
+use Rattle.std.specs.Prelude.{Option, Some, None, unwrap_or, Result, Ok, Err}
 use Rattle.indexmap.specs.IndexMap.{IndexMap, get}
 use Rattle.grain_id.specs.Names.{Client, client_eq}
 use Rattle.grain_kinds.specs.Logic.{Logic}
@@ -28,12 +30,14 @@ abbrev pub asks_once : Option Client → Client → ℕ
 asks_once None client = 0
 asks_once (Some caller) client = if client_eq caller client then 1 else 0
 
--- The journal leads to what the silo has, and is paced. What each client is owed, and what it was told by the replies that were looked at, is together what it asked.
+-- The journal leads to what the silo has, and is paced. What each client is owed, and what it was told by the replies that were
+-- looked at, is together what it asked.
 pub record IsWorking {S : Type 0} (logic : Logic) (h : History) (owing : IndexMap Client ℕ S) (seen : ℕ) : Type 0 where
   pub leads : LeadsTo logic h.setup h.journal h.whole
   pub paced : is_paced logic h.setup h.journal ≡ true
   pub within : seen ≤ length h.whole.replies
-  pub owed : (client : Client) → owing_to owing client + length (ids_told client (take seen h.whole.replies)) ≡ length (ids_asked client h.journal)
+  pub owed : (client : Client) → owing_to owing client + length (ids_told client (take seen h.whole.replies))
+      ≡ length (ids_asked client h.journal)
 
 -- nobody asks, or nothing of the client who asks waits or is open in the whole
 abbrev pub may_ask_in : Whole → Option Client → Bool

@@ -20,7 +20,8 @@ pub type Owing = IndexMap<Caller, u64>;
 /// Out of memory, or of numbers: each client is owed what it was owed.
 pub fn ask(owing: &mut Owing, step: &Step) -> Result<Option<Caller>, AllocError>
     ensures asker { IfOk result (λ asker. asker ≡ asker_of step.now) }
-    ensures asked { OnOk result ((client : Client) → owing_to owing.new client ≡ owing_to owing.old client + asks_once (asker_of step.now) client) }
+    ensures asked { OnOk result ((client : Client) → owing_to owing.new client
+        ≡ owing_to owing.old client + asks_once (asker_of step.now) client) }
     ensures unchanged { OnErr result ((client : Client) → owing_to owing.new client ≡ owing_to owing.old client) }
 {
     let Some(caller) = step.asker() else {
@@ -37,7 +38,8 @@ pub fn ask(owing: &mut Owing, step: &Step) -> Result<Option<Caller>, AllocError>
 ///
 /// Out of memory, or of numbers: each client is owed what it was owed.
 fn ask_once(owing: &mut Owing, caller: &Caller) -> Result<(), AllocError>
-    ensures asked { OnOk result ((client : Client) → owing_to owing.new client ≡ owing_to owing.old client + (if client_eq caller.now client then 1 else 0)) }
+    ensures asked { OnOk result ((client : Client) → owing_to owing.new client
+        ≡ owing_to owing.old client + (if client_eq caller.now client then 1 else 0)) }
     ensures unchanged { OnErr result ((client : Client) → owing_to owing.new client ≡ owing_to owing.old client) }
 {
     let Some(more) = owing_of(owing, caller).checked_add(1) else {
@@ -61,7 +63,8 @@ fn owing_of(owing: &Owing, client: &Caller) -> u64
 /// memory.
 pub fn settle(owing: &mut Owing, asker: &Option<Caller>, done: bool)
     ensures done { IsTrue done → (client : Client) → owing_to owing.new client ≡ owing_to owing.old client }
-    ensures not_done { IsFalse done → (client : Client) → owing_to owing.new client ≡ owing_to owing.old client - asks_once asker.now client }
+    ensures not_done { IsFalse done → (client : Client)
+        → owing_to owing.new client ≡ owing_to owing.old client - asks_once asker.now client }
 {
     if done {
         return;

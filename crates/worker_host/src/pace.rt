@@ -110,6 +110,13 @@ impl Pace {
         self.woken = false;
     }
 
+    /// A worker ends. Those that are awake still are counted without it, so that the last of them doesn't
+    /// wait for one that is gone.
+    pub fn leave(&mut self) {
+        self.come = self.come.saturating_sub(1);
+        self.awake = self.awake.saturating_sub(1);
+    }
+
     /// How many turns a worker takes now, of so much that can be done. A worker's first turn is one, so
     /// that at the start each has its own; and one that is alone leaves half to the next that comes.
     pub fn share_of(&self, first: bool, seen: usize) -> usize {

@@ -68,7 +68,8 @@ impl SetupCopy {
         alloc: Global,
         setup: &Setup<S, L>,
     ) -> Result<SetupCopy, AllocError>
-        ensures { IfOk result (λ opened. AreCopies opened setup.now.tenants setup.now.age (S.rows setup.now.storage) (S.failed setup.now.storage)) }
+        ensures { IfOk result
+            (λ opened. AreCopies opened setup.now.tenants setup.now.age (S.rows setup.now.storage) (S.failed setup.now.storage)) }
     {
         let mut tenants = Vec::new(alloc);
         let list = setup.tenants.list();
@@ -185,7 +186,8 @@ fn served_answers<S: GrainStorage, L: GrainLogic>(
     requires paced { is_paced L.logic silo.now.setup silo.now.journal ≡ true }
     requires quiet { AllQuiet silo.now.whole }
     ensures opened { OnOk result (IsOpenedSo opened.now silo.now) }
-    ensures served { IfOk result (λ answers. AreServed L.logic silo.now.setup lanes.now silo.now.journal silo.now.whole silo.now.failures.at_opening silo.now.failures.now (map_list (λ v. v.items) answers.items)) }
+    ensures served { IfOk result (λ answers. AreServed L.logic silo.now.setup lanes.now silo.now.journal silo.now.whole
+        silo.now.failures.at_opening silo.now.failures.now (map_list (λ v. v.items) answers.items)) }
 {
     must_hold(lanes_stand(alloc, lanes, silo.journal())?)?;
     must_hold(is_opened_so(silo, opened))?;
@@ -202,7 +204,8 @@ pub fn settle<S: GrainStorage + Drop, L: GrainLogic + Drop>(
 ) -> Result<ServeReport<S, L>, ServeFault>
     requires { AreDistinct lanes.now }
     ensures opened { IfOk result (λ report. IsOpenedSo opened.now report.silo) }
-    ensures served { IfOk result (λ report. AreServed L.logic report.silo.setup lanes.now report.silo.journal report.silo.whole report.silo.failures.at_opening report.silo.failures.now (map_list (λ v. v.items) report.answers.items)) }
+    ensures served { IfOk result (λ report. AreServed L.logic report.silo.setup lanes.now report.silo.journal report.silo.whole
+        report.silo.failures.at_opening report.silo.failures.now (map_list (λ v. v.items) report.answers.items)) }
     ensures answered { IfOk result (λ report. AreAnswered lanes.now report.silo.whole.replies) }
 {
     let Some(working) = schedule.into_silo() else {

@@ -86,6 +86,7 @@ fn next_turns<S: GrainStorage, L: GrainLogic, R: Wait>(
                 held.pace.wake_up();
             }
             Task::Over => {
+                held.pace.leave();
                 drop(held);
                 changed.notify_all();
                 return false;
@@ -198,17 +199,20 @@ pub fn serve<
     requires distinct { AreDistinct lanes.now }
 
     // The silo was opened with the setup's tenants, age and rows, as the storage was then.
-    ensures setup { IfOk result (λ report. report.silo.setup ≡ record { tenants = setup.tenants; age = setup.age; rows = S.rows setup.storage }) }
+    ensures setup { IfOk result (λ report. report.silo.setup
+        ≡ record { tenants = setup.tenants; age = setup.age; rows = S.rows setup.storage }) }
     ensures failures { IfOk result (λ report. report.silo.failures.at_opening ≡ S.failed setup.storage) }
 
     // The lanes were served.
-    ensures served { IfOk result (λ report. AreServed L.logic report.silo.setup lanes.now report.silo.journal report.silo.whole report.silo.failures.at_opening report.silo.failures.now (map_list (λ v. v.items) report.answers.items)) }
+    ensures served { IfOk result (λ report. AreServed L.logic report.silo.setup lanes.now report.silo.journal report.silo.whole
+        report.silo.failures.at_opening report.silo.failures.now (map_list (λ v. v.items) report.answers.items)) }
 
     // Each client was told as often as its lane asks, in the lane's order.
     ensures answered { IfOk result (λ report. AreAnswered lanes.now report.silo.whole.replies) }
 
     // Each tenant's part is the run of its own machine over the journal.
-    ensures parts { IfOk result (λ report. (tenant : List ℕ) → shown_to tenant report.silo.whole ≡ machine_run L.logic (start_of report.silo.setup tenant) (restricted_to tenant report.silo.journal)) }
+    ensures parts { IfOk result (λ report. (tenant : List ℕ) → shown_to tenant report.silo.whole
+        ≡ machine_run L.logic (start_of report.silo.setup tenant) (restricted_to tenant report.silo.journal)) }
 {
     let opened = SetupCopy::copied(alloc, &setup)?;
     let places = LanePlaces::new(alloc, lanes)?;
