@@ -1,2 +1,3 @@
 pub mod SetupCopy
 pub mod Working
+pub mod inside

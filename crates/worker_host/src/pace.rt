@@ -1,10 +1,13 @@
-//! How many workers go on at once, and how many turns each takes. These are hints: no clause rests on
-//! them.
+//! How many workers go on at once, and how many turns each takes. These are hints: no clause of `serve`
+//! rests on them.
 //!
 //! Steps are taken under the lock, and only the bodies of turns run beside one another. So where bodies
 //! are short, more workers only wait for the lock. That is seen by the lock alone, without a clock: a
 //! worker that comes back from its bodies and finds the lock held has met another. If workers meet often,
 //! one of them rests; after a while it's woken again, to see whether it still is so.
+
+ghost use Rattle.std.specs.Prelude.{◌≡◌, ◌↔◌, ◌+◌, ◌-◌, ◌/◌, ◌<◌, ◌≤◌, IsFalse, IsTrue};
+ghost use Rattle.worker_host.specs.inside.Batches.{most_turns};
 
 /// How many turns a worker takes at once, at most.
 const MOST_TURNS: usize = 32;
@@ -84,7 +87,9 @@ impl Pace {
 
     /// Whether this worker is better off at rest, since the lock is what all wait for. Another is awake
     /// then.
-    pub fn rests(&mut self) -> bool {
+    pub fn rests(&mut self) -> bool
+        ensures { IsTrue result → 1 < self.old.awake }
+    {
         if self.crowd < CROWDED || self.awake <= 1 {
             return false;
         }
@@ -119,11 +124,14 @@ impl Pace {
 
     /// How many turns a worker takes now, of so much that can be done. A worker's first turn is one, so
     /// that at the start each has its own; and one that is alone leaves half to the next that comes.
-    pub fn share_of(&self, first: bool, seen: usize) -> usize {
+    pub fn share_of(&self, first: bool, seen: usize) -> usize
+        ensures within { (1 ≤ result) × (result ≤ most_turns first) }
+        ensures alone { IsFalse first → self.now.awake ≤ 1 → self.now.come < self.now.workers → result ≤ 1 + seen / 2 }
+    {
         if first {
             1
         } else if self.awake > 1 {
-            self.share
+            self.share.clamp(1, MOST_TURNS)
         } else if self.come < self.workers || (self.come > 1 && self.rest == 0) {
             (seen / 2).clamp(1, MOST_TURNS)
         } else {
@@ -131,8 +139,12 @@ impl Pace {
         }
     }
 
-    /// Whether another worker is woken to do what is left.
-    pub fn wakes(&mut self) -> bool {
+    /// Whether another worker is woken to do what is left: if one waits, none is on its way, and the rest is
+    /// over. A rest is one shorter each time.
+    pub fn wakes(&mut self) -> bool
+        ensures wakes { IsTrue result ↔ IsFalse self.old.woken × (self.old.awake < self.old.come) × (self.old.rest ≡ 0) }
+        ensures rest { IsFalse self.old.woken → self.old.awake < self.old.come → self.new.rest ≡ self.old.rest - 1 }
+    {
         if self.woken || self.awake >= self.come {
             return false;
         }

@@ -1,6 +1,11 @@
 //! What stands under the lock: the silo, the places in the lanes, and the grains at which something may be
 //! to do. All but the silo are hints: what was served is looked at once, when the workers have ended.
 
+ghost use Rattle.std.specs.Prelude.{◌≡◌, ◌+◌, ◌≤◌, IfOk, IsFalse, vec_len};
+ghost use Rattle.silo_event.specs.declared.step.Step.TheVariants as step;
+ghost use Rattle.silo_core.specs.Turns.{AnsweredTurn};
+ghost use Rattle.worker_host.specs.inside.Batches.{closing_step, most_turns, turn_of, AreClosed, IsClosed, IsTried, TakenIsClosed};
+
 use crate::pace::Pace;
 use crate::working::WorkingSilo;
 use client_lanes::Lane;
@@ -146,65 +151,92 @@ impl<S: GrainStorage + Drop, L: GrainLogic + Drop> Schedule<S, L> {
 }
 
 impl<S: GrainStorage, L: GrainLogic> Schedule<S, L> {
-    /// Closes turns by what they came to. If memory is refused for more than that, all is given up.
-    pub fn close_all(&mut self, alloc: Global, turns: &[TakenTurn<L>]) {
-        for turn in turns {
-            if let Some(turn) = turn {
-                self.open = self.open.saturating_sub(1);
-                if self.close(alloc, turn).is_err() {
-                    self.stopped = true;
-                }
-            }
+    /// Closes turns by what they came to, one after another. If memory is refused for more than that, all is
+    /// given up.
+    pub fn close_all(&mut self, alloc: Global, turns: &[TakenTurn<L>])
+        ensures { AreClosed L.logic self.old.silo turns.now self.new.silo }
+    {
+        let mut rest = turns;
+        'turns: while let Some((taken, others)) = rest.split_first() {
+            self.close_taken(alloc, taken);
+            rest = others;
         }
     }
 
-    /// Closes a turn by what it came to. If that fails, or there is nothing, the turn is abandoned.
+    /// Closes a turn that was taken, if there is one.
+    fn close_taken(&mut self, alloc: Global, taken: &TakenTurn<L>)
+        ensures { TakenIsClosed L.logic self.old.silo taken.now self.new.silo }
+    {
+        let Some(turn) = taken else {
+            return;
+        };
+        self.open = self.open.saturating_sub(1);
+        if self.close(alloc, turn).is_err() {
+            self.stopped = true;
+        }
+    }
+
+    /// Closes a turn by what it came to. If that fails, or its body got no memory, the turn is given up.
     fn close(
         &mut self,
         alloc: Global,
         turn: &Result<FinishedTurn<L>, OpenedTurn>,
-    ) -> Result<(), StepFault> {
-        let opened = match turn {
+    ) -> Result<(), StepFault>
+        ensures { IsClosed L.logic self.old.silo (turn_of turn.now) self.new.silo }
+    {
+        match turn {
             Ok(finished) => {
                 if self.close_by(alloc, finished).is_ok() {
                     return self.note_closed(finished);
                 }
-                finished.input()
+                self.give_up(alloc, finished.input())
             }
-            Err(opened) => opened,
-        };
-        let grain = opened.grain.clone()?;
-        let turn = opened.number;
-        self.silo.take(alloc, Step::Abandon { grain, turn })?;
-        self.note_more(&opened.grain)?;
-        Ok(())
+            Err(opened) => self.give_up(alloc, opened),
+        }
     }
 
-    /// Closes a turn by its plan.
-    fn close_by(&mut self, alloc: Global, finished: &FinishedTurn<L>) -> Result<Answer, StepFault> {
+    /// Closes a turn by its own plan.
+    fn close_by(&mut self, alloc: Global, finished: &FinishedTurn<L>) -> Result<Answer, StepFault>
+        ensures { AnsweredTurn L.logic self.old.silo (closing_step L.logic finished.now) finished.now result self.new.silo }
+    {
         match finished.store_call() {
             StoreCall::None => self.silo.end(alloc, finished),
             _ => self.silo.store(alloc, finished),
         }
     }
 
+    /// Gives up a turn that is open.
+    fn give_up(&mut self, alloc: Global, opened: &OpenedTurn) -> Result<(), StepFault>
+        ensures { IsTried L.logic self.old.silo (step.Abandon opened.now.grain opened.now.number) self.new.silo }
+    {
+        let grain = opened.grain.clone()?;
+        let turn = opened.number;
+        self.silo.take(alloc, Step::Abandon { grain, turn })?;
+        self.note_more(&opened.grain)
+    }
+
     /// Notes what a turn that was closed may have left to do.
-    fn note_closed(&mut self, finished: &FinishedTurn<L>) -> Result<(), StepFault> {
+    fn note_closed(&mut self, finished: &FinishedTurn<L>) -> Result<(), StepFault>
+        ensures { self.new.silo ≡ self.old.silo }
+    {
         let grain = finished.grain();
-        if !finished.sends().is_empty() {
-            let sender = grain.clone()?;
-            push(&mut self.senders, sender)?;
+        if finished.sends().is_empty() {
+            return self.note_more(grain);
         }
+        let sender = grain.clone()?;
+        push(&mut self.senders, sender)?;
         self.note_more(grain)
     }
 
     /// Notes the grain, if something is to do at it.
-    fn note_more(&mut self, grain: &GrainId) -> Result<(), StepFault> {
-        if self.silo.silo().work_on(grain).is_some() {
-            let grain = grain.clone()?;
-            push(&mut self.grains, grain)?;
+    fn note_more(&mut self, grain: &GrainId) -> Result<(), StepFault>
+        ensures { self.new.silo ≡ self.old.silo }
+    {
+        if self.silo.silo().work_on(grain).is_none() {
+            return Ok(());
         }
-        Ok(())
+        let grain = grain.clone()?;
+        push(&mut self.grains, grain)
     }
 
     /// Whether something may be left to do.
@@ -225,13 +257,17 @@ impl<S: GrainStorage, L: GrainLogic> Schedule<S, L> {
         lanes: &[Lane],
         turns: &mut Vec<TakenTurn<L>>,
         first: bool,
-    ) -> Task {
-        if !self.stopped && self.take_turns(alloc, lanes, turns, first).is_err() {
-            self.stopped = true;
-        }
+    ) -> Task
+        ensures { vec_len turns.old ≤ most_turns first → vec_len turns.new ≤ most_turns first }
+    {
         if self.stopped {
-            Task::Over
-        } else if !turns.is_empty() {
+            return Task::Over;
+        }
+        if self.take_turns(alloc, lanes, turns, first).is_err() {
+            self.stopped = true;
+            return Task::Over;
+        }
+        if !turns.is_empty() {
             Task::Run
         } else if self.open == 0 {
             Task::Over
@@ -247,12 +283,14 @@ impl<S: GrainStorage, L: GrainLogic> Schedule<S, L> {
         lanes: &[Lane],
         turns: &mut Vec<TakenTurn<L>>,
         first: bool,
-    ) -> Result<(), StepFault> {
+    ) -> Result<(), StepFault>
+        ensures { vec_len turns.old ≤ most_turns first → vec_len turns.new ≤ most_turns first }
+    {
         self.note_told()?;
         let share = self.pace.share_of(first, self.seen_work());
-        for _ in 0..u64::MAX {
+        'steps: for _step in 0..u64::MAX {
             if turns.len() >= share || !self.advance(alloc, lanes, turns)? {
-                break;
+                return Ok(());
             }
         }
         Ok(())
@@ -271,7 +309,9 @@ impl<S: GrainStorage, L: GrainLogic> Schedule<S, L> {
         alloc: Global,
         lanes: &[Lane],
         turns: &mut Vec<TakenTurn<L>>,
-    ) -> Result<bool, StepFault> {
+    ) -> Result<bool, StepFault>
+        ensures { vec_len turns.new ≤ vec_len turns.old + 1 }
+    {
         if let Some(grain) = self.grains.pop_front() {
             self.go_on(alloc, grain, turns)?;
             return Ok(true);
@@ -286,9 +326,10 @@ impl<S: GrainStorage, L: GrainLogic> Schedule<S, L> {
         let Some(index) = self.lanes.ready.pop_front() else {
             return Ok(false);
         };
-        if let Some(lane) = lanes.get(index) {
-            self.ask(alloc, lane, index, turns)?;
-        }
+        let Some(lane) = lanes.get(index) else {
+            return Ok(true);
+        };
+        self.ask(alloc, lane, index, turns)?;
         Ok(true)
     }
 
@@ -298,7 +339,9 @@ impl<S: GrainStorage, L: GrainLogic> Schedule<S, L> {
         alloc: Global,
         grain: GrainId,
         turns: &mut Vec<TakenTurn<L>>,
-    ) -> Result<(), StepFault> {
+    ) -> Result<(), StepFault>
+        ensures { vec_len turns.new ≤ vec_len turns.old + 1 }
+    {
         let own = grain.clone()?;
         if self.begin(alloc, own, turns)? {
             return Ok(());
@@ -320,7 +363,9 @@ impl<S: GrainStorage, L: GrainLogic> Schedule<S, L> {
         alloc: Global,
         grain: GrainId,
         turns: &mut Vec<TakenTurn<L>>,
-    ) -> Result<(), StepFault> {
+    ) -> Result<(), StepFault>
+        ensures { vec_len turns.new ≤ vec_len turns.old + 1 }
+    {
         let load = Step::Load {
             grain: grain.clone()?,
             failed: false,
@@ -336,7 +381,10 @@ impl<S: GrainStorage, L: GrainLogic> Schedule<S, L> {
         alloc: Global,
         grain: GrainId,
         turns: &mut Vec<TakenTurn<L>>,
-    ) -> Result<bool, StepFault> {
+    ) -> Result<bool, StepFault>
+        ensures one { vec_len turns.new ≤ vec_len turns.old + 1 }
+        ensures none { IfOk result (λ begins. IsFalse begins → vec_len turns.new ≡ vec_len turns.old) }
+    {
         let Some(turn) = self.silo.begin(alloc, grain)? else {
             return Ok(false);
         };
@@ -356,7 +404,9 @@ impl<S: GrainStorage, L: GrainLogic> Schedule<S, L> {
         alloc: Global,
         grain: GrainId,
         turns: &mut Vec<TakenTurn<L>>,
-    ) -> Result<(), StepFault> {
+    ) -> Result<(), StepFault>
+        ensures { vec_len turns.new ≤ vec_len turns.old + 1 }
+    {
         let target = match self.silo.silo().first_target(&grain) {
             Some(target) => target.clone()?,
             None => return Ok(()),
@@ -376,7 +426,9 @@ impl<S: GrainStorage, L: GrainLogic> Schedule<S, L> {
         lane: &Lane,
         index: usize,
         turns: &mut Vec<TakenTurn<L>>,
-    ) -> Result<(), StepFault> {
+    ) -> Result<(), StepFault>
+        ensures { vec_len turns.new ≤ vec_len turns.old + 1 }
+    {
         let Some(step) = self.lanes.next_step(lane, index)? else {
             return Ok(());
         };

@@ -7,6 +7,7 @@ ghost use Rattle.silo_model.specs.Whole.{shown_to};
 ghost use Rattle.lane_model.specs.Lanes.{AreDistinct};
 ghost use Rattle.lane_model.specs.Serving.{AreServed};
 ghost use Rattle.worker_host.specs.SetupCopy.{AreAnswered};
+ghost use Rattle.worker_host.specs.inside.Batches.{turn_in};
 
 use crate::gate::TurnGate;
 use crate::report::{ServeFault, ServeReport, SetupCopy, settle};
@@ -96,20 +97,53 @@ fn next_turns<S: GrainStorage, L: GrainLogic, R: Wait>(
     unreachable!()
 }
 
-/// Runs the body of a turn that is opened, in an arena that is reset after it.
+/// The turn with what its body came to, if it is opened still.
+fn with_body<L: GrainLogic, G: TurnGate>(
+    alloc: Global,
+    arena: &Bump,
+    gate: &G,
+    logic: &L,
+    taken: TakenTurn<L>,
+) -> TakenTurn<L>
+    ensures { turn_in result ≡ turn_in taken }
+{
+    match taken {
+        Some(Err(opened)) => {
+            gate.entered(&opened.grain, opened.number);
+            Some(run_turn(alloc, arena, logic, opened))
+        }
+        other => other,
+    }
+}
+
+/// Runs the body of a turn, in an arena that is reset after it.
 fn run<L: GrainLogic, G: TurnGate>(
     alloc: Global,
     arena: &mut Bump,
     gate: &G,
     logic: &L,
-    turn: &mut TakenTurn<L>,
-) {
-    if let Some(Err(opened)) = turn.take() {
-        gate.entered(&opened.grain, opened.number);
-        *turn = Some(run_turn(alloc, arena, logic, opened));
-    }
+    taken: &mut TakenTurn<L>,
+)
+    ensures { turn_in taken.new ≡ turn_in taken.old }
+{
+    *taken = with_body(alloc, arena, gate, logic, taken.take());
     if arena.reset().is_err() {
         *arena = Bump::new(alloc);
+    }
+}
+
+/// Runs the bodies of turns, one after another. Each has its own result then, and none is lost.
+fn run_all<L: GrainLogic, G: TurnGate>(
+    alloc: Global,
+    arena: &mut Bump,
+    gate: &G,
+    logic: &L,
+    turns: &mut [TakenTurn<L>],
+)
+    ensures { map_list turn_in turns.new ≡ map_list turn_in turns.old }
+{
+    'turns: for taken in turns.iter_mut() {
+        run(alloc, arena, gate, logic, taken);
     }
 }
 
@@ -135,9 +169,7 @@ fn work<S: GrainStorage, L: GrainLogic + Drop, G: TurnGate, R: Wait>(
         }
         worker.ran.clear();
         swap(&mut worker.ran, &mut worker.taken);
-        for turn in worker.ran.as_mut_slice() {
-            run(alloc, &mut arena, gate, &logic, turn);
-        }
+        run_all(alloc, &mut arena, gate, &logic, worker.ran.as_mut_slice());
     }
 }
 
