@@ -1,14 +1,11 @@
 -- Names that are found one after another come to stand once each, ascending.
-use Rattle.std.proofs.Common.{◌≡◌, ℕ, ◌+◌, ◌<◌, length, take, get_or, Bool, true, false, cond, List, [], ◌∷◌, ◌++◌, Option, Some, None, refl, ap, sym, ◌∙◌, subst}
-use Rattle.std.specs.Prelude.{◌||◌, ◌&&◌, T, map as map_list, flat_map}
-use Rattle.std.specs.List.{AllByRecursion}
+use Rattle.std.proofs.Common.{◌≡◌, ℕ, ◌+◌, ◌<◌, length, take, get_or, Bool, true, false, List, [], ◌∷◌, ◌++◌, refl, ap, sym, ◌∙◌, subst}
+use Rattle.std.specs.Prelude.{◌||◌, map as map_list, flat_map}
 use Rattle.std.specs.List.Sorted.{IsStrictlySortedBy}
 use Rattle.std.specs.declared.cmp.Ordering.{Ordering}
 use Rattle.std.specs.declared.cmp.Ordering.TheVariants.{Less, Equal, Greater}
-use Rattle.std.specs.Ordering.{eq_by_cmp, is_lt, match_ordering}
+use Rattle.std.specs.Ordering.{match_ordering}
 use Rattle.std.specs.FinMap as map
-use Rattle.std.specs.FinMap.{FinMap, find, is_sorted}
-use Rattle.std.specs.FinMap.Entries.{below_all}
 use Rattle.std.specs.BTreeSet.{insert_key}
 use Rattle.std.proofs.lemmas.List.{flat_map_more, map_more, take_more}
 use Rattle.std.proofs.lemmas.List.Folds.{list_any-append}
@@ -16,8 +13,7 @@ use Rattle.std.proofs.Math.Bool.{or-false, or_assoc}
 use Rattle.grain_id.proofs.Keys.{texts}
 use Rattle.finite_maps.proofs.Sets.{keys-set_of, set_of-alike}
 use Rattle.grain_id.specs.Names.{text_cmp, same_text}
-use Rattle.grain_id.proofs.Order.{text_cmp_total, text_cmp_exact, same_text_decides, ties_from_Decides}
-use Rattle.grain_id.proofs.ByGrain.{text_alike}
+use Rattle.grain_id.proofs.Order.{text_cmp_exact}
 use Rattle.audit_model.specs.Parts.{is_listed, ascending}
 use Rattle.tenant_audit.specs.Owners.{Gains}
 
