@@ -15,7 +15,7 @@ use Rattle.journal_text.specs.Text.{History}
 use Rattle.audit_model.specs.Difference.{Difference, at_step, at_reply, at_row}
 use Rattle.audit_model.specs.Parts.{setup_of, steps_for, replies_for, rows_for}
 use Rattle.audit_model.specs.Report.{IsFirstDifference}
-use Rattle.tenant_audit.specs.Comparison.{Stops, AreApart}
+use Rattle.tenant_audit.specs.inside.Comparison.{Stops, AreApart}
 use Rattle.tenant_machine.specs.Machines.{start_with}
 use Rattle.tenant_audit.proofs.Starts.{start_alone}
 

@@ -7,7 +7,7 @@ use Rattle.std.specs.Global.{Vec}
 use Rattle.std.proofs.lemmas.List.{append-nil}
 use Rattle.grain_id.specs.Names.{text_cmp, same_text}
 use Rattle.grain_id.proofs.Order.{text_cmp_total, text_cmp_exact, same_text_decides, ties_from_Decides}
-use Rattle.tenant_audit.specs.Parted.{held_for, if_owned}
+use Rattle.tenant_audit.specs.inside.Parted.{held_for, if_owned}
 
 ties : (s t : List ℕ) → same_text s t ≡ eq_by_cmp text_cmp s t
 ties s t = ties_from_Decides same_text text_cmp_total text_cmp_exact same_text_decides s t

@@ -10,7 +10,7 @@ use Rattle.silo_event.specs.Owner.{owner_of}
 use Rattle.silo_event.specs.declared.step.Step.{Step}
 use Rattle.silo_model.specs.Run.{concerns_by, restricted_to}
 use Rattle.audit_model.specs.Parts.{is_owned_by}
-use Rattle.tenant_audit.specs.Parted.{numbered, is_own, is_nobodys, merge, merge_at, merged, placed}
+use Rattle.tenant_audit.specs.inside.Parted.{numbered, is_own, is_nobodys, merge, merge_at, merged, placed}
 use Rattle.tenant_audit.specs.declared.steps_of_tenant.PlacedStep.{PlacedStep}
 
 -- all stand behind the place

@@ -15,7 +15,7 @@ use Rattle.finite_maps.proofs.Sets.{keys-set_of, set_of-alike}
 use Rattle.grain_id.specs.Names.{text_cmp, same_text}
 use Rattle.grain_id.proofs.Order.{text_cmp_exact}
 use Rattle.audit_model.specs.Parts.{is_listed, ascending}
-use Rattle.tenant_audit.specs.Owners.{Gains}
+use Rattle.tenant_audit.specs.inside.Owners.{Gains}
 
 -- ---- names more
 

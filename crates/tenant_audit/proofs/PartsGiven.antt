@@ -8,7 +8,7 @@ use Rattle.std.specs.declared.thread.PromisedHandle.{PromisedHandle}
 use Rattle.std.proofs.lemmas.List.{get_or-map, length-map}
 use Rattle.std.proofs.lemmas.Result.{IfOk-at_ok}
 use Rattle.journal_text.specs.Text.{History}
-use Rattle.tenant_audit.specs.Parts.{AreParts, IsPart, IsShareOf}
+use Rattle.tenant_audit.specs.inside.Parts.{AreParts, IsPart, IsShareOf}
 use Rattle.tenant_audit.specs.declared.report.TenantReport.{TenantReport}
 use Rattle.tenant_audit.specs.declared.threads.AuditShare.{AuditShare}
 

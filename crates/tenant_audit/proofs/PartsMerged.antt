@@ -1,5 +1,5 @@
 -- Parts of the reports, from which one report after another is taken.
-use Rattle.std.proofs.Common.{◌≡◌, ℕ, ◌+◌, ◌<◌, ◌%◌, Bool, true, false, List, [], ◌∷◌, ◌++◌, length, map, drop, get_or, refl, ap, sym, ◌∙◌, subst, arith, rules}
+use Rattle.std.proofs.Common.{◌≡◌, ℕ, ◌+◌, ◌<◌, ◌%◌, Bool, true, false, List, [], ◌∷◌, ◌++◌, length, drop, get_or, refl, ap, sym, ◌∙◌, subst, arith, rules}
 use Rattle.std.specs.Prelude.{◌==◌, if◌then◌else◌, slice_index_or}
 use Rattle.std.specs.declared.alloc.Global.{Global}
 use Rattle.std.specs.declared.collections.VecDeque.{VecDeque}
@@ -9,11 +9,8 @@ use Rattle.grain_kinds.specs.Kinds.{kinds}
 use Rattle.audit_model.specs.Report.{IsTenantReport}
 use Rattle.tenant_audit.specs.ReportView.{tenant_report_of}
 use Rattle.tenant_audit.specs.declared.report.TenantReport.{TenantReport}
-use Rattle.tenant_audit.specs.Parts.{strided, AreReports, IsPart, AreParts, TakesFirst}
+use Rattle.tenant_audit.specs.inside.Parts.{strided, reported, AreReports, IsPart, AreParts, TakesFirst}
 use Rattle.tenant_audit.proofs.Strided.{strided_here, strided_elsewhere}
-
-abbrev names : List TenantReport → List (List ℕ)
-names reports = map (λ (r : TenantReport). r.tenant) reports
 
 module _ (journal : History) (tenants : List (List ℕ)) (w k i : ℕ) (d : List ℕ) (within : i < length tenants) where
   -- the part that has the place has a report of its tenant first
@@ -23,8 +20,8 @@ module _ (journal : History) (tenants : List (List ℕ)) (w k i : ℕ) (d : List
 
   module _ (r : TenantReport) (old new : List TenantReport) (part : IsPart journal (drop i tenants) w k i old) where
     module _ (here : (i % w == k) ≡ true) (taken : old ≡ r ∷ new) where
-      both : r.tenant ∷ names new ≡ get_or tenants i d ∷ strided w k (i + 1) (drop (i + 1) tenants)
-      both = sym (ap names taken) ∙ part.named ∙ strided_here w k tenants i d within here
+      both : r.tenant ∷ reported new ≡ get_or tenants i d ∷ strided w k (i + 1) (drop (i + 1) tenants)
+      both = sym (ap reported taken) ∙ part.named ∙ strided_here w k tenants i d within here
 
       pub taken_tenant : r.tenant ≡ get_or tenants i d
       taken_tenant = let e = both in cc
@@ -41,7 +38,7 @@ module _ (journal : History) (tenants : List (List ℕ)) (w k i : ℕ) (d : List
     pub part_moves : (b : Bool) → (i % w == k) ≡ b → old ≡ (if b then r ∷ [] else []) ++ new → IsPart journal (drop (i + 1) tenants) w k (i + 1) new
     part_moves true here taken = taken_rest here taken
     part_moves false elsewhere same = record {
-      named = ap names (sym same) ∙ part.named ∙ strided_elsewhere w k tenants i d within elsewhere;
+      named = ap reported (sym same) ∙ part.named ∙ strided_elsewhere w k tenants i d within elsewhere;
       each = subst (AreReports journal) same part.each;
     }
 

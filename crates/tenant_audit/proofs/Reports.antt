@@ -10,7 +10,7 @@ use Rattle.grain_kinds.specs.Logic.{Logic}
 use Rattle.journal_text.specs.Text.{History}
 use Rattle.audit_model.specs.Parts.{tenants_in}
 use Rattle.audit_model.specs.Report.{TenantReport, IsTenantReport, IsReport}
-use Rattle.tenant_audit.specs.Parts.{AreReports}
+use Rattle.tenant_audit.specs.inside.Parts.{AreReports}
 use Rattle.tenant_audit.specs.ReportView.{difference_of, tenant_report_of}
 use Rattle.tenant_audit.specs.declared.difference.Difference.{Difference}
 use Rattle.tenant_audit.specs.declared.report.TenantReport.{TenantReport as Reported}

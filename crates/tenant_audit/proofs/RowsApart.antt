@@ -17,7 +17,7 @@ use Rattle.grain_storage.specs.declared.row.Row.{Row}
 use Rattle.grain_storage.specs.Memory.{rows_of}
 use Rattle.grain_storage.specs.Rows.{Rows}
 use Rattle.audit_model.specs.Difference.{RowsDifferAt}
-use Rattle.tenant_audit.specs.Comparison.{lesser_of}
+use Rattle.tenant_audit.specs.inside.Comparison.{lesser_of}
 
 abbrev pub Entries : Type 0
 Entries = List (Grain × Row)

@@ -18,7 +18,7 @@ use Rattle.audit_model.specs.Difference.{RowsDifferAt}
 use Rattle.audit_model.specs.Parts.{rows_for}
 use Rattle.finite_maps.proofs.Parts.{keys_of-filter}
 use Rattle.audit_model.proofs.Reports.{ascend}
-use Rattle.tenant_audit.specs.Comparison.{lesser_of}
+use Rattle.tenant_audit.specs.inside.Comparison.{lesser_of}
 use Rattle.tenant_audit.proofs.RowsApart.{Entries, Sorted, only_recorded, only_own, both_part}
 use Rattle.tenant_audit.proofs.Walked.{Walked, all_walked}
 

@@ -3,7 +3,7 @@ use Rattle.std.proofs.Common.{◌≡◌, ◌≢◌, ℕ, ◌+◌, ◌<◌, List,
 use Rattle.std.specs.Borrow.{Bor}
 use Rattle.std.proofs.lemmas.List.{drop_more}
 use Rattle.audit_model.specs.Difference.{first_of, DifferAt}
-use Rattle.tenant_audit.specs.Parted.{pointees}
+use Rattle.tenant_audit.specs.inside.Parted.{pointees}
 
 -- What is left of the lists comes behind what they have in common.
 pub record Walked {A : Type 0} (xs ys left right : List A) : Type 0 where

@@ -12,4 +12,10 @@ difference_of (difference.Reply n) = report.at_reply n
 difference_of (difference.Row grain) = report.at_row grain
 
 abbrev pub tenant_report_of : TenantReport → reports.TenantReport
-tenant_report_of r = record { tenant = r.tenant; steps = r.steps; replies = r.replies; rows = r.rows; difference = option_map difference_of r.difference }
+tenant_report_of r = record {
+  tenant = r.tenant;
+  steps = r.steps;
+  replies = r.replies;
+  rows = r.rows;
+  difference = option_map difference_of r.difference;
+}

@@ -7,7 +7,7 @@ ghost use Rattle.silo_model.specs.Opening.{start_of};
 ghost use Rattle.audit_model.specs.Parts.{setup_of, replies_for, rows_for};
 ghost use Rattle.audit_model.specs.Report.{IsFirstDifference};
 ghost use Rattle.tenant_gate.specs.Table.{limits_of};
-ghost use Rattle.tenant_audit.specs.Comparison.{IsFirstRow, AreApart};
+ghost use Rattle.tenant_audit.specs.inside.Comparison.{IsFirstRow, AreApart};
 ghost use Rattle.tenant_audit.specs.ReportView.{difference_of};
 
 use crate::difference::{Difference, first_not_done};
@@ -66,7 +66,9 @@ fn record_apart<L: GrainLogic>(
     tenant: &Tenant,
     machine: &TenantMachine<L>,
 ) -> Result<Option<Difference>, AllocError>
-    ensures { IfOk result (λ difference. AreApart (replies_for tenant.now journal.now) (rows_of (rows_for tenant.now journal.now)) machine.now (option_map difference_of difference)) }
+    ensures { IfOk result (λ difference.
+        AreApart (replies_for tenant.now journal.now) (rows_of (rows_for tenant.now journal.now)) machine.now
+        (option_map difference_of difference)) }
 {
     let told = journal.replies_for(tenant);
     if let Some(reply) = first_reply_apart(alloc, told, machine.replies())? {
@@ -78,8 +80,8 @@ fn record_apart<L: GrainLogic>(
     }
 }
 
-/// The first difference between what a journal recorded of the tenant and what the tenant's machine does, which has taken
-/// no step yet.
+/// The first difference between what a journal recorded of the tenant and what the tenant's machine
+/// does, which has taken no step yet.
 fn difference_from<L: GrainLogic>(
     alloc: Global,
     journal: &PartedJournal<'_>,

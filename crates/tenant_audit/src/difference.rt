@@ -3,7 +3,7 @@
 ghost use Rattle.std.specs.Prelude.{◌≡◌, IfOk, true};
 ghost use Rattle.std.specs.List.{AllByRecursion};
 ghost use Rattle.silo_model.specs.Run.{concerns};
-ghost use Rattle.tenant_audit.specs.Comparison.{Stops};
+ghost use Rattle.tenant_audit.specs.inside.Comparison.{Stops};
 
 use crate::steps_of_tenant::StepsOfTenant;
 use grain_id::GrainId;

@@ -3,8 +3,8 @@
 ghost use Rattle.std.specs.Prelude.{◌≡◌, ◌∷◌, [], ◌++◌, ℕ, List, None, IfOk, OnOk, IsTrue, filter, map};
 ghost use Rattle.audit_model.specs.Parts.{steps_for, replies_for, rows_for};
 ghost use Rattle.journal_text.specs.Rules.{are_ascending};
-ghost use Rattle.tenant_audit.specs.Parted.{held_for, if_owned, is_own, is_nobodys, placed, pointees};
-ghost use Rattle.tenant_audit.specs.Parted.{AreOwn, AreNobodys, HoldReplies, HoldRows};
+ghost use Rattle.tenant_audit.specs.inside.Parted.{held_for, if_owned, is_own, is_nobodys, placed, pointees};
+ghost use Rattle.tenant_audit.specs.inside.Parted.{AreOwn, AreNobodys, HoldReplies, HoldRows};
 
 use crate::steps_of_tenant::{PlacedStep, StepsOfTenant};
 use crate::tenants::{owner_in, tenant_in};
@@ -34,7 +34,7 @@ impl<'j> Model for PartedJournal<'j> {
     ghost use Rattle.std.specs.Coded.{codes};
     ghost use Rattle.request_codec.specs.Code.{coded_tree};
     ghost use Rattle.journal_text.specs.Text.{History};
-    ghost use Rattle.tenant_audit.specs.Parted.{IsParted};
+    ghost use Rattle.tenant_audit.specs.inside.Parted.{IsParted};
 
     ghost Value = { History };
 

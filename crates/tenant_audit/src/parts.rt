@@ -1,9 +1,9 @@
 //! The reports that one thread makes, and how they are put together.
 
-ghost use Rattle.std.specs.Prelude.{◌≡◌, ℕ, ◌<◌, ◌+◌, ◌++◌, ◌∷◌, [], IfOk, OnOk, length, map, slice_index_or, ◌%◌, ◌==◌, if◌then◌else◌};
+ghost use Rattle.std.specs.Prelude.{◌≡◌, ◌<◌, ◌++◌, [], IfOk, OnOk, length, slice_index_or, ◌%◌};
 ghost use Rattle.std.specs.declared.alloc.Global.{Global as Heap};
 ghost use Rattle.std.specs.declared.collections.VecDeque.{VecDeque as Deque};
-ghost use Rattle.tenant_audit.specs.Parts.{AreReports, AreParts, IsPart, TakesFirst};
+ghost use Rattle.tenant_audit.specs.inside.Parts.{AreReports, AreParts, IsPart, TakesFirst, if_shared, reported};
 ghost use Rattle.tenant_audit.specs.declared.report.TenantReport.{TenantReport as Reported};
 
 use crate::gate::AuditGate;
@@ -34,7 +34,8 @@ fn keep<G: AuditGate>(
 ) -> Result<(), AllocError>
     requires stride { 0 < share.stride }
     requires index { index < length tenants.now }
-    ensures tenants { OnOk result (map (λ (r : Reported). r.tenant) reports.new.items ≡ map (λ (r : Reported). r.tenant) reports.old.items ++ (if index % share.stride == share.place then slice_index_or tenants.now index [] ∷ [] else [])) }
+    ensures tenants { OnOk result (reported reports.new.items
+        ≡ reported reports.old.items ++ if_shared share.stride share.place index (slice_index_or tenants.now index [])) }
     ensures each { OnOk result (AreReports journal.now reports.old.items → AreReports journal.now reports.new.items) }
 {
     if index % share.stride == share.place {
@@ -87,7 +88,7 @@ pub fn merge(
 ) -> Result<Vec<TenantReport>, AllocError>
     requires some { 0 < length parts.items }
     requires each { AreParts journal.now tenants.now 0 parts.items }
-    ensures tenants { IfOk result (λ all. map (λ (r : Reported). r.tenant) all.items ≡ tenants.now) }
+    ensures tenants { IfOk result (λ all. reported all.items ≡ tenants.now) }
     ensures each { IfOk result (λ all. AreReports journal.now all.items) }
 {
     // Looked at, so that the proof sees that the journal keeps its rules.

@@ -3,8 +3,8 @@
 ghost use Rattle.std.specs.Prelude.{◌≡◌, ◌↔◌, IsTrue, IfOk};
 ghost use Rattle.journal_text.specs.RecordedReply.{recorded_of};
 ghost use Rattle.audit_model.specs.Parts.{all_recorded};
-ghost use Rattle.tenant_audit.specs.Comparison.{IsPlace};
-ghost use Rattle.tenant_audit.specs.Parted.{pointees};
+ghost use Rattle.tenant_audit.specs.inside.Comparison.{IsPlace};
+ghost use Rattle.tenant_audit.specs.inside.Parted.{pointees};
 
 use journal_text::RecordedReply;
 use request_codec::StateBytes;

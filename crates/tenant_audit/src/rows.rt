@@ -7,8 +7,8 @@ ghost use Rattle.std.specs.Map.{keys_of};
 ghost use Rattle.grain_id.specs.Names.{grain_cmp};
 ghost use Rattle.grain_storage.specs.Memory.{rows_of};
 ghost use Rattle.grain_storage.specs.Rows.{Rows};
-ghost use Rattle.tenant_audit.specs.Comparison.{IsFirstRow, lesser_of};
-ghost use Rattle.tenant_audit.specs.Parted.{pointees};
+ghost use Rattle.tenant_audit.specs.inside.Comparison.{IsFirstRow, lesser_of};
+ghost use Rattle.tenant_audit.specs.inside.Parted.{pointees};
 
 use grain_id::GrainId;
 use grain_storage::Row;

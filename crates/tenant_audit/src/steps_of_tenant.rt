@@ -1,7 +1,7 @@
 //! The steps that concern one tenant, taken one after another.
 
 ghost use Rattle.std.specs.Prelude.{◌≡◌, ◌∷◌, [], MatchOption, length, map};
-ghost use Rattle.tenant_audit.specs.Parted.{merged, placed};
+ghost use Rattle.tenant_audit.specs.inside.Parted.{merged, placed};
 
 use silo_event::Step;
 use std::marker::Model;
@@ -25,7 +25,7 @@ impl<'p, 'j> Model for StepsOfTenant<'p, 'j> {
     ghost use Rattle.std.specs.Coded.{codes};
     ghost use Rattle.request_codec.specs.Code.{coded_tree};
     ghost use Rattle.silo_event.specs.declared.step.Step.{Step};
-    ghost use Rattle.tenant_audit.specs.Parted.{merged};
+    ghost use Rattle.tenant_audit.specs.inside.Parted.{merged};
 
     ghost Value = { List Step };
 

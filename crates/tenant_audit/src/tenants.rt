@@ -3,7 +3,7 @@
 ghost use Rattle.std.specs.Prelude.{◌≡◌, ◌∷◌, [], IfOk, OnOk, Some};
 ghost use Rattle.std.specs.List.Sorted.{IsStrictlySortedBy};
 ghost use Rattle.grain_id.specs.Names.{text_cmp};
-ghost use Rattle.tenant_audit.specs.Owners.{Gains, step_owners, reply_owners, row_owners};
+ghost use Rattle.tenant_audit.specs.inside.Owners.{Gains, step_owners, reply_owners, row_owners};
 ghost use Rattle.silo_event.specs.Owner.{owner_of, tenant_of};
 ghost use Rattle.audit_model.specs.Parts.{tenants_in, is_listed, ascending, owners_in};
 ghost use Rattle.tenant_gate.specs.Table.{names_of};

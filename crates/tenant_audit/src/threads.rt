@@ -4,7 +4,7 @@ ghost use Rattle.std.specs.Prelude.{◌≡◌, ◌<◌, ◌≤◌, ℕ, true, fa
 ghost use Rattle.std.specs.List.{list_any};
 ghost use Rattle.grain_kinds.specs.Kinds.{kinds};
 ghost use Rattle.audit_model.specs.Report.{IsReport};
-ghost use Rattle.tenant_audit.specs.Parts.{AreParts, IsPart, IsShareOf, fault_of_start};
+ghost use Rattle.tenant_audit.specs.inside.Parts.{AreParts, IsPart, IsShareOf, fault_of_start};
 ghost use Rattle.tenant_audit.specs.declared.threads.AuditFault.TheVariants as faults;
 
 use crate::gate::{AuditGate, FreeAuditGate};
@@ -51,7 +51,8 @@ pub struct AuditShare<'a> {
 }
 
 impl<'a> Promise<Result<VecDeque<TenantReport>, AllocError>> for AuditShare<'a> {
-    ghost kept_by = { λ work r. IfOk r (λ reports. IsPart work.journal.now work.tenants.now work.share.stride work.share.place 0 reports.items) };
+    ghost kept_by = { λ work r. IfOk r (λ reports.
+        IsPart work.journal.now work.tenants.now work.share.stride work.share.place 0 reports.items) };
 }
 
 /// Starts the thread that does this work.
@@ -89,7 +90,8 @@ fn start_parts<'s, E, G: AuditGate + Sync>(
 >
     requires { 0 < workers }
     ensures all { IfOk result (λ started. started.1 ≡ true → length started.0.items ≡ workers) }
-    ensures each { IfOk result (λ started. (k : ℕ) (d : _) → k < length started.0.items → IsShareOf journal.now tenants.now k workers (slice_index_or started.0.items k d).promise) }
+    ensures each { IfOk result (λ started. (k : ℕ) (d : _) → k < length started.0.items
+        → IsShareOf journal.now tenants.now k workers (slice_index_or started.0.items k d).promise) }
 {
     let mut handles = Vec::with_capacity(alloc, workers)?;
     'places: for place in 0..workers {

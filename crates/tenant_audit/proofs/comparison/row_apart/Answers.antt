@@ -3,7 +3,7 @@ use Rattle.std.proofs.lemmas.Result.{IfOk-weaker}
 use Rattle.grain_id.specs.Names.{Grain}
 use Rattle.grain_storage.specs.declared.row.Row.{Row}
 use Rattle.grain_storage.specs.Memory.{rows_of}
-use Rattle.tenant_audit.specs.Comparison.{IsFirstRow}
+use Rattle.tenant_audit.specs.inside.Comparison.{IsFirstRow}
 use Rattle.tenant_audit.proofs.RowsWalked.{own_ascend}
 use Rattle.tenant_audit.proofs.comparison.row_apart.Goals as goal
 

@@ -1,7 +1,7 @@
 use Rattle.std.proofs.Common.{◌≡◌, ℕ, ◌++◌, List, length}
 use Rattle.std.specs.Prelude.{filter}
 use Rattle.audit_model.specs.Parts.{is_told}
-use Rattle.tenant_audit.specs.Parted.{held_for, pointees}
+use Rattle.tenant_audit.specs.inside.Parted.{held_for, pointees}
 use Rattle.tenant_audit.proofs.parted_journal.part_replies.Given as goal
 
 -- what is held, and what is left of the replies, are all of them

@@ -1,6 +1,6 @@
 use Rattle.std.proofs.Common.{◌≡◌, ℕ, ◌+◌, ◌++◌, List, length}
 use Rattle.std.specs.Prelude.{filter, map as map_list}
-use Rattle.tenant_audit.specs.Parted.{held_for, is_own, is_nobodys, numbered, placed}
+use Rattle.tenant_audit.specs.inside.Parted.{held_for, is_own, is_nobodys, numbered, placed}
 use Rattle.tenant_audit.proofs.parted_journal.part_steps.Given as goal
 
 -- what is held, and what is left of the steps, are all of them

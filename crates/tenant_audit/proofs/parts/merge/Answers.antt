@@ -1,10 +1,10 @@
-use Rattle.std.proofs.Common.{◌≡◌, ◌<◌, ◌++◌, ◌∷◌, [], length, map, take, ap, sym, ◌∙◌, subst, rules, arith}
+use Rattle.std.proofs.Common.{◌≡◌, ◌<◌, ◌++◌, ◌∷◌, [], length, take, ap, sym, ◌∙◌, subst, rules, arith}
 use Rattle.std.proofs.lemmas.List.{map-append, take_more}
 use Rattle.std.proofs.lemmas.List.Elements.{All-push}
 use Rattle.grain_kinds.specs.Kinds.{kinds}
 use Rattle.audit_model.specs.Report.{IsTenantReport}
 use Rattle.tenant_audit.specs.ReportView.{tenant_report_of}
-use Rattle.tenant_audit.specs.Parts.{AreReports}
+use Rattle.tenant_audit.specs.inside.Parts.{AreReports, reported}
 use Rattle.tenant_audit.specs.declared.report.TenantReport.{TenantReport}
 use Rattle.tenant_audit.proofs.PartsMerged.{has_first, next_tenant, next_report, parts_left}
 use Rattle.tenant_audit.proofs.parts.merge.Goals as goal
@@ -30,7 +30,7 @@ places-preserved c =
     let len : length new ≡ length old = c.take_next.ensures.len in
     record {
       tenants =
-          ap (map (λ (s : TenantReport). s.tenant)) pushed
+          ap reported pushed
           ∙ map-append (λ (s : TenantReport). s.tenant) c.places.all.items (r ∷ [])
           ∙ ap (λ front. front ++ r.tenant ∷ []) c.places.invariant.tenants
           ∙ ap (λ t. take i tenants ++ t ∷ []) (next_tenant journal tenants i within old some parts r new taken)

@@ -1,7 +1,7 @@
 use Rattle.std.proofs.Common.{◌<◌, ◌++◌, [], length, get_or, ap, sym, ◌∙◌, subst, rules}
 use Rattle.journal_text.specs.Text.{History}
-use Rattle.tenant_audit.specs.Parts.{AreReports}
-use Rattle.tenant_audit.proofs.Strided.{strided_more, last_of}
+use Rattle.tenant_audit.specs.inside.Parts.{AreReports, if_shared}
+use Rattle.tenant_audit.proofs.Strided.{strided_more}
 use Rattle.tenant_audit.proofs.parts.part.Goals as goal
 
 pub places-preserved : goal.places-preserved
@@ -13,7 +13,7 @@ places-preserved g c =
     record {
       tenants =
           c.in_ok-keep.ensures.tenants
-          ∙ ap (λ names. names ++ last_of share.stride share.place c.places.index (get_or tenants c.places.index [])) c.places.invariant.tenants
+          ∙ ap (λ names. names ++ if_shared share.stride share.place c.places.index (get_or tenants c.places.index [])) c.places.invariant.tenants
           ∙ sym (strided_more share.stride share.place tenants c.places.index [] within);
       each =
           subst (λ (j : History). AreReports j c.keep.new.reports.items) parted

@@ -1,11 +1,10 @@
-use Rattle.std.proofs.Common.{◌≡◌, map, take}
-use Rattle.tenant_audit.specs.Parts.{AreReports, strided}
-use Rattle.tenant_audit.specs.declared.report.TenantReport.{TenantReport}
+use Rattle.std.proofs.Common.{◌≡◌, take}
+use Rattle.tenant_audit.specs.inside.Parts.{AreReports, reported, strided}
 use Rattle.tenant_audit.proofs.parts.part.Given as goal
 
 -- there is a report of each tenant of the share so far
 abbrev pub invariant-places : goal.invariant-places
 invariant-places g l = record {
-  tenants : map (λ (r : TenantReport). r.tenant) l.reports.items ≡ strided l.share.stride l.share.place 0 (take l.index l.tenants);
+  tenants : reported l.reports.items ≡ strided l.share.stride l.share.place 0 (take l.index l.tenants);
   each : AreReports l.journal l.reports.items;
 }

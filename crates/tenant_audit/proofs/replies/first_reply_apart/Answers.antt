@@ -1,7 +1,7 @@
 use Rattle.std.proofs.Common.{◌≡◌, drop, ap, rules, arith}
 use Rattle.journal_text.specs.RecordedReply.{recorded_of}
 use Rattle.audit_model.specs.Parts.{all_recorded}
-use Rattle.tenant_audit.specs.Parted.{pointees}
+use Rattle.tenant_audit.specs.inside.Parted.{pointees}
 use Rattle.tenant_audit.proofs.Walked.{one_walked, next_is}
 use Rattle.tenant_audit.proofs.replies.first_reply_apart.Goals as goal
 

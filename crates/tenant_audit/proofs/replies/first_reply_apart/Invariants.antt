@@ -1,6 +1,6 @@
 use Rattle.std.proofs.Common.{◌≡◌, drop}
 use Rattle.audit_model.specs.Parts.{all_recorded}
-use Rattle.tenant_audit.specs.Parted.{pointees}
+use Rattle.tenant_audit.specs.inside.Parted.{pointees}
 use Rattle.tenant_audit.proofs.Walked.{Walked}
 use Rattle.tenant_audit.proofs.replies.first_reply_apart.Given as goal
 

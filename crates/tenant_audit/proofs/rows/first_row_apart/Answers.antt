@@ -3,8 +3,8 @@ use Rattle.std.proofs.lemmas.List.{drop_all, nil_from_length}
 use Rattle.grain_id.specs.Names.{Grain}
 use Rattle.grain_storage.specs.Memory.{rows_of}
 use Rattle.audit_model.specs.Difference.{RowsDifferAt}
-use Rattle.tenant_audit.specs.Comparison.{lesser_of}
-use Rattle.tenant_audit.specs.Parted.{pointees}
+use Rattle.tenant_audit.specs.inside.Comparison.{lesser_of}
+use Rattle.tenant_audit.specs.inside.Parted.{pointees}
 use Rattle.tenant_audit.proofs.Walked.{one_walked, next_is}
 use Rattle.tenant_audit.proofs.RowsWalked.{row_apart, row_left, row_over, rows_same}
 use Rattle.tenant_audit.proofs.rows.first_row_apart.Goals as goal

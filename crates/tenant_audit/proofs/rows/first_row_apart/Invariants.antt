@@ -1,5 +1,5 @@
 use Rattle.std.proofs.Common.{drop}
-use Rattle.tenant_audit.specs.Parted.{pointees}
+use Rattle.tenant_audit.specs.inside.Parted.{pointees}
 use Rattle.tenant_audit.proofs.Walked.{Walked}
 use Rattle.tenant_audit.proofs.rows.first_row_apart.Given as goal
 

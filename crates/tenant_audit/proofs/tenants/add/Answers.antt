@@ -1,5 +1,5 @@
 use Rattle.std.proofs.Common.{ℕ, List, [], ◌∷◌, sym, subst}
-use Rattle.tenant_audit.specs.Owners.{Gains}
+use Rattle.tenant_audit.specs.inside.Owners.{Gains}
 use Rattle.tenant_audit.proofs.Owners.{gains_one}
 use Rattle.tenant_audit.proofs.tenants.add.Goals as goal
 

@@ -1,5 +1,5 @@
 use Rattle.std.proofs.Common.{◌≡◌, ℕ, ◌<◌, ◌≤◌, length, get_or, vec_capacity}
-use Rattle.tenant_audit.specs.Parts.{IsShareOf}
+use Rattle.tenant_audit.specs.inside.Parts.{IsShareOf}
 use Rattle.tenant_audit.proofs.threads.start_parts.Given as goal
 
 -- there is a thread for each share so far, and room for the others

@@ -1,7 +1,7 @@
 use Rattle.std.proofs.Common.{ap, ◌∙◌}
 use Rattle.silo_model.specs.Run.{restricted_to}
 use Rattle.journal_text.specs.Text.{History}
-use Rattle.tenant_audit.specs.Parted.{merged}
+use Rattle.tenant_audit.specs.inside.Parted.{merged}
 use Rattle.tenant_audit.proofs.Merged.{both_merged}
 use Rattle.tenant_audit.proofs.parted_journal.PartedJournal.steps_for.Goals as goal
 

@@ -1,0 +1,5 @@
+-- What only the contracts of this crate's own parts cite. No promise stands on it.
+pub mod Comparison
+pub mod Owners
+pub mod Parted
+pub mod Parts
