@@ -397,6 +397,65 @@ fn two_lanes_of_a_hundred_calls(rt: HostRuntime) -> Result<(), Fail> {
     Ok(())
 }
 
+/// For how long the first turn is held up, in polls: so long that another worker comes, and waits.
+const PAUSES: u32 = 100_000;
+
+/// A gate at which all turns but the first meet.
+#[derive(Drop)]
+struct LaterMeeting {
+    meeting: Meeting,
+}
+
+impl TurnGate for LaterMeeting {
+    fn entered(&self, _grain: &GrainId, turn: u64) {
+        if turn > 1 {
+            self.meeting.meet();
+            return;
+        }
+        for _ in 0..PAUSES {
+            thread::yield_now();
+        }
+    }
+}
+
+/// Two clients that add 1 to a counter, one of whom asks another counter then.
+fn lanes_of_three_turns(alloc: Global) -> Result<Vec<Lane>, Fail> {
+    let mut steps = Vec::new(alloc);
+    add_call(alloc, &mut steps, "red/c1", 1, Some(1))?;
+    steps.push(call(alloc, "red/c1", 2, "counter/red:b", None)?)?;
+    let mut others = Vec::new(alloc);
+    add_call(alloc, &mut others, "red/c2", 1, Some(1))?;
+    let mut lanes = Vec::new(alloc);
+    lanes.push(lane(alloc, "red/c1", steps)?)?;
+    lanes.push(lane(alloc, "red/c2", others)?)?;
+    Ok(lanes)
+}
+
+/// The numbers that these are answered by two workers.
+fn numbers_of_three_turns<R: AllocGlobal + Threads + Wait + Sync>(
+    rt: &R,
+    gate: &LaterMeeting,
+) -> Result<Vec<i64>, Fail> {
+    let alloc = rt.alloc();
+    let lanes = lanes_of_three_turns(alloc)?;
+    let setup = setup_with(alloc, &["red"], Kinds)?;
+    let answers = served(rt, setup, &lanes, 2, gate)?;
+    numbers_of(alloc, &answers)
+}
+
+/// The second client waits for the first one's turn, and so does a worker. When that turn is closed, there
+/// are two to run: one for each worker.
+#[test]
+fn a_worker_that_waits_is_woken(rt: HostRuntime) -> Result<(), Fail> {
+    let gate = LaterMeeting {
+        meeting: Meeting::new(2),
+    };
+    let numbers = numbers_of_three_turns(&rt, &gate)?;
+    assert!(rt; !gate.meeting.was_missed(), "a turn waited alone");
+    assert!(rt; numbers.as_slice() == [0, 1, 2].as_slice());
+    Ok(())
+}
+
 /// Whether a `get` of a new counter was answered: by 0, or as a turn that was abandoned.
 fn is_right(alloc: Global, reply: &Reply) -> Result<bool, Fail> {
     match &reply.outcome {
@@ -597,6 +656,54 @@ fn turns_are_told<R: AllocGlobal + Threads + Wait + Sync>(rt: &R) -> Result<bool
 #[test]
 fn a_gate_is_told_of_each_turn(rt: HostRuntime) -> Result<(), Fail> {
     assert!(rt; turns_are_told(&rt)?);
+    Ok(())
+}
+
+/// Lanes of so many clients of red, with a `get` of one counter each.
+fn lanes_of_readers(alloc: Global, count: u32) -> Result<Vec<Lane>, Fail> {
+    let mut lanes = Vec::new(alloc);
+    for number in 0..count {
+        let caller = format!(in alloc; "red/c{number}")?;
+        lanes.push(get_lane(alloc, caller.as_str(), "counter/red:a")?)?;
+    }
+    Ok(lanes)
+}
+
+/// How many turns are open at once by the journal, at most.
+fn most_open(grains: &[GrainId], journal: &[Step]) -> u32 {
+    let mut open = 0u32;
+    let mut most = 0u32;
+    for step in journal {
+        if let Step::Begin { .. } = step {
+            open = open.saturating_add(1);
+        }
+        most = most.max(open);
+        if closed_by(grains, step).is_some() {
+            open = open.saturating_sub(1);
+        }
+    }
+    most
+}
+
+/// Serves forty readers by one worker: how many turns are open at once, at most.
+fn most_open_by_one<R: AllocGlobal + Threads + Wait + Sync>(rt: &R) -> Result<u32, Fail> {
+    let alloc = rt.alloc();
+    let lanes = lanes_of_readers(alloc, 40)?;
+    if !distinct(&lanes) {
+        return Err("these lanes can't be served".into());
+    }
+    let setup = setup_with(alloc, &["red"], Kinds)?;
+    let Ok(report) = serve(rt, alloc, setup, &lanes, 1, &FreeGate) else {
+        return Err("the lanes weren't served".into());
+    };
+    let most = most_open(&[], report.silo.journal());
+    drop(report);
+    Ok(most)
+}
+
+#[test]
+fn a_worker_alone_takes_several_turns_at_once(rt: HostRuntime) -> Result<(), Fail> {
+    assert_eq!(rt; most_open_by_one(&rt)?, 32);
     Ok(())
 }
 
