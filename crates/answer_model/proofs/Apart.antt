@@ -1,7 +1,6 @@
 -- What each tenant is shown by an answering silo is what its own machine is.
-use Rattle.std.proofs.Common.{◌≡◌, ◌≢◌, ℕ, Bool, true, false, cond, List, [], ◌∷◌, ◌++◌, Option, Some, None, refl, ap, sym, ◌∙◌, subst, true≢false}
-use Rattle.std.proofs.lemmas.List.{append-nil}
-use Rattle.std.proofs.lemmas.Option.{same_Some, none-some}
+use Rattle.std.proofs.Common.{◌≡◌, ℕ, Bool, true, false, cond, List, [], ◌∷◌, ◌++◌, Option, Some, None, refl, ap, sym, ◌∙◌, subst, true≢false}
+use Rattle.std.proofs.lemmas.Option.{none-some}
 use Rattle.grain_id.specs.Names.{Grain, Client, same_text}
 use Rattle.request_codec.specs.Call as codec
 use Rattle.grain_id.proofs.Order.{same_text_decides}
@@ -17,7 +16,7 @@ use Rattle.silo_model.specs.Step.{effect_of}
 use Rattle.silo_model.specs.Whole.{Whole, shown_to, whole_step}
 use Rattle.silo_model.specs.Run.{concerns, concerns_by, machine_run, whole_run}
 use Rattle.silo_model.specs.Opening.{Setup}
-use Rattle.silo_model.proofs.Contexts.{same_text-apart, step_by_context}
+use Rattle.silo_model.proofs.Contexts.{step_by_context}
 use Rattle.silo_model.proofs.EffectKinds.{role_of}
 use Rattle.silo_model.proofs.Isolation.{place_in}
 use Rattle.silo_model.proofs.Journals.{runs_on}

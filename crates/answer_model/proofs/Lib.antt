@@ -6,3 +6,4 @@ pub mod Apart
 pub mod Closed
 pub mod Raised
 pub mod Resting
+pub mod Certain

@@ -1,6 +1,6 @@
 -- The one request that waits at a grain is served: its grain is brought up, and its turn is opened and closed.
-use Rattle.std.proofs.Common.{◌≡◌, ℕ, ◌+◌, Bool, true, false, cond, List, [], ◌∷◌, ◌++◌, Option, Some, None, unwrap_or, refl, ap, sym, ◌∙◌, arith, subst, inl, inr}
-use Rattle.std.specs.Prelude.{◌⊎◌, Result, Ok, Err, flat_map, is_some, if◌then◌else◌}
+use Rattle.std.proofs.Common.{◌≡◌, ℕ, ◌+◌, Bool, true, false, List, [], ◌∷◌, ◌++◌, Option, Some, None, unwrap_or, refl, ap, sym, ◌∙◌, subst, inl, inr}
+use Rattle.std.specs.Prelude.{◌⊎◌, Err, flat_map, is_some, if◌then◌else◌}
 use Rattle.std.specs.FinMap as map
 use Rattle.std.specs.FinMap.{nat_cmp-IsAntisymmetric}
 use Rattle.std.specs.Cmp.{nat_cmp_total}
@@ -99,7 +99,7 @@ module _ (logic : Logic) (w : Whole) (g : Grain) (q : Request) where
 module _ (logic : Logic) (w : Whole) (g : Grain) (q : Request) (alone : IsAlone w g q) where
   -- ---- the grain is brought up
 
-  not_activated : (p : Phase) → alone.entry.phase ≡ p → activated alone.entry p ≡ None → whole_step logic w (Activate g) ≡ None
+  pub not_activated : (p : Phase) → alone.entry.phase ≡ p → activated alone.entry p ≡ None → whole_step logic w (Activate g) ≡ None
   not_activated p is none = activate_found logic w g alone.entry alone.found None (ap (activated alone.entry) is ∙ none)
 
   abbrev Raising : Bool → Type 0
@@ -108,7 +108,7 @@ module _ (logic : Logic) (w : Whole) (g : Grain) (q : Request) (alone : IsAlone 
   abbrev raising_if : Bool → Option Whole → List Step
   raising_if failed o = if is_some o then Activate g ∷ Load g failed ∷ [] else []
 
-  raises_by : (failed : Bool) (p : Phase) → alone.entry.phase ≡ p → Raising failed
+  pub raises_by : (failed : Bool) (p : Phase) → alone.entry.phase ≡ p → Raising failed
   raises_by failed waiting is =
       let new : Entry = record alone.entry { phase = loading } in
       let next : Whole = record w { entries = map.insert w.entries g new } in
@@ -125,13 +125,13 @@ module _ (logic : Logic) (w : Whole) (g : Grain) (q : Request) (alone : IsAlone 
   -- ---- its turn
 
   module _ (state : Tree) (version : Option ℕ) (is : alone.entry.phase ≡ ready state version) where
-    abbrev begun_entry : Entry
+    abbrev pub begun_entry : Entry
     begun_entry = record alone.entry { queue = []; turns = map.insert alone.entry.turns q.number q }
 
-    abbrev begun : Whole
+    abbrev pub begun : Whole
     begun = record w { entries = map.insert w.entries g begun_entry }
 
-    is_open : map.get begun_entry.turns q.number ≡ Some q
+    pub is_open : map.get begun_entry.turns q.number ≡ Some q
     is_open = get-insert_same nat_cmp_total nat_cmp-IsAntisymmetric alone.entry.turns q.number q
 
     one_open : map.len begun_entry.turns ≡ 1
@@ -140,7 +140,7 @@ module _ (logic : Logic) (w : Whole) (g : Grain) (q : Request) (alone : IsAlone 
         ∙ one_more (λ x. 1) alone.entry.turns q.number q (get-none alone.entry.turns q.number alone.none_open)
         ∙ ap (λ n. n + 1) (total-len alone.entry.turns ∙ alone.none_open)
 
-    begins : whole_step logic w (Begin g) ≡ Some begun
+    pub begins : whole_step logic w (Begin g) ≡ Some begun
     begins = begin_first logic w g alone.entry alone.found state version q [] is alone.queue (may_open_alone logic g alone.entry q alone.none_open)
 
     turn_answers : (luck : Luck) → Answers w (whole_run logic w (turning (whole_stepper logic) w g luck.closing)) g q
@@ -165,7 +165,7 @@ module _ (logic : Logic) (w : Whole) (g : Grain) (q : Request) (luck : Luck) (al
   abbrev raised : Whole
   raised = whole_run logic w up
 
-  none_to_turn : (b : Bool) (found : Option Entry) → found ≡ None → (if b then turn_of (whole_stepper logic) raised g luck.closing found else []) ≡ []
+  pub none_to_turn : (b : Bool) (found : Option Entry) → found ≡ None → (if b then turn_of (whole_stepper logic) raised g luck.closing found else []) ≡ []
   none_to_turn true found none = ap (turn_of (whole_stepper logic) raised g luck.closing) none
   none_to_turn false found none = refl
 

@@ -1,6 +1,6 @@
 -- Whatever is asked where all rests, all rests again, and who asked was answered.
-use Rattle.std.proofs.Common.{◌≡◌, ℕ, zero, suc, ◌+◌, ◌==◌, Bool, true, false, cond, List, [], ◌∷◌, ◌++◌, Option, Some, None, unwrap_or, refl, ap, sym, ◌∙◌, arith, subst, append_assoc, true≢false, inl, inr}
-use Rattle.std.specs.Prelude.{◌⊎◌, Result, Ok, Err, length, not}
+use Rattle.std.proofs.Common.{◌≡◌, ℕ, zero, suc, Bool, true, false, cond, List, [], ◌∷◌, ◌++◌, Option, Some, None, unwrap_or, refl, ap, sym, ◌∙◌, subst, append_assoc, true≢false, inl, inr}
+use Rattle.std.specs.Prelude.{◌⊎◌, Result, Ok, Err, length}
 use Rattle.std.specs.FinMap as map
 use Rattle.std.specs.Ordering.{eq_by_cmp, nat_cmp}
 use Rattle.std.proofs.lemmas.List.{append-nil}
@@ -24,7 +24,7 @@ use Rattle.silo_event.specs.declared.step.Step.{Step}
 use Rattle.silo_event.specs.declared.step.Step.TheVariants.{Refuse, Call, Poke, Status, Deliver, Activate, Load, Begin, Store, End, Abandon, Tick, Sweep}
 use Rattle.grain_kinds.specs.Logic.{Logic}
 use Rattle.silo_model.specs.Collected.{IsIdle}
-use Rattle.silo_model.specs.Machine.{Account, Entry, Entries, Request, Send}
+use Rattle.silo_model.specs.Machine.{Account, Entry, Request, Send}
 use Rattle.silo_model.specs.Effect.{Change, Context, Effect, keep, change_at, context_at}
 use Rattle.silo_model.specs.Asks.{poked, poke_settled, row_told}
 use Rattle.silo_model.specs.Calls.{told, reply_to, with_request, gate}
@@ -32,7 +32,7 @@ use Rattle.silo_model.specs.Pending.{sends_of}
 use Rattle.silo_model.specs.Stores.{row_poked}
 use Rattle.silo_model.specs.Step.{effect_of}
 use Rattle.silo_model.specs.Opening.{Setup}
-use Rattle.silo_model.specs.Whole.{Whole, shown_to, spread, whole_step, whole_shared_step}
+use Rattle.silo_model.specs.Whole.{Whole, shown_to, spread, whole_step}
 use Rattle.silo_model.specs.Run.{whole_run}
 use Rattle.std.proofs.lemmas.Bool.{false_from_ne_true}
 use Rattle.silo_model.proofs.Contexts.{step_by_context}
@@ -40,8 +40,8 @@ use Rattle.silo_model.proofs.EffectKinds.{asks, role_of}
 use Rattle.silo_model.proofs.Isolation.{place_in, did, shared_by}
 use Rattle.silo_model.proofs.Runs.{whole_after, whole_run-append}
 use Rattle.silo_model.proofs.SharedSteps.{shared_leaves}
-use Rattle.answer_model.specs.Answering.{Stepper, Luck, first_luck, later_luck, whole_stepper, serving, is_accepted, serving_if, bringing, delivering, deliveries, deliveries_of, is_asked, called_grain, Asked, taken_by, taken, answering, answered}
-use Rattle.answer_model.specs.Resting.{AllRest, IsToGrain, AllToGrains, TellsFirst, TellsAsker, AnsweredAtOnce}
+use Rattle.answer_model.specs.Answering.{Stepper, Luck, first_luck, later_luck, whole_stepper, serving, is_accepted, serving_if, bringing, delivering, deliveries, deliveries_of, is_asked, called_grain, Asked, taken_by, taken, answered}
+use Rattle.answer_model.specs.Resting.{AllRest, AllToGrains, TellsAsker, AnsweredAtOnce}
 use Rattle.answer_model.proofs.Apart.{call_done, owner_failed}
 use Rattle.answer_model.proofs.Brought.{Brings, is_told, waits, brings, more_than_none}
 use Rattle.answer_model.proofs.Closed.{Answers, elsewhere-insert, run_done}
@@ -50,11 +50,11 @@ use Rattle.answer_model.proofs.Reached.{IsReached, run_reached}
 use Rattle.answer_model.proofs.Served.{source_own, target_is, is_delivered}
 
 -- what a party is told: something, and a grain perhaps nothing
-abbrev IsAbout : Party → List Reply → Type 0
+abbrev pub IsAbout : Party → List Reply → Type 0
 IsAbout p added = (outcome : Result Tree Fault) × ((added ≡ told p outcome) ⊎ (added ≡ reply_to p outcome))
 
 -- All rests again, and the party was told.
-record Settles (w after : Whole) (p : Party) : Type 0 where
+pub record Settles (w after : Whole) (p : Party) : Type 0 where
   pub rests : AllRest after.entries
   pub added : List Reply
   pub replies : after.replies ≡ w.replies ++ added
@@ -74,7 +74,7 @@ module _ (w after : Whole) (g : Grain) (q : Request) (rests : AllRest w.entries)
     not_loading = λ is. cc (is, (rests g e was).phase);
   }
 
-  alone : IsAlone after g q
+  pub alone : IsAlone after g q
   alone = alone_by (map.get w.entries g) refl (ap (λ m. map.get m g) entries ∙ get-insert_same grain_cmp_total grain_cmp_exact w.entries g _)
 
   rests_again : (last : Whole) → Answers after last g q → AllRest last.entries
@@ -97,13 +97,13 @@ module _ (logic : Logic) (w : Whole) (rests : AllRest w.entries) (s : Step) (luc
       run_done logic w after s (serving_if of_whole w (whole_after logic w s) grain luck) step
       ∙ ap (λ o. whole_run logic after (serving_if of_whole w (unwrap_or o w) grain luck)) step
 
-  not_served : (grain : Option Grain) (p : Party) (outcome : Result Tree Fault) → after.replies ≡ w.replies ++ told p outcome → serving_if of_whole w after grain luck ≡ []
+  pub not_served : (grain : Option Grain) (p : Party) (outcome : Result Tree Fault) → after.replies ≡ w.replies ++ told p outcome → serving_if of_whole w after grain luck ≡ []
   not_served None p outcome replies = refl
   not_served (Some g) p outcome replies =
       ap (λ b. cond b (serving of_whole after g luck) []) (false_from_ne_true (is_accepted of_whole w after) (λ accepted.
       more_than_none w.replies (record { recipient = p; outcome = outcome }) (sym (ap length replies) ∙ eqb-true (length after.replies) (length w.replies) accepted)))
 
-  is_served : (g : Grain) → after.replies ≡ w.replies → serving_if of_whole w after (Some g) luck ≡ serving of_whole after g luck
+  pub is_served : (g : Grain) → after.replies ≡ w.replies → serving_if of_whole w after (Some g) luck ≡ serving of_whole after g luck
   is_served g replies = ap (λ b. cond b (serving of_whole after g luck) []) (eq-eqb (length after.replies) (length w.replies) (ap length replies))
 
   settles_by : (owner : List ℕ) (p : Party) (grain : Option Grain) → Brings w after owner p grain
@@ -172,7 +172,7 @@ module _ (logic : Logic) (w : Whole) (caller : Client) (id : ℕ) where
   unfolding effect_of
   status_done none = none-some _ (sym none ∙ step_by_context logic w (Status caller id) caller.tenant None _ refl refl refl)
 
-  poke_done : (failed : Bool) (g : Grain) (state : Tree) → whole_step logic w (Poke failed caller id g state) ≡ None → ⊥
+  pub poke_done : (failed : Bool) (g : Grain) (state : Tree) → whole_step logic w (Poke failed caller id g state) ≡ None → ⊥
   unfolding effect_of
   poke_done failed g state none = none-some _ (sym none ∙ step_by_context logic w (Poke failed caller id g state) caller.tenant (Some g) _ refl refl refl)
 
@@ -208,7 +208,7 @@ module _ (logic : Logic) (w : Whole) (rests : AllRest w.entries) (luck : Luck) w
       if_done _ None _ (poke_done logic w caller id failed g state)
       (λ after step. settles logic w rests (Poke failed caller id g state) luck after step caller.tenant (party.Client caller id) None (poke_brings logic w after failed caller id g state step))
 
-  asked_settles : (s : Step) (asking : Client × ℕ) → asking_of s ≡ Some asking
+  pub asked_settles : (s : Step) (asking : Client × ℕ) → asking_of s ≡ Some asking
       → Settling (taken_by luck.asking_failed s) (called_grain s) (party.Client asking.0 asking.1)
   asked_settles s asking is = by_flag luck.asking_failed s is
     where
@@ -238,7 +238,7 @@ module _ (logic : Logic) (w : Whole) (rests : AllRest w.entries) (luck : Luck) w
 -- ---- deliveries
 
 -- All rests again, and only grains were told anything.
-record Goes (w after : Whole) : Type 0 where
+pub record Goes (w after : Whole) : Type 0 where
   pub rests : AllRest after.entries
   pub others : List Reply
   pub replies : after.replies ≡ w.replies ++ others
@@ -253,7 +253,7 @@ grains_alone g added (outcome, inl is) = subst AllToGrains (sym is) (tt, tt)
 grains_alone g added (outcome, inr is) = subst AllToGrains (sym is) tt
 
 module _ (logic : Logic) (setup : Setup) (tenant : List ℕ) where
-  delivering_goes : (w : Whole) (sends : List Send) (luck : Luck) → IsReached logic setup w → AllRest w.entries → sends_of (map.get w.accounts tenant) ≡ sends
+  pub delivering_goes : (w : Whole) (sends : List Send) (luck : Luck) → IsReached logic setup w → AllRest w.entries → sends_of (map.get w.accounts tenant) ≡ sends
       → Goes w (whole_run logic w (delivering (whole_stepper logic) w sends luck))
   delivering_goes w [] luck reached rests is = record { rests = rests; others = []; replies = sym (append-nil w.replies); to_grains = tt }
   delivering_goes w (oldest ∷ others) luck reached rests is =

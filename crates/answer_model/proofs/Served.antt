@@ -1,18 +1,18 @@
 -- The machine of a tenant takes the same steps for what it is asked as the whole does, and each is the tenant's.
 use Rattle.std.proofs.Common.{◌≡◌, ℕ, zero, suc, ◌==◌, Bool, true, false, cond, List, [], ◌∷◌, ◌++◌, Option, Some, None, unwrap_or, refl, ap, sym, ◌∙◌, arith, subst, true≢false}
-use Rattle.std.specs.Prelude.{length, option_map, option_and_then, is_some, if◌then◌else◌}
+use Rattle.std.specs.Prelude.{length, option_map, is_some, if◌then◌else◌}
 use Rattle.std.specs.FinMap as map
 use Rattle.std.proofs.lemmas.List.{length-append}
 use Rattle.std.proofs.lemmas.Option.{same_Some, none-some}
 use Rattle.std.proofs.lemmas.Bool.{eqb-true, eq-eqb}
-use Rattle.grain_id.specs.Names.{Grain, grain_eq}
+use Rattle.grain_id.specs.Names.{Grain}
 use Rattle.grain_id.proofs.Order.{grain_eq_decides}
 use Rattle.silo_event.specs.Owner.{owner_of}
 use Rattle.silo_event.specs.declared.reply.Party.{Party}
 use Rattle.silo_event.specs.declared.reply.Party.TheVariants as party
 use Rattle.silo_event.specs.declared.reply.Reply.{Reply}
 use Rattle.silo_event.specs.declared.step.Step.{Step}
-use Rattle.silo_event.specs.declared.step.Step.TheVariants.{Call, Deliver, Activate, Load, Begin, Store, End, Abandon}
+use Rattle.silo_event.specs.declared.step.Step.TheVariants.{Deliver, Activate, Load, Begin, Store, End}
 use Rattle.grain_kinds.specs.Logic.{Logic}
 use Rattle.silo_model.specs.Machine.{Machine, Account, Entry, Request, Send}
 use Rattle.silo_model.specs.Pending.{sends_of}
@@ -30,7 +30,7 @@ use Rattle.silo_model.proofs.OwnSends.{sends_are_own}
 use Rattle.silo_model.proofs.Runs.{whole_after, machine_after}
 use Rattle.silo_model.proofs.SendSteps.{by_called}
 use Rattle.answer_model.specs.Answering.{Stepper, Luck, Closing, well, storage_failed, out_of_memory, first_luck, later_luck, whole_stepper, machine_stepper, run, can, raising, ending, closing, turn_of_first, turn_of, turning, serving, is_accepted, serving_if, bringing, delivering, deliveries}
-use Rattle.answer_model.proofs.Brought.{Brings, brings, Waits, it_waits, accepted_waits}
+use Rattle.answer_model.proofs.Brought.{brings, Waits, it_waits, accepted_waits}
 use Rattle.answer_model.proofs.Owned.{AllOwned, AllOwned-append, own_run}
 use Rattle.answer_model.proofs.Reached.{IsReached, step_reached, run_reached}
 

@@ -2,6 +2,7 @@
 //! nothing, so that it is proved with the crate.
 
 ghost use Rattle.answer_model.specs.Apart.{TenantsApart};
+ghost use Rattle.answer_model.specs.Certain.{AnsweredCertainly};
 ghost use Rattle.answer_model.specs.Resting.{AnsweredAtOnce};
 
 /// What a silo that answers each request at once shows to each tenant is what the tenant's own machine
@@ -14,4 +15,10 @@ pub fn tenants_apart()
 /// one reply, the first of all that are new, of which the others are told to grains.
 pub fn answered_at_once()
     ensures { AnsweredAtOnce }
+{}
+
+/// If the storage didn't fail in anything that was done for what is asked, and no turn was given up, then it is what is
+/// done with good luck: a function of what the silo has and of what is asked.
+pub fn answered_certainly()
+    ensures { AnsweredCertainly }
 {}

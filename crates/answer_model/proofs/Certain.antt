@@ -1,0 +1,317 @@
+-- What is done is what is done with good luck, if the storage didn't fail and no turn was given up.
+use Rattle.std.proofs.Common.{◌≡◌, ℕ, zero, suc, Bool, true, false, List, [], ◌∷◌, ◌++◌, Option, Some, None, unwrap_or, refl, ap, sym, ◌∙◌, subst, true≢false, inl, inr}
+use Rattle.std.specs.Prelude.{is_some, if◌then◌else◌}
+use Rattle.std.specs.FinMap as map
+use Rattle.std.proofs.lemmas.Option.{none-some}
+use Rattle.grain_id.specs.Names.{Client, Grain}
+use Rattle.grain_id.proofs.Order.{grain_cmp_total, grain_cmp_exact}
+use Rattle.finite_maps.proofs.Maps.{get-insert_same}
+use Rattle.request_codec.specs.Tree.{Tree}
+use Rattle.request_codec.specs.Call as codec
+use Rattle.silo_event.specs.Asker.{asking_of}
+use Rattle.silo_event.specs.Owner.{owner_of}
+use Rattle.silo_event.specs.declared.reply.Party.{Party}
+use Rattle.silo_event.specs.declared.reply.Party.TheVariants as party
+use Rattle.silo_event.specs.declared.step.Step.{Step}
+use Rattle.silo_event.specs.declared.step.Step.TheVariants.{Refuse, Call, Poke, Status, Deliver, Activate, Load, Begin, Store, End, Abandon, Tick, Sweep}
+use Rattle.grain_kinds.specs.Logic.{Logic, Plan, StorageCall, asks_nothing, reads_row, writes_row, clears_row}
+use Rattle.silo_model.specs.Machine.{Entry, Request, Send, Phase, waiting, loading, ready}
+use Rattle.silo_model.specs.Effect.{Effect}
+use Rattle.silo_model.specs.Opening.{Setup}
+use Rattle.silo_model.specs.Pending.{sends_of}
+use Rattle.silo_model.specs.Turns.{plan_of, stored_by}
+use Rattle.silo_model.specs.Whole.{Whole, whole_step}
+use Rattle.silo_model.specs.Run.{if_possible, done_by, whole_run}
+use Rattle.silo_model.proofs.EffectKinds.{asks, role_of}
+use Rattle.silo_model.proofs.EntrySteps.{activate_waiting, load_fails}
+use Rattle.silo_model.proofs.Isolation.{place_in}
+use Rattle.silo_model.proofs.Runs.{done_by-append}
+use Rattle.silo_model.proofs.TurnSteps.{seen_at, end_turn, end_reads, end_writes, end_clears, store_failed, abandon_turn}
+use Rattle.answer_model.specs.Answering.{Luck, Closing, well, storage_failed, out_of_memory, good, first_luck, later_luck, whole_stepper, raising, ending, closing, turn_of_first, turn_of, turning, serving, serving_if, bringing, delivering, deliveries, deliveries_of, is_asked, called_grain, Asked, taken_by, taken, answering}
+use Rattle.answer_model.specs.Resting.{AllRest}
+use Rattle.answer_model.specs.Certain.{went_well, AllWell, luckily, AnsweredCertainly}
+use Rattle.answer_model.proofs.Apart.{call_done, taken_call}
+use Rattle.answer_model.proofs.Brought.{Brings, is_told, waits, brings}
+use Rattle.answer_model.proofs.Raised.{IsAlone, Raises, raises_by, not_activated, begun, begun_entry, begins, is_open, none_to_turn}
+use Rattle.answer_model.proofs.Reached.{IsReached, run_reached}
+use Rattle.answer_model.proofs.Resting.{alone, not_served, is_served, poke_done, asked_settles, delivering_goes}
+use Rattle.answer_model.proofs.Served.{source_own, target_is, is_delivered}
+
+-- ---- lists of steps that went well
+
+AllWell-split : (steps others : List Step) → AllWell (steps ++ others) → AllWell steps × AllWell others
+AllWell-split [] others all = (tt, all)
+AllWell-split (s ∷ steps) others all =
+    let rest = AllWell-split steps others all.1 in
+    ((all.0, rest.0), rest.1)
+
+module _ (logic : Logic) where
+  abbrev pub done : Whole → List Step → List Step
+  done w steps = done_by (whole_step logic) w steps
+
+  -- of those that are tried: the first, and the others
+  first_well : (w after : Whole) (s : Step) (steps : List Step) → whole_step logic w s ≡ Some after → AllWell (done w (s ∷ steps)) → (went_well s ≡ true) × AllWell (done after steps)
+  first_well w after s steps step all = subst (λ o. AllWell (if_possible s o ++ done (unwrap_or o w) steps)) step all
+
+  pub parts_well : (w : Whole) (steps others : List Step) → AllWell (done w (steps ++ others)) → AllWell (done w steps) × AllWell (done (whole_run logic w steps) others)
+  parts_well w steps others all =
+      AllWell-split (done w steps) (done (whole_run logic w steps) others) (subst AllWell (done_by-append (whole_step logic) w steps others) all)
+
+-- ---- an open turn is closed
+
+module _ (logic : Logic) (w : Whole) (g : Grain) (e : Entry) (found : map.get w.entries g ≡ Some e) (q : Request) (open_turn : map.get e.turns q.number ≡ Some q)
+    (state : Tree) (version : Option ℕ) (is : e.phase ≡ ready state version) where
+  abbrev plan : Plan
+  plan = plan_of logic g state q
+
+  abbrev ending_if : Bool → Option Whole → List Step
+  ending_if failed o = if is_some o then End g q.number ∷ [] else Store g q.number failed ∷ []
+
+  abbrev EndsWell : Type 0
+  EndsWell = AllWell (done logic w (ending (whole_stepper logic) w g q.number true))
+
+  abbrev EndsAlike : Type 0
+  EndsAlike = ending (whole_stepper logic) w g q.number true ≡ ending (whole_stepper logic) w g q.number false
+
+  storage_fails : (storage : StorageCall) (answer : Effect) → plan.storage ≡ storage → stored_by logic (seen_at w g) g e q state version storage ≡ Some answer
+      → whole_step logic w (End g q.number) ≡ None → EndsWell → ⊥
+  storage_fails storage answer calls h none all =
+      let stores = store_failed logic w g q.number e found q open_turn state version is plan refl storage answer calls h in
+      true≢false (sym (first_well logic w _ (Store g q.number true) [] stores (subst (λ o. AllWell (done logic w (ending_if true o))) none all)).0)
+
+  ends_alike : (storage : StorageCall) → plan.storage ≡ storage → EndsWell → EndsAlike
+  ends_alike asks_nothing calls all =
+      let ended = end_turn logic w g q.number e found q open_turn state version is plan refl calls in
+      ap (ending_if true) ended ∙ sym (ap (ending_if false) ended)
+  ends_alike reads_row calls all =
+      absurd (storage_fails reads_row _ calls refl (end_reads logic w g q.number e found q open_turn state version is plan refl calls) all)
+  ends_alike writes_row calls all =
+      absurd (storage_fails writes_row _ calls refl (end_writes logic w g q.number e found q open_turn state version is plan refl calls) all)
+  ends_alike clears_row calls all =
+      absurd (storage_fails clears_row _ calls refl (end_clears logic w g q.number e found q open_turn state version is plan refl calls) all)
+
+  closes_alike : (how : Closing) → AllWell (done logic w (closing (whole_stepper logic) w g q.number how))
+      → closing (whole_stepper logic) w g q.number how ≡ closing (whole_stepper logic) w g q.number well
+  closes_alike well all = refl
+  closes_alike storage_failed all = ends_alike plan.storage refl all
+  closes_alike out_of_memory all =
+      absurd (true≢false (sym (first_well logic w _ (Abandon g q.number) [] (abandon_turn logic w g q.number e found q open_turn) all).0))
+
+-- ---- a request that waits alone is served
+
+module _ (logic : Logic) (w : Whole) (g : Grain) (q : Request) (alone : IsAlone w g q) where
+  abbrev raising_by : Bool → Option Whole → List Step
+  raising_by failed o = if is_some o then Activate g ∷ Load g failed ∷ [] else []
+
+  abbrev RaisesAlike : Bool → Type 0
+  RaisesAlike failed = raising (whole_stepper logic) w g failed ≡ raising (whole_stepper logic) w g false
+
+  loading_fails : (p : Phase) → alone.entry.phase ≡ p → AllWell (done logic w (raising (whole_stepper logic) w g true)) → RaisesAlike true
+  loading_fails waiting is all =
+      let new : Entry = record alone.entry { phase = loading } in
+      let next : Whole = record w { entries = map.insert w.entries g new } in
+      let activates = activate_waiting logic w g alone.entry alone.found is in
+      let later = first_well logic w next (Activate g) (Load g true ∷ []) activates (subst (λ o. AllWell (done logic w (raising_by true o))) activates all) in
+      let loads = load_fails logic next g new (get-insert_same grain_cmp_total grain_cmp_exact w.entries g new) refl in
+      absurd (true≢false (sym (first_well logic next _ (Load g true) [] loads later.1).0))
+  loading_fails loading is all = absurd (alone.not_loading is)
+  loading_fails (ready state version) is all =
+      let never = not_activated logic w g q alone (ready state version) is refl in
+      ap (raising_by true) never ∙ sym (ap (raising_by false) never)
+
+  raises_alike : (failed : Bool) → AllWell (done logic w (raising (whole_stepper logic) w g failed)) → RaisesAlike failed
+  raises_alike true all = loading_fails alone.entry.phase refl all
+  raises_alike false all = refl
+
+  module _ (state : Tree) (version : Option ℕ) (is : alone.entry.phase ≡ ready state version) where
+    abbrev after : Whole
+    after = begun logic w g q alone state version is
+
+    turning_is : (how : Closing) → turning (whole_stepper logic) w g how ≡ Begin g ∷ closing (whole_stepper logic) after g q.number how
+    turning_is how =
+        let by = whole_stepper logic in
+        let starts = begins logic w g q alone state version is in
+        ap (λ o. if is_some o then turn_of by w g how (map.get w.entries g) else []) starts
+        ∙ ap (turn_of by w g how) alone.found
+        ∙ ap (turn_of_first by w g how) alone.queue
+        ∙ ap (λ o. Begin g ∷ closing by (unwrap_or o w) g q.number how) starts
+
+    turns_alike : (how : Closing) → AllWell (done logic w (turning (whole_stepper logic) w g how))
+        → turning (whole_stepper logic) w g how ≡ turning (whole_stepper logic) w g well
+    turns_alike how all =
+        let entry = begun_entry logic w g q alone state version is in
+        let later = first_well logic w after (Begin g) (closing (whole_stepper logic) after g q.number how) (begins logic w g q alone state version is)
+        (subst (λ steps. AllWell (done logic w steps)) (turning_is how) all) in
+        turning_is how
+        ∙ ap (λ steps. Begin g ∷ steps)
+        (closes_alike logic after g entry (get-insert_same grain_cmp_total grain_cmp_exact w.entries g entry) q (is_open logic w g q alone state version is) state version is how later.1)
+        ∙ sym (turning_is well)
+
+module _ (logic : Logic) (w : Whole) (g : Grain) (q : Request) (luck : Luck) (alone : IsAlone w g q) where
+  abbrev up : List Step
+  up = raising (whole_stepper logic) w g luck.loading_failed
+
+  abbrev raised : Whole
+  raised = whole_run logic w up
+
+  by_raising : Raises w raised g q → AllWell (done logic raised (turning (whole_stepper logic) raised g luck.closing))
+      → turning (whole_stepper logic) raised g luck.closing ≡ turning (whole_stepper logic) raised g well
+  by_raising (inl is_up) all = turns_alike logic raised g q is_up.alone is_up.state is_up.version is_up.phase luck.closing all
+  by_raising (inr down) all = none_turned luck.closing ∙ sym (none_turned well)
+    where
+      none_turned : (how : Closing) → turning (whole_stepper logic) raised g how ≡ []
+      none_turned how =
+          none_to_turn logic w g q (record luck { closing = how }) alone (is_some (whole_step logic raised (Begin g))) (map.get raised.entries g) down.1
+
+  serves_alike : AllWell (done logic w (serving (whole_stepper logic) w g luck)) → serving (whole_stepper logic) w g luck ≡ serving (whole_stepper logic) w g good
+  serves_alike all =
+      let parts = parts_well logic w up (turning (whole_stepper logic) raised g luck.closing) all in
+      ap (λ steps. up ++ steps) (by_raising (raises_by logic w g q alone luck.loading_failed alone.entry.phase refl) parts.1)
+      ∙ ap (λ steps. steps ++ turning (whole_stepper logic) (whole_run logic w steps) g well) (raises_alike logic w g q alone luck.loading_failed parts.0)
+
+-- ---- a step that may bring one
+
+module _ (logic : Logic) (w : Whole) (rests : AllRest w.entries) (s : Step) (luck : Luck) (after : Whole) (step : whole_step logic w s ≡ Some after) where
+  bringing_is : (grain : Option Grain) (l : Luck) → bringing (whole_stepper logic) w s grain l ≡ s ∷ serving_if (whole_stepper logic) w after grain l
+  bringing_is grain l = ap (λ o. s ∷ serving_if (whole_stepper logic) w (unwrap_or o w) grain l) step
+
+  if_alike : (owner : List ℕ) (p : Party) (grain : Option Grain) → Brings w after owner p grain → AllWell (done logic after (serving_if (whole_stepper logic) w after grain luck))
+      → serving_if (whole_stepper logic) w after grain luck ≡ serving_if (whole_stepper logic) w after grain good
+  if_alike owner p grain (is_told _ outcome entries replies) all =
+      not_served logic w rests s luck after step grain p outcome replies ∙ sym (not_served logic w rests s good after step grain p outcome replies)
+  if_alike owner p grain (waits g q own sender entries replies) all =
+      let served = is_served logic w rests s luck after step g replies in
+      served
+      ∙ serves_alike logic after g q luck (alone w after g q rests entries) (subst (λ steps. AllWell (done logic after steps)) served all)
+      ∙ sym (is_served logic w rests s good after step g replies)
+
+  brings_alike : (owner : List ℕ) (p : Party) (grain : Option Grain) → Brings w after owner p grain → AllWell (done logic w (bringing (whole_stepper logic) w s grain luck))
+      → bringing (whole_stepper logic) w s grain luck ≡ bringing (whole_stepper logic) w s grain good
+  brings_alike owner p grain brought all =
+      let later = first_well logic w after s (serving_if (whole_stepper logic) w after grain luck) step (subst (λ steps. AllWell (done logic w steps)) (bringing_is grain luck) all) in
+      bringing_is grain luck ∙ ap (λ steps. s ∷ steps) (if_alike owner p grain brought later.1) ∙ sym (bringing_is grain good)
+
+-- if it can't but be done
+module _ (logic : Logic) (w : Whole) (rests : AllRest w.entries) (s : Step) (luck : Luck) (owner : List ℕ) (p : Party) (grain : Option Grain)
+    (is : owner_of s ≡ Some owner) (role : role_of s ≡ asks p) (place : place_in w owner s ≡ grain) (can : whole_step logic w s ≡ None → ⊥) where
+  asks_alike : AllWell (done logic w (bringing (whole_stepper logic) w s grain luck)) → bringing (whole_stepper logic) w s grain luck ≡ bringing (whole_stepper logic) w s grain good
+  asks_alike all = by_step (whole_step logic w s) refl
+    where
+      by_step : (r : Option Whole) → whole_step logic w s ≡ r → bringing (whole_stepper logic) w s grain luck ≡ bringing (whole_stepper logic) w s grain good
+      by_step None none = absurd (can none)
+      by_step (Some after) step =
+          brings_alike logic w rests s luck after step owner p grain (subst (Brings w after owner p) place (brings logic w after s owner p is role step)) all
+
+-- ---- what is asked
+
+module _ (logic : Logic) (w : Whole) (rests : AllRest w.entries) (luck : Luck) where
+  abbrev FirstAlike : Step → Type 0
+  FirstAlike s = AllWell (done logic w (bringing (whole_stepper logic) w (taken_by luck.asking_failed s) (called_grain s) luck))
+      → bringing (whole_stepper logic) w (taken_by luck.asking_failed s) (called_grain s) luck ≡ bringing (whole_stepper logic) w s (called_grain s) good
+
+  poke_alike : (b : Bool) (caller : Client) (id : ℕ) (g : Grain) (state : Tree) → AllWell (done logic w (taken_by b (Poke false caller id g state) ∷ []))
+      → taken_by b (Poke false caller id g state) ≡ Poke false caller id g state
+  poke_alike false caller id g state all = refl
+  poke_alike true caller id g state all = by_step (whole_step logic w (Poke true caller id g state)) refl
+    where
+      by_step : (r : Option Whole) → whole_step logic w (Poke true caller id g state) ≡ r → Poke true caller id g state ≡ Poke false caller id g state
+      by_step None none = absurd (poke_done logic w caller id true g state none)
+      by_step (Some after) step = absurd (true≢false (sym (first_well logic w after (Poke true caller id g state) [] step all).0))
+
+  call_alike : (caller : Client) (id : ℕ) (g : Grain) (message : codec.Call) → FirstAlike (Call caller id g message)
+  call_alike caller id g message all =
+      let s : Step = Call caller id g message in
+      let same : taken_by luck.asking_failed s ≡ s = taken_call luck.asking_failed caller id g message in
+      ap (λ x. bringing (whole_stepper logic) w x (Some g) luck) same
+      ∙ asks_alike logic w rests s luck caller.tenant (party.Client caller id) (Some g) refl refl refl (call_done logic w caller id g message)
+      (subst (λ x. AllWell (done logic w (bringing (whole_stepper logic) w x (Some g) luck))) same all)
+
+  plainly : (b : Bool) (s : Step) → taken_by true s ≡ s → taken_by b s ≡ s
+  plainly true s is = is
+  plainly false s is = refl
+
+  first_alike : (s : Step) → is_asked s ≡ true → FirstAlike s
+  first_alike (Refuse caller id code) asked all = ap (λ x. x ∷ []) (plainly luck.asking_failed (Refuse caller id code) refl)
+  first_alike (Call caller id g message) asked all = call_alike caller id g message all
+  first_alike (Poke false caller id g state) asked all = ap (λ x. x ∷ []) (poke_alike luck.asking_failed caller id g state all)
+  first_alike (Poke true caller id g state) asked all = absurd (true≢false (sym asked))
+  first_alike (Status caller id) asked all = ap (λ x. x ∷ []) (plainly luck.asking_failed (Status caller id) refl)
+  first_alike (Tick now) asked all = ap (λ x. x ∷ []) (plainly luck.asking_failed (Tick now) refl)
+  first_alike Sweep asked all = ap (λ x. x ∷ []) (plainly luck.asking_failed Sweep refl)
+  first_alike (Deliver g) asked all = absurd (true≢false (sym asked))
+  first_alike (Activate g) asked all = absurd (true≢false (sym asked))
+  first_alike (Load g failed) asked all = absurd (true≢false (sym asked))
+  first_alike (Begin g) asked all = absurd (true≢false (sym asked))
+  first_alike (Store g turn failed) asked all = absurd (true≢false (sym asked))
+  first_alike (End g turn) asked all = absurd (true≢false (sym asked))
+  first_alike (Abandon g turn) asked all = absurd (true≢false (sym asked))
+
+-- ---- with the deliveries behind it
+
+module _ (logic : Logic) (setup : Setup) (tenant : List ℕ) where
+  delivers_alike : (w : Whole) (sends : List Send) (luck : Luck) → IsReached logic setup w → AllRest w.entries → sends_of (map.get w.accounts tenant) ≡ sends
+      → AllWell (done logic w (delivering (whole_stepper logic) w sends luck))
+      → delivering (whole_stepper logic) w sends luck ≡ delivering (whole_stepper logic) w sends good
+  delivers_alike w [] luck reached rests is all = refl
+  delivers_alike w (oldest ∷ others) luck reached rests is all =
+      let own = source_own logic setup tenant oldest others w reached is in
+      asks_alike logic w rests (Deliver oldest.source) luck tenant (party.Grain oldest.source) (Some oldest.message.target) (ap Some own) refl
+      (target_is logic setup tenant oldest others w is) (is_delivered logic setup tenant oldest others w own is) all
+
+  deliver_alike : (n : ℕ) (w : Whole) (lucks : List Luck) → IsReached logic setup w → AllRest w.entries
+      → AllWell (done logic w (deliveries (whole_stepper logic) n w tenant lucks))
+      → deliveries (whole_stepper logic) n w tenant lucks ≡ deliveries (whole_stepper logic) n w tenant []
+  deliver_alike zero w lucks reached rests all = refl
+  deliver_alike (suc n) w lucks reached rests all =
+      let by = whole_stepper logic in
+      let sends = sends_of (map.get w.accounts tenant) in
+      let luck = first_luck lucks in
+      let steps = delivering by w sends luck in
+      let next = whole_run logic w steps in
+      let parts = parts_well logic w steps (deliveries by n next tenant (later_luck lucks)) all in
+      let later = deliver_alike n next (later_luck lucks) (run_reached logic setup steps w reached) (delivering_goes logic setup tenant w sends luck reached rests refl).rests parts.1 in
+      ap (λ others. steps ++ others) later
+      ∙ ap (λ ss. ss ++ deliveries by n (whole_run logic w ss) tenant []) (delivers_alike w sends luck reached rests refl parts.0)
+
+-- what a tenant asks, a client of it asks
+client_of : (s : Step) (owner : List ℕ) → owner_of s ≡ Some owner → is_asked s ≡ true → (asking : Client × ℕ) × (asking_of s ≡ Some asking)
+client_of (Refuse caller id code) owner own asked = ((caller, id), refl)
+client_of (Call caller id g message) owner own asked = ((caller, id), refl)
+client_of (Poke failed caller id g state) owner own asked = ((caller, id), refl)
+client_of (Status caller id) owner own asked = ((caller, id), refl)
+client_of (Tick now) owner own asked = absurd (none-some owner own)
+client_of Sweep owner own asked = absurd (none-some owner own)
+client_of (Deliver g) owner own asked = absurd (true≢false (sym asked))
+client_of (Activate g) owner own asked = absurd (true≢false (sym asked))
+client_of (Load g failed) owner own asked = absurd (true≢false (sym asked))
+client_of (Begin g) owner own asked = absurd (true≢false (sym asked))
+client_of (Store g turn failed) owner own asked = absurd (true≢false (sym asked))
+client_of (End g turn) owner own asked = absurd (true≢false (sym asked))
+client_of (Abandon g turn) owner own asked = absurd (true≢false (sym asked))
+
+module _ (logic : Logic) (setup : Setup) (n : ℕ) (w : Whole) (reached : IsReached logic setup w) (rests : AllRest w.entries) (asked : Asked) (is : is_asked asked.step ≡ true) where
+  abbrev luck : Luck
+  luck = first_luck asked.lucks
+
+  abbrev first : List Step
+  first = bringing (whole_stepper logic) w (taken asked) (called_grain asked.step) luck
+
+  abbrev next : Whole
+  next = whole_run logic w first
+
+  later_alike : (owner : Option (List ℕ)) → owner_of asked.step ≡ owner → AllWell (done logic next (deliveries_of (whole_stepper logic) n next owner (later_luck asked.lucks)))
+      → deliveries_of (whole_stepper logic) n next owner (later_luck asked.lucks) ≡ deliveries_of (whole_stepper logic) n next owner []
+  later_alike None own all = refl
+  later_alike (Some owner) own all =
+      let client = client_of asked.step owner own is in
+      deliver_alike logic setup owner n next (later_luck asked.lucks) (run_reached logic setup first w reached) (asked_settles logic w rests luck asked.step client.0 client.1).rests all
+
+  all_alike : AllWell (done logic w (answering (whole_stepper logic) n w asked)) → answering (whole_stepper logic) n w asked ≡ answering (whole_stepper logic) n w (luckily asked)
+  all_alike all =
+      let by = whole_stepper logic in
+      let parts = parts_well logic w first (deliveries_of by n next (owner_of asked.step) (later_luck asked.lucks)) all in
+      ap (λ others. first ++ others) (later_alike (owner_of asked.step) refl parts.1)
+      ∙ ap (λ steps. steps ++ deliveries_of by n (whole_run logic w steps) (owner_of asked.step) []) (first_alike logic w rests luck asked.step is parts.0)
+
+pub answered_certainly : AnsweredCertainly
+answered_certainly logic setup journal w n asked leads rests is all = all_alike logic setup n w (journal, leads) rests asked is all
