@@ -39,7 +39,7 @@ use Rattle.answer_model.proofs.Served.{source_own, target_is, is_delivered}
 
 -- ---- lists of steps that went well
 
-AllWell-split : (steps others : List Step) → AllWell (steps ++ others) → AllWell steps × AllWell others
+pub AllWell-split : (steps others : List Step) → AllWell (steps ++ others) → AllWell steps × AllWell others
 AllWell-split [] others all = (tt, all)
 AllWell-split (s ∷ steps) others all =
     let rest = AllWell-split steps others all.1 in

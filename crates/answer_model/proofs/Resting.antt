@@ -176,6 +176,25 @@ module _ (logic : Logic) (w : Whole) (caller : Client) (id : ℕ) where
   unfolding effect_of
   poke_done failed g state none = none-some _ (sym none ∙ step_by_context logic w (Poke failed caller id g state) caller.tenant (Some g) _ refl refl refl)
 
+pub asked_done : (logic : Logic) (w : Whole) (b : Bool) (s : Step) (asking : Client × ℕ) → asking_of s ≡ Some asking → whole_step logic w (taken_by b s) ≡ None → ⊥
+asked_done logic w true (Refuse caller id code) asking is = refuse_done logic w caller id code
+asked_done logic w false (Refuse caller id code) asking is = refuse_done logic w caller id code
+asked_done logic w true (Call caller id g message) asking is = call_done logic w caller id g message
+asked_done logic w false (Call caller id g message) asking is = call_done logic w caller id g message
+asked_done logic w true (Poke failed caller id g state) asking is = poke_done logic w caller id true g state
+asked_done logic w false (Poke failed caller id g state) asking is = poke_done logic w caller id failed g state
+asked_done logic w true (Status caller id) asking is = status_done logic w caller id
+asked_done logic w false (Status caller id) asking is = status_done logic w caller id
+asked_done logic w b (Deliver grain) asking is = absurd (none-some asking is)
+asked_done logic w b (Activate grain) asking is = absurd (none-some asking is)
+asked_done logic w b (Load grain failed) asking is = absurd (none-some asking is)
+asked_done logic w b (Begin grain) asking is = absurd (none-some asking is)
+asked_done logic w b (Store grain turn failed) asking is = absurd (none-some asking is)
+asked_done logic w b (End grain turn) asking is = absurd (none-some asking is)
+asked_done logic w b (Abandon grain turn) asking is = absurd (none-some asking is)
+asked_done logic w b (Tick now) asking is = absurd (none-some asking is)
+asked_done logic w b Sweep asking is = absurd (none-some asking is)
+
 module _ (logic : Logic) (w : Whole) (rests : AllRest w.entries) (luck : Luck) where
   abbrev Settling : Step → Option Grain → Party → Type 0
   Settling s grain p = Settles w (whole_run logic w (bringing (whole_stepper logic) w s grain luck)) p
