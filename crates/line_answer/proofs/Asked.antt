@@ -11,7 +11,7 @@ use Rattle.grain_kinds.specs.Logic.{Logic}
 use Rattle.silo_model.specs.Journal.{LeadsTo}
 use Rattle.silo_model.specs.Opening.{Setup, opening}
 use Rattle.silo_model.specs.Whole.{Whole, shown_to, whole_step}
-use Rattle.silo_model.specs.Run.{run_by, whole_run}
+use Rattle.silo_model.specs.Run.{run_by}
 use Rattle.silo_model.proofs.Runs.{run_by-append}
 use Rattle.silo_core.specs.History.{History}
 use Rattle.line_parser.specs.Meaning.{meaning_of}
@@ -21,12 +21,11 @@ use Rattle.line_parser.specs.declared.line.LineRefusal.TheVariants.{NotARequest}
 use Rattle.line_protocol.specs.LineTexts.{ended, texts_of, said_lines}
 use Rattle.line_protocol.specs.Text.{refusal_line, not_now_line}
 use Rattle.line_protocol.proofs.Saids.{said_lines-more}
-use Rattle.answer_model.specs.Answering.{Luck, Stepper, Asked, taken, is_asked, whole_stepper, machine_stepper, answering, answered, all_answered}
-use Rattle.answer_model.specs.Apart.{asked_by}
+use Rattle.answer_model.specs.Answering.{Stepper, Asked, taken, is_asked, whole_stepper, answering, answered, all_answered}
 use Rattle.answer_model.specs.Resting.{AllRest, TellsAsker}
 use Rattle.answer_model.proofs.Resting.{answered_at_once}
 use Rattle.answer_model.proofs.Apart.{tenants_apart}
-use Rattle.line_answer.specs.Texts.{Heard, asked_if, asks_by, asks_of, text_if, all_steps, asked_text, step_text, line_text, lines_text}
+use Rattle.line_answer.specs.Texts.{Heard, asked_if, asks_by, asks_of, text_if, all_steps, step_text, line_text, lines_text}
 use Rattle.line_answer.specs.Trying.{Tries, AnswersAsked}
 use Rattle.line_answer.specs.Runs.{AnswersLine, AnswersLines}
 use Rattle.line_answer.proofs.Trying.{tries_none, tries_on}
@@ -38,7 +37,7 @@ asks_of-more [] h = append-nil (asks_by h.said h.lucks)
 asks_of-more (x ∷ heard) h = ap (λ asks. asks_by x.said x.lucks ++ asks) (asks_of-more heard h) ∙ sym (append_assoc (asks_by x.said x.lucks) (asks_of heard) (asks_by h.said h.lucks))
 
 module _ {M : Type 0} (by : Stepper M) (n : ℕ) where
-  all_answered-append : (m : M) (asks others : List Asked) → all_answered by n m (asks ++ others) ≡ all_answered by n (all_answered by n m asks) others
+  pub all_answered-append : (m : M) (asks others : List Asked) → all_answered by n m (asks ++ others) ≡ all_answered by n (all_answered by n m asks) others
   all_answered-append m [] others = refl
   all_answered-append m (asked ∷ asks) others = all_answered-append (answered by n m asked) asks others
 

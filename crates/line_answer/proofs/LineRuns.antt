@@ -1,5 +1,5 @@
 -- A run over lines that are answered at once, and how it ends.
-use Rattle.std.proofs.Common.{◌≡◌, ◌≢◌, ℕ, ◌+◌, Bool, true, false, List, [], ◌∷◌, ◌++◌, length, Option, Some, None, IfSome, Result, Err, refl, sym, ap, ◌∙◌, subst, inl, inr, arith, length-append}
+use Rattle.std.proofs.Common.{◌≡◌, ◌≢◌, ℕ, ◌+◌, Bool, true, false, List, [], ◌∷◌, ◌++◌, length, Option, Some, None, IfSome, refl, sym, ap, ◌∙◌, subst, inl, inr, arith, length-append}
 use Rattle.std.specs.Io.KnownBytes.{Appends, Keeps, IsAtEnd}
 use Rattle.std.proofs.KnownBytes.{Appends-trans, Appends-kept, Appends-nil}
 use Rattle.grain_kinds.specs.Logic.{Logic}
@@ -19,7 +19,7 @@ use Rattle.line_protocol.proofs.LinesOfBytes.{LinesTaken-trans, LinesTaken-kept,
 use Rattle.line_protocol.proofs.ReadLines.{all_taken_here, lines_ahead}
 use Rattle.line_protocol.proofs.TakenLines.{Took, Took-kept, Took-more, TakesLine-lines, are_taken, none_beyond, one_beyond}
 use Rattle.answer_model.specs.Resting.{AllRest}
-use Rattle.line_answer.specs.Runs.{AnswersLine, AnswersLines, AnswersAll, AnswersBefore, WritesOn, StopsBy, LineStopsBy, MayStop}
+use Rattle.line_answer.specs.Runs.{AnswersLine, AnswersLines, AnswersAll, AnswersBefore, StopsBy, LineStopsBy, MayStop}
 use Rattle.line_answer.proofs.Asked.{Hears, hears_none, hears_more, hears_own}
 
 pub Keeps-same : (a : Option (List ℕ)) → Keeps a a

@@ -1,5 +1,5 @@
 -- Steps that are tried one after another.
-use Rattle.std.proofs.Common.{◌≡◌, ◌≢◌, ℕ, zero, suc, ◌+◌, ◌-◌, ◌==◌, Bool, true, false, cond, List, [], ◌∷◌, ◌++◌, length, Option, Some, None, unwrap_or, refl, ap, sym, ◌∙◌, subst, arith, append_assoc, true≢false}
+use Rattle.std.proofs.Common.{◌≡◌, ℕ, zero, suc, ◌+◌, ◌==◌, Bool, true, false, List, [], ◌∷◌, ◌++◌, length, Option, Some, None, unwrap_or, refl, ap, sym, ◌∙◌, subst, arith, append_assoc, true≢false}
 use Rattle.std.specs.Prelude.{is_some, Ok, if◌then◌else◌}
 use Rattle.std.specs.FinMap as map
 use Rattle.std.proofs.lemmas.List.{append-nil}
@@ -12,7 +12,7 @@ use Rattle.silo_event.specs.Owner.{owner_of}
 use Rattle.silo_event.specs.Failed.{has_failed, may_fail, as_failed}
 use Rattle.silo_event.specs.declared.step.Step.{Step}
 use Rattle.silo_event.specs.declared.step.Step.TheVariants.{Refuse, Call, Poke, Status, Deliver, Activate, Load, Begin, Store, End, Abandon, Tick, Sweep}
-use Rattle.silo_event.specs.declared.step.Answer.TheVariants.{Done, Failed, NotNow}
+use Rattle.silo_event.specs.declared.step.Answer.TheVariants.{Done}
 use Rattle.grain_kinds.specs.Logic.{Logic}
 use Rattle.silo_model.specs.Machine.{Entry, Request, Send, Phase, waiting, loading, ready}
 use Rattle.silo_model.specs.Opening.{Setup}
@@ -26,7 +26,7 @@ use Rattle.silo_model.proofs.Runs.{whole_after, run_by-append, done_by-append}
 use Rattle.silo_state.specs.Entries.{front_turn, turn_in, opened_turn}
 use Rattle.silo_state.specs.Sends.{first_source}
 use Rattle.silo_core.specs.History.{History, Failures, Advances, Fails, StaysAsItWas, Answered, failed_since}
-use Rattle.answer_model.specs.Answering.{Luck, Closing, well, storage_failed, out_of_memory, Stepper, whole_stepper, can, taken_by, raising, ending, closing, turn_of, turn_of_first, turning, serving, serving_if, bringing, is_accepted, delivering, deliveries, deliveries_of, good, is_asked, called_grain}
+use Rattle.answer_model.specs.Answering.{Luck, Closing, well, storage_failed, out_of_memory, whole_stepper, taken_by, raising, ending, closing, turn_of, turn_of_first, turning, serving, bringing, is_accepted, delivering, deliveries, deliveries_of, good, is_asked, called_grain}
 use Rattle.answer_model.proofs.Served.{source_own, target_is}
 use Rattle.line_answer.specs.Trying.{failed_among, Tries, is_possible, TakesNow, IsFirst, Begins, Brings, IsOldest, Delivers, AnswersAsked}
 

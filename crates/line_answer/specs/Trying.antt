@@ -11,7 +11,7 @@ use Rattle.silo_model.specs.Pending.{sends_of}
 use Rattle.silo_model.specs.Whole.{Whole, whole_step}
 use Rattle.silo_model.specs.Run.{done_by, whole_run}
 use Rattle.silo_core.specs.History.{History, failed_since}
-use Rattle.answer_model.specs.Answering.{Luck, Asked, taken_by, taken, first_luck, bringing, delivering, answering, whole_stepper}
+use Rattle.answer_model.specs.Answering.{Luck, taken_by, taken, bringing, delivering, answering, whole_stepper}
 
 -- how many of the steps have the mark of a failure
 abbrev pub failed_among : List Step → ℕ

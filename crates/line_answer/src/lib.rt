@@ -8,6 +8,7 @@
 
 mod answering;
 mod bringing;
+pub mod laws;
 mod lines;
 mod runner;
 mod serving;

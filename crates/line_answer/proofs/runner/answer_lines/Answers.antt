@@ -114,7 +114,7 @@ returns-then-branch-clause-stopped g c = c.loop-count.invariant.2
 pub returns-in_err-scratch-clause-stopped : goal.returns-in_err-scratch-clause-stopped
 returns-in_err-scratch-clause-stopped g c =
     let p = err_from_is_err_and c.from_residual.result c.from_residual.ensures.1 in
-    handed_on _ _ _ (p.1 ∙ ap Err p.2) (may_stop _ _ c.requires)
+    handed_on _ _ fault.Memory (p.1 ∙ ap Err p.2) (may_stop fault.Memory c.args.silo.now.stopped c.requires)
 
 -- no call of the writer failed
 

@@ -1,6 +1,4 @@
-use Rattle.std.proofs.Common.{rules, ◌≡◌, Some, sym, ◌∙◌}
-use Rattle.std.specs.FinMap as map
-use Rattle.silo_state.specs.Entries.{opened_turn}
+use Rattle.std.proofs.Common.{rules, ◌≡◌, sym, ◌∙◌}
 use Rattle.line_answer.proofs.Trying.{begun}
 use Rattle.line_answer.proofs.serving.begin.Goals as goal
 

@@ -1,4 +1,4 @@
-use Rattle.std.proofs.Common.{rules, ◌≡◌}
+use Rattle.std.proofs.Common.{rules}
 use Rattle.silo_model.specs.Journal.{LeadsTo}
 use Rattle.answer_model.specs.Resting.{AllRest}
 use Rattle.line_answer.specs.Trying.{AnswersAsked}

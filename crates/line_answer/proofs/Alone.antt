@@ -1,0 +1,198 @@
+-- Lines of others change nothing of what a tenant is shown, and each client is answered first.
+use Rattle.std.proofs.Common.{◌≡◌, ℕ, Bool, true, false, cond, List, [], ◌∷◌, ◌++◌, length, refl, ap, sym, ◌∙◌, subst}
+use Rattle.std.specs.Prelude.{map as map_list, drop}
+use Rattle.std.proofs.lemmas.List.Elements.{filter-append}
+use Rattle.silo_event.specs.declared.step.Step.{Step}
+use Rattle.grain_kinds.specs.Logic.{Logic}
+use Rattle.silo_model.specs.Opening.{Setup}
+use Rattle.silo_model.specs.Whole.{Whole, shown_to, whole_step}
+use Rattle.silo_model.specs.Run.{concerns, done_by, whole_run}
+use Rattle.line_parser.specs.declared.line.Line.{Line}
+use Rattle.line_parser.specs.declared.line.Line.TheVariants as line
+use Rattle.line_protocol.specs.LineTexts.{said_lines, line_concerns, lines_to, texts_of}
+use Rattle.answer_model.specs.Answering.{Luck, Stepper, Asked, taken, is_asked, whole_stepper, machine_stepper, answering, answered, all_answered}
+use Rattle.answer_model.specs.Apart.{asked_by}
+use Rattle.answer_model.specs.Certain.{AllWell}
+use Rattle.answer_model.specs.Resting.{AllRest}
+use Rattle.answer_model.proofs.Apart.{tenants_apart}
+use Rattle.answer_model.proofs.Certain.{AllWell-split, parts_well, answered_certainly}
+use Rattle.answer_model.proofs.Reached.{IsReached, run_reached}
+use Rattle.answer_model.proofs.Resting.{answered_at_once}
+use Rattle.line_answer.specs.Texts.{Heard, asked_if, asks_by, asks_of, text_if, all_steps, asked_text, step_text, line_text, lines_text}
+use Rattle.line_answer.specs.Laws.{heard_by, heard_well, LinesApart, LinesCertain, LinesAlone}
+use Rattle.line_answer.proofs.Asked.{all_answered-append, run_all}
+
+-- ---- what the lines of one tenant ask
+
+module _ (tenant : List ℕ) where
+  asks_one : (s : Step) (asked : Bool) (lucks : List Luck) → asked_by tenant (asked_if asked s lucks) ≡ cond (concerns tenant s) (asked_if asked s lucks) []
+  asks_one s true lucks = refl
+  asks_one s false lucks = by_test (concerns tenant s)
+    where
+      by_test : (b : Bool) → [] ≡ cond b (asked_if false s lucks) []
+      by_test true = refl
+      by_test false = refl
+
+  -- of what a line asks
+  asks_own : (said : Line) (lucks : List Luck) → asked_by tenant (asks_by said lucks) ≡ cond (line_concerns tenant said) (asks_by said lucks) []
+  asks_own line.Nothing lucks = refl
+  asks_own (line.Refusal r) lucks = refl
+  asks_own (line.Step s) lucks = asks_one s (is_asked s) lucks
+
+  -- the lines of others are struck out before or after
+  pub asks_struck : (heard : List Heard) → asked_by tenant (asks_of heard) ≡ asks_of (heard_by tenant heard)
+  asks_struck [] = refl
+  asks_struck (h ∷ heard) =
+      filter-append (λ asked. concerns tenant asked.step) (asks_by h.said h.lucks) (asks_of heard)
+      ∙ (λ i. asks_own h.said h.lucks i ++ asks_struck heard i)
+      ∙ by_test (line_concerns tenant h.said)
+    where
+      by_test : (b : Bool) → cond b (asks_by h.said h.lucks) [] ++ asks_of (heard_by tenant heard) ≡ asks_of (cond b (h ∷ heard_by tenant heard) (heard_by tenant heard))
+      by_test true = refl
+      by_test false = refl
+
+  -- what is heard well of the tenant's lines
+  heard_struck : (saids : List Line) → heard_by tenant (heard_well saids) ≡ heard_well (lines_to tenant saids)
+  heard_struck [] = refl
+  heard_struck (said ∷ saids) =
+      ap (λ heard. cond (line_concerns tenant said) (record { said = said; lucks = [] } ∷ heard) heard) (heard_struck saids) ∙ by_test (line_concerns tenant said)
+    where
+      by_test : (b : Bool) → cond b (record { said = said; lucks = [] } ∷ heard_well (lines_to tenant saids)) (heard_well (lines_to tenant saids))
+          ≡ heard_well (cond b (said ∷ lines_to tenant saids) (lines_to tenant saids))
+      by_test true = refl
+      by_test false = refl
+
+pub lines_apart : LinesApart
+lines_apart logic n tenant lines others old new before after text other here there start same =
+    let by = machine_stepper logic in
+    here.own tenant
+    ∙ (λ i. all_answered by n (start i) ((asks_struck tenant here.heard ∙ ap asks_of same ∙ sym (asks_struck tenant there.heard)) i))
+    ∙ sym (there.own tenant)
+
+-- ---- where all went well
+
+abbrev head_of : Step → List Step → Step
+head_of s [] = s
+head_of s (first ∷ others) = first
+
+module _ (logic : Logic) (setup : Setup) (n : ℕ) where
+  abbrev of_whole : Stepper Whole
+  of_whole = whole_stepper logic
+
+  abbrev Well : Whole → List Asked → Type 0
+  Well w asks = AllWell (done_by (whole_step logic) w (all_steps of_whole n w asks))
+
+  -- what is asked by one line
+  module _ (w : Whole) (reached : IsReached logic setup w) (rests : AllRest w.entries) (s : Step) (lucks : List Luck) (asked : is_asked s ≡ true) where
+    abbrev one : Asked
+    one = record { step = s; lucks = lucks }
+
+    abbrev plain : Asked
+    plain = record { step = s; lucks = [] }
+
+    module _ (all : AllWell (done_by (whole_step logic) w (answering of_whole n w one))) where
+      same_steps : answering of_whole n w one ≡ answering of_whole n w plain
+      same_steps = answered_certainly logic setup reached.0 w n one reached.1 rests asked all
+
+      same_after : answered of_whole n w one ≡ answered of_whole n w plain
+      same_after = ap (whole_run logic w) same_steps
+
+      same_taken : taken one ≡ taken plain
+      same_taken = ap (head_of s) same_steps
+
+      same_text : asked_text of_whole n w one ≡ asked_text of_whole n w plain
+      same_text =
+          (λ i. text_if (whole_step logic w (same_taken i)) (texts_of (drop (length w.replies) (same_after i).replies)))
+
+    rests_then : AllRest (answered of_whole n w one).entries
+    rests_then = (answered_at_once logic setup reached.0 w n one reached.1 rests asked).0
+
+  reached_then : (w : Whole) (asked : Asked) → IsReached logic setup w → IsReached logic setup (answered of_whole n w asked)
+  reached_then w asked reached = run_reached logic setup (answering of_whole n w asked) w reached
+
+  -- what one line leaves: all rests, and it is as with good luck
+  record LineWell (w : Whole) (said : Line) (lucks : List Luck) (others : List Asked) : Type 0 where
+    pub after : all_answered of_whole n w (asks_by said lucks) ≡ all_answered of_whole n w (asks_by said [])
+    pub text : line_text of_whole n w said lucks ≡ line_text of_whole n w said []
+    pub reached : IsReached logic setup (all_answered of_whole n w (asks_by said lucks))
+    pub rests : AllRest (all_answered of_whole n w (asks_by said lucks)).entries
+    pub later : Well (all_answered of_whole n w (asks_by said lucks)) others
+
+  nothing_well : (w : Whole) (said : Line) (lucks : List Luck) (others : List Asked) → asks_by said lucks ≡ asks_by said [] → line_text of_whole n w said lucks ≡ line_text of_whole n w said []
+      → asks_by said lucks ≡ [] → IsReached logic setup w → AllRest w.entries → Well w (asks_by said lucks ++ others) → LineWell w said lucks others
+  nothing_well w said lucks others same text none reached rests all = record {
+    after = ap (all_answered of_whole n w) same;
+    text = text;
+    reached = subst (λ asks. IsReached logic setup (all_answered of_whole n w asks)) (sym none) reached;
+    rests = subst (λ asks. AllRest (all_answered of_whole n w asks).entries) (sym none) rests;
+    later = subst (λ asks. Well (all_answered of_whole n w asks) others) (sym none) (subst (λ asks. Well w (asks ++ others)) none all);
+  }
+
+  line_well : (w : Whole) (said : Line) (lucks : List Luck) (others : List Asked) → IsReached logic setup w → AllRest w.entries → Well w (asks_by said lucks ++ others)
+      → LineWell w said lucks others
+  line_well w line.Nothing lucks others reached rests all = nothing_well w line.Nothing lucks others refl refl refl reached rests all
+  line_well w (line.Refusal r) lucks others reached rests all = nothing_well w (line.Refusal r) lucks others refl refl refl reached rests all
+  line_well w (line.Step s) lucks others reached rests all = by_test (is_asked s) refl
+    where
+      step_well : is_asked s ≡ true → LineWell w (line.Step s) lucks others
+      step_well is =
+          let asked : Asked = record { step = s; lucks = lucks } in
+          let all_asked : (lucks : List Luck) → asks_by (line.Step s) lucks ≡ record { step = s; lucks = lucks } ∷ [] = λ lucks. ap (λ b. asked_if b s lucks) is in
+          let tried = subst (λ asks. Well w (asks ++ others)) (all_asked lucks) all in
+          let parts = parts_well logic w (answering of_whole n w asked) (all_steps of_whole n (answered of_whole n w asked) others) tried in
+          record {
+            after = ap (all_answered of_whole n w) (all_asked lucks) ∙ same_after w reached rests s lucks is parts.0 ∙ ap (all_answered of_whole n w) (sym (all_asked []));
+            text =
+                ap (λ b. step_text of_whole n b w s lucks) is ∙ same_text w reached rests s lucks is parts.0
+                ∙ ap (λ b. step_text of_whole n b w s []) (sym is);
+            reached = subst (λ asks. IsReached logic setup (all_answered of_whole n w asks)) (sym (all_asked lucks)) (reached_then w asked reached);
+            rests = subst (λ asks. AllRest (all_answered of_whole n w asks).entries) (sym (all_asked lucks)) (rests_then w reached rests s lucks is);
+            later = subst (λ asks. Well (all_answered of_whole n w asks) others) (sym (all_asked lucks)) parts.1;
+          }
+
+      by_test : (b : Bool) → is_asked s ≡ b → LineWell w (line.Step s) lucks others
+      by_test true is = step_well is
+      by_test false is =
+          let none : (lucks : List Luck) → asks_by (line.Step s) lucks ≡ [] = λ lucks. ap (λ b. asked_if b s lucks) is in
+          nothing_well w (line.Step s) lucks others (none lucks ∙ sym (none []))
+          (ap (λ b. step_text of_whole n b w s lucks) is ∙ ap (λ b. step_text of_whole n b w s []) (sym is)) (none lucks) reached rests all
+
+  -- all lines
+  pub all_well : (heard : List Heard) (w : Whole) → IsReached logic setup w → AllRest w.entries → Well w (asks_of heard)
+      → (all_answered of_whole n w (asks_of heard) ≡ all_answered of_whole n w (asks_of (heard_well (map_list (λ h. h.said) heard))))
+      × (lines_text of_whole n w heard ≡ lines_text of_whole n w (heard_well (map_list (λ h. h.said) heard)))
+  all_well [] w reached rests all = (refl, refl)
+  all_well (h ∷ heard) w reached rests all =
+      let first = line_well w h.said h.lucks (asks_of heard) reached rests all in
+      let next = all_answered of_whole n w (asks_by h.said h.lucks) in
+      let later = all_well heard next first.reached first.rests first.later in
+      let well = heard_well (map_list (λ h. h.said) heard) in (
+        all_answered-append of_whole n w (asks_by h.said h.lucks) (asks_of heard)
+            ∙ later.0
+            ∙ ap (λ x. all_answered of_whole n x (asks_of well)) first.after
+            ∙ sym (all_answered-append of_whole n w (asks_by h.said []) (asks_of well)),
+        (λ i. first.text i ++ (later.1 ∙ ap (λ x. lines_text of_whole n x well) first.after) i),
+      )
+
+pub lines_certain : LinesCertain
+lines_certain logic n lines old new text p =
+    let by = whole_stepper logic in
+    let a = p.answers in
+    let tried : AllWell (done_by (whole_step logic) old.whole (all_steps by n old.whole (asks_of a.heard))) = (AllWell-split old.journal _ (subst AllWell a.tries.journal p.well)).1 in
+    let same = all_well logic old.setup n a.heard old.whole (old.journal, p.leads) p.rests tried in
+    let well = heard_well (said_lines lines) in
+    let said : heard_well (map_list (λ h. h.said) a.heard) ≡ well = ap heard_well a.said in (
+      a.text_is ∙ same.1 ∙ ap (lines_text by n old.whole) said,
+      λ tenant.
+          ap (shown_to tenant) (a.tries.whole ∙ run_all by n old.whole (asks_of a.heard) ∙ same.0 ∙ ap (λ heard. all_answered by n old.whole (asks_of heard)) said)
+          ∙ tenants_apart logic old.setup old.journal old.whole n tenant (asks_of well) p.leads,
+    )
+
+pub lines_alone : LinesAlone
+lines_alone logic n tenant lines others old new before after text other here there start same =
+    let by = machine_stepper logic in
+    let own : (all : List (List ℕ)) → asked_by tenant (asks_of (heard_well (said_lines all))) ≡ asks_of (heard_well (lines_to tenant (said_lines all)))
+    = λ all. asks_struck tenant (heard_well (said_lines all)) ∙ ap asks_of (heard_struck tenant (said_lines all)) in
+    (lines_certain logic n lines old new text here).1 tenant
+    ∙ (λ i. all_answered by n (start i) ((own lines ∙ ap (λ saids. asks_of (heard_well saids)) same ∙ sym (own others)) i))
+    ∙ sym ((lines_certain logic n others before after other there).1 tenant)

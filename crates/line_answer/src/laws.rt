@@ -1,0 +1,28 @@
+//! Laws of lines that are answered at once. No code runs: a law is the contract of a function that does nothing, so that
+//! it is proved with the crate. They speak of what `answer_lines` answers.
+
+ghost use Rattle.line_answer.specs.Laws.{ClientsFirst, LinesAlone, LinesApart, LinesCertain};
+
+/// What a tenant is shown is the same, whatever lines of others stand between its own: if the lines that concern it are
+/// the same, with the same luck.
+pub fn lines_apart()
+    ensures { LinesApart }
+{}
+
+/// Where the storage never failed and no turn was given up, which the journal shows, what is written is a function of the
+/// lines and of what the silo had; and what a tenant is shown is one of what it was shown and of what the tenant and
+/// nobody asked.
+pub fn lines_certain()
+    ensures { LinesCertain }
+{}
+
+/// There a tenant is shown what a silo shows it that answers its lines, and those of nobody, alone.
+pub fn lines_alone()
+    ensures { LinesAlone }
+{}
+
+/// What is written for a client's line is the line of one reply to it, under its number, and behind that lines of
+/// replies to grains.
+pub fn clients_first()
+    ensures { ClientsFirst }
+{}
