@@ -13,21 +13,21 @@ use Rattle.silo_words.specs.Words.{IsFaultBy, IsNumber, IsWhy, silo_app}
 -- ---- a number
 
 module _ {E : Type 0} (gives : Text → Result ℕ E → Type 0) (parses : (t : Text) (x : Result ℕ E) → gives t x → ParsesUnsigned 64 10 t x)
-    (usual most : ℕ) (one : Option Text) (read : Result (Option ℕ) E) (none : one ≡ None → read ≡ Ok None) (some : (t : Text) → one ≡ Some t → TriesOne gives t read) where
+    (usual least most : ℕ) (one : Option Text) (read : Result (Option ℕ) E) (none : one ≡ None → read ≡ Ok None) (some : (t : Text) → one ≡ Some t → TriesOne gives t read) where
   tried : (t : Text) (x : Result (Option ℕ) E) → one ≡ Some t → read ≡ x → TriesOne gives t x
   tried t x given is = subst (TriesOne gives t) is (some t given)
 
-  given_number : (o : Option Text) → one ≡ o → (n number : ℕ) → read ≡ Ok (Some n) → IsNumber usual most o number → n ≡ number
+  given_number : (o : Option Text) → one ≡ o → (n number : ℕ) → read ≡ Ok (Some n) → IsNumber usual least most o number → n ≡ number
   given_number None e n number is wanted =
       let no = none e in
       absurd cc
   given_number (Some t) e n number is wanted = (parses t (Ok n) (tried t _ e is)).1 ∙ wanted.0.1
 
   -- a number that is read within its range
-  pub IsNumber-read : (n : ℕ) → read ≡ Ok (Some n) → 1 ≤ n → n ≤ most → IsNumber usual most one n
+  pub IsNumber-read : (n : ℕ) → read ≡ Ok (Some n) → least ≤ n → n ≤ most → IsNumber usual least most one n
   IsNumber-read n is low high = go one refl
     where
-      go : (o : Option Text) → one ≡ o → IsNumber usual most o n
+      go : (o : Option Text) → one ≡ o → IsNumber usual least most o n
       go None e =
           let no = none e in
           absurd cc
@@ -36,18 +36,18 @@ module _ {E : Type 0} (gives : Text → Result ℕ E → Type 0) (parses : (t : 
           ((number.0.0, sym number.1), low, high)
 
   -- no number was given
-  pub IsNumber-left_out : read ≡ Ok None → IsNumber usual most one usual
+  pub IsNumber-left_out : read ≡ Ok None → IsNumber usual least most one usual
   IsNumber-left_out is = go one refl
     where
-      go : (o : Option Text) → one ≡ o → IsNumber usual most o usual
+      go : (o : Option Text) → one ≡ o → IsNumber usual least most o usual
       go None e = refl
       go (Some t) e = absurd (tried t _ e is)
 
   -- a number out of the range
-  pub not_number-outside : (n number : ℕ) → read ≡ Ok (Some n) → ((1 ≤ n) → (n ≤ most) → ⊥) → IsNumber usual most one number → ⊥
+  pub not_number-outside : (n number : ℕ) → read ≡ Ok (Some n) → ((least ≤ n) → (n ≤ most) → ⊥) → IsNumber usual least most one number → ⊥
   not_number-outside n number is outside = go one refl
     where
-      go : (o : Option Text) → one ≡ o → IsNumber usual most o number → ⊥
+      go : (o : Option Text) → one ≡ o → IsNumber usual least most o number → ⊥
       go None e wanted =
           let no = none e in
           absurd cc
@@ -56,10 +56,10 @@ module _ {E : Type 0} (gives : Text → Result ℕ E → Type 0) (parses : (t : 
           outside (omega (arith, same, wanted.1)) (omega (arith, same, wanted.2))
 
   -- a text that is no number
-  pub not_number-text : most ≤ 18446744073709551615 → (fault : E) (number : ℕ) → read ≡ Err fault → IsNumber usual most one number → ⊥
+  pub not_number-text : most ≤ 18446744073709551615 → (fault : E) (number : ℕ) → read ≡ Err fault → IsNumber usual least most one number → ⊥
   not_number-text fits fault number is = go one refl
     where
-      go : (o : Option Text) → one ≡ o → IsNumber usual most o number → ⊥
+      go : (o : Option Text) → one ≡ o → IsNumber usual least most o number → ⊥
       go None e wanted =
           let no = none e in
           absurd cc
@@ -86,7 +86,7 @@ no_help e = absurd cc
 no_version : DisplayVersion ≢ OutOfMemory
 no_version e = absurd cc
 
-pub IsWhy-fails : (words : List Text) (kind : ErrorKind) (why : WordsFault) → (kind ≡ OutOfMemory) ⊎ IsAmong kind (fault_of silo_app words) → IsFaultBy kind why → IsWhy words why
+pub IsWhy-fails : (words : List Text) (kind : ErrorKind) (why : WordsFault) → (kind ≡ OutOfMemory) ⊎ IsAmong kind (fault_of silo_app words) → IsFaultBy words kind why → IsWhy words why
 IsWhy-fails words kind fault.Memory has by = tt
 IsWhy-fails words kind (fault.Help text) has by =
     (subst (λ k. IsAmong k (fault_of silo_app words)) by.0 (among words kind has (λ e. no_help (sym by.0 ∙ e))), by.1)

@@ -1,14 +1,15 @@
 -- What the words of a command line ask for, by clap's own account of what it makes of words.
-use Rattle.std.specs.Prelude.{◌≡◌, ◌≢◌, ◌≤◌, ◌⊎◌, ◌++◌, ◌∷◌, ⊤, ℕ, List, [], Option, Some, None, true, codes, map, String, string_bytes, unwrap_or}
+use Rattle.std.specs.Prelude.{◌≡◌, ◌≢◌, ◌≤◌, ◌⊎◌, ◌++◌, ◌∷◌, ⊤, ℕ, List, [], Option, Some, None, true, codes, map, slice_get, slice_index, String, string_bytes, unwrap_or, if◌then◌else◌}
 use Rattle.std.specs.Option.{option_map}
 use Rattle.std.specs.Str.Parse.{IsNumeral, digits_value, without_leading_plus}
+use Rattle.grain_id.specs.Names.{same_text}
 use Rattle.clap.specs.Lexer.{usize_max}
 use Rattle.clap.specs.Words.{App, IsAmong, Row, Rule, Shape, Text, all_of, fault_of, first_of, new_app, new_rule, one_of, subcommand_of, with_rule, with_subcommand}
 use Rattle.clap.specs.declared.builder.action.ArgAction.TheVariants.{Append}
 use Rattle.clap.specs.declared.builder.value_parser.ValueParser.TheVariants.{Unsigned}
 use Rattle.clap.specs.declared.error.kind.ErrorKind.{ErrorKind}
 use Rattle.clap.specs.declared.error.kind.ErrorKind.TheVariants.{DisplayHelp, DisplayVersion, OutOfMemory}
-use Rattle.silo_words.specs.declared.fault.TheConstants.{EXAMPLE}
+use Rattle.silo_words.specs.declared.fault.TheConstants.{ANSWER_EXAMPLE, AUDIT_EXAMPLE, SERVE_EXAMPLE, SILO_EXAMPLE, STEPS_EXAMPLE}
 use Rattle.silo_words.specs.declared.fault.WordsFault.{WordsFault}
 use Rattle.silo_words.specs.declared.fault.WordsFault.TheVariants as fault
 use Rattle.silo_words.specs.declared.task.Task.{Task}
@@ -115,9 +116,14 @@ IsAge given age = IsNumber 900000 1 86400000 given age
 abbrev pub IsWorkers : Option Text → ℕ → Type 0
 IsWorkers given workers = IsNumber 4 1 64 given workers
 
--- how many deliveries behind a line, 1,000 if no number is given
-abbrev pub IsSends : Option Text → ℕ → Type 0
-IsSends given sends = IsNumber 1000 0 1000000 given sends
+-- the text of a number, if one is given, has no sign, and no zero before other digits
+abbrev pub IsPlain : Option Text → Type 0
+IsPlain None = ⊤
+IsPlain (Some text) = (text ≡ codes "0") ⊎ ((49 ≤ slice_index text 0) × (slice_index text 0 ≤ 57))
+
+-- how many deliveries behind a line, by the rows that were found: 1,000 if no number is given
+abbrev pub IsSends : List Row → ℕ → Type 0
+IsSends rows sends = IsNumber 1000 0 1000000 (one_of (codes "sends") rows) sends × IsPlain (first_of (codes "sends") rows)
 
 -- the age that was found is none
 abbrev pub IsNoAge : List Row → Type 0
@@ -129,7 +135,7 @@ IsNoWorkers rows = (workers : ℕ) → ¬ IsWorkers (one_of (codes "workers") ro
 
 -- the number of deliveries that was found is none
 abbrev pub IsNoSends : List Row → Type 0
-IsNoSends rows = (sends : ℕ) → ¬ IsSends (one_of (codes "sends") rows) sends
+IsNoSends rows = (sends : ℕ) → ¬ IsSends rows sends
 
 -- ---- what is asked of what clap found: a subcommand's name, and the rows of its options and arguments
 
@@ -147,7 +153,7 @@ pub record FindSteps (name : Text) (rows : List Row) (age : ℕ) (tenants : List
 pub record FindAnswering (name : Text) (rows : List Row) (age sends : ℕ) (journal : Option Text) (tenants : List Text) : Type 0 where
   pub command : name ≡ codes "answer"
   pub within : IsAge (one_of (codes "age") rows) age
-  pub behind : IsSends (one_of (codes "sends") rows) sends
+  pub behind : IsSends rows sends
   pub kept : journal ≡ first_of (codes "journal") rows
   pub named : tenants ≡ tenants_in rows
 
@@ -216,6 +222,10 @@ pub record IsOutOfRange (words : List Text) : Type 0 where
   pub is : found_in words ≡ Some (name, rows)
   pub none : MakesNoTask name rows
 
+-- clap takes the words, and what it finds makes no task
+abbrev pub AskForNothing : List Text → Type 0
+AskForNothing words = AreTaken words × IsOutOfRange words
+
 -- ---- what was read
 
 -- the task has what was found
@@ -239,23 +249,38 @@ AskFor words (task.Answer age sends journal tenants) = AskForAnswering words age
 AskFor words (task.Serve workers age journal tenants) = AskForServing words workers age (option_map (λ path. path.now) journal) (map (λ t. t.now) tenants.items)
 AskFor words (task.Audit path) = AskForAudit words path.now
 
--- the text ends with the example
-abbrev pub EndsWithExample : Text → Type 0
-EndsWithExample text = (front : Text) × (text ≡ front ++ EXAMPLE.now)
+-- the word of that number, the program's name being the first, or nothing
+abbrev pub word_at : ℕ → List Text → Text
+word_at number words = unwrap_or (slice_get words number) []
+
+-- the name of the command that the words ask for: the second word, and behind `help` the third
+abbrev pub command_in : List Text → Text
+command_in words = if same_text (word_at 1 words) (codes "help") then word_at 2 words else word_at 1 words
+
+-- the example of the command of that name, and another if it is the name of none
+abbrev pub example_of : Text → Text
+example_of name = if same_text name (codes "steps") then STEPS_EXAMPLE.now
+    else (if same_text name (codes "answer") then ANSWER_EXAMPLE.now
+    else (if same_text name (codes "serve") then SERVE_EXAMPLE.now
+    else (if same_text name (codes "audit") then AUDIT_EXAMPLE.now else SILO_EXAMPLE.now)))
+
+-- the text ends with the example of the command that the words name, or of none
+abbrev pub EndsWithExample : List Text → Text → Type 0
+EndsWithExample words text = (front : Text) × (text ≡ front ++ example_of (command_in words))
 
 -- Why the words ask for nothing, unless memory was refused: for help or the version, whose text is shown, or clap refuses them, or what it found makes no task.
 abbrev pub IsWhy : List Text → WordsFault → Type 0
 IsWhy words fault.Memory = ⊤
-IsWhy words (fault.Help text) = AskForHelp words × EndsWithExample (string_bytes text)
+IsWhy words (fault.Help text) = AskForHelp words × EndsWithExample words (string_bytes text)
 IsWhy words fault.Version = AskForVersion words
-IsWhy words (fault.Wrong text) = AreRefused words ⊎ (AreTaken words × IsOutOfRange words)
+IsWhy words (fault.Wrong text) = AreRefused words ⊎ AskForNothing words
 
--- what an error of clap's becomes
-abbrev pub IsFaultBy : ErrorKind → WordsFault → Type 0
-IsFaultBy kind fault.Memory = ⊤
-IsFaultBy kind (fault.Help text) = (kind ≡ DisplayHelp) × EndsWithExample (string_bytes text)
-IsFaultBy kind fault.Version = kind ≡ DisplayVersion
-IsFaultBy kind (fault.Wrong text) = (kind ≢ OutOfMemory) × (kind ≢ DisplayHelp) × (kind ≢ DisplayVersion)
+-- what an error of clap's on the words becomes
+abbrev pub IsFaultBy : List Text → ErrorKind → WordsFault → Type 0
+IsFaultBy words kind fault.Memory = ⊤
+IsFaultBy words kind (fault.Help text) = (kind ≡ DisplayHelp) × EndsWithExample words (string_bytes text)
+IsFaultBy words kind fault.Version = kind ≡ DisplayVersion
+IsFaultBy words kind (fault.Wrong text) = (kind ≢ OutOfMemory) × (kind ≢ DisplayHelp) × (kind ≢ DisplayVersion)
 
 -- ---- words that are written out
 
@@ -268,12 +293,13 @@ pub record TellsWordsApart : Type 0 where
   pub steps : AskForSteps (after_silo (codes "steps" ∷ codes "red:2:4" ∷ [])) 900000 (codes "red:2:4" ∷ [])
   pub aged : AskForSteps (after_silo (codes "steps" ∷ codes "--age" ∷ codes "5" ∷ codes "red:2:4" ∷ [])) 5 (codes "red:2:4" ∷ [])
   pub answering : AskForAnswering (after_silo (codes "answer" ∷ codes "red:2:4" ∷ [])) 900000 1000 None (codes "red:2:4" ∷ [])
-  pub no_delivery : AskForAnswering (after_silo (codes "answer" ∷ codes "--sends" ∷ codes "0" ∷ codes "red:2:4" ∷ [])) 900000 0 None (codes "red:2:4" ∷ [])
+  pub undelivered : AskForAnswering (after_silo (codes "answer" ∷ codes "--sends" ∷ codes "0" ∷ codes "--journal" ∷ codes "day" ∷ codes "red:2:4" ∷ [])) 900000 0 (Some (codes "day")) (codes "red:2:4" ∷ [])
   pub serving : AskForServing (after_silo (codes "serve" ∷ codes "red:2:4" ∷ [])) 4 900000 None (codes "red:2:4" ∷ [])
   pub journaled : AskForServing (after_silo (codes "serve" ∷ codes "--workers" ∷ codes "8" ∷ codes "--age" ∷ codes "5" ∷ codes "--journal" ∷ codes "day" ∷ codes "red:2:4" ∷ [])) 8 5 (Some (codes "day")) (codes "red:2:4" ∷ [])
   pub audit : AskForAudit (after_silo (codes "audit" ∷ codes "day" ∷ [])) (codes "day")
   pub help : AskForHelp (after_silo (codes "--help" ∷ []))
   pub help_of_steps : AskForHelp (after_silo (codes "steps" ∷ codes "-h" ∷ []))
+  pub help_of_answer : AskForHelp (after_silo (codes "answer" ∷ codes "-h" ∷ []))
   pub help_of_serve : AskForHelp (after_silo (codes "serve" ∷ codes "-h" ∷ []))
   pub version : AskForVersion (after_silo (codes "--version" ∷ []))
   pub nothing : AreRefused (after_silo [])
@@ -282,5 +308,8 @@ pub record TellsWordsApart : Type 0 where
   pub no_worker : AreRefused (after_silo (codes "serve" ∷ codes "--workers" ∷ codes "0" ∷ codes "red:2:4" ∷ []))
   pub too_many_workers : AreRefused (after_silo (codes "serve" ∷ codes "--workers" ∷ codes "65" ∷ codes "red:2:4" ∷ []))
   pub too_many_deliveries : AreRefused (after_silo (codes "answer" ∷ codes "--sends" ∷ codes "1000001" ∷ codes "red:2:4" ∷ []))
+  pub signed_deliveries : AskForNothing (after_silo (codes "answer" ∷ codes "--sends" ∷ codes "+5" ∷ codes "red:2:4" ∷ []))
+  pub padded_deliveries : AskForNothing (after_silo (codes "answer" ∷ codes "--sends" ∷ codes "05" ∷ codes "red:2:4" ∷ []))
+  pub no_tenant_to_answer : AreRefused (after_silo (codes "answer" ∷ []))
   pub no_tenant_to_serve : AreRefused (after_silo (codes "serve" ∷ []))
   pub no_path : AreRefused (after_silo (codes "audit" ∷ []))

@@ -43,7 +43,9 @@ fn sends_option<'a>(alloc: Global) -> Arg<'a>
     Arg::new(alloc, "sends")
         .long("sends")
         .value_name("N")
-        .help("How many calls that grains sent are delivered behind a line, 0 to 1000000 [default: 1000]")
+        .help(
+            "How many calls that grains sent are delivered behind a line, 0 to 1000000 [default: 1000]",
+        )
         .value_parser(value_parser!(u64).range(0..=1_000_000))
 }
 

@@ -1,16 +1,20 @@
 //! What is told instead of a task.
 
-ghost use Rattle.std.specs.Prelude.{IfOk, string_bytes};
+ghost use Rattle.std.specs.Prelude.{◌≡◌, IfOk, string_bytes};
 ghost use Rattle.clap.specs.Words.{kind_of};
-ghost use Rattle.silo_words.specs.Words.{EndsWithExample, IsFaultBy};
+ghost use Rattle.grain_id.specs.Names.{same_text};
+ghost use Rattle.silo_words.specs.Words.{EndsWithExample, IsFaultBy, command_in, example_of, texts_of, word_at};
 
 use clap::Error;
 use clap::error::ErrorKind;
 use std::alloc::{AllocError, Global};
 use thiserror::Error;
 
-/// What stands at the end of help: two lines that a shell takes as they are.
-pub const EXAMPLE: &str = concat!(
+/// What stands at the end of help on `steps`: with which status the program ends, and two lines that a shell takes as they
+/// are, as at the end of the others.
+pub const STEPS_EXAMPLE: &str = concat!(
+    "\nExit status: 0 after the last line; 1 if a stream or memory failed, or there are\n",
+    "too many lines; 2 if the words are refused.\n",
     "\nExample: a counter is asked to add 3.\n",
     r#"  (echo '{"op":"call","from":"red/c1","id":1,"grain":"counter/red:a","method":"add","args":{"by":3}}'"#,
     "\n",
@@ -18,12 +22,49 @@ pub const EXAMPLE: &str = concat!(
     "\n"
 );
 
+/// What stands at the end of help on no command.
+pub const SILO_EXAMPLE: &str = concat!(
+    "\nExit status: 0 if all is well; 1 if a stream, a file, memory or the threads failed,\n",
+    "or there are too many lines; 2 if the words are refused; 3 if an audit finds that a\n",
+    "tenant differs; 4 if the file has no journal.\n",
+    "\nExample: a counter is asked to add 3, and answers.\n",
+    r#"  echo '{"op":"call","from":"red/c1","id":1,"grain":"counter/red:a","method":"add","args":{"by":3}}' |"#,
+    "\n  silo answer red:2:4\n"
+);
+
+/// What stands at the end of help on `answer`.
+pub const ANSWER_EXAMPLE: &str = concat!(
+    "\nExit status: 0 after the last line; 1 if a stream, the journal or memory failed,\n",
+    "or there are too many lines; 2 if the words are refused.\n",
+    "\nExample: a counter is asked to add 3, and answers.\n",
+    r#"  echo '{"op":"call","from":"red/c1","id":1,"grain":"counter/red:a","method":"add","args":{"by":3}}' |"#,
+    "\n  silo answer red:2:4\n"
+);
+
+/// What stands at the end of help on `serve`.
+pub const SERVE_EXAMPLE: &str = concat!(
+    "\nExit status: 0 after the last reply; 1 if a stream, the journal, memory or the\n",
+    "threads failed, or there are too many lines; 2 if the words are refused.\n",
+    "\nExample: a client that two threads serve asks a counter to add 3.\n",
+    r#"  echo '{"op":"call","from":"red/c1","id":1,"grain":"counter/red:a","method":"add","args":{"by":3}}' |"#,
+    "\n  silo serve --workers 2 red:2:4\n"
+);
+
+/// What stands at the end of help on `audit`.
+pub const AUDIT_EXAMPLE: &str = concat!(
+    "\nExit status: 0 if no tenant differs, and 3 if one does; 1 if the file, the output,\n",
+    "memory or the threads failed; 2 if the words are refused; 4 if the file has no journal.\n",
+    "\nExample: a counter is asked to add 3, and the journal of that is audited.\n",
+    r#"  echo '{"op":"call","from":"red/c1","id":1,"grain":"counter/red:a","method":"add","args":{"by":3}}'"#,
+    " |\n  silo answer --journal day red:2:4 && silo audit day\n"
+);
+
 /// Why the words ask for nothing.
 #[derive(Debug, Drop, Error)]
 pub enum WordsFault {
     #[error("out of memory")]
     Memory,
-    /// Help was asked for: its text, which ends with the example.
+    /// Help was asked for: its text, which ends with the example of the command that it is on.
     #[error("{0}")]
     Help(String),
     /// The version was asked for.
@@ -34,23 +75,69 @@ pub enum WordsFault {
     Wrong(String),
 }
 
-/// The text of help, and then the example.
-fn help_text(alloc: Global, error: &Error) -> Result<String, AllocError>
-    ensures { IfOk result (λ text. EndsWithExample (string_bytes text)) }
+/// The word of that number, the program's name being the first, or nothing.
+fn word_at<'a>(words: &'a [String], number: usize) -> &'a str
+    ensures { result.now ≡ word_at number (texts_of words.entry.now) }
+{
+    match words.get(number) {
+        Some(word) => word.as_str(),
+        None => "",
+    }
+}
+
+fn is_same(word: &str, other: &str) -> bool
+    ensures { result ≡ same_text word.now other.now }
+{
+    word == other
+}
+
+/// The name of the command that the words ask for, if they ask for one: the second word, and behind `help` the third.
+fn command_in<'a>(words: &'a [String]) -> &'a str
+    ensures { result.now ≡ command_in (texts_of words.entry.now) }
+{
+    let word = word_at(words, 1);
+    if is_same(word, "help") {
+        return word_at(words, 2);
+    }
+    word
+}
+
+/// The example of the command of that name, or that of no command.
+fn example_of(name: &str) -> &'static str
+    ensures { result.now ≡ example_of name.now }
+{
+    if is_same(name, "steps") {
+        return STEPS_EXAMPLE;
+    }
+    if is_same(name, "answer") {
+        return ANSWER_EXAMPLE;
+    }
+    if is_same(name, "serve") {
+        return SERVE_EXAMPLE;
+    }
+    if is_same(name, "audit") {
+        return AUDIT_EXAMPLE;
+    }
+    SILO_EXAMPLE
+}
+
+/// The text of help, and then the example of the command that the words name, or that of no command.
+fn help_text(alloc: Global, words: &[String], error: &Error) -> Result<String, AllocError>
+    ensures { IfOk result (λ text. EndsWithExample (texts_of words.now) (string_bytes text)) }
 {
     let mut text = error.to_string(alloc)?;
-    text.push_str(EXAMPLE)?;
+    text.push_str(example_of(command_in(words)))?;
     Ok(text)
 }
 
-/// What an error of `clap`'s becomes.
-pub fn fault_of(alloc: Global, error: &Error) -> WordsFault
-    ensures { IsFaultBy (kind_of error.now) result }
+/// What an error of `clap`'s on the words becomes.
+pub fn fault_of(alloc: Global, words: &[String], error: &Error) -> WordsFault
+    ensures { IsFaultBy (texts_of words.now) (kind_of error.now) result }
 {
     match error.kind() {
         ErrorKind::OutOfMemory => WordsFault::Memory,
         ErrorKind::DisplayVersion => WordsFault::Version,
-        ErrorKind::DisplayHelp => match help_text(alloc, error) {
+        ErrorKind::DisplayHelp => match help_text(alloc, words, error) {
             Ok(text) => WordsFault::Help(text),
             Err(_) => WordsFault::Memory,
         },

@@ -15,7 +15,9 @@ mod reading;
 mod task;
 mod tenants;
 
-pub use fault::{EXAMPLE, WordsFault};
+pub use fault::{
+    ANSWER_EXAMPLE, AUDIT_EXAMPLE, SERVE_EXAMPLE, SILO_EXAMPLE, STEPS_EXAMPLE, WordsFault,
+};
 pub use laws::words_are_told_apart;
 pub use reading::read_words;
 pub use task::Task;

@@ -25,7 +25,7 @@ pub fn read_words<'a>(alloc: Global, words: &'a [String]) -> Result<Task<'a>, Wo
     ensures fault { IfErr result (λ fault. IsWhy (texts_of words.entry.now) fault) }
 {
     match matches_of(alloc, words) {
-        Err(error) => Err(fault_of(alloc, &error)),
+        Err(error) => Err(fault_of(alloc, words, &error)),
         Ok(matches) => match matches.subcommand() {
             Some((name, found)) => task_of(alloc, name, found),
             None => unreachable!(),

@@ -1,8 +1,8 @@
 //! What the words ask for, from what `clap` found of a subcommand.
 
-ghost use Rattle.std.specs.Prelude.{◌≡◌, ℕ, List, IfOk, IfErr, IfSome, IfNone, codes, map, option_map};
+ghost use Rattle.std.specs.Prelude.{◌≡◌, ◌↔◌, ℕ, List, IfOk, IfErr, IfSome, IfNone, IsTrue, Some, codes, map, option_map};
 ghost use Rattle.clap.specs.Words.{Row, Text, first_of, found_of, one_of, rows_of};
-ghost use Rattle.silo_words.specs.Words.{IsAge, IsNoAge, IsNoSends, IsNoTaskFor, IsNoWorkers, IsNumber, IsSends, IsTaskOf, IsWorkers, MakesNoTask, tenants_in};
+ghost use Rattle.silo_words.specs.Words.{IsAge, IsNoAge, IsNoSends, IsNoTaskFor, IsNoWorkers, IsNumber, IsPlain, IsSends, IsTaskOf, IsWorkers, MakesNoTask, tenants_in};
 
 use crate::fault::WordsFault;
 use clap::ArgMatches;
@@ -57,13 +57,7 @@ pub enum Task<'a> {
 }
 
 /// The number of an option, if what was found is one within its range, and the usual one if nothing was.
-fn number_of(
-    found: &ArgMatches<'_>,
-    option: &str,
-    usual: u64,
-    least: u64,
-    most: u64,
-) -> Option<u64>
+fn number_of(found: &ArgMatches<'_>, option: &str, usual: u64, least: u64, most: u64) -> Option<u64>
     ensures some { IfSome result (λ number. IsNumber usual least most (one_of option.now (rows_of (found_of found.now))) number) }
     ensures none { IfNone result ((number : ℕ) → ¬ IsNumber usual least most (one_of option.now (rows_of (found_of found.now))) number) }
 {
@@ -101,11 +95,23 @@ fn workers_of(found: &ArgMatches<'_>) -> Option<u64>
     number_of(found, "workers", DEFAULT_WORKERS, 1, MAX_WORKERS)
 }
 
-/// How many deliveries.
+/// Whether the text is one zero, or begins with a digit above it.
+fn is_plain(text: &str) -> bool
+    ensures { IsTrue result ↔ IsPlain (Some text.now) }
+{
+    matches!(text.as_bytes(), [b'0'] | [b'1'..=b'9', ..])
+}
+
+/// How many deliveries. No sign is taken, and no zero before other digits.
 fn sends_of(found: &ArgMatches<'_>) -> Option<u64>
-    ensures some { IfSome result (λ sends. IsSends (one_of (codes "sends") (rows_of (found_of found.now))) sends) }
+    ensures some { IfSome result (λ sends. IsSends (rows_of (found_of found.now)) sends) }
     ensures none { IfNone result (IsNoSends (rows_of (found_of found.now))) }
 {
+    if let Some(text) = text_of(found, "sends") {
+        if !is_plain(text) {
+            return None;
+        }
+    }
     number_of(found, "sends", DEFAULT_SENDS, 0, MAX_SENDS)
 }
 
@@ -162,10 +168,11 @@ fn answer_task<'a>(alloc: Global, found: &ArgMatches<'a>) -> Result<Task<'a>, Wo
     let Ok(tenants) = tenants_of(alloc, found) else {
         return Err(WordsFault::Memory);
     };
+    let journal = text_of(found, "journal");
     Ok(Task::Answer {
         age,
         sends,
-        journal: text_of(found, "journal"),
+        journal,
         tenants,
     })
 }

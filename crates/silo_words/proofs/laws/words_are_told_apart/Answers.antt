@@ -1,11 +1,11 @@
-use Rattle.std.proofs.Common.{◌≡◌, ◌∷◌, [], List, Option, Some, None, refl, sym, ap, subst, inl, rules, arith, codes}
+use Rattle.std.proofs.Common.{◌≡◌, ◌∷◌, [], List, Option, Some, None, refl, sym, ap, subst, inl, inr, rules, arith, codes}
 use Rattle.std.specs.Option.{option_map_or}
 use Rattle.clap.specs.Words.{IsAmong, Row, Text, all_of, fault_of, first_of, one_of}
 use Rattle.clap.specs.declared.error.kind.ErrorKind.{ErrorKind}
 use Rattle.clap.specs.declared.error.kind.ErrorKind.TheVariants.{DisplayHelp, DisplayVersion, MissingSubcommand, MissingRequiredArgument, ValueValidation}
 use Rattle.clap.proofs.OnLiterals.{clap_on_literals}
 use Rattle.std.specs.Prelude.{unwrap_or}
-use Rattle.silo_words.specs.Words.{IsAge, IsWorkers, after_silo, found_in, silo_app}
+use Rattle.silo_words.specs.Words.{FindAnswering, IsAge, IsNumber, IsPlain, IsSends, IsWorkers, MakesNoTask, after_silo, found_in, silo_app}
 use Rattle.silo_words.proofs.laws.words_are_told_apart.Goals as goal
 
 abbrev rows_in : List Text → List Row
@@ -53,6 +53,73 @@ aged_named = refl
 
 five : IsAge (Some (codes "5")) 5
 five = search (rules, arith)
+
+-- ---- answering
+
+abbrev answering_words : List Text
+answering_words = after_silo (codes "answer" ∷ codes "red:2:4" ∷ [])
+
+abbrev undelivered_words : List Text
+undelivered_words = after_silo (codes "answer" ∷ codes "--sends" ∷ codes "0" ∷ codes "--journal" ∷ codes "day" ∷ codes "red:2:4" ∷ [])
+
+answering_taken : fault_of silo_app answering_words ≡ []
+unfolding clap_on_literals
+answering_taken = refl
+
+answering_is : found_in answering_words ≡ Some (codes "answer", rows_in answering_words)
+unfolding clap_on_literals
+answering_is = refl
+
+answering_age : one_of (codes "age") (rows_in answering_words) ≡ None
+unfolding clap_on_literals
+answering_age = refl
+
+answering_sends : one_of (codes "sends") (rows_in answering_words) ≡ None
+unfolding clap_on_literals
+answering_sends = refl
+
+answering_written : first_of (codes "sends") (rows_in answering_words) ≡ None
+unfolding clap_on_literals
+answering_written = refl
+
+answering_journal : first_of (codes "journal") (rows_in answering_words) ≡ None
+unfolding clap_on_literals
+answering_journal = refl
+
+answering_named : all_of (codes "tenants") (rows_in answering_words) ≡ Some (codes "red:2:4" ∷ [])
+unfolding clap_on_literals
+answering_named = refl
+
+undelivered_taken : fault_of silo_app undelivered_words ≡ []
+unfolding clap_on_literals
+undelivered_taken = refl
+
+undelivered_is : found_in undelivered_words ≡ Some (codes "answer", rows_in undelivered_words)
+unfolding clap_on_literals
+undelivered_is = refl
+
+undelivered_age : one_of (codes "age") (rows_in undelivered_words) ≡ None
+unfolding clap_on_literals
+undelivered_age = refl
+
+undelivered_sends : one_of (codes "sends") (rows_in undelivered_words) ≡ Some (codes "0")
+unfolding clap_on_literals
+undelivered_sends = refl
+
+undelivered_written : first_of (codes "sends") (rows_in undelivered_words) ≡ Some (codes "0")
+unfolding clap_on_literals
+undelivered_written = refl
+
+undelivered_journal : first_of (codes "journal") (rows_in undelivered_words) ≡ Some (codes "day")
+unfolding clap_on_literals
+undelivered_journal = refl
+
+undelivered_named : all_of (codes "tenants") (rows_in undelivered_words) ≡ Some (codes "red:2:4" ∷ [])
+unfolding clap_on_literals
+undelivered_named = refl
+
+zero : IsNumber 1000 0 1000000 (Some (codes "0")) 0
+zero = search (rules, arith)
 
 -- ---- serving
 
@@ -140,6 +207,10 @@ help_of_steps_asked : fault_of silo_app (after_silo (codes "steps" ∷ codes "-h
 unfolding clap_on_literals
 help_of_steps_asked = refl
 
+help_of_answer_asked : fault_of silo_app (after_silo (codes "answer" ∷ codes "-h" ∷ [])) ≡ DisplayHelp ∷ []
+unfolding clap_on_literals
+help_of_answer_asked = refl
+
 help_of_serve_asked : fault_of silo_app (after_silo (codes "serve" ∷ codes "-h" ∷ [])) ≡ DisplayHelp ∷ []
 unfolding clap_on_literals
 help_of_serve_asked = refl
@@ -168,6 +239,14 @@ workers_of_65 : fault_of silo_app (after_silo (codes "serve" ∷ codes "--worker
 unfolding clap_on_literals
 workers_of_65 = refl
 
+sends_of_1000001 : fault_of silo_app (after_silo (codes "answer" ∷ codes "--sends" ∷ codes "1000001" ∷ codes "red:2:4" ∷ [])) ≡ ValueValidation ∷ []
+unfolding clap_on_literals
+sends_of_1000001 = refl
+
+none_to_answer : fault_of silo_app (after_silo (codes "answer" ∷ [])) ≡ MissingRequiredArgument ∷ []
+unfolding clap_on_literals
+none_to_answer = refl
+
 none_to_serve : fault_of silo_app (after_silo (codes "serve" ∷ [])) ≡ MissingRequiredArgument ∷ []
 unfolding clap_on_literals
 none_to_serve = refl
@@ -175,6 +254,54 @@ none_to_serve = refl
 no_path_given : fault_of silo_app (after_silo (codes "audit" ∷ [])) ≡ MissingRequiredArgument ∷ []
 unfolding clap_on_literals
 no_path_given = refl
+
+-- ---- a number that is not plain
+
+abbrev signed_words : List Text
+signed_words = after_silo (codes "answer" ∷ codes "--sends" ∷ codes "+5" ∷ codes "red:2:4" ∷ [])
+
+abbrev padded_words : List Text
+padded_words = after_silo (codes "answer" ∷ codes "--sends" ∷ codes "05" ∷ codes "red:2:4" ∷ [])
+
+signed_taken : fault_of silo_app signed_words ≡ []
+unfolding clap_on_literals
+signed_taken = refl
+
+signed_is : found_in signed_words ≡ Some (codes "answer", rows_in signed_words)
+unfolding clap_on_literals
+signed_is = refl
+
+signed_written : first_of (codes "sends") (rows_in signed_words) ≡ Some (codes "+5")
+unfolding clap_on_literals
+signed_written = refl
+
+padded_taken : fault_of silo_app padded_words ≡ []
+unfolding clap_on_literals
+padded_taken = refl
+
+padded_is : found_in padded_words ≡ Some (codes "answer", rows_in padded_words)
+unfolding clap_on_literals
+padded_is = refl
+
+padded_written : first_of (codes "sends") (rows_in padded_words) ≡ Some (codes "05")
+unfolding clap_on_literals
+padded_written = refl
+
+signed_not_plain : IsPlain (Some (codes "+5")) → ⊥
+signed_not_plain (inl e) = absurd (cc (e))
+signed_not_plain (inr h) = omega (arith, h.0)
+
+padded_not_plain : IsPlain (Some (codes "05")) → ⊥
+padded_not_plain (inl e) = absurd (cc (e))
+padded_not_plain (inr h) = omega (arith, h.0)
+
+not_plain : (rows : List Row) (text : Text) → first_of (codes "sends") rows ≡ Some text → (IsPlain (Some text) → ⊥) → MakesNoTask (codes "answer") rows
+not_plain rows text written never = record {
+  steps = λ age tenants found. absurd (cc (found.command));
+  answering = λ age sends journal tenants (found : FindAnswering (codes "answer") rows age sends journal tenants). never (subst IsPlain written found.behind.1);
+  serving = λ workers age journal tenants found. absurd (cc (found.command));
+  audit = λ path found. absurd (cc (found.command));
+}
 
 only : (kind : ErrorKind) (kinds : List ErrorKind) → kinds ≡ kind ∷ [] → IsAmong kind kinds
 only kind kinds is = subst (IsAmong kind) (sym is) (inl refl)
@@ -201,6 +328,32 @@ returns c = record {
       command = refl;
       within = subst (λ (o : Option Text). IsAge o 5) (sym aged_age) five;
       named = sym (ap (λ o. unwrap_or o []) aged_named);
+    };
+  };
+  answering = record {
+    taken = answering_taken;
+    name = codes "answer";
+    rows = rows_in answering_words;
+    is = answering_is;
+    found = record {
+      command = refl;
+      within = subst (λ (o : Option Text). IsAge o 900000) (sym answering_age) refl;
+      behind = (subst (λ (o : Option Text). IsNumber 1000 0 1000000 o 1000) (sym answering_sends) refl, subst IsPlain (sym answering_written) tt);
+      kept = sym answering_journal;
+      named = sym (ap (λ o. unwrap_or o []) answering_named);
+    };
+  };
+  undelivered = record {
+    taken = undelivered_taken;
+    name = codes "answer";
+    rows = rows_in undelivered_words;
+    is = undelivered_is;
+    found = record {
+      command = refl;
+      within = subst (λ (o : Option Text). IsAge o 900000) (sym undelivered_age) refl;
+      behind = (subst (λ (o : Option Text). IsNumber 1000 0 1000000 o 0) (sym undelivered_sends) zero, subst IsPlain (sym undelivered_written) (inl refl));
+      kept = sym undelivered_journal;
+      named = sym (ap (λ o. unwrap_or o []) undelivered_named);
     };
   };
   serving = record {
@@ -238,6 +391,7 @@ returns c = record {
   };
   help = only DisplayHelp _ help_asked;
   help_of_steps = only DisplayHelp _ help_of_steps_asked;
+  help_of_answer = only DisplayHelp _ help_of_answer_asked;
   help_of_serve = only DisplayHelp _ help_of_serve_asked;
   version = only DisplayVersion _ version_asked;
   nothing = (MissingSubcommand, (λ e. absurd cc), (λ e. absurd cc), only MissingSubcommand _ nothing_given);
@@ -245,6 +399,10 @@ returns c = record {
   no_tenant = (MissingRequiredArgument, (λ e. absurd cc), (λ e. absurd cc), only MissingRequiredArgument _ no_tenant_given);
   no_worker = (ValueValidation, (λ e. absurd cc), (λ e. absurd cc), only ValueValidation _ workers_of_0);
   too_many_workers = (ValueValidation, (λ e. absurd cc), (λ e. absurd cc), only ValueValidation _ workers_of_65);
+  too_many_deliveries = (ValueValidation, (λ e. absurd cc), (λ e. absurd cc), only ValueValidation _ sends_of_1000001);
+  signed_deliveries = (signed_taken, record { name = codes "answer"; rows = rows_in signed_words; is = signed_is; none = not_plain _ (codes "+5") signed_written signed_not_plain });
+  padded_deliveries = (padded_taken, record { name = codes "answer"; rows = rows_in padded_words; is = padded_is; none = not_plain _ (codes "05") padded_written padded_not_plain });
+  no_tenant_to_answer = (MissingRequiredArgument, (λ e. absurd cc), (λ e. absurd cc), only MissingRequiredArgument _ none_to_answer);
   no_tenant_to_serve = (MissingRequiredArgument, (λ e. absurd cc), (λ e. absurd cc), only MissingRequiredArgument _ none_to_serve);
   no_path = (MissingRequiredArgument, (λ e. absurd cc), (λ e. absurd cc), only MissingRequiredArgument _ no_path_given);
 }
