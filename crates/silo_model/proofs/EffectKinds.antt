@@ -76,10 +76,10 @@ pub data Remains (o : Option Account) : Change Account → Type 0 where
 abbrev pub Stores : Logic → Grain → Request → Type 0
 Stores logic g request = (state : Tree) × ((plan_of logic g state request).storage ≡ asks_nothing → ⊥)
 
--- what an entry comes to where a turn is closed: it is without the turn, or gone
+-- what an entry comes to where a turn is closed: it holds what it held but for the turn, or is gone
 pub data IsLeft (logic : Logic) (g : Grain) (e : Entry) (request : Request) : Change Entry → Type 0 where
-  stays : (phase : Phase) (last : ℕ) → (is_ready phase ≡ false → (is_ready e.phase ≡ false) ⊎ Stores logic g request)
-      → IsLeft logic g e request (put (record e { phase = phase; turns = map.remove e.turns request.number; last = last }))
+  stays : (new : Entry) → new.queue ≡ e.queue → new.turns ≡ map.remove e.turns request.number
+      → (is_ready new.phase ≡ false → (is_ready e.phase ≡ false) ⊎ Stores logic g request) → IsLeft logic g e request (put new)
   goes : e.queue ≡ [] → Stores logic g request → IsLeft logic g e request drop
 
 -- the step may change the row of this grain, and of no other
@@ -255,7 +255,7 @@ module _ (logic : Logic) (s : Context) (g : Grain) (turn : ℕ) (e : Entry) (req
     (open_turn : map.get e.turns turn ≡ Some request) where
   ready_left : (state : Tree) (version : Option ℕ)
       → IsLeft logic g e request (put (record e { phase = ready state version; turns = map.remove e.turns request.number; last = s.clock }))
-  ready_left state version = stays (ready state version) s.clock (λ isnt. absurd (true≢false isnt))
+  ready_left state version = stays _ refl refl (λ isnt. absurd (true≢false isnt))
 
   abbrev Closing : Step → Option Effect → Type 0
   Closing step o = Doing logic s step (ends g turn) (Some g) o
@@ -277,12 +277,12 @@ module _ (logic : Logic) (s : Context) (g : Grain) (turn : ℕ) (e : Entry) (req
 
   abandoned_does : Closing (Abandon g turn) (Some (abandoned s e request))
   abandoned_does =
-      closes g turn e request _ [] keep (Err NoMemory) is open_turn (stays e.phase s.clock (λ isnt. inl isnt)) (inl refl) (inl refl)
+      closes g turn e request _ [] keep (Err NoMemory) is open_turn (stays _ refl refl (λ isnt. inl isnt)) (inl refl) (inl refl)
 
   activation_left : (queue : List Request) → e.queue ≡ queue → Stores logic g request
       → IsLeft logic g e request (ends_activation e request queue)
   activation_left [] none asks_some = goes none asks_some
-  activation_left (first ∷ others) some asks_some = stays waiting e.last (λ _. inr asks_some)
+  activation_left (first ∷ others) some asks_some = stays _ refl refl (λ _. inr asks_some)
 
   module _ (failed : Bool) (state : Tree) (version : Option ℕ) where
     abbrev Storing : Option Effect → Type 0

@@ -16,7 +16,7 @@ use Rattle.finite_maps.proofs.Options.{some_if_fails}
 use Rattle.grain_id.specs.Names.{Grain}
 use Rattle.grain_id.proofs.Order.{grain_cmp_total, grain_cmp_exact}
 use Rattle.grain_kinds.specs.Logic.{Logic}
-use Rattle.silo_model.specs.Machine.{Entry, Entries, Request, Phase}
+use Rattle.silo_model.specs.Machine.{Entry, Entries, Request}
 use Rattle.silo_model.specs.Turns.{reads, may_open}
 use Rattle.silo_model.specs.Idle.{is_ready}
 use Rattle.silo_model.proofs.TurnMaps.{Turns}
@@ -91,19 +91,24 @@ idle_entry logic g e none = record {
   alone = λ n q found writes. absurd (none-some q (sym (get-none e.turns n none) ∙ found));
 }
 
--- the entry without a turn, in a phase in which none is left where it isn't ready
-pub closed_entry : (logic : Logic) (g : Grain) (e : Entry) (n last : ℕ) (q : Request) (phase : Phase) → IsFairEntry logic g e → map.get e.turns n ≡ Some q → (is_ready phase ≡ false → map.len (map.remove e.turns n) ≡ 0)
-    → IsFairEntry logic g (record e { phase = phase; turns = map.remove e.turns n; last = last })
-closed_entry logic g e n last q phase fair found rest = record {
+-- an entry with all turns of another but one, in a phase in which none is left where it isn't ready
+pub closed_entry : (logic : Logic) (g : Grain) (e new : Entry) (n : ℕ) (q : Request) → IsFairEntry logic g e → map.get e.turns n ≡ Some q → new.turns ≡ map.remove e.turns n
+    → (is_ready new.phase ≡ false → map.len (map.remove e.turns n) ≡ 0) → IsFairEntry logic g new
+closed_entry logic g e new n q fair found less rest = record {
   keyed = λ k x left. fair.keyed k x (was k x left).1;
-  at_rest = rest;
+  at_rest = λ isnt. as_many ∙ rest isnt;
   alone = λ k x left writes.
       let none = none_left e.turns n q found (fair.alone k x (was k x left).1 writes) in
-      absurd (none-some x (sym (get-none (map.remove e.turns n) k none) ∙ left));
+      absurd (none-some x (sym (get-none new.turns k (as_many ∙ none)) ∙ left));
 }
   where
-    was : (k : ℕ) (x : Request) → map.get (map.remove e.turns n) k ≡ Some x → (eq_by_cmp nat_cmp k n ≡ false) × (map.get e.turns k ≡ Some x)
-    was k x left = some_if_fails (eq_by_cmp nat_cmp k n) (map.get e.turns k) x (sym (map.get-remove nat_cmp_total e.turns n k) ∙ left)
+    as_many : map.len new.turns ≡ map.len (map.remove e.turns n)
+    as_many = ap (λ (t : Turns). map.len t) less
+
+    was : (k : ℕ) (x : Request) → map.get new.turns k ≡ Some x → (eq_by_cmp nat_cmp k n ≡ false) × (map.get e.turns k ≡ Some x)
+    was k x left =
+        some_if_fails (eq_by_cmp nat_cmp k n) (map.get e.turns k) x
+        (sym (ap (λ (t : Turns). map.get t k) less ∙ map.get-remove nat_cmp_total e.turns n k) ∙ left)
 
 where_writes : (b : Bool) (x y : Bool) → (if b then x else y) ≡ true → b ≡ false → y ≡ true
 where_writes true x y e is = absurd (true≢false is)

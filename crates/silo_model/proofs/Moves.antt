@@ -259,9 +259,12 @@ module _ (logic : Logic) (s : Context) (g : Grain) (e : Entry) (is : s.entry ≡
     Closing account left row outcome =
         Moves logic (ends g turn) (Some g) s (record { account = account; entry = left; row = row; replies = reply_to request.sender outcome })
 
-    -- the entry without the turn
+    -- what is held without the turn
     less : (f : Request → ℕ) → sum_by f e.queue + total f (map.remove e.turns request.number) + f request ≡ held f e
     less f = omega (arith, one_less f e.turns request.number request there)
+
+    less_held : (new : Entry) → new.queue ≡ e.queue → new.turns ≡ map.remove e.turns request.number → (f : Request → ℕ) → held f new + f request ≡ held f e
+    less_held new queue turns f = (λ i. sum_by f (queue i) + total f (turns i) + f request) ∙ less f
 
     others_stay : (n : ℕ) (q : Request) → n ≢ turn → turn_in s.entry n ≡ Some q → map.get (map.remove e.turns request.number) n ≡ Some q
     others_stay n q apart found = still_open e.turns request.number n q (λ same. apart (same ∙ number_is)) (turn_is n q found)
@@ -284,12 +287,17 @@ module _ (logic : Logic) (s : Context) (g : Grain) (e : Entry) (is : s.entry ≡
         → (account : Change Account) {left : Change Entry} (row : Change Row) (outcome : Result Tree Fault)
         → count_of (change_option s.account account) ≡ count_of s.account
         → IsLeft logic g e request left → Closing account left row outcome
-    closed_moves law account row outcome same (stays phase last rest) = record {
+    closed_moves law account row outcome same (stays new queue turns rest) = record {
       placed = tt;
-      left = closed_entry logic g e request.number last request phase fair there (λ rests. no_turn law (rest rests));
-      numbers = record { request = None; holds = λ f. omega (arith, less f, held_is f); counted = same };
-      balance = λ w quiet. omega (arith, less (sent w), held_is (sent w), replied_answered w quiet request.sender outcome);
-      turns = others_stay;
+      left = closed_entry logic g e new request.number request fair there turns (λ rests. no_turn law (rest rests));
+      numbers = record { request = None; holds = λ f. omega (arith, less_held new queue turns f, held_is f); counted = same };
+      balance = λ w quiet. omega (
+        arith,
+        less_held new queue turns (sent w),
+        held_is (sent w),
+        replied_answered w quiet request.sender outcome,
+      );
+      turns = λ n q apart found. ap (λ (t : Turns). map.get t n) turns ∙ others_stay n q apart found;
     }
     closed_moves law account row outcome same (goes is_empty stores) =
         let none = was_alone law stores in

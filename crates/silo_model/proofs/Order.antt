@@ -28,7 +28,7 @@ use Rattle.silo_model.proofs.Moves.{count_of, count-with_sends, remains_count}
 use Rattle.silo_model.proofs.Journals.{parts_lead}
 use Rattle.silo_model.proofs.QuietCounts.{shown_entry}
 use Rattle.silo_model.proofs.SharedSteps.{get-kept_there}
-use Rattle.silo_model.proofs.TurnMaps.{get-remove_open}
+use Rattle.silo_model.proofs.TurnMaps.{Turns, get-remove_open}
 
 -- ---- requests up to a number
 
@@ -124,9 +124,15 @@ pub record Orders (s : Context) (grain : Option Grain) (e : Effect) : Type 0 whe
 module _ (logic : Logic) (s : Context) (step : Step) (old : (x : Entry) → s.entry ≡ Some x → IsOrdered (count_of s.account) x) where
   by_left : (g : Grain) (e : Entry) (request : Request) (c : Change Entry) (after : ℕ)
       → IsOrdered (count_of s.account) e → after ≡ count_of s.account → IsLeft logic g e request c → OfPutAt (λ (g : Grain). IsOrdered after) (Some g) c
-  by_left g e request _ after is same (stays phase last ready) =
-      grown (count_of s.account) after (record e { phase = phase; turns = map.remove e.turns request.number; last = last }) (omega (arith, same))
-      (record { queue = is.queue; counted = is.counted; turns = λ n turn found. is.turns n turn (get-remove_open e.turns request.number n turn found) })
+  by_left g e request _ after is same (stays new queue turns ready) =
+      grown (count_of s.account) after new (omega (arith, same))
+      (record {
+        queue = subst Ascend (sym queue) is.queue;
+        counted = subst (AllUpTo (count_of s.account)) (sym queue) is.counted;
+        turns = λ n turn found.
+            let law = is.turns n turn (get-remove_open e.turns request.number n turn (sym (ap (λ (t : Turns). map.get t n) turns) ∙ found)) in
+            (law.0, subst (AllBehind turn.number) (sym queue) law.1);
+      })
   by_left g e request _ after is same (goes none stores) = tt
 
   by_kind : (role : Role) (grain : Option Grain) (e : Effect) → Does logic s step role grain e → Orders s grain e

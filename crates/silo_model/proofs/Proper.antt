@@ -1,5 +1,5 @@
 -- What a step does stays with its owner.
-use Rattle.std.proofs.Common.{◌≡◌, ℕ, List, [], ◌∷◌, ◌++◌, Option, Some, None, ◌∙◌, subst}
+use Rattle.std.proofs.Common.{◌≡◌, ℕ, List, [], ◌∷◌, ◌++◌, Option, Some, None, sym, ◌∙◌, subst}
 use Rattle.std.specs.Prelude.{Result, Err, flat_map}
 use Rattle.std.proofs.lemmas.Option.{same_Some}
 use Rattle.grain_id.specs.Names.{Grain}
@@ -17,7 +17,7 @@ use Rattle.silo_model.specs.Effect.{Context, Effect, Change}
 use Rattle.silo_model.specs.Calls.{reply_to}
 use Rattle.silo_model.proofs.Changes.{WhereChanged, WhereChanged-holds, OfPut}
 use Rattle.silo_model.proofs.EffectKinds.{Role, role_owner, IsLeft, stays, goes, Does, tells, pokes, accepts, goes_on, unloads, opens, closes}
-use Rattle.silo_model.proofs.Sound.{AllFrom, IsEntryOf, with_request-IsEntryOf, insert-AreOpenFrom, remove-AreOpenFrom}
+use Rattle.silo_model.proofs.Sound.{AllFrom, AreOpenFrom, IsEntryOf, with_request-IsEntryOf, insert-AreOpenFrom, remove-AreOpenFrom}
 
 -- each of the replies is to the tenant
 abbrev pub AllTo : List ℕ → List Reply → Type 0
@@ -55,8 +55,10 @@ all_failed_to tenant (q ∷ queue) from = AllTo-append tenant (reply_to q.sender
 -- an entry of the tenant without a turn
 left_of : (logic : Logic) (g : Grain) (tenant : List ℕ) (e : Entry) (request : Request) {left : Change Entry} → IsEntryOf tenant e
     → IsLeft logic g e request left → OfPut (IsEntryOf tenant) left
-left_of logic g tenant e request entry (stays phase last rest) =
-    record { queue = entry.queue; turns = remove-AreOpenFrom tenant e.turns request.number entry.turns }
+left_of logic g tenant e request entry (stays new queue turns rest) = record {
+  queue = subst (AllFrom tenant) (sym queue) entry.queue;
+  turns = subst (AreOpenFrom tenant) (sym turns) (remove-AreOpenFrom tenant e.turns request.number entry.turns);
+}
 left_of logic g tenant e request entry (goes is_empty stores) = tt
 
 -- each effect is such a one
