@@ -1,6 +1,7 @@
 //! What the directory holds for a grain.
 
 use request_codec::StateBytes;
+use silo_event::Moment;
 use turn_mailbox::Mailbox;
 
 /// How far an activation has come.
@@ -22,6 +23,6 @@ pub enum Phase {
 pub struct Activation {
     pub phase: Phase,
     pub mailbox: Mailbox,
-    /// When a request last came or a turn last ended, in milliseconds.
-    pub last: u64,
+    /// When a request last came or a turn last ended.
+    pub last: Moment,
 }

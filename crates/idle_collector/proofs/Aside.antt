@@ -1,5 +1,5 @@
 -- The note of the latest grain, beside the others.
-use Rattle.std.proofs.Common.{◌≡◌, ℕ, ◌-◌, ◌+◌, Bool, true, false, cond, List, [], ◌∷◌, ◌++◌, Option, Some, None, refl, ap, sym, ◌∙◌, true≢false, arith}
+use Rattle.std.proofs.Common.{◌≡◌, ℕ, ◌+◌, Bool, true, false, cond, List, [], ◌∷◌, ◌++◌, Option, Some, None, refl, ap, sym, ◌∙◌, true≢false, arith}
 use Rattle.std.proofs.lemmas.List.{append-nil}
 use Rattle.std.proofs.lemmas.List.Sums.{sum_by-append}
 use Rattle.std.specs.Prelude.{nat_le, count_by}
@@ -13,12 +13,7 @@ use Rattle.idle_collector.specs.declared.latest.Latest.{Latest}
 use Rattle.idle_collector.specs.declared.latest.Latest.TheVariants.{Nobody, Expected, Noted}
 use Rattle.idle_collector.specs.Aside.{is_of, with_latest, expected_of, held_with, IsApart, due_of}
 use Rattle.idle_collector.specs.Notes.{Notes, Collection, noted, forgotten, is_due, HoldsDue}
-use Rattle.idle_collector.proofs.Lasts.{taken_back}
-use Rattle.idle_collector.proofs.OneMoment.{alike, get-noted, get-forgotten}
-
--- a note of a grain whose note was dropped
-pub noted-forgotten : (n : Notes) (id : Grain) (last : ℕ) → noted (forgotten n id) id last ≡ noted n id last
-noted-forgotten n id last = ap (λ lasts. record { age = n.age; lasts = lasts }) (maps.insert-remove grain_cmp_total grain_cmp_exact n.lasts id last)
+use Rattle.idle_collector.proofs.OneMoment.{get-noted, get-forgotten}
 
 -- ---- a note that is dropped
 
@@ -27,8 +22,8 @@ pub latest-forgotten : (latest : Latest) (n : Notes) (id : Grain) → IsApart la
     → held_with Nobody n ≡ record { notes = forgotten (with_latest latest n) id; expected = expected_of latest }
 latest-forgotten Nobody n id apart e = absurd (true≢false (sym e))
 latest-forgotten (Expected other) n id apart e = absurd (true≢false (sym e))
-latest-forgotten (Noted other last) n id apart e =
-    let same = sym (taken_back n other last apart) ∙ ap (forgotten (noted n other last)) ((grain_eq_decides other id).0 e) in
+latest-forgotten (Noted other moment) n id apart e =
+    let same = sym (maps.taken_back grain_cmp_total grain_cmp_exact n other moment apart) ∙ ap (forgotten (noted n other moment)) ((grain_eq_decides other id).0 e) in
     ap (held_with Nobody) same
 
 none_either : (b : Bool) → ◌≡◌ {A = Option ℕ} (cond b None None) None
@@ -38,53 +33,48 @@ none_either false = refl
 pub apart-forgotten : (latest : Latest) (n : Notes) (id : Grain) → IsApart latest n → IsApart latest (forgotten n id)
 apart-forgotten Nobody n id apart = tt
 apart-forgotten (Expected other) n id apart = tt
-apart-forgotten (Noted other last) n id apart = get-forgotten n id other ∙ ap (cond (grain_eq id other) None) apart ∙ none_either (grain_eq id other)
+apart-forgotten (Noted other moment) n id apart = get-forgotten n id other ∙ ap (cond (grain_eq id other) None) apart ∙ none_either (grain_eq id other)
 
 -- another one
 others-forgotten : (latest : Latest) (n : Notes) (id : Grain) → is_of id latest ≡ false → with_latest latest (forgotten n id) ≡ forgotten (with_latest latest n) id
 others-forgotten Nobody n id e = refl
 others-forgotten (Expected other) n id e = refl
-others-forgotten (Noted other last) n id e = alike _ _ refl (λ q.
-    get-noted (forgotten n id) other last q
-    ∙ ap (cond (grain_eq other q) (Some last)) (get-forgotten n id q)
-    ∙ cond-apart (grain_eq other q) (grain_eq id q) (Some last) None (map.get n.lasts q)
+others-forgotten (Noted other moment) n id e = maps.alike grain_cmp_total grain_cmp_exact _ _ (λ q.
+    get-noted (forgotten n id) other moment q
+    ∙ ap (cond (grain_eq other q) (Some moment)) (get-forgotten n id q)
+    ∙ cond-apart (grain_eq other q) (grain_eq id q) (Some moment) None (map.get n q)
     (λ a b. true≢false (sym ((grain_eq_decides other id).1 ((grain_eq_decides other q).0 a ∙ sym ((grain_eq_decides id q).0 b))) ∙ e))
-    ∙ ap (cond (grain_eq id q) None) (sym (get-noted n other last q))
-    ∙ sym (get-forgotten (noted n other last) id q))
+    ∙ ap (cond (grain_eq id q) None) (sym (get-noted n other moment q))
+    ∙ sym (get-forgotten (noted n other moment) id q))
 
 pub latest-stays : (latest : Latest) (n m : Notes) (id : Grain) → is_of id latest ≡ false → m ≡ forgotten n id → held_with latest m ≡ record { notes = forgotten (with_latest latest n) id; expected = expected_of latest }
 latest-stays latest n m id e same = ap (held_with latest) same ∙ ap (λ notes. record { notes = notes; expected = expected_of latest }) (others-forgotten latest n id e)
 
--- ---- the age, and what is due
-
-pub age-latest : (latest : Latest) (n : Notes) → (with_latest latest n).age ≡ n.age
-age-latest Nobody n = refl
-age-latest (Expected id) n = refl
-age-latest (Noted id last) n = refl
+-- ---- what is due
 
 count_one : (p : Grain → Bool) (g : Grain) (due t : Bool) → p g ≡ t → count_by p (cond due (g ∷ []) []) ≡ cond due (cond t 1 0) 0
 count_one p g true t e = ap (λ b. 0 + cond b 1 0) e ∙ (omega arith)
 count_one p g false t e = refl
 
-one_more : (age now last : ℕ) (t due : Bool) (o : Option ℕ) → (t ≡ true → o ≡ None) → nat_le age (now - last) ≡ due
-    → cond (is_due age now o) 1 0 + cond due (cond t 1 0) 0 ≡ cond (is_due age now (cond t (Some last) o)) 1 0
-one_more age now last true true None h e = ap (λ b. cond b 1 0) (sym e)
-one_more age now last true false None h e = ap (λ b. cond b 1 0) (sym e)
-one_more age now last true due (Some x) h e = absurd (let none : Some x ≡ None = h refl in cc)
-one_more age now last false true o h e = omega arith
-one_more age now last false false o h e = omega arith
+one_more : (now moment : ℕ) (t due : Bool) (o : Option ℕ) → (t ≡ true → o ≡ None) → nat_le moment now ≡ due
+    → cond (is_due now o) 1 0 + cond due (cond t 1 0) 0 ≡ cond (is_due now (cond t (Some moment) o)) 1 0
+one_more now moment true true None h e = ap (λ b. cond b 1 0) (sym e)
+one_more now moment true false None h e = ap (λ b. cond b 1 0) (sym e)
+one_more now moment true due (Some x) h e = absurd (let none : Some x ≡ None = h refl in cc)
+one_more now moment false true o h e = omega arith
+one_more now moment false false o h e = omega arith
 
-pub latest-due : (latest : Latest) (n : Notes) (now : ℕ) (held : List Grain) → IsApart latest n → HoldsDue n now held → HoldsDue (with_latest latest n) now (held ++ due_of n.age now latest)
+pub latest-due : (latest : Latest) (n : Notes) (now : ℕ) (held : List Grain) → IsApart latest n → HoldsDue n now held → HoldsDue (with_latest latest n) now (held ++ due_of now latest)
 latest-due Nobody n now held apart holds q = ap (count_by (eq_by_cmp grain_cmp q)) (append-nil held) ∙ holds q
 latest-due (Expected id) n now held apart holds q = ap (count_by (eq_by_cmp grain_cmp q)) (append-nil held) ∙ holds q
-latest-due (Noted id last) n now held apart holds q =
-    let due = nat_le n.age (now - last) in
+latest-due (Noted id moment) n now held apart holds q =
+    let due = nat_le moment now in
     let t = eq_by_cmp grain_cmp q id in
     let tied = (eq_by_cmp-Decides grain_cmp_total grain_cmp_exact q id).0 in
     sum_by-append (λ y. cond (eq_by_cmp grain_cmp q y) 1 0) held (cond due (id ∷ []) [])
     ∙ (λ i. holds q i + count_one (eq_by_cmp grain_cmp q) id due t refl i)
-    ∙ one_more n.age now last t due (map.get n.lasts q) (λ e. ap (map.get n.lasts) (tied e) ∙ apart) refl
-    ∙ ap (λ o. cond (is_due n.age now o) 1 0) (sym (map.get-insert grain_cmp_total n.lasts id last q))
+    ∙ one_more now moment t due (map.get n q) (λ e. ap (map.get n) (tied e) ∙ apart) refl
+    ∙ ap (λ o. cond (is_due now o) 1 0) (sym (map.get-insert grain_cmp_total n id moment q))
 
 -- ---- a grain that is expected, and whose note was dropped
 

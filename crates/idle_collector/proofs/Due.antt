@@ -2,7 +2,7 @@
 use Rattle.std.proofs.Common.{◌≡◌, ℕ, Bool, true, false, ◌&&◌, ◌||◌, ◌+◌, ◌≤◌, cond, List, [], ◌∷◌, map, Option, Some, None, refl, ap, sym, ◌∙◌, subst, true≢false, arith}
 use Rattle.std.proofs.lemmas.List.Sorted.{sum_by-IsPermutation}
 use Rattle.std.proofs.lemmas.List.Kept.{IsStrictlySortedBy-dedup}
-use Rattle.std.specs.Prelude.{unwrap_or, T, is_some, nat_le, ◌-◌}
+use Rattle.std.specs.Prelude.{unwrap_or, T, is_some, nat_le}
 use Rattle.std.specs.declared.cmp.Ordering.TheVariants.{Less}
 use Rattle.std.specs.Ordering.{is_lt, eq_by_cmp}
 use Rattle.std.specs.Cmp.{Equal-is}
@@ -120,40 +120,40 @@ module _ (value : Grain → ℕ) where
       by true e = ap (λ (g : Grain). Some (value g)) (sym (grain_cmp_exact q g ((Equal-is (grain_cmp q g)).0 e)))
       by false e = refl
 
-due_last : (age now : ℕ) (o : Option ℕ) → cond (is_due age now o) (Some (unwrap_or o 0)) None ≡ cond (is_due age now o) o None
-due_last age now None = refl
-due_last age now (Some last) = refl
+due_moment : (now : ℕ) (o : Option ℕ) → cond (is_due now o) (Some (unwrap_or o 0)) None ≡ cond (is_due now o) o None
+due_moment now None = refl
+due_moment now (Some moment) = refl
 
 -- the due grains, in order
 pub holds-due : (notes : Notes) (now : ℕ) (held gs : List Grain) → HoldsDue notes now held → IsPermutation held gs → IsSorted grain_cmp gs → gs ≡ due notes now
 holds-due notes now held gs holds permuted sorted =
-    let is : Grain → Bool = λ q. is_due notes.age now (finite.get notes.lasts q) in
-    let last : Grain → ℕ = λ q. unwrap_or (finite.get notes.lasts q) 0 in
+    let is : Grain → Bool = λ q. is_due now (finite.get notes q) in
+    let moment : Grain → ℕ = λ q. unwrap_or (finite.get notes q) 0 in
     let each : (q : Grain) → count (tie q) gs ≡ cond (is q) 1 0 = λ q. count_is (tie q) gs ∙ sum_by-IsPermutation (λ y. cond (tie q y) 1 0) held gs permuted ∙ holds q in
     let strictly = rises gs (λ q. subst (λ n. n ≤ 1) (sym (each q)) (at_most (is q))) sorted in
-    let ordered : T (is_sorted grain_cmp (paired last gs)) = subst T (sym (sorted-paired last gs strictly)) tt in
-    let part = finite.retain_keys notes.lasts is in
-    let same : finite.from_sorted {R = grain_cmp} (paired last gs) ≡ part = maps.alike grain_cmp_total grain_cmp_exact _ _ (λ q.
-    finite.get-from_sorted grain_cmp (paired last gs) q ordered ∙ find-paired last q gs
-    ∙ ap (λ b. cond b (Some (last q)) None) (there-counted (tie q) gs (is q) (each q))
-    ∙ due_last notes.age now (finite.get notes.lasts q) ∙ sym (maps.get-part grain_cmp_total grain_cmp_exact notes.lasts is q)) in
-    sym (grains-paired last gs) ∙ ap (map (λ (e : Grain × ℕ). e.0)) (sym (finite.entries-from_sorted grain_cmp (paired last gs) ordered) ∙ ap finite.entries same)
+    let ordered : T (is_sorted grain_cmp (paired moment gs)) = subst T (sym (sorted-paired moment gs strictly)) tt in
+    let part = finite.retain_keys notes is in
+    let same : finite.from_sorted {R = grain_cmp} (paired moment gs) ≡ part = maps.alike grain_cmp_total grain_cmp_exact _ _ (λ q.
+    finite.get-from_sorted grain_cmp (paired moment gs) q ordered ∙ find-paired moment q gs
+    ∙ ap (λ b. cond b (Some (moment q)) None) (there-counted (tie q) gs (is q) (each q))
+    ∙ due_moment now (finite.get notes q) ∙ sym (maps.get-part grain_cmp_total grain_cmp_exact notes is q)) in
+    sym (grains-paired moment gs) ∙ ap (map (λ (e : Grain × ℕ). e.0)) (sym (finite.entries-from_sorted grain_cmp (paired moment gs) ordered) ∙ ap finite.entries same)
   where
     at_most : (b : Bool) → cond b 1 0 ≤ 1
     at_most true = omega arith
     at_most false = omega arith
 
 -- a grain stands among the due ones exactly if it's due
-pub due-there : (notes : Notes) (now : ℕ) (q : Grain) → list_any (tie q) (due notes now) ≡ is_due notes.age now (finite.get notes.lasts q)
+pub due-there : (notes : Notes) (now : ℕ) (q : Grain) → list_any (tie q) (due notes now) ≡ is_due now (finite.get notes q)
 due-there notes now q =
-    sym (finite.contains_key-keys (finite.retain_keys notes.lasts (λ grain. is_due notes.age now (finite.get notes.lasts grain))) q)
-    ∙ ap is_some (maps.get-part grain_cmp_total grain_cmp_exact notes.lasts (λ grain. is_due notes.age now (finite.get notes.lasts grain)) q)
-    ∙ by (finite.get notes.lasts q)
+    sym (finite.contains_key-keys (finite.retain_keys notes (λ grain. is_due now (finite.get notes grain))) q)
+    ∙ ap is_some (maps.get-part grain_cmp_total grain_cmp_exact notes (λ grain. is_due now (finite.get notes grain)) q)
+    ∙ by (finite.get notes q)
   where
-    by : (o : Option ℕ) → is_some (cond (is_due notes.age now o) o None) ≡ is_due notes.age now o
+    by : (o : Option ℕ) → is_some (cond (is_due now o) o None) ≡ is_due now o
     by None = refl
-    by (Some last) = held (nat_le notes.age (now - last))
+    by (Some moment) = held (nat_le moment now)
       where
-        held : (b : Bool) → is_some (cond b (Some last) None) ≡ b
+        held : (b : Bool) → is_some (cond b (Some moment) None) ≡ b
         held true = refl
         held false = refl

@@ -1,4 +1,4 @@
-pub mod Lasts
+pub mod Moments
 pub mod Ties
 pub mod Prefix
 pub mod Due

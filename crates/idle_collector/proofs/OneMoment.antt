@@ -1,4 +1,4 @@
--- Grains that were last used at one moment, beside the notes that are filed.
+-- Grains that are due from one moment on, beside the notes that are filed.
 use Rattle.std.proofs.Common.{◌≡◌, ℕ, ◌+◌, ◌-◌, Bool, true, false, ◌||◌, cond, List, [], ◌∷◌, ◌++◌, Option, Some, None, refl, ap, sym, ◌∙◌, subst, true≢false, length, length-append, arith}
 use Rattle.std.specs.Prelude.{nat_le, count_by, option_to_list, IsSome, ◌<◌}
 use Rattle.std.specs.List.{list_any, slice_get, IsDistinct, AllByRecursion}
@@ -20,30 +20,23 @@ use Rattle.idle_collector.proofs.Due.{tie}
 
 -- ---- what is noted of a grain
 
-pub alike : (n p : Notes) → n.age ≡ p.age → ((q : Grain) → map.get n.lasts q ≡ map.get p.lasts q) → n ≡ p
-alike n p age each = λ i. record { age = age i; lasts = maps.alike grain_cmp_total grain_cmp_exact n.lasts p.lasts each i }
+pub get-noted : (n : Notes) (k : Grain) (m : ℕ) (q : Grain) → map.get (noted n k m) q ≡ cond (grain_eq k q) (Some m) (map.get n q)
+get-noted n k m q = get-insert_key grains n k m q
 
-pub get-noted : (n : Notes) (k : Grain) (m : ℕ) (q : Grain) → map.get (noted n k m).lasts q ≡ cond (grain_eq k q) (Some m) (map.get n.lasts q)
-get-noted n k m q = get-insert_key grains n.lasts k m q
-
-pub get-forgotten : (n : Notes) (k q : Grain) → map.get (forgotten n k).lasts q ≡ cond (grain_eq k q) None (map.get n.lasts q)
-get-forgotten n k q = get-remove_key grains n.lasts k q
+pub get-forgotten : (n : Notes) (k q : Grain) → map.get (forgotten n k) q ≡ cond (grain_eq k q) None (map.get n q)
+get-forgotten n k q = get-remove_key grains n k q
 
 either : (b c : Bool) (m o : Option ℕ) → cond c m (cond b m o) ≡ cond (b || c) m o
 either true true m o = refl
 either true false m o = refl
 either false c m o = refl
 
-pub age-all : (n : Notes) (gs : List Grain) (m : ℕ) → (all_noted n gs m).age ≡ n.age
-age-all n [] m = refl
-age-all n (g ∷ gs) m = age-all (noted n g m) gs m
-
-get-all : (n : Notes) (gs : List Grain) (m : ℕ) (q : Grain) → map.get (all_noted n gs m).lasts q ≡ cond (list_any (grain_eq q) gs) (Some m) (map.get n.lasts q)
+get-all : (n : Notes) (gs : List Grain) (m : ℕ) (q : Grain) → map.get (all_noted n gs m) q ≡ cond (list_any (grain_eq q) gs) (Some m) (map.get n q)
 get-all n [] m q = refl
 get-all n (g ∷ gs) m q =
     get-all (noted n g m) gs m q
-    ∙ ap (cond (list_any (grain_eq q) gs) (Some m)) (get-noted n g m q ∙ ap (λ b. cond b (Some m) (map.get n.lasts q)) (sym (key_turned grains q g)))
-    ∙ either (grain_eq q g) (list_any (grain_eq q) gs) (Some m) (map.get n.lasts q)
+    ∙ ap (cond (list_any (grain_eq q) gs) (Some m)) (get-noted n g m q ∙ ap (λ b. cond b (Some m) (map.get n q)) (sym (key_turned grains q g)))
+    ∙ either (grain_eq q g) (list_any (grain_eq q) gs) (Some m) (map.get n q)
 
 -- ---- one grain more
 
@@ -56,10 +49,10 @@ first_of true c m o = refl
 first_of false c m o = refl
 
 pub all-with : (n : Notes) (old new : List Grain) (k : Grain) (m : ℕ) → With old k new → all_noted n new m ≡ noted (all_noted n old m) k m
-all-with n old new k m more = alike _ _ (age-all n new m ∙ sym (age-all n old m)) (λ q.
+all-with n old new k m more = maps.alike grain_cmp_total grain_cmp_exact _ _ (λ q.
     get-all n new m q
-    ∙ ap (λ b. cond b (Some m) (map.get n.lasts q)) (more q)
-    ∙ first_of (grain_eq k q) (list_any (grain_eq q) old) (Some m) (map.get n.lasts q)
+    ∙ ap (λ b. cond b (Some m) (map.get n q)) (more q)
+    ∙ first_of (grain_eq k q) (list_any (grain_eq q) old) (Some m) (map.get n q)
     ∙ ap (cond (grain_eq k q) (Some m)) (sym (get-all n old m q))
     ∙ sym (get-noted (all_noted n old m) k m q))
 
@@ -68,11 +61,11 @@ behind true m o e = absurd cc
 behind false m o e = e
 
 -- where the notes of both have none of it
-pub apart-with : (n : Notes) (old new : List Grain) (k : Grain) (m : ℕ) → With old k new → map.get (all_noted n old m).lasts k ≡ None → AreApart old n → AreApart new n
+pub apart-with : (n : Notes) (old new : List Grain) (k : Grain) (m : ℕ) → With old k new → map.get (all_noted n old m) k ≡ None → AreApart old n → AreApart new n
 apart-with n old new k m more none apart q e = by (grain_eq k q) refl (sym (more q) ∙ e)
   where
-    by : (b : Bool) → grain_eq k q ≡ b → cond b true (list_any (grain_eq q) old) ≡ true → map.get n.lasts q ≡ None
-    by true t e = ap (map.get n.lasts) (sym ((grain_eq_decides k q).0 t)) ∙ behind (list_any (grain_eq k) old) m (map.get n.lasts k) (sym (get-all n old m k) ∙ none)
+    by : (b : Bool) → grain_eq k q ≡ b → cond b true (list_any (grain_eq q) old) ≡ true → map.get n q ≡ None
+    by true t e = ap (map.get n) (sym ((grain_eq_decides k q).0 t)) ∙ behind (list_any (grain_eq k) old) m (map.get n k) (sym (get-all n old m k) ∙ none)
     by false t e = apart q e
 
 -- ---- one grain less
@@ -86,14 +79,14 @@ last_of true c m o none = none refl
 last_of false c m o none = refl
 
 -- one that was there isn't filed
-not_filed : (n : Notes) (old : List Grain) (k : Grain) → AreApart old n → list_any (grain_eq k) old ≡ true → (q : Grain) → grain_eq k q ≡ true → map.get n.lasts q ≡ None
+not_filed : (n : Notes) (old : List Grain) (k : Grain) → AreApart old n → list_any (grain_eq k) old ≡ true → (q : Grain) → grain_eq k q ≡ true → map.get n q ≡ None
 not_filed n old k apart there q e = apart q (ap (λ g. list_any (grain_eq g) old) (sym ((grain_eq_decides k q).0 e)) ∙ there)
 
 pub all-without : (n : Notes) (old new : List Grain) (k : Grain) (m : ℕ) → AreApart old n → list_any (grain_eq k) old ≡ true → Without old k new → all_noted n new m ≡ forgotten (all_noted n old m) k
-all-without n old new k m apart there less = alike _ _ (age-all n new m ∙ sym (age-all n old m)) (λ q.
+all-without n old new k m apart there less = maps.alike grain_cmp_total grain_cmp_exact _ _ (λ q.
     get-all n new m q
-    ∙ ap (λ b. cond b (Some m) (map.get n.lasts q)) (less q)
-    ∙ last_of (grain_eq k q) (list_any (grain_eq q) old) (Some m) (map.get n.lasts q) (not_filed n old k apart there q)
+    ∙ ap (λ b. cond b (Some m) (map.get n q)) (less q)
+    ∙ last_of (grain_eq k q) (list_any (grain_eq q) old) (Some m) (map.get n q) (not_filed n old k apart there q)
     ∙ ap (cond (grain_eq k q) None) (sym (get-all n old m q))
     ∙ sym (get-forgotten (all_noted n old m) k q))
 
@@ -107,10 +100,10 @@ not_there : (gs : List Grain) (k : Grain) → list_any (grain_eq k) gs ≡ false
 not_there gs k none q e = ap (λ g. list_any (grain_eq g) gs) (sym ((grain_eq_decides k q).0 e)) ∙ none
 
 pub all-but : (n : Notes) (gs : List Grain) (k : Grain) (m : ℕ) → list_any (grain_eq k) gs ≡ false → all_noted (forgotten n k) gs m ≡ forgotten (all_noted n gs m) k
-all-but n gs k m none = alike _ _ (age-all (forgotten n k) gs m ∙ sym (age-all n gs m)) (λ q.
+all-but n gs k m none = maps.alike grain_cmp_total grain_cmp_exact _ _ (λ q.
     get-all (forgotten n k) gs m q
     ∙ ap (cond (list_any (grain_eq q) gs) (Some m)) (get-forgotten n k q)
-    ∙ no_more (grain_eq k q) (list_any (grain_eq q) gs) (Some m) (map.get n.lasts q) (not_there gs k none q)
+    ∙ no_more (grain_eq k q) (list_any (grain_eq q) gs) (Some m) (map.get n q) (not_there gs k none q)
     ∙ ap (cond (grain_eq k q) None) (sym (get-all n gs m q))
     ∙ sym (get-forgotten (all_noted n gs m) k q))
 
@@ -119,7 +112,7 @@ none_left true o e = refl
 none_left false o e = e
 
 pub apart-but : (n : Notes) (gs : List Grain) (k : Grain) → AreApart gs n → AreApart gs (forgotten n k)
-apart-but n gs k apart q e = get-forgotten n k q ∙ none_left (grain_eq k q) (map.get n.lasts q) (apart q e)
+apart-but n gs k apart q e = get-forgotten n k q ∙ none_left (grain_eq k q) (map.get n q) (apart q e)
 
 -- ---- the last of the grains is filed
 
@@ -134,10 +127,10 @@ in_turn false c m o = refl
 
 all-filed : (n : Notes) (old new : List Grain) (k : Grain) (m : ℕ) → old ≡ new ++ k ∷ [] → all_noted (noted n k m) new m ≡ all_noted n old m
 all-filed n old new k m parts =
-    alike _ _ (age-all (noted n k m) new m ∙ sym (age-all n new m)) (λ q.
+    maps.alike grain_cmp_total grain_cmp_exact _ _ (λ q.
     get-all (noted n k m) new m q
     ∙ ap (cond (list_any (grain_eq q) new) (Some m)) (get-noted n k m q)
-    ∙ in_turn (grain_eq k q) (list_any (grain_eq q) new) (Some m) (map.get n.lasts q)
+    ∙ in_turn (grain_eq k q) (list_any (grain_eq q) new) (Some m) (map.get n q)
     ∙ ap (cond (grain_eq k q) (Some m)) (sym (get-all n new m q))
     ∙ sym (get-noted (all_noted n new m) k m q))
     ∙ sym (all-last n new k m) ∙ ap (λ (gs : List Grain). all_noted n gs m) (sym parts)
@@ -147,7 +140,7 @@ another true c m o e none = absurd (true≢false (sym e))
 another false c m o e none = none e
 
 apart-filed : (n : Notes) (old new : List Grain) (k : Grain) (m : ℕ) → Without old k new → AreApart old n → AreApart new (noted n k m)
-apart-filed n old new k m less apart q e = get-noted n k m q ∙ another (grain_eq k q) (list_any (grain_eq q) old) (Some m) (map.get n.lasts q) (sym (less q) ∙ e) (apart q)
+apart-filed n old new k m less apart q e = get-noted n k m q ∙ another (grain_eq k q) (list_any (grain_eq q) old) (Some m) (map.get n q) (sym (less q) ∙ e) (apart q)
 
 at_end : (gs : List Grain) (k : Grain) → slice_get (gs ++ k ∷ []) (length gs) ≡ Some k
 at_end [] k = refl
@@ -186,15 +179,15 @@ count_once q (g ∷ gs) distinct =
     by true e rest = ap (λ n. 1 + n) (rest ∙ ap (λ b. cond b 1 0) (others gs distinct.0 ((grain_eq_decides q g).0 e)))
     by false e rest = rest
 
-due_of_all : (age now m : ℕ) (due b : Bool) (o : Option ℕ) (n : ℕ) → nat_le age (now - m) ≡ due → (b ≡ true → o ≡ None) → n ≡ cond b 1 0
-    → cond (is_due age now o) 1 0 + cond due n 0 ≡ cond (is_due age now (cond b (Some m) o)) 1 0
-due_of_all age now m due true None n is apart many = ap (λ n. 0 + cond due n 0) many ∙ by due ∙ ap (λ b. cond b 1 0) (sym is)
+due_of_all : (now m : ℕ) (due b : Bool) (o : Option ℕ) (n : ℕ) → nat_le m now ≡ due → (b ≡ true → o ≡ None) → n ≡ cond b 1 0
+    → cond (is_due now o) 1 0 + cond due n 0 ≡ cond (is_due now (cond b (Some m) o)) 1 0
+due_of_all now m due true None n is apart many = ap (λ n. 0 + cond due n 0) many ∙ by due ∙ ap (λ b. cond b 1 0) (sym is)
   where
     by : (b : Bool) → 0 + cond b 1 0 ≡ cond b 1 0
     by true = refl
     by false = refl
-due_of_all age now m due true (Some x) n is apart many = absurd (let none : Some x ≡ None = apart refl in cc)
-due_of_all age now m due false o n is apart many = ap (λ n. cond (is_due age now o) 1 0 + cond due n 0) many ∙ by due (cond (is_due age now o) 1 0)
+due_of_all now m due true (Some x) n is apart many = absurd (let none : Some x ≡ None = apart refl in cc)
+due_of_all now m due false o n is apart many = ap (λ n. cond (is_due now o) 1 0 + cond due n 0) many ∙ by due (cond (is_due now o) 1 0)
   where
     by : (b : Bool) (n : ℕ) → n + cond b 0 0 ≡ n
     by true n = omega arith
@@ -205,11 +198,11 @@ counted q true gs = sym (count_is (tie q) gs)
 counted q false gs = refl
 
 pub due-all : (n : Notes) (gs : List Grain) (m now : ℕ) (held : List Grain) → AreApart gs n → IsDistinct grain_eq gs → HoldsDue n now held
-    → HoldsDue (all_noted n gs m) now (held ++ cond (nat_le n.age (now - m)) gs [])
+    → HoldsDue (all_noted n gs m) now (held ++ cond (nat_le m now) gs [])
 due-all n gs m now held apart distinct holds q =
-    let due = nat_le n.age (now - m) in
+    let due = nat_le m now in
     let b = list_any (grain_eq q) gs in
     sum_by-append (λ y. cond (tie q y) 1 0) held (cond due gs [])
     ∙ (λ i. holds q i + counted q due gs i)
-    ∙ due_of_all n.age now m due b (map.get n.lasts q) (count (tie q) gs) refl (apart q) (count_once q gs distinct)
-    ∙ (λ i. cond (is_due (sym (age-all n gs m) i) now (sym (get-all n gs m q) i)) 1 0)
+    ∙ due_of_all now m due b (map.get n q) (count (tie q) gs) refl (apart q) (count_once q gs distinct)
+    ∙ (λ i. cond (is_due now (sym (get-all n gs m q) i)) 1 0)

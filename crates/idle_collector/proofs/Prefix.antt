@@ -18,21 +18,21 @@ use Rattle.grain_id.proofs.Order.{grain_cmp_total, grain_cmp_exact, eq_by_cmp-De
 use Rattle.idle_collector.specs.Notes.{is_due, HoldsDue}
 use Rattle.idle_collector.specs.Ties.{time_cmp, moments, AreTied}
 use Rattle.idle_collector.proofs.Ties.{same_note, refuted}
-use Rattle.idle_collector.proofs.Lasts.{get-lasts}
+use Rattle.idle_collector.proofs.Moments.{get-moments}
 
 -- one more grain, if there is one
 abbrev pub with_grain : Option Grain → List Grain → List Grain
 with_grain None gs = gs
 with_grain (Some g) gs = g ∷ gs
 
--- the grains at the front that have been unused for the age
-abbrev pub front : (ℕ → Option Grain) → ℕ → ℕ → List (ℕ × ℕ) → List Grain
-front grain_at age now [] = []
-front grain_at age now (k ∷ ks) = cond (nat_le age (now - k.0)) (with_grain (grain_at k.1) (front grain_at age now ks)) []
+-- the grains at the front that are due
+abbrev pub front : (ℕ → Option Grain) → ℕ → List (ℕ × ℕ) → List Grain
+front grain_at now [] = []
+front grain_at now (k ∷ ks) = cond (nat_le k.0 now) (with_grain (grain_at k.1) (front grain_at now ks)) []
 
 -- it ends where one isn't due
-pub front-stops : (grain_at : ℕ → Option Grain) (age now : ℕ) (k : ℕ × ℕ) (ks : List (ℕ × ℕ)) → now - k.0 < age → front grain_at age now (k ∷ ks) ≡ []
-front-stops grain_at age now k ks h = ap (λ b. cond b (with_grain (grain_at k.1) (front grain_at age now ks)) []) (lt-leb age (now - k.0) h)
+pub front-stops : (grain_at : ℕ → Option Grain) (now : ℕ) (k : ℕ × ℕ) (ks : List (ℕ × ℕ)) → now < k.0 → front grain_at now (k ∷ ks) ≡ []
+front-stops grain_at now k ks h = ap (λ b. cond b (with_grain (grain_at k.1) (front grain_at now ks)) []) (lt-leb k.0 now h)
 
 -- ---- counts
 
@@ -71,18 +71,18 @@ abbrev is_of : Grain → Option Grain → Bool
 is_of q None = false
 is_of q (Some g) = eq_by_cmp grain_cmp q g
 
-module _ (grain_at : ℕ → Option Grain) (age now : ℕ) (q : Grain) where
+module _ (grain_at : ℕ → Option Grain) (now : ℕ) (q : Grain) where
   -- the note is due, and of this grain
   abbrev ripe : ℕ × ℕ → Bool
-  ripe k = nat_le age (now - k.0) && is_of q (grain_at k.1)
+  ripe k = nat_le k.0 now && is_of q (grain_at k.1)
 
-  -- what was used later isn't due either
-  none_later : (k : ℕ × ℕ) (ks : List (ℕ × ℕ)) → AllByRecursion (λ y. time_cmp k y ≡ Less) ks → nat_le age (now - k.0) ≡ false → count ripe ks ≡ 0
+  -- what is due later isn't due either
+  none_later : (k : ℕ × ℕ) (ks : List (ℕ × ℕ)) → AllByRecursion (λ y. time_cmp k y ≡ Less) ks → nat_le k.0 now ≡ false → count ripe ks ≡ 0
   none_later k [] below e = refl
   none_later k (y ∷ ks) below e =
-      let p = leb-false age (now - k.0) e in
+      let p = leb-false k.0 now e in
       let o = ordered k y below.0 in
-      let late : nat_le age (now - y.0) ≡ false = lt-leb age (now - y.0) (omega arith) in
+      let late : nat_le y.0 now ≡ false = lt-leb y.0 now (omega arith) in
       passed (ripe y) _ _ (ap (λ b. b && is_of q (grain_at y.1)) late) (none_later k ks below.1 e)
 
   one_more : (o : Option Grain) (gs : List Grain) (n : ℕ) → count (eq_by_cmp grain_cmp q) gs ≡ n → count (eq_by_cmp grain_cmp q) (with_grain o gs) ≡ cond (is_of q o) (1 + n) n
@@ -95,10 +95,10 @@ module _ (grain_at : ℕ → Option Grain) (age now : ℕ) (q : Grain) where
   first_of false o gs n same none = sym (none refl)
 
   -- the front has all that are due
-  count-front : (ks : List (ℕ × ℕ)) → IsStrictlySortedBy time_cmp ks → count (eq_by_cmp grain_cmp q) (front grain_at age now ks) ≡ count ripe ks
+  count-front : (ks : List (ℕ × ℕ)) → IsStrictlySortedBy time_cmp ks → count (eq_by_cmp grain_cmp q) (front grain_at now ks) ≡ count ripe ks
   unfolding IsStrictlySortedBy
   count-front [] sorted = refl
-  count-front (k ∷ ks) sorted = first_of (nat_le age (now - k.0)) (grain_at k.1) (front grain_at age now ks) (count ripe ks) (count-front ks sorted.1) (none_later k ks sorted.0)
+  count-front (k ∷ ks) sorted = first_of (nat_le k.0 now) (grain_at k.1) (front grain_at now ks) (count ripe ks) (count-front ks sorted.1) (none_later k ks sorted.0)
 
 -- ---- each note stands once
 
@@ -124,25 +124,25 @@ abbrev is_note : Option (ℕ × ℕ) → ℕ × ℕ → Bool
 is_note None k = false
 is_note (Some p) k = is_eq (time_cmp p k)
 
-module _ (note_of : Grain → Option (ℕ × ℕ)) (grain_at : ℕ → Option Grain) (stands : ℕ × ℕ → Bool) (tied : AreTied note_of grain_at stands) (age now : ℕ) (q : Grain) where
+module _ (note_of : Grain → Option (ℕ × ℕ)) (grain_at : ℕ → Option Grain) (stands : ℕ × ℕ → Bool) (tied : AreTied note_of grain_at stands) (now : ℕ) (q : Grain) where
   -- of a grain nothing but its note is due
   its_note : (k : ℕ × ℕ) (g : Grain) (b : Bool) (o : Option (ℕ × ℕ)) → grain_at k.1 ≡ Some g → note_of g ≡ Some k → eq_by_cmp grain_cmp q g ≡ b → note_of q ≡ o
-      → nat_le age (now - k.0) && b ≡ is_due age now (option_map (λ p. p.0) o) && is_note o k
+      → nat_le k.0 now && b ≡ is_due now (option_map (λ p. p.0) o) && is_note o k
   its_note k g true o at note t is =
       let same = (eq_by_cmp-Decides grain_cmp_total grain_cmp_exact q g).0 t in
       let e : Some k ≡ o = sym note ∙ ap note_of (sym same) ∙ is in
-      subst (λ o. nat_le age (now - k.0) && true ≡ is_due age now (option_map (λ p. p.0) o) && is_note o k) e (ap (λ b. nat_le age (now - k.0) && b) (sym ((same_note k k).1 refl)))
-  its_note k g false None at note t is = and-false (nat_le age (now - k.0))
+      subst (λ o. nat_le k.0 now && true ≡ is_due now (option_map (λ p. p.0) o) && is_note o k) e (ap (λ b. nat_le k.0 now && b) (sym ((same_note k k).1 refl)))
+  its_note k g false None at note t is = and-false (nat_le k.0 now)
   its_note k g false (Some p) at note t is =
       let other : is_eq (time_cmp p k) ≡ false = refuted _ (same_note p k) (λ (one : p ≡ k).
       let same : q ≡ g = same_Some q g (sym (tied.placed q p is) ∙ ap (λ k. grain_at k.1) one ∙ at) in
       let tie : eq_by_cmp grain_cmp q g ≡ true = (eq_by_cmp-Decides grain_cmp_total grain_cmp_exact q g).1 same in cc) in
-      and-false (nat_le age (now - k.0)) ∙ sym (ap (λ b. nat_le age (now - p.0) && b) other ∙ and-false (nat_le age (now - p.0)))
+      and-false (nat_le k.0 now) ∙ sym (ap (λ b. nat_le p.0 now && b) other ∙ and-false (nat_le p.0 now))
 
-  ripe_is : (k : ℕ × ℕ) → stands k ≡ true → ripe grain_at age now q k ≡ is_due age now (option_map (λ p. p.0) (note_of q)) && is_note (note_of q) k
+  ripe_is : (k : ℕ × ℕ) → stands k ≡ true → ripe grain_at now q k ≡ is_due now (option_map (λ p. p.0) (note_of q)) && is_note (note_of q) k
   ripe_is k there =
       let n = tied.noted k there in
-      ap (λ o. nat_le age (now - k.0) && is_of q o) n.1 ∙ its_note k n.0 (eq_by_cmp grain_cmp q n.0) (note_of q) n.1 n.2 refl refl
+      ap (λ o. nat_le k.0 now && is_of q o) n.1 ∙ its_note k n.0 (eq_by_cmp grain_cmp q n.0) (note_of q) n.1 n.2 refl refl
 
   none_due : (b : Bool) → ◌≡◌ {A = ℕ} 0 (cond b 0 0)
   none_due true = refl
@@ -152,26 +152,26 @@ module _ (note_of : Grain → Option (ℕ × ℕ)) (grain_at : ℕ → Option Gr
   apart true c n = refl
   apart false c n = refl
 
-  count-ripe : (ks : List (ℕ × ℕ)) → AllByRecursion (λ k. stands k ≡ true) ks → count (ripe grain_at age now q) ks ≡ cond (is_due age now (option_map (λ p. p.0) (note_of q))) (count (is_note (note_of q)) ks) 0
-  count-ripe [] there = none_due (is_due age now (option_map (λ p. p.0) (note_of q)))
+  count-ripe : (ks : List (ℕ × ℕ)) → AllByRecursion (λ k. stands k ≡ true) ks → count (ripe grain_at now q) ks ≡ cond (is_due now (option_map (λ p. p.0) (note_of q))) (count (is_note (note_of q)) ks) 0
+  count-ripe [] there = none_due (is_due now (option_map (λ p. p.0) (note_of q)))
   count-ripe (k ∷ ks) there =
-      let b = is_due age now (option_map (λ p. p.0) (note_of q)) in
+      let b = is_due now (option_map (λ p. p.0) (note_of q)) in
       (λ i. cond (ripe_is k there.0 i) (1 + count-ripe ks there.1 i) (count-ripe ks there.1 i)) ∙ apart b (is_note (note_of q) k) (count (is_note (note_of q)) ks)
 
   -- a grain stands among the first as often as it's due: once or not at all
   due_once : (ks : List (ℕ × ℕ)) → IsStrictlySortedBy time_cmp ks → AllByRecursion (λ k. stands k ≡ true) ks → ((p : ℕ × ℕ) → stands p ≡ list_any (λ k. is_eq (time_cmp p k)) ks) → (o : Option (ℕ × ℕ)) → note_of q ≡ o
-      → cond (is_due age now (option_map (λ p. p.0) o)) (count (is_note o) ks) 0 ≡ cond (is_due age now (option_map (λ p. p.0) o)) 1 0
+      → cond (is_due now (option_map (λ p. p.0) o)) (count (is_note o) ks) 0 ≡ cond (is_due now (option_map (λ p. p.0) o)) 1 0
   due_once ks sorted there all None is = refl
-  due_once ks sorted there all (Some p) is = ap (λ n. cond (nat_le age (now - p.0)) n 0) (stands_once p ks sorted (sym (all p) ∙ tied.entered q p is))
+  due_once ks sorted there all (Some p) is = ap (λ n. cond (nat_le p.0 now) n 0) (stands_once p ks sorted (sym (all p) ∙ tied.entered q p is))
 
   pub count-due : (ks : List (ℕ × ℕ)) → IsStrictlySortedBy time_cmp ks → AllByRecursion (λ k. stands k ≡ true) ks → ((p : ℕ × ℕ) → stands p ≡ list_any (λ k. is_eq (time_cmp p k)) ks)
-      → count_by (eq_by_cmp grain_cmp q) (front grain_at age now ks) ≡ cond (is_due age now (option_map (λ p. p.0) (note_of q))) 1 0
+      → count_by (eq_by_cmp grain_cmp q) (front grain_at now ks) ≡ cond (is_due now (option_map (λ p. p.0) (note_of q))) 1 0
   count-due ks sorted there all =
-      sym (count_is (eq_by_cmp grain_cmp q) (front grain_at age now ks)) ∙ count-front grain_at age now q ks sorted ∙ count-ripe ks there ∙ due_once ks sorted there all (note_of q) refl
+      sym (count_is (eq_by_cmp grain_cmp q) (front grain_at now ks)) ∙ count-front grain_at now q ks sorted ∙ count-ripe ks there ∙ due_once ks sorted there all (note_of q) refl
 
 -- the front holds what is due
 pub front-holds : (es : List (Grain × (ℕ × ℕ))) (grain_at : ℕ → Option Grain) (ks : List (ℕ × ℕ)) → AreTied (λ g. lookup (grain_eq g) es) grain_at (λ p. list_any (λ k. is_eq (time_cmp p k)) ks)
-    → (age now : ℕ) → IsStrictlySortedBy time_cmp ks → AllByRecursion (λ p. list_any (λ k. is_eq (time_cmp p k)) ks ≡ true) ks → HoldsDue (record { age = age; lasts = from_entries (moments es) }) now (front grain_at age now ks)
-front-holds es grain_at ks tied age now sorted there q =
-    count-due (λ g. lookup (grain_eq g) es) grain_at (λ p. list_any (λ k. is_eq (time_cmp p k)) ks) tied age now q ks sorted there (λ p. refl)
-    ∙ ap (λ o. cond (is_due age now o) 1 0) (sym (get-lasts es q))
+    → (now : ℕ) → IsStrictlySortedBy time_cmp ks → AllByRecursion (λ p. list_any (λ k. is_eq (time_cmp p k)) ks ≡ true) ks → HoldsDue (from_entries (moments es)) now (front grain_at now ks)
+front-holds es grain_at ks tied now sorted there q =
+    count-due (λ g. lookup (grain_eq g) es) grain_at (λ p. list_any (λ k. is_eq (time_cmp p k)) ks) tied now q ks sorted there (λ p. refl)
+    ∙ ap (λ o. cond (is_due now o) 1 0) (sym (get-moments es q))

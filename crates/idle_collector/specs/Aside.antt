@@ -1,5 +1,5 @@
 -- The notes that are held aside from the filed ones: that of the grain that came last, and those of one moment.
-use Rattle.std.specs.Prelude.{◌≡◌, ℕ, ◌-◌, Bool, true, false, nat_le, List, [], ◌∷◌, Option, Some, None, if◌then◌else◌}
+use Rattle.std.specs.Prelude.{◌≡◌, ℕ, Bool, true, false, nat_le, List, [], ◌∷◌, Option, Some, None, if◌then◌else◌}
 use Rattle.std.specs.List.{list_any}
 use Rattle.std.specs.FinMap as map
 use Rattle.grain_id.specs.Names.{Grain, grain_eq}
@@ -11,45 +11,45 @@ use Rattle.idle_collector.specs.Notes.{Notes, Collection, noted}
 abbrev pub is_of : Grain → Latest → Bool
 is_of grain Nobody = false
 is_of grain (Expected id) = false
-is_of grain (Noted id last) = grain_eq id grain
+is_of grain (Noted id moment) = grain_eq id grain
 
 -- the notes, that of the latest grain too
 abbrev pub with_latest : Latest → Notes → Notes
 with_latest Nobody notes = notes
 with_latest (Expected id) notes = notes
-with_latest (Noted id last) notes = noted notes id last
+with_latest (Noted id moment) notes = noted notes id moment
 
 -- the latest grain, if there is room for its note
 abbrev pub expected_of : Latest → Option Grain
 expected_of Nobody = None
 expected_of (Expected id) = Some id
-expected_of (Noted id last) = None
+expected_of (Noted id moment) = None
 
 -- what is held, the latest grain beside these notes
 abbrev pub held_with : Latest → Notes → Collection
 held_with latest notes = record { notes = with_latest latest notes; expected = expected_of latest }
 
 -- the latest grain, if it is due
-abbrev pub due_of : ℕ → ℕ → Latest → List Grain
-due_of age now Nobody = []
-due_of age now (Expected id) = []
-due_of age now (Noted id last) = if nat_le age (now - last) then id ∷ [] else []
+abbrev pub due_of : ℕ → Latest → List Grain
+due_of now Nobody = []
+due_of now (Expected id) = []
+due_of now (Noted id moment) = if nat_le moment now then id ∷ [] else []
 
--- each of the grains was last used then
+-- each of the grains is due from then on
 abbrev pub all_noted : Notes → List Grain → ℕ → Notes
-all_noted notes [] last = notes
-all_noted notes (grain ∷ grains) last = all_noted (noted notes grain last) grains last
+all_noted notes [] moment = notes
+all_noted notes (grain ∷ grains) moment = all_noted (noted notes grain moment) grains moment
 
 -- no other note is of the latest grain
 abbrev pub IsApart : Latest → Notes → Type 0
 IsApart Nobody notes = Unit {0}
 IsApart (Expected id) notes = Unit {0}
-IsApart (Noted id last) notes = map.get notes.lasts id ≡ None
+IsApart (Noted id moment) notes = map.get notes id ≡ None
 
 -- there is no note of these grains
 abbrev pub AreApart : List Grain → Notes → Type 0
-AreApart grains notes = (grain : Grain) → list_any (grain_eq grain) grains ≡ true → map.get notes.lasts grain ≡ None
+AreApart grains notes = (grain : Grain) → list_any (grain_eq grain) grains ≡ true → map.get notes grain ≡ None
 
 -- No grain is noted in two of the three: as the latest, among those of one moment, and among the filed ones.
 abbrev pub IsHeldApart : Latest → List Grain → ℕ → Notes → Type 0
-IsHeldApart latest grains last filed = IsApart latest (all_noted filed grains last) × AreApart grains filed
+IsHeldApart latest grains moment filed = IsApart latest (all_noted filed grains moment) × AreApart grains filed

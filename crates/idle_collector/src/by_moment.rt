@@ -19,10 +19,9 @@ use std::marker::Model;
 /// stands in the order of time by its moment and its place.
 #[derive(Drop)]
 pub struct ByMoment {
-    age: u64,
-    lasts: IndexMap<GrainId, (u64, usize)>,
+    notes: IndexMap<GrainId, (u64, usize)>,
     grains: Slab<GrainId>,
-    by_last: BTreeSet<(u64, usize)>,
+    by_moment: BTreeSet<(u64, usize)>,
 }
 
 impl Model for ByMoment {
@@ -38,26 +37,26 @@ impl Model for ByMoment {
 
     ghost coded = { coded_notes };
 
-    ghost view = { λ c. record { age = c.age; lasts = from_entries (moments c.lasts.entries) } };
+    ghost view = { λ c. from_entries (moments c.notes.entries) };
 
-    ghost invariant = { λ c. AreTied (λ grain. lookup (grain_eq grain) c.lasts.entries) (get c.grains) (contains time_cmp c.by_last) };
+    ghost invariant = { λ c. AreTied (λ grain. lookup (grain_eq grain) c.notes.entries) (get c.grains) (contains time_cmp c.by_moment) };
 }
 
 /// Takes a place for a grain, and enters the place in the order of time.
 fn enter(
     grains: &mut Slab<GrainId>,
-    by_last: &mut BTreeSet<(u64, usize)>,
+    by_moment: &mut BTreeSet<(u64, usize)>,
     id: &GrainId,
-    last: u64,
+    moment: u64,
 ) -> Result<usize, AllocError>
     ensures vacant { IfOk result (λ place. get grains.old place ≡ None) }
     ensures placed { IfOk result (λ place. Updates grains.old grains.new place (Some id.now)) }
-    ensures entered { IfOk result (λ place. set.Updates time_cmp by_last.old by_last.new (last, place) true) }
+    ensures entered { IfOk result (λ place. set.Updates time_cmp by_moment.old by_moment.new (moment, place) true) }
     ensures same_grains { OnErr result (SameValues grains.old grains.new) }
-    ensures same_order { OnErr result (set.IsUnchanged by_last.old by_last.new) }
+    ensures same_order { OnErr result (set.IsUnchanged by_moment.old by_moment.new) }
 {
     let place = grains.insert(id.clone()?)?;
-    match by_last.insert((last, place)) {
+    match by_moment.insert((moment, place)) {
         Ok(_) => Ok(place),
         Err(_) => {
             grains.try_remove(place);
@@ -67,63 +66,65 @@ fn enter(
 }
 
 /// Takes a place out of the order of time, and its grain away. Takes no memory.
-fn leave(grains: &mut Slab<GrainId>, by_last: &mut BTreeSet<(u64, usize)>, last: u64, place: usize)
+fn leave(
+    grains: &mut Slab<GrainId>,
+    by_moment: &mut BTreeSet<(u64, usize)>,
+    moment: u64,
+    place: usize,
+)
     ensures vacated { Updates grains.old grains.new place None }
-    ensures left { set.Updates time_cmp by_last.old by_last.new (last, place) false }
+    ensures left { set.Updates time_cmp by_moment.old by_moment.new (moment, place) false }
 {
-    by_last.remove(&(last, place));
+    by_moment.remove(&(moment, place));
     grains.try_remove(place);
 }
 
 impl ByMoment {
-    /// Nothing is noted. A grain is due once it has been unused for the age, in milliseconds.
-    pub fn new(alloc: Global, age: u64) -> ByMoment
-        ensures { result ≡ record { age = age; lasts = empty } }
+    /// Nothing is noted.
+    pub fn new(alloc: Global) -> ByMoment
+        ensures { result ≡ empty }
     {
         ByMoment {
-            age,
-            lasts: IndexMap::new(alloc),
+            notes: IndexMap::new(alloc),
             grains: Slab::new(alloc),
-            by_last: BTreeSet::new(alloc),
+            by_moment: BTreeSet::new(alloc),
         }
     }
 
-    /// After how many milliseconds an unused grain is due.
-    pub fn age(&self) -> u64
-        ensures { result ≡ self.now.age }
-    {
-        self.age
-    }
-
-    /// Notes when a grain was last used, in place of its earlier note.
+    /// Notes the moment from which a grain is due, in place of its earlier note.
     ///
     /// # Errors
     ///
     /// Out of memory: the notes are as before.
-    pub fn note(&mut self, id: GrainId, last: u64) -> Result<(), AllocError>
-        ensures noted { OnOk result (self.new ≡ noted self.old id last) }
+    pub fn note(&mut self, id: GrainId, moment: u64) -> Result<(), AllocError>
+        ensures noted { OnOk result (self.new ≡ noted self.old id moment) }
         ensures unchanged { OnErr result (self.new ≡ self.old) }
     {
-        match self.lasts.entry(id)? {
+        match self.notes.entry(id)? {
             Entry::Occupied(entry) => {
                 let noted = entry.into_mut();
                 let (before, place) = *noted;
-                if before != last {
-                    self.by_last.insert((last, place))?;
-                    self.by_last.remove(&(before, place));
-                    *noted = (last, place);
+                if before != moment {
+                    self.by_moment.insert((moment, place))?;
+                    self.by_moment.remove(&(before, place));
+                    *noted = (moment, place);
                 }
                 Ok(())
             }
             Entry::Vacant(entry) => {
-                let place = match enter(&mut self.grains, &mut self.by_last, entry.key(), last) {
+                let place = match enter(
+                    &mut self.grains,
+                    &mut self.by_moment,
+                    entry.key(),
+                    moment,
+                ) {
                     Ok(place) => place,
                     Err(refused) => {
                         entry.into_key();
                         return Err(refused);
                     }
                 };
-                entry.insert((last, place));
+                entry.insert((moment, place));
                 Ok(())
             }
         }
@@ -133,13 +134,12 @@ impl ByMoment {
     pub fn forget(&mut self, id: &GrainId)
         ensures { self.new ≡ forgotten self.old id.now }
     {
-        if let Some((last, place)) = self.lasts.swap_remove(id) {
-            leave(&mut self.grains, &mut self.by_last, last, place);
+        if let Some((moment, place)) = self.notes.swap_remove(id) {
+            leave(&mut self.grains, &mut self.by_moment, moment, place);
         }
     }
 
-    /// The grains that are due, the one that has been unused for longest first. Looks at these and at
-    /// one more.
+    /// The grains that are due, the one that is due for longest first. Looks at these and at one more.
     ///
     /// # Errors
     ///
@@ -148,9 +148,8 @@ impl ByMoment {
         ensures { IfOk result (λ grains. HoldsDue self.now now grains.items) }
     {
         let mut grains = Vec::new(alloc);
-        for (last, place) in self.by_last.iter() {
-            let unused = now.saturating_sub(*last);
-            if unused < self.age {
+        for (moment, place) in self.by_moment.iter() {
+            if now < *moment {
                 break;
             }
             if let Some(id) = self.grains.get(*place) {

@@ -1,4 +1,4 @@
-//! When grains were last used.
+//! The moments from which grains are due.
 
 ghost use Rattle.std.specs.Prelude.{◌≡◌, OnOk, OnErr, IfOk, IfSome, None, Some};
 ghost use Rattle.std.specs.FinMap as map;
@@ -13,12 +13,12 @@ use std::alloc::{AllocError, Global};
 use std::marker::Model;
 use std::mem::replace;
 
-/// The grains that are idle, and when each of them was last used. The note that came last is held aside, and those of
+/// The grains that are idle, and the moment from which each of them is due. The note that came last is held aside, and those of
 /// one moment beside it; the others are filed. A grain that may be idle soon is expected: there is room for its note.
 #[derive(Drop)]
 pub struct Collector {
     latest: Latest,
-    last: u64,
+    moment: u64,
     grains: IndexSet<GrainId>,
     filed: ByMoment,
 }
@@ -31,29 +31,22 @@ impl Model for Collector {
 
     ghost coded = { coded_collection };
 
-    ghost view = { λ c. held_with c.latest (all_noted c.filed c.grains.keys c.last) };
+    ghost view = { λ c. held_with c.latest (all_noted c.filed c.grains.keys c.moment) };
 
-    ghost invariant = { λ c. IsHeldApart c.latest c.grains.keys c.last c.filed };
+    ghost invariant = { λ c. IsHeldApart c.latest c.grains.keys c.moment c.filed };
 }
 
 impl Collector {
-    /// Nothing is noted, and nothing expected. A grain is due once it has been unused for the age, in milliseconds.
-    pub fn new(alloc: Global, age: u64) -> Collector
-        ensures { result ≡ record { notes = record { age = age; lasts = map.empty }; expected = None } }
+    /// Nothing is noted, and nothing expected.
+    pub fn new(alloc: Global) -> Collector
+        ensures { result ≡ record { notes = map.empty; expected = None } }
     {
         Collector {
             latest: Latest::Nobody,
-            last: 0,
+            moment: 0,
             grains: IndexSet::new(alloc),
-            filed: ByMoment::new(alloc, age),
+            filed: ByMoment::new(alloc),
         }
-    }
-
-    /// After how many milliseconds an unused grain is due.
-    pub fn age(&self) -> u64
-        ensures { result ≡ self.now.notes.age }
-    {
-        self.filed.age()
     }
 
     /// Makes room for the note of a grain that may be idle soon. There is room for one note alone.
@@ -67,7 +60,7 @@ impl Collector {
     {
         latest::put_by(
             &self.latest,
-            &mut self.last,
+            &mut self.moment,
             &mut self.grains,
             &mut self.filed,
         )?;
@@ -75,29 +68,29 @@ impl Collector {
         Ok(())
     }
 
-    /// Notes when the grain that is expected was last used. It has no earlier note. Takes no memory.
-    pub fn note_expected(&mut self, last: u64)
-        requires { IfSome self.old.expected (λ id. map.get self.old.notes.lasts id ≡ None) }
-        ensures { self.new ≡ record { notes = noted_if self.old.notes self.old.expected last; expected = None } }
+    /// Notes the moment from which the grain that is expected is due. It has no earlier note. Takes no memory.
+    pub fn note_expected(&mut self, moment: u64)
+        requires { IfSome self.old.expected (λ id. map.get self.old.notes id ≡ None) }
+        ensures { self.new ≡ record { notes = noted_if self.old.notes self.old.expected moment; expected = None } }
     {
         match replace(&mut self.latest, Latest::Nobody) {
-            Latest::Expected(id) => self.latest = Latest::Noted(id, last),
+            Latest::Expected(id) => self.latest = Latest::Noted(id, moment),
             noted => self.latest = noted,
         }
     }
 
-    /// Notes when a grain was last used, in place of its earlier note. No grain is expected then.
+    /// Notes the moment from which a grain is due, in place of its earlier note. No grain is expected then.
     ///
     /// # Errors
     ///
     /// Out of memory: nothing changed.
-    pub fn note(&mut self, id: GrainId, last: u64) -> Result<(), AllocError>
-        ensures noted { OnOk result (self.new ≡ record { notes = noted self.old.notes id last; expected = None }) }
+    pub fn note(&mut self, id: GrainId, moment: u64) -> Result<(), AllocError>
+        ensures noted { OnOk result (self.new ≡ record { notes = noted self.old.notes id moment; expected = None }) }
         ensures unchanged { OnErr result (self.new ≡ self.old) }
     {
         self.expect(id.clone()?)?;
         self.forget(&id);
-        self.note_expected(last);
+        self.note_expected(moment);
         Ok(())
     }
 
@@ -112,8 +105,8 @@ impl Collector {
         moment::forget(&mut self.grains, &mut self.filed, id);
     }
 
-    /// The grains that have been unused for the age, ascending. One that was used after `now` counts
-    /// as used at `now`. Looks at the grains that are due, and at two more.
+    /// The grains whose moment is `now` or earlier, ascending. Looks at the grains that are due, and at
+    /// two more.
     ///
     /// # Errors
     ///
@@ -121,11 +114,9 @@ impl Collector {
     pub fn due(&self, alloc: Global, now: u64) -> Result<Vec<GrainId>, AllocError>
         ensures { IfOk result (λ grains. grains.items ≡ due self.now.notes now) }
     {
-        let age = self.filed.age();
         let mut grains = self.filed.first_due(alloc, now)?;
-        let unused = now.saturating_sub(self.last);
-        moment::add_due(self.grains.as_slice(), age, unused, &mut grains)?;
-        latest::add_due(&self.latest, age, now, &mut grains)?;
+        moment::add_due(self.grains.as_slice(), self.moment, now, &mut grains)?;
+        latest::add_due(&self.latest, now, &mut grains)?;
         grains.sort_unstable();
         Ok(grains)
     }

@@ -16,7 +16,7 @@ pub enum Latest {
     Nobody,
     /// It may be idle soon: there is room for its note.
     Expected(GrainId),
-    /// It was last used at that moment.
+    /// It is due from that moment on.
     Noted(GrainId, u64),
 }
 
@@ -47,8 +47,8 @@ pub fn put_by(
     ensures unchanged { OnErr result (all_noted filed.new grains.new.keys at.new ≡ all_noted filed.old grains.old.keys at.old) }
     ensures apart { AreApart grains.new.keys filed.new }
 {
-    if let Latest::Noted(id, last) = latest {
-        moment::go_on(at, grains, filed, *last)?;
+    if let Latest::Noted(id, moment) = latest {
+        moment::go_on(at, grains, filed, *moment)?;
         grains.insert(id.clone()?)?;
     }
     Ok(())
@@ -59,19 +59,13 @@ pub fn put_by(
 /// # Errors
 ///
 /// Out of memory.
-pub fn add_due(
-    latest: &Latest,
-    age: u64,
-    now: u64,
-    grains: &mut Vec<GrainId>,
-) -> Result<(), AllocError>
-    ensures { OnOk result (grains.new.items ≡ grains.old.items ++ due_of age now latest.now) }
+pub fn add_due(latest: &Latest, now: u64, grains: &mut Vec<GrainId>) -> Result<(), AllocError>
+    ensures { OnOk result (grains.new.items ≡ grains.old.items ++ due_of now latest.now) }
 {
-    let Latest::Noted(id, last) = latest else {
+    let Latest::Noted(id, moment) = latest else {
         return Ok(());
     };
-    let unused = now.saturating_sub(*last);
-    if unused < age {
+    if now < *moment {
         return Ok(());
     }
     grains.push(id.clone()?)?;

@@ -1,12 +1,13 @@
-//! When idle grains were last used, and which of them have been unused for long enough to go.
+//! The moments from which idle grains are due to go, and which of them are due.
 //!
-//! A layer above may rely on this: a collector is an age and a finite map from grains to moments, its
-//! calls change that map as they say, and `due` gives exactly the grains that have been unused for the
-//! age, ascending. A grain that is expected has room for its note, which then takes no memory. The
-//! definitions are in `specs/Notes.antt`. The note that came last is held aside, beside the grains of
-//! one moment, as `specs/Aside.antt` says; behind these are the notes that are filed. `specs/Ties.antt`
-//! says how these, the places of their grains and the order of time stand together. `proofs/Due.antt`
-//! has `due-there`, which says of one grain whether it's among the due ones.
+//! A layer above may rely on this: a collector is a finite map from grains to moments, its calls change
+//! that map as they say, and `due` gives exactly the grains whose moment has come, ascending. How long
+//! a grain stays is for the layer above to say: it notes the moment. A grain that is expected has room
+//! for its note, which then takes no memory. The definitions are in `specs/Notes.antt`. The note that
+//! came last is held aside, beside the grains of one moment, as `specs/Aside.antt` says; behind these
+//! are the notes that are filed. `specs/Ties.antt` says how these, the places of their grains and the
+//! order of time stand together. `proofs/Due.antt` has `due-there`, which says of one grain whether it's
+//! among the due ones.
 #![tactic(auto)]
 
 mod ages;

@@ -1,7 +1,7 @@
-//! The grains that were last used at one moment, which are held aside from the notes that are filed.
+//! The grains that are due from one moment on, which are held aside from the notes that are filed.
 //!
-//! As long as time stands still, a note is made and dropped by the hash of its grain alone. When it goes on, the grains
-//! of the moment before are filed, each of them once.
+//! As long as the notes that come are of one moment, a note is made and dropped by the hash of its grain alone. At a note
+//! of another moment the grains of the moment before are filed, each of them once.
 
 ghost use Rattle.std.specs.Prelude.{◌≡◌, ◌++◌, ℕ, [], OnOk, nat_le, if◌then◌else◌};
 ghost use Rattle.idle_collector.specs.Notes.{forgotten};
@@ -12,23 +12,23 @@ use grain_id::GrainId;
 use indexmap::IndexSet;
 use std::alloc::AllocError;
 
-/// Files the notes of the grains, all of which were last used at one moment.
+/// Files the notes of the grains, all of which are due from one moment on.
 ///
 /// # Errors
 ///
 /// Out of memory: some of them may be filed.
 fn file_all(
-    last: u64,
+    moment: u64,
     grains: &mut IndexSet<GrainId>,
     filed: &mut ByMoment,
 ) -> Result<(), AllocError>
     requires { AreApart grains.old.keys filed.old }
-    ensures notes { all_noted filed.new grains.new.keys last ≡ all_noted filed.old grains.old.keys last }
+    ensures notes { all_noted filed.new grains.new.keys moment ≡ all_noted filed.old grains.old.keys moment }
     ensures apart { AreApart grains.new.keys filed.new }
     ensures none { OnOk result (grains.new.keys ≡ []) }
 {
     while let Some(id) = grains.last() {
-        filed.note(id.clone()?, last)?;
+        filed.note(id.clone()?, moment)?;
         grains.pop();
     }
     Ok(())
@@ -43,18 +43,18 @@ pub fn go_on(
     at: &mut u64,
     grains: &mut IndexSet<GrainId>,
     filed: &mut ByMoment,
-    last: u64,
+    moment: u64,
 ) -> Result<(), AllocError>
     requires { AreApart grains.old.keys filed.old }
     ensures notes { all_noted filed.new grains.new.keys at.new ≡ all_noted filed.old grains.old.keys at.old }
     ensures apart { AreApart grains.new.keys filed.new }
-    ensures there { OnOk result (at.new ≡ last) }
+    ensures there { OnOk result (at.new ≡ moment) }
 {
-    if *at == last {
+    if *at == moment {
         return Ok(());
     }
     file_all(*at, grains, filed)?;
-    *at = last;
+    *at = moment;
     Ok(())
 }
 
@@ -69,20 +69,20 @@ pub fn forget(grains: &mut IndexSet<GrainId>, filed: &mut ByMoment, id: &GrainId
     }
 }
 
-/// Adds the grains to others, if they have been unused for the age.
+/// Adds the grains to others, if they are due.
 ///
 /// # Errors
 ///
 /// Out of memory.
 pub fn add_due(
     grains: &[GrainId],
-    age: u64,
-    unused: u64,
+    moment: u64,
+    now: u64,
     others: &mut Vec<GrainId>,
 ) -> Result<(), AllocError>
-    ensures { OnOk result (others.new.items ≡ others.old.items ++ (if nat_le age unused then grains.now else [])) }
+    ensures { OnOk result (others.new.items ≡ others.old.items ++ (if nat_le moment now then grains.now else [])) }
 {
-    if unused < age {
+    if now < moment {
         return Ok(());
     }
     for id in grains {

@@ -85,7 +85,7 @@ impl<S: GrainStorage + Drop, L: GrainLogic + Drop> Silo<S, L> {
         } = setup;
         let opening = storage.list(alloc)?;
         let opening_failures = storage.failures();
-        let state = SiloState::new(alloc, tenants.list(), age.millis(), storage, logic)?;
+        let state = SiloState::new(alloc, tenants.list(), age, storage, logic)?;
         Ok(Silo {
             tenants,
             age,

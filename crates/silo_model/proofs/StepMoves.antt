@@ -122,7 +122,7 @@ due_parts true true true d e = (refl, refl)
 -- an entry that is due has no request
 pub due_is_bare : (clock age : ℕ) (e : Entry) → is_kept clock age (Some e) ≡ false → (e.queue ≡ []) × (map.len e.turns ≡ 0)
 due_is_bare clock age e due =
-    let parts = due_parts (is_ready e.phase) (length e.queue == 0) (map.len e.turns == 0) (nat_le age _) due in
+    let parts = due_parts (is_ready e.phase) (length e.queue == 0) (map.len e.turns == 0) (nat_le _ clock) due in
     (nil_from_length e.queue (eqb-true (length e.queue) 0 parts.0), eqb-true (map.len e.turns) 0 parts.1)
 
 due_is_light : (f : Request → ℕ) (clock age : ℕ) (e : Entry) → is_kept clock age (Some e) ≡ false → held f e ≡ 0

@@ -1,11 +1,12 @@
 -- Idle grains are collected: the laws are said of a silo that lets go of what isn't used, and of nothing else.
-use Rattle.std.specs.Prelude.{◌≡◌, ℕ, ◌-◌, ◌≤◌, ◌<◌, [], Option, Some, None}
+use Rattle.std.specs.Prelude.{◌≡◌, ℕ, ◌≤◌, ◌<◌, [], Option, Some, None}
 use Rattle.std.specs.FinMap as map
 use Rattle.grain_id.specs.Names.{Grain}
 use Rattle.request_codec.specs.Tree.{Tree}
 use Rattle.silo_event.specs.declared.step.Step.TheVariants.{Sweep}
 use Rattle.grain_kinds.specs.Logic.{Logic}
 use Rattle.silo_model.specs.Machine.{Entry, ready}
+use Rattle.silo_model.specs.Idle.{due_moment}
 use Rattle.silo_model.specs.Whole.{Whole, whole_step}
 
 -- The entry is ready, no request waits, and no turn is open.
@@ -16,11 +17,11 @@ pub record IsIdle (e : Entry) : Type 0 where
   pub nothing_waits : e.queue ≡ []
   pub none_open : map.len e.turns ≡ 0
 
--- What a sweep leaves: no entry that was idle for as long as the age, and every other as it was; and every row.
+-- What a sweep leaves: no idle entry whose due moment has come, and every other as it was; and every row.
 pub record LeavesUsed (before after : Whole) : Type 0 where
-  pub goes : (grain : Grain) (e : Entry) → map.get before.entries grain ≡ Some e → IsIdle e → before.age ≤ before.clock - e.last
+  pub goes : (grain : Grain) (e : Entry) → map.get before.entries grain ≡ Some e → IsIdle e → due_moment before.age e ≤ before.clock
       → map.get after.entries grain ≡ None
-  pub stays : (grain : Grain) (e : Entry) → map.get before.entries grain ≡ Some e → (IsIdle e → before.clock - e.last < before.age)
+  pub stays : (grain : Grain) (e : Entry) → map.get before.entries grain ≡ Some e → (IsIdle e → before.clock < due_moment before.age e)
       → map.get after.entries grain ≡ Some e
   pub rows : after.rows ≡ before.rows
 

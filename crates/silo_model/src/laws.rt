@@ -144,7 +144,7 @@ pub fn readers_together()
     ensures { ReadersTogether }
 {}
 
-/// A sweep takes the entries that were idle for as long as the age, leaves every other, and leaves
+/// A sweep takes the idle entries that are due, an age after they were last used; leaves every other, and leaves
 /// every row: so the laws are said of a silo that lets go of what isn't used.
 pub fn idle_goes()
     ensures { IdleGoes }

@@ -15,48 +15,48 @@ use Rattle.grain_kinds.specs.Logic.{Logic}
 use Rattle.silo_event.specs.declared.step.Answer.{Answer}
 use Rattle.silo_event.specs.declared.step.Answer.TheVariants.{Done, Failed, NotNow}
 use Rattle.silo_model.specs.Machine.{Entry, Entries, Request, Phase, loading}
-use Rattle.silo_model.specs.Idle.{is_ready}
+use Rattle.silo_model.specs.Idle.{is_ready, is_idle, due_moment}
 use Rattle.silo_model.specs.Calls.{with_request}
 use Rattle.std.proofs.lemmas.Bool.{false_from_ne_true}
 use Rattle.silo_state.specs.Activations.{IsLoading}
 use Rattle.silo_state.specs.Entries.{Activates, Begins}
-use Rattle.silo_state.specs.Notes.{is_idle, idle_since, none_waits, AreNoted}
+use Rattle.silo_state.specs.Notes.{due_at, none_waits, AreNoted}
 use Rattle.idle_collector.specs.Notes.{Collection, noted_if}
 
-either_since : (b : Bool) (o p : Option Entry) → cond b (idle_since o) (idle_since p) ≡ idle_since (cond b o p)
-either_since true o p = refl
-either_since false o p = refl
+either_at : (age : ℕ) (b : Bool) (o p : Option Entry) → cond b (due_at age o) (due_at age p) ≡ due_at age (cond b o p)
+either_at age true o p = refl
+either_at age false o p = refl
 
 -- at first nothing is noted
-pub none_noted : AreNoted map.empty map.empty
-none_noted g = map.get-empty grain_cmp g ∙ ap idle_since (sym (map.get-empty grain_cmp g))
+pub none_noted : (age : ℕ) → AreNoted age map.empty map.empty
+none_noted age g = map.get-empty grain_cmp g ∙ ap (due_at age) (sym (map.get-empty grain_cmp g))
 
-module _ (entries : Entries) (lasts : FinMap grain_cmp ℕ) (noted : AreNoted entries lasts) (g : Grain) where
+module _ (age : ℕ) (entries : Entries) (moments : FinMap grain_cmp ℕ) (noted : AreNoted age entries moments) (g : Grain) where
   -- both change at one grain
   noted-at : (o : Option Entry) (after : Entries) (notes : FinMap grain_cmp ℕ) → ((q : Grain) → map.get after q ≡ cond (eq_by_cmp grain_cmp q g) o (map.get entries q))
-      → ((q : Grain) → map.get notes q ≡ cond (eq_by_cmp grain_cmp q g) (idle_since o) (map.get lasts q)) → AreNoted after notes
+      → ((q : Grain) → map.get notes q ≡ cond (eq_by_cmp grain_cmp q g) (due_at age o) (map.get moments q)) → AreNoted age after notes
   noted-at o after notes e l q =
-      l q ∙ ap (cond (eq_by_cmp grain_cmp q g) (idle_since o)) (noted q) ∙ either_since (eq_by_cmp grain_cmp q g) o (map.get entries q) ∙ ap idle_since (sym (e q))
+      l q ∙ ap (cond (eq_by_cmp grain_cmp q g) (due_at age o)) (noted q) ∙ either_at age (eq_by_cmp grain_cmp q g) o (map.get entries q) ∙ ap (due_at age) (sym (e q))
 
-  kept_at : (q : Grain) (b : Bool) → eq_by_cmp grain_cmp q g ≡ b → (o : Option ℕ) → map.get lasts g ≡ o → map.get lasts q ≡ cond b o (map.get lasts q)
-  kept_at q true tied o is = ap (map.get lasts) ((eq_by_cmp-Decides grain_cmp_total grain_cmp_exact q g).0 tied) ∙ is
+  kept_at : (q : Grain) (b : Bool) → eq_by_cmp grain_cmp q g ≡ b → (o : Option ℕ) → map.get moments g ≡ o → map.get moments q ≡ cond b o (map.get moments q)
+  kept_at q true tied o is = ap (map.get moments) ((eq_by_cmp-Decides grain_cmp_total grain_cmp_exact q g).0 tied) ∙ is
   kept_at q false tied o is = refl
 
   -- an entry that counts as before needs no note
-  pub noted-same : (after : Entry) → idle_since (Some after) ≡ idle_since (map.get entries g) → AreNoted (map.insert entries g after) lasts
-  noted-same after same = noted-at (Some after) _ lasts (map.get-insert grain_cmp_total entries g after) (λ q. kept_at q (eq_by_cmp grain_cmp q g) refl (idle_since (Some after)) (noted g ∙ sym same))
+  pub noted-same : (after : Entry) → due_at age (Some after) ≡ due_at age (map.get entries g) → AreNoted age (map.insert entries g after) moments
+  noted-same after same = noted-at (Some after) _ moments (map.get-insert grain_cmp_total entries g after) (λ q. kept_at q (eq_by_cmp grain_cmp q g) refl (due_at age (Some after)) (noted g ∙ sym same))
 
   -- one that is idle now has a note
-  pub noted-idle : (after : Entry) (last : ℕ) → idle_since (Some after) ≡ Some last → AreNoted (map.insert entries g after) (map.insert lasts g last)
-  noted-idle after last idle = noted-at (Some after) _ _ (map.get-insert grain_cmp_total entries g after) (λ q. map.get-insert grain_cmp_total lasts g last q ∙ ap (λ o. cond (eq_by_cmp grain_cmp q g) o (map.get lasts q)) (sym idle))
+  pub noted-idle : (after : Entry) (moment : ℕ) → due_at age (Some after) ≡ Some moment → AreNoted age (map.insert entries g after) (map.insert moments g moment)
+  noted-idle after moment idle = noted-at (Some after) _ _ (map.get-insert grain_cmp_total entries g after) (λ q. map.get-insert grain_cmp_total moments g moment q ∙ ap (λ o. cond (eq_by_cmp grain_cmp q g) o (map.get moments q)) (sym idle))
 
   -- one that is in use has none
-  pub noted-used : (after : Entry) → idle_since (Some after) ≡ None → AreNoted (map.insert entries g after) (map.remove lasts g)
-  noted-used after used = noted-at (Some after) _ _ (map.get-insert grain_cmp_total entries g after) (λ q. map.get-remove grain_cmp_total lasts g q ∙ ap (λ o. cond (eq_by_cmp grain_cmp q g) o (map.get lasts q)) (sym used))
+  pub noted-used : (after : Entry) → due_at age (Some after) ≡ None → AreNoted age (map.insert entries g after) (map.remove moments g)
+  noted-used after used = noted-at (Some after) _ _ (map.get-insert grain_cmp_total entries g after) (λ q. map.get-remove grain_cmp_total moments g q ∙ ap (λ o. cond (eq_by_cmp grain_cmp q g) o (map.get moments q)) (sym used))
 
   -- and one that goes has none
-  pub noted-gone : AreNoted (map.remove entries g) (map.remove lasts g)
-  noted-gone = noted-at None _ _ (map.get-remove grain_cmp_total entries g) (map.get-remove grain_cmp_total lasts g)
+  pub noted-gone : AreNoted age (map.remove entries g) (map.remove moments g)
+  noted-gone = noted-at None _ _ (map.get-remove grain_cmp_total entries g) (map.get-remove grain_cmp_total moments g)
 
 -- ---- entries in use
 
@@ -82,46 +82,46 @@ used-phase e phase not is = ap (λ p. is_ready p && none_waits e && (map.len e.t
 pub used_loading : (e : Entry) (o : Option Entry) → o ≡ Some e → IsLoading o → is_idle e ≡ false
 used_loading e o found is = used-phase e loading refl (ap (λ (x : Entry). x.phase) (same_Some e is.0 (sym found ∙ is.1)) ∙ is.2)
 
-since_used : (e : Entry) → is_idle e ≡ false → idle_since (Some e) ≡ None
-since_used e used = ap (λ b. cond b (Some e.last) None) used
+due_used : (age : ℕ) (e : Entry) → is_idle e ≡ false → due_at age (Some e) ≡ None
+due_used age e used = ap (λ b. cond b (Some (due_moment age e)) None) used
 
 -- at an idle entry no request waits
-since-none_waits : (e : Entry) (last : ℕ) → idle_since (Some e) ≡ Some last → none_waits e ≡ true
-since-none_waits e last since = by (is_ready e.phase) (none_waits e) (map.len e.turns == 0) since
+due-none_waits : (age : ℕ) (e : Entry) (moment : ℕ) → due_at age (Some e) ≡ Some moment → none_waits e ≡ true
+due-none_waits age e moment due = by (is_ready e.phase) (none_waits e) (map.len e.turns == 0) due
   where
-    by : (r w o : Bool) → cond (r && w && o) (Some e.last) None ≡ Some last → w ≡ true
+    by : (r w o : Bool) → cond (r && w && o) (Some (due_moment age e)) None ≡ Some moment → w ≡ true
     by true true o is = refl
     by true false o is = absurd cc
     by false w o is = absurd cc
 
 -- ---- the entry of one grain changes
 
-module _ (entries : Entries) (lasts : FinMap grain_cmp ℕ) (noted : AreNoted entries lasts) (g : Grain) where
-  moved : (after new : Entries) → AreNoted after lasts → new ≡ after → AreNoted new lasts
-  moved after new still same = subst (λ (es : Entries). AreNoted es lasts) (sym same) still
+module _ (age : ℕ) (entries : Entries) (moments : FinMap grain_cmp ℕ) (noted : AreNoted age entries moments) (g : Grain) where
+  moved : (after new : Entries) → AreNoted age after moments → new ≡ after → AreNoted age new moments
+  moved after new still same = subst (λ (es : Entries). AreNoted age es moments) (sym same) still
 
   -- it was in use, and is
-  used_still : (before after : Entry) → map.get entries g ≡ Some before → is_idle before ≡ false → idle_since (Some after) ≡ None → (new : Entries) → new ≡ map.insert entries g after → AreNoted new lasts
-  used_still before after found used in_use new put = moved _ new (noted-same entries lasts noted g after (in_use ∙ sym (ap idle_since found ∙ since_used before used))) put
+  used_still : (before after : Entry) → map.get entries g ≡ Some before → is_idle before ≡ false → due_at age (Some after) ≡ None → (new : Entries) → new ≡ map.insert entries g after → AreNoted age new moments
+  used_still before after found used in_use new put = moved _ new (noted-same age entries moments noted g after (in_use ∙ sym (ap (due_at age) found ∙ due_used age before used))) put
 
-  pub activate_noted : (answer : Answer) (new : Entries) → Activates entries g answer new → AreNoted new lasts
+  pub activate_noted : (answer : Answer) (new : Entries) → Activates entries g answer new → AreNoted age new moments
   activate_noted Done new d = used_still d.before _ d.found (used-phase d.before _ refl d.waits) refl new d.put
   activate_noted Failed new d = absurd d
   activate_noted NotNow new d = moved entries new noted d.1
 
-  begin_noted : (logic : Logic) (opened : Bool) (new : Entries) → Begins logic entries g opened new → AreNoted new lasts
+  begin_noted : (logic : Logic) (opened : Bool) (new : Entries) → Begins logic entries g opened new → AreNoted age new moments
   begin_noted logic false new d = moved entries new noted d.1
-  begin_noted logic true new d = used_still d.before d.after d.found d.used (since_used d.after d.in_use) new d.put
+  begin_noted logic true new d = used_still d.before d.after d.found d.used (due_used age d.after d.in_use) new d.put
 
-  pub begins_noted : {A E : Type 0} (logic : Logic) (shown : A → Bool) (result : Result A E) (new : Entries) → IfOk result (λ x. Begins logic entries g (shown x) new) → OnErr result (new ≡ entries) → AreNoted new lasts
+  pub begins_noted : {A E : Type 0} (logic : Logic) (shown : A → Bool) (result : Result A E) (new : Entries) → IfOk result (λ x. Begins logic entries g (shown x) new) → OnErr result (new ≡ entries) → AreNoted age new moments
   begins_noted logic shown (Ok x) new d same = begin_noted logic (shown x) new d
   begins_noted logic shown (Err e) new d same = moved entries new noted same
 
   -- a request waits there
-  pub wait_noted : (clock : ℕ) (r : Request) (new : Entries) (later : FinMap grain_cmp ℕ) → new ≡ map.insert entries g (with_request clock r (map.get entries g)) → later ≡ map.remove lasts g → AreNoted new later
+  pub wait_noted : (clock : ℕ) (r : Request) (new : Entries) (later : FinMap grain_cmp ℕ) → new ≡ map.insert entries g (with_request clock r (map.get entries g)) → later ≡ map.remove moments g → AreNoted age new later
   wait_noted clock r new later is gone =
-      subst (λ (p : Entries × FinMap grain_cmp ℕ). AreNoted p.0 p.1) (λ i. (sym is i, sym gone i))
-      (noted-used entries lasts noted g (with_request clock r (map.get entries g)) (since_used (with_request clock r (map.get entries g)) (used_with (map.get entries g))))
+      subst (λ (p : Entries × FinMap grain_cmp ℕ). AreNoted age p.0 p.1) (λ i. (sym is i, sym gone i))
+      (noted-used age entries moments noted g (with_request clock r (map.get entries g)) (due_used age (with_request clock r (map.get entries g)) (used_with (map.get entries g))))
     where
       some_there : (n : ℕ) → (suc n == 0) ≡ false
       some_there n = some_waits (suc n) (omega arith)
@@ -136,24 +136,24 @@ module _ (entries : Entries) (lasts : FinMap grain_cmp ℕ) (noted : AreNoted en
       used_with (Some e) = by (is_ready e.phase) e.queue (map.len e.turns == 0)
 
   -- it goes
-  pub gone_noted : (new : Entries) (later : FinMap grain_cmp ℕ) → new ≡ map.remove entries g → later ≡ map.remove lasts g → AreNoted new later
-  gone_noted new later is gone = subst (λ (p : Entries × FinMap grain_cmp ℕ). AreNoted p.0 p.1) (λ i. (sym is i, sym gone i)) (noted-gone entries lasts noted g)
+  pub gone_noted : (new : Entries) (later : FinMap grain_cmp ℕ) → new ≡ map.remove entries g → later ≡ map.remove moments g → AreNoted age new later
+  gone_noted new later is gone = subst (λ (p : Entries × FinMap grain_cmp ℕ). AreNoted age p.0 p.1) (λ i. (sym is i, sym gone i)) (noted-gone age entries moments noted g)
 
 -- ---- it was in use, and becomes another
 
-module _ (entries : Entries) (c : Collection) (noted : AreNoted entries c.notes.lasts) (g : Grain) (before after : Entry) (found : map.get entries g ≡ Some before) (used : is_idle before ≡ false) where
-  pub becomes_used : None ≡ idle_since (Some after) → (new : Entries) → new ≡ map.insert entries g after → AreNoted new c.notes.lasts
-  becomes_used still new put = used_still entries c.notes.lasts noted g before after found used (sym still) new put
+module _ (age : ℕ) (entries : Entries) (c : Collection) (noted : AreNoted age entries c.notes) (g : Grain) (before after : Entry) (found : map.get entries g ≡ Some before) (used : is_idle before ≡ false) where
+  pub becomes_used : None ≡ due_at age (Some after) → (new : Entries) → new ≡ map.insert entries g after → AreNoted age new c.notes
+  becomes_used still new put = used_still age entries c.notes noted g before after found used (sym still) new put
 
   -- where no request waits there is room for its note
-  module _ (room : none_waits before ≡ true → c.expected ≡ Some g) (same : none_waits after ≡ none_waits before) (last : ℕ) (since : Some last ≡ idle_since (Some after)) where
+  module _ (room : none_waits before ≡ true → c.expected ≡ Some g) (same : none_waits after ≡ none_waits before) (moment : ℕ) (due : Some moment ≡ due_at age (Some after)) where
     expected_is : c.expected ≡ Some g
-    expected_is = room (sym same ∙ since-none_waits after last (sym since))
+    expected_is = room (sym same ∙ due-none_waits age after moment (sym due))
 
-    pub expected_apart : IfSome c.expected (λ id. map.get c.notes.lasts id ≡ None)
-    expected_apart = subst (λ o. IfSome o (λ id. map.get c.notes.lasts id ≡ None)) (sym expected_is) (noted g ∙ ap idle_since found ∙ since_used before used)
+    pub expected_apart : IfSome c.expected (λ id. map.get c.notes id ≡ None)
+    expected_apart = subst (λ o. IfSome o (λ id. map.get c.notes id ≡ None)) (sym expected_is) (noted g ∙ ap (due_at age) found ∙ due_used age before used)
 
-    pub becomes_idle : (new : Entries) → new ≡ map.insert entries g after → (next : Collection) → next ≡ record { notes = noted_if c.notes c.expected last; expected = None } → AreNoted new next.notes.lasts
+    pub becomes_idle : (new : Entries) → new ≡ map.insert entries g after → (next : Collection) → next ≡ record { notes = noted_if c.notes c.expected moment; expected = None } → AreNoted age new next.notes
     becomes_idle new put next is =
-        subst (λ (p : Entries × Collection). AreNoted p.0 p.1.notes.lasts) (λ i. (sym put i, sym (is ∙ ap (λ o. record { notes = noted_if c.notes o last; expected = None }) expected_is) i))
-        (noted-idle entries c.notes.lasts noted g after last (sym since))
+        subst (λ (p : Entries × Collection). AreNoted age p.0 p.1.notes) (λ i. (sym put i, sym (is ∙ ap (λ o. record { notes = noted_if c.notes o moment; expected = None }) expected_is) i))
+        (noted-idle age entries c.notes noted g after moment (sym due))

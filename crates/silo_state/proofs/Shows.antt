@@ -25,7 +25,8 @@ use Rattle.silo_model.specs.Machine.{Entry, Entries}
 use Rattle.silo_state.specs.Reads.{is_quiet}
 use Rattle.silo_model.specs.Turns as model
 use Rattle.silo_state.specs.Shown.{request_of, phase_of, entry_of, entries_of}
-use Rattle.silo_state.specs.Notes.{is_idle, none_waits}
+use Rattle.silo_model.specs.Idle.{is_idle}
+use Rattle.silo_state.specs.Notes.{none_waits}
 use Rattle.silo_model.specs.Idle.{is_ready}
 use Rattle.silo_state.specs.Marks.{AreMarked, AllMarked}
 use Rattle.silo_state.specs.Changes.{Starts, turn_at, opens_at, mail_begun, ClosesTurn, EndsTurn}

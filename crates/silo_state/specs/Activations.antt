@@ -15,9 +15,9 @@ pub record Activations : Type 0 where
   pub entries : Entries
   pub expected : Option Grain
 
--- they, by the directory and the collector
-abbrev pub shown : FinMap grain_cmp Activation → Collection → Activations
-shown activations c = record { age = c.notes.age; entries = entries_of activations; expected = c.expected }
+-- they, by the age, the directory and the collector
+abbrev pub shown : ℕ → FinMap grain_cmp Activation → Collection → Activations
+shown age activations c = record { age = age; entries = entries_of activations; expected = c.expected }
 
 -- Where no request waits at the grain, there is room for its note.
 abbrev pub HasRoom : Activations → Grain → Type 0

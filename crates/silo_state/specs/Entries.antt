@@ -9,9 +9,9 @@ use Rattle.silo_event.specs.declared.reply.Party.{Party}
 use Rattle.silo_event.specs.declared.step.Answer.{Answer}
 use Rattle.silo_event.specs.declared.step.Answer.TheVariants.{Done, Failed, NotNow}
 use Rattle.silo_model.specs.Machine.{Entry, Entries, Request, Phase, waiting, loading, ready}
+use Rattle.silo_model.specs.Idle.{is_idle}
 use Rattle.silo_model.specs.Effect.{on_entry}
 use Rattle.silo_model.specs.Turns.{activated, reads, may_open, opened_if_ready}
-use Rattle.silo_state.specs.Notes.{is_idle}
 
 -- ---- activating
 

@@ -16,16 +16,18 @@ use idle_collector::Collector;
 use silo_event::Answer;
 use std::alloc::{AllocError, Global};
 use std::marker::{Model, PhantomData};
+use tenant_gate::Age;
 
 mod accept;
 mod close;
 mod walk;
 
 /// The activations of all grains. Each request is marked as one that only reads exactly if the logic
-/// says so of its method. The collector has notes of exactly those that are idle. What makes one idle
-/// takes no memory: room for its note is made before.
+/// says so of its method. The collector has notes of exactly those that are idle, each of the moment from
+/// which it is due. What makes one idle takes no memory: room for its note is made before.
 #[derive(Drop)]
 pub struct Activations<L: GrainLogic> {
+    age: Age,
     directory: Directory,
     collector: Collector,
     of: PhantomData<L>,
@@ -45,19 +47,21 @@ impl<L: GrainLogic> Model for Activations<L> {
 
     ghost coded = { Prim.hlevel (codes, coded_grain, by_grain_code, by_number_code, coded_tree) };
 
-    ghost view = { λ a. shown a.directory.activations a.collector };
+    ghost view = { λ a. shown a.age a.directory.activations a.collector };
 
-    ghost invariant = { λ a. AllMarked L.logic a.directory.activations × AreNoted (entries_of a.directory.activations) a.collector.notes.lasts };
+    ghost invariant = { λ a. AllMarked L.logic a.directory.activations
+        × AreNoted a.age (entries_of a.directory.activations) a.collector.notes };
 }
 
 impl<L: GrainLogic> Activations<L> {
-    /// No grain has an activation. An idle one goes after the age, in milliseconds.
-    pub fn new(alloc: Global, age: u64) -> Activations<L>
+    /// No grain has an activation. An idle one is due the age after it was last used.
+    pub fn new(alloc: Global, age: Age) -> Activations<L>
         ensures { result ≡ record { age = age; entries = map.empty; expected = None } }
     {
         Activations {
+            age,
             directory: Directory::new(alloc),
-            collector: Collector::new(alloc, age),
+            collector: Collector::new(alloc),
             of: PhantomData,
         }
     }

@@ -4,12 +4,17 @@ ghost use Rattle.std.specs.Prelude.{◌≡◌, OnOk, OnErr, IfOk};
 ghost use Rattle.silo_state.specs.Arrivals.{arrived, IsFirst};
 
 use activation_directory::{Activation, Phase};
+use silo_event::Moment;
 use std::alloc::{AllocError, Global};
 use turn_mailbox::{Mailbox, Request};
 
 /// One request more waits, from this moment on.
 #[inline(always)]
-pub fn arrive(activation: &mut Activation, request: Request, clock: u64) -> Result<(), AllocError>
+pub fn arrive(
+    activation: &mut Activation,
+    request: Request,
+    clock: Moment,
+) -> Result<(), AllocError>
     ensures arrived { OnOk result (activation.new ≡ arrived activation.old activation.new.mailbox.capacity request clock) }
     ensures unchanged { OnErr result (activation.new ≡ activation.old) }
 {
@@ -24,7 +29,7 @@ pub fn arrive(activation: &mut Activation, request: Request, clock: u64) -> Resu
 
 /// An activation that waits to be activated, with one request. Its mailbox grows as more wait.
 #[inline(always)]
-pub fn first(alloc: Global, request: Request, clock: u64) -> Result<Activation, AllocError>
+pub fn first(alloc: Global, request: Request, clock: Moment) -> Result<Activation, AllocError>
     ensures { IfOk result (λ a. IsFirst request clock a) }
 {
     let mut mailbox = Mailbox::new(alloc, 1)?;

@@ -3,15 +3,17 @@
 ghost use Rattle.std.specs.Prelude.{◌≡◌, IfOk, OnOk, OnErr, Some};
 ghost use Rattle.silo_state.specs.Changes.{Starts, turn_at, opens_at, mail_begun, EndsTurn};
 ghost use Rattle.silo_state.specs.Shown.{phase_of, entry_of};
-ghost use Rattle.silo_state.specs.Notes.{none_waits, is_idle, idle_since};
+ghost use Rattle.silo_model.specs.Idle.{is_idle, due_moment};
+ghost use Rattle.silo_state.specs.Notes.{none_waits, due_at};
 ghost use Rattle.silo_state.specs.Reads.{is_loading, is_quiet};
 ghost use Rattle.silo_state.specs.Work.{step_at, work_at};
 
 use activation_directory::{Activation, Phase};
 use grain_id::GrainId;
 use grain_kinds::OpenedTurn;
-use silo_event::{Answer, Party, Step};
+use silo_event::{Answer, Moment, Party, Step};
 use std::alloc::AllocError;
+use tenant_gate::Age;
 
 /// What is to do with a grain's activation.
 #[derive(Clone, Copy, Debug, PartialEq, Eq)]
@@ -103,7 +105,7 @@ pub fn close(
     activation: &mut Activation,
     turn: u64,
     phase: Option<Phase>,
-    last: u64,
+    last: Moment,
 ) -> Option<Party>
     ensures { EndsTurn activation.old turn phase last result activation.new }
 {
@@ -134,12 +136,19 @@ pub fn is_idle(activation: &Activation) -> bool
     }
 }
 
-/// When it was last used, if it is ready, no request waits and no turn is open.
-pub fn idle_since(activation: &Activation) -> Option<u64>
-    ensures { result ≡ idle_since (Some (entry_of activation.now)) }
+/// The moment from which it is due, if it is idle: the age after it was last used.
+pub fn due_moment(activation: &Activation, age: Age) -> u64
+    ensures { result ≡ due_moment age (entry_of activation.now) }
+{
+    activation.last.get() + age.millis()
+}
+
+/// The moment from which it is due, if it is ready, no request waits and no turn is open.
+pub fn due_at(activation: &Activation, age: Age) -> Option<u64>
+    ensures { result ≡ due_at age (Some (entry_of activation.now)) }
 {
     if is_idle(activation) {
-        return Some(activation.last);
+        return Some(due_moment(activation, age));
     }
     None
 }

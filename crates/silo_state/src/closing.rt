@@ -15,16 +15,14 @@ use grain_id::GrainId;
 use grain_kinds::GrainLogic;
 use grain_storage::StoreFault;
 use request_codec::StateBytes;
-use silo_event::{Answer, Fault, Reply, StepFault};
+use silo_event::{Answer, Fault, Moment, Reply, StepFault};
 
-/// A turn that is closed: of which grain, under which number, whether no request waits there, and the
-/// moment.
+/// A turn that is closed: of which grain, under which number, and whether no request waits there.
 #[derive(Clone, Copy)]
 pub struct ClosedTurn<'a> {
     pub grain: &'a GrainId,
     pub turn: u64,
     pub idle_after: bool,
-    pub now: u64,
 }
 
 /// Closes an open turn, and tells its sender. Takes no memory.
@@ -32,6 +30,7 @@ pub fn close_turn<L: GrainLogic>(
     activations: &mut Activations<L>,
     replies: &mut Vec<Reply>,
     closing: ClosedTurn<'_>,
+    now: Moment,
     phase: Option<Phase>,
     outcome: Result<StateBytes, Fault>,
 )
@@ -39,10 +38,10 @@ pub fn close_turn<L: GrainLogic>(
     requires expected { HasRoom activations.old closing.grain.now }
     requires room { vec_len replies.old < vec_capacity replies.old }
     ensures closes { ClosesTold activations.old.entries replies.old.items closing.entry.grain.now closing.entry.turn (option_map phase_of phase)
-        closing.entry.now outcome activations.new.entries replies.new.items }
+        now outcome activations.new.entries replies.new.items }
     ensures age { activations.new.age ≡ activations.old.age }
 {
-    let Some(sender) = activations.close(closing.grain, closing.turn, phase, closing.now) else {
+    let Some(sender) = activations.close(closing.grain, closing.turn, phase, now) else {
         unreachable!()
     };
     tell(replies, sender, outcome);
@@ -54,7 +53,7 @@ fn end_activation<L: GrainLogic>(
     activations: &mut Activations<L>,
     replies: &mut Vec<Reply>,
     closing: ClosedTurn<'_>,
-    last: u64,
+    last: Moment,
     why: Fault,
 )
     requires is_open { IsSome (option_and_then (λ e. map.get e.turns closing.turn) (map.get activations.old.entries closing.grain.now)) }
@@ -92,7 +91,8 @@ pub fn close_by<L: GrainLogic>(
     activations: &mut Activations<L>,
     replies: &mut Vec<Reply>,
     closing: ClosedTurn<'_>,
-    last: u64,
+    now: Moment,
+    last: Moment,
     failed: bool,
     stored: Result<StorageAnswer, StoreFault>,
     named: GrainId,
@@ -102,7 +102,7 @@ pub fn close_by<L: GrainLogic>(
     requires room { vec_len replies.old < vec_capacity replies.old }
     requires named { named ≡ closing.grain.now }
     ensures closes { ClosesBy activations.old.entries replies.old.items closing.entry.grain.now closing.entry.turn closing.entry.idle_after
-        closing.entry.now last failed stored result activations.new.entries replies.new.items }
+        now last failed stored result activations.new.entries replies.new.items }
     ensures age { activations.new.age ≡ activations.old.age }
 {
     let stored = match stored {
@@ -111,6 +111,7 @@ pub fn close_by<L: GrainLogic>(
             activations,
             replies,
             closing,
+            now,
             last,
             failed,
             fault,
@@ -121,7 +122,14 @@ pub fn close_by<L: GrainLogic>(
         state: stored.state,
         version: stored.version,
     };
-    close_turn(activations, replies, closing, Some(phase), Ok(stored.told));
+    close_turn(
+        activations,
+        replies,
+        closing,
+        now,
+        Some(phase),
+        Ok(stored.told),
+    );
     Ok(Answer::Done)
 }
 
@@ -130,7 +138,8 @@ fn close_refused<L: GrainLogic>(
     activations: &mut Activations<L>,
     replies: &mut Vec<Reply>,
     closing: ClosedTurn<'_>,
-    last: u64,
+    now: Moment,
+    last: Moment,
     failed: bool,
     fault: StoreFault,
     named: GrainId,
@@ -140,18 +149,18 @@ fn close_refused<L: GrainLogic>(
     requires room { vec_len replies.old < vec_capacity replies.old }
     requires named { named ≡ closing.grain.now }
     ensures closes { ClosesBy activations.old.entries replies.old.items closing.entry.grain.now closing.entry.turn closing.entry.idle_after
-        closing.entry.now last failed (Err fault) result activations.new.entries replies.new.items }
+        now last failed (Err fault) result activations.new.entries replies.new.items }
     ensures age { activations.new.age ≡ activations.old.age }
 {
     match fault {
         StoreFault::Failed => {
             let why = Err(Fault::StorageFailed);
-            close_turn(activations, replies, closing, None, why);
+            close_turn(activations, replies, closing, now, None, why);
             Ok(answer_failed(failed))
         }
         StoreFault::Spent => {
             let why = Err(Fault::VersionsSpent(named));
-            close_turn(activations, replies, closing, None, why);
+            close_turn(activations, replies, closing, now, None, why);
             Ok(Answer::Done)
         }
         StoreFault::Stale(_) => {

@@ -11,7 +11,7 @@ use grain_storage::GrainStorage;
 use silo_event::{Moment, Reply};
 use std::alloc::{AllocError, Global};
 use std::marker::Model;
-use tenant_gate::Limits;
+use tenant_gate::{Age, Limits};
 
 mod ask;
 mod call;
@@ -68,7 +68,7 @@ impl<S: GrainStorage + Drop, L: GrainLogic + Drop> SiloState<S, L> {
     pub fn new(
         alloc: Global,
         tenants: &[(Tenant, Limits)],
-        age: u64,
+        age: Age,
         storage: S,
         logic: L,
     ) -> Result<SiloState<S, L>, AllocError>

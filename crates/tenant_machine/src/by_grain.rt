@@ -11,10 +11,12 @@ ghost use Rattle.tenant_machine.specs.Sweeps.{left_of};
 
 use activation_directory::Activation;
 use grain_id::GrainId;
+use silo_event::Moment;
 use silo_state::change;
 use std::alloc::{AllocError, Global};
 use std::collections::BTreeMap;
 use std::marker::Model;
+use tenant_gate::Age;
 
 /// The activations of a tenant's grains, grains ascending.
 #[derive(Drop)]
@@ -101,8 +103,8 @@ impl ByGrain {
         self.activations.remove(grain)
     }
 
-    /// The activations that were idle for the age go. Takes no memory.
-    pub fn sweep(&mut self, clock: u64, age: u64)
+    /// The activations that are due go. Takes no memory.
+    pub fn sweep(&mut self, clock: Moment, age: Age)
         ensures { (grain : Grain) → map.get self.new grain ≡ left_of clock age (map.get self.old grain) }
     {
         self.activations
@@ -110,10 +112,10 @@ impl ByGrain {
     }
 }
 
-/// Whether it was idle for the age.
-fn is_due(activation: &Activation, clock: u64, age: u64) -> bool
+/// Whether it is idle, and due by this moment.
+fn is_due(activation: &Activation, clock: Moment, age: Age) -> bool
     ensures { result ≡ is_due clock age (entry_of activation.now) }
 {
     let idle = change::is_idle(activation);
-    idle && age <= clock.saturating_sub(activation.last)
+    idle && change::due_moment(activation, age) <= clock.get()
 }

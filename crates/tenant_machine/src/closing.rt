@@ -16,19 +16,17 @@ use grain_id::GrainId;
 use grain_kinds::GrainLogic;
 use grain_storage::StoreFault;
 use request_codec::StateBytes;
-use silo_event::{Fault, Reply};
+use silo_event::{Fault, Moment, Reply};
 use silo_state::storing::StorageAnswer;
 use silo_state::telling::{refuse_all, tell};
 use std::alloc::AllocError;
 
-/// A turn that is closed: of which grain, under which number, whether no request waits there, and the
-/// moment.
+/// A turn that is closed: of which grain, under which number, and whether no request waits there.
 #[derive(Clone, Copy)]
 pub struct ClosedTurn<'a> {
     pub grain: &'a GrainId,
     pub turn: u64,
     pub idle_after: bool,
-    pub now: u64,
 }
 
 /// Closes an open turn, and tells its sender. Takes no memory.
@@ -36,14 +34,15 @@ pub fn close_turn<L: GrainLogic>(
     entries: &mut Entries<L>,
     replies: &mut Vec<Reply>,
     closing: ClosedTurn<'_>,
+    now: Moment,
     phase: Option<Phase>,
     outcome: Result<StateBytes, Fault>,
 )
     requires is_open { IsSome (option_and_then (λ e. map.get e.turns closing.turn) (map.get entries.old closing.grain.now)) }
     requires room { vec_len replies.old < vec_capacity replies.old }
-    ensures { ClosesTold entries.old replies.old.items closing.entry.grain.now closing.entry.turn (option_map phase_of phase) closing.entry.now outcome entries.new replies.new.items }
+    ensures { ClosesTold entries.old replies.old.items closing.entry.grain.now closing.entry.turn (option_map phase_of phase) now outcome entries.new replies.new.items }
 {
-    let Some(sender) = entries.close(closing.grain, closing.turn, phase, closing.now) else {
+    let Some(sender) = entries.close(closing.grain, closing.turn, phase, now) else {
         unreachable!()
     };
     tell(replies, sender, outcome);
@@ -55,7 +54,7 @@ fn end_activation<L: GrainLogic>(
     entries: &mut Entries<L>,
     replies: &mut Vec<Reply>,
     closing: ClosedTurn<'_>,
-    last: u64,
+    last: Moment,
     why: Fault,
 )
     requires is_open { IsSome (option_and_then (λ e. map.get e.turns closing.turn) (map.get entries.old closing.grain.now)) }
@@ -88,24 +87,25 @@ pub fn close_by<L: GrainLogic>(
     entries: &mut Entries<L>,
     replies: &mut Vec<Reply>,
     closing: ClosedTurn<'_>,
-    last: u64,
+    now: Moment,
+    last: Moment,
     stored: Result<StorageAnswer, StoreFault>,
     named: GrainId,
 ) -> Result<bool, AllocError>
     requires is_open { IsSome (option_and_then (λ e. map.get e.turns closing.turn) (map.get entries.old closing.grain.now)) }
     requires room { vec_len replies.old < vec_capacity replies.old }
     requires named { named ≡ closing.grain.now }
-    ensures { ClosesBy entries.old replies.old.items closing.entry.grain.now closing.entry.turn closing.entry.idle_after closing.entry.now last stored result entries.new replies.new.items }
+    ensures { ClosesBy entries.old replies.old.items closing.entry.grain.now closing.entry.turn closing.entry.idle_after now last stored result entries.new replies.new.items }
 {
     let stored = match stored {
         Ok(stored) => stored,
-        Err(fault) => return close_refused(entries, replies, closing, last, fault, named),
+        Err(fault) => return close_refused(entries, replies, closing, now, last, fault, named),
     };
     let phase = Phase::Ready {
         state: stored.state,
         version: stored.version,
     };
-    close_turn(entries, replies, closing, Some(phase), Ok(stored.told));
+    close_turn(entries, replies, closing, now, Some(phase), Ok(stored.told));
     Ok(true)
 }
 
@@ -114,24 +114,25 @@ fn close_refused<L: GrainLogic>(
     entries: &mut Entries<L>,
     replies: &mut Vec<Reply>,
     closing: ClosedTurn<'_>,
-    last: u64,
+    now: Moment,
+    last: Moment,
     fault: StoreFault,
     named: GrainId,
 ) -> Result<bool, AllocError>
     requires is_open { IsSome (option_and_then (λ e. map.get e.turns closing.turn) (map.get entries.old closing.grain.now)) }
     requires room { vec_len replies.old < vec_capacity replies.old }
     requires named { named ≡ closing.grain.now }
-    ensures { ClosesBy entries.old replies.old.items closing.entry.grain.now closing.entry.turn closing.entry.idle_after closing.entry.now last (Err fault) result entries.new replies.new.items }
+    ensures { ClosesBy entries.old replies.old.items closing.entry.grain.now closing.entry.turn closing.entry.idle_after now last (Err fault) result entries.new replies.new.items }
 {
     match fault {
         StoreFault::Failed => {
             let why = Err(Fault::StorageFailed);
-            close_turn(entries, replies, closing, None, why);
+            close_turn(entries, replies, closing, now, None, why);
             Ok(true)
         }
         StoreFault::Spent => {
             let why = Err(Fault::VersionsSpent(named));
-            close_turn(entries, replies, closing, None, why);
+            close_turn(entries, replies, closing, now, None, why);
             Ok(true)
         }
         StoreFault::Stale(_) => {

@@ -14,10 +14,11 @@ use crate::by_grain::ByGrain;
 use activation_directory::{Activation, Phase};
 use grain_id::GrainId;
 use grain_kinds::GrainLogic;
-use silo_event::{Answer, Party};
+use silo_event::{Answer, Moment, Party};
 use silo_state::{arrival, change};
 use std::alloc::{AllocError, Global};
 use std::marker::{Model, PhantomData};
+use tenant_gate::Age;
 use turn_mailbox::Request;
 
 /// The activations of a tenant's grains. Each request is marked as one that only reads exactly if the
@@ -83,7 +84,7 @@ impl<L: GrainLogic> Entries<L> {
         alloc: Global,
         grain: &GrainId,
         request: Request,
-        clock: u64,
+        clock: Moment,
     ) -> Result<(), AllocError>
         requires known { L.logic.knows grain.now.kind ≡ true }
         requires marked { IsMarked L.logic grain.now request }
@@ -141,7 +142,7 @@ impl<L: GrainLogic> Entries<L> {
         grain: &GrainId,
         turn: u64,
         phase: Option<Phase>,
-        last: u64,
+        last: Moment,
     ) -> Option<Party>
         ensures { Closes self.old grain.now turn (option_map phase_of phase) last result self.new }
     {
@@ -159,8 +160,8 @@ impl<L: GrainLogic> Entries<L> {
         self.by_grain.remove(grain)
     }
 
-    /// The activations that were idle for the age go. Takes no memory.
-    pub fn sweep(&mut self, clock: u64, age: u64)
+    /// The activations that are due go. Takes no memory.
+    pub fn sweep(&mut self, clock: Moment, age: Age)
         ensures { self.new ≡ kept_entries clock age self.old }
     {
         self.by_grain.sweep(clock, age);

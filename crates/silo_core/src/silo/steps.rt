@@ -202,7 +202,7 @@ impl<S: GrainStorage, L: GrainLogic> Silo<S, L> {
         self.apply(alloc, Step::Tick { now })
     }
 
-    /// The activations that were idle for as long as the age go.
+    /// The activations that are due go: those that are idle, an age after they were last used.
     pub fn sweep(&mut self, alloc: Global) -> Result<Answer, StepFault>
         ensures answered { Answered L.logic self.old step.Sweep result self.new }
         ensures parts { StepAnswersInParts L.logic self.old.whole step.Sweep result self.new.whole }

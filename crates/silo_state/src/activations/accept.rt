@@ -12,6 +12,7 @@ use crate::arrival;
 use activation_directory::Directory;
 use grain_id::GrainId;
 use grain_kinds::GrainLogic;
+use silo_event::Moment;
 use std::alloc::{AllocError, Global};
 use turn_mailbox::Request;
 
@@ -37,7 +38,7 @@ impl<L: GrainLogic> Activations<L> {
         alloc: Global,
         grain: &GrainId,
         request: Request,
-        clock: u64,
+        clock: Moment,
     ) -> Result<(), AllocError>
         requires known { L.logic.knows grain.now.kind ≡ true }
         requires marked { IsMarked L.logic grain.now request }
@@ -61,7 +62,7 @@ fn enter<L: GrainLogic>(
     directory: &mut Directory,
     grain: &GrainId,
     request: Request,
-    clock: u64,
+    clock: Moment,
 ) -> Result<(), AllocError>
     requires marks { AllMarked L.logic directory.old.activations }
     requires known { L.logic.knows grain.now.kind ≡ true }

@@ -17,7 +17,7 @@ use activation_directory::{Activation, Phase};
 use grain_id::GrainId;
 use grain_kinds::GrainLogic;
 use request_codec::StateBytes;
-use silo_event::Party;
+use silo_event::{Moment, Party};
 use std::alloc::{AllocError, Global};
 
 impl<L: GrainLogic> Activations<L> {
@@ -52,10 +52,10 @@ impl<L: GrainLogic> Activations<L> {
             unreachable!()
         };
         activation.phase = Phase::Ready { state, version };
-        let Some(since) = change::idle_since(activation) else {
+        let Some(moment) = change::due_at(activation, self.age) else {
             return;
         };
-        self.collector.note_expected(since);
+        self.collector.note_expected(moment);
     }
 
     /// Closes the grain's turn of that number: who asked for it. Its activation is then in this phase,
@@ -65,7 +65,7 @@ impl<L: GrainLogic> Activations<L> {
         grain: &GrainId,
         turn: u64,
         phase: Option<Phase>,
-        last: u64,
+        last: Moment,
     ) -> Option<Party>
         requires { HasRoom self.old grain.now }
         ensures closes { Closes self.old.entries grain.now turn (option_map phase_of phase) last result self.new.entries }
@@ -77,10 +77,10 @@ impl<L: GrainLogic> Activations<L> {
         let Some(sender) = change::close(activation, turn, phase, last) else {
             return None;
         };
-        let Some(since) = change::idle_since(activation) else {
+        let Some(moment) = change::due_at(activation, self.age) else {
             return Some(sender);
         };
-        self.collector.note_expected(since);
+        self.collector.note_expected(moment);
         Some(sender)
     }
 
@@ -104,7 +104,7 @@ impl<L: GrainLogic> Activations<L> {
         }
     }
 
-    /// The activations that were idle for the age go.
+    /// The activations that are due go.
     ///
     /// # Errors
     ///

@@ -140,8 +140,7 @@ impl<S: GrainStorage, L: GrainLogic> SiloState<S, L> {
             sender,
             message,
         };
-        self.activations
-            .wait(alloc, grain, request, self.clock.get())?;
+        self.activations.wait(alloc, grain, request, self.clock)?;
         account.count_one();
         Ok(())
     }

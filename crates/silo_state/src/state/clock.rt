@@ -22,7 +22,7 @@ impl<S: GrainStorage, L: GrainLogic> SiloState<S, L> {
         Answer::Done
     }
 
-    /// The activations that were idle for the age go.
+    /// The activations that are due go.
     ///
     /// # Errors
     ///

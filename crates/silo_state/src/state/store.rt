@@ -69,7 +69,7 @@ impl<S: GrainStorage, L: GrainLogic> SiloState<S, L> {
             unreachable!()
         };
         let last = activation.last;
-        let now = self.clock.get();
+        let now = self.clock;
         let named = grain.clone()?;
         self.replies.reserve(1)?;
         self.activations.expect(grain, idle_after)?;
@@ -87,12 +87,12 @@ impl<S: GrainStorage, L: GrainLogic> SiloState<S, L> {
             grain,
             turn,
             idle_after,
-            now,
         };
         close_by(
             &mut self.activations,
             &mut self.replies,
             closing,
+            now,
             last,
             failed,
             stored,

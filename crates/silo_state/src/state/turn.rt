@@ -88,7 +88,7 @@ impl<S: GrainStorage, L: GrainLogic> SiloState<S, L> {
         if asks_storage(finished.store_call()) {
             return Ok(Answer::NotNow);
         }
-        let now = self.clock.get();
+        let now = self.clock;
         self.replies.reserve(1)?;
         let sent = account::sent_by(alloc, grain, finished.sends())?;
         let outcome = copied(finished.outcome())?;
@@ -100,12 +100,12 @@ impl<S: GrainStorage, L: GrainLogic> SiloState<S, L> {
             grain,
             turn,
             idle_after,
-            now,
         };
         close_turn(
             &mut self.activations,
             &mut self.replies,
             closing,
+            now,
             Some(phase),
             told(outcome),
         );
@@ -127,19 +127,19 @@ impl<S: GrainStorage, L: GrainLogic> SiloState<S, L> {
             return Ok(Answer::NotNow);
         };
         let idle_after = change::none_waits(activation);
-        let now = self.clock.get();
+        let now = self.clock;
         self.replies.reserve(1)?;
         self.activations.expect(grain, idle_after)?;
         let closing = ClosedTurn {
             grain,
             turn,
             idle_after,
-            now,
         };
         close_turn(
             &mut self.activations,
             &mut self.replies,
             closing,
+            now,
             None,
             Err(Fault::NoMemory),
         );

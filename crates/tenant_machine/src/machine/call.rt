@@ -140,7 +140,7 @@ impl<L: GrainLogic> TenantMachine<L> {
             sender,
             message,
         };
-        self.entries.wait(alloc, grain, request, self.clock.get())?;
+        self.entries.wait(alloc, grain, request, self.clock)?;
         account.count_one();
         Ok(())
     }

@@ -19,11 +19,11 @@ impl<L: GrainLogic> TenantMachine<L> {
         true
     }
 
-    /// The activations that were idle for the age go.
+    /// The activations that are due go.
     pub(super) fn sweep(&mut self) -> bool
         ensures { StepDoes L.logic self.old step.Sweep result self.new }
     {
-        self.entries.sweep(self.clock.get(), self.age.millis());
+        self.entries.sweep(self.clock, self.age);
         true
     }
 }

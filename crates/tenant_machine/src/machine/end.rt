@@ -57,7 +57,7 @@ impl<L: GrainLogic> TenantMachine<L> {
         if asks_storage(finished.store_call()) {
             return Ok(false);
         }
-        let now = self.clock.get();
+        let now = self.clock;
         self.replies.reserve(1)?;
         let sent = sent_by(alloc, grain, finished.sends())?;
         let outcome = copied(finished.outcome())?;
@@ -71,12 +71,12 @@ impl<L: GrainLogic> TenantMachine<L> {
             grain,
             turn,
             idle_after: at_close.idle_after,
-            now,
         };
         close_turn(
             &mut self.entries,
             &mut self.replies,
             closing,
+            now,
             Some(phase),
             told(outcome),
         );

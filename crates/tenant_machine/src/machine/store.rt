@@ -59,7 +59,7 @@ impl<L: GrainLogic> TenantMachine<L> {
             unreachable!()
         };
         let last = activation.last;
-        let now = self.clock.get();
+        let now = self.clock;
         let named = grain.clone()?;
         self.replies.reserve(1)?;
         let stored = ask(
@@ -76,12 +76,12 @@ impl<L: GrainLogic> TenantMachine<L> {
             grain,
             turn,
             idle_after: at_close.idle_after,
-            now,
         };
         close_by(
             &mut self.entries,
             &mut self.replies,
             closing,
+            now,
             last,
             stored,
             named,

@@ -53,18 +53,18 @@ impl<L: GrainLogic> TenantMachine<L> {
         let Some(_open) = activation.mailbox.opened(turn) else {
             return Ok(false);
         };
-        let now = self.clock.get();
+        let now = self.clock;
         self.replies.reserve(1)?;
         let closing = ClosedTurn {
             grain,
             turn,
             idle_after: false,
-            now,
         };
         close_turn(
             &mut self.entries,
             &mut self.replies,
             closing,
+            now,
             None,
             Err(Fault::NoMemory),
         );

@@ -24,5 +24,5 @@ returns-in_ok-insert-clause-apart c =
     let new = c.insert.new.self.keys in
     let id = c.in-Noted.id in
     let more = subst (λ g. With old g new) c.in_ok-clone.ensures.cases c.in_ok-insert.ensures.updates.0 in
-    let none : map.get before.lasts id ≡ None = subst (λ (latest : Latest). IsApart latest before) c.in-Noted.is c.requires.0 in
-    apart-with c.go_on.new.filed old new id c.go_on.new.at more (ap (λ (n : Notes). map.get n.lasts id) c.go_on.ensures.notes ∙ none) c.go_on.ensures.apart
+    let none : map.get before id ≡ None = subst (λ (latest : Latest). IsApart latest before) c.in-Noted.is c.requires.0 in
+    apart-with c.go_on.new.filed old new id c.go_on.new.at more (ap (λ (n : Notes). map.get n id) c.go_on.ensures.notes ∙ none) c.go_on.ensures.apart

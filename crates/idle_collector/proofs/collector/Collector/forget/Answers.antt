@@ -7,17 +7,17 @@ use Rattle.idle_collector.proofs.collector.Collector.forget.Goals as goal
 pub returns-then-is_of : goal.returns-then-is_of
 returns-then-is_of c =
     let inside = c.self.inside in
-    latest-forgotten inside.latest (all_noted inside.filed inside.grains.keys inside.last) c.args.id.now c.self.invariant.0 (sym c.is_of.ensures ∙ c.if-is_of.true)
+    latest-forgotten inside.latest (all_noted inside.filed inside.grains.keys inside.moment) c.args.id.now c.self.invariant.0 (sym c.is_of.ensures ∙ c.if-is_of.true)
     ∙ ap (λ (held : Collection). record held { notes = forgotten held.notes c.args.id.now }) c.self.view_is
 
 pub invariant_of-self-2 : goal.invariant_of-self-2
 invariant_of-self-2 c =
     let inside = c.self.inside in
-    let notes = all_noted inside.filed inside.grains.keys inside.last in
-    (subst (IsApart inside.latest) (sym (c.forget.ensures.forgotten inside.last)) (apart-forgotten inside.latest notes c.args.id.now c.self.invariant.0), c.forget.ensures.apart)
+    let notes = all_noted inside.filed inside.grains.keys inside.moment in
+    (subst (IsApart inside.latest) (sym (c.forget.ensures.forgotten inside.moment)) (apart-forgotten inside.latest notes c.args.id.now c.self.invariant.0), c.forget.ensures.apart)
 
 pub returns : goal.returns
 returns c =
     let inside = c.self.inside in
-    latest-stays inside.latest (all_noted inside.filed inside.grains.keys inside.last) _ c.args.id.now (sym c.is_of.ensures ∙ c.if-is_of.false) (c.forget.ensures.forgotten inside.last)
+    latest-stays inside.latest (all_noted inside.filed inside.grains.keys inside.moment) _ c.args.id.now (sym c.is_of.ensures ∙ c.if-is_of.false) (c.forget.ensures.forgotten inside.moment)
     ∙ ap (λ (held : Collection). record held { notes = forgotten held.notes c.args.id.now }) c.self.view_is

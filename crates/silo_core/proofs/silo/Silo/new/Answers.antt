@@ -25,7 +25,7 @@ module _ (g : given.Over) (c : goal.After-new-2 g) where
   opens : c.in_ok-state.state.whole ≡ opening opened
   opens =
       ap (λ (h : Held). h.whole) c.in_ok-state.ensures
-      ∙ (λ i. opening (record { tenants = c.list-2.ensures.list i; age = c.millis.ensures.value i; rows = sym same_rows i }))
+      ∙ (λ i. opening (record { tenants = c.list-2.ensures.list i; age = c.args.setup.age; rows = sym same_rows i }))
 
 pub invariant_of-result : goal.invariant_of-result
 invariant_of-result g c =

@@ -34,5 +34,5 @@ invariant_of-self-2 g c =
     let after = c.start.new.activation in
     let found = sym c.in-Some.ensures.value in (
       start_marked g.L.GrainLogic.logic m grain a after found c.self.invariant.0 c.start.result c.start.ensures,
-      activate_noted (entries_of m) inside.collector.notes.lasts c.self.invariant.1 grain c.start.result (entries_of (map.insert m grain after)) (start_shows g.L.GrainLogic.logic m grain a after found c.start.result c.start.ensures),
+      activate_noted inside.age (entries_of m) inside.collector.notes c.self.invariant.1 grain c.start.result (entries_of (map.insert m grain after)) (start_shows g.L.GrainLogic.logic m grain a after found c.start.result c.start.ensures),
     )

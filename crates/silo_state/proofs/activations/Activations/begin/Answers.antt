@@ -52,6 +52,6 @@ invariant_of-self-2 g c =
     let after = c.begin.new.activation in
     let found = sym c.in-Some.ensures.value in (
       begin_marked logic m grain a after found c.self.invariant.0 c.begin.result c.begin.ensures.begun c.begin.ensures.unchanged,
-      begins_noted (entries_of m) inside.collector.notes.lasts c.self.invariant.1 grain logic is_some c.begin.result (entries_of (map.insert m grain after))
+      begins_noted inside.age (entries_of m) inside.collector.notes c.self.invariant.1 grain logic is_some c.begin.result (entries_of (map.insert m grain after))
           (begin_shows logic m grain a after found c.self.invariant.0 c.begin.result c.begin.ensures.turn c.begin.ensures.begun) (on_err_weaker c.begin.result (unmoved logic m grain a after found) c.begin.ensures.unchanged),
     )

@@ -26,7 +26,7 @@ invariant_of-self-in_default-close g c =
     let a = c.in-Some.activation.now in
     let after = c.close.new.activation in (
       closes_marked g.L.GrainLogic.logic m grain a after (sym c.in-Some.ensures.value) c.self.invariant.0 c.args.turn c.args.phase c.args.last None c.in_default-close.ensures,
-      subst (λ es. AreNoted es inside.collector.notes.lasts) (sym (unmoved g.L.GrainLogic.logic m grain a after (sym c.in-Some.ensures.value) c.in_default-close.ensures.1)) c.self.invariant.1,
+      subst (λ es. AreNoted inside.age es inside.collector.notes) (sym (unmoved g.L.GrainLogic.logic m grain a after (sym c.in-Some.ensures.value) c.in_default-close.ensures.1)) c.self.invariant.1,
     )
 
 pub returns-in_default-close-clause-closes : goal.returns-in_default-close-clause-closes
@@ -39,8 +39,8 @@ returns-in_default-close-clause-closes g c =
 
 -- ---- it was, and the activation is still in use
 
-pub invariant_of-self-in_default-idle_since : goal.invariant_of-self-in_default-idle_since
-invariant_of-self-in_default-idle_since g c =
+pub invariant_of-self-in_default-due_at : goal.invariant_of-self-in_default-due_at
+invariant_of-self-in_default-due_at g c =
     let inside = c.self.inside in
     let m = inside.directory.activations in
     let grain = c.args.grain.now in
@@ -49,11 +49,11 @@ invariant_of-self-in_default-idle_since g c =
     let found = sym c.in-Some.ensures.value in
     let used = used-turn (entry_of a) c.args.turn _ (get-turns a c.args.turn _ c.in-Some-close.ensures.open_turn) in (
       closes_marked g.L.GrainLogic.logic m grain a after found c.self.invariant.0 c.args.turn c.args.phase c.args.last (Some c.in-Some-close.sender) c.in-Some-close.ensures,
-      becomes_used (entries_of m) inside.collector c.self.invariant.1 grain (entry_of a) (entry_of after) (get-entries m grain (Some a) found) used c.in_default-idle_since.ensures (entries_of (map.insert m grain after)) (entries-put m grain after),
+      becomes_used inside.age (entries_of m) inside.collector c.self.invariant.1 grain (entry_of a) (entry_of after) (get-entries m grain (Some a) found) used c.in_default-due_at.ensures (entries_of (map.insert m grain after)) (entries-put m grain after),
     )
 
-pub returns-in_default-idle_since-clause-closes : goal.returns-in_default-idle_since-clause-closes
-returns-in_default-idle_since-clause-closes g c =
+pub returns-in_default-due_at-clause-closes : goal.returns-in_default-due_at-clause-closes
+returns-in_default-due_at-clause-closes g c =
     let m = c.self.inside.directory.activations in
     rw (← c.self.view_is)
     (closes g.L.GrainLogic.logic m c.args.grain.now c.in-Some.activation.now c.close.new.activation (sym c.in-Some.ensures.value) c.self.invariant.0 c.args.turn c.args.phase c.args.last (Some c.in-Some-close.sender) c.in-Some-close.ensures)
@@ -70,8 +70,8 @@ note_expected-requires g c =
     let found = get-entries m grain (Some a) (sym c.in-Some.ensures.value) in
     let used = used-turn (entry_of a) c.args.turn _ (get-turns a c.args.turn _ c.in-Some-close.ensures.open_turn) in
     let room = subst (λ (k : Activations). HasRoom k grain) (sym c.self.view_is) c.requires (entry_of a) found in
-    expected_apart (entries_of m) inside.collector c.self.invariant.1 grain (entry_of a) (entry_of after) found used room (closed_queue a after c.args.turn c.args.phase c.args.last c.in-Some-close.sender c.in-Some-close.ensures)
-    c.in-Some-idle_since.since c.in-Some-idle_since.ensures
+    expected_apart inside.age (entries_of m) inside.collector c.self.invariant.1 grain (entry_of a) (entry_of after) found used room (closed_queue a after c.args.turn c.args.phase c.args.last c.in-Some-close.sender c.in-Some-close.ensures)
+    c.in-Some-due_at.moment c.in-Some-due_at.ensures
 
 pub invariant_of-self-2 : goal.invariant_of-self-2
 invariant_of-self-2 g c =
@@ -84,8 +84,8 @@ invariant_of-self-2 g c =
     let used = used-turn (entry_of a) c.args.turn _ (get-turns a c.args.turn _ c.in-Some-close.ensures.open_turn) in
     let room = subst (λ (k : Activations). HasRoom k grain) (sym c.self.view_is) c.requires (entry_of a) found in (
       closes_marked g.L.GrainLogic.logic m grain a after (sym c.in-Some.ensures.value) c.self.invariant.0 c.args.turn c.args.phase c.args.last (Some c.in-Some-close.sender) c.in-Some-close.ensures,
-      becomes_idle (entries_of m) inside.collector c.self.invariant.1 grain (entry_of a) (entry_of after) found used room (closed_queue a after c.args.turn c.args.phase c.args.last c.in-Some-close.sender c.in-Some-close.ensures)
-          c.in-Some-idle_since.since c.in-Some-idle_since.ensures (entries_of (map.insert m grain after)) (entries-put m grain after) c.note_expected.new.self c.note_expected.ensures,
+      becomes_idle inside.age (entries_of m) inside.collector c.self.invariant.1 grain (entry_of a) (entry_of after) found used room (closed_queue a after c.args.turn c.args.phase c.args.last c.in-Some-close.sender c.in-Some-close.ensures)
+          c.in-Some-due_at.moment c.in-Some-due_at.ensures (entries_of (map.insert m grain after)) (entries-put m grain after) c.note_expected.new.self c.note_expected.ensures,
     )
 
 pub returns-clause-closes : goal.returns-clause-closes

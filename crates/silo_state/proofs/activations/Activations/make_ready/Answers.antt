@@ -25,7 +25,7 @@ note_expected-requires g c =
     let loading = subst (λ (k : Activations). IsLoading (map.get k.entries grain)) (sym c.self.view_is) c.requires.loading in
     let room = subst (λ (k : Activations). HasRoom k grain) (sym c.self.view_is) c.requires.room (entry_of a) found in
     let after : Activation = record a { phase = Ready c.args.state c.args.version } in
-    expected_apart (entries_of m) inside.collector c.self.invariant.1 grain (entry_of a) (entry_of after) found (used_loading (entry_of a) (map.get (entries_of m) grain) found loading) room refl c.in-Some-idle_since.since c.in-Some-idle_since.ensures
+    expected_apart inside.age (entries_of m) inside.collector c.self.invariant.1 grain (entry_of a) (entry_of after) found (used_loading (entry_of a) (map.get (entries_of m) grain) found loading) room refl c.in-Some-due_at.moment c.in-Some-due_at.ensures
 
 pub invariant_of-self : goal.invariant_of-self
 invariant_of-self g c =
@@ -37,7 +37,7 @@ invariant_of-self g c =
     let loading = subst (λ (k : Activations). IsLoading (map.get k.entries grain)) (sym c.self.view_is) c.requires.loading in
     let after : Activation = record a { phase = Ready c.args.state c.args.version } in (
       same_mail g.L.GrainLogic.logic m grain a after (sym c.in-Some.ensures.value) c.self.invariant.0 refl,
-      becomes_used (entries_of m) inside.collector c.self.invariant.1 grain (entry_of a) (entry_of after) found (used_loading (entry_of a) (map.get (entries_of m) grain) found loading) c.in_default-idle_since.ensures (entries_of (map.insert m grain after)) (entries-put m grain after),
+      becomes_used inside.age (entries_of m) inside.collector c.self.invariant.1 grain (entry_of a) (entry_of after) found (used_loading (entry_of a) (map.get (entries_of m) grain) found loading) c.in_default-due_at.ensures (entries_of (map.insert m grain after)) (entries-put m grain after),
     )
 
 pub invariant_of-self-2 : goal.invariant_of-self-2
@@ -51,12 +51,12 @@ invariant_of-self-2 g c =
     let room = subst (λ (k : Activations). HasRoom k grain) (sym c.self.view_is) c.requires.room (entry_of a) found in
     let after : Activation = record a { phase = Ready c.args.state c.args.version } in (
       same_mail g.L.GrainLogic.logic m grain a after (sym c.in-Some.ensures.value) c.self.invariant.0 refl,
-      becomes_idle (entries_of m) inside.collector c.self.invariant.1 grain (entry_of a) (entry_of after) found (used_loading (entry_of a) (map.get (entries_of m) grain) found loading) room refl c.in-Some-idle_since.since c.in-Some-idle_since.ensures
+      becomes_idle inside.age (entries_of m) inside.collector c.self.invariant.1 grain (entry_of a) (entry_of after) found (used_loading (entry_of a) (map.get (entries_of m) grain) found loading) room refl c.in-Some-due_at.moment c.in-Some-due_at.ensures
           (entries_of (map.insert m grain after)) (entries-put m grain after) c.note_expected.new.self c.note_expected.ensures,
     )
 
-pub returns-in_default-idle_since-clause-put : goal.returns-in_default-idle_since-clause-put
-returns-in_default-idle_since-clause-put g c e is =
+pub returns-in_default-due_at-clause-put : goal.returns-in_default-due_at-clause-put
+returns-in_default-due_at-clause-put g c e is =
     let m = c.self.inside.directory.activations in
     let grain = c.args.grain.now in
     let phase = Ready c.args.state c.args.version in

@@ -15,10 +15,10 @@ pub invariant_of-result : goal.invariant_of-result
 invariant_of-result g c =
     let entries = ap (λ (d : Register). entries_of d.activations) c.new.ensures ∙ mapped-empty grain_cmp_total grain_cmp_exact entry_of in (
       subst (λ (d : Register). AllMarked g.L.GrainLogic.logic d.activations) (sym c.new.ensures) (none_marked g.L.GrainLogic.logic),
-      subst (λ (p : Entries × Collection). AreNoted p.0 p.1.notes.lasts) (λ i. (sym entries i, sym c.new-2.ensures i)) none_noted,
+      subst (λ (p : Entries × Collection). AreNoted c.args.age p.0 p.1.notes) (λ i. (sym entries i, sym c.new-2.ensures i)) (none_noted c.args.age),
     )
 
 pub returns : goal.returns
 returns g c =
     let entries = ap (λ (d : Register). entries_of d.activations) c.new.ensures ∙ mapped-empty grain_cmp_total grain_cmp_exact entry_of in
-    λ i. record { age = (c.new-2.ensures i).notes.age; entries = entries i; expected = (c.new-2.ensures i).expected }
+    λ i. record { age = c.args.age; entries = entries i; expected = (c.new-2.ensures i).expected }

@@ -39,6 +39,6 @@ invariant_of-self-2 g c =
     let after = c.open.new.activation in
     let found = sym c.in-Some.ensures.value in (
       begin_marked logic m grain a after found c.self.invariant.0 c.open.result c.open.ensures.begun c.open.ensures.unchanged,
-      begins_noted (entries_of m) inside.collector.notes.lasts c.self.invariant.1 grain logic (λ opened. opened) c.open.result (entries_of (map.insert m grain after))
+      begins_noted inside.age (entries_of m) inside.collector.notes c.self.invariant.1 grain logic (λ opened. opened) c.open.result (entries_of (map.insert m grain after))
           (open_shows logic m grain a after found c.self.invariant.0 c.open.result c.open.ensures.opened c.open.ensures.begun) (on_err_weaker c.open.result (unmoved logic m grain a after found) c.open.ensures.unchanged),
     )

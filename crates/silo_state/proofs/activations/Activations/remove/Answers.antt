@@ -21,7 +21,7 @@ invariant_of-self g c =
     let grain = c.args.grain.now in
     let removed = ap entries_of c.remove.ensures.removed ∙ mapped-remove grain_cmp_total grain_cmp_exact entry_of m grain in (
       subst (λ (m : FinMap grain_cmp Activation). AllMarked g.L.GrainLogic.logic m) (sym c.remove.ensures.removed) (marked-removed g.L.GrainLogic.logic m grain c.self.invariant.0),
-      gone_noted (entries_of m) inside.collector.notes.lasts c.self.invariant.1 grain _ _ removed (ap (λ (k : Collection). k.notes.lasts) c.forget.ensures),
+      gone_noted inside.age (entries_of m) inside.collector.notes c.self.invariant.1 grain _ _ removed (ap (λ (k : Collection). k.notes) c.forget.ensures),
     )
 
 pub returns-clause-found : goal.returns-clause-found

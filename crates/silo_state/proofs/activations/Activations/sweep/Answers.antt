@@ -13,5 +13,5 @@ returns-clause-swept g c =
     c.remove_all.ensures.gone
     ∙ ap (λ (k : Activations). without k.entries c.as_slice.result.now) (sym c.self.view_is)
     ∙ ap (without entries) (c.as_slice.ensures.value ∙ c.in_ok-due.ensures)
-    ∙ due_go entries inside.collector.notes c.self.invariant.1 c.args.clock
+    ∙ due_go inside.age entries inside.collector.notes c.self.invariant.1 c.args.clock
     ∙ ap (λ (k : Activations). kept_entries c.args.clock k.age k.entries) c.self.view_is

@@ -1,4 +1,4 @@
-use Rattle.std.proofs.Common.{ℕ, List, refl, ap, sym, ◌∙◌, subst}
+use Rattle.std.proofs.Common.{List, refl, ap, sym, ◌∙◌, subst}
 use Rattle.std.specs.FinMap as map
 use Rattle.std.proofs.lemmas.Option.{same_Some}
 use Rattle.grain_kinds.specs.Planned.{storage_call}
@@ -43,8 +43,8 @@ returns g c =
     let after = c.ask-stored.new.storage in
     let new = c.close_by.new.activations in
     let gives = subst (λ (t : OpenedTurn). GivesMarked c.args.failed (given logic (rows b.storage) grain t.state version call) (rows b.storage) (failed b.storage) c.ask-stored.result (rows after) (failed after)) c.input.ensures c.ask-stored.ensures in
-    let closes = subst (λ (p : Entries × (List Reply × ℕ)). ClosesBy p.0 p.1.0 grain turn idle_after p.1.1 last c.args.failed c.ask-stored.result c.close_by.result new.entries c.close_by.new.replies.items)
-    (λ i. (c.expect.ensures.entries i, (c.in_ok-reserve.ensures.items i, c.get-now.ensures.value i))) c.close_by.ensures.closes in
+    let closes = subst (λ (p : Entries × List Reply). ClosesBy p.0 p.1 grain turn idle_after b.clock last c.args.failed c.ask-stored.result c.close_by.result new.entries c.close_by.new.replies.items)
+    (λ i. (c.expect.ensures.entries i, c.in_ok-reserve.ensures.items i)) c.close_by.ensures.closes in
     let old = held_of b.accounts b.activations b.clock (rows b.storage) b.replies.items (failed b.storage) in
     subst (λ (h : Held). Moves logic h (step.Store grain turn c.args.failed) c.close_by.result (left logic old grain turn version idle_after input own new (rows after) c.close_by.new.replies.items (failed after))) c.self.view_is
     (stored_moves logic old grain turn version idle_after input own call (sym c.store_call-call.ensures) (sym c.if-not-asks_storage.ensures) new (c.close_by.ensures.age ∙ c.expect.ensures.age) last still

@@ -1,4 +1,4 @@
-use Rattle.std.proofs.Common.{ℕ, List, None, Some, refl, ap, sym, subst}
+use Rattle.std.proofs.Common.{List, None, Some, refl, ap, sym, subst}
 use Rattle.std.specs.Prelude.{Err, IsSome, option_and_then}
 use Rattle.std.specs.FinMap as map
 use Rattle.silo_event.specs.declared.fault.Fault.TheVariants.{NoMemory}
@@ -26,6 +26,6 @@ close_turn-requires-clause-is_open g c =
 pub returns : goal.returns
 returns g c =
     let b = c.self.inside in
-    let closed = subst (λ (p : List Reply × ℕ). ClosesTold b.entries p.0 c.args.grain.now c.args.turn None p.1 (Err NoMemory) c.close_turn.new.entries c.close_turn.new.replies.items)
-    (λ i. (c.in_ok-reserve.ensures.items i, c.get-now.ensures.value i)) c.close_turn.ensures in
+    let closed = subst (λ (replies : List Reply). ClosesTold b.entries replies c.args.grain.now c.args.turn None b.clock (Err NoMemory) c.close_turn.new.entries c.close_turn.new.replies.items)
+    c.in_ok-reserve.ensures.items c.close_turn.ensures in
     rw (← c.self.view_is) (abandon_done g.L.GrainLogic.logic _ c.args.grain.now c.args.turn c.close_turn.new.entries c.close_turn.new.replies.items closed)

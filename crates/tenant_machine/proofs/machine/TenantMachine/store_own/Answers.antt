@@ -1,4 +1,4 @@
-use Rattle.std.proofs.Common.{ℕ, List, refl, ap, sym, ◌∙◌, subst}
+use Rattle.std.proofs.Common.{List, refl, ap, sym, ◌∙◌, subst}
 use Rattle.std.specs.FinMap as map
 use Rattle.std.proofs.lemmas.Option.{same_Some}
 use Rattle.grain_kinds.specs.Planned.{storage_call}
@@ -35,8 +35,8 @@ returns g c =
     let still = ap (λ (e : Entry). e.last) (same_Some (entry_of c.in-Some.activation.now) own.entry (c.in-Some.ensures.entry ∙ own.is_open.found_is)) in
     let after = c.ask-stored.new.storage in
     let gives = subst (λ (t : OpenedTurn). GivesMarked c.args.failed (given logic b.storage grain t.state at.version call) b.storage 0 c.ask-stored.result after 0) c.input.ensures c.ask-stored.ensures in
-    let closes = subst (λ (p : List Reply × ℕ). ClosesBy b.entries p.0 grain turn at.idle_after p.1 last c.ask-stored.result c.close_by.result c.close_by.new.entries c.close_by.new.replies.items)
-    (λ i. (c.in_ok-reserve.ensures.items i, c.get-now.ensures.value i)) c.close_by.ensures in
+    let closes = subst (λ (replies : List Reply). ClosesBy b.entries replies grain turn at.idle_after b.clock last c.ask-stored.result c.close_by.result c.close_by.new.entries c.close_by.new.replies.items)
+    c.in_ok-reserve.ensures.items c.close_by.ensures in
     subst (λ (m : Machine). StepAnswers logic m (step.Store grain turn c.args.failed) c.close_by.result (left logic old grain turn at.version at.idle_after input own c.close_by.new.entries after c.close_by.new.replies.items)) c.self.view_is
     (store_answers logic old grain turn at.version at.idle_after input own call (sym c.store_call-call.ensures) (sym c.if-not-asks_storage.ensures) last still
     c.args.failed c.ask-stored.result after 0 gives refl c.close_by.result c.close_by.new.entries c.close_by.new.replies.items closes)

@@ -1,6 +1,5 @@
 use Rattle.std.proofs.Common.{◌≡◌, Some, sym, ◌∙◌, subst}
 use Rattle.silo_event.specs.declared.step.Step.TheVariants as step
-use Rattle.silo_model.specs.Idle.{kept_entries}
 use Rattle.silo_model.specs.Machine.{Machine}
 use Rattle.silo_model.specs.Step.{machine_step}
 use Rattle.tenant_machine.proofs.Asks.{sweep_is}
@@ -11,6 +10,5 @@ pub returns : goal.returns
 returns g c =
     let b = c.self.inside in
     let old = machine_of b.tenant b.account b.age b.clock b.entries b.storage b.replies.items in
-    let left = c.sweep.ensures ∙ (λ i. kept_entries (c.get.ensures.value i) (c.millis.ensures.value i) b.entries) in
     subst (λ (m : Machine). machine_step g.L.GrainLogic.logic m step.Sweep ≡ Some (record old { entries = c.sweep.new.self })) c.self.view_is
-    (sweep_is g.L.GrainLogic.logic old ∙ (λ i. Some (record old { entries = sym left i })))
+    (sweep_is g.L.GrainLogic.logic old ∙ (λ i. Some (record old { entries = sym c.sweep.ensures i })))

@@ -16,8 +16,8 @@ use Rattle.idle_collector.specs.Notes.{Notes, noted, forgotten}
 use Rattle.idle_collector.specs.Ties.{moments}
 
 -- the map has at a grain the moment that a look-up finds
-pub get-lasts : (es : List (Grain × (ℕ × ℕ))) (q : Grain) → map.get (from_entries {R = grain_cmp} (moments es)) q ≡ option_map (λ p. p.0) (lookup (grain_eq q) es)
-get-lasts es q = get-lookup_seen grains (λ (p : ℕ × ℕ). p.0) es q
+pub get-moments : (es : List (Grain × (ℕ × ℕ))) (q : Grain) → map.get (from_entries {R = grain_cmp} (moments es)) q ≡ option_map (λ p. p.0) (lookup (grain_eq q) es)
+get-moments es q = get-lookup_seen grains (λ (p : ℕ × ℕ). p.0) es q
 
 -- what a look-up finds in the same entries
 pub found : (es fs : List (Grain × (ℕ × ℕ))) (f : Grain → Option (ℕ × ℕ)) → fs ≡ es → ((q : Grain) → lookup (grain_eq q) es ≡ f q) → (q : Grain) → lookup (grain_eq q) fs ≡ f q
@@ -31,26 +31,19 @@ noted_again es k note was q = by (grain_eq k q) refl
     by true e = sym was ∙ ap (λ g. lookup (grain_eq g) es) ((grain_eq_decides k q).0 e)
     by false e = refl
 
--- what a collector of this age with these entries shows
-abbrev shown : ℕ → List (Grain × (ℕ × ℕ)) → Notes
-shown age es = record { age = age; lasts = from_entries (moments es) }
+-- what a collector with these entries shows
+abbrev shown : List (Grain × (ℕ × ℕ)) → Notes
+shown es = from_entries (moments es)
 
-module _ (age : ℕ) (es fs : List (Grain × (ℕ × ℕ))) where
+module _ (es fs : List (Grain × (ℕ × ℕ))) where
   -- each look-up finds what it found
-  pub shown-same : ((q : Grain) → lookup (grain_eq q) fs ≡ lookup (grain_eq q) es) → shown age fs ≡ shown age es
-  shown-same l = ap (λ lasts. record { age = age; lasts = lasts }) (seen-alike grains (λ (p : ℕ × ℕ). p.0) es fs l)
+  pub shown-same : ((q : Grain) → lookup (grain_eq q) fs ≡ lookup (grain_eq q) es) → shown fs ≡ shown es
+  shown-same l = seen-alike grains (λ (p : ℕ × ℕ). p.0) es fs l
 
   -- one grain is noted, and each other look-up finds what it found
-  pub shown-noted : (k : Grain) (note : ℕ × ℕ) → ((q : Grain) → lookup (grain_eq q) fs ≡ cond (grain_eq k q) (Some note) (lookup (grain_eq q) es)) → shown age fs ≡ noted (shown age es) k note.0
-  shown-noted k note l = ap (λ lasts. record { age = age; lasts = lasts }) (seen-insert grains (λ (p : ℕ × ℕ). p.0) es fs k note l)
+  pub shown-noted : (k : Grain) (note : ℕ × ℕ) → ((q : Grain) → lookup (grain_eq q) fs ≡ cond (grain_eq k q) (Some note) (lookup (grain_eq q) es)) → shown fs ≡ noted (shown es) k note.0
+  shown-noted k note l = seen-insert grains (λ (p : ℕ × ℕ). p.0) es fs k note l
 
   -- one grain is forgotten
-  pub shown-forgotten : (k : Grain) → ((q : Grain) → lookup (grain_eq q) fs ≡ cond (grain_eq k q) None (lookup (grain_eq q) es)) → shown age fs ≡ forgotten (shown age es) k
-  shown-forgotten k l = ap (λ lasts. record { age = age; lasts = lasts }) (seen-remove grains (λ (p : ℕ × ℕ). p.0) es fs k l)
-
--- the note of a grain that wasn't noted, taken back, leaves the notes as they were
-pub taken_back : (notes : Notes) (grain : Grain) (last : ℕ) → map.get notes.lasts grain ≡ None → forgotten (noted notes grain last) grain ≡ notes
-taken_back notes grain last none = λ i. record {
-  age = notes.age;
-  lasts = maps.taken_back grain_cmp_total grain_cmp_exact notes.lasts grain last none i;
-}
+  pub shown-forgotten : (k : Grain) → ((q : Grain) → lookup (grain_eq q) fs ≡ cond (grain_eq k q) None (lookup (grain_eq q) es)) → shown fs ≡ forgotten (shown es) k
+  shown-forgotten k l = seen-remove grains (λ (p : ℕ × ℕ). p.0) es fs k l
