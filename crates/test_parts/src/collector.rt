@@ -10,7 +10,7 @@ use std::test::Fail;
 /// A call of a collector.
 #[derive(Clone, Copy)]
 enum Call {
-    /// A grain was idle last at that moment.
+    /// A grain is due from that moment on.
     Note(&'static str, u64),
     Forget(&'static str),
     /// The grains that are due at a moment, each with a space behind it.
@@ -46,17 +46,17 @@ fn make_each(alloc: Global, collector: &mut Collector, calls: &[Call]) -> Result
     Ok(())
 }
 
-/// Makes the calls, of a collector for grains that were idle for so long.
-fn run(alloc: Global, age: u64, calls: &[Call]) -> Result<(), Fail> {
-    let mut collector = Collector::new(alloc, age);
+/// Makes the calls, of a new collector.
+fn run(alloc: Global, calls: &[Call]) -> Result<(), Fail> {
+    let mut collector = Collector::new(alloc);
     make_each(alloc, &mut collector, calls)
 }
 
 /// A later note takes the place of an earlier one.
 static A_LATER_NOTE: [Call; 7] = [
-    Call::Note("counter/red:a", 5),
-    Call::Note("counter/red:b", 3),
-    Call::Note("counter/red:a", 9),
+    Call::Note("counter/red:a", 7),
+    Call::Note("counter/red:b", 5),
+    Call::Note("counter/red:a", 11),
     Call::Due(9, "counter/red:b "),
     Call::Due(11, "counter/red:a counter/red:b "),
     Call::Forget("counter/red:a"),
@@ -65,10 +65,10 @@ static A_LATER_NOTE: [Call; 7] = [
 
 /// Due grains ascend, whatever their moments.
 static IN_ORDER: [Call; 6] = [
-    Call::Note("counter/red:c", 1),
-    Call::Note("counter/blue:z", 3),
-    Call::Note("counter/red:a", 2),
-    Call::Note("counter/red:b", 4),
+    Call::Note("counter/red:c", 11),
+    Call::Note("counter/blue:z", 13),
+    Call::Note("counter/red:a", 12),
+    Call::Note("counter/red:b", 14),
     Call::Due(10, ""),
     Call::Due(13, "counter/blue:z counter/red:a counter/red:c "),
 ];
@@ -90,7 +90,7 @@ static ONE_MOMENT: [Call; 11] = [
 
 #[test]
 fn grains_are_due_by_their_last_notes(rt: HostRuntime) -> Result<(), Fail> {
-    run(rt.alloc(), 2, &A_LATER_NOTE)?;
-    run(rt.alloc(), 10, &IN_ORDER)?;
-    run(rt.alloc(), 0, &ONE_MOMENT)
+    run(rt.alloc(), &A_LATER_NOTE)?;
+    run(rt.alloc(), &IN_ORDER)?;
+    run(rt.alloc(), &ONE_MOMENT)
 }

@@ -4,6 +4,7 @@ use crate::compare::same;
 use crate::values::grain;
 use activation_directory::{Activation, Directory, Phase};
 use grain_id::GrainId;
+use silo_event::Moment;
 use std::alloc::{AllocError, Global};
 use std::test::Fail;
 use turn_mailbox::Mailbox;
@@ -25,13 +26,17 @@ enum Call {
 /// The moment of an activation, or 0 for none.
 fn moment_of(activation: Option<&Activation>) -> u64 {
     match activation {
-        Some(activation) => activation.last,
+        Some(activation) => activation.last.get(),
         None => 0,
     }
 }
 
+fn moment(now: u64) -> Result<Moment, Fail> {
+    Ok(Moment::new(now).ok_or("no moment")?)
+}
+
 /// An activation that waits since that moment.
-fn activation(alloc: Global, last: u64) -> Result<Activation, Fail> {
+fn activation(alloc: Global, last: Moment) -> Result<Activation, Fail> {
     Ok(Activation {
         phase: Phase::Waiting,
         mailbox: Mailbox::new(alloc, 2)?,
@@ -61,7 +66,7 @@ fn inserted(
 }
 
 /// 1 if it was written.
-fn changed(directory: &mut Directory, id: &GrainId, last: u64) -> u64 {
+fn changed(directory: &mut Directory, id: &GrainId, last: Moment) -> u64 {
     match directory.get_mut(id) {
         Some(activation) => {
             activation.last = last;
@@ -74,7 +79,7 @@ fn changed(directory: &mut Directory, id: &GrainId, last: u64) -> u64 {
 fn removed(directory: &mut Directory, id: &GrainId) -> u64 {
     match directory.remove(id) {
         Some(activation) => {
-            let last = activation.last;
+            let last = activation.last.get();
             drop(activation);
             last
         }
@@ -84,22 +89,22 @@ fn removed(directory: &mut Directory, id: &GrainId) -> u64 {
 
 fn at(directory: &Directory, place: usize) -> u64 {
     match directory.at(place) {
-        Some((_, activation)) => activation.last,
+        Some((_, activation)) => activation.last.get(),
         None => 0,
     }
 }
 
 fn insert(alloc: Global, directory: &mut Directory, text: &str, last: u64) -> Result<u64, Fail> {
     let id = grain(alloc, text)?;
-    inserted(alloc, directory, id, activation(alloc, last)?)
+    inserted(alloc, directory, id, activation(alloc, moment(last)?)?)
 }
 
 /// What the directory answers to a call about the activation of a grain.
-fn answer_of(directory: &mut Directory, id: &GrainId, call: Call) -> u64 {
+fn answer_of(directory: &mut Directory, id: &GrainId, call: Call) -> Result<u64, Fail> {
     match call {
-        Call::Change(_, last) => changed(directory, id, last),
-        Call::Remove(_) => removed(directory, id),
-        _ => moment_of(directory.get(id)),
+        Call::Change(_, last) => Ok(changed(directory, id, moment(last)?)),
+        Call::Remove(_) => Ok(removed(directory, id)),
+        _ => Ok(moment_of(directory.get(id))),
     }
 }
 
@@ -111,7 +116,7 @@ fn answer(alloc: Global, directory: &mut Directory, call: Call) -> Result<u64, F
             let id = grain(alloc, text)?;
             let found = answer_of(directory, &id, call);
             drop(id);
-            Ok(found)
+            found
         }
         Call::Count(tenant) => Ok(directory.count(tenant) as u64),
         Call::Len => Ok(directory.len() as u64),
