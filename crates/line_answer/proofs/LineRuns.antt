@@ -19,7 +19,7 @@ use Rattle.line_protocol.proofs.LinesOfBytes.{LinesTaken-trans, LinesTaken-kept,
 use Rattle.line_protocol.proofs.ReadLines.{all_taken_here, lines_ahead}
 use Rattle.line_protocol.proofs.TakenLines.{Took, Took-kept, Took-more, TakesLine-lines, are_taken, none_beyond, one_beyond}
 use Rattle.answer_model.specs.Resting.{AllRest}
-use Rattle.line_answer.specs.Runs.{AnswersLine, AnswersLines, AnswersAll, AnswersBefore, StopsBy, LineStopsBy, MayStop}
+use Rattle.line_answer.specs.Runs.{AnswersLine, AnswersLines, AnswersAll, AnswersBefore, StopsBy, LineStopsBy, MayStop, KeepsSetup}
 use Rattle.line_answer.proofs.Asked.{Hears, hears_none, hears_more, hears_own}
 
 pub Keeps-same : (a : Option (List ℕ)) → Keeps a a
@@ -31,6 +31,20 @@ may_stop fault.Read stopped is = is
 may_stop fault.TooMuch stopped is = is
 may_stop fault.Write stopped is = is
 may_stop fault.Memory stopped is = tt
+
+pub setup_kept : (e : LineFault) (old new : History) → new.setup ≡ old.setup → KeepsSetup e old new
+setup_kept fault.Read old new is = is
+setup_kept fault.TooMuch old new is = is
+setup_kept fault.Write old new is = is
+setup_kept fault.Memory old new is = tt
+
+-- what stops one line keeps the setup, too
+pub line_setup_kept : (logic : Logic) (n : ℕ) (e : LineFault) (said : Line) (writing : WriterCalls) (old mid new : History) (before after : Option (List ℕ)) → mid.setup ≡ old.setup
+    → LineStopsBy logic n e said writing mid new before after → KeepsSetup e old new
+line_setup_kept logic n fault.Read said writing old mid new before after is h = absurd h
+line_setup_kept logic n fault.TooMuch said writing old mid new before after is h = absurd h
+line_setup_kept logic n fault.Write said writing old mid new before after is h = h.0.1.1.setup ∙ is
+line_setup_kept logic n fault.Memory said writing old mid new before after is h = tt
 
 -- so far: these lines were taken, answered and written
 pub record LinesDone (logic : Logic) (n count : ℕ) (from left : Option (List ℕ)) (old new : History) (before after : Option (List ℕ)) : Type 0 where

@@ -93,3 +93,10 @@ MayStop fault.Read stopped = stopped ≡ false
 MayStop fault.TooMuch stopped = stopped ≡ false
 MayStop fault.Write stopped = stopped ≡ false
 MayStop fault.Memory stopped = Unit {0}
+
+-- the setup is as it was, unless memory was refused, of which this isn't told
+abbrev pub KeepsSetup : LineFault → History → History → Type 0
+KeepsSetup fault.Read old new = new.setup ≡ old.setup
+KeepsSetup fault.TooMuch old new = new.setup ≡ old.setup
+KeepsSetup fault.Write old new = new.setup ≡ old.setup
+KeepsSetup fault.Memory old new = Unit {0}

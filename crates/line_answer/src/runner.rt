@@ -5,7 +5,7 @@ ghost use Rattle.std.specs.Io.KnownBytes.{Appends};
 ghost use Rattle.line_parser.specs.Meaning.{meaning_of};
 ghost use Rattle.line_protocol.specs.Limits.{lines_limit};
 ghost use Rattle.line_protocol.specs.Reading.{left_of};
-ghost use Rattle.line_answer.specs.Runs.{AnswersLine, AnswersAll, LineStopsBy, MayStop, StopsBy};
+ghost use Rattle.line_answer.specs.Runs.{AnswersLine, AnswersAll, KeepsSetup, LineStopsBy, MayStop, StopsBy};
 
 use crate::answering::AnsweringSilo;
 use crate::lines::answer_line;
@@ -67,6 +67,8 @@ pub fn answer_lines<R: Read, W: Write, S: GrainStorage, L: GrainLogic>(
         (W.contents output.old.writer) (W.contents output.new.writer) e)) }
     ensures ready { OnOk result (silo.new.stopped ≡ false) }
     ensures stopped { IfErr result (λ e. MayStop e silo.new.stopped) }
+    ensures setup { OnOk result (silo.new.history.setup ≡ silo.old.history.setup) }
+    ensures kept { IfErr result (λ e. KeepsSetup e silo.old.history silo.new.history) }
     ensures bound { IfOk result (λ n. n ≤ lines_limit) }
     ensures unfailed { OnOk result (output.new.calls.failed ≡ output.old.calls.failed) }
 {

@@ -5,7 +5,7 @@ use Rattle.line_protocol.proofs.LinesOfBytes.{LinesTaken-self}
 use Rattle.line_protocol.proofs.ReadLines.{same_said, handed_on}
 use Rattle.line_protocol.proofs.Run.{cause_of_flushing, cause_of_reading, nothing_ahead, ahead_at_flushing}
 use Rattle.line_protocol.proofs.TakenLines.{Took-none, TakesPart-none}
-use Rattle.line_answer.proofs.LineRuns.{Keeps-same, may_stop, done_none, done_more, done_left, done_flushed, done_all, stops_reading, stops_full, stops_answering}
+use Rattle.line_answer.proofs.LineRuns.{Keeps-same, may_stop, setup_kept, line_setup_kept, done_none, done_more, done_left, done_flushed, done_all, stops_reading, stops_full, stops_answering}
 use Rattle.line_answer.proofs.runner.answer_lines.Goals as goal
 
 pub loop-count-init : goal.loop-count-init
@@ -123,3 +123,39 @@ returns-then-not-branch-clause-unfailed g c = c.in_ok-next_flushed.ensures.unfai
 
 pub returns-clause-unfailed : goal.returns-clause-unfailed
 returns-clause-unfailed g c = c.in_ok-flush.ensures.unfailed ∙ c.loop-count.invariant.1
+
+-- the setup is as it was
+
+pub returns-then-not-branch-clause-setup : goal.returns-then-not-branch-clause-setup
+returns-then-not-branch-clause-setup g c = c.loop-count.invariant.0.hears.tries.setup
+
+pub returns-clause-setup : goal.returns-clause-setup
+returns-clause-setup g c = c.loop-count.invariant.0.hears.tries.setup
+
+pub returns-in_err-next_flushed-clause-kept : goal.returns-in_err-next_flushed-clause-kept
+returns-in_err-next_flushed-clause-kept g c =
+    let p = err_from_is_err_and c.from_residual-in_err-next_flushed.result c.from_residual-in_err-next_flushed.ensures.1 in
+    handed_on _ _ _ (p.1 ∙ ap Err p.2) (setup_kept _ _ _ c.loop-count.invariant.0.hears.tries.setup)
+
+pub returns-in_err-write_answer-clause-kept : goal.returns-in_err-write_answer-clause-kept
+returns-in_err-write_answer-clause-kept g c =
+    let p = err_from_is_err_and c.from_residual-in_err-write_answer.result c.from_residual-in_err-write_answer.ensures.1 in
+    handed_on _ _ _ (p.1 ∙ ap Err p.2) (line_setup_kept _ _ _ _ _ _ _ _ _ _ c.loop-count.invariant.0.hears.tries.setup c.in_err-write_answer.ensures.err)
+
+pub returns-in_err-fill-clause-kept : goal.returns-in_err-fill-clause-kept
+returns-in_err-fill-clause-kept g c =
+    let p = err_from_is_err_and c.from_residual-in_err-fill.result c.from_residual-in_err-fill.ensures.1 in
+    handed_on _ _ _ (p.1 ∙ ap Err p.2) (setup_kept _ _ _ c.loop-count.invariant.0.hears.tries.setup)
+
+pub returns-in_err-flush-clause-kept : goal.returns-in_err-flush-clause-kept
+returns-in_err-flush-clause-kept g c =
+    let p = err_from_is_err_and c.from_residual-in_err-flush.result c.from_residual-in_err-flush.ensures.1 in
+    handed_on _ _ _ (p.1 ∙ ap Err p.2) (setup_kept _ _ _ c.loop-count.invariant.0.hears.tries.setup)
+
+pub returns-then-branch-clause-kept : goal.returns-then-branch-clause-kept
+returns-then-branch-clause-kept g c = c.loop-count.invariant.0.hears.tries.setup
+
+pub returns-in_err-scratch-clause-kept : goal.returns-in_err-scratch-clause-kept
+returns-in_err-scratch-clause-kept g c =
+    let p = err_from_is_err_and c.from_residual.result c.from_residual.ensures.1 in
+    handed_on _ _ _ (p.1 ∙ ap Err p.2) (setup_kept fault.Memory c.args.silo.now.history c.args.silo.now.history refl)
