@@ -1,17 +1,15 @@
--- Lines of others change nothing of what a tenant is shown, and each client is answered first.
-use Rattle.std.proofs.Common.{◌≡◌, ℕ, Bool, true, false, cond, List, [], ◌∷◌, ◌++◌, length, refl, ap, sym, ◌∙◌, subst}
+-- Lines of others change nothing of what a tenant is shown.
+use Rattle.std.proofs.Common.{◌≡◌, ℕ, Bool, true, false, List, [], ◌∷◌, ◌++◌, length, refl, ap, sym, ◌∙◌, subst}
 use Rattle.std.specs.Prelude.{map as map_list, drop}
-use Rattle.std.proofs.lemmas.List.Elements.{filter-append}
 use Rattle.silo_event.specs.declared.step.Step.{Step}
 use Rattle.grain_kinds.specs.Logic.{Logic}
 use Rattle.silo_model.specs.Opening.{Setup}
 use Rattle.silo_model.specs.Whole.{Whole, shown_to, whole_step}
-use Rattle.silo_model.specs.Run.{concerns, done_by, whole_run}
+use Rattle.silo_model.specs.Run.{done_by, whole_run}
 use Rattle.line_parser.specs.declared.line.Line.{Line}
 use Rattle.line_parser.specs.declared.line.Line.TheVariants as line
-use Rattle.line_protocol.specs.LineTexts.{said_lines, line_concerns, lines_to, texts_of}
+use Rattle.line_protocol.specs.LineTexts.{said_lines, texts_of}
 use Rattle.answer_model.specs.Answering.{Luck, Stepper, Asked, taken, is_asked, whole_stepper, machine_stepper, answering, answered, all_answered}
-use Rattle.answer_model.specs.Apart.{asked_by}
 use Rattle.answer_model.specs.Certain.{AllWell}
 use Rattle.answer_model.specs.Resting.{AllRest}
 use Rattle.answer_model.proofs.Apart.{tenants_apart}
@@ -19,55 +17,14 @@ use Rattle.answer_model.proofs.Certain.{AllWell-split, parts_well, answered_cert
 use Rattle.answer_model.proofs.Reached.{IsReached, run_reached}
 use Rattle.answer_model.proofs.Resting.{answered_at_once}
 use Rattle.line_answer.specs.Texts.{Heard, asked_if, asks_by, asks_of, text_if, all_steps, asked_text, step_text, line_text, lines_text}
-use Rattle.line_answer.specs.Laws.{heard_by, heard_well, LinesApart, LinesCertain, LinesAlone}
+use Rattle.line_answer.specs.Laws.{heard_well, LinesApart, LinesCertain, LinesAlone}
 use Rattle.line_answer.proofs.Asked.{all_answered-append, run_all}
 
--- ---- what the lines of one tenant ask
-
-module _ (tenant : List ℕ) where
-  asks_one : (s : Step) (asked : Bool) (lucks : List Luck) → asked_by tenant (asked_if asked s lucks) ≡ cond (concerns tenant s) (asked_if asked s lucks) []
-  asks_one s true lucks = refl
-  asks_one s false lucks = by_test (concerns tenant s)
-    where
-      by_test : (b : Bool) → [] ≡ cond b (asked_if false s lucks) []
-      by_test true = refl
-      by_test false = refl
-
-  -- of what a line asks
-  asks_own : (said : Line) (lucks : List Luck) → asked_by tenant (asks_by said lucks) ≡ cond (line_concerns tenant said) (asks_by said lucks) []
-  asks_own line.Nothing lucks = refl
-  asks_own (line.Refusal r) lucks = refl
-  asks_own (line.Step s) lucks = asks_one s (is_asked s) lucks
-
-  -- the lines of others are struck out before or after
-  pub asks_struck : (heard : List Heard) → asked_by tenant (asks_of heard) ≡ asks_of (heard_by tenant heard)
-  asks_struck [] = refl
-  asks_struck (h ∷ heard) =
-      filter-append (λ asked. concerns tenant asked.step) (asks_by h.said h.lucks) (asks_of heard)
-      ∙ (λ i. asks_own h.said h.lucks i ++ asks_struck heard i)
-      ∙ by_test (line_concerns tenant h.said)
-    where
-      by_test : (b : Bool) → cond b (asks_by h.said h.lucks) [] ++ asks_of (heard_by tenant heard) ≡ asks_of (cond b (h ∷ heard_by tenant heard) (heard_by tenant heard))
-      by_test true = refl
-      by_test false = refl
-
-  -- what is heard well of the tenant's lines
-  heard_struck : (saids : List Line) → heard_by tenant (heard_well saids) ≡ heard_well (lines_to tenant saids)
-  heard_struck [] = refl
-  heard_struck (said ∷ saids) =
-      ap (λ heard. cond (line_concerns tenant said) (record { said = said; lucks = [] } ∷ heard) heard) (heard_struck saids) ∙ by_test (line_concerns tenant said)
-    where
-      by_test : (b : Bool) → cond b (record { said = said; lucks = [] } ∷ heard_well (lines_to tenant saids)) (heard_well (lines_to tenant saids))
-          ≡ heard_well (cond b (said ∷ lines_to tenant saids) (lines_to tenant saids))
-      by_test true = refl
-      by_test false = refl
+-- ---- with the same luck
 
 pub lines_apart : LinesApart
 lines_apart logic n tenant lines others old new before after text other here there start same =
-    let by = machine_stepper logic in
-    here.own tenant
-    ∙ (λ i. all_answered by n (start i) ((asks_struck tenant here.heard ∙ ap asks_of same ∙ sym (asks_struck tenant there.heard)) i))
-    ∙ sym (there.own tenant)
+    here.own tenant ∙ (λ i. all_answered (machine_stepper logic) n (start i) (same i)) ∙ sym (there.own tenant)
 
 -- ---- where all went well
 
@@ -190,9 +147,6 @@ lines_certain logic n lines old new text p =
 
 pub lines_alone : LinesAlone
 lines_alone logic n tenant lines others old new before after text other here there start same =
-    let by = machine_stepper logic in
-    let own : (all : List (List ℕ)) → asked_by tenant (asks_of (heard_well (said_lines all))) ≡ asks_of (heard_well (lines_to tenant (said_lines all)))
-    = λ all. asks_struck tenant (heard_well (said_lines all)) ∙ ap asks_of (heard_struck tenant (said_lines all)) in
     (lines_certain logic n lines old new text here).1 tenant
-    ∙ (λ i. all_answered by n (start i) ((own lines ∙ ap (λ saids. asks_of (heard_well saids)) same ∙ sym (own others)) i))
+    ∙ (λ i. all_answered (machine_stepper logic) n (start i) (same i))
     ∙ sym ((lines_certain logic n others before after other there).1 tenant)

@@ -1,5 +1,5 @@
 -- Laws of lines that are answered at once: a tenant can't tell from what it is shown whether anybody else asks, and each client is answered first.
-use Rattle.std.specs.Prelude.{◌≡◌, ℕ, true, List, [], ◌++◌, Some, Result, map, filter}
+use Rattle.std.specs.Prelude.{◌≡◌, ℕ, true, List, [], ◌++◌, Some, Result, map}
 use Rattle.request_codec.specs.Tree.{Tree}
 use Rattle.grain_id.specs.Names.{Client}
 use Rattle.silo_event.specs.Asker.{asking_of}
@@ -14,7 +14,7 @@ use Rattle.silo_model.specs.Whole.{shown_to}
 use Rattle.silo_core.specs.History.{History}
 use Rattle.line_parser.specs.declared.line.Line.{Line}
 use Rattle.line_parser.specs.declared.line.Line.TheVariants as line
-use Rattle.line_protocol.specs.LineTexts.{said_lines, line_concerns, lines_to, texts_of}
+use Rattle.line_protocol.specs.LineTexts.{said_lines, texts_of}
 use Rattle.answer_model.specs.Answering.{Luck, is_asked, machine_stepper, whole_stepper, all_answered}
 use Rattle.answer_model.specs.Apart.{asked_by}
 use Rattle.answer_model.specs.Certain.{AllWell}
@@ -22,21 +22,17 @@ use Rattle.answer_model.specs.Resting.{AllRest, AllToGrains}
 use Rattle.line_answer.specs.Texts.{Heard, asks_of, line_text, lines_text}
 use Rattle.line_answer.specs.Runs.{AnswersLines}
 
--- what was heard of the tenant's lines and of nobody's, in order: the lines of others are struck out
-abbrev pub heard_by : List ℕ → List Heard → List Heard
-heard_by tenant heard = filter (λ h. line_concerns tenant h.said) heard
-
 -- the lines, with good luck
 abbrev pub heard_well : List Line → List Heard
 heard_well saids = map (λ said. record { said = said; lucks = [] }) saids
 
--- Two silos that show a tenant the same answered lines. If the lines that concern the tenant are the same, with the same luck, then they
--- show the tenant the same again.
+-- Two silos that show a tenant the same answered lines. If what the tenant and nobody asked by them is the same, with the same luck, then
+-- they show the tenant the same again.
 abbrev pub LinesApart : Type 0
 LinesApart = (logic : Logic) (n : ℕ) (tenant : List ℕ) (lines others : List (List ℕ)) (old new before after : History) (text other : List ℕ)
     → (here : AnswersLines logic n old lines new text) → (there : AnswersLines logic n before others after other)
     → shown_to tenant old.whole ≡ shown_to tenant before.whole
-    → heard_by tenant here.heard ≡ heard_by tenant there.heard
+    → asked_by tenant (asks_of here.heard) ≡ asked_by tenant (asks_of there.heard)
     → shown_to tenant new.whole ≡ shown_to tenant after.whole
 
 -- From where a journal leads and where all rests lines were answered, and the journal shows that all went well: the storage never
@@ -56,13 +52,13 @@ LinesCertain = (logic : Logic) (n : ℕ) (lines : List (List ℕ)) (old new : Hi
     × ((tenant : List ℕ) → shown_to tenant new.whole
     ≡ all_answered (machine_stepper logic) n (shown_to tenant old.whole) (asked_by tenant (asks_of (heard_well (said_lines lines)))))
 
--- Two silos that show a tenant the same answered lines, and all went well. If the lines that concern the tenant are the same, then they
--- show the tenant the same again, whatever the other lines are.
+-- Two silos that show a tenant the same answered lines, and all went well. If what the tenant and nobody ask by them is the same, then
+-- they show the tenant the same again, whatever the others ask.
 abbrev pub LinesAlone : Type 0
 LinesAlone = (logic : Logic) (n : ℕ) (tenant : List ℕ) (lines others : List (List ℕ)) (old new before after : History) (text other : List ℕ)
     → AnswersWell logic n old lines new text → AnswersWell logic n before others after other
     → shown_to tenant old.whole ≡ shown_to tenant before.whole
-    → lines_to tenant (said_lines lines) ≡ lines_to tenant (said_lines others)
+    → asked_by tenant (asks_of (heard_well (said_lines lines))) ≡ asked_by tenant (asks_of (heard_well (said_lines others)))
     → shown_to tenant new.whole ≡ shown_to tenant after.whole
 
 -- What is written for a client's line: the line of one reply to it under its number, and behind it lines of replies to grains.

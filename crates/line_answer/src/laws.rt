@@ -3,8 +3,8 @@
 
 ghost use Rattle.line_answer.specs.Laws.{ClientsFirst, LinesAlone, LinesApart, LinesCertain};
 
-/// What a tenant is shown is the same, whatever lines of others stand between its own: if the lines that concern it are
-/// the same, with the same luck.
+/// What a tenant is shown is the same, whatever lines of others stand between its own: if what it and nobody asked is the
+/// same, with the same luck.
 pub fn lines_apart()
     ensures { LinesApart }
 {}
@@ -16,7 +16,7 @@ pub fn lines_certain()
     ensures { LinesCertain }
 {}
 
-/// There a tenant is shown what a silo shows it that answers its lines, and those of nobody, alone.
+/// There a tenant is shown what a silo shows it that answers its lines, ticks and sweeps alone.
 pub fn lines_alone()
     ensures { LinesAlone }
 {}
