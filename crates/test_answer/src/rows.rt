@@ -1,0 +1,130 @@
+//! Worked rows: lines, how many sends are delivered behind one at most, and what is written. Each can be followed by hand.
+//!
+//! The tenants are red and blue, each with 3 activations of 4 waiting requests, and the age is 5. The texts come from
+//! functions, since a long text in a test's own body stands in all its goals.
+
+/// Lines, how many sends are delivered behind one at most, and what is written for them.
+#[derive(Clone, Copy)]
+pub struct Worked {
+    pub lines: &'static str,
+    pub most: u64,
+    pub told: &'static str,
+}
+
+/// A counter is asked twice, and saved; its row is poked, and the status asked for.
+pub fn counted() -> Worked {
+    Worked {
+        lines: r#"{"op":"call","from":"red/c1","id":1,"grain":"counter/red:a","method":"add","args":{"by":3}}
+{"op":"call","from":"red/c2","id":7,"grain":"counter/red:a","method":"add","args":{"by":4}}
+{"op":"call","from":"red/c1","id":2,"grain":"counter/red:a","method":"save","args":null}
+{"op":"poke","from":"red/c1","id":3,"grain":"counter/red:a","state":10}
+{"op":"status","from":"red/c1","id":4}
+"#,
+        most: 10,
+        told: r#"{"from":"red/c1","id":1,"ok":3}
+{"from":"red/c2","id":7,"ok":7}
+{"from":"red/c1","id":2,"ok":"1"}
+{"from":"red/c1","id":3,"ok":"2"}
+{"from":"red/c1","id":4,"ok":{"activations":1,"clock":0,"requests":3}}
+"#,
+    }
+}
+
+/// The same, if the storage's second call fails, which saves: nothing is stored before the poke.
+pub fn counted_but_saved() -> Worked {
+    Worked {
+        lines: counted().lines,
+        most: 10,
+        told: r#"{"from":"red/c1","id":1,"ok":3}
+{"from":"red/c2","id":7,"ok":7}
+{"error":53,"from":"red/c1","id":2,"text":"storage failed"}
+{"from":"red/c1","id":3,"ok":"1"}
+{"from":"red/c1","id":4,"ok":{"activations":1,"clock":0,"requests":3}}
+"#,
+    }
+}
+
+/// A relay sends to its two members, of which one is blue's; blue asks; and red asks the other member twice.
+const SENT: &str =
+    r#"{"op":"call","from":"red/c1","id":1,"grain":"relay/red:r","method":"join","args":{"grain":"counter/red:a"}}
+{"op":"call","from":"red/c1","id":2,"grain":"relay/red:r","method":"join","args":{"grain":"counter/blue:a"}}
+{"op":"call","from":"red/c1","id":3,"grain":"relay/red:r","method":"send","args":{"args":{"by":2},"method":"add"}}
+{"op":"call","from":"blue/c1","id":1,"grain":"counter/blue:a","method":"get"}
+{"op":"call","from":"red/c1","id":4,"grain":"counter/red:a","method":"get"}
+{"op":"call","from":"red/c1","id":5,"grain":"counter/red:a","method":"get"}
+"#;
+
+/// Both sends are delivered behind their line.
+pub fn sent() -> Worked {
+    Worked {
+        lines: SENT,
+        most: 10,
+        told: r#"{"from":"red/c1","id":1,"ok":true}
+{"from":"red/c1","id":2,"ok":true}
+{"from":"red/c1","id":3,"ok":2}
+{"error":40,"from":"relay/red:r","text":"tenant red may not call a grain of tenant blue"}
+{"from":"blue/c1","id":1,"ok":0}
+{"from":"red/c1","id":4,"ok":2}
+{"from":"red/c1","id":5,"ok":2}
+"#,
+    }
+}
+
+/// One is, and the other behind red's next line.
+pub fn sent_one_by_one() -> Worked {
+    Worked {
+        lines: SENT,
+        most: 1,
+        told: r#"{"from":"red/c1","id":1,"ok":true}
+{"from":"red/c1","id":2,"ok":true}
+{"from":"red/c1","id":3,"ok":2}
+{"from":"blue/c1","id":1,"ok":0}
+{"from":"red/c1","id":4,"ok":2}
+{"error":40,"from":"relay/red:r","text":"tenant red may not call a grain of tenant blue"}
+{"from":"red/c1","id":5,"ok":2}
+"#,
+    }
+}
+
+/// None is.
+pub fn sent_to_nobody() -> Worked {
+    Worked {
+        lines: SENT,
+        most: 0,
+        told: r#"{"from":"red/c1","id":1,"ok":true}
+{"from":"red/c1","id":2,"ok":true}
+{"from":"red/c1","id":3,"ok":2}
+{"from":"blue/c1","id":1,"ok":0}
+{"from":"red/c1","id":4,"ok":0}
+{"from":"red/c1","id":5,"ok":0}
+"#,
+    }
+}
+
+/// Lines that ask nothing, lines that are refused, and the clock, by which a counter goes.
+pub fn others() -> Worked {
+    Worked {
+        lines: r#"{"op":"call","from":"red/c1","id":1,"grain":"counter/red:a","method":"add","args":{"by":3}}
+
+{"op":"deliver","grain":"relay/red:r"}
+{"op":"poke","from":"red/c1","id":2,"grain":"counter/red:a","state":1,"failed":true}
+hello
+{"op":"tick","now":5}
+{"op":"sweep"}
+{"op":"tick","now":4}
+{"op":"call","from":"red/c1","id":3,"grain":"counter/red:a","method":"get"}
+{"op":"status","from":"green/c1","id":1}
+{"op":"call","from":"red/c1","id":4,"grain":"counter/blue:a","method":"get"}
+"#,
+        most: 10,
+        told: r#"{"from":"red/c1","id":1,"ok":3}
+{"error":10,"text":"line is not a request"}
+{"error":10,"text":"line is not a request"}
+{"error":10,"text":"line is not a request"}
+{"text":"not now"}
+{"from":"red/c1","id":3,"ok":0}
+{"error":21,"from":"green/c1","id":1,"text":"tenant green is unknown"}
+{"error":40,"from":"red/c1","id":4,"text":"tenant red may not call a grain of tenant blue"}
+"#,
+    }
+}

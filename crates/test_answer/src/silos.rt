@@ -1,0 +1,100 @@
+//! Silos that answer at once, and calls of them, each in a function without clauses: the clauses of a call stand before
+//! all later goals of the body that makes it.
+
+use grain_id::Tenant;
+use grain_kinds::Kinds;
+use grain_storage::{FusedStorage, MemoryStorage};
+use line_answer::{AnsweringSilo, Input, LineFault, Output, answer_lines};
+use silo_core::{Setup, Silo};
+use silo_event::{Moment, Reply, Step};
+use std::alloc::{AllocError, Global};
+use std::io::{Read, Write};
+use std::test::Fail;
+use tenant_gate::{Age, Limits, TenantTable};
+
+/// A silo of counters, sheets and relays over rows in memory, of whose calls one may fail.
+pub type TestedSilo = AnsweringSilo<FusedStorage, Kinds>;
+
+/// Red and blue, each with 3 activations of 4 waiting requests.
+fn tenants(alloc: Global) -> Result<TenantTable, Fail> {
+    let limits = Limits {
+        activations: 3,
+        mailbox: 4,
+    };
+    let mut list = Vec::new(alloc);
+    list.push((Tenant::read(alloc, "red")?, limits))?;
+    list.push((Tenant::read(alloc, "blue")?, limits))?;
+    Ok(TenantTable::new(alloc, list)?)
+}
+
+fn opened(alloc: Global, setup: Setup<FusedStorage, Kinds>) -> Result<TestedSilo, AllocError> {
+    AnsweringSilo::new(alloc, setup)
+}
+
+/// A silo over no rows, whose storage fails that call, or none if it is 0. Grains are idle for 5 milliseconds.
+pub fn new_silo(alloc: Global, fails_at: u64) -> Result<TestedSilo, Fail> {
+    let age = Age::new(5).ok_or("no age")?;
+    let setup = Setup {
+        tenants: tenants(alloc)?,
+        age,
+        storage: FusedStorage::new(MemoryStorage::new(alloc), fails_at),
+        logic: Kinds,
+    };
+    Ok(opened(alloc, setup)?)
+}
+
+/// Answers the lines of the reader: how that ends, but for want of memory.
+pub fn ended<R: Read, W: Write>(
+    alloc: Global,
+    silo: &mut TestedSilo,
+    most: u64,
+    input: &mut Input<R>,
+    output: &mut Output<W>,
+) -> Result<Result<u64, LineFault>, Fail> {
+    if silo.is_stopped() {
+        return Err(Fail::from("the silo has stopped"));
+    }
+    match answer_lines(alloc, input, output, silo, most) {
+        Err(LineFault::Memory) => Err(Fail::from(AllocError)),
+        end => Ok(end),
+    }
+}
+
+/// Answers a tick.
+pub fn tick(alloc: Global, silo: &mut TestedSilo, now: u64) -> Result<bool, Fail> {
+    if silo.is_stopped() {
+        return Err(Fail::from("the silo has stopped"));
+    }
+    let now = Moment::new(now).ok_or("no moment")?;
+    Ok(silo.answer(alloc, Step::Tick { now }, 0)?)
+}
+
+/// Answers sweeping.
+pub fn sweep(alloc: Global, silo: &mut TestedSilo) -> Result<bool, Fail> {
+    if silo.is_stopped() {
+        return Err(Fail::from("the silo has stopped"));
+    }
+    Ok(silo.answer(alloc, Step::Sweep, 0)?)
+}
+
+pub fn replies(silo: &TestedSilo) -> &[Reply] {
+    silo.replies()
+}
+
+pub fn journal(silo: &TestedSilo) -> &[Step] {
+    silo.journal()
+}
+
+/// How many steps the silo inside took.
+pub fn taken(silo: &TestedSilo) -> usize {
+    taken_alone(silo.silo())
+}
+
+/// How many steps the silo took.
+pub fn taken_alone(silo: &Silo<FusedStorage, Kinds>) -> usize {
+    silo.journal().len()
+}
+
+pub fn alone(silo: TestedSilo) -> Silo<FusedStorage, Kinds> {
+    silo.into_silo()
+}
