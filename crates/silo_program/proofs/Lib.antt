@@ -2,3 +2,4 @@ pub mod EndLemmas
 pub mod AuditLemmas
 pub mod FaultLemmas
 pub mod ServingLemmas
+pub mod AnsweringLemmas

@@ -12,14 +12,15 @@ use Rattle.line_protocol.specs.declared.written.WriterCalls.{WriterCalls}
 use Rattle.line_service.specs.ServedText.{StopsWriting}
 use Rattle.line_service.specs.declared.fault.ServiceFault.{ServiceFault}
 use Rattle.line_service.specs.declared.fault.ServiceFault.TheVariants as service
-use Rattle.silo_words.specs.Words.{AskForServing}
+use Rattle.silo_words.specs.Words.{AskForAnswering, AskForServing}
 use Rattle.silo_program.specs.Status.{IsTenantsFault, cause_of}
 use Rattle.silo_words.specs.Tenants.{IsReason, NameTenants}
 use Rattle.tenant_gate.specs.Table.{Table}
 use Rattle.line_service.specs.Serving.{StopsServing, setup_of}
 use Rattle.silo_program.specs.Files.{FileClaims}
 use Rattle.silo_program.specs.Serving.{IsKeepingCause, KeepsJournal, LeavesOutcome, Outcome, ServingFailsBy, WritesAtMost, WritesJournalAtMost, outcome_text, service_cause}
-use Rattle.silo_program.specs.Ends.{AskForJournal, EndsAs, IsFaultOf, IsServingFault, IsStreamFault, LeavesFiles, ShowsText, WritesJournal}
+use Rattle.silo_program.specs.Answering.{WritesJournalsAtMost}
+use Rattle.silo_program.specs.Ends.{AskForJournal, EndsAs, IsAnsweringFault, IsFaultOf, IsServingFault, IsStreamFault, LeavesFiles, ShowsText, WritesAnswered, WritesJournal}
 use Rattle.silo_program.specs.declared.failure.Cause.{Cause}
 use Rattle.silo_program.specs.declared.failure.Cause.TheVariants as cause
 use Rattle.silo_program.specs.declared.failure.End.{End}
@@ -84,12 +85,14 @@ module _ (words : List Text) (files : FileClaims) (from left : Option (List ℕ)
   files_left None asked named same = inl same
   files_left (Some path) asked named is =
       ⊎_elim (λ same. inl same)
-      (λ written. inr (record { workers = workers; tenants = tenants; age = age; path = path; asked = record { arguments = arguments; asked = asked; named = named }; served = written })) is
+      (λ written. inr (inl (record { workers = workers; tenants = tenants; age = age; path = path; asked = record { arguments = arguments; asked = asked; named = named }; served = written }))) is
 
 -- no journal is asked for
 pub untouched : (words : List Text) (files : FileClaims) (from left : Option (List ℕ)) → LeavesFiles words files from left → ((path : Text) → ¬ AskForJournal words path) → files.same
 untouched words files from left leaves never =
-    ⊎_elim (λ same. same) (λ (w : WritesJournal words files from left). absurd (never w.path (w.workers, w.age, w.asked.arguments, w.asked.asked))) leaves
+    ⊎_elim (λ same. same)
+    (λ written. ⊎_elim (λ (w : WritesJournal words files from left). absurd (never w.path (inl (w.workers, w.age, w.asked.arguments, w.asked.asked))))
+    (λ (w : WritesAnswered words files from). absurd (never w.path (inr (w.age, w.sends, w.asked.arguments, w.asked.asked)))) written) leaves
 
 -- ---- the tenant arguments are refused
 
@@ -100,7 +103,7 @@ module _ (words : List Text) (files : FileClaims) (from : Option (List ℕ)) (re
     tenants_refused (tenants.Refused number) (fault.Failed why) reason is =
         subst (λ (c : Cause). IsServingFault words files (fault.Failed c) from from reading before before writing) (sym is) (inl (Keeps-refl from, Keeps-refl before))
     tenants_refused (tenants.Refused number) (fault.Refused text) reason is =
-        (inr (number, record { arguments = arguments; asked = inr (workers, age, journal, asked); first = reason }, is), Keeps-refl from, Keeps-refl before, same)
+        (inr (number, record { arguments = arguments; asked = inr (inl (workers, age, journal, asked)); first = reason }, is), Keeps-refl from, Keeps-refl before, same)
     tenants_refused (tenants.Refused number) (fault.NoJournal text) reason is = absurd is
 
 -- ---- a text was asked for
@@ -120,3 +123,23 @@ module _ (words : List Text) (files : FileClaims) (from left : Option (List ℕ)
 
   pub stream_faults : {T : Type 0} (result : Result T ProgramFault) → IfErr result (λ why. IsStreamFault words why from left reading before after writing) → IfErr result (λ why. IsFaultOf words files why from left reading before after writing)
   stream_faults result is = IfErr-weaker result (λ why. IsStreamFault words why from left reading before after writing) (λ why. IsFaultOf words files why from left reading before after writing) stream_fault is
+
+-- ---- lines are answered at once
+
+module _ (words : List Text) (files : FileClaims) (from left : Option (List ℕ)) (age sends : ℕ) (tenants : Table) (arguments : List Text) where
+  -- of what the words ask for
+  pub answered_left : (journal : Option Text) → AskForAnswering words age sends journal arguments → NameTenants arguments tenants → WritesJournalsAtMost (setup_of tenants age) sends files journal from → LeavesFiles words files from left
+  answered_left None asked named same = inl same
+  answered_left (Some path) asked named is =
+      ⊎_elim (λ same. inl same)
+      (λ written. inr (inr (record { tenants = tenants; age = age; sends = sends; path = path; asked = record { arguments = arguments; asked = asked; named = named }; written = written }))) is
+
+module _ (words : List Text) (files : FileClaims) (from : Option (List ℕ)) (reading : Reading) (before : Option (List ℕ)) (writing : WriterCalls) (same : files.same) where
+  module _ (age sends : ℕ) (journal : Option Text) (arguments : List Text) (asked : AskForAnswering words age sends journal arguments) where
+    pub answering_refused : (why : TenantsFault) (told : ProgramFault) → IsReason arguments why → IsTenantsFault why told → IsAnsweringFault words files told from from reading before before writing
+    answering_refused tenants.Memory told reason is = subst (λ (f : ProgramFault). IsAnsweringFault words files f from from reading before before writing) (sym is) (inl (Keeps-refl from, Keeps-refl before))
+    answering_refused (tenants.Refused number) (fault.Failed why) reason is =
+        subst (λ (c : Cause). IsAnsweringFault words files (fault.Failed c) from from reading before before writing) (sym is) (inl (Keeps-refl from, Keeps-refl before))
+    answering_refused (tenants.Refused number) (fault.Refused text) reason is =
+        (inr (number, record { arguments = arguments; asked = inr (inr (age, sends, journal, asked)); first = reason }, is), Keeps-refl from, Keeps-refl before, same)
+    answering_refused (tenants.Refused number) (fault.NoJournal text) reason is = absurd is

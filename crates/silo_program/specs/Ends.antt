@@ -7,13 +7,14 @@ use Rattle.line_protocol.specs.Reading.{Reading}
 use Rattle.line_protocol.specs.declared.written.WriterCalls.{WriterCalls}
 use Rattle.line_protocol.specs.declared.fault.LineFault.{LineFault}
 use Rattle.line_service.specs.Serving.{setup_of}
-use Rattle.silo_words.specs.Words.{AreRefused, AreTaken, AskForAudit, AskForHelp, AskForServing}
-use Rattle.silo_words.specs.Words.{AskForSteps, AskForVersion, EndsWithExample, IsOutOfRange}
+use Rattle.silo_words.specs.Words.{AreRefused, AskForAnswering, AskForAudit, AskForHelp, AskForNothing, AskForServing}
+use Rattle.silo_words.specs.Words.{AskForSteps, AskForVersion, EndsWithExample}
 use Rattle.silo_program.specs.Status.{cause_of, refused_text, version_text}
 use Rattle.silo_program.specs.Streams.{BreaksOff}
 use Rattle.silo_words.specs.Tenants.{IsFirstRefused, NameTenants}
 use Rattle.silo_program.specs.Steps.{AnswersFrom, StopsFrom}
 use Rattle.silo_program.specs.Files.{FileClaims}
+use Rattle.silo_program.specs.Answering.{AnsweringFailsBy, AnswersLanes, WritesJournals}
 use Rattle.silo_program.specs.Serving.{ServesLanes, ServingFailsBy, WritesJournalTo}
 use Rattle.silo_program.specs.Auditing.{AuditFailsBy, AuditsFile, RefusesFile}
 use Rattle.silo_program.specs.declared.failure.Cause.{Cause}
@@ -27,7 +28,7 @@ use Rattle.silo_program.specs.declared.failure.ProgramFault.TheVariants as fault
 
 -- the text that the words ask for: help, or the version
 abbrev pub AskForText : List Text → Text → Type 0
-AskForText words text = (AskForHelp words × EndsWithExample text) ⊎ (AskForVersion words × (text ≡ version_text))
+AskForText words text = (AskForHelp words × EndsWithExample words text) ⊎ (AskForVersion words × (text ≡ version_text))
 
 -- The words ask to take steps for these tenants, each within its limits, under this age.
 pub record AskForTenants (words : List Text) (tenants : Table) (age : ℕ) : Type 0 where
@@ -41,15 +42,25 @@ pub record AskForThreads (words : List Text) (workers : ℕ) (tenants : Table) (
   pub asked : AskForServing words workers age journal arguments
   pub named : NameTenants arguments tenants
 
--- The words ask for the journal at the path.
-abbrev pub AskForJournal : List Text → Text → Type 0
-AskForJournal words path = (workers : ℕ) × (age : ℕ) × (arguments : List Text) × AskForServing words workers age (Some path) arguments
+-- The words ask to answer the lines of an input at once, for these tenants under this age, with so many deliveries behind each
+-- line, and for the journal at this path.
+pub record AskForAnswers (words : List Text) (tenants : Table) (age sends : ℕ) (journal : Option Text) : Type 0 where
+  pub arguments : List Text
+  pub asked : AskForAnswering words age sends journal arguments
+  pub named : NameTenants arguments tenants
 
--- The words have these tenant arguments, whether they ask to take steps or to serve.
+-- The words ask for the journal at the path, of lines that are served or answered at once.
+abbrev pub AskForJournal : List Text → Text → Type 0
+AskForJournal words path =
+    ((workers : ℕ) × (age : ℕ) × (arguments : List Text) × AskForServing words workers age (Some path) arguments)
+    ⊎ ((age : ℕ) × (sends : ℕ) × (arguments : List Text) × AskForAnswering words age sends (Some path) arguments)
+
+-- The words have these tenant arguments, whether they ask to take steps, to serve, or to answer at once.
 abbrev pub HaveArguments : List Text → List Text → Type 0
 HaveArguments words arguments =
     ((age : ℕ) × AskForSteps words age arguments)
-    ⊎ ((workers : ℕ) × (age : ℕ) × (journal : Option Text) × AskForServing words workers age journal arguments)
+    ⊎ (((workers : ℕ) × (age : ℕ) × (journal : Option Text) × AskForServing words workers age journal arguments)
+    ⊎ ((age : ℕ) × (sends : ℕ) × (journal : Option Text) × AskForAnswering words age sends journal arguments))
 
 -- Of the words' tenant arguments the one of this number is the first that is refused.
 pub record NameNoTenant (words : List Text) (number : ℕ) : Type 0 where
@@ -60,7 +71,7 @@ pub record NameNoTenant (words : List Text) (number : ℕ) : Type 0 where
 -- What is said of words that are refused: clap's text, or that a number is out of its range, or which tenant argument is refused.
 abbrev pub AreRefusedBy : List Text → Text → Type 0
 AreRefusedBy words text =
-    (AreRefused words ⊎ (AreTaken words × IsOutOfRange words))
+    (AreRefused words ⊎ AskForNothing words)
     ⊎ ((number : ℕ) × NameNoTenant words number × (text ≡ refused_text number))
 
 -- ---- a text is shown
@@ -138,9 +149,41 @@ pub record WritesJournal (words : List Text) (files : FileClaims) (from left : O
   pub asked : AskForThreads words workers tenants age (Some path)
   pub served : WritesJournalTo (setup_of tenants age) files path from left
 
+-- ---- lines are answered at once
+
+-- The words name tenants, and the lines of the input were answered at once for them.
+pub record AnswersAtOnce (words : List Text) (files : FileClaims) (from left before after : Option (List ℕ)) : Type 0 where
+  pub tenants : Table
+  pub age : ℕ
+  pub sends : ℕ
+  pub journal : Option Text
+  pub asked : AskForAnswers words tenants age sends journal
+  pub answered : AnswersLanes (setup_of tenants age) sends files journal from left before after
+
+-- The words name tenants, and answering the lines of the input at once for them failed.
+pub record FailsInAnswering (words : List Text) (files : FileClaims) (why : Cause) (from left : Option (List ℕ)) (reading : Reading)
+    (before after : Option (List ℕ)) (writing : WriterCalls) : Type 0 where
+  pub tenants : Table
+  pub age : ℕ
+  pub sends : ℕ
+  pub journal : Option Text
+  pub asked : AskForAnswers words tenants age sends journal
+  pub failed : AnsweringFailsBy (setup_of tenants age) sends files journal why from left reading before after writing
+
+-- The words name tenants and a path. To this path the journal of no step was written, or this and then the journal of what was
+-- answered, and nothing else.
+pub record WritesAnswered (words : List Text) (files : FileClaims) (from : Option (List ℕ)) : Type 0 where
+  pub tenants : Table
+  pub age : ℕ
+  pub sends : ℕ
+  pub path : Text
+  pub asked : AskForAnswers words tenants age sends (Some path)
+  pub written : WritesJournals (setup_of tenants age) sends files path from
+
 -- No file was written, or the journal that the words ask for was.
 abbrev pub LeavesFiles : List Text → FileClaims → Option (List ℕ) → Option (List ℕ) → Type 0
-LeavesFiles words files from left = files.same ⊎ WritesJournal words files from left
+LeavesFiles words files from left =
+    files.same ⊎ (WritesJournal words files from left ⊎ WritesAnswered words files from)
 
 -- ---- a journal is audited
 
@@ -171,14 +214,15 @@ pub record RefusesJournal (words : List Text) (files : FileClaims) (text : Text)
 
 -- ---- how the program ends
 
--- All is well: the words ask for a text, which was written, or for steps, which were answered, or for lines to be served,
--- which they were, or for an audit, which found no difference. A tenant differs: the words ask for an audit, which found
+-- All is well: the words ask for a text, which was written, or for steps, which were answered, or for lines to be served or
+-- answered at once, which they were, or for an audit, which found no difference. A tenant differs: the words ask for an audit, which found
 -- that.
 abbrev pub EndsAs : End → List Text → FileClaims → Option (List ℕ) → Option (List ℕ) → Option (List ℕ) → Option (List ℕ) → Type 0
 EndsAs end.Well words files from left before after =
     ShowsText words from left before after
     ⊎ (ServesSteps words from left before after
-    ⊎ (ServesInput words files from left before after ⊎ Audits words files end.Well from left before after))
+    ⊎ (ServesInput words files from left before after
+    ⊎ (AnswersAtOnce words files from left before after ⊎ Audits words files end.Well from left before after)))
 EndsAs end.Differs words files from left before after = Audits words files end.Differs from left before after
 
 -- What was done before the program failed by this: nothing yet, or a part of what the words ask for.
@@ -188,7 +232,8 @@ FailsBy words files why from left reading before after writing =
     FailsEarly words why from left before after writing
     ⊎ (FailsInSteps words why from left reading before after writing
     ⊎ (FailsInServing words files why from left reading before after writing
-    ⊎ FailsInAudit words files why from left before after writing))
+    ⊎ (FailsInAnswering words files why from left reading before after writing
+    ⊎ FailsInAudit words files why from left before after writing)))
 
 -- Why a text isn't shown, or steps aren't taken.
 abbrev pub IsStreamFault : List Text → ProgramFault → Option (List ℕ) → Option (List ℕ) → Reading → Option (List ℕ) → Option (List ℕ)
@@ -207,6 +252,15 @@ IsServingFault words files (fault.Failed why) from left reading before after wri
 IsServingFault words files (fault.Refused text) from left reading before after writing =
     AreRefusedBy words (string_bytes text) × Keeps from left × Keeps before after × files.same
 IsServingFault words files (fault.NoJournal text) from left reading before after writing = ⊥
+
+-- Why lines aren't answered at once.
+abbrev pub IsAnsweringFault : List Text → FileClaims → ProgramFault → Option (List ℕ) → Option (List ℕ) → Reading → Option (List ℕ)
+    → Option (List ℕ) → WriterCalls → Type 0
+IsAnsweringFault words files (fault.Failed why) from left reading before after writing =
+    FailsEarly words why from left before after writing ⊎ FailsInAnswering words files why from left reading before after writing
+IsAnsweringFault words files (fault.Refused text) from left reading before after writing =
+    AreRefusedBy words (string_bytes text) × Keeps from left × Keeps before after × files.same
+IsAnsweringFault words files (fault.NoJournal text) from left reading before after writing = ⊥
 
 -- Why the program doesn't do what the words ask for. If the words are refused, nothing was read and nothing written, also no file.
 abbrev pub IsFaultOf : List Text → FileClaims → ProgramFault → Option (List ℕ) → Option (List ℕ) → Reading → Option (List ℕ)

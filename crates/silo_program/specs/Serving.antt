@@ -37,12 +37,16 @@ LeavesOutcome setup from left outcome = IfSome from (λ input. IsServed setup in
 abbrev pub outcome_text : Outcome → List ℕ
 outcome_text outcome = served_text outcome.refusals outcome.answers outcome.silo.whole.replies
 
+-- In the journal of the silo no tenant differs from its machine.
+abbrev pub HasNoDifference : History → Type 0
+HasNoDifference silo = (tenant : List ℕ) → IsFirstDifference kinds (journal_of silo) tenant None
+
 -- The journal of the silo was written to the path, once and nothing else. The file at the path may have it, and in it no
 -- tenant differs from its machine.
 pub record HoldsJournal (files : FileClaims) (path : List ℕ) (silo : History) : Type 0 where
   pub written : files.written path (journal_text (journal_of silo))
   pub held : files.may_hold path (journal_text (journal_of silo))
-  pub no_difference : (tenant : List ℕ) → IsFirstDifference kinds (journal_of silo) tenant None
+  pub no_difference : HasNoDifference silo
 
 -- the same, if a path is given
 abbrev pub KeepsJournal : FileClaims → Option (List ℕ) → History → Type 0

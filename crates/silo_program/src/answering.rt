@@ -1,16 +1,27 @@
 //! Answering each line of an input before the next is read, and keeping the journal.
 
+ghost use Rattle.std.specs.Prelude.{◌≡◌, ◌≢◌, ◌⊎◌, [], false, ℕ, IfOk, IfErr, IfSome, OnOk, option_map};
+ghost use Rattle.std.specs.FinMap.{entries};
+ghost use Rattle.grain_kinds.specs.Kinds.{kinds};
+ghost use Rattle.silo_model.specs.Opening.{opening};
+ghost use Rattle.line_protocol.specs.Reading.{IsFresh};
+ghost use Rattle.line_answer.specs.Runs.{AnswersAll, KeepsSetup, StopsBy};
+ghost use Rattle.line_service.specs.Serving.{setup_of};
+ghost use Rattle.silo_program.specs.Files.{claims};
+ghost use Rattle.silo_program.specs.Serving.{KeepsJournal, MayFailAt, WritesAtMost};
+ghost use Rattle.silo_program.specs.Answering.{AnsweringFailsBy, AnswersLanes, EndsBy, WritesJournalsAtMost};
+
 use crate::failure::{Cause, cause_of};
-use crate::files::{FileFault, WholeFiles};
+use crate::files::WholeFiles;
+use crate::journals::keep_journal;
 use grain_kinds::Kinds;
 use grain_storage::MemoryStorage;
 use line_answer::{AnsweringSilo, answer_lines};
-use line_protocol::{Input, Output};
+use line_protocol::{Input, LineFault, Output};
 use silo_core::{Setup, Silo};
 use std::alloc::{AllocError, Global};
 use std::io::{Read, Write};
 use std::mem;
-use tenant_audit::write_journal;
 use tenant_gate::{Age, TenantTable};
 
 /// A silo of the kinds `counter`, `sheet` and `relay`, over no rows.
@@ -18,7 +29,12 @@ fn new_silo(
     alloc: Global,
     tenants: TenantTable,
     age: Age,
-) -> Result<AnsweringSilo<MemoryStorage, Kinds>, AllocError> {
+) -> Result<AnsweringSilo<MemoryStorage, Kinds>, AllocError>
+    ensures setup { IfOk result (λ s. s.history.setup ≡ setup_of tenants age) }
+    ensures opening { IfOk result (λ s. (s.history.whole ≡ opening (setup_of tenants age)) × (s.history.journal ≡ [])) }
+    ensures failures { IfOk result (λ s. s.history.failures ≡ record { at_opening = 0; now = 0 }) }
+    ensures ready { IfOk result (λ s. s.stopped ≡ false) }
+{
     AnsweringSilo::new(
         alloc,
         Setup {
@@ -30,23 +46,62 @@ fn new_silo(
     )
 }
 
-/// Writes the silo's journal to the file at the path, if there is a path.
-fn keep_journal<F: WholeFiles>(
+/// Answers each line of the input before the next is read, with at most so many deliveries behind it. What was written goes
+/// out, also what was written before a fault.
+fn answer_reader<R: Read, W: Write>(
+    alloc: Global,
+    silo: &mut AnsweringSilo<MemoryStorage, Kinds>,
+    sends: u64,
+    input: &mut Input<R>,
+    output: &mut Output<W>,
+) -> Result<(), LineFault>
+    requires ready { silo.old.stopped ≡ false }
+    requires fresh { IsFresh input.old.lines }
+    ensures answered { OnOk result (IfSome (R.remaining input.old.reader) (λ bytes. (count : ℕ)
+        × AnswersAll kinds sends bytes count silo.old.history silo.new.history (R.remaining input.new.reader)
+        (W.contents output.old.writer) (W.contents output.new.writer))) }
+    ensures stopped { IfErr result (λ why. IfSome (R.remaining input.old.reader) (λ bytes.
+        StopsBy kinds sends bytes input.new.lines (R.remaining input.new.reader) output.new.calls silo.old.history silo.new.history
+        (W.contents output.old.writer) (W.contents output.new.writer) why)) }
+    ensures setup { OnOk result (silo.new.history.setup ≡ silo.old.history.setup) }
+    ensures kept { IfErr result (λ why. KeepsSetup why silo.old.history silo.new.history) }
+    ensures unfailed { OnOk result (output.new.calls.failed ≡ output.old.calls.failed) }
+    ensures failures { silo.new.history.failures.now ≡ 0 }
+{
+    let done = answer_lines(alloc, input, output, silo, sends);
+    // For the proof: a storage in memory never fails.
+    let _ = silo.silo().storage();
+    match done {
+        Ok(_) => Ok(()),
+        Err(why) => {
+            let _ = output.writer.flush();
+            Err(why)
+        }
+    }
+}
+
+/// Keeps the journal of a silo whose lines were answered up to a fault, and gives the cause of this end.
+fn keep_after<F: WholeFiles>(
     alloc: Global,
     files: &mut F,
     journal: Option<&str>,
     silo: &Silo<MemoryStorage, Kinds>,
-) -> Result<(), Cause> {
-    let Some(path) = journal else {
-        return Ok(());
-    };
-    let Ok(text) = write_journal(alloc, silo) else {
-        return Err(Cause::Memory);
-    };
-    match files.write_whole(alloc, path, text.as_slice()) {
-        Ok(()) => Ok(()),
-        Err(FileFault::Memory) => Err(Cause::Memory),
-        Err(FileFault::Failed) => Err(Cause::Write),
+    why: LineFault,
+) -> Cause
+    requires { why ≢ LineFault.Memory → entries silo.now.setup.rows ≡ [] }
+    ensures ends { EndsBy why (KeepsJournal (claims F.may_hold F.may_fail F.may_leave files.old files.new)
+        (option_map (λ path. path.now) journal.entry) silo.now
+        ⊎ MayFailAt (F.may_fail files.old) (option_map (λ path. path.now) journal.entry)) result }
+    ensures alone { WritesAtMost (claims F.may_hold F.may_fail F.may_leave files.old files.new)
+        (option_map (λ path. path.now) journal.entry) silo.now }
+    ensures unwritten { why ≡ LineFault.Memory → files.new ≡ files.old }
+{
+    if matches!(why, LineFault::Memory) {
+        return Cause::Memory;
+    }
+    match keep_journal(alloc, files, journal, silo) {
+        Err(Cause::Memory) => Cause::Memory,
+        _ => cause_of(why),
     }
 }
 
@@ -56,8 +111,9 @@ fn keep_journal<F: WholeFiles>(
 ///
 /// # Errors
 ///
-/// `Write` if the first journal wasn't written, and then nothing is read. Those of `answer_lines`; and then `Write` if the
-/// journal wasn't written, or `Memory`.
+/// `Write` if the first journal wasn't written, and then nothing is read. Those of `answer_lines`, and then the whole journal
+/// was written, or a call at its path failed. `Write` if all was answered and the whole journal wasn't written. `Memory` at
+/// any time, and then the whole journal may not be written.
 pub fn answer_input<F: WholeFiles, R: Read, W: Write>(
     alloc: Global,
     tenants: TenantTable,
@@ -67,22 +123,42 @@ pub fn answer_input<F: WholeFiles, R: Read, W: Write>(
     files: &mut F,
     input: &mut Input<R>,
     output: &mut Output<W>,
-) -> Result<(), Cause> {
+) -> Result<(), Cause>
+    requires fresh { IsFresh input.old.lines }
+    ensures answered { OnOk result (AnswersLanes (setup_of tenants age) sends
+        (claims F.may_hold F.may_fail F.may_leave files.old files.new) (option_map (λ path. path.now) journal.entry)
+        (R.remaining input.old.reader) (R.remaining input.new.reader) (W.contents output.old.writer) (W.contents output.new.writer)) }
+    ensures unfailed { OnOk result (output.new.calls.failed ≡ output.old.calls.failed) }
+    ensures fault { IfErr result (λ why. AnsweringFailsBy (setup_of tenants age) sends
+        (claims F.may_hold F.may_fail F.may_leave files.old files.new) (option_map (λ path. path.now) journal.entry) why
+        (R.remaining input.old.reader) (R.remaining input.new.reader) input.new.lines
+        (W.contents output.old.writer) (W.contents output.new.writer) output.new.calls) }
+
+    // In every outcome.
+    ensures journal { WritesJournalsAtMost (setup_of tenants age) sends
+        (claims F.may_hold F.may_fail F.may_leave files.old files.new) (option_map (λ path. path.now) journal.entry)
+        (R.remaining input.old.reader) }
+{
     let Ok(mut silo) = new_silo(alloc, tenants, age) else {
         return Err(Cause::Memory);
     };
-    keep_journal(alloc, files, journal, silo.silo())?;
-    let done = answer_lines(alloc, input, output, &mut silo, sends);
-    if done.is_err() {
-        // What was written goes out, also what was written before a fault.
-        let _ = output.writer.flush();
+    let first = keep_journal(alloc, files, journal, silo.silo());
+    if let Err(why) = first {
+        drop(silo);
+        return Err(why);
     }
-    let kept = keep_journal(alloc, files, journal, silo.silo());
+    match answer_reader(alloc, &mut silo, sends, input, output) {
+        Ok(()) => {
+            let kept = keep_journal(alloc, files, journal, silo.silo());
 
-    // The process ends soon, and gives all of its memory back at once.
-    mem::forget(silo);
-    match done {
-        Ok(_) => kept,
-        Err(why) => Err(cause_of(why)),
+            // The process ends soon, and gives all of its memory back at once.
+            mem::forget(silo);
+            kept
+        }
+        Err(why) => {
+            let cause = keep_after(alloc, files, journal, silo.silo(), why);
+            mem::forget(silo);
+            Err(cause)
+        }
     }
 }

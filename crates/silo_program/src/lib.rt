@@ -2,8 +2,9 @@
 //!
 //! A layer above may rely on this: `run_program` does what the words ask for, and says by its answer what the exit status
 //! is, and by its contract what was read, written and told. The crate `silo_words` reads the words, the tenant arguments
-//! among them. Here `stepping` takes the steps of an input, `serving` serves its lines by threads, `auditing` audits a
-//! journal, and `files` is what the program knows of files. How the program ends stands in `specs/Ends.antt`.
+//! among them. Here `stepping` takes the steps of an input, `answering` answers its lines at once, `serving` serves them by
+//! threads, `journals` keeps the journal in a file, `auditing` audits one, and `files` is what the program knows of files.
+//! How the program ends stands in `specs/Ends.antt`.
 #![tactic(auto)]
 
 mod answering;
@@ -11,6 +12,7 @@ mod auditing;
 mod failure;
 mod files;
 mod host_files;
+mod journals;
 mod program;
 mod serving;
 mod stepping;

@@ -4,12 +4,12 @@ ghost use Rattle.std.specs.Prelude.{◌≡◌, ◌≤◌, ◌⊎◌, List, ℕ, 
 ghost use Rattle.std.specs.Io.KnownBytes.{Appends, Keeps};
 ghost use Rattle.clap.specs.Words.{Text};
 ghost use Rattle.line_protocol.specs.Reading.{IsFresh, Reading};
-ghost use Rattle.silo_words.specs.Words.{AskForServing, AskForSteps, IsWhy, texts_of};
+ghost use Rattle.silo_words.specs.Words.{AskForAnswering, AskForServing, AskForSteps, IsWhy, texts_of};
 ghost use Rattle.silo_program.specs.Status.{IsTenantsFault, failure_text};
 ghost use Rattle.silo_program.specs.Streams.{BreaksOff, Tells};
 ghost use Rattle.silo_program.specs.Files.{claims};
-ghost use Rattle.silo_program.specs.Ends.{AreRefusedBy, AskForJournal, EndsAs, FailsBy, IsFaultOf, IsServingFault, IsStreamFault};
-ghost use Rattle.silo_program.specs.Ends.{LeavesFiles, RefusesJournal, ServesInput, ServesSteps, ShowsText};
+ghost use Rattle.silo_program.specs.Ends.{AnswersAtOnce, AreRefusedBy, AskForJournal, EndsAs, FailsBy, IsAnsweringFault, IsFaultOf};
+ghost use Rattle.silo_program.specs.Ends.{IsServingFault, IsStreamFault, LeavesFiles, RefusesJournal, ServesInput, ServesSteps, ShowsText};
 
 use crate::answering::answer_input;
 use crate::auditing::audit_file;
@@ -114,14 +114,28 @@ fn answer_tenants<F: WholeFiles, R: Read, W: Write>(
     files: &mut F,
     input: &mut Input<R>,
     output: &mut Output<W>,
-) -> Result<End, ProgramFault> {
+) -> Result<End, ProgramFault>
+    requires fresh { IsFresh input.old.lines }
+    ensures ended { (words : List Text) → AskForAnswering words age sends (option_map (λ path. path.now) journal.entry)
+        (map (λ text. text.now) arguments.now)
+        → IfOk result (λ end. (end ≡ End.Well) × AnswersAtOnce words (claims F.may_hold F.may_fail F.may_leave files.old files.new)
+        (R.remaining input.old.reader) (R.remaining input.new.reader) (W.contents output.old.writer) (W.contents output.new.writer)) }
+    ensures unfailed { OnOk result (output.new.calls.failed ≡ output.old.calls.failed) }
+    ensures fault { (words : List Text) → AskForAnswering words age sends (option_map (λ path. path.now) journal.entry)
+        (map (λ text. text.now) arguments.now)
+        → IfErr result (λ why. IsAnsweringFault words (claims F.may_hold F.may_fail F.may_leave files.old files.new) why
+        (R.remaining input.old.reader) (R.remaining input.new.reader) input.new.lines
+        (W.contents output.old.writer) (W.contents output.new.writer) output.new.calls) }
+    ensures journal { (words : List Text) → AskForAnswering words age sends (option_map (λ path. path.now) journal.entry)
+        (map (λ text. text.now) arguments.now)
+        → LeavesFiles words (claims F.may_hold F.may_fail F.may_leave files.old files.new)
+        (R.remaining input.old.reader) (R.remaining input.new.reader) }
+{
     let tenants = match read_tenants(alloc, arguments) {
         Ok(tenants) => tenants,
-        Err(why) => return Err(explain_tenants(alloc, why)),
+        Err(reason) => return Err(explain_tenants(alloc, reason)),
     };
-    match answer_input(
-        alloc, tenants, age, sends, journal, files, input, output,
-    ) {
+    match answer_input(alloc, tenants, age, sends, journal, files, input, output) {
         Ok(()) => Ok(End::Well),
         Err(why) => Err(ProgramFault::Failed(why)),
     }
@@ -280,6 +294,7 @@ pub fn run_program<
         (R.remaining input.old.reader) (R.remaining input.new.reader) (W.contents output.old.writer) (W.contents output.new.writer) }
 
     // In every outcome no file was written, or the journal of what was served was: once, and to the path that was asked for.
+    // Of lines that are answered at once it is that of no step, and then perhaps that of what was answered.
     ensures journal { LeavesFiles (texts_of words.now) (claims F.may_hold F.may_fail F.may_leave files.old files.new)
         (R.remaining input.old.reader) (R.remaining input.new.reader) }
     ensures files { ((path : Text) → ¬ AskForJournal (texts_of words.now) path) → files.new ≡ files.old }

@@ -5,19 +5,17 @@ ghost use Rattle.std.specs.FinMap.{entries};
 ghost use Rattle.line_protocol.specs.Reading.{IsFresh};
 ghost use Rattle.line_service.specs.Serving.{IsServed, StopsServing, setup_of};
 ghost use Rattle.silo_program.specs.Files.{claims};
-ghost use Rattle.silo_program.specs.Serving.{IsKeepingCause, KeepsJournal, ServesLanes, ServingFailsBy};
-ghost use Rattle.silo_program.specs.Serving.{WritesAtMost, WritesJournalAtMost, service_cause};
+ghost use Rattle.silo_program.specs.Serving.{ServesLanes, ServingFailsBy, WritesJournalAtMost, service_cause};
 
 use crate::failure::{Cause, cause_of};
-use crate::files::{FileFault, WholeFiles};
+use crate::files::WholeFiles;
+use crate::journals::keep_journal;
 use line_protocol::{Input, Output};
 use line_service::{ServedInput, ServiceFault, serve_input, write_served};
-use std::alloc::Global;
 use std::io::{Read, Write};
 use std::mem;
 use std::sync::Wait;
 use std::thread::Threads;
-use tenant_audit::write_journal;
 use tenant_gate::{Age, TenantTable};
 use worker_host::TurnGate;
 
@@ -50,33 +48,6 @@ fn serve_reader<H: AllocGlobal + Threads + Wait + Sync, R: Read, G: TurnGate + S
     ensures fault { IfErr result (λ why. StopsServing why (R.remaining input.old.reader) input.new.lines.calls) }
 {
     serve_input(rt, workers, tenants, age, input, gate)
-}
-
-/// Writes the journal of what was served to the file at the path, if there is a path.
-fn keep_journal<F: WholeFiles>(
-    alloc: Global,
-    files: &mut F,
-    journal: Option<&str>,
-    served: &ServedInput,
-) -> Result<(), Cause>
-    requires { entries served.now.report.silo.setup.rows ≡ [] }
-    ensures kept { OnOk result (KeepsJournal (claims F.may_hold F.may_fail F.may_leave files.old files.new)
-        (option_map (λ path. path.now) journal.entry) served.now.report.silo) }
-    ensures alone { WritesAtMost (claims F.may_hold F.may_fail F.may_leave files.old files.new)
-        (option_map (λ path. path.now) journal.entry) served.now.report.silo }
-    ensures fault { IfErr result (λ why. IsKeepingCause (F.may_fail files.old) (option_map (λ path. path.now) journal.entry) why) }
-{
-    let Some(path) = journal else {
-        return Ok(());
-    };
-    let Ok(text) = write_journal(alloc, &served.report.silo) else {
-        return Err(Cause::Memory);
-    };
-    match files.write_whole(alloc, path, text.as_slice()) {
-        Ok(()) => Ok(()),
-        Err(FileFault::Memory) => Err(Cause::Memory),
-        Err(FileFault::Failed) => Err(Cause::Write),
-    }
 }
 
 /// Reads all lines of the input and serves them by so many threads, 1 to 64, over no rows; writes the
@@ -126,7 +97,7 @@ pub fn serve_lines<
         Ok(served) => served,
         Err(fault) => return Err(cause_of_service(fault)),
     };
-    let kept = keep_journal(alloc, files, journal, &served);
+    let kept = keep_journal(alloc, files, journal, &served.report.silo);
     match kept {
         Err(why) => {
             drop(served);
