@@ -25,6 +25,9 @@ const CHANGED: &str =
 const CUT: &str =
     "silo-journal 1\nage 900000\ntenant red 2 4\ncall red/c1 1 counter/red:a 01000000036164640600000001000000026279030000000000000003\nactivate counter/red:a\nload counter/red:a ok\nbegin counter/red:a\nend counter/red:a 1\nreply red/c1 1 ok 030000000000000003\n";
 
+/// The journal of no call.
+const EMPTY: &str = "silo-journal 1\nage 900000\ntenant red 2 4\nclose 0\n";
+
 /// A run of the program: its words, with the program's name first; the input; and what the file at `j` has before it.
 /// Then its status, and what the file, the output and the errors have after it.
 type Run = (
@@ -37,7 +40,7 @@ type Run = (
     &'static str,
 );
 
-static RUNS: [Run; 8] = [
+static RUNS: [Run; 13] = [
     (
         &[
             "silo",
@@ -75,6 +78,51 @@ static RUNS: [Run; 8] = [
     ),
     (
         &["silo", "serve", "--journal", "j", "red:0:4"],
+        CALL,
+        "old",
+        2,
+        "old",
+        "",
+        "silo: tenant argument 1 is refused\n",
+    ),
+    (
+        &["silo", "answer", "--journal", "j", "red:2:4"],
+        CALL,
+        "old",
+        0,
+        JOURNAL,
+        ANSWER,
+        "",
+    ),
+    (
+        &["silo", "answer", "--sends", "0", "red:2:4"],
+        CALL,
+        "old",
+        0,
+        "old",
+        ANSWER,
+        "",
+    ),
+    (
+        &["silo", "answer", "--journal", "j", "red:2:4"],
+        "",
+        "old",
+        0,
+        EMPTY,
+        "",
+        "",
+    ),
+    (
+        &["silo", "answer", "--journal", "k", "red:2:4"],
+        CALL,
+        "old",
+        1,
+        "old",
+        "",
+        "silo: writing failed\n",
+    ),
+    (
+        &["silo", "answer", "--journal", "j", "red:0:4"],
         CALL,
         "old",
         2,
