@@ -5,7 +5,7 @@
 
 from __future__ import annotations
 
-from .rows import Row
+from .row import Row
 from .short_lines import (A, B, BLUE, BLUE_A, NOT_A_REQUEST, NOT_NOW, SWEEP, at, begin, call, line, no, ok, poke, seen,
                           status, text, tick, told)
 
@@ -64,6 +64,10 @@ ANSWERED = [
             *FIRST, "call red/c1 1 counter/red:a 010000000367657400", "activate counter/red:a", "load counter/red:a ok",
             "begin counter/red:a", "end counter/red:a 1", "reply red/c1 1 ok 030000000000000000", "close 5"])}),
     Row("deliveries are from 0 to 1,000,000", ["answer", "--sends", "1000001", "red:2:4"], [], [], status=2),
+    Row("deliveries are told without a sign", ["answer", "--sends", "+5", "red:2:4"], call(1, A, "get"), [], status=2,
+        errors="error: the words are out of range"),
+    Row("deliveries are told without zeros before other digits", ["answer", "--sends", "05", "red:2:4"],
+        call(1, A, "get"), [], status=2, errors="error: the words are out of range"),
     Row("a tenant argument that is refused", ["answer", "red"], call(1, A, "get"), [], status=2,
         errors="silo: tenant argument 1 is refused"),
 ]

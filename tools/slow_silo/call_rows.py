@@ -15,7 +15,8 @@ from .lines import ReaderFailed, WriterFailed, read_line, run_lines
 from .machine import Limits
 from .names import read_caller, read_grain
 from .program import DEFAULT_AGE, run_program, tenants_of
-from .rows import FIRST_CALL, LANES, OVERWRITTEN, ROWS, Row
+from .row import Row
+from .rows import FIRST_CALL, LANES, OVERWRITTEN, ROWS
 from .serve import Lane, are_distinct, lanes_of, serve
 from .short_lines import A, BLUE, NOT_NOW, RED, at, begin, call, no, ok, run, save, text, up
 from .silo import DONE, FAILED, Setup, Silo

@@ -53,10 +53,14 @@ def is_decimal(text: str, most: int) -> bool:
     return not text.startswith("0") and is_number(text, most)
 
 
-def is_option_number(text: str, most: int, least: int = 1) -> bool:
+def is_option_number(text: str, most: int) -> bool:
     """As the reader of arguments takes a number: a plus sign and zeros may stand before it."""
-    digits = text[1:] if text.startswith("+") else text
-    return is_number(digits, most) or (least == 0 and digits != "" and digits.strip("0") == "")
+    return is_number(text[1:] if text.startswith("+") else text, most)
+
+
+def is_sends(text: str) -> bool:
+    """Digits of a number from 0 on, without a sign or a leading zero."""
+    return text == "0" or is_decimal(text, MAX_SENDS)
 
 
 def tenant_of(word: str) -> Optional[tuple[str, Limits]]:
@@ -83,7 +87,7 @@ def tenants_of(words: list[str]) -> tuple[tuple[str, Limits], ...]:
 IS_AGE = ("--age", lambda text: is_option_number(text, MAX_AGE))
 IS_WORKERS = ("--workers", lambda text: is_option_number(text, MAX_WORKERS))
 IS_PATH = ("--journal", lambda text: True)
-IS_SENDS = ("--sends", lambda text: is_option_number(text, MAX_SENDS, 0))
+IS_SENDS = ("--sends", is_sends)
 OPTIONS = {
     "steps": dict([IS_AGE]),
     "answer": dict([IS_AGE, IS_SENDS, IS_PATH]),

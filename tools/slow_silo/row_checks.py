@@ -4,10 +4,10 @@ from __future__ import annotations
 
 from typing import Optional
 
-from .answer_rows import ANSWERED
 from .call_rows import CALL_ROWS
 from .program import run_program
-from .rows import ROWS, Row
+from .row import Row
+from .rows import ROWS
 
 
 def input_of(row: Row) -> bytes:
@@ -45,7 +45,7 @@ def call_difference(check) -> Optional[str]:
 def main() -> int:
     """Prints each row that differs, and last 'N passed, M failed'."""
     passed = failed = 0
-    checks = [(row.name, difference, row) for row in [*ROWS, *ANSWERED]]
+    checks = [(row.name, difference, row) for row in ROWS]
     checks += [(check.__name__.replace("_", " "), call_difference, check) for check in CALL_ROWS]
     for name, run, row in checks:
         what = run(row)

@@ -3,27 +3,13 @@
 from __future__ import annotations
 
 import json
-from typing import NamedTuple
 
+from .answer_rows import ANSWERED
+from .row import Row
 from .short_lines import (A, B, BLUE, BLUE_A, LINE_TOO_LONG, NOT_A_REQUEST, NOT_NOW, RELAY, SHEET, SWEEP, at,
                           begin, call, end, no, ok, poke, run, save, seen, status, text, tick, told, up)
 
 TWO_TENANTS = ["red:2:4", "blue:2:4"]
-
-
-class Row(NamedTuple):
-    name: str
-    words: list
-    # standard input, in lines without LF
-    lines: list
-    # standard output, likewise
-    out: list
-    status: int = 0
-    errors: str = ""
-    # the files before, and those that are looked at after, by their paths
-    files: dict = {}
-    files_after: dict = {}
-
 
 # ---- one counter
 
@@ -432,4 +418,4 @@ JOURNALS = [
     refused_at("a step after a reply", text(JOURNAL[:9] + [f"begin {A}"]), 10),
 ]
 
-ROWS = [*COUNTERS, *STORAGE, *OTHER_KINDS, *TENANTS, *CLOCK, *LINES, *WORDS, *LANES, *JOURNALS]
+ROWS = [*COUNTERS, *STORAGE, *OTHER_KINDS, *TENANTS, *CLOCK, *LINES, *WORDS, *LANES, *JOURNALS, *ANSWERED]
