@@ -4,11 +4,13 @@ use Rattle.std.specs.Prelude.{string_bytes}
 use Rattle.clap.specs.Words.{Text}
 use Rattle.line_protocol.specs.Reading.{Reading}
 use Rattle.line_protocol.specs.declared.written.WriterCalls.{WriterCalls}
-use Rattle.silo_program.specs.Ends.{AreRefusedBy, FailsBy, IsFaultOf}
+use Rattle.silo_program.specs.Ends.{AreRefusedBy, EndsAs, FailsBy, IsFaultOf}
 use Rattle.silo_program.specs.Files.{FileClaims}
-use Rattle.silo_program.specs.Status.{failure_text, status_of, told_text}
+use Rattle.silo_program.specs.Status.{end_status, failure_text, status_of, told_text}
 use Rattle.silo_program.specs.Streams.{Tells}
 use Rattle.silo_program.specs.declared.failure.Cause.{Cause}
+use Rattle.silo_program.specs.declared.failure.End.{End}
+use Rattle.silo_program.specs.declared.failure.End.TheVariants as end
 use Rattle.silo_program.specs.declared.failure.ProgramFault.{ProgramFault}
 use Rattle.silo_program.specs.declared.failure.ProgramFault.TheVariants as fault
 
@@ -26,3 +28,8 @@ module _ (words : List Text) (files : FileClaims) (from left : Option (List ℕ)
   refused_by (fault.Failed why) two is tells = absurd (cc (two))
   refused_by (fault.Refused text) two is tells = (string_bytes text, is.0, tells)
   refused_by (fault.NoJournal text) two is tells = absurd (cc (two))
+
+-- with status 0 all is well
+pub ends_well : (how : End) (words : List Text) (files : FileClaims) (from left before after : Option (List ℕ)) → end_status how ≡ 0 → EndsAs how words files from left before after → EndsAs end.Well words files from left before after
+ends_well end.Well words files from left before after zero is = is
+ends_well end.Differs words files from left before after zero is = absurd (cc (zero))

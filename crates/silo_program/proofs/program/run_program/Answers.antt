@@ -1,5 +1,5 @@
 use Rattle.std.proofs.Common.{◌∙◌, sym}
-use Rattle.silo_program.proofs.FaultLemmas.{failed_by, refused_by}
+use Rattle.silo_program.proofs.FaultLemmas.{ends_well, failed_by, refused_by}
 use Rattle.silo_program.proofs.ServingLemmas.{untouched}
 use Rattle.silo_program.proofs.program.run_program.Goals as goal
 
@@ -14,3 +14,6 @@ returns-in-Err-clause-failed g c one = failed_by _ _ _ _ _ _ _ _ _ _ _ c.in-Err.
 
 pub returns-in-Err-clause-refused : goal.returns-in-Err-clause-refused
 returns-in-Err-clause-refused g c two = refused_by _ _ _ _ _ _ _ _ _ _ _ c.in-Err.fault (sym c.tell.ensures.status ∙ two) c.in-Err.ensures.fault c.tell.ensures.told
+
+pub returns-in-Ok-clause-well : goal.returns-in-Ok-clause-well
+returns-in-Ok-clause-well g c zero = ends_well c.in-Ok.end _ _ _ _ _ _ (sym c.status_of_end.ensures ∙ zero) c.in-Ok.ensures.ended
