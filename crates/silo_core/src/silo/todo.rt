@@ -1,5 +1,5 @@
 //! What there is to do in a silo. Each of these is a walk over what the silo holds;
-//! `worker_host::WorkingSilo` tells the same without one.
+//! `worker_host` finds it by hints, and looks once at the end.
 
 ghost use Rattle.std.specs.Prelude.{◌≡◌, ◌↔◌, IfOk, IsTrue};
 ghost use Rattle.silo_model.specs.Pending.{AllQuiet, has_pending};
