@@ -13,7 +13,8 @@ OwnBefore from steps place = (k : ℕ) (other : Step) → k < place → may_give
 
 -- At this place, from 0, the lane may not give the step, and it may give each before.
 abbrev pub IsFirstAt : Option Client → List Step → ℕ → Type 0
-IsFirstAt from steps place = (place < length steps) × ((other : Step) → may_give from (slice_index_or steps place other) ≡ false) × OwnBefore from steps place
+IsFirstAt from steps place = (place < length steps) × ((other : Step) → may_give from (slice_index_or steps place other) ≡ false)
+    × OwnBefore from steps place
 
 -- what a fault says of the steps
 abbrev pub IsFirstForeign : Option Client → List Step → LaneFault → Type 0

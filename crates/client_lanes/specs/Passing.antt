@@ -19,7 +19,8 @@ left_in left = from_entries (map_list (λ e. (e.0, steps_at e.1)) left.entries)
 
 -- If the step was the next of the lane that gives it, or if no lane does, the rest is left after it; otherwise there is none.
 abbrev pub TakesBy : Remaining → Option (Option Client) → Step → Bool → Remaining → Type 0
-TakesBy before giver s next after = (same : Step → Step → Bool) → TellsApart same → remaining_after same before s giver ≡ (if next then Some after else None)
+TakesBy before giver s next after = (same : Step → Step → Bool) → TellsApart same
+    → remaining_after same before s giver ≡ (if next then Some after else None)
 
 -- so it is of this lane
 abbrev pub Takes : Remaining → Option Client → Step → Bool → Remaining → Type 0

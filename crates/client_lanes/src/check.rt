@@ -4,7 +4,8 @@
 ghost use Rattle.std.specs.Prelude.{◌≡◌, ◌==◌, ◌↔◌, IsTrue, IfOk, Some, count_by, length};
 ghost use Rattle.indexmap.specs.IndexMap.{IsUnique, values};
 ghost use Rattle.std.specs.List.{list_all};
-ghost use Rattle.lane_model.specs.Lanes.{AreDistinct, LanesStand, done_steps_of, has_failed as failed_step, is_used_up, remaining_of, same_lane, without_ticks_below};
+ghost use Rattle.lane_model.specs.Lanes.{AreDistinct, LanesStand, done_steps_of, has_failed as failed_step, is_used_up, remaining_of};
+ghost use Rattle.lane_model.specs.Lanes.{same_lane, without_ticks_below};
 ghost use Rattle.client_lanes.specs.Passing.{Passes, Takes, left_in, steps_at};
 
 use crate::lane::Lane;

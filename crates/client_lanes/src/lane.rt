@@ -77,7 +77,8 @@ impl Lane {
     /// Out of memory: the lane is as before.
     pub fn push(&mut self, step: Step) -> Result<bool, AllocError>
         ensures given { IfOk result (λ given. given ≡ may_give self.old.from step) }
-        ensures added { OnOk result (self.new ≡ (if may_give self.old.from step then record self.old { steps = self.old.steps ++ step ∷ [] } else self.old)) }
+        ensures added { OnOk result (self.new ≡ (if may_give self.old.from step
+            then record self.old { steps = self.old.steps ++ step ∷ [] } else self.old)) }
         ensures unchanged { OnErr result (self.new ≡ self.old) }
     {
         if !may_give(&self.from, &step) {

@@ -27,7 +27,8 @@ pub fn answers(
     replies: &[Reply],
 ) -> Result<Vec<Vec<Reply>>, AllocError>
     requires { AreDistinct lanes.now }
-    ensures { IfOk result (λ answers. map_list (λ v. v.items) answers.items ≡ map_list (λ lane. replies_to lane.from replies.now) lanes.now) }
+    ensures { IfOk result (λ answers. map_list (λ v. v.items) answers.items
+        ≡ map_list (λ lane. replies_to lane.from replies.now) lanes.now) }
 {
     let mut told = told_by_client(alloc, replies)?;
     let mut answers = Vec::new(alloc);

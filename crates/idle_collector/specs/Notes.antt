@@ -20,7 +20,8 @@ pub record Collection : Type 0 where
   pub expected : Option Grain
 
 abbrev pub coded_collection : Coded Collection
-coded_collection = code_by (Notes × Option Grain) (coded× coded_notes (coded_option coded_grain)) (λ c. (c.notes, c.expected)) (λ p. record { notes = p.0; expected = p.1 }) (λ _. refl)
+coded_collection = code_by (Notes × Option Grain) (coded× coded_notes (coded_option coded_grain)) (λ c. (c.notes, c.expected))
+    (λ p. record { notes = p.0; expected = p.1 }) (λ _. refl)
 
 -- the grain is due from then on
 abbrev pub noted : Notes → Grain → ℕ → Notes

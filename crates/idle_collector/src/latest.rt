@@ -43,7 +43,8 @@ pub fn put_by(
     filed: &mut ByMoment,
 ) -> Result<(), AllocError>
     requires { IsHeldApart latest.now grains.old.keys at.old filed.old }
-    ensures put { OnOk result (all_noted filed.new grains.new.keys at.new ≡ with_latest latest.now (all_noted filed.old grains.old.keys at.old)) }
+    ensures put { OnOk result (all_noted filed.new grains.new.keys at.new
+        ≡ with_latest latest.now (all_noted filed.old grains.old.keys at.old)) }
     ensures unchanged { OnErr result (all_noted filed.new grains.new.keys at.new ≡ all_noted filed.old grains.old.keys at.old) }
     ensures apart { AreApart grains.new.keys filed.new }
 {

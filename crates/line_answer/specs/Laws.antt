@@ -1,4 +1,5 @@
--- Laws of lines that are answered at once: a tenant can't tell from what it is shown whether anybody else asks, and each client is answered first.
+-- Laws of lines that are answered at once: a tenant can't tell from what it is shown whether anybody else asks, and each client is
+-- answered first.
 use Rattle.std.specs.Prelude.{◌≡◌, ℕ, true, List, [], ◌++◌, Some, Result, map}
 use Rattle.request_codec.specs.Tree.{Tree}
 use Rattle.grain_id.specs.Names.{Client}

@@ -38,10 +38,12 @@ pub record AnswersLines (logic : Logic) (n : ℕ) (old : History) (lines : List 
   pub tries : Tries logic old (all_steps (whole_stepper logic) n old.whole (asks_of heard)) new
   pub text_is : text ≡ lines_text (whole_stepper logic) n old.whole heard
   pub rests : AllRest new.whole.entries
-  pub own : (tenant : List ℕ) → shown_to tenant new.whole ≡ all_answered (machine_stepper logic) n (shown_to tenant old.whole) (asked_by tenant (asks_of heard))
+  pub own : (tenant : List ℕ) → shown_to tenant new.whole ≡ all_answered (machine_stepper logic) n (shown_to tenant old.whole)
+      (asked_by tenant (asks_of heard))
 
 -- All of the input was read, it has so many lines, each was answered, and what was written is their text and nothing else.
-pub record AnswersAll (logic : Logic) (n : ℕ) (input : List ℕ) (count : ℕ) (old new : History) (left before after : Option (List ℕ)) : Type 0 where
+pub record AnswersAll (logic : Logic) (n : ℕ) (input : List ℕ) (count : ℕ) (old new : History)
+    (left before after : Option (List ℕ)) : Type 0 where
   pub read : left ≡ Some []
   pub counted : count ≡ length (lines_of input)
   pub text : List ℕ
@@ -64,7 +66,8 @@ WritesOn logic n rest mid new during after =
     ⊎ ((l : List ℕ) × (others : List (List ℕ)) × (text : List ℕ) × (rest ≡ l ∷ others)
     × AnswersLine logic n mid (meaning_of l) new text × WrittenInPart during after text)
 
--- Why it stops, by its fault, and which line failed: as where steps are taken line by line. After `Memory` nothing of the failing line was written, and it isn't told what the silo holds of it.
+-- Why it stops, by its fault, and which line failed: as where steps are taken line by line. After `Memory` nothing of the failing line
+-- was written, and it isn't told what the silo holds of it.
 module _ (logic : Logic) (n : ℕ) (input : List ℕ) (reading : Reading) (left : Option (List ℕ)) (writing : WriterCalls) (old new : History)
     (before after : Option (List ℕ)) where
   abbrev pub StopsBy : LineFault → Type 0
@@ -74,7 +77,8 @@ module _ (logic : Logic) (n : ℕ) (input : List ℕ) (reading : Reading) (left 
       (p : AnswersBefore logic n (lines_of input) old new before after)
       × (IsFull p.done p.rest ⊎ ((reading.calls.made ≡ calls_limit) × AreTaken input left p.done))
   StopsBy fault.Memory =
-      (mid : History) × (p : AnswersBefore logic n (lines_of input) old mid before after) × AreTakenButOne input (left_of reading left) p.done
+      (mid : History) × (p : AnswersBefore logic n (lines_of input) old mid before after)
+      × AreTakenButOne input (left_of reading left) p.done
   StopsBy fault.Write =
       (mid : History) × (during : Option (List ℕ)) × (p : AnswersBefore logic n (lines_of input) old mid before during)
       × WritesOn logic n p.rest mid new during after × (writing.failed ≡ true)

@@ -18,7 +18,8 @@ abbrev pub failed_among : List Step → ℕ
 failed_among [] = 0
 failed_among (s ∷ steps) = (if has_failed s then 1 else 0) + failed_among steps
 
--- The steps were tried, and led from the old history to the new one: those that were done stand in the journal, and so many calls of the storage failed as have the mark.
+-- The steps were tried, and led from the old history to the new one: those that were done stand in the journal, and so many calls of the
+-- storage failed as have the mark.
 pub record Tries (logic : Logic) (old : History) (steps : List Step) (new : History) : Type 0 where
   pub setup : new.setup ≡ old.setup
   pub whole : new.whole ≡ whole_run logic old.whole steps
@@ -30,7 +31,8 @@ is_possible logic w s = is_some (whole_step logic w s)
 
 -- The step was possible, and was taken, with the mark of a failure if the storage failed; or it isn't possible, and nothing changed.
 abbrev pub TakesNow : Logic → History → Step → Bool → History → Type 0
-TakesNow logic old s true new = (failed : Bool) × Tries logic old (taken_by failed s ∷ []) new × (is_possible logic old.whole (taken_by failed s) ≡ true)
+TakesNow logic old s true new = (failed : Bool) × Tries logic old (taken_by failed s ∷ []) new
+    × (is_possible logic old.whole (taken_by failed s) ≡ true)
 TakesNow logic old s false new = (is_possible logic old.whole s ≡ false) × (new ≡ old)
 
 -- The first request that waits at the grain has this number.
@@ -45,7 +47,8 @@ pub record IsFirst (w : Whole) (grain : Grain) (number : ℕ) : Type 0 where
 -- A turn began, of the request of this number; or none can begin, and nothing changed.
 abbrev pub Begins : Logic → History → Grain → Option ℕ → History → Type 0
 Begins logic old grain None new = (is_possible logic old.whole (Begin grain) ≡ false) × (new ≡ old)
-Begins logic old grain (Some number) new = Tries logic old (Begin grain ∷ []) new × (is_possible logic old.whole (Begin grain) ≡ true) × IsFirst old.whole grain number
+Begins logic old grain (Some number) new = Tries logic old (Begin grain ∷ []) new × (is_possible logic old.whole (Begin grain) ≡ true)
+    × IsFirst old.whole grain number
 
 -- The step was taken and the request that it brought was served, with this luck; and whether the step was possible.
 abbrev pub Brings : Logic → History → Step → Option Grain → Bool → History → Type 0
@@ -57,11 +60,13 @@ Brings logic old s grain done new =
 abbrev pub IsOldest : Whole → List ℕ → Option (Grain × Grain) → Type 0
 IsOldest w tenant None = sends_of (map.get w.accounts tenant) ≡ []
 IsOldest w tenant (Some found) =
-    (oldest : Send) × (others : List Send) × (sends_of (map.get w.accounts tenant) ≡ oldest ∷ others) × (oldest.source ≡ found.0) × (oldest.message.target ≡ found.1)
+    (oldest : Send) × (others : List Send) × (sends_of (map.get w.accounts tenant) ≡ oldest ∷ others) × (oldest.source ≡ found.0)
+    × (oldest.message.target ≡ found.1)
 
 -- The oldest of what the tenant's grains sent was delivered; or there is none, and nothing changed.
 abbrev pub Delivers : Logic → History → List ℕ → Bool → History → Type 0
-Delivers logic old tenant true new = (luck : Luck) × Tries logic old (delivering (whole_stepper logic) old.whole (sends_of (map.get old.whole.accounts tenant)) luck) new
+Delivers logic old tenant true new = (luck : Luck) × Tries logic old
+    (delivering (whole_stepper logic) old.whole (sends_of (map.get old.whole.accounts tenant)) luck) new
 Delivers logic old tenant false new = (sends_of (map.get old.whole.accounts tenant) ≡ []) × (new ≡ old)
 
 -- What is asked was answered with some luck; and whether its step was possible.

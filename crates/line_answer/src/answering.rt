@@ -48,9 +48,14 @@ impl<S: GrainStorage + Drop, L: GrainLogic + Drop> AnsweringSilo<S, L> {
     ///
     /// Out of memory.
     pub fn new(alloc: Global, setup: Setup<S, L>) -> Result<AnsweringSilo<S, L>, AllocError>
-        ensures setup { IfOk result (λ a. a.history.setup ≡ record { tenants = setup.tenants; age = setup.age; rows = S.rows setup.storage }) }
+        ensures setup { IfOk result (λ a. a.history.setup ≡ record {
+          tenants = setup.tenants;
+          age = setup.age;
+          rows = S.rows setup.storage;
+        }) }
         ensures opening { IfOk result (λ a. (a.history.whole ≡ opening a.history.setup) × (a.history.journal ≡ [])) }
-        ensures failures { IfOk result (λ a. a.history.failures ≡ record { at_opening = S.failed setup.storage; now = S.failed setup.storage }) }
+        ensures failures { IfOk result (λ a. a.history.failures
+            ≡ record { at_opening = S.failed setup.storage; now = S.failed setup.storage }) }
         ensures ready { IfOk result (λ a. a.stopped ≡ false) }
     {
         Ok(AnsweringSilo {

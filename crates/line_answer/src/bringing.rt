@@ -129,7 +129,8 @@ fn deliver<S: GrainStorage, L: GrainLogic>(
     tenant: &str,
     most: u64,
 ) -> Result<(), AllocError>
-    ensures { OnOk result ((lucks : List Luck) × Tries L.logic silo.old (deliveries (whole_stepper L.logic) most silo.old.whole tenant.now lucks) silo.new) }
+    ensures { OnOk result ((lucks : List Luck) × Tries L.logic silo.old
+        (deliveries (whole_stepper L.logic) most silo.old.whole tenant.now lucks) silo.new) }
 {
     for _ in 0..most {
         if !deliver_oldest(alloc, silo, tenant)? {

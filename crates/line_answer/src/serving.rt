@@ -45,7 +45,8 @@ fn raise<S: GrainStorage, L: GrainLogic>(
     silo: &mut Silo<S, L>,
     grain: &GrainId,
 ) -> Result<(), AllocError>
-    ensures { OnOk result ((failed : Bool) × Tries L.logic silo.old (raising (whole_stepper L.logic) silo.old.whole grain.now failed) silo.new) }
+    ensures { OnOk result ((failed : Bool) × Tries L.logic silo.old
+        (raising (whole_stepper L.logic) silo.old.whole grain.now failed) silo.new) }
 {
     let activate = Step::Activate {
         grain: grain.clone()?,
@@ -127,7 +128,8 @@ fn close<S: GrainStorage, L: GrainLogic>(
     grain: GrainId,
     turn: u64,
 ) -> Result<(), AllocError>
-    ensures { OnOk result ((how : Closing) × Tries L.logic silo.old (closing (whole_stepper L.logic) silo.old.whole grain turn how) silo.new) }
+    ensures { OnOk result ((how : Closing) × Tries L.logic silo.old
+        (closing (whole_stepper L.logic) silo.old.whole grain turn how) silo.new) }
 {
     match end(alloc, silo, &grain, turn) {
         Ok(()) => {

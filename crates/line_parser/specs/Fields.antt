@@ -62,7 +62,8 @@ LieWithin n (p ∷ ps) = (p.start + p.count ≤ n) × LieWithin n ps
 -- still do with more places whose names ascend from the last one on.
 pub record HoldsFields (placed : List PlacedField) (fields : Fields) : Type 0 where
   pub kept : IsPermutation (map place_of placed) (map place_kept (fields.few.items ++ fields.more.items))
-  pub ascend : fields.ascend ≡ true → (more : List Place) → Ascend (option_map (λ t. t.now) fields.last) more → Ascend None (map place_of placed ++ more)
+  pub ascend : fields.ascend ≡ true → (more : List Place) → Ascend (option_map (λ t. t.now) fields.last) more
+      → Ascend None (map place_of placed ++ more)
 
 -- the bytes of a field stand at its place
 pub record Stands (out : List ℕ) (c : PlacedField) : Type 0 where

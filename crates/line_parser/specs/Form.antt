@@ -1,5 +1,6 @@
 -- The step that JSON asks for: an object with exactly the members of one form, each of its type (docs/formats.md).
-use Rattle.std.specs.Prelude.{ℕ, suc, ℤ, pos, negsuc, List, Bool, false, ◌==◌, nat_le, if◌then◌else◌, Option, Some, None, Result, Ok, Err, option_map, option_and_then, ok_or, codes, bytes_eq}
+use Rattle.std.specs.Prelude.{ℕ, suc, ℤ, pos, negsuc, List, Bool, false, ◌==◌, nat_le, if◌then◌else◌, Option, Some, None, Result, Ok}
+use Rattle.std.specs.Prelude.{Err, option_map, option_and_then, ok_or, codes, bytes_eq}
 use Rattle.serde_json.specs.Data.{Data, Members, null}
 use Rattle.serde_json.specs.Events.{members_len}
 use Rattle.serde_json.specs.Find.{get, as_bool, as_str, as_number, as_i64, as_object}
@@ -14,7 +15,8 @@ use Rattle.request_codec.specs.Answers.{message_length, spelled_length}
 use Rattle.silo_event.specs.declared.refusal.Refusal.{Refusal}
 use Rattle.silo_event.specs.declared.refusal.Refusal.TheVariants as refusal
 use Rattle.silo_event.specs.declared.step.Step.{Step}
-use Rattle.silo_event.specs.declared.step.Step.TheVariants.{Refuse, Call, Poke, Status, Deliver, Activate, Load, Begin, Store, End, Abandon, Tick, Sweep}
+use Rattle.silo_event.specs.declared.step.Step.TheVariants.{Refuse, Call, Poke, Status, Deliver, Activate, Load, Begin, Store, End}
+use Rattle.silo_event.specs.declared.step.Step.TheVariants.{Abandon, Tick, Sweep}
 
 infixl 10 ◌>>=◌
 abbrev pub ◌>>=◌ : {A B : Type 0} → Option A → (A → Option B) → Option B
@@ -80,7 +82,8 @@ abbrev pub value_asked : Data → Result Tree Refusal
 value_asked d = if nat_le (json_depth d) depth_limit then ok_or (value_of_json d) refusal.NotWhole else Err refusal.TooDeep
 
 abbrev pub message_asked : List ℕ → Data → Result codec.Call Refusal
-message_asked method d = unless_refused (value_asked d) (λ v. within_or refusal.TooLong (message_length method v) message_limit (asks method v))
+message_asked method d = unless_refused (value_asked d) (λ v. within_or refusal.TooLong (message_length method v) message_limit
+    (asks method v))
 
 abbrev pub state_asked : Data → Result Tree Refusal
 state_asked d = unless_refused (value_asked d) (λ v. within_or refusal.TooLarge (spelled_length v) state_limit v)

@@ -1,5 +1,6 @@
 -- What is known of the members of a line: an object as serde_json reads it, and where each of its members went.
-use Rattle.std.specs.Prelude.{◌≡◌, ℕ, ◌<◌, ◌≤◌, ◌^◌, Bool, true, false, List, ◌∷◌, length, Option, Some, None, Err, option_map, option_and_then, if◌then◌else◌, bytes_eq, codes}
+use Rattle.std.specs.Prelude.{◌≡◌, ℕ, ◌<◌, ◌≤◌, ◌^◌, Bool, true, false, List, ◌∷◌, length, Option, Some, None, Err, option_map}
+use Rattle.std.specs.Prelude.{option_and_then, if◌then◌else◌, bytes_eq, codes}
 use Rattle.json.specs.Token.{Token, begin_object, number as number_token}
 use Rattle.json.specs.Json.{value, if_last, read_key}
 use Rattle.serde_json.specs.Data.{Data, object, string, number, boolean, unsigned, Members, put}
@@ -115,10 +116,12 @@ pub record HoldsLineMembers (found : Members) (s : LineMembers) (l : List ℕ) :
   pub count : members_len found ≡ s.count
 
 -- one more member
-pub record TakesMember (name : Name) (old new : List Token) (members_old : LineMembers) (bytes_old : List ℕ) (members_new : LineMembers) (bytes_new : List ℕ) : Type 0 where
+pub record TakesMember (name : Name) (old new : List Token) (members_old : LineMembers) (bytes_old : List ℕ) (members_new : LineMembers)
+    (bytes_new : List ℕ) : Type 0 where
   pub json : Data
   pub read : converted of_json (value 126 old) ≡ Some (json, new)
-  pub holds : (found : Members) → HoldsLineMembers found members_old bytes_old → HoldsLineMembers (put (name_text name) json found) members_new bytes_new
+  pub holds : (found : Members) → HoldsLineMembers found members_old bytes_old
+      → HoldsLineMembers (put (name_text name) json found) members_new bytes_new
   pub shorter : length new < length old
 
 -- Of the tokens `old` a value was read, `new` is left, and its bytes are known, or why it is refused.

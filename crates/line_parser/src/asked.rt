@@ -38,7 +38,8 @@ pub(crate) fn message_of_json(
 /// The state of a value that isn't too deep, unless it is too large.
 fn write_state(alloc: Global, value: &Datum) -> Result<Result<StateBytes, Refusal>, AllocError>
     requires { depth (value_of value.now) ≤ depth_limit }
-    ensures { IfOk result (λ asked. asked ≡ within_or refusal.TooLarge (spelled_length (value_of value.now)) state_limit (value_of value.now)) }
+    ensures { IfOk result (λ asked. asked ≡ within_or refusal.TooLarge (spelled_length (value_of value.now)) state_limit
+        (value_of value.now)) }
 {
     match encode_state(alloc, value) {
         Ok(state) => Ok(Ok(state)),

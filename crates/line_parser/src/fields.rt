@@ -2,7 +2,8 @@
 
 ghost use Rattle.std.specs.Prelude.{◌≡◌, ◌<◌, ◌≤◌, ◌^◌, ◌+◌, ◌++◌, ◌∷◌, [], ℕ, List, length, map, None, OnOk, slice_range};
 ghost use Rattle.serde_json.specs.Data.{Data};
-ghost use Rattle.line_parser.specs.Fields.{PlacedField, HoldsFields, AreBehind, PutsSorted, AreSorted, Ascend, LieWithin, bytes_at, place_kept, field_spelling};
+ghost use Rattle.line_parser.specs.Fields.{PlacedField, HoldsFields, AreBehind, PutsSorted, AreSorted, Ascend, LieWithin, bytes_at};
+ghost use Rattle.line_parser.specs.Fields.{place_kept, field_spelling};
 
 use crate::quick_fault::QuickFault;
 use arrayvec::ArrayVec;
@@ -86,7 +87,8 @@ impl<'a> Fields<'a> {
         count: usize,
     ) -> Result<(), AllocError>
         requires small { start + count < 2 ^ 32 }
-        ensures { OnOk result ((placed : List PlacedField) (d : Data) → HoldsFields placed self.old → length (field_spelling name.now d) ≡ count
+        ensures { OnOk result ((placed : List PlacedField) (d : Data) → HoldsFields placed self.old
+            → length (field_spelling name.now d) ≡ count
             → HoldsFields (placed ++ (record { name = name.now; value = d; start = start }) ∷ []) self.new) }
     {
         let field = Known {
@@ -104,8 +106,10 @@ impl<'a> Fields<'a> {
 
     /// Puts the bytes of the fields behind one another, in the order of their names.
     fn put_sorted(&mut self, sorted: &mut Vec<u8>, bytes: &[u8]) -> Result<(), QuickFault>
-        requires { (placed : List PlacedField) × (front : List ℕ) × (start : ℕ) × HoldsFields placed self.old × AreBehind placed start front bytes.now }
-        ensures { OnOk result ((placed : List PlacedField) → HoldsFields placed self.old → sorted.old.items ≡ [] → PutsSorted placed bytes.now sorted.new.items) }
+        requires { (placed : List PlacedField) × (front : List ℕ) × (start : ℕ) × HoldsFields placed self.old
+            × AreBehind placed start front bytes.now }
+        ensures { OnOk result ((placed : List PlacedField) → HoldsFields placed self.old → sorted.old.items ≡ []
+            → PutsSorted placed bytes.now sorted.new.items) }
     {
         if self.more.is_empty() {
             self.few.sort_unstable();
@@ -119,7 +123,8 @@ impl<'a> Fields<'a> {
     /// Brings the bytes of the fields, which begin at `start`, into the order of their names. A line with
     /// a name twice is left.
     pub(crate) fn sort(&mut self, out: &mut Vec<u8>, start: usize) -> Result<(), QuickFault>
-        requires { (placed : List PlacedField) × (front : List ℕ) × HoldsFields placed self.old × AreBehind placed start front out.old.items }
+        requires { (placed : List PlacedField) × (front : List ℕ) × HoldsFields placed self.old
+            × AreBehind placed start front out.old.items }
         ensures sorted { OnOk result ((placed : List PlacedField) (front : List ℕ) → HoldsFields placed self.old
             → AreBehind placed start front out.old.items → AreSorted placed front out.new.items) }
         ensures len { OnOk result (length out.new.items ≡ length out.old.items) }

@@ -4,7 +4,8 @@ ghost use Rattle.std.specs.Prelude.{◌≡◌, ◌<◌, ◌^◌, ◌||◌, ℕ, 
 ghost use Rattle.std.specs.Bool.{MatchBool};
 ghost use Rattle.json.specs.Token.{string, boolean};
 ghost use Rattle.serde_json.specs.Data.{no_members};
-ghost use Rattle.line_parser.specs.LineMembers.{name_text, named, TakesMember, TakesValue, asked_by, HoldsLineMembers, HasLineMembers, IsNatural};
+ghost use Rattle.line_parser.specs.LineMembers.{name_text, named, TakesMember, TakesValue, asked_by, HoldsLineMembers, HasLineMembers};
+ghost use Rattle.line_parser.specs.LineMembers.{IsNatural};
 
 use crate::argument::put_value;
 use crate::faults::Faults;

@@ -231,7 +231,8 @@ impl<'a> Tokens<'a> {
     /// Takes the end of a list, if it is next, by json's reader.
     #[inline(never)]
     fn take_end_of_any(&mut self) -> Result<bool, QuickFault>
-        ensures { IfOk result (λ taken. MatchBool taken (after_end_array self.old ≡ Some self.new) ((after_end_array self.old ≡ None) × (self.new ≡ self.old))) }
+        ensures { IfOk result (λ taken. MatchBool taken (after_end_array self.old ≡ Some self.new)
+            ((after_end_array self.old ≡ None) × (self.new ≡ self.old))) }
     {
         self.leave_plain()?;
         let Some(reader) = &mut self.reader else {
@@ -244,7 +245,8 @@ impl<'a> Tokens<'a> {
     /// Takes the end of a list, if it is next.
     #[inline(always)]
     pub(crate) fn take_end_array(&mut self) -> Result<bool, QuickFault>
-        ensures { IfOk result (λ taken. MatchBool taken (after_end_array self.old ≡ Some self.new) ((after_end_array self.old ≡ None) × (self.new ≡ self.old))) }
+        ensures { IfOk result (λ taken. MatchBool taken (after_end_array self.old ≡ Some self.new)
+            ((after_end_array self.old ≡ None) × (self.new ≡ self.old))) }
     {
         if self.reader.is_none() {
             if has_item(self.rest) {

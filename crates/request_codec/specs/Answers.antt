@@ -2,7 +2,8 @@
 use Rattle.std.specs.Prelude.{◌≡◌, ℕ, ◌<◌, ◌≤◌, ◌+◌, List, length, Option, Some, None, Result, Ok, Err}
 use Rattle.serde_json.specs.Data as json
 use Rattle.request_codec.specs.Limits.{depth_limit, message_limit}
-use Rattle.request_codec.specs.Tree.{Tree, depth, null, truth, integer, text, list, map, Members, no_members, member, Fields, no_fields, field}
+use Rattle.request_codec.specs.Tree.{Tree, depth, null, truth, integer, text, list, map, Members, no_members, member, Fields, no_fields}
+use Rattle.request_codec.specs.Tree.{field}
 use Rattle.request_codec.specs.Json.{value_of_json, json_depth}
 use Rattle.request_codec.specs.Call.{Call, asks}
 use Rattle.request_codec.specs.declared.fault.CodecFault.{CodecFault}
@@ -57,11 +58,14 @@ Converts view (Err faults.TooLong) d = ⊥
 Converts view (Err faults.NotAMessage) d = ⊥
 Converts view (Err faults.Memory) d = Unit {0}
 
--- The answer is the message of the method and the JSON's value; too deep comes before a number that isn't a whole number of 64 bits, and that before too long.
+-- The answer is the message of the method and the JSON's value; too deep comes before a number that isn't a whole number of 64 bits, and
+-- that before too long.
 abbrev pub WritesJson : Result Call CodecFault → List ℕ → json.Data → Type 0
-WritesJson (Ok m) method d = (json_depth d ≤ depth_limit) × ((v : Tree) × (value_of_json d ≡ Some v) × (m ≡ asks method v) × (message_length method v ≤ message_limit))
+WritesJson (Ok m) method d = (json_depth d ≤ depth_limit) ×
+    ((v : Tree) × (value_of_json d ≡ Some v) × (m ≡ asks method v) × (message_length method v ≤ message_limit))
 WritesJson (Err faults.TooDeep) method d = depth_limit < json_depth d
 WritesJson (Err faults.NotWhole) method d = (json_depth d ≤ depth_limit) × (value_of_json d ≡ None)
-WritesJson (Err faults.TooLong) method d = (json_depth d ≤ depth_limit) × ((v : Tree) × (value_of_json d ≡ Some v) × (message_limit < message_length method v))
+WritesJson (Err faults.TooLong) method d = (json_depth d ≤ depth_limit)
+    × ((v : Tree) × (value_of_json d ≡ Some v) × (message_limit < message_length method v))
 WritesJson (Err faults.NotAMessage) method d = ⊥
 WritesJson (Err faults.Memory) method d = Unit {0}

@@ -17,7 +17,8 @@ abbrev pub asks : List ℕ → Tree → Call
 asks method argument = record { method = method; argument = argument }
 
 abbrev pub coded_call : Coded Call
-coded_call = code_by (List ℕ × Tree) (coded× (coded_list coded_ℕ) coded_tree) (λ c. (c.method, c.argument)) (λ p. record { method = p.0; argument = p.1 }) (λ _. refl)
+coded_call = code_by (List ℕ × Tree) (coded× (coded_list coded_ℕ) coded_tree) (λ c. (c.method, c.argument))
+    (λ p. record { method = p.0; argument = p.1 }) (λ _. refl)
 
 -- the call behind a message's first byte: the method, one value, and nothing more
 abbrev pub call_behind : List ℕ → Option Call

@@ -60,7 +60,12 @@ node_back (gcons a b) g vs fs = null
 abbrev back : Gv → Tree × Members × Fields × (Tree × Fields)
 back gnil = (null, no_members, no_fields, (null, no_fields))
 back (gnum n) = (leaf_back n, no_members, no_fields, (null, no_fields))
-back (gcons a b) = (node_back a b (back b).1 (back b).2, member (back a).0 (back b).1, field (bytes_back a) (back b).3.0 (back b).3.1, ((back a).0, (back b).2))
+back (gcons a b) = (
+  node_back a b (back b).1 (back b).2,
+  member (back a).0 (back b).1,
+  field (bytes_back a) (back b).3.0 (back b).3.1,
+  ((back a).0, (back b).2),
+)
 
 mutual
   tree_again : (v : Tree) → (back (tree_code v)).0 ≡ v

@@ -1,7 +1,8 @@
 -- Which values a spelling is there for.
 use Rattle.std.specs.Prelude.{ℕ, ◌<◌, ◌≤◌, ◌^◌, Bool, true, false, length, FitsSigned, IsUtf8}
 use Rattle.std.specs.Int.{w64}
-use Rattle.request_codec.specs.Tree.{Tree, null, truth, integer, text, list, map, Members, no_members, member, Fields, no_fields, field, members_count, fields_count, depth, members_depth, fields_depth}
+use Rattle.request_codec.specs.Tree.{Tree, null, truth, integer, text, list, map, Members, no_members, member, Fields, no_fields, field}
+use Rattle.request_codec.specs.Tree.{members_count, fields_count, depth, members_depth, fields_depth}
 use Rattle.request_codec.specs.Spelling.{IsBelowFirst}
 
 -- each number is one of i64, each text and name is UTF-8, and names ascend

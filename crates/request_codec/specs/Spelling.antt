@@ -4,7 +4,8 @@ use Rattle.std.specs.Int.{w32, w64, to_be_bytes, cast_unsigned}
 use Rattle.std.specs.Cmp.Lexicographic.{slice_cmp}
 use Rattle.std.specs.Ordering.{nat_cmp, is_lt}
 use Rattle.request_codec.specs.Limits.{message_version, depth_limit, message_limit, state_limit}
-use Rattle.request_codec.specs.Tree.{Tree, null, truth, integer, text, list, map, Members, no_members, member, Fields, no_fields, field, members_count, fields_count, depth}
+use Rattle.request_codec.specs.Tree.{Tree, null, truth, integer, text, list, map, Members, no_members, member, Fields, no_fields, field}
+use Rattle.request_codec.specs.Tree.{members_count, fields_count, depth}
 
 -- A text: its length as four bytes, high first, and then its bytes, which are UTF-8.
 abbrev pub SpellsText : List ℕ → List ℕ → Type 0
@@ -23,8 +24,10 @@ abbrev mutual
   Spells (truth true) bytes = bytes ≡ 2 ∷ []
   Spells (integer i) bytes = FitsSigned w64 i × (bytes ≡ 3 ∷ to_be_bytes w64 (cast_unsigned w64 i))
   Spells (text s) bytes = (rest : List ℕ) × SpellsText s rest × (bytes ≡ 4 ∷ rest)
-  Spells (list vs) bytes = (rest : List ℕ) × (members_count vs < 2 ^ 32) × SpellEach vs rest × (bytes ≡ 5 ∷ (to_be_bytes w32 (members_count vs) ++ rest))
-  Spells (map fs) bytes = (rest : List ℕ) × (fields_count fs < 2 ^ 32) × SpellFields fs rest × (bytes ≡ 6 ∷ (to_be_bytes w32 (fields_count fs) ++ rest))
+  Spells (list vs) bytes = (rest : List ℕ) × (members_count vs < 2 ^ 32) × SpellEach vs rest
+      × (bytes ≡ 5 ∷ (to_be_bytes w32 (members_count vs) ++ rest))
+  Spells (map fs) bytes = (rest : List ℕ) × (fields_count fs < 2 ^ 32) × SpellFields fs rest
+      × (bytes ≡ 6 ∷ (to_be_bytes w32 (fields_count fs) ++ rest))
 
   -- one after another, with nothing between
   pub SpellEach : Members → List ℕ → Type 0
@@ -34,7 +37,8 @@ abbrev mutual
   -- a name and a value each, the names strictly ascending by bytes
   pub SpellFields : Fields → List ℕ → Type 0
   SpellFields no_fields bytes = bytes ≡ []
-  SpellFields (field n v fs) bytes = (name : List ℕ) × (first : List ℕ) × (others : List ℕ) × SpellsText n name × Spells v first × SpellFields fs others × IsBelowFirst n fs × (bytes ≡ name ++ first ++ others)
+  SpellFields (field n v fs) bytes = (name : List ℕ) × (first : List ℕ) × (others : List ℕ) × SpellsText n name × Spells v first
+      × SpellFields fs others × IsBelowFirst n fs × (bytes ≡ name ++ first ++ others)
 
 -- A message: its version, the method as a text, one value, and nothing more.
 pub record SpellsMessage (method : List ℕ) (v : Tree) (bytes : List ℕ) : Type 0 where

@@ -3,7 +3,8 @@ use Rattle.std.specs.Prelude.{◌≡◌, ℕ, ◌+◌, ◌<◌, ◌≤◌, List,
 use Rattle.std.specs.Int.{w32, w64, to_be_bytes, cast_unsigned}
 use Rattle.std.specs.declared.alloc.Global.{Global}
 use Rattle.request_codec.specs.Limits.{message_version}
-use Rattle.request_codec.specs.Tree.{Tree, null, truth, integer, text, list, map, Members, no_members, member, Fields, no_fields, field, members_count, fields_count}
+use Rattle.request_codec.specs.Tree.{Tree, null, truth, integer, text, list, map, Members, no_members, member, Fields, no_fields, field}
+use Rattle.request_codec.specs.Tree.{members_count, fields_count}
 use Rattle.request_codec.specs.Call.{Call}
 use Rattle.request_codec.specs.Start.{Begun, leaf, list_of, map_of}
 use Rattle.request_codec.specs.declared.fault.CodecFault.{CodecFault}

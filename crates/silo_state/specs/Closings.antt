@@ -39,7 +39,8 @@ abbrev pub answer_failed : Bool → Answer
 answer_failed failed = if failed then answer.Done else answer.Failed
 
 -- What is made of the storage's answer, by a step that is marked as failed or not: the grain has the new state; or the storage
--- failed; or the row has another version, and the activation ends; or the row has the last version; or memory was refused, and nothing changed.
+-- failed; or the row has another version, and the activation ends; or the row has the last version; or memory was refused, and nothing
+-- changed.
 abbrev pub ClosesBy : Entries → List Reply → Grain → ℕ → Bool → ℕ → ℕ → Bool → Result StorageAnswer StoreFault
     → Result Answer StepFault → Entries → List Reply → Type 0
 ClosesBy old replies grain turn idle_after now last failed (Ok s) result new told =

@@ -75,7 +75,10 @@ pub fn start(activation: &mut Activation) -> Answer
 /// Its first waiting request becomes an open turn, if it is ready and the request may begin.
 pub fn begin(grain: &GrainId, activation: &mut Activation) -> Result<Option<OpenedTurn>, AllocError>
     ensures turn { IfOk result (λ turn. turn ≡ turn_at grain.now activation.old.mailbox activation.old.phase) }
-    ensures begun { OnOk result (activation.new ≡ record activation.old { mailbox = mail_begun activation.old.mailbox activation.old.phase }) }
+    ensures begun { OnOk result (activation.new ≡ record activation.old {
+      mailbox = mail_begun activation.old.mailbox
+          activation.old.phase;
+    }) }
     ensures unchanged { OnErr result (activation.new ≡ activation.old) }
 {
     match &activation.phase {
@@ -88,7 +91,10 @@ pub fn begin(grain: &GrainId, activation: &mut Activation) -> Result<Option<Open
 /// The same, with no turn handed out: whether one was opened.
 pub fn open(activation: &mut Activation) -> Result<bool, AllocError>
     ensures opened { IfOk result (λ opened. opened ≡ opens_at activation.old.mailbox activation.old.phase) }
-    ensures begun { OnOk result (activation.new ≡ record activation.old { mailbox = mail_begun activation.old.mailbox activation.old.phase }) }
+    ensures begun { OnOk result (activation.new ≡ record activation.old {
+      mailbox = mail_begun activation.old.mailbox
+          activation.old.phase;
+    }) }
     ensures unchanged { OnErr result (activation.new ≡ activation.old) }
 {
     match activation.phase {

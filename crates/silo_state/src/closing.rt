@@ -37,7 +37,8 @@ pub fn close_turn<L: GrainLogic>(
     requires is_open { IsSome (option_and_then (λ e. map.get e.turns closing.turn) (map.get activations.old.entries closing.grain.now)) }
     requires expected { HasRoom activations.old closing.grain.now }
     requires room { vec_len replies.old < vec_capacity replies.old }
-    ensures closes { ClosesTold activations.old.entries replies.old.items closing.entry.grain.now closing.entry.turn (option_map phase_of phase)
+    ensures closes { ClosesTold activations.old.entries replies.old.items closing.entry.grain.now closing.entry.turn
+        (option_map phase_of phase)
         now outcome activations.new.entries replies.new.items }
     ensures age { activations.new.age ≡ activations.old.age }
 {
@@ -59,7 +60,8 @@ fn end_activation<L: GrainLogic>(
     requires is_open { IsSome (option_and_then (λ e. map.get e.turns closing.turn) (map.get activations.old.entries closing.grain.now)) }
     requires expected { HasRoom activations.old closing.grain.now }
     requires room { vec_len replies.old < vec_capacity replies.old }
-    ensures ends { EndsTold activations.old.entries replies.old.items closing.entry.grain.now closing.entry.turn closing.entry.idle_after last
+    ensures ends { EndsTold activations.old.entries replies.old.items closing.entry.grain.now closing.entry.turn closing.entry.idle_after
+        last
         (Err why) activations.new.entries replies.new.items }
     ensures age { activations.new.age ≡ activations.old.age }
 {
@@ -73,7 +75,8 @@ fn end_activation<L: GrainLogic>(
 
 /// Takes the grain's activation out, if nothing waits at it.
 fn drop_if<L: GrainLogic>(activations: &mut Activations<L>, grain: &GrainId, idle_after: bool)
-    ensures left { activations.new.entries ≡ (if idle_after then map.remove activations.old.entries grain.now else activations.old.entries) }
+    ensures left { activations.new.entries ≡ (if idle_after then map.remove activations.old.entries grain.now
+        else activations.old.entries) }
     ensures age { activations.new.age ≡ activations.old.age }
 {
     if idle_after {

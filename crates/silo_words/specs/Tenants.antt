@@ -87,7 +87,8 @@ pub record IsRefusedAt (front : List (List ℕ)) (text : List ℕ) : Type 0 wher
 abbrev pub IsFirstRefused : List (List ℕ) → ℕ → Type 0
 IsFirstRefused [] number = number ≡ 1
 IsFirstRefused (first ∷ others) number =
-    (front : List (List ℕ)) × (text : List ℕ) × (rest : List (List ℕ)) × (first ∷ others ≡ front ++ text ∷ rest) × (number ≡ suc (length front)) × IsRefusedAt front text
+    (front : List (List ℕ)) × (text : List ℕ) × (rest : List (List ℕ)) × (first ∷ others ≡ front ++ text ∷ rest)
+    × (number ≡ suc (length front)) × IsRefusedAt front text
 
 -- The fault is why the arguments name no tenants, unless memory was refused.
 abbrev pub IsReason : List (List ℕ) → TenantsFault → Type 0

@@ -1,10 +1,12 @@
 -- What the words of a command line ask for, by clap's own account of what it makes of words.
-use Rattle.std.specs.Prelude.{◌≡◌, ◌≢◌, ◌≤◌, ◌⊎◌, ◌++◌, ◌∷◌, ⊤, ℕ, List, [], Option, Some, None, true, codes, map, slice_get, slice_index, String, string_bytes, unwrap_or, if◌then◌else◌}
+use Rattle.std.specs.Prelude.{◌≡◌, ◌≢◌, ◌≤◌, ◌⊎◌, ◌++◌, ◌∷◌, ⊤, ℕ, List, [], Option, Some, None, true, codes, map, slice_get}
+use Rattle.std.specs.Prelude.{slice_index, String, string_bytes, unwrap_or, if◌then◌else◌}
 use Rattle.std.specs.Option.{option_map}
 use Rattle.std.specs.Str.Parse.{IsNumeral, digits_value, without_leading_plus}
 use Rattle.grain_id.specs.Names.{same_text}
 use Rattle.clap.specs.Lexer.{usize_max}
-use Rattle.clap.specs.Words.{App, IsAmong, Row, Rule, Shape, Text, all_of, fault_of, first_of, new_app, new_rule, one_of, subcommand_of, with_rule, with_subcommand}
+use Rattle.clap.specs.Words.{App, IsAmong, Row, Rule, Shape, Text, all_of, fault_of, first_of, new_app, new_rule, one_of, subcommand_of}
+use Rattle.clap.specs.Words.{with_rule, with_subcommand}
 use Rattle.clap.specs.declared.builder.action.ArgAction.TheVariants.{Append}
 use Rattle.clap.specs.declared.builder.value_parser.ValueParser.TheVariants.{Unsigned}
 use Rattle.clap.specs.declared.error.kind.ErrorKind.{ErrorKind}
@@ -35,7 +37,12 @@ journal_rule = record (new_rule (codes "journal")) { long = Some (codes "journal
 
 -- `TENANT:ACT:MAIL..`, one text or more
 abbrev pub tenants_rule : Rule
-tenants_rule = record (new_rule (codes "tenants")) { action = Some Append; range = Some (record { start_inclusive = 1; end_inclusive = usize_max }); value_names = 1; required = true }
+tenants_rule = record (new_rule (codes "tenants")) {
+  action = Some Append;
+  range = Some (record { start_inclusive = 1; end_inclusive = usize_max });
+  value_names = 1;
+  required = true;
+}
 
 -- `PATH`, one text
 abbrev pub path_rule : Rule
@@ -184,7 +191,8 @@ pub record AskForSteps (words : List Text) (age : ℕ) (tenants : List Text) : T
   pub is : found_in words ≡ Some (name, rows)
   pub found : FindSteps name rows age tenants
 
--- The words ask to answer lines at once under this age, with so many deliveries behind each, for these tenant arguments, and to keep the journal at a path if there is one.
+-- The words ask to answer lines at once under this age, with so many deliveries behind each, for these tenant arguments, and to keep the
+-- journal at a path if there is one.
 pub record AskForAnswering (words : List Text) (age sends : ℕ) (journal : Option Text) (tenants : List Text) : Type 0 where
   pub taken : AreTaken words
   pub name : Text
@@ -231,8 +239,10 @@ AskForNothing words = AreTaken words × IsOutOfRange words
 -- the task has what was found
 abbrev pub IsTaskOf : Text → List Row → Task → Type 0
 IsTaskOf name rows (task.Steps age tenants) = FindSteps name rows age (map (λ t. t.now) tenants.items)
-IsTaskOf name rows (task.Answer age sends journal tenants) = FindAnswering name rows age sends (option_map (λ path. path.now) journal) (map (λ t. t.now) tenants.items)
-IsTaskOf name rows (task.Serve workers age journal tenants) = FindServing name rows workers age (option_map (λ path. path.now) journal) (map (λ t. t.now) tenants.items)
+IsTaskOf name rows (task.Answer age sends journal tenants) = FindAnswering name rows age sends (option_map (λ path. path.now) journal)
+    (map (λ t. t.now) tenants.items)
+IsTaskOf name rows (task.Serve workers age journal tenants) = FindServing name rows workers age (option_map (λ path. path.now) journal)
+    (map (λ t. t.now) tenants.items)
 IsTaskOf name rows (task.Audit path) = FindAudit name rows path.now
 
 -- why what was found is no task
@@ -245,8 +255,10 @@ IsNoTaskFor name rows (fault.Wrong text) = MakesNoTask name rows
 -- the words ask for the task
 abbrev pub AskFor : List Text → Task → Type 0
 AskFor words (task.Steps age tenants) = AskForSteps words age (map (λ t. t.now) tenants.items)
-AskFor words (task.Answer age sends journal tenants) = AskForAnswering words age sends (option_map (λ path. path.now) journal) (map (λ t. t.now) tenants.items)
-AskFor words (task.Serve workers age journal tenants) = AskForServing words workers age (option_map (λ path. path.now) journal) (map (λ t. t.now) tenants.items)
+AskFor words (task.Answer age sends journal tenants) = AskForAnswering words age sends (option_map (λ path. path.now) journal)
+    (map (λ t. t.now) tenants.items)
+AskFor words (task.Serve workers age journal tenants) = AskForServing words workers age (option_map (λ path. path.now) journal)
+    (map (λ t. t.now) tenants.items)
 AskFor words (task.Audit path) = AskForAudit words path.now
 
 -- the word of that number, the program's name being the first, or nothing
@@ -268,7 +280,8 @@ example_of name = if same_text name (codes "steps") then STEPS_EXAMPLE.now
 abbrev pub EndsWithExample : List Text → Text → Type 0
 EndsWithExample words text = (front : Text) × (text ≡ front ++ example_of (command_in words))
 
--- Why the words ask for nothing, unless memory was refused: for help or the version, whose text is shown, or clap refuses them, or what it found makes no task.
+-- Why the words ask for nothing, unless memory was refused: for help or the version, whose text is shown, or clap refuses them, or what
+-- it found makes no task.
 abbrev pub IsWhy : List Text → WordsFault → Type 0
 IsWhy words fault.Memory = ⊤
 IsWhy words (fault.Help text) = AskForHelp words × EndsWithExample words (string_bytes text)
@@ -288,14 +301,17 @@ IsFaultBy words kind (fault.Wrong text) = (kind ≢ OutOfMemory) × (kind ≢ Di
 abbrev pub after_silo : List Text → List Text
 after_silo words = codes "silo" ∷ words
 
--- The account tells words apart: each subcommand with and without its options, help, the version, no words, numbers out of their range, and a word too few.
+-- The account tells words apart: each subcommand with and without its options, help, the version, no words, numbers out of their range,
+-- and a word too few.
 pub record TellsWordsApart : Type 0 where
   pub steps : AskForSteps (after_silo (codes "steps" ∷ codes "red:2:4" ∷ [])) 900000 (codes "red:2:4" ∷ [])
   pub aged : AskForSteps (after_silo (codes "steps" ∷ codes "--age" ∷ codes "5" ∷ codes "red:2:4" ∷ [])) 5 (codes "red:2:4" ∷ [])
   pub answering : AskForAnswering (after_silo (codes "answer" ∷ codes "red:2:4" ∷ [])) 900000 1000 None (codes "red:2:4" ∷ [])
-  pub undelivered : AskForAnswering (after_silo (codes "answer" ∷ codes "--sends" ∷ codes "0" ∷ codes "--journal" ∷ codes "day" ∷ codes "red:2:4" ∷ [])) 900000 0 (Some (codes "day")) (codes "red:2:4" ∷ [])
+  pub undelivered : AskForAnswering (after_silo (codes "answer" ∷ codes "--sends" ∷ codes "0" ∷ codes "--journal" ∷ codes "day"
+      ∷ codes "red:2:4" ∷ [])) 900000 0 (Some (codes "day")) (codes "red:2:4" ∷ [])
   pub serving : AskForServing (after_silo (codes "serve" ∷ codes "red:2:4" ∷ [])) 4 900000 None (codes "red:2:4" ∷ [])
-  pub journaled : AskForServing (after_silo (codes "serve" ∷ codes "--workers" ∷ codes "8" ∷ codes "--age" ∷ codes "5" ∷ codes "--journal" ∷ codes "day" ∷ codes "red:2:4" ∷ [])) 8 5 (Some (codes "day")) (codes "red:2:4" ∷ [])
+  pub journaled : AskForServing (after_silo (codes "serve" ∷ codes "--workers" ∷ codes "8" ∷ codes "--age" ∷ codes "5"
+      ∷ codes "--journal" ∷ codes "day" ∷ codes "red:2:4" ∷ [])) 8 5 (Some (codes "day")) (codes "red:2:4" ∷ [])
   pub audit : AskForAudit (after_silo (codes "audit" ∷ codes "day" ∷ [])) (codes "day")
   pub help : AskForHelp (after_silo (codes "--help" ∷ []))
   pub help_of_steps : AskForHelp (after_silo (codes "steps" ∷ codes "-h" ∷ []))

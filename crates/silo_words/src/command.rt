@@ -3,7 +3,8 @@
 ghost use Rattle.std.specs.Prelude.{◌≡◌, IfOk, false, true};
 ghost use Rattle.clap.specs.Words.{app_of, rule_of};
 ghost use Rattle.clap.specs.declared.builder.command.Command.TheViews.{out-Command as fields_of};
-ghost use Rattle.silo_words.specs.Words.{age_rule, answer_app, answering_app, audit_app, journal_rule, path_rule, sends_rule, serve_app, serving_app, silo_app, stepping_app, steps_app, tenants_rule, workers_rule};
+ghost use Rattle.silo_words.specs.Words.{age_rule, answer_app, answering_app, audit_app, journal_rule, path_rule, sends_rule, serve_app};
+ghost use Rattle.silo_words.specs.Words.{serving_app, silo_app, stepping_app, steps_app, tenants_rule, workers_rule};
 
 use clap::{Arg, ArgAction, Command, value_parser};
 use std::alloc::{AllocError, Global};

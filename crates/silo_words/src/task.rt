@@ -2,7 +2,8 @@
 
 ghost use Rattle.std.specs.Prelude.{◌≡◌, ◌↔◌, ℕ, List, IfOk, IfErr, IfSome, IfNone, IsTrue, Some, codes, map, option_map};
 ghost use Rattle.clap.specs.Words.{Row, Text, first_of, found_of, one_of, rows_of};
-ghost use Rattle.silo_words.specs.Words.{IsAge, IsNoAge, IsNoSends, IsNoTaskFor, IsNoWorkers, IsNumber, IsPlain, IsSends, IsTaskOf, IsWorkers, MakesNoTask, tenants_in};
+ghost use Rattle.silo_words.specs.Words.{IsAge, IsNoAge, IsNoSends, IsNoTaskFor, IsNoWorkers, IsNumber, IsPlain, IsSends, IsTaskOf};
+ghost use Rattle.silo_words.specs.Words.{IsWorkers, MakesNoTask, tenants_in};
 
 use crate::fault::WordsFault;
 use clap::ArgMatches;

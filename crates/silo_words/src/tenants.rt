@@ -1,10 +1,12 @@
 //! The tenant arguments.
 
-ghost use Rattle.std.specs.Prelude.{◌≡◌, ◌≤◌, ◌↔◌, ◌++◌, ◌∷◌, [], ℕ, List, false, map, slice_index, IsTrue, IfSome, IfNone, IsSomeAnd, IfOk, IfErr, OnOk};
+ghost use Rattle.std.specs.Prelude.{◌≡◌, ◌≤◌, ◌↔◌, ◌++◌, ◌∷◌, [], ℕ, List, false, map, slice_index, IsTrue, IfSome, IfNone, IsSomeAnd};
+ghost use Rattle.std.specs.Prelude.{IfOk, IfErr, OnOk};
 ghost use Rattle.grain_id.specs.Names.{same_text};
 ghost use Rattle.grain_id.specs.Words.{is_word};
 ghost use Rattle.tenant_gate.specs.declared.limits.Limits.{Limits};
-ghost use Rattle.silo_words.specs.Tenants.{is_named, HasNoColon, IsLimitText, IsLimitsText, IsTenantText, IsNoTenantText, IsRefusedBehind, MayFollow, NameTenants, IsReason};
+ghost use Rattle.silo_words.specs.Tenants.{is_named, HasNoColon, IsLimitText, IsLimitsText, IsTenantText, IsNoTenantText};
+ghost use Rattle.silo_words.specs.Tenants.{IsRefusedBehind, MayFollow, NameTenants, IsReason};
 
 use grain_id::{IdFault, Tenant};
 use std::alloc::{AllocError, Global};

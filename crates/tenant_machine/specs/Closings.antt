@@ -14,9 +14,11 @@ use Rattle.silo_model.specs.Calls.{reply_to}
 use Rattle.silo_state.specs.declared.storing.StorageAnswer.{StorageAnswer}
 use Rattle.silo_state.specs.Closings.{ClosesTold, EndsTold}
 
--- What is made of the storage's answer: the grain has the new state; or the storage failed; or the row has another version, and the activation ends;
+-- What is made of the storage's answer: the grain has the new state; or the storage failed; or the row has another version, and the
+-- activation ends;
 -- or the row has the last version; or memory was refused, and nothing changed.
-abbrev pub ClosesBy : {E : Type 0} → Entries → List Reply → Grain → ℕ → Bool → ℕ → ℕ → Result StorageAnswer StoreFault → Result Bool E → Entries → List Reply → Type 0
+abbrev pub ClosesBy : {E : Type 0} → Entries → List Reply → Grain → ℕ → Bool → ℕ → ℕ → Result StorageAnswer StoreFault → Result Bool E
+    → Entries → List Reply → Type 0
 ClosesBy old replies grain turn idle_after now last (Ok s) result new told =
     (result ≡ Ok true) × ClosesTold old replies grain turn (Some (ready s.state s.version)) now (Ok s.told) new told
 ClosesBy old replies grain turn idle_after now last (Err storage.Failed) result new told =

@@ -1,4 +1,5 @@
--- What the gate and the call rule answer to a request of a machine's tenant, and what a machine is after a reply and after a request that was accepted.
+-- What the gate and the call rule answer to a request of a machine's tenant, and what a machine is after a reply and after a request that
+-- was accepted.
 use Rattle.std.specs.Prelude.{◌≡◌, ◌+◌, ◌++◌, ℕ, Option, Some, None, Result, Ok, Err}
 use Rattle.std.specs.FinMap as map
 use Rattle.grain_id.specs.Names.{Grain}
@@ -18,7 +19,14 @@ use Rattle.tenant_machine.specs.Sends.{without_first}
 
 -- what a step at the grain sees
 abbrev pub seen_at : Machine → Grain → Context
-seen_at m g = record { tenant = m.tenant; account = m.account; clock = m.clock; active = map.len m.entries; entry = map.get m.entries g; row = map.get m.rows g }
+seen_at m g = record {
+  tenant = m.tenant;
+  account = m.account;
+  clock = m.clock;
+  active = map.len m.entries;
+  entry = map.get m.entries g;
+  row = map.get m.rows g;
+}
 
 -- the account of the tenant, if it may ask the grain
 abbrev pub gated : Logic → Machine → Grain → Result Account Fault
@@ -37,7 +45,8 @@ abbrev pub with_accepted : Machine → Party → Grain → Call → Option Accou
 with_accepted m sender g call None = m
 with_accepted m sender g call (Some a) = record m {
   account = Some (record a { count = a.count + 1 });
-  entries = map.insert m.entries g (with_request m.clock (record { number = a.count + 1; sender = sender; call = call }) (map.get m.entries g));
+  entries = map.insert m.entries g (with_request m.clock (record { number = a.count + 1; sender = sender; call = call })
+      (map.get m.entries g));
 }
 
 -- what a client is told that asks how much its tenant has
@@ -47,7 +56,8 @@ status_outcome m (Some a) = Ok (status_value (map.len m.entries) m.clock a.count
 
 -- The row is overwritten and its version told; or it has the last version.
 abbrev pub Overwrites : Rows → Grain → Tree → Result Tree Fault → Rows → Type 0
-Overwrites rows g content (Ok said) after = (version : Option ℕ) × (poked rows g content ≡ Ok (version, after)) × (said ≡ version_value version)
+Overwrites rows g content (Ok said) after = (version : Option ℕ) × (poked rows g content ≡ Ok (version, after))
+    × (said ≡ version_value version)
 Overwrites rows g content (Err why) after = (poked rows g content ≡ Err spent) × (why ≡ VersionsSpent g) × (after ≡ rows)
 
 -- without the first call that the grain sent

@@ -40,7 +40,8 @@ pub fn close_turn<L: GrainLogic>(
 )
     requires is_open { IsSome (option_and_then (λ e. map.get e.turns closing.turn) (map.get entries.old closing.grain.now)) }
     requires room { vec_len replies.old < vec_capacity replies.old }
-    ensures { ClosesTold entries.old replies.old.items closing.entry.grain.now closing.entry.turn (option_map phase_of phase) now outcome entries.new replies.new.items }
+    ensures { ClosesTold entries.old replies.old.items closing.entry.grain.now closing.entry.turn
+        (option_map phase_of phase) now outcome entries.new replies.new.items }
 {
     let Some(sender) = entries.close(closing.grain, closing.turn, phase, now) else {
         unreachable!()
@@ -59,7 +60,8 @@ fn end_activation<L: GrainLogic>(
 )
     requires is_open { IsSome (option_and_then (λ e. map.get e.turns closing.turn) (map.get entries.old closing.grain.now)) }
     requires room { vec_len replies.old < vec_capacity replies.old }
-    ensures { EndsTold entries.old replies.old.items closing.entry.grain.now closing.entry.turn closing.entry.idle_after last (Err why) entries.new replies.new.items }
+    ensures { EndsTold entries.old replies.old.items closing.entry.grain.now closing.entry.turn closing.entry.idle_after last
+        (Err why) entries.new replies.new.items }
 {
     let Some(sender) = entries.close(closing.grain, closing.turn, Some(Phase::Waiting), last) else {
         unreachable!()
@@ -95,7 +97,8 @@ pub fn close_by<L: GrainLogic>(
     requires is_open { IsSome (option_and_then (λ e. map.get e.turns closing.turn) (map.get entries.old closing.grain.now)) }
     requires room { vec_len replies.old < vec_capacity replies.old }
     requires named { named ≡ closing.grain.now }
-    ensures { ClosesBy entries.old replies.old.items closing.entry.grain.now closing.entry.turn closing.entry.idle_after now last stored result entries.new replies.new.items }
+    ensures { ClosesBy entries.old replies.old.items closing.entry.grain.now closing.entry.turn closing.entry.idle_after now last stored
+        result entries.new replies.new.items }
 {
     let stored = match stored {
         Ok(stored) => stored,
@@ -122,7 +125,8 @@ fn close_refused<L: GrainLogic>(
     requires is_open { IsSome (option_and_then (λ e. map.get e.turns closing.turn) (map.get entries.old closing.grain.now)) }
     requires room { vec_len replies.old < vec_capacity replies.old }
     requires named { named ≡ closing.grain.now }
-    ensures { ClosesBy entries.old replies.old.items closing.entry.grain.now closing.entry.turn closing.entry.idle_after now last (Err fault) result entries.new replies.new.items }
+    ensures { ClosesBy entries.old replies.old.items closing.entry.grain.now closing.entry.turn closing.entry.idle_after now last
+        (Err fault) result entries.new replies.new.items }
 {
     match fault {
         StoreFault::Failed => {
@@ -148,7 +152,8 @@ fn close_refused<L: GrainLogic>(
 pub fn unload<L: GrainLogic>(entries: &mut Entries<L>, replies: &mut Vec<Reply>, grain: &GrainId)
     requires { (e : Entry) → map.get entries.old grain.now ≡ Some e → length e.queue + vec_len replies.old ≤ vec_capacity replies.old }
     ensures gone { entries.new ≡ map.remove entries.old grain.now }
-    ensures told { (e : Entry) → map.get entries.old grain.now ≡ Some e → replies.new.items ≡ replies.old.items ++ flat_map (λ q. reply_to q.sender (Err StorageFailed)) e.queue }
+    ensures told { (e : Entry) → map.get entries.old grain.now ≡ Some e
+        → replies.new.items ≡ replies.old.items ++ flat_map (λ q. reply_to q.sender (Err StorageFailed)) e.queue }
 {
     let Some(activation) = entries.remove(grain) else {
         return;

@@ -88,7 +88,8 @@ impl<L: GrainLogic> Entries<L> {
     ) -> Result<(), AllocError>
         requires known { L.logic.knows grain.now.kind ≡ true }
         requires marked { IsMarked L.logic grain.now request }
-        ensures waits { OnOk result (self.new ≡ map.insert self.old grain.now (with_request clock (request_of request) (map.get self.old grain.now))) }
+        ensures waits { OnOk result (self.new ≡ map.insert self.old grain.now
+            (with_request clock (request_of request) (map.get self.old grain.now))) }
         ensures unchanged { OnErr result (self.new ≡ self.old) }
     {
         if let Some(activation) = self.by_grain.get_mut(grain) {
@@ -112,7 +113,8 @@ impl<L: GrainLogic> Entries<L> {
 
     /// The grain's activation is in another phase. Takes no memory.
     pub fn set_phase(&mut self, grain: &GrainId, phase: Phase)
-        ensures { (e : Entry) → map.get self.old grain.now ≡ Some e → self.new ≡ map.insert self.old grain.now (record e { phase = phase_of phase }) }
+        ensures { (e : Entry) → map.get self.old grain.now ≡ Some e
+            → self.new ≡ map.insert self.old grain.now (record e { phase = phase_of phase }) }
     {
         let Some(activation) = self.by_grain.get_mut(grain) else {
             return;

@@ -39,7 +39,8 @@ impl<L: GrainLogic> Activations<L> {
     /// A grain with whose activation something is to do, and what, or none if there is none. It walks
     /// over all activations.
     pub fn first_work(&self) -> Option<(&GrainId, PossibleStep)>
-        ensures found { IfSome result (λ found. work_on L.logic found.0.now (map.get self.now.entries found.0.now) ≡ Some (step_at found.0.now
+        ensures found { IfSome result (λ found. work_on L.logic found.0.now (map.get self.now.entries found.0.now)
+            ≡ Some (step_at found.0.now
             found.1)) }
         ensures none { IfNone result ((id : Grain) → work_on L.logic id (map.get self.now.entries id) ≡ None) }
     {

@@ -127,7 +127,8 @@ impl<S: GrainStorage, L: GrainLogic> SiloState<S, L> {
         message: Message,
     ) -> Result<(), AllocError>
         requires { Settles (verdict L.logic self.old.whole (tenant_of sender) grain.now) None }
-        ensures accepted { OnOk result (self.new ≡ with_accepted self.old sender grain.now message (map.get self.old.whole.accounts (tenant_of
+        ensures accepted { OnOk result (self.new ≡ with_accepted self.old sender grain.now message
+            (map.get self.old.whole.accounts (tenant_of
             sender))) }
         ensures unchanged { OnErr result (self.new ≡ self.old) }
     {

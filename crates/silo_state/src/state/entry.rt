@@ -80,7 +80,8 @@ fn unload<L: GrainLogic>(
         replies.old }
     ensures gone { activations.new.entries ≡ map.remove activations.old.entries grain.now }
     ensures age { activations.new.age ≡ activations.old.age }
-    ensures told { (e : Entry) → map.get activations.old.entries grain.now ≡ Some e → replies.new.items ≡ replies.old.items ++ flat_map (λ q.
+    ensures told { (e : Entry) → map.get activations.old.entries grain.now ≡ Some e
+        → replies.new.items ≡ replies.old.items ++ flat_map (λ q.
         reply_to q.sender (Err StorageFailed)) e.queue }
 {
     let Some(activation) = activations.remove(grain) else {

@@ -91,7 +91,8 @@ impl<L: GrainLogic> TenantMachine<L> {
 
     /// Why there is no room for one more request at the grain, if there is none.
     fn no_room(&self, account: &Account, grain: &GrainId) -> Result<Option<Fault>, AllocError>
-        ensures { IfOk result (λ why. Settles (room (seen_at self.now grain.now) account.now grain.now (map.get self.now.entries grain.now)) why) }
+        ensures { IfOk result (λ why. Settles (room (seen_at self.now grain.now) account.now grain.now
+            (map.get self.now.entries grain.now)) why) }
     {
         let limits = account.limits();
         let Some(activation) = self.entries.get(grain) else {
