@@ -12,7 +12,7 @@ use Rattle.silo_event.specs.declared.reply.Reply.{Reply}
 use Rattle.silo_model.specs.Pending.{is_of_client}
 use Rattle.lane_model.specs.Lanes.{Lane, same_lane}
 use Rattle.lane_model.specs.Serving.{replies_to}
-use Rattle.client_lanes.specs.RepliesByClient.{told_to, told_by, only_to}
+use Rattle.client_lanes.specs.inside.RepliesByClient.{told_to, told_by, only_to}
 
 -- ---- by client
 

@@ -10,7 +10,7 @@ use Rattle.silo_event.specs.declared.step.Step.{Step}
 use Rattle.lane_model.specs.Lanes.{Lane, AreDistinct, LanesStand, Remaining, TellsApart, is_used_up, others_after, remaining_after, remaining_at_end, remaining_of}
 use Rattle.lane_model.proofs.ToldApart.{steps_told_apart}
 use Rattle.lane_model.proofs.PassOfLanes.{pass_decides}
-use Rattle.client_lanes.specs.Passing.{Takes, Passes}
+use Rattle.client_lanes.specs.inside.Passing.{Takes, Passes}
 
 module _ (remaining after : Remaining) (k : Option Client) (s : Step) where
   -- what is left after the step, by what was left of its lane

@@ -1,3 +1,2 @@
 pub mod Foreign
-pub mod Passing
-pub mod RepliesByClient
+pub mod inside

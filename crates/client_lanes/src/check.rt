@@ -6,7 +6,7 @@ ghost use Rattle.indexmap.specs.IndexMap.{IsUnique, values};
 ghost use Rattle.std.specs.List.{list_all};
 ghost use Rattle.lane_model.specs.Lanes.{AreDistinct, LanesStand, done_steps_of, has_failed as failed_step, is_used_up, remaining_of};
 ghost use Rattle.lane_model.specs.Lanes.{same_lane, without_ticks_below};
-ghost use Rattle.client_lanes.specs.Passing.{Passes, Takes, left_in, steps_at};
+ghost use Rattle.client_lanes.specs.inside.Passing.{Passes, Takes, left_in, steps_at};
 
 use crate::lane::Lane;
 use grain_id::Caller;

@@ -4,7 +4,7 @@ ghost use Rattle.std.specs.Prelude.{◌≡◌, ◌++◌, IfOk, OnOk, Some, false
 ghost use Rattle.grain_id.specs.Names.{Client};
 ghost use Rattle.lane_model.specs.Lanes.{AreDistinct, same_lane};
 ghost use Rattle.lane_model.specs.Serving.{replies_to};
-ghost use Rattle.client_lanes.specs.RepliesByClient.{HoldsReplies, only_to, told_by, told_to};
+ghost use Rattle.client_lanes.specs.inside.RepliesByClient.{HoldsReplies, only_to, told_by, told_to};
 
 use crate::lane::Lane;
 use grain_id::Caller;

@@ -20,7 +20,7 @@ use Rattle.tenant_gate.specs.Table.{first_repeat}
 use Rattle.idle_collector.specs.declared.ages.AgeFault.{AgeFault}
 use Rattle.idle_collector.specs.declared.ages.AgeFault.TheVariants as faults
 use Rattle.idle_collector.specs.Ages.{Ages, kinds_of, most_ages, is_age, first_out_of_range, ages_fault, age_for, AreAscending, IsTable, IsInOrder, AgesAnswers}
-use Rattle.idle_collector.specs.AgesInOrder.{place_in, put_in, IsSorted, SortRefused}
+use Rattle.idle_collector.specs.inside.AgesInOrder.{place_in, put_in, IsSorted, SortRefused}
 
 abbrev Entry : Type 0
 Entry = List ℕ × ℕ

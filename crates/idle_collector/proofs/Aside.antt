@@ -11,7 +11,7 @@ use Rattle.grain_id.specs.Names.{Grain, grain_cmp, grain_eq}
 use Rattle.grain_id.proofs.Order.{grain_cmp_total, grain_cmp_exact, grain_eq_decides, eq_by_cmp-Decides}
 use Rattle.idle_collector.specs.declared.latest.Latest.{Latest}
 use Rattle.idle_collector.specs.declared.latest.Latest.TheVariants.{Nobody, Expected, Noted}
-use Rattle.idle_collector.specs.Aside.{is_of, with_latest, expected_of, held_with, IsApart, due_of}
+use Rattle.idle_collector.specs.inside.Aside.{is_of, with_latest, expected_of, held_with, IsApart, due_of}
 use Rattle.idle_collector.specs.Notes.{Notes, Collection, noted, forgotten, is_due, HoldsDue}
 use Rattle.idle_collector.proofs.OneMoment.{get-noted, get-forgotten}
 

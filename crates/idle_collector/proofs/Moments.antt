@@ -13,7 +13,7 @@ use Rattle.grain_id.specs.Names.{Grain, grain_cmp, grain_eq}
 use Rattle.grain_id.proofs.Order.{grain_cmp_total, grain_cmp_exact, grain_eq_decides, grain_ties}
 use Rattle.finite_maps.proofs.Maps as maps
 use Rattle.idle_collector.specs.Notes.{Notes, noted, forgotten}
-use Rattle.idle_collector.specs.Ties.{moments}
+use Rattle.idle_collector.specs.inside.Ties.{moments}
 
 -- the map has at a grain the moment that a look-up finds
 pub get-moments : (es : List (Grain × (ℕ × ℕ))) (q : Grain) → map.get (from_entries {R = grain_cmp} (moments es)) q ≡ option_map (λ p. p.0) (lookup (grain_eq q) es)

@@ -14,7 +14,7 @@ use Rattle.grain_id.specs.Names.{Grain, grain_cmp, grain_eq}
 use Rattle.grain_id.proofs.Order.{grain_cmp_total, grain_cmp_exact, grain_eq_decides, grain_ties}
 use Rattle.finite_maps.proofs.Maps as maps
 use Rattle.idle_collector.specs.Notes.{Notes, noted, forgotten, is_due, HoldsDue}
-use Rattle.idle_collector.specs.Aside.{all_noted, AreApart}
+use Rattle.idle_collector.specs.inside.Aside.{all_noted, AreApart}
 use Rattle.idle_collector.proofs.Prefix.{count, count_is}
 use Rattle.idle_collector.proofs.Due.{tie}
 

@@ -16,7 +16,7 @@ use Rattle.std.proofs.Math.Bool.{and-false}
 use Rattle.grain_id.specs.Names.{Grain, grain_cmp, grain_eq}
 use Rattle.grain_id.proofs.Order.{grain_cmp_total, grain_cmp_exact, eq_by_cmp-Decides}
 use Rattle.idle_collector.specs.Notes.{is_due, HoldsDue}
-use Rattle.idle_collector.specs.Ties.{time_cmp, moments, AreTied}
+use Rattle.idle_collector.specs.inside.Ties.{time_cmp, moments, AreTied}
 use Rattle.idle_collector.proofs.Ties.{same_note, refuted}
 use Rattle.idle_collector.proofs.Moments.{get-moments}
 

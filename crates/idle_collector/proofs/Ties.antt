@@ -15,7 +15,7 @@ use Rattle.grain_id.proofs.Keys.{grains}
 use Rattle.finite_maps.proofs.Keys.{key_itself}
 use Rattle.grain_id.specs.Names.{Grain, grain_eq}
 use Rattle.grain_id.proofs.Order.{eq_by_cmp-Decides, grain_eq_decides}
-use Rattle.idle_collector.specs.Ties.{time_cmp, AreTied}
+use Rattle.idle_collector.specs.inside.Ties.{time_cmp, AreTied}
 
 time_cmp_total : IsTotalOrder time_cmp
 time_cmp_total = then_total (on_total (λ p. p.0) nat_cmp_total) (on_total (λ p. p.1) nat_cmp_total)

@@ -1,5 +1,3 @@
 pub mod Notes
-pub mod Ties
-pub mod Aside
 pub mod Ages
-pub mod AgesInOrder
+pub mod inside

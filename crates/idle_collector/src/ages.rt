@@ -7,7 +7,7 @@ ghost use Rattle.grain_id.specs.Names.{text_cmp};
 ghost use Rattle.tenant_gate.specs.Age.{IsAge};
 ghost use Rattle.tenant_gate.specs.Table.{first_repeat};
 ghost use Rattle.idle_collector.specs.Ages.{AgesAnswers, IsTable, age_for, first_out_of_range, is_age, kind_age, kinds_of};
-ghost use Rattle.idle_collector.specs.AgesInOrder.{IsSorted, SortRefused, place_in, put_in};
+ghost use Rattle.idle_collector.specs.inside.AgesInOrder.{IsSorted, SortRefused, place_in, put_in};
 ghost use Rattle.idle_collector.specs.declared.ages.AgeFault.TheVariants as faults;
 
 use grain_id::Kind;

@@ -5,7 +5,7 @@ ghost use Rattle.std.specs.FinMap.{empty};
 ghost use Rattle.std.specs.BTreeSet as set;
 ghost use Rattle.slab.specs.Slab.{get, Updates, SameValues};
 ghost use Rattle.idle_collector.specs.Notes.{noted, forgotten, HoldsDue};
-ghost use Rattle.idle_collector.specs.Ties.{time_cmp};
+ghost use Rattle.idle_collector.specs.inside.Ties.{time_cmp};
 
 use grain_id::GrainId;
 use indexmap::IndexMap;
@@ -31,7 +31,7 @@ impl Model for ByMoment {
     ghost use Rattle.slab.specs.Slab.{get};
     ghost use Rattle.grain_id.specs.Names.{grain_eq};
     ghost use Rattle.idle_collector.specs.Notes.{Notes, coded_notes};
-    ghost use Rattle.idle_collector.specs.Ties.{moments, time_cmp, AreTied};
+    ghost use Rattle.idle_collector.specs.inside.Ties.{moments, time_cmp, AreTied};
 
     ghost Value = { Notes };
 

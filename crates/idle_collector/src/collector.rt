@@ -25,7 +25,7 @@ pub struct Collector {
 
 impl Model for Collector {
     ghost use Rattle.idle_collector.specs.Notes.{Collection, coded_collection};
-    ghost use Rattle.idle_collector.specs.Aside.{held_with, all_noted, IsHeldApart};
+    ghost use Rattle.idle_collector.specs.inside.Aside.{held_with, all_noted, IsHeldApart};
 
     ghost Value = { Collection };
 

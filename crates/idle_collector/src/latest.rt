@@ -1,7 +1,7 @@
 //! The grain that came last, which is held aside from the others.
 
 ghost use Rattle.std.specs.Prelude.{◌≡◌, ◌++◌, OnOk, OnErr};
-ghost use Rattle.idle_collector.specs.Aside.{is_of, with_latest, due_of, all_noted, AreApart, IsHeldApart};
+ghost use Rattle.idle_collector.specs.inside.Aside.{is_of, with_latest, due_of, all_noted, AreApart, IsHeldApart};
 
 use crate::by_moment::ByMoment;
 use crate::moment;

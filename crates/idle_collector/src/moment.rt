@@ -5,7 +5,7 @@
 
 ghost use Rattle.std.specs.Prelude.{◌≡◌, ◌++◌, ℕ, [], OnOk, nat_le, if◌then◌else◌};
 ghost use Rattle.idle_collector.specs.Notes.{forgotten};
-ghost use Rattle.idle_collector.specs.Aside.{all_noted, AreApart};
+ghost use Rattle.idle_collector.specs.inside.Aside.{all_noted, AreApart};
 
 use crate::by_moment::ByMoment;
 use grain_id::GrainId;

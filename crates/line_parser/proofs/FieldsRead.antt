@@ -18,8 +18,8 @@ use Rattle.request_codec.specs.Json.{json_depth, json_members_depth}
 use Rattle.request_codec.specs.Formed.{FieldsFormed}
 use Rattle.request_codec.specs.Lenient.{lenient_value, lenient_fields, is_not_whole, fields_not_whole}
 use Rattle.request_codec.specs.Written.{text_spelling, spelling, fields_spelling}
-use Rattle.line_parser.specs.Argument.{too_deep, is_deep, AddsFaults, PutsValue, PutsFields}
-use Rattle.line_parser.specs.Fields.{PlacedField, placed_bytes, placed_spelling, members_of, HoldsFields, AreBehind, AreSorted, field_spelling}
+use Rattle.line_parser.specs.inside.Argument.{too_deep, is_deep, AddsFaults, PutsValue, PutsFields}
+use Rattle.line_parser.specs.inside.Fields.{PlacedField, placed_bytes, placed_spelling, members_of, HoldsFields, AreBehind, AreSorted, field_spelling}
 use Rattle.line_parser.specs.declared.fields.Fields.{Fields}
 use Rattle.line_parser.specs.declared.faults.Faults.{Faults}
 use Rattle.line_parser.proofs.Noted.{adds_both, adds_as, deep_max, nothing_added}

@@ -14,8 +14,8 @@ use Rattle.request_codec.specs.Formed.{AreFormed}
 use Rattle.request_codec.specs.Lenient.{lenient_value, lenient_members, is_not_whole, are_not_whole}
 use Rattle.request_codec.specs.Written.{spelling, members_spelling}
 use Rattle.request_codec.proofs.Spelled.{length-spelling, some_length}
-use Rattle.line_parser.specs.Argument.{too_deep, is_deep, AddsFaults, PutsValue, PutsItems}
-use Rattle.line_parser.specs.LineMembers.{name_text, HoldsLineMembers, TakesMember, HasLineMembers}
+use Rattle.line_parser.specs.inside.Argument.{too_deep, is_deep, AddsFaults, PutsValue, PutsItems}
+use Rattle.line_parser.specs.inside.LineMembers.{name_text, HoldsLineMembers, TakesMember, HasLineMembers}
 use Rattle.line_parser.specs.declared.line_members.Name.{Name}
 use Rattle.line_parser.specs.declared.line_members.LineMembers.{LineMembers}
 use Rattle.line_parser.specs.declared.faults.Faults.{Faults}

@@ -13,7 +13,7 @@ use Rattle.serde_json.specs.Data.{Data, string, number, boolean, unsigned, Membe
 use Rattle.serde_json.specs.Events.{members_len}
 use Rattle.serde_json.specs.Find.{get_member}
 use Rattle.silo_event.specs.declared.refusal.Refusal.{Refusal}
-use Rattle.line_parser.specs.LineMembers.{name_text, IsNatural, Held, a_text, a_number, a_truth, a_value, IsHeld, Holds, put_bytes, slot_of, HoldsLineMembers, TakesMember, TakesValue}
+use Rattle.line_parser.specs.inside.LineMembers.{name_text, IsNatural, Held, a_text, a_number, a_truth, a_value, IsHeld, Holds, put_bytes, slot_of, HoldsLineMembers, TakesMember, TakesValue}
 use Rattle.line_parser.specs.declared.line_members.Name.{Name}
 use Rattle.line_parser.specs.declared.line_members.Name.TheVariants.{Op, From, Grain, Method, Id, Turn, Now, Failed, Args, State}
 use Rattle.line_parser.specs.declared.line_members.LineMembers.{LineMembers}

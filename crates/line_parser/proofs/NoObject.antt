@@ -9,7 +9,7 @@ use Rattle.serde_json.specs.Find.{as_object}
 use Rattle.serde_json.specs.Read.{of_json, of_items, number_of}
 use Rattle.silo_event.specs.declared.step.Step.{Step}
 use Rattle.line_parser.specs.Form.{step_of_json}
-use Rattle.line_parser.specs.LineMembers.{begins_object, asked_by}
+use Rattle.line_parser.specs.inside.LineMembers.{begins_object, asked_by}
 use Rattle.line_parser.proofs.GrammarLoops.{whole}
 
 pub no_form : (d : Data) → as_object d ≡ None → step_of_json d ≡ None

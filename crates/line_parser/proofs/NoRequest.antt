@@ -7,7 +7,7 @@ use Rattle.json.proofs.Grammar.{read_key-shorter, value-begin_object, members_no
 use Rattle.serde_json.specs.Data.{Members, no_members, object}
 use Rattle.serde_json.specs.Read.{of_members, converted}
 use Rattle.line_parser.specs.Form.{step_of_json}
-use Rattle.line_parser.specs.LineMembers.{named, asked_by}
+use Rattle.line_parser.specs.inside.LineMembers.{named, asked_by}
 use Rattle.line_parser.specs.declared.line_members.LineMembers.{LineMembers}
 use Rattle.line_parser.proofs.ItemsRead.{MembersRead}
 use Rattle.line_parser.proofs.GrammarLoops.{members_over}

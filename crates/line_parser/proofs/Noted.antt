@@ -13,8 +13,8 @@ use Rattle.request_codec.specs.Tree.{list, map}
 use Rattle.request_codec.specs.Json.{value_of_json, json_depth}
 use Rattle.request_codec.specs.Lenient.{lenient_value, is_not_whole}
 use Rattle.request_codec.proofs.JsonShown.{value_unless}
-use Rattle.line_parser.specs.Argument.{too_deep, is_deep, AddsFaults, PutsValue, why_by, why_of}
-use Rattle.line_parser.specs.LineMembers.{IsAsked, TakesValue}
+use Rattle.line_parser.specs.inside.Argument.{too_deep, is_deep, AddsFaults, PutsValue, why_by, why_of}
+use Rattle.line_parser.specs.inside.LineMembers.{IsAsked, TakesValue}
 use Rattle.line_parser.specs.declared.faults.Faults.{Faults}
 
 -- ---- what is noted

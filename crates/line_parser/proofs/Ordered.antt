@@ -15,7 +15,7 @@ use Rattle.finite_maps.proofs.Ascending.{less_from_is_lt}
 use Rattle.request_codec.specs.Spelling.{IsBelowFirst}
 use Rattle.request_codec.specs.Formed.{IsFormed, FieldsFormed}
 use Rattle.request_codec.specs.Lenient.{lenient_value, lenient_fields}
-use Rattle.line_parser.specs.Fields.{PlacedField, members_of, place_of, Ascend}
+use Rattle.line_parser.specs.inside.Fields.{PlacedField, members_of, place_of, Ascend}
 
 abbrev IsBelow : List ℕ → List ℕ → Type 0
 IsBelow name other = slice_cmp nat_cmp name other ≡ Less

@@ -17,7 +17,7 @@ use Rattle.silo_event.specs.declared.step.Step.{Step}
 use Rattle.silo_event.specs.declared.step.Step.TheVariants as step
 use Rattle.grain_id.specs.Names.{Grain}
 use Rattle.line_parser.specs.Form.{where_so, text_at, natural_at, truth_at, grain_at, caller_at, has_members, argument_at, failed_at, call_of, poke_of, status_of, grain_form, load_of, store_of, turn_alone, turn_form, tick_of, sweep_of, form_of, step_of_json}
-use Rattle.line_parser.specs.LineMembers.{named}
+use Rattle.line_parser.specs.inside.LineMembers.{named}
 use Rattle.line_parser.specs.declared.line_members.Name.{Name}
 use Rattle.line_parser.specs.declared.line_members.Name.TheVariants.{Op, From, Method, Id, Turn, Now, Failed, Args, State}
 use Rattle.line_parser.specs.declared.line_members.Name.TheVariants as name

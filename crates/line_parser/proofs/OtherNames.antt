@@ -10,7 +10,7 @@ use Rattle.serde_json.specs.Data.{Data, Members, no_members, member}
 use Rattle.serde_json.specs.Events.{members_len}
 use Rattle.serde_json.specs.Find.{get_member}
 use Rattle.finite_maps.proofs.Options.{none_from_cond}
-use Rattle.line_parser.specs.LineMembers.{name_text, named}
+use Rattle.line_parser.specs.inside.LineMembers.{name_text, named}
 use Rattle.line_parser.specs.declared.line_members.Name.{Name}
 use Rattle.line_parser.specs.declared.line_members.Name.TheVariants.{Op, From, Grain, Method, Id, Turn, Now, Failed, Args, State}
 use Rattle.line_parser.proofs.MembersTaken.{order, apart}

@@ -9,7 +9,7 @@ use Rattle.std.proofs.lemmas.List.Recursion.{is_sum_by}
 use Rattle.std.proofs.lemmas.List.Sorted.{IsPermutation-refl, IsPermutation-trans, IsPermutation-swap, IsPermutation-map, IsPermutation-keeps, IsPermutation-append_left, IsPermutation-append_right, IsPermutation-append_comm, All-permutation, sum_by-IsPermutation}
 use Rattle.std.proofs.Math.Seq.{take-append_seam, drop-append_seam}
 use Rattle.request_codec.specs.Reading.{is_above}
-use Rattle.line_parser.specs.Fields.{PlacedField, placed_bytes, placed_spelling, Place, place_of, place_kept, Ascend, LieWithin, bytes_at, HoldsFields, Stands, AreBehind, Moved, PutsSorted, AreSorted}
+use Rattle.line_parser.specs.inside.Fields.{PlacedField, placed_bytes, placed_spelling, Place, place_of, place_kept, Ascend, LieWithin, bytes_at, HoldsFields, Stands, AreBehind, Moved, PutsSorted, AreSorted}
 use Rattle.line_parser.specs.declared.fields.Fields.{Fields}
 use Rattle.line_parser.specs.declared.fields.Known.{Known}
 

@@ -11,7 +11,7 @@ use Rattle.json.specs.Text.{content, plain, after_backslash, prepend}
 use Rattle.json.specs.Word.{is_operator, is_space, head, ends_word, after_digits, after_minus, after_whole, after_fraction, after_exponent, after_number, number_before, word}
 use Rattle.json.specs.Lex.{Lexeme, token, quote, backslash, operator, space, other, class, string_token, Mode, between, in_word, in_string, lex_byte, lex}
 use Rattle.json.specs.Run.{is_plain}
-use Rattle.line_parser.specs.Plain.{is_number_end}
+use Rattle.line_parser.specs.inside.Plain.{is_number_end}
 
 -- ---- a text with no escape
 

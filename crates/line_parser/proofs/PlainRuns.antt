@@ -7,7 +7,7 @@ use Rattle.std.proofs.lemmas.List.Sums.{prefix_len-le-length}
 use Rattle.std.proofs.lemmas.Bool.{eq-eqb, ne_eqb, agree_below, agree_below_at}
 use Rattle.std.specs.List.{prefix_len}
 use Rattle.json.specs.Run.{is_stop, is_plain}
-use Rattle.line_parser.specs.Plain.{is_high}
+use Rattle.line_parser.specs.inside.Plain.{is_high}
 use lib.Bits.{bit_or}
 use lib.Lanes.{chunk, mask_l, zip2, top, Each1}
 use lib.Count.{count_trailing_zeros}

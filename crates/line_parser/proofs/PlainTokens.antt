@@ -7,10 +7,10 @@ use Rattle.json.specs.Text.{content, plain}
 use Rattle.json.specs.Word.{head, ends_word, after_number, number_before, word}
 use Rattle.json.specs.Lex.{Lexeme, token, string_token, between, in_word, lex_byte, lex, Place, fresh, after_comma, begins_colon, place_token, punctuate, tokens}
 use Rattle.json.specs.Json.{after_end_array}
-use Rattle.line_parser.specs.LineMembers.{name_text}
+use Rattle.line_parser.specs.inside.LineMembers.{name_text}
 use Rattle.line_parser.specs.declared.line_members.Name.{Name}
 use Rattle.line_parser.specs.declared.line_members.Name.TheVariants.{Op, From, Grain, Method, Id, Turn, Now, Failed, Args, State}
-use Rattle.line_parser.specs.Plain.{name_spelling, is_opener, PassesValue}
+use Rattle.line_parser.specs.inside.Plain.{name_spelling, is_opener, PassesValue}
 use Rattle.line_parser.proofs.PlainLexemes.{digit_class}
 
 -- ---- a token that closes nothing

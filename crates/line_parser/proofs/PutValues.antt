@@ -15,8 +15,8 @@ use Rattle.request_codec.specs.Tree as tree
 use Rattle.request_codec.specs.Tree.{list, map}
 use Rattle.request_codec.specs.Lenient.{lenient_value, lenient_members, lenient_fields, integer_or_null}
 use Rattle.request_codec.specs.Written.{spelling}
-use Rattle.line_parser.specs.Number.{IsWhole, IsNotWhole}
-use Rattle.line_parser.specs.Argument.{is_deep, AddsFaults, PutsValue, PutsItems, PutsFields}
+use Rattle.line_parser.specs.inside.Number.{IsWhole, IsNotWhole}
+use Rattle.line_parser.specs.inside.Argument.{is_deep, AddsFaults, PutsValue, PutsItems, PutsFields}
 use Rattle.line_parser.specs.declared.faults.Faults.{Faults}
 use Rattle.line_parser.proofs.Noted.{adds_both, adds_as, deep_outer}
 use Rattle.line_parser.proofs.GrammarLoops.{converted-array, converted-object}

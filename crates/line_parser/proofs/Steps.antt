@@ -19,7 +19,7 @@ use Rattle.request_codec.specs.Spelling.{SpellsState}
 use Rattle.silo_event.specs.declared.refusal.Refusal.{Refusal}
 use Rattle.silo_event.specs.declared.refusal.Refusal.TheVariants as refusal
 use Rattle.line_parser.specs.Form.{natural, where_so, text_at, natural_at, truth_at, has_members, argument_at, unless_refused, within_or, value_asked, message_asked, state_asked, form_of}
-use Rattle.line_parser.specs.Step.{form_text, of_form, said_by, IsValue, IsValueOf, AreMembersOf, FindsIn, Finds}
+use Rattle.line_parser.specs.inside.Step.{form_text, of_form, said_by, IsValue, IsValueOf, AreMembersOf, FindsIn, Finds}
 use Rattle.silo_event.specs.declared.step.Step.{Step}
 use Rattle.line_parser.specs.declared.line_members.LineMembers.{LineMembers}
 use Rattle.line_parser.specs.declared.line_members.ValueIn.{ValueIn}
@@ -27,7 +27,7 @@ use Rattle.line_parser.specs.declared.line_members.ValueIn.TheVariants.{Bytes, J
 use Rattle.line_parser.specs.declared.step.Form.{Form}
 use Rattle.line_parser.specs.declared.step.Form.TheVariants as form
 use Rattle.line_parser.specs.declared.line_members.Name.TheVariants.{Op, From, Id, Grain, Method, Turn, Now, Failed, Args, State}
-use Rattle.line_parser.specs.LineMembers.{a_text, a_number, a_truth, Holds, put_bytes, IsArgument, IsAsked, HoldsLineMembers}
+use Rattle.line_parser.specs.inside.LineMembers.{a_text, a_number, a_truth, Holds, put_bytes, IsArgument, IsAsked, HoldsLineMembers}
 
 -- ---- members
 

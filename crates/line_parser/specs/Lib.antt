@@ -1,9 +1,3 @@
 pub mod Form
 pub mod Meaning
-pub mod Number
-pub mod Argument
-pub mod Fields
-pub mod LineMembers
-pub mod Step
-pub mod QuickFault
-pub mod Plain
+pub mod inside

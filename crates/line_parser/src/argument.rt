@@ -6,8 +6,8 @@ ghost use Rattle.std.specs.Int.{w32, to_be_bytes};
 ghost use Rattle.serde_json.specs.Read.{number_of};
 ghost use Rattle.request_codec.specs.Tree.{null};
 ghost use Rattle.request_codec.specs.Written.{spelling};
-ghost use Rattle.line_parser.specs.Argument.{too_deep, is_deep, AddsFaults, PutsValue, PutsItems, PutsFields};
-ghost use Rattle.line_parser.specs.Number.{IsNotWhole};
+ghost use Rattle.line_parser.specs.inside.Argument.{too_deep, is_deep, AddsFaults, PutsValue, PutsItems, PutsFields};
+ghost use Rattle.line_parser.specs.inside.Number.{IsNotWhole};
 
 use crate::faults::Faults;
 use crate::fields::Fields;

@@ -2,7 +2,7 @@
 
 ghost use Rattle.std.specs.Prelude.{◌≡◌, ℕ, ◌+◌, ◌<◌, ◌≤◌, length, map, slice_index, IsTrue, IsAscii};
 ghost use Rattle.std.specs.Simd.Lanes.{mask_l, chunk};
-ghost use Rattle.line_parser.specs.Plain.{is_high};
+ghost use Rattle.line_parser.specs.inside.Plain.{is_high};
 
 use std::simd::prelude::*;
 

@@ -1,7 +1,7 @@
 //! Why a value is no argument and no state: it is too deep, or a number of it isn't whole.
 
 ghost use Rattle.std.specs.Prelude.{◌≡◌, false};
-ghost use Rattle.line_parser.specs.Argument.{why_of};
+ghost use Rattle.line_parser.specs.inside.Argument.{why_of};
 
 use silo_event::Refusal;
 

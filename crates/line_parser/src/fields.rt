@@ -2,8 +2,8 @@
 
 ghost use Rattle.std.specs.Prelude.{◌≡◌, ◌<◌, ◌≤◌, ◌^◌, ◌+◌, ◌++◌, ◌∷◌, [], ℕ, List, length, map, None, OnOk, slice_range};
 ghost use Rattle.serde_json.specs.Data.{Data};
-ghost use Rattle.line_parser.specs.Fields.{PlacedField, HoldsFields, AreBehind, PutsSorted, AreSorted, Ascend, LieWithin, bytes_at};
-ghost use Rattle.line_parser.specs.Fields.{place_kept, field_spelling};
+ghost use Rattle.line_parser.specs.inside.Fields.{PlacedField, HoldsFields, AreBehind, PutsSorted, AreSorted, Ascend, LieWithin, bytes_at};
+ghost use Rattle.line_parser.specs.inside.Fields.{place_kept, field_spelling};
 
 use crate::quick_fault::QuickFault;
 use arrayvec::ArrayVec;

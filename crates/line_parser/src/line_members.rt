@@ -4,8 +4,9 @@ ghost use Rattle.std.specs.Prelude.{◌≡◌, ◌<◌, ◌^◌, ◌||◌, ℕ, 
 ghost use Rattle.std.specs.Bool.{MatchBool};
 ghost use Rattle.json.specs.Token.{string, boolean};
 ghost use Rattle.serde_json.specs.Data.{no_members};
-ghost use Rattle.line_parser.specs.LineMembers.{name_text, named, TakesMember, TakesValue, asked_by, HoldsLineMembers, HasLineMembers};
-ghost use Rattle.line_parser.specs.LineMembers.{IsNatural};
+ghost use Rattle.line_parser.specs.inside.LineMembers.{name_text, named, TakesMember, TakesValue, asked_by, HoldsLineMembers};
+ghost use Rattle.line_parser.specs.inside.LineMembers.{HasLineMembers};
+ghost use Rattle.line_parser.specs.inside.LineMembers.{IsNatural};
 
 use crate::argument::put_value;
 use crate::faults::Faults;

@@ -4,7 +4,7 @@ ghost use Rattle.std.specs.Prelude.{◌≡◌, ◌==◌, ◌<◌, ◌^◌, ℕ, 
 ghost use Rattle.serde_json.specs.Find.{get, as_object};
 ghost use Rattle.serde_json.specs.View.{view};
 ghost use Rattle.line_parser.specs.Form.{text_at, natural_at, truth_at, has_members};
-ghost use Rattle.line_parser.specs.Step.{IsValueOf, AreMembersOf};
+ghost use Rattle.line_parser.specs.inside.Step.{IsValueOf, AreMembersOf};
 ghost use Rattle.line_parser.specs.declared.line_members.ValueIn.{ValueIn};
 
 use crate::line_members::{LineMembers, ValueIn};

@@ -3,7 +3,7 @@
 ghost use Rattle.std.specs.Prelude.{◌≡◌, ◌<◌, IfOk};
 ghost use Rattle.grain_id.specs.Reading.{grain_read, caller_read};
 ghost use Rattle.line_parser.specs.Form.{if_ok, caller_at, grain_at, failed_at};
-ghost use Rattle.line_parser.specs.Step.{Finds};
+ghost use Rattle.line_parser.specs.inside.Step.{Finds};
 
 use crate::line_members::LineMembers;
 use grain_id::{Caller, GrainId, IdFault, NameCache};

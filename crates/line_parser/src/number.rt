@@ -5,7 +5,7 @@ ghost use Rattle.std.specs.Int.{w64};
 ghost use Rattle.serde_json.specs.Data.{unsigned, float};
 ghost use Rattle.serde_json.specs.Find.{of_integer};
 ghost use Rattle.serde_json.specs.Read.{number_of, number_from, float_of};
-ghost use Rattle.line_parser.specs.Number.{IsWhole, IsNotWhole};
+ghost use Rattle.line_parser.specs.inside.Number.{IsWhole, IsNotWhole};
 
 use fast_float::Numeral;
 

@@ -9,8 +9,8 @@ ghost use Rattle.json.specs.Lex.{token, between, lex, tokens};
 ghost use Rattle.json.specs.Json.{after_end_array};
 ghost use Rattle.json.specs.Run.{is_plain};
 ghost use Rattle.json.specs.Reads.{token_of};
-ghost use Rattle.line_parser.specs.LineMembers.{name_text};
-ghost use Rattle.line_parser.specs.Plain.{name_spelling, is_opener, is_number_end, PassesValue};
+ghost use Rattle.line_parser.specs.inside.LineMembers.{name_text};
+ghost use Rattle.line_parser.specs.inside.Plain.{name_spelling, is_opener, is_number_end, PassesValue};
 
 use crate::line_members::Name;
 use crate::scan::{begins_with, digits_len, plain_len};

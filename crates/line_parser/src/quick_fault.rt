@@ -1,7 +1,7 @@
 //! Why the quick reader has no answer.
 
 ghost use Rattle.std.specs.Prelude.{◌≡◌};
-ghost use Rattle.line_parser.specs.QuickFault.{quick_fault_of};
+ghost use Rattle.line_parser.specs.inside.QuickFault.{quick_fault_of};
 ghost use Rattle.line_parser.specs.declared.quick_fault.QuickFault.TheVariants as fault;
 
 use json::Invalid;

@@ -5,8 +5,8 @@ ghost use Rattle.serde_json.specs.Data.{Data};
 ghost use Rattle.request_codec.specs.Limits.{message_version};
 ghost use Rattle.request_codec.specs.Written.{text_spelling};
 ghost use Rattle.line_parser.specs.Form.{argument_at, message_asked, state_asked, call_of, poke_of, status_of};
-ghost use Rattle.line_parser.specs.LineMembers.{IsAsked};
-ghost use Rattle.line_parser.specs.Step.{IsValue, AreMembersOf, FindsIn, Finds};
+ghost use Rattle.line_parser.specs.inside.LineMembers.{IsAsked};
+ghost use Rattle.line_parser.specs.inside.Step.{IsValue, AreMembersOf, FindsIn, Finds};
 
 use crate::asked::{call_with, message_of_json, poke_with, state_of_json};
 use crate::line_members::{LineMembers, ValueIn};

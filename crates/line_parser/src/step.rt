@@ -4,7 +4,7 @@ ghost use Rattle.std.specs.Prelude.{◌≡◌, None, IfSome, IfNone, IfOk};
 ghost use Rattle.serde_json.specs.Data.{Data};
 ghost use Rattle.line_parser.specs.Form.{where_so, has_members, grain_at, turn_alone, load_of, store_of, tick_of, sweep_of, form_of};
 ghost use Rattle.line_parser.specs.Form.{step_of_json};
-ghost use Rattle.line_parser.specs.Step.{form_text, of_form, said_by, AreMembersOf, FindsIn, Finds};
+ghost use Rattle.line_parser.specs.inside.Step.{form_text, of_form, said_by, AreMembersOf, FindsIn, Finds};
 
 use crate::line_members::{LineMembers, ValueIn};
 use crate::named::{failed_of, grain_of};

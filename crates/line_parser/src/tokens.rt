@@ -7,7 +7,7 @@ ghost use Rattle.json.specs.Token.{string, number, begin_object};
 ghost use Rattle.json.specs.Lex.{tokens};
 ghost use Rattle.json.specs.Json.{read_key, after_end_array};
 ghost use Rattle.json.specs.Reads.{token_of};
-ghost use Rattle.line_parser.specs.LineMembers.{begins_object, IsNext};
+ghost use Rattle.line_parser.specs.inside.LineMembers.{begins_object, IsNext};
 
 use crate::line_members::{Next, name_of};
 use crate::plain::{
@@ -31,7 +31,7 @@ pub(crate) struct Tokens<'a> {
 impl<'a> Model for Tokens<'a> {
     ghost use Rattle.std.specs.Prelude.{List};
     ghost use Rattle.json.specs.Token.{Token as SpecToken, tokens_code};
-    ghost use Rattle.line_parser.specs.Plain.{tokens_left};
+    ghost use Rattle.line_parser.specs.inside.Plain.{tokens_left};
 
     ghost Value = { List SpecToken };
 

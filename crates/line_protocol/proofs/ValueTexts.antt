@@ -11,7 +11,7 @@ use Rattle.request_codec.proofs.Levels.{value_at-leaf}
 use Rattle.request_codec.specs.Call.{state_value}
 use Rattle.request_codec.specs.declared.fault.CodecFault.{CodecFault}
 use Rattle.request_codec.specs.declared.fault.CodecFault.TheVariants as faults
-use Rattle.request_codec.specs.Build.{Named}
+use Rattle.request_codec.specs.inside.Build.{Named}
 use Rattle.request_codec.proofs.MemberLoops.{with_members, members-start, members-go_on, members-done, with_fields, fields-start, fields-go_on, fields-done}
 use Rattle.line_protocol.specs.Text.{text_of, more_members, more_fields}
 use Rattle.line_protocol.specs.inside.ValueText.{AddsValue, AddsMembers, AddsFields, AddsNone}

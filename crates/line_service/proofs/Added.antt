@@ -8,7 +8,7 @@ use Rattle.silo_event.specs.declared.step.Step.{Step}
 use Rattle.lane_model.specs.Lanes.{Lane, may_give, same_lane}
 use Rattle.lane_model.proofs.Pass.{itself}
 use Rattle.line_service.specs.Asked.{giver_of, givers_of, lane_from, lanes_by}
-use Rattle.line_service.specs.Places.{IsPlaceOf}
+use Rattle.line_service.specs.inside.Places.{IsPlaceOf}
 use Rattle.line_service.proofs.Givers.{is_there}
 use Rattle.line_service.proofs.Lanes.{froms, gives, lane_at, lane_is, lanes_pushed, lanes_written}
 

@@ -16,7 +16,7 @@ use Rattle.line_protocol.specs.LineTexts.{ended, joined, texts_of}
 use Rattle.line_protocol.specs.Text.{line_of}
 use Rattle.line_protocol.proofs.StepTexts.{texts_of-more}
 use Rattle.line_service.specs.ServedText.{is_grain, replies_to_grain}
-use Rattle.line_service.specs.Told.{lines_at, lines_if_any, with_line}
+use Rattle.line_service.specs.inside.Told.{lines_at, lines_if_any, with_line}
 
 -- a line behind others, or alone
 lines-more : (rs : List Reply) (r : Reply) → lines_if_any (rs ++ r ∷ []) ≡ Some (unwrap_or (lines_if_any rs) [] ++ ended (line_of r))

@@ -25,7 +25,7 @@ use Rattle.silo_event.specs.declared.reply.Party.TheVariants as party
 use Rattle.silo_event.specs.declared.reply.Reply.{Reply}
 use Rattle.line_protocol.specs.LineTexts.{texts_of}
 use Rattle.line_service.specs.ServedText.{grain_of, grains_told, is_grain, lines_by_grain, replies_to_grain}
-use Rattle.line_service.specs.Told.{HoldLines, lines_if_any}
+use Rattle.line_service.specs.inside.Told.{HoldLines, lines_if_any}
 
 -- ---- what stands at a grain
 

@@ -10,7 +10,7 @@ use Rattle.indexmap.specs.IndexMap.{IndexMap, get}
 use Rattle.grain_id.specs.Names.{Client}
 use Rattle.lane_model.specs.Lanes.{Lane, same_lane}
 use Rattle.lane_model.proofs.Pass.{same_lane_decides}
-use Rattle.line_service.specs.Places.{ArePlaced, IsPlaceOf}
+use Rattle.line_service.specs.inside.Places.{ArePlaced, IsPlaceOf}
 use Rattle.line_service.proofs.Added.{froms_of}
 
 module _ (gs : List (Option Client)) (giver : Option Client) where

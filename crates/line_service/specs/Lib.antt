@@ -1,5 +1,4 @@
 pub mod Asked
-pub mod Places
 pub mod ServedText
-pub mod Told
 pub mod Serving
+pub mod inside

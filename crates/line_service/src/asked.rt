@@ -4,7 +4,7 @@ ghost use Rattle.std.specs.Prelude.{◌≡◌, ◌++◌, ◌∷◌, [], IfOk, Li
 ghost use Rattle.silo_event.specs.declared.step.Step.{Step as StepValue};
 ghost use Rattle.lane_model.specs.Lanes.{AreDistinct};
 ghost use Rattle.line_service.specs.Asked.{giver_of, lanes_by, lanes_of, refusals_of};
-ghost use Rattle.line_service.specs.Places.{ArePlaced};
+ghost use Rattle.line_service.specs.inside.Places.{ArePlaced};
 
 use crate::giver::{copy_of, giver_of};
 use client_lanes::Lane;

@@ -7,7 +7,7 @@ ghost use Rattle.grain_id.specs.Names.{Grain, grain_cmp};
 ghost use Rattle.line_protocol.specs.LineTexts.{ended, joined};
 ghost use Rattle.line_protocol.specs.Text.{line_of};
 ghost use Rattle.line_service.specs.ServedText.{lines_by_grain};
-ghost use Rattle.line_service.specs.Told.{HoldLines, lines_at, with_line};
+ghost use Rattle.line_service.specs.inside.Told.{HoldLines, lines_at, with_line};
 
 use grain_id::GrainId;
 use line_protocol::reply_text;

@@ -3,7 +3,7 @@ use Rattle.std.proofs.Common.{◌≡◌, ℕ, List, [], ◌∷◌, ◌++◌, Som
 use Rattle.std.proofs.lemmas.Cmp.{nat_list_cmp_total}
 use Rattle.std.specs.Cmp.Lexicographic.{slice_cmp}
 use Rattle.finite_maps.proofs.Ascending.{less_from_is_lt}
-use Rattle.request_codec.specs.Build.{Named, AreBelow}
+use Rattle.request_codec.specs.inside.Build.{Named, AreBelow}
 use Rattle.request_codec.specs.Reading.{is_above}
 use Rattle.request_codec.specs.Seen.{entry_of}
 use Rattle.request_codec.proofs.Entries as entries

@@ -4,7 +4,7 @@ use Rattle.std.specs.Prelude.{max, IsUtf8}
 use Rattle.request_codec.specs.Tree.{Tree, null, truth, integer, text, list, map, Members, no_members, member, Fields, no_fields, field, depth, members_depth, fields_depth, members_of, fields_of}
 use Rattle.request_codec.specs.Spelling.{IsBelowFirst}
 use Rattle.request_codec.specs.Formed.{IsFormed, TestsDepth, TestDepths, TestFieldDepths}
-use Rattle.request_codec.specs.Build.{Named}
+use Rattle.request_codec.specs.inside.Build.{Named}
 
 -- ---- a list
 

@@ -1,7 +1,7 @@
 -- Reading members one after the other, as a loop does.
 use Rattle.std.proofs.Common.{◌≡◌, ℕ, suc, ◌-◌, ◌+◌, ◌≤◌, ◌<◌, true, false, List, [], ◌∷◌, ◌++◌, Option, Some, None, refl, sym, ap, ◌∙◌, arith}
 use Rattle.request_codec.specs.Tree.{Tree, Members, no_members, member, Fields, no_fields, field, members_of, fields_of}
-use Rattle.request_codec.specs.Build.{Named}
+use Rattle.request_codec.specs.inside.Build.{Named}
 use Rattle.request_codec.specs.Reading.{◌>>=◌, Parse, text_at, members_at, fields_at, is_above}
 
 -- ---- the members of a list

@@ -3,7 +3,7 @@ use Rattle.std.proofs.Common.{◌≡◌, ℕ, suc, ◌+◌, ◌<◌, ◌≤◌, 
 use Rattle.std.specs.Int.{w32, to_be_bytes}
 use Rattle.std.proofs.lemmas.List.{append-nil, length-append}
 use Rattle.request_codec.specs.Tree.{Tree, null, truth, integer, text, list, map, members_count, fields_count, members_of, fields_of}
-use Rattle.request_codec.specs.Build.{Named}
+use Rattle.request_codec.specs.inside.Build.{Named}
 use Rattle.request_codec.specs.Answers.{spelled_length, members_length, fields_length}
 use Rattle.request_codec.specs.Written.{Puts, text_spelling, spelling, members_spelling, fields_spelling}
 use Rattle.request_codec.specs.declared.fault.CodecFault.{CodecFault}

@@ -3,7 +3,7 @@ use Rattle.std.proofs.Common.{◌≡◌, ℕ, suc, ◌+◌, ◌-◌, ◌<◌, �
 use Rattle.request_codec.specs.Tree.{Tree, list, map, member, field}
 use Rattle.request_codec.specs.Reading.{Parse, ◌>>=◌, text_at, members_at, fields_at, is_above, value_at}
 use Rattle.request_codec.specs.Start.{leaf, list_of, map_of, start_at, value_behind}
-use Rattle.request_codec.specs.Ends.{end_of}
+use Rattle.request_codec.specs.inside.Ends.{end_of}
 use Rattle.request_codec.proofs.Levels.{value_at-leaf, value_at-started}
 
 -- what was read, where something is left behind it

@@ -3,7 +3,7 @@
 ghost use Rattle.std.specs.Prelude.{◌≡◌, ℕ, List, [], ◌∷◌, ◌++◌, IfOk, OnOk};
 ghost use Rattle.request_codec.specs.Tree as tree;
 ghost use Rattle.request_codec.specs.Tree.{Tree, members_of, fields_of};
-ghost use Rattle.request_codec.specs.Build.{Named, AreBelow};
+ghost use Rattle.request_codec.specs.inside.Build.{Named, AreBelow};
 
 use std::alloc::AllocError;
 

@@ -4,7 +4,7 @@ ghost use Rattle.std.specs.Prelude.{IsTrue, IsUtf8, FitsSigned};
 ghost use Rattle.std.specs.Int.{w64};
 ghost use Rattle.request_codec.specs.Tree.{members_of, fields_of};
 ghost use Rattle.request_codec.specs.Formed.{TestsDepth, TestDepths, TestFieldDepths};
-ghost use Rattle.request_codec.specs.Level.{AreKept};
+ghost use Rattle.request_codec.specs.inside.Level.{AreKept};
 
 use crate::shown::{Level, Shown};
 

@@ -5,7 +5,7 @@ ghost use Rattle.serde_json.specs.View.{view, items_view, members_view};
 ghost use Rattle.request_codec.specs.Tree.{members_of, fields_of};
 ghost use Rattle.request_codec.specs.Seen.{value_of, entry_of};
 ghost use Rattle.request_codec.specs.Json.{value_of_json, members_of_json, fields_of_json};
-ghost use Rattle.request_codec.specs.Converted.{Gives};
+ghost use Rattle.request_codec.specs.inside.Converted.{Gives};
 
 use crate::datum::Datum;
 use crate::fault::CodecFault;

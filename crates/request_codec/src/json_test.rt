@@ -3,7 +3,7 @@
 ghost use Rattle.std.specs.Prelude.{◌≡◌};
 ghost use Rattle.serde_json.specs.View.{view, items_view, members_view};
 ghost use Rattle.request_codec.specs.Lenient.{is_not_whole, are_not_whole, fields_not_whole};
-ghost use Rattle.request_codec.specs.Converted.{TestsJson};
+ghost use Rattle.request_codec.specs.inside.Converted.{TestsJson};
 
 use crate::depth::is_within;
 use crate::limits::MAX_DEPTH;

@@ -27,7 +27,7 @@ pub struct Message {
 
 impl Model for Message {
     ghost use Rattle.std.specs.Arc.{arc_value};
-    ghost use Rattle.request_codec.specs.SharedBytes.{bytes_of_shared};
+    ghost use Rattle.request_codec.specs.inside.SharedBytes.{bytes_of_shared};
     ghost use Rattle.std.specs.Prelude.{IsSome};
     ghost use Rattle.request_codec.specs.Call.{Call, coded_call};
 

@@ -2,7 +2,7 @@
 
 ghost use Rattle.std.specs.Prelude.{◌≡◌, ◌≤◌, length, IfOk};
 ghost use Rattle.std.specs.Arc.{arc_value};
-ghost use Rattle.request_codec.specs.SharedBytes.{bytes_of_shared};
+ghost use Rattle.request_codec.specs.inside.SharedBytes.{bytes_of_shared};
 
 use std::alloc::{AllocError, Global};
 use std::sync::Arc;

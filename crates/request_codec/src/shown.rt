@@ -3,8 +3,8 @@
 ghost use Rattle.std.specs.Prelude.{◌≡◌, ⊤, List, [], ◌∷◌, MatchOption};
 ghost use Rattle.request_codec.specs.Tree.{Tree, fields_of};
 ghost use Rattle.request_codec.specs.Spelling.{IsBelowFirst};
-ghost use Rattle.request_codec.specs.Build.{Named};
-ghost use Rattle.request_codec.specs.Level.{level_value, IsCounted, AreKept, HoldsInside};
+ghost use Rattle.request_codec.specs.inside.Build.{Named};
+ghost use Rattle.request_codec.specs.inside.Level.{level_value, IsCounted, AreKept, HoldsInside};
 
 /// One level of a value: a whole one, or how many members it has and what gives them.
 pub enum Level<'a, I, F> {

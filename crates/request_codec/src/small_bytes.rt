@@ -2,7 +2,7 @@
 //! was taken beforehand.
 
 ghost use Rattle.std.specs.Prelude.{◌≡◌, ◌≤◌, ◌+◌, ◌∷◌, length, take, box_value, IfOk};
-ghost use Rattle.request_codec.specs.SmallBytes.{bytes_of_small};
+ghost use Rattle.request_codec.specs.inside.SmallBytes.{bytes_of_small};
 ghost use Rattle.request_codec.specs.Tree.{integer};
 ghost use Rattle.request_codec.specs.Written.{text_spelling, spelling};
 

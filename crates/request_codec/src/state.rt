@@ -27,7 +27,7 @@ pub struct StateBytes {
 }
 
 impl Model for StateBytes {
-    ghost use Rattle.request_codec.specs.SmallBytes.{bytes_of_small};
+    ghost use Rattle.request_codec.specs.inside.SmallBytes.{bytes_of_small};
     ghost use Rattle.std.specs.Prelude.{IsSome};
     ghost use Rattle.request_codec.specs.Tree.{Tree};
     ghost use Rattle.request_codec.specs.Code.{coded_tree};

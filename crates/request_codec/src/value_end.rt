@@ -4,7 +4,7 @@ ghost use Rattle.std.specs.Prelude.{◌≡◌, None, option_map, is_some};
 ghost use Rattle.request_codec.specs.Limits.{depth_limit};
 ghost use Rattle.request_codec.specs.Reading.{value_at, members_at, fields_at, if_ended};
 ghost use Rattle.request_codec.specs.Call.{message_call, state_value, behind_version};
-ghost use Rattle.request_codec.specs.Ends.{end_of};
+ghost use Rattle.request_codec.specs.inside.Ends.{end_of};
 
 use crate::bytes::{Start, may_follow, start_of, text_of};
 use crate::limits::{MAX_DEPTH, MAX_MESSAGE_BYTES, MAX_STATE_BYTES, MESSAGE_VERSION};

@@ -10,7 +10,7 @@ use Rattle.grain_kinds.specs.Logic.{Logic}
 use Rattle.silo_model.specs.Opening.{Setup}
 use Rattle.silo_model.specs.Journal.{LeadsTo}
 use Rattle.silo_model.proofs.Journals.{journals_grow, not_now}
-use Rattle.silo_state.specs.Held.{Held}
+use Rattle.silo_state.specs.inside.Held.{Held}
 use Rattle.silo_state.specs.Moves.{Moves}
 use Rattle.silo_core.specs.History.{StepAnswersInParts}
 use Rattle.silo_core.specs.Runs.{noted}

@@ -7,7 +7,7 @@ use Rattle.grain_id.proofs.Order.{grain_cmp_total, grain_cmp_exact}
 use Rattle.grain_storage.specs.declared.row.Row.{Row}
 use Rattle.grain_storage.specs.Rows.{Rows}
 use Rattle.finite_maps.proofs.Parts.{entries-part}
-use Rattle.silo_core.specs.Shown.{rows_in, AreListed}
+use Rattle.silo_core.specs.inside.Shown.{rows_in, AreListed}
 
 -- the rows of the list of rows
 pub rows_again : (rows : Rows) → rows_in (map.entries rows) ≡ rows

@@ -48,7 +48,7 @@ impl<S: GrainStorage, L: GrainLogic> Model for Silo<S, L> {
     ghost use Rattle.silo_model.specs.Codes.{by_grain_code, by_text_code, by_number_code};
     ghost use Rattle.silo_model.specs.Journal.{LeadsTo};
     ghost use Rattle.silo_core.specs.History.{History};
-    ghost use Rattle.silo_core.specs.Shown.{setup_of, AreListed};
+    ghost use Rattle.silo_core.specs.inside.Shown.{setup_of, AreListed};
 
     ghost Value = { History };
 

@@ -19,7 +19,7 @@ use Rattle.std.proofs.lemmas.Map.Text.{hash_map_updates_text, is_eq-slice_cmp}
 use Rattle.grain_id.specs.Names.{text_cmp, same_text}
 use Rattle.grain_id.proofs.Order.{text_cmp_total, text_cmp_exact, same_text_decides, ties_from_Decides}
 use Rattle.grain_id.proofs.ByGrain.{text_alike}
-use Rattle.silo_state.specs.Accounts.{by_bytes}
+use Rattle.silo_state.specs.inside.Accounts.{by_bytes}
 
 -- two names are one, by their bytes or by their order
 name_ties : (t q : List ℕ) → bytes_eq t q ≡ eq_by_cmp text_cmp q t

@@ -18,7 +18,7 @@ use Rattle.silo_model.specs.Machine.{Entries}
 use Rattle.silo_model.specs.Calls.{with_request}
 use Rattle.silo_state.specs.Shown.{request_of, entry_of, entries_of}
 use Rattle.silo_state.specs.Marks.{IsMarked, AreMarked, AllMarked}
-use Rattle.silo_state.specs.Arrivals.{arrived, IsFirst}
+use Rattle.silo_state.specs.inside.Arrivals.{arrived, IsFirst}
 use Rattle.silo_state.proofs.Requests.{marked-put}
 use Rattle.silo_state.proofs.Shows.{get-entries, entries-put, unmoved, same_mail}
 

@@ -23,10 +23,10 @@ use Rattle.silo_model.specs.Stores.{row_poked, version_value}
 use Rattle.silo_model.specs.Whole.{Whole, whole_step}
 use Rattle.silo_model.proofs.Stored.{stores_at_one_row}
 use Rattle.silo_model.proofs.AskSteps.{poke_unknown_tenant, poke_across, poke_unknown_kind, poke_failed, poke_spent, poke_done}
-use Rattle.silo_state.specs.Held.{Held}
+use Rattle.silo_state.specs.inside.Held.{Held}
 use Rattle.silo_state.specs.Moves.{Moves}
-use Rattle.silo_state.specs.Requests.{with_told}
-use Rattle.silo_state.specs.Overwrites.{Overwrites}
+use Rattle.silo_state.specs.inside.Requests.{with_told}
+use Rattle.silo_state.specs.inside.Overwrites.{Overwrites}
 use Rattle.silo_state.specs.Verdicts.{gated}
 use Rattle.silo_state.proofs.Verdicts.{gated-cases}
 use Rattle.silo_state.proofs.AtRows.{done_at, refused_at}

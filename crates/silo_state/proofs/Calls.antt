@@ -20,9 +20,9 @@ use Rattle.silo_model.specs.Sends.{first_from}
 use Rattle.silo_model.specs.Whole.{Whole, whole_step}
 use Rattle.silo_model.specs.Contexts.{active_of, context_of}
 use Rattle.silo_model.proofs.CallSteps.{next_request}
-use Rattle.silo_state.specs.Held.{Held}
-use Rattle.silo_state.specs.Requests.{with_told, with_accepted}
-use Rattle.silo_state.specs.Deliveries.{changed_account, without_first}
+use Rattle.silo_state.specs.inside.Held.{Held}
+use Rattle.silo_state.specs.inside.Requests.{with_told, with_accepted}
+use Rattle.silo_state.specs.inside.Deliveries.{changed_account, without_first}
 use Rattle.silo_state.specs.Verdicts.{gated, verdict, Settles}
 use Rattle.silo_state.proofs.Verdicts.{accepts, call_made, call_is, delivery_made, delivery_is}
 

@@ -18,9 +18,9 @@ use Rattle.silo_model.specs.Calls.{reply_to}
 use Rattle.silo_model.specs.Turns.{plan_of, sent_by, with_sends, outcome_of}
 use Rattle.silo_model.specs.Whole.{whole_step}
 use Rattle.silo_model.proofs.TurnSteps.{end_absent, end_closed, end_waiting, end_loading, end_reads, end_writes, end_clears, end_turn}
-use Rattle.silo_state.specs.Activations.{Activations}
-use Rattle.silo_state.specs.Held.{Held}
-use Rattle.silo_state.specs.Notes.{none_waits}
+use Rattle.silo_state.specs.inside.Activations.{Activations}
+use Rattle.silo_state.specs.inside.Held.{Held}
+use Rattle.silo_state.specs.inside.Notes.{none_waits}
 use Rattle.silo_state.specs.Moves.{Moves}
 use Rattle.silo_state.specs.Sends.{with_more}
 use Rattle.silo_state.specs.Entries.{ClosesEntry}

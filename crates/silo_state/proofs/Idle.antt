@@ -18,9 +18,9 @@ use Rattle.silo_model.specs.Machine.{Entry, Entries, Request, Phase, loading}
 use Rattle.silo_model.specs.Idle.{is_ready, is_idle, due_moment}
 use Rattle.silo_model.specs.Calls.{with_request}
 use Rattle.std.proofs.lemmas.Bool.{false_from_ne_true}
-use Rattle.silo_state.specs.Activations.{IsLoading}
+use Rattle.silo_state.specs.inside.Activations.{IsLoading}
 use Rattle.silo_state.specs.Entries.{Activates, Begins}
-use Rattle.silo_state.specs.Notes.{due_at, none_waits, AreNoted}
+use Rattle.silo_state.specs.inside.Notes.{due_at, none_waits, AreNoted}
 use Rattle.idle_collector.specs.Notes.{Collection, noted_if}
 
 either_at : (age : ℕ) (b : Bool) (o p : Option Entry) → cond b (due_at age o) (due_at age p) ≡ due_at age (cond b o p)

@@ -15,8 +15,8 @@ use Rattle.silo_model.specs.Machine.{Entry, Phase, waiting, loading, ready}
 use Rattle.silo_model.specs.Calls.{reply_to}
 use Rattle.silo_model.specs.Whole.{whole_step}
 use Rattle.silo_model.proofs.EntrySteps.{load_waiting, load_ready, load_loading, load_fails}
-use Rattle.silo_state.specs.Activations.{Activations}
-use Rattle.silo_state.specs.Held.{Held}
+use Rattle.silo_state.specs.inside.Activations.{Activations}
+use Rattle.silo_state.specs.inside.Held.{Held}
 use Rattle.silo_state.specs.Moves.{Moves}
 use Rattle.silo_state.specs.Shown.{request_of}
 use Rattle.silo_state.specs.Reads.{refused, is_loading}

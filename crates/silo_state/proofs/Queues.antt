@@ -10,7 +10,7 @@ use Rattle.std.proofs.lemmas.List.{append-nil, nil_from_length, same_from_push}
 use Rattle.finite_maps.proofs.Lists.{push_not_empty}
 use Rattle.grain_id.specs.Names.{Grain, grain_cmp}
 use Rattle.grain_id.proofs.Order.{grain_cmp_total, grain_cmp_exact}
-use Rattle.silo_state.specs.Undelivered.{Index, is_grain, in_queue, numbers_at, IsSameIndex, AddsLast, TakesFirst, TakesLast, only_at}
+use Rattle.silo_state.specs.inside.Undelivered.{Index, is_grain, in_queue, numbers_at, IsSameIndex, AddsLast, TakesFirst, TakesLast, only_at}
 
 abbrev Queue : Type 0
 Queue = VecDeque ℕ Global

@@ -11,7 +11,7 @@ use Rattle.std.specs.declared.alloc.Global.{Global}
 use Rattle.grain_id.specs.Names.{text_cmp}
 use Rattle.silo_model.specs.Machine.{Account}
 use Rattle.silo_model.specs.Pending.{sends_of}
-use Rattle.silo_state.specs.Accounts.{by_bytes}
+use Rattle.silo_state.specs.inside.Accounts.{by_bytes}
 use Rattle.silo_state.specs.Sends.{first_source, send_of}
 use Rattle.silo_state.specs.declared.account.Sent.{Sent}
 use Rattle.silo_state.proofs.AccountMaps.{get-by_bytes}

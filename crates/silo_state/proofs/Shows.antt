@@ -26,10 +26,10 @@ use Rattle.silo_state.specs.Reads.{is_quiet}
 use Rattle.silo_model.specs.Turns as model
 use Rattle.silo_state.specs.Shown.{request_of, phase_of, entry_of, entries_of}
 use Rattle.silo_model.specs.Idle.{is_idle}
-use Rattle.silo_state.specs.Notes.{none_waits}
+use Rattle.silo_state.specs.inside.Notes.{none_waits}
 use Rattle.silo_model.specs.Idle.{is_ready}
 use Rattle.silo_state.specs.Marks.{AreMarked, AllMarked}
-use Rattle.silo_state.specs.Changes.{Starts, turn_at, opens_at, mail_begun, ClosesTurn, EndsTurn}
+use Rattle.silo_state.specs.inside.Changes.{Starts, turn_at, opens_at, mail_begun, ClosesTurn, EndsTurn}
 use Rattle.silo_state.specs.Entries.{Activates, Begins, opened_turn, closed_entry, ClosesEntry, Closes}
 use Rattle.silo_state.proofs.Requests.{marked-put, marked-begun, marked-closed}
 use Rattle.silo_state.proofs.Turns.{turn-opened, begins, is_some-turn_at}

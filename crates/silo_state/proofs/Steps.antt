@@ -18,8 +18,8 @@ use Rattle.silo_model.specs.Calls.{reply_to}
 use Rattle.silo_model.proofs.TurnSteps.{abandon_absent, abandon_closed, abandon_turn}
 use Rattle.silo_model.proofs.EntrySteps.{activate_waiting, begin_does}
 use Rattle.silo_model.specs.Machine.{Entry}
-use Rattle.silo_state.specs.Activations.{Activations}
-use Rattle.silo_state.specs.Held.{Held}
+use Rattle.silo_state.specs.inside.Activations.{Activations}
+use Rattle.silo_state.specs.inside.Held.{Held}
 use Rattle.silo_state.specs.Moves.{Moves, done_if}
 use Rattle.silo_state.specs.Entries.{Activates, Begins}
 use Rattle.silo_state.specs.Closings.{ClosesTold}

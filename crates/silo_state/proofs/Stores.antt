@@ -28,13 +28,13 @@ use Rattle.silo_model.specs.Stores.{row_written, row_cleared, at_row, version_va
 use Rattle.silo_model.specs.Whole.{Whole, whole_step}
 use Rattle.silo_model.proofs.Stored.{stores_at_one_row}
 use Rattle.silo_model.proofs.TurnSteps.{closed_turn, seen_at, store_absent, store_closed, store_waiting, store_loading, store_not, store_failed, store_read, store_changed, store_spent, store_stale}
-use Rattle.silo_state.specs.Activations.{Activations}
-use Rattle.silo_state.specs.Held.{Held}
+use Rattle.silo_state.specs.inside.Activations.{Activations}
+use Rattle.silo_state.specs.inside.Held.{Held}
 use Rattle.silo_state.specs.Moves.{Moves}
 use Rattle.silo_state.specs.Entries.{closed_entry, ClosesEntry}
 use Rattle.silo_state.specs.Finds.{open_in, IsOwn, asks}
 use Rattle.silo_state.specs.Closings.{ClosesTold, ClosesBy}
-use Rattle.silo_state.specs.Storing.{read_again, with_state, given, Gives, GivesMarked}
+use Rattle.silo_state.specs.inside.Storing.{read_again, with_state, given, Gives, GivesMarked}
 use Rattle.silo_state.specs.declared.storing.StorageAnswer.{StorageAnswer}
 use Rattle.silo_state.proofs.Ends.{planned, same_entry, same_phase, same_plan}
 use Rattle.silo_state.proofs.AtRows.{same_Ok, done_at, refused_at}

@@ -12,8 +12,8 @@ use Rattle.idle_collector.specs.Notes.{Notes, due, is_due}
 use Rattle.idle_collector.proofs.Due.{due-there}
 use Rattle.silo_model.specs.Machine.{Entry, Entries}
 use Rattle.silo_model.specs.Idle.{is_idle, due_moment, is_kept, kept_entries}
-use Rattle.silo_state.specs.Notes.{due_at, AreNoted}
-use Rattle.silo_state.specs.Sweeps.{without}
+use Rattle.silo_state.specs.inside.Notes.{due_at, AreNoted}
+use Rattle.silo_state.specs.inside.Sweeps.{without}
 
 twice : {X : Type 0} (a b : Bool) (o : Option X) → cond b None (cond a None o) ≡ cond (a || b) None o
 twice true true o = refl

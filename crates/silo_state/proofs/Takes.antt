@@ -15,8 +15,8 @@ use Rattle.silo_model.specs.Machine.{Send}
 use Rattle.silo_model.specs.Sends.{first_from}
 use Rattle.silo_state.specs.declared.account.Sent.{Sent}
 use Rattle.silo_state.specs.Sends.{send_of}
-use Rattle.silo_state.specs.Deliveries.{without_first, FindsFirst}
-use Rattle.silo_state.specs.Undelivered.{Index, is_grain, numbers_at, numbers_of, Rises, IsIndexed, IsSameIndex, AddsLast, TakesFirst, TakesLast, only_at}
+use Rattle.silo_state.specs.inside.Deliveries.{without_first, FindsFirst}
+use Rattle.silo_state.specs.inside.Undelivered.{Index, is_grain, numbers_at, numbers_of, Rises, IsIndexed, IsSameIndex, AddsLast, TakesFirst, TakesLast, only_at}
 use Rattle.silo_state.proofs.Queues.{only_own, all_but_last, last_gone}
 
 -- as the account shows them

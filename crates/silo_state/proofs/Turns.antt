@@ -24,7 +24,7 @@ use Rattle.silo_model.specs.Turns as model
 use Rattle.silo_state.specs.Shown.{request_of, phase_of, entry_of}
 use Rattle.silo_state.specs.Marks.{IsMarked, AreMarked}
 use Rattle.silo_model.specs.Idle.{is_idle}
-use Rattle.silo_state.specs.Changes.{turn_at, opens_at, mail_begun}
+use Rattle.silo_state.specs.inside.Changes.{turn_at, opens_at, mail_begun}
 use Rattle.silo_state.specs.Entries.{front_turn, turn_in, opened_turn, Begins}
 use Rattle.silo_state.proofs.Requests.{may_open-marked}
 use Rattle.silo_state.proofs.Idle.{some_open, some_waits}

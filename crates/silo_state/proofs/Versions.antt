@@ -9,7 +9,7 @@ use Rattle.grain_id.specs.Names.{Grain}
 use Rattle.request_codec.specs.Tree.{Tree}
 use Rattle.grain_storage.specs.declared.row.Row.{Row}
 use Rattle.grain_storage.specs.Rows.{Rows, stale, spent, last_version, next_version, version_of, is_spent, changed, written, emptied, cleared}
-use Rattle.silo_state.specs.Versions.{version_after, cleared_version, IsVersion}
+use Rattle.silo_state.specs.inside.Versions.{version_after, cleared_version, IsVersion}
 
 -- what a change that was done says of the row before it
 record Changed {A : Type 0} (expected : Option ℕ) (found : Option Row) (x y : A) : Type 0 where

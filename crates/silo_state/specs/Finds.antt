@@ -7,7 +7,7 @@ use Rattle.request_codec.specs.Call.{Call}
 use Rattle.grain_kinds.specs.Logic.{StorageCall, asks_nothing, reads_row, writes_row, clears_row}
 use Rattle.grain_kinds.specs.declared.turn.OpenedTurn.{OpenedTurn}
 use Rattle.silo_model.specs.Machine.{Entry, Request, Phase, waiting, loading, ready}
-use Rattle.silo_state.specs.Notes.{none_waits}
+use Rattle.silo_state.specs.inside.Notes.{none_waits}
 use Rattle.silo_state.specs.declared.finding.GrainAtClose.{GrainAtClose}
 use Rattle.silo_state.specs.declared.finding.TurnMatch.{TurnMatch}
 use Rattle.silo_state.specs.declared.finding.TurnMatch.TheVariants.{NotOpen, Stranger, Own}

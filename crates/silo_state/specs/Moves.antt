@@ -8,7 +8,7 @@ use Rattle.silo_event.specs.declared.step.StepFault.{StepFault}
 use Rattle.silo_event.specs.declared.step.StepFault.TheVariants.{Memory, Stranger}
 use Rattle.grain_kinds.specs.Logic.{Logic}
 use Rattle.silo_model.specs.Whole.{whole_step}
-use Rattle.silo_state.specs.Held.{Held}
+use Rattle.silo_state.specs.inside.Held.{Held}
 
 -- The whole is one step on; or the storage failed, and the whole is on by the step that is marked so; or the step isn't possible
 -- now, and nothing changed; or memory was refused, and nothing changed.

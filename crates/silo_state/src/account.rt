@@ -46,7 +46,7 @@ impl Model for Account {
     ghost use Rattle.silo_model.specs.Machine as model;
     ghost use Rattle.silo_model.specs.Calls.{last_number};
     ghost use Rattle.silo_state.specs.Sends.{send_of};
-    ghost use Rattle.silo_state.specs.Undelivered.{IsIndexed};
+    ghost use Rattle.silo_state.specs.inside.Undelivered.{IsIndexed};
 
     ghost Value = { model.Account };
 

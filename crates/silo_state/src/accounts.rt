@@ -33,7 +33,7 @@ impl Model for Accounts {
     ghost use Rattle.request_codec.specs.Code.{coded_tree};
     ghost use Rattle.silo_model.specs.Codes.{by_text_code};
     ghost use Rattle.silo_model.specs.Machine as model;
-    ghost use Rattle.silo_state.specs.Accounts.{by_bytes};
+    ghost use Rattle.silo_state.specs.inside.Accounts.{by_bytes};
 
     ghost Value = { FinMap text_cmp model.Account };
 
@@ -43,7 +43,7 @@ impl Model for Accounts {
 }
 
 impl Accounts {
-    ghost use Rattle.silo_state.specs.Lending.{LendsAccount};
+    ghost use Rattle.silo_state.specs.inside.Lending.{LendsAccount};
 
     /// A fresh account for each of the tenants, by the first limits of each.
     pub fn new(alloc: Global, tenants: &[(Tenant, Limits)]) -> Result<Accounts, AllocError>

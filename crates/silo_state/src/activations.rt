@@ -38,10 +38,10 @@ impl<L: GrainLogic> Model for Activations<L> {
     ghost use Rattle.request_codec.specs.Code.{coded_tree};
     ghost use Rattle.grain_id.specs.Names.{coded_grain};
     ghost use Rattle.silo_model.specs.Codes.{by_grain_code, by_number_code};
-    ghost use Rattle.silo_state.specs.Activations.{Activations, shown};
+    ghost use Rattle.silo_state.specs.inside.Activations.{Activations, shown};
     ghost use Rattle.silo_state.specs.Shown.{entries_of};
     ghost use Rattle.silo_state.specs.Marks.{AllMarked};
-    ghost use Rattle.silo_state.specs.Notes.{AreNoted};
+    ghost use Rattle.silo_state.specs.inside.Notes.{AreNoted};
 
     ghost Value = { Activations };
 

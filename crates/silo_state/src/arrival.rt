@@ -1,7 +1,7 @@
 //! How a request comes to an activation, or to a new one.
 
 ghost use Rattle.std.specs.Prelude.{◌≡◌, OnOk, OnErr, IfOk};
-ghost use Rattle.silo_state.specs.Arrivals.{arrived, IsFirst};
+ghost use Rattle.silo_state.specs.inside.Arrivals.{arrived, IsFirst};
 
 use activation_directory::{Activation, Phase};
 use silo_event::Moment;

@@ -1,10 +1,10 @@
 //! What becomes of one activation.
 
 ghost use Rattle.std.specs.Prelude.{◌≡◌, IfOk, OnOk, OnErr, Some};
-ghost use Rattle.silo_state.specs.Changes.{Starts, turn_at, opens_at, mail_begun, EndsTurn};
+ghost use Rattle.silo_state.specs.inside.Changes.{Starts, turn_at, opens_at, mail_begun, EndsTurn};
 ghost use Rattle.silo_state.specs.Shown.{phase_of, entry_of};
 ghost use Rattle.silo_model.specs.Idle.{is_idle, due_moment};
-ghost use Rattle.silo_state.specs.Notes.{none_waits, due_at};
+ghost use Rattle.silo_state.specs.inside.Notes.{none_waits, due_at};
 ghost use Rattle.silo_state.specs.Reads.{is_loading, is_quiet};
 ghost use Rattle.silo_state.specs.Work.{step_at, work_at};
 

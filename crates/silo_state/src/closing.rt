@@ -4,7 +4,7 @@ ghost use Rattle.std.specs.Prelude.{◌≡◌, ◌<◌, IsSome, Err, if◌then�
 ghost use Rattle.std.specs.Option.{option_map, option_and_then};
 ghost use Rattle.std.specs.FinMap as map;
 ghost use Rattle.silo_state.specs.Shown.{phase_of};
-ghost use Rattle.silo_state.specs.Activations.{HasRoom};
+ghost use Rattle.silo_state.specs.inside.Activations.{HasRoom};
 ghost use Rattle.silo_state.specs.Closings.{ClosesTold, EndsTold, ClosesBy, answer_failed};
 
 use crate::activations::Activations;

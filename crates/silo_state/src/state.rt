@@ -39,7 +39,7 @@ impl<S: GrainStorage, L: GrainLogic> Model for SiloState<S, L> {
     ghost use Rattle.request_codec.specs.Code.{coded_tree};
     ghost use Rattle.request_codec.specs.contracts.state.StateBytes as state;
     ghost use Rattle.silo_model.specs.Codes.{by_grain_code, by_text_code, by_number_code};
-    ghost use Rattle.silo_state.specs.Held.{Held, held_of};
+    ghost use Rattle.silo_state.specs.inside.Held.{Held, held_of};
 
     ghost Value = { Held };
 

@@ -4,7 +4,7 @@ ghost use Rattle.std.specs.Prelude.{◌≡◌, Ok, true};
 ghost use Rattle.grain_kinds.specs.Planned.{storage_call};
 ghost use Rattle.grain_storage.specs.Rows.{written, cleared};
 ghost use Rattle.silo_state.specs.Finds.{asks};
-ghost use Rattle.silo_state.specs.Storing.{read_again, with_state, given, Gives, GivesMarked};
+ghost use Rattle.silo_state.specs.inside.Storing.{read_again, with_state, given, Gives, GivesMarked};
 
 use crate::reading::read_state;
 use crate::version::{cleared_version, version_after, version_value};

@@ -3,7 +3,7 @@
 ghost use Rattle.std.specs.Prelude.{◌≡◌, IfOk, decimal};
 ghost use Rattle.request_codec.specs.Tree.{text};
 ghost use Rattle.silo_model.specs.Stores.{version_value};
-ghost use Rattle.silo_state.specs.Versions.{version_after, cleared_version, IsVersion};
+ghost use Rattle.silo_state.specs.inside.Versions.{version_after, cleared_version, IsVersion};
 
 use crate::values::state_of;
 use request_codec::{Datum, StateBytes};

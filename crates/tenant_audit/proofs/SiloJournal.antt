@@ -6,7 +6,7 @@ use Rattle.grain_kinds.specs.Logic.{Logic}
 use Rattle.silo_model.specs.Opening.{Setup}
 use Rattle.silo_model.specs.Journal.{LeadsTo}
 use Rattle.silo_core.specs.History as silo
-use Rattle.silo_core.specs.Shown.{rows_in}
+use Rattle.silo_core.specs.inside.Shown.{rows_in}
 use Rattle.silo_core.proofs.Opened.{rows_again}
 use Rattle.audit_model.specs.Parts.{setup_of}
 use Rattle.audit_model.specs.Report.{IsFirstDifference}

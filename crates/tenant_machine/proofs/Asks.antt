@@ -22,7 +22,7 @@ use Rattle.silo_model.specs.Step.{machine_step, effect_of}
 use Rattle.silo_model.proofs.Stored.{stores_at_one_row}
 use Rattle.silo_state.specs.Verdicts.{Settles}
 use Rattle.silo_state.proofs.AtRows.{done_at, refused_at}
-use Rattle.tenant_machine.specs.Requests.{seen_at, gated, with_told, status_outcome, Overwrites}
+use Rattle.tenant_machine.specs.inside.Requests.{seen_at, gated, with_told, status_outcome, Overwrites}
 
 module _ (logic : Logic) (m : Machine) where
   -- ---- steps of nobody

@@ -15,7 +15,7 @@ use Rattle.silo_model.specs.Effect.{applied, context_at}
 use Rattle.silo_model.specs.Calls.{called, call_settled, with_request}
 use Rattle.silo_model.specs.Step.{machine_step, effect_of}
 use Rattle.silo_state.specs.Verdicts.{Settles}
-use Rattle.tenant_machine.specs.Requests.{seen_at, verdict, with_told, with_accepted}
+use Rattle.tenant_machine.specs.inside.Requests.{seen_at, verdict, with_told, with_accepted}
 use Rattle.tenant_machine.proofs.Gate.{accepts}
 
 module _ (logic : Logic) (m : Machine) (sender : Party) (g : Grain) (call : codec.Call) where

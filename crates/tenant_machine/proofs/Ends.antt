@@ -21,7 +21,7 @@ use Rattle.silo_state.specs.Entries.{closed_entry, ClosesEntry}
 use Rattle.silo_state.specs.Finds.{open_in, IsOwn, asks}
 use Rattle.silo_state.specs.Sends.{with_more}
 use Rattle.silo_state.specs.Closings.{ClosesTold}
-use Rattle.tenant_machine.specs.Requests.{seen_at}
+use Rattle.tenant_machine.specs.inside.Requests.{seen_at}
 
 -- ---- what is done to an open turn
 

@@ -18,7 +18,7 @@ use Rattle.silo_model.specs.Turns.{activated, loaded, opened_if_ready}
 use Rattle.silo_state.specs.Entries.{Starts, Opens, Begins}
 use Rattle.silo_state.specs.Reads.{is_loading}
 use Rattle.tenant_machine.specs.Machines.{StepAnswers}
-use Rattle.tenant_machine.specs.Requests.{seen_at}
+use Rattle.tenant_machine.specs.inside.Requests.{seen_at}
 
 module _ (logic : Logic) (m : Machine) (g : Grain) where
   -- the machine with other entries

@@ -7,7 +7,7 @@ use Rattle.grain_id.specs.Names.{Grain, grain_eq}
 use Rattle.silo_model.specs.Machine.{Send}
 use Rattle.silo_model.specs.Sends.{first_from}
 use Rattle.tenant_machine.specs.declared.account.Sent.{Sent}
-use Rattle.tenant_machine.specs.Sends.{send_of, sends_of, without_first, first_place, FindsSend}
+use Rattle.tenant_machine.specs.inside.Sends.{send_of, sends_of, without_first, first_place, FindsSend}
 
 module _ (g : Grain) where
   -- the first, by whether that of the front is the grain's own

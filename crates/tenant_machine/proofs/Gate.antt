@@ -12,7 +12,7 @@ use Rattle.silo_model.specs.Effect.{Context}
 use Rattle.silo_model.specs.Calls.{last_number, kind_gate, gate, room, admitted}
 use Rattle.silo_state.specs.Verdicts.{Settles}
 use Rattle.silo_state.proofs.AtRows.{same_Ok}
-use Rattle.tenant_machine.specs.Requests.{seen_at, gated, verdict}
+use Rattle.tenant_machine.specs.inside.Requests.{seen_at, gated, verdict}
 
 -- the same account, of one result or another
 same_account : (x a : Account) → ◌≡◌ {A = Result Account Fault} (Ok x) (Ok a) → x ≡ a

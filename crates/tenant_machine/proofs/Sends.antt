@@ -16,8 +16,8 @@ use Rattle.silo_model.specs.Calls.{last_number, gate, room, admitted, called, ca
 use Rattle.silo_model.specs.Sends.{first_from, first_target, delivered, delivered_to, on_account}
 use Rattle.silo_model.specs.Step.{machine_step, effect_of}
 use Rattle.silo_state.specs.Verdicts.{Settles}
-use Rattle.tenant_machine.specs.Sends.{without_first}
-use Rattle.tenant_machine.specs.Requests.{seen_at, verdict, with_told, with_accepted, without_sent}
+use Rattle.tenant_machine.specs.inside.Sends.{without_first}
+use Rattle.tenant_machine.specs.inside.Requests.{seen_at, verdict, with_told, with_accepted, without_sent}
 use Rattle.tenant_machine.proofs.Gate.{accepts}
 
 -- nothing is left to deliver

@@ -28,14 +28,14 @@ use Rattle.silo_model.specs.Turns.{closed, ends_activation, row_changed, stored,
 use Rattle.silo_model.proofs.Stored.{stores_at_one_row}
 use Rattle.silo_state.specs.Entries.{closed_entry, ClosesEntry}
 use Rattle.silo_state.specs.Finds.{open_in, IsOwn, asks}
-use Rattle.silo_state.specs.Storing.{read_again, with_state, given, Gives, GivesMarked}
+use Rattle.silo_state.specs.inside.Storing.{read_again, with_state, given, Gives, GivesMarked}
 use Rattle.silo_state.specs.declared.storing.StorageAnswer.{StorageAnswer}
 use Rattle.silo_state.proofs.AtRows.{same_Ok, done_at, refused_at}
 use Rattle.silo_state.proofs.Idle.{some_waits}
 use Rattle.silo_state.specs.Closings.{ClosesTold}
-use Rattle.tenant_machine.specs.Closings.{ClosesBy}
+use Rattle.tenant_machine.specs.inside.Closings.{ClosesBy}
 use Rattle.tenant_machine.specs.Machines.{StepAnswers}
-use Rattle.tenant_machine.specs.Requests.{seen_at}
+use Rattle.tenant_machine.specs.inside.Requests.{seen_at}
 use Rattle.tenant_machine.proofs.Ends.{plan, turn_at, not_open, planned, put_own, sent_own}
 
 -- no such turn is open

@@ -12,7 +12,7 @@ use Rattle.activation_directory.specs.declared.activation.Activation.{Activation
 use Rattle.silo_model.specs.Idle.{is_due, is_kept, kept_entries}
 use Rattle.silo_state.specs.Marks.{AllMarked}
 use Rattle.silo_state.specs.Shown.{entry_of, entries_of}
-use Rattle.tenant_machine.specs.Sweeps.{left_of}
+use Rattle.tenant_machine.specs.inside.Sweeps.{left_of}
 
 left_entry : (clock age : ℕ) (o : Option Activation) → option_map entry_of (left_of clock age o) ≡ cond (is_kept clock age (option_map entry_of o)) (option_map entry_of o) None
 left_entry clock age None = refl

@@ -24,7 +24,7 @@ use Rattle.grain_id.proofs.ByGrain.{alike}
 use Rattle.activation_directory.specs.declared.activation.Activation.{Activation}
 use Rattle.silo_model.specs.Idle.{is_due}
 use Rattle.silo_state.specs.Shown.{entry_of}
-use Rattle.tenant_machine.specs.Sweeps.{left_of}
+use Rattle.tenant_machine.specs.inside.Sweeps.{left_of}
 
 abbrev pub Tree : Type 0
 Tree = BTreeMap Grain Activation

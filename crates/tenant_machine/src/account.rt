@@ -5,7 +5,7 @@ ghost use Rattle.grain_kinds.specs.Finished.{sent};
 ghost use Rattle.silo_model.specs.Calls.{last_number};
 ghost use Rattle.silo_model.specs.Opening.{fresh_account};
 ghost use Rattle.silo_model.specs.Turns.{sent_by};
-ghost use Rattle.tenant_machine.specs.Sends.{sends_of, first_place, without_first, FindsSend};
+ghost use Rattle.tenant_machine.specs.inside.Sends.{sends_of, first_place, without_first, FindsSend};
 
 use grain_id::GrainId;
 use request_codec::Message;
@@ -36,7 +36,7 @@ impl Model for Account {
     ghost use Rattle.request_codec.specs.Code.{coded_tree};
     ghost use Rattle.silo_model.specs.Machine as model;
     ghost use Rattle.silo_model.specs.Calls.{last_number};
-    ghost use Rattle.tenant_machine.specs.Sends.{sends_of};
+    ghost use Rattle.tenant_machine.specs.inside.Sends.{sends_of};
 
     ghost Value = { model.Account };
 

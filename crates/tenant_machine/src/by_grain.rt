@@ -7,7 +7,7 @@ ghost use Rattle.std.specs.FinMap as map;
 ghost use Rattle.grain_id.specs.Names.{Grain};
 ghost use Rattle.silo_model.specs.Idle.{is_due};
 ghost use Rattle.silo_state.specs.Shown.{entry_of};
-ghost use Rattle.tenant_machine.specs.Sweeps.{left_of};
+ghost use Rattle.tenant_machine.specs.inside.Sweeps.{left_of};
 
 use activation_directory::Activation;
 use grain_id::GrainId;
@@ -40,7 +40,7 @@ impl Model for ByGrain {
 }
 
 impl ByGrain {
-    ghost use Rattle.tenant_machine.specs.Lending.{LendsActivation};
+    ghost use Rattle.tenant_machine.specs.inside.Lending.{LendsActivation};
 
     /// No activations.
     pub fn new(alloc: Global) -> ByGrain

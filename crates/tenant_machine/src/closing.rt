@@ -8,7 +8,7 @@ ghost use Rattle.silo_model.specs.Calls.{reply_to};
 ghost use Rattle.silo_model.specs.Machine.{Entry};
 ghost use Rattle.silo_state.specs.Shown.{phase_of};
 ghost use Rattle.silo_state.specs.Closings.{ClosesTold, EndsTold};
-ghost use Rattle.tenant_machine.specs.Closings.{ClosesBy};
+ghost use Rattle.tenant_machine.specs.inside.Closings.{ClosesBy};
 
 use crate::entries::Entries;
 use activation_directory::Phase;

@@ -3,7 +3,7 @@ use Rattle.std.proofs.Common.{ℕ, List, [], ◌∷◌}
 use Rattle.request_codec.specs.Tree as tree
 use Rattle.request_codec.specs.Tree.{Tree, Members, no_members, member, Fields, no_fields, field, members_of}
 use Rattle.request_codec.specs.Spelling.{Spells, SpellEach, SpellFields}
-use Rattle.request_codec.specs.Level.{AreKept}
+use Rattle.request_codec.specs.inside.Level.{AreKept}
 use Rattle.turn_arena.specs.Ascending.{MapsAscend, MembersAscend, FieldsAscend}
 
 mutual

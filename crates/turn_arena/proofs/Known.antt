@@ -4,7 +4,7 @@ use Rattle.std.specs.Prelude.{IsSome, nat_lt, length, if◌then◌else◌, ◌==
 use Rattle.std.specs.Int.{w32}
 use Rattle.std.specs.Str.{IsUtf8, is_utf8}
 use Rattle.std.proofs.lemmas.Str.{IsUtf8-from_is_utf8}
-use Rattle.request_codec.specs.Build.{Named}
+use Rattle.request_codec.specs.inside.Build.{Named}
 use Rattle.request_codec.specs.Call.{Call, asks, call_behind, message_call, state_value}
 use Rattle.request_codec.specs.Limits.{depth_limit, message_limit, state_limit}
 use Rattle.request_codec.specs.Reading.{Parse, ◌>>=◌, number_at, characters_at, text_at, members_at, fields_at, value_at, is_above, if_ended}

@@ -11,7 +11,7 @@ use Rattle.request_codec.specs.Tree as tree
 use Rattle.request_codec.specs.Tree.{Tree, Fields, no_fields, field, fields_count}
 use Rattle.request_codec.proofs.Numbers.{wide32, number_again}
 use Rattle.turn_arena.specs.Fields.{fields_in}
-use Rattle.turn_arena.specs.Places.{behind_map}
+use Rattle.turn_arena.specs.inside.Places.{behind_map}
 
 few_fields : (fs : Fields) (bytes : List ℕ) → SpellFields fs bytes → fields_count fs ≤ length bytes
 few_fields no_fields bytes h = omega arith

@@ -6,7 +6,7 @@ use Rattle.std.proofs.Math.Nat.{le-max_left, le-max_right}
 use Rattle.std.proofs.Math.Seq.{take-append_seam}
 use Rattle.std.proofs.lemmas.List.{length-append, append-nil}
 use Rattle.std.proofs.lemmas.Option.{same_Some, some_pair_parts}
-use Rattle.request_codec.specs.Ends.{end_of}
+use Rattle.request_codec.specs.inside.Ends.{end_of}
 use Rattle.request_codec.specs.Reading.{text_at, value_at}
 use Rattle.request_codec.specs.Spelling.{SpellFields}
 use Rattle.request_codec.specs.Tree.{Tree, map, Fields, no_fields, field, fields_count, depth, fields_depth}
@@ -15,7 +15,7 @@ use Rattle.request_codec.proofs.Numbers.{text_again}
 use Rattle.request_codec.proofs.OneSpelling.{value_again_within}
 use Rattle.request_codec.proofs.Spelled.{spelling-is}
 use Rattle.turn_arena.specs.Fields.{by_order, field_put}
-use Rattle.turn_arena.specs.Places.{fields_front, fields_behind, IsPlaceIn}
+use Rattle.turn_arena.specs.inside.Places.{fields_front, fields_behind, IsPlaceIn}
 use Rattle.turn_arena.specs.declared.setting.Place.{Place}
 
 -- ---- what is spelled once the name is set

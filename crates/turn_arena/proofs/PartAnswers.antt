@@ -1,6 +1,6 @@
 -- What was answered, by what a part answered.
 use Rattle.std.proofs.Common.{◌≡◌, Option, Some, None, Result, Ok, Err, IfOk, subst}
-use Rattle.turn_arena.specs.Answers.{ReadsIn}
+use Rattle.turn_arena.specs.inside.Answers.{ReadsIn}
 use Rattle.turn_arena.specs.declared.fault.ArenaFault.{ArenaFault}
 use Rattle.turn_arena.specs.declared.fault.ArenaFault.TheVariants as faults
 

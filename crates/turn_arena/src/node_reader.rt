@@ -1,7 +1,7 @@
 //! Reading a value whose parts are put into an arena.
 
 ghost use Rattle.request_codec.specs.Reading.{value_at};
-ghost use Rattle.turn_arena.specs.Answers.{ReadsIn};
+ghost use Rattle.turn_arena.specs.inside.Answers.{ReadsIn};
 ghost use Rattle.turn_arena.specs.NodeValue.{node_value};
 
 use crate::fault::ArenaFault;

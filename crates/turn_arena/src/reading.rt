@@ -6,7 +6,7 @@ ghost use Rattle.request_codec.specs.Tree.{Tree};
 ghost use Rattle.request_codec.specs.Spelling.{SpellsMessage, SpellsState};
 ghost use Rattle.request_codec.specs.Reading.{value_at, if_ended};
 ghost use Rattle.request_codec.specs.Call.{message_call, state_value, behind_version, asks};
-ghost use Rattle.turn_arena.specs.Answers.{ReadsIn};
+ghost use Rattle.turn_arena.specs.inside.Answers.{ReadsIn};
 ghost use Rattle.turn_arena.specs.Ascending.{MapsAscend};
 ghost use Rattle.turn_arena.specs.NodeValue.{node_value};
 ghost use Rattle.turn_arena.specs.declared.fault.ArenaFault.TheVariants as faults;

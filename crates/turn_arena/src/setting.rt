@@ -11,7 +11,7 @@ ghost use Rattle.request_codec.specs.Tree.{depth, fields_count, fields_depth};
 ghost use Rattle.request_codec.specs.Written.{WritesAll, text_spelling, spelling};
 ghost use Rattle.turn_arena.specs.Fields.{fields_in, value_put};
 ghost use Rattle.turn_arena.specs.NodeValue.{node_value};
-ghost use Rattle.turn_arena.specs.Places.{IsPlaceIn, behind_map};
+ghost use Rattle.turn_arena.specs.inside.Places.{IsPlaceIn, behind_map};
 
 use crate::formed::known_text;
 use crate::node::Node;

@@ -3,7 +3,7 @@
 ghost use Rattle.std.specs.Prelude.{◌≡◌, IfOk};
 ghost use Rattle.request_codec.specs.Tree as tree;
 ghost use Rattle.turn_arena.specs.Ascending.{NamesAscend};
-ghost use Rattle.turn_arena.specs.Made.{IsListOf, IsMapOf};
+ghost use Rattle.turn_arena.specs.inside.Made.{IsListOf, IsMapOf};
 ghost use Rattle.turn_arena.specs.NodeValue.{node_value, node_values, field_values};
 
 use crate::node::{Field, Node};

@@ -29,7 +29,7 @@ use Rattle.silo_state.specs.Moves.{done_if}
 use Rattle.silo_core.specs.History.{Advances, Answered, History}
 use Rattle.silo_core.specs.Turns.{AnsweredTurn}
 use Rattle.silo_core.proofs.Steps.{done_parts}
-use Rattle.worker_host.specs.Working.{IsWorking, asks_once, may_ask_in, owing_to, was_done}
+use Rattle.worker_host.specs.inside.Working.{IsWorking, asks_once, may_ask_in, owing_to, was_done}
 use Rattle.worker_host.proofs.Owing.{owed_less, owed_on, owes_some, told_parts}
 use Rattle.worker_host.proofs.Paced.{asker_failed, paced_answer}
 

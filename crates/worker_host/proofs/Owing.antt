@@ -9,7 +9,7 @@ use Rattle.silo_event.specs.declared.reply.Party.TheVariants as party
 use Rattle.silo_event.specs.declared.reply.Reply.{Reply}
 use Rattle.silo_event.specs.declared.step.Step.{Step}
 use Rattle.lane_model.specs.Asking.{asking_of, asker_of, id_asked, id_of, ids_asked, ids_told}
-use Rattle.worker_host.specs.Working.{asks_once}
+use Rattle.worker_host.specs.inside.Working.{asks_once}
 
 one_or_none : (b : Bool) (id : ℕ) → length (cond b (id ∷ []) []) ≡ cond b 1 0
 one_or_none true id = refl

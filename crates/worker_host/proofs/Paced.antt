@@ -15,7 +15,7 @@ use Rattle.lane_model.specs.Asking.{asker_of}
 use Rattle.lane_model.specs.Pacing.{is_paced}
 use Rattle.lane_model.proofs.PacedGrowth.{paced_grows}
 use Rattle.silo_core.specs.History.{History, Advances, Answered}
-use Rattle.worker_host.specs.Working.{may_ask_in}
+use Rattle.worker_host.specs.inside.Working.{may_ask_in}
 
 -- a step whose storage call failed is asked by the same client
 pub asker_failed : (s : Step) → asker_of (as_failed s) ≡ asker_of s

@@ -4,7 +4,7 @@ use Rattle.std.specs.Prelude.{unwrap_or}
 use Rattle.indexmap.specs.IndexMap.{IndexMap, get}
 use Rattle.grain_id.specs.Names.{Client, client_eq}
 use Rattle.grain_id.proofs.Order.{client_eq_decides}
-use Rattle.worker_host.specs.Working.{owing_to}
+use Rattle.worker_host.specs.inside.Working.{owing_to}
 
 shown : (b : Bool) (n : ℕ) (found : Option ℕ) → unwrap_or (cond b (Some n) found) 0 ≡ cond b n (unwrap_or found 0)
 shown true n found = refl

@@ -1,3 +1,2 @@
 pub mod SetupCopy
-pub mod Working
 pub mod inside

@@ -3,7 +3,7 @@
 ghost use Rattle.std.specs.Prelude.{◌≡◌, ◌+◌, ◌-◌, ◌≤◌, ◌==◌, not, IfOk, IsFalse, IsTrue, OnErr, OnOk, length, drop, if◌then◌else◌};
 ghost use Rattle.grain_id.specs.Names.{Client, client_eq};
 ghost use Rattle.lane_model.specs.Asking.{asker_of, ids_told};
-ghost use Rattle.worker_host.specs.Working.{asks_once, owing_to};
+ghost use Rattle.worker_host.specs.inside.Working.{asks_once, owing_to};
 
 use grain_id::Caller;
 use indexmap::IndexMap;

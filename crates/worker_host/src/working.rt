@@ -14,7 +14,7 @@ ghost use Rattle.silo_state.specs.Entries.{opened_turn};
 ghost use Rattle.silo_state.specs.Moves.{done_if};
 ghost use Rattle.silo_core.specs.History.{Answered};
 ghost use Rattle.silo_core.specs.Turns.{AnsweredTurn};
-ghost use Rattle.worker_host.specs.Working.{may_ask_in, was_done};
+ghost use Rattle.worker_host.specs.inside.Working.{may_ask_in, was_done};
 
 use crate::owed;
 use crate::owed::Owing;
@@ -43,7 +43,7 @@ impl<S: GrainStorage, L: GrainLogic> Model for WorkingSilo<S, L> {
     ghost use Rattle.request_codec.specs.contracts.state.StateBytes as state;
     ghost use Rattle.silo_model.specs.Codes.{by_grain_code, by_text_code, by_number_code};
     ghost use Rattle.silo_core.specs.History.{History};
-    ghost use Rattle.worker_host.specs.Working.{IsWorking};
+    ghost use Rattle.worker_host.specs.inside.Working.{IsWorking};
 
     ghost Value = { History };
 

@@ -1,7 +1,7 @@
 //! For each grain the numbers of what it sent, and is not yet delivered.
 
 ghost use Rattle.std.specs.Prelude.{◌≡◌, [], OnOk, OnErr, IfNone, slice_get};
-ghost use Rattle.silo_state.specs.Undelivered.{numbers_at, IsSameIndex, AddsLast, TakesFirst, TakesLast};
+ghost use Rattle.silo_state.specs.inside.Undelivered.{numbers_at, IsSameIndex, AddsLast, TakesFirst, TakesLast};
 
 use grain_id::GrainId;
 use std::alloc::{AllocError, Global};

@@ -3,7 +3,7 @@
 ghost use Rattle.std.specs.Prelude.{◌≡◌, ◌∷◌, [], ◌++◌, ◌-◌, OnOk, OnErr, length, map, take};
 ghost use Rattle.std.specs.Option.{option_copied};
 ghost use Rattle.silo_state.specs.Sends.{first_source, send_of};
-ghost use Rattle.silo_state.specs.Deliveries.{FindsFirst, without_first};
+ghost use Rattle.silo_state.specs.inside.Deliveries.{FindsFirst, without_first};
 
 use crate::account::{Account, Sent, index};
 use grain_id::GrainId;

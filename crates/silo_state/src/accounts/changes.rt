@@ -2,7 +2,7 @@
 
 ghost use Rattle.std.specs.Prelude.{◌≡◌};
 ghost use Rattle.std.specs.FinMap as map;
-ghost use Rattle.silo_state.specs.Deliveries.{changed_account, without_first};
+ghost use Rattle.silo_state.specs.inside.Deliveries.{changed_account, without_first};
 
 use crate::accounts::Accounts;
 use grain_id::GrainId;

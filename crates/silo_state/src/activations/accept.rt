@@ -3,7 +3,7 @@
 ghost use Rattle.std.specs.Prelude.{◌≡◌, true, OnOk, OnErr, length};
 ghost use Rattle.std.specs.Option.{option_map};
 ghost use Rattle.std.specs.FinMap as map;
-ghost use Rattle.silo_state.specs.Arrivals.{with_waiting};
+ghost use Rattle.silo_state.specs.inside.Arrivals.{with_waiting};
 ghost use Rattle.silo_state.specs.Shown.{request_of, entries_of};
 ghost use Rattle.silo_state.specs.Marks.{IsMarked, AllMarked};
 

@@ -6,10 +6,10 @@ ghost use Rattle.std.specs.FinMap as map;
 ghost use Rattle.silo_model.specs.Machine.{Entry, ready};
 ghost use Rattle.silo_model.specs.Idle.{kept_entries};
 ghost use Rattle.silo_state.specs.Shown.{phase_of, entry_of};
-ghost use Rattle.silo_state.specs.Activations.{HasRoom, IsLoading};
+ghost use Rattle.silo_state.specs.inside.Activations.{HasRoom, IsLoading};
 ghost use Rattle.silo_state.specs.Entries.{Closes};
-ghost use Rattle.silo_state.specs.Notes.{none_waits};
-ghost use Rattle.silo_state.specs.Sweeps.{without};
+ghost use Rattle.silo_state.specs.inside.Notes.{none_waits};
+ghost use Rattle.silo_state.specs.inside.Sweeps.{without};
 
 use crate::activations::Activations;
 use crate::change;

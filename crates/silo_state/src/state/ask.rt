@@ -3,7 +3,7 @@
 ghost use Rattle.std.specs.Prelude.{◌≡◌, OnErr, IfOk};
 ghost use Rattle.silo_event.specs.declared.step.Step.TheVariants as step;
 ghost use Rattle.silo_state.specs.Moves.{Moves};
-ghost use Rattle.silo_state.specs.Overwrites.{Overwrites};
+ghost use Rattle.silo_state.specs.inside.Overwrites.{Overwrites};
 
 use crate::state::SiloState;
 use crate::status::status_value;

@@ -7,7 +7,7 @@ ghost use Rattle.silo_event.specs.declared.step.Step.TheVariants as step;
 ghost use Rattle.silo_model.specs.Calls.{told};
 ghost use Rattle.silo_state.specs.Moves.{Moves};
 ghost use Rattle.silo_state.specs.Verdicts.{gated, verdict, Passes, Settles};
-ghost use Rattle.silo_state.specs.Requests.{with_told, with_accepted};
+ghost use Rattle.silo_state.specs.inside.Requests.{with_told, with_accepted};
 
 use crate::account::Account;
 use crate::state::SiloState;

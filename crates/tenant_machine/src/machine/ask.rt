@@ -3,7 +3,7 @@
 ghost use Rattle.std.specs.Prelude.{◌≡◌, IfOk, OnErr};
 ghost use Rattle.silo_event.specs.declared.step.Step.TheVariants as step;
 ghost use Rattle.tenant_machine.specs.Machines.{StepAnswers};
-ghost use Rattle.tenant_machine.specs.Requests.{status_outcome, Overwrites};
+ghost use Rattle.tenant_machine.specs.inside.Requests.{status_outcome, Overwrites};
 
 use crate::machine::TenantMachine;
 use grain_id::{Caller, GrainId};

@@ -6,7 +6,7 @@ ghost use Rattle.silo_model.specs.Calls.{room};
 ghost use Rattle.silo_state.specs.Verdicts.{Settles};
 ghost use Rattle.std.specs.FinMap as map;
 ghost use Rattle.tenant_machine.specs.Machines.{StepAnswers};
-ghost use Rattle.tenant_machine.specs.Requests.{gated, verdict, seen_at, with_told, with_accepted};
+ghost use Rattle.tenant_machine.specs.inside.Requests.{gated, verdict, seen_at, with_told, with_accepted};
 
 use crate::account::Account;
 use crate::machine::TenantMachine;

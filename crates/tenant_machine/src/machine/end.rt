@@ -7,7 +7,7 @@ ghost use Rattle.silo_model.specs.Effect.{change_option};
 ghost use Rattle.silo_state.specs.Finds.{IsOwn};
 ghost use Rattle.silo_state.specs.Sends.{with_more};
 ghost use Rattle.tenant_machine.specs.Machines.{StepAnswers};
-ghost use Rattle.tenant_machine.specs.Sends.{sends_of};
+ghost use Rattle.tenant_machine.specs.inside.Sends.{sends_of};
 
 use crate::account::{Account, Sent, sent_by};
 use crate::closing::{ClosedTurn, close_turn};

@@ -3,7 +3,7 @@
 ghost use Rattle.std.specs.Prelude.{◌≡◌};
 ghost use Rattle.silo_event.specs.declared.step.Step.TheVariants as step;
 ghost use Rattle.tenant_machine.specs.Machines.{StepAnswers};
-ghost use Rattle.tenant_machine.specs.Requests.{without_sent};
+ghost use Rattle.tenant_machine.specs.inside.Requests.{without_sent};
 
 use crate::machine::TenantMachine;
 use grain_id::GrainId;

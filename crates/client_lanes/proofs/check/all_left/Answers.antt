@@ -2,7 +2,7 @@ use Rattle.std.proofs.Common.{◌++◌, List, [], ◌∷◌, ap, ◌∙◌, appe
 use Rattle.std.specs.FinMap as finite
 use Rattle.lane_model.specs.Lanes.{Lane}
 use Rattle.lane_model.proofs.Pass.{lanes_total}
-use Rattle.client_lanes.specs.Passing.{steps_at}
+use Rattle.client_lanes.specs.inside.Passing.{steps_at}
 use Rattle.client_lanes.proofs.Keys.{lane_tests, lanes_exact}
 use Rattle.client_lanes.proofs.Shown.{shown-insert}
 use Rattle.client_lanes.proofs.check.all_left.Goals as goal

@@ -7,7 +7,7 @@ use Rattle.std.specs.Global.{Global}
 use Rattle.indexmap.specs.IndexMap.{values}
 use Rattle.silo_event.specs.declared.step.Step.{Step}
 use Rattle.lane_model.proofs.Pass.{lanes_total}
-use Rattle.client_lanes.specs.Passing.{steps_at}
+use Rattle.client_lanes.specs.inside.Passing.{steps_at}
 use Rattle.client_lanes.proofs.Keys.{lane_tests, lanes_exact}
 use Rattle.client_lanes.proofs.Shown.{all-shown}
 use Rattle.client_lanes.proofs.Waiting.{same_length}

@@ -1,6 +1,6 @@
 use Rattle.std.proofs.Common.{Some, None, ap, sym, subst, ◌∙◌}
 use Rattle.lane_model.specs.Lanes.{remaining_at_end}
-use Rattle.client_lanes.specs.Passing.{Passes, left_in}
+use Rattle.client_lanes.specs.inside.Passing.{Passes, left_in}
 use Rattle.client_lanes.proofs.Steps.{goes_on, stops, told_by_end, no_more}
 use Rattle.client_lanes.proofs.check.lanes_stand.Goals as goal
 

@@ -1,7 +1,7 @@
 use Rattle.std.proofs.Common.{◌≡◌, Bool, length}
 use Rattle.silo_event.specs.declared.step.Step.{Step}
 use Rattle.lane_model.specs.Lanes.{TellsApart, remaining_at_end, remaining_of}
-use Rattle.client_lanes.specs.Passing.{left_in}
+use Rattle.client_lanes.specs.inside.Passing.{left_in}
 use Rattle.client_lanes.proofs.check.lanes_stand.Given as goal
 
 abbrev pub invariant-steps : goal.invariant-steps

@@ -4,7 +4,7 @@ use Rattle.std.specs.Borrow.{Bor}
 use Rattle.std.specs.FinMap as finite
 use Rattle.silo_event.specs.declared.step.Step.{Step}
 use Rattle.lane_model.proofs.Pass.{lanes_total}
-use Rattle.client_lanes.specs.Passing.{left_in, steps_at}
+use Rattle.client_lanes.specs.inside.Passing.{left_in, steps_at}
 use Rattle.client_lanes.proofs.Keys.{lane_tests, lanes_exact}
 use Rattle.client_lanes.proofs.Shown.{get-shown, shown-insert}
 use Rattle.client_lanes.proofs.Steps.{no_lane, no_step, other_step, next_step, first_of, none_of, empty_of, some_there}

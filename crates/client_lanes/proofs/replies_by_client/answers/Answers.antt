@@ -3,7 +3,7 @@ use Rattle.std.specs.Prelude.{map as map_list}
 use Rattle.grain_id.specs.Names.{Client}
 use Rattle.lane_model.specs.Lanes.{Lane, AreDistinct, same_lane}
 use Rattle.lane_model.specs.Serving.{replies_to}
-use Rattle.client_lanes.specs.RepliesByClient.{told_to, told_by}
+use Rattle.client_lanes.specs.inside.RepliesByClient.{told_to, told_by}
 use Rattle.client_lanes.proofs.Apart.{heads_apart, others_distinct}
 use Rattle.client_lanes.proofs.Collected.{EachHas, each_has, others_have, answered_more}
 use Rattle.client_lanes.proofs.replies_by_client.answers.Goals as goal

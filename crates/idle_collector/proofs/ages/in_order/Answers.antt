@@ -3,7 +3,7 @@ use Rattle.std.specs.List.{list_any}
 use Rattle.std.proofs.lemmas.List.{take_more}
 use Rattle.grain_id.specs.Names.{same_text}
 use Rattle.idle_collector.specs.Ages.{kinds_of, age_for}
-use Rattle.idle_collector.specs.AgesInOrder.{put_in, IsSorted}
+use Rattle.idle_collector.specs.inside.AgesInOrder.{put_in, IsSorted}
 use Rattle.idle_collector.proofs.AgesOf.{none_sorted, sorted-put, is_some-age_for, none_is, repeat_here, repeat_later}
 use Rattle.idle_collector.proofs.ages.in_order.Goals as goal
 

@@ -1,7 +1,7 @@
 use Rattle.std.proofs.Common.{◌≡◌, [], take, drop}
 use Rattle.tenant_gate.specs.Table.{first_repeat}
 use Rattle.idle_collector.specs.Ages.{kinds_of}
-use Rattle.idle_collector.specs.AgesInOrder.{IsSorted}
+use Rattle.idle_collector.specs.inside.AgesInOrder.{IsSorted}
 use Rattle.idle_collector.proofs.ages.in_order.Given as goal
 
 -- the ages so far stand in order, and none of their kinds repeats another

@@ -1,5 +1,5 @@
 use Rattle.std.proofs.Common.{◌≡◌, ◌+◌, drop}
-use Rattle.idle_collector.specs.AgesInOrder.{place_in}
+use Rattle.idle_collector.specs.inside.AgesInOrder.{place_in}
 use Rattle.idle_collector.proofs.ages.place_in.Given as goal
 
 abbrev pub invariant-ages : goal.invariant-ages

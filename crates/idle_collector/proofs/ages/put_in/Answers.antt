@@ -1,6 +1,6 @@
 use Rattle.std.proofs.Common.{ap, ◌∙◌}
 use Rattle.std.specs.List.{insert}
-use Rattle.idle_collector.specs.AgesInOrder.{place_in}
+use Rattle.idle_collector.specs.inside.AgesInOrder.{place_in}
 use Rattle.idle_collector.proofs.AgesOf.{insert_at_place}
 use Rattle.idle_collector.proofs.ages.put_in.Goals as goal
 

@@ -2,7 +2,7 @@ use Rattle.std.proofs.Common.{◌≡◌, None, ap, sym, ◌∙◌, subst}
 use Rattle.std.specs.FinMap as map
 use Rattle.idle_collector.specs.declared.latest.Latest.{Latest}
 use Rattle.idle_collector.specs.Notes.{Notes, noted}
-use Rattle.idle_collector.specs.Aside.{all_noted, with_latest, IsApart}
+use Rattle.idle_collector.specs.inside.Aside.{all_noted, with_latest, IsApart}
 use Rattle.idle_collector.proofs.OneMoment.{With, all-with, apart-with}
 use Rattle.idle_collector.proofs.latest.put_by.Goals as goal
 

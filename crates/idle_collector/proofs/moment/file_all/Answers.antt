@@ -1,6 +1,6 @@
 use Rattle.std.proofs.Common.{◌≡◌, ap, sym, ◌∙◌, subst, refl}
 use Rattle.idle_collector.specs.Notes.{noted}
-use Rattle.idle_collector.specs.Aside.{all_noted, AreApart}
+use Rattle.idle_collector.specs.inside.Aside.{all_noted, AreApart}
 use Rattle.idle_collector.proofs.OneMoment.{filed-next}
 use Rattle.idle_collector.proofs.moment.file_all.Goals as goal
 

@@ -1,5 +1,5 @@
 use Rattle.std.proofs.Common.{◌≡◌, length}
-use Rattle.idle_collector.specs.Aside.{all_noted, AreApart}
+use Rattle.idle_collector.specs.inside.Aside.{all_noted, AreApart}
 use Rattle.idle_collector.proofs.moment.file_all.Given as goal
 
 -- the notes are the same all along

@@ -1,7 +1,7 @@
 use Rattle.std.proofs.Common.{List, ap, sym, ◌∙◌, subst}
 use Rattle.grain_id.specs.Names.{Grain}
 use Rattle.idle_collector.specs.Notes.{Notes, forgotten}
-use Rattle.idle_collector.specs.Aside.{all_noted, AreApart}
+use Rattle.idle_collector.specs.inside.Aside.{all_noted, AreApart}
 use Rattle.idle_collector.proofs.OneMoment.{all-without, all-but, apart-but}
 use Rattle.idle_collector.proofs.moment.forget.Goals as goal
 

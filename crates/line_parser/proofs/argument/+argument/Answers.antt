@@ -4,8 +4,8 @@ use Rattle.json.specs.Json.{after_end_array, read_key}
 use Rattle.json.specs.Reads.{token_of}
 use Rattle.request_codec.specs.Written.{text_spelling, spelling}
 use Rattle.request_codec.specs.Tree as tree
-use Rattle.line_parser.specs.Argument.{PutsValue}
-use Rattle.line_parser.specs.Fields.{field_spelling, AreBehind}
+use Rattle.line_parser.specs.inside.Argument.{PutsValue}
+use Rattle.line_parser.specs.inside.Fields.{field_spelling, AreBehind}
 use Rattle.line_parser.proofs.ItemsRead.{items_start, items_next, items_stop}
 use Rattle.line_parser.proofs.FieldsRead.{begun, last_bytes, last_count, fields_start, fields_next, fields_stop}
 use Rattle.line_parser.proofs.PutValues.{put_null, put_bool, put_string, put_number, put_other_number, put_list, put_map}

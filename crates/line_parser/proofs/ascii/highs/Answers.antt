@@ -1,6 +1,6 @@
 use Rattle.std.proofs.Common.{refl, arith}
 use Rattle.std.proofs.lemmas.Simd.{zip2_splat_left}
-use Rattle.line_parser.specs.Plain.{is_high}
+use Rattle.line_parser.specs.inside.Plain.{is_high}
 use Rattle.line_parser.proofs.PlainRuns.{at_most, masked}
 use Rattle.line_parser.proofs.ascii.highs.Goals as goal
 

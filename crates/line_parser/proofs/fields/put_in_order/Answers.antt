@@ -1,5 +1,5 @@
 use Rattle.std.proofs.Common.{sym, ◌∙◌}
-use Rattle.line_parser.specs.Fields.{place_kept}
+use Rattle.line_parser.specs.inside.Fields.{place_kept}
 use Rattle.line_parser.proofs.Places.{places_next, place_there, at_next}
 use Rattle.line_parser.proofs.fields.put_in_order.Goals as goal
 

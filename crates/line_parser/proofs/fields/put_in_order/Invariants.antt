@@ -1,5 +1,5 @@
 use Rattle.std.proofs.Common.{map, drop, option_map}
-use Rattle.line_parser.specs.Fields.{place_kept}
+use Rattle.line_parser.specs.inside.Fields.{place_kept}
 use Rattle.line_parser.proofs.Places.{PutsPlaces}
 use Rattle.line_parser.proofs.fields.put_in_order.Given as goal
 

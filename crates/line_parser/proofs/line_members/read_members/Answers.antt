@@ -1,6 +1,6 @@
 use Rattle.std.proofs.Common.{Bool, true, false, inl, inr, Some, None, refl, ap, ◌∙◌, arith}
 use Rattle.std.specs.Bool.{MatchBool}
-use Rattle.line_parser.specs.LineMembers.{name_text}
+use Rattle.line_parser.specs.inside.LineMembers.{name_text}
 use Rattle.line_parser.proofs.ItemsRead.{members_start, members_next, members_stop}
 use Rattle.line_parser.proofs.NoRequest.{members_broken, other_member, text_behind}
 use Rattle.line_parser.proofs.NoObject.{asked_by-no_object}

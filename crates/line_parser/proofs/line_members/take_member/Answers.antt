@@ -1,6 +1,6 @@
 use Rattle.std.proofs.Common.{◌≡◌, ◌+◌, true, ap, refl, sym, subst, ◌∙◌, rules}
 use Rattle.std.specs.Prelude.{option_map}
-use Rattle.line_parser.specs.LineMembers.{a_text, a_number, a_truth, TakesMember}
+use Rattle.line_parser.specs.inside.LineMembers.{a_text, a_number, a_truth, TakesMember}
 use Rattle.line_parser.specs.declared.line_members.LineMembers.{LineMembers}
 use Rattle.line_parser.specs.declared.line_members.Name.TheVariants as name
 use Rattle.line_parser.proofs.MembersTaken.{text_put, natural_put, truth_put, args_taken, state_taken, neither}

@@ -1,5 +1,5 @@
 use Rattle.std.proofs.Common.{List, ℕ, subst}
-use Rattle.line_parser.specs.Argument.{PutsValue}
+use Rattle.line_parser.specs.inside.Argument.{PutsValue}
 use Rattle.line_parser.proofs.Noted.{value_asked_for}
 use Rattle.line_parser.proofs.line_members.take_value.Goals as goal
 

@@ -1,7 +1,7 @@
 use Rattle.std.proofs.Common.{◌≡◌, drop, get_or, true, false, ◌==◌, sym, ap, subst, ◌∙◌, arith, take_all, length-drop}
 use Rattle.fast_float.specs.Text.{scan}
 use Rattle.serde_json.specs.Read.{number_of, number_from}
-use Rattle.line_parser.specs.Number.{IsNotWhole}
+use Rattle.line_parser.specs.inside.Number.{IsNotWhole}
 use Rattle.line_parser.proofs.number.is_not_whole.Goals as goal
 
 pub returns-then-has_minus : goal.returns-then-has_minus

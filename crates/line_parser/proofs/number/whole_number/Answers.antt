@@ -4,7 +4,7 @@ use Rattle.fast_float.specs.Text.{scan}
 use Rattle.serde_json.specs.Data.{unsigned}
 use Rattle.serde_json.specs.Find.{of_integer}
 use Rattle.serde_json.specs.Read.{number_of, number_from}
-use Rattle.line_parser.specs.Number.{IsWhole}
+use Rattle.line_parser.specs.inside.Number.{IsWhole}
 use Rattle.line_parser.proofs.number.whole_number.Goals as goal
 
 pub returns-in_ok-number : goal.returns-in_ok-number

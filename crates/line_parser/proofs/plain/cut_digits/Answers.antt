@@ -2,7 +2,7 @@ use Rattle.std.proofs.Common.{◌≡◌, ◌∷◌, ◌-◌, take, drop, true, s
 use Rattle.json.specs.Token.{number}
 use Rattle.json.specs.Word.{head}
 use Rattle.json.specs.Lex.{token, between, lex}
-use Rattle.line_parser.specs.Plain.{is_number_end}
+use Rattle.line_parser.specs.inside.Plain.{is_number_end}
 use Rattle.line_parser.proofs.PlainLexemes.{number_lexed}
 use Rattle.line_parser.proofs.plain.cut_digits.Goals as goal
 use Rattle.line_parser.proofs.plain.cut_digits.Goals.{then-len-ne1+else-byte_at-eq48, else-len-ne1}

@@ -3,7 +3,7 @@ use Rattle.std.proofs.lemmas.Bool.Decides.{Decides-eqb}
 use Rattle.std.proofs.lemmas.Slice.Eq.{starts_is}
 use Rattle.json.specs.Word.{head}
 use Rattle.json.specs.Lex.{between, lex}
-use Rattle.line_parser.specs.Plain.{is_number_end}
+use Rattle.line_parser.specs.inside.Plain.{is_number_end}
 use Rattle.line_parser.proofs.PlainLexemes.{null_lexed}
 use Rattle.line_parser.proofs.plain.cut_null.Goals as goal
 

@@ -1,5 +1,5 @@
 use Rattle.std.proofs.Common.{ap, ◌∙◌, sym}
-use Rattle.line_parser.specs.Plain.{is_opener}
+use Rattle.line_parser.specs.inside.Plain.{is_opener}
 use Rattle.line_parser.proofs.PlainTokens.{goes_on}
 use Rattle.line_parser.proofs.plain.has_item.Goals as goal
 

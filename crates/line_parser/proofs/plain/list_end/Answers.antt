@@ -1,6 +1,6 @@
 use Rattle.std.proofs.Common.{◌≡◌, arith, subst}
 use Rattle.json.specs.Word.{head}
-use Rattle.line_parser.specs.Plain.{PassesValue}
+use Rattle.line_parser.specs.inside.Plain.{PassesValue}
 use Rattle.line_parser.proofs.PlainTokens.{bracket_token}
 use Rattle.line_parser.proofs.Results.{if_some_as}
 use Rattle.line_parser.proofs.plain.list_end.Goals as goal

@@ -1,7 +1,7 @@
 use Rattle.std.proofs.Common.{◌≡◌, length, drop, true, sym, ap, ◌∙◌, ⊎_elim, subst, arith}
 use Rattle.std.proofs.lemmas.Bool.Decides.{nat_tests}
 use Rattle.json.specs.Word.{head}
-use Rattle.line_parser.specs.Plain.{is_opener, PassesValue}
+use Rattle.line_parser.specs.inside.Plain.{is_opener, PassesValue}
 use Rattle.line_parser.proofs.PlainTokens.{passes_end, passes_brace, passes_bracket, passes_comma}
 use Rattle.line_parser.proofs.plain.pass_value.Goals as goal
 

@@ -2,7 +2,7 @@ use Rattle.std.proofs.Common.{sym, ap, ◌∙◌}
 use Rattle.std.specs.Prelude.{option_and_then}
 use Rattle.serde_json.specs.Data.{object}
 use Rattle.line_parser.specs.Form.{step_of_json}
-use Rattle.line_parser.specs.LineMembers.{asked_by}
+use Rattle.line_parser.specs.inside.LineMembers.{asked_by}
 use Rattle.line_parser.proofs.Steps.{held_members}
 use Rattle.line_parser.proofs.reading.read_text_step.Goals as goal
 

@@ -1,7 +1,7 @@
 use Rattle.std.proofs.Common.{◌≡◌, rules, ap, ◌∙◌}
 use Rattle.std.specs.Prelude.{option_map}
 use Rattle.silo_event.specs.declared.step.Step.TheVariants as step
-use Rattle.line_parser.specs.Step.{of_form}
+use Rattle.line_parser.specs.inside.Step.{of_form}
 use Rattle.line_parser.specs.declared.step.Form.TheVariants as form
 use Rattle.line_parser.proofs.Steps.{where_map, finds_as}
 use Rattle.line_parser.proofs.step.read_form.Goals as goal

@@ -3,7 +3,7 @@ use Rattle.indexmap.specs.IndexMap.{get}
 use Rattle.std.proofs.lemmas.List.{length-map}
 use Rattle.grain_id.specs.Names.{Client}
 use Rattle.lane_model.specs.Lanes.{Lane, same_lane}
-use Rattle.line_service.specs.Places.{ArePlaced, IsPlaceOf}
+use Rattle.line_service.specs.inside.Places.{ArePlaced, IsPlaceOf}
 use Rattle.line_service.proofs.Added.{first_is, froms_of, froms_stay, pushed_from, written_is}
 use Rattle.line_service.proofs.Places.{placed_more}
 use Rattle.line_service.proofs.asked.add_step.Goals as goal

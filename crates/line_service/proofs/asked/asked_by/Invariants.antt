@@ -1,6 +1,6 @@
 use Rattle.std.proofs.Common.{◌≡◌}
 use Rattle.line_service.specs.Asked.{lanes_of, refusals_of}
-use Rattle.line_service.specs.Places.{ArePlaced}
+use Rattle.line_service.specs.inside.Places.{ArePlaced}
 use Rattle.line_service.proofs.asked.asked_by.Given as goal
 
 abbrev pub invariant-lines : goal.invariant-lines

@@ -1,5 +1,5 @@
 use Rattle.std.proofs.Common.{ap, ◌∙◌}
-use Rattle.line_service.specs.Told.{lines_at, with_line}
+use Rattle.line_service.specs.inside.Told.{lines_at, with_line}
 use Rattle.line_service.proofs.Collected.{told_more, passed_over}
 use Rattle.line_service.proofs.told.told_by_grain.Goals as goal
 use Rattle.line_service.proofs.told.told_by_grain.Goals.{in-Grain+in_ok-reply_line-in-Grain+in_ok-add_line-in-Grain, in-Client}

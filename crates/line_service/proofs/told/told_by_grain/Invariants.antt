@@ -1,5 +1,5 @@
 use Rattle.std.proofs.Common.{take}
-use Rattle.line_service.specs.Told.{HoldLines}
+use Rattle.line_service.specs.inside.Told.{HoldLines}
 use Rattle.line_service.proofs.told.told_by_grain.Given as goal
 
 -- the lines of the replies so far

@@ -5,9 +5,9 @@ use Rattle.std.proofs.lemmas.Int.{to_z-of_z}
 use Rattle.std.proofs.Common.{◌≡◌, ℕ, true, false, List, length, refl, subst, sym, ap, arith, rules}
 use Rattle.request_codec.specs.Tree as tree
 use Rattle.request_codec.specs.Tree.{Tree, members_of, fields_of}
-use Rattle.request_codec.specs.Build.{Named}
+use Rattle.request_codec.specs.inside.Build.{Named}
 use Rattle.request_codec.specs.Formed.{TestsDepth, TestDepths, TestFieldDepths}
-use Rattle.request_codec.specs.Level.{AreKept}
+use Rattle.request_codec.specs.inside.Level.{AreKept}
 use Rattle.request_codec.proofs.Depths.{passed-next, passed-fails, passed-all, fields_passed-next, fields_passed-fails, fields_passed-all, list_tested, map_tested, leaf_tested, deeper_than_none}
 use Rattle.request_codec.proofs.depth.+depth.Goals as goal
 

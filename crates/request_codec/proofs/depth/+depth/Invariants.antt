@@ -1,7 +1,7 @@
 use Rattle.std.proofs.Common.{◌+◌, ◌*◌, Bool, length}
 use Rattle.request_codec.specs.Tree.{members_of, fields_of}
 use Rattle.request_codec.specs.Formed.{TestDepths, TestFieldDepths}
-use Rattle.request_codec.specs.Level.{AreKept}
+use Rattle.request_codec.specs.inside.Level.{AreKept}
 use Rattle.request_codec.proofs.depth.+depth.Given as goal
 
 abbrev pub decreases-is_within : goal.decreases-is_within

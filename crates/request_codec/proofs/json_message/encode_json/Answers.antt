@@ -4,7 +4,7 @@ use Rattle.serde_json.specs.View.{view}
 use Rattle.request_codec.specs.Limits.{message_limit}
 use Rattle.request_codec.specs.Call.{asks, message_call}
 use Rattle.request_codec.specs.Lenient.{lenient_value}
-use Rattle.request_codec.specs.Converted.{TestsJson}
+use Rattle.request_codec.specs.inside.Converted.{TestsJson}
 use Rattle.request_codec.specs.Written.{message_spelling}
 use Rattle.request_codec.specs.Answers.{message_length}
 use Rattle.request_codec.specs.declared.json_test.JsonTest.{JsonTest}

@@ -2,7 +2,7 @@ use Rattle.std.proofs.Common.{None, option_map, sym, ap, ◌∙◌, arith}
 use Rattle.request_codec.specs.Tree.{null, truth, integer, text}
 use Rattle.request_codec.specs.Reading.{value_at, members_at, fields_at}
 use Rattle.request_codec.specs.Start.{begun}
-use Rattle.request_codec.specs.Ends.{end_of}
+use Rattle.request_codec.specs.inside.Ends.{end_of}
 use Rattle.request_codec.proofs.Levels.{value_at-zero, value_at-unstarted, started}
 use Rattle.request_codec.proofs.ValueEnds.{value_end-leaf, value_end-list, value_end-map, members_end-next, members_end-none, members_end-done, fields_end-next, fields_end-unnamed, fields_end-misplaced, fields_end-none, fields_end-done}
 use Rattle.request_codec.proofs.value_end.+ends.Goals as goal

@@ -1,6 +1,6 @@
 use Rattle.std.proofs.Common.{◌≡◌, ◌+◌, ◌*◌, ◌-◌, None, option_map}
 use Rattle.request_codec.specs.Reading.{value_at, members_at, fields_at}
-use Rattle.request_codec.specs.Ends.{end_of}
+use Rattle.request_codec.specs.inside.Ends.{end_of}
 use Rattle.request_codec.proofs.value_end.+ends.Given as goal
 
 abbrev pub decreases-value_end : goal.decreases-value_end

@@ -1,6 +1,6 @@
 use Rattle.std.proofs.Common.{◌≡◌, ℕ, ◌+◌, ◌*◌, ◌-◌, List, None, option_map, true}
 use Rattle.request_codec.specs.Reading.{value_at, members_at, fields_at, is_above}
-use Rattle.request_codec.specs.Build.{AreBelow}
+use Rattle.request_codec.specs.inside.Build.{AreBelow}
 use Rattle.request_codec.proofs.MemberLoops.{with_members, with_fields}
 use Rattle.request_codec.proofs.value_reader.+reading.Given as goal
 

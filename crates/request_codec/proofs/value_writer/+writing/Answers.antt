@@ -2,7 +2,7 @@ use Rattle.std.proofs.Common.{◌≡◌, ℕ, ◌+◌, ◌≤◌, ◌∷◌, ◌
 use Rattle.std.proofs.lemmas.Result.{err_from_is_err_and}
 use Rattle.std.specs.Int.{w32, to_be_bytes}
 use Rattle.request_codec.specs.Tree.{Tree, list, map, members_of, fields_of}
-use Rattle.request_codec.specs.Build.{Named}
+use Rattle.request_codec.specs.inside.Build.{Named}
 use Rattle.request_codec.specs.Answers.{spelled_length, members_length, fields_length}
 use Rattle.request_codec.specs.Written.{Puts, text_spelling, spelling}
 use Rattle.request_codec.proofs.Puts.{Puts-then, Puts-front}

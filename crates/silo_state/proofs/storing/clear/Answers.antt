@@ -1,7 +1,7 @@
 use Rattle.std.proofs.Common.{ap, sym, ◌∙◌}
 use Rattle.std.specs.Prelude.{Ok}
 use Rattle.silo_model.specs.Stores.{version_value}
-use Rattle.silo_state.specs.Storing.{with_state}
+use Rattle.silo_state.specs.inside.Storing.{with_state}
 use Rattle.silo_state.proofs.Versions.{emptied_version}
 use Rattle.silo_state.proofs.storing.clear.Goals as goal
 

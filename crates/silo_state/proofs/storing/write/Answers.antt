@@ -2,7 +2,7 @@ use Rattle.std.proofs.Common.{◌≡◌, Some, ap, sym, ◌∙◌}
 use Rattle.std.specs.Prelude.{Ok, decimal}
 use Rattle.request_codec.specs.Tree.{text}
 use Rattle.grain_storage.specs.Rows.{written}
-use Rattle.silo_state.specs.Storing.{with_state}
+use Rattle.silo_state.specs.inside.Storing.{with_state}
 use Rattle.silo_state.proofs.Versions.{written_version}
 use Rattle.silo_state.proofs.storing.write.Goals as goal
 

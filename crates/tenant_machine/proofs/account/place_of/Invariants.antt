@@ -1,5 +1,5 @@
 use Rattle.std.proofs.Common.{◌≡◌, drop}
-use Rattle.tenant_machine.specs.Sends.{first_place}
+use Rattle.tenant_machine.specs.inside.Sends.{first_place}
 use Rattle.tenant_machine.proofs.Firsts.{place_from}
 use Rattle.tenant_machine.proofs.account.place_of.Given as goal
 

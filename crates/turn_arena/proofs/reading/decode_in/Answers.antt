@@ -2,7 +2,7 @@ use Rattle.std.proofs.Common.{ℕ, List, Bor, arith}
 use Rattle.std.proofs.lemmas.Result.{IfOk-weaker}
 use Rattle.request_codec.specs.Call.{Call, asks, message_call}
 use Rattle.request_codec.proofs.Whole.{message_call-short, is_message, no_message}
-use Rattle.turn_arena.specs.Answers.{ReadsIn}
+use Rattle.turn_arena.specs.inside.Answers.{ReadsIn}
 use Rattle.turn_arena.specs.NodeValue.{node_value}
 use Rattle.turn_arena.specs.declared.node.Node.{Node}
 use Rattle.turn_arena.proofs.PartAnswers.{ReadsIn-ok, ReadsIn-none}

@@ -2,7 +2,7 @@ use Rattle.std.proofs.Common.{arith}
 use Rattle.std.proofs.lemmas.Result.{IfOk-weaker}
 use Rattle.request_codec.specs.Call.{state_value}
 use Rattle.request_codec.proofs.Whole.{state_value-short, is_state, no_state}
-use Rattle.turn_arena.specs.Answers.{ReadsIn}
+use Rattle.turn_arena.specs.inside.Answers.{ReadsIn}
 use Rattle.turn_arena.specs.NodeValue.{node_value}
 use Rattle.turn_arena.proofs.PartAnswers.{ReadsIn-ok, ReadsIn-none}
 use Rattle.turn_arena.proofs.Ascends.{Spells-ascend}

@@ -1,7 +1,7 @@
 use Rattle.std.proofs.Common.{◌≡◌, ◌-◌, length}
 use Rattle.grain_id.specs.Names.{Client}
 use Rattle.lane_model.specs.Asking.{ids_told}
-use Rattle.worker_host.specs.Working.{owing_to}
+use Rattle.worker_host.specs.inside.Working.{owing_to}
 use Rattle.worker_host.proofs.owed.tell_all.Given as goal
 
 abbrev pub invariant-replies : goal.invariant-replies

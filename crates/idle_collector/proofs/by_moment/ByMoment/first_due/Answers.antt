@@ -4,7 +4,7 @@ use Rattle.std.proofs.lemmas.List.{append-nil}
 use Rattle.std.specs.BTreeSet.{contains}
 use Rattle.slab.specs.Slab.{get}
 use Rattle.grain_id.specs.Names.{Grain}
-use Rattle.idle_collector.specs.Ties.{time_cmp}
+use Rattle.idle_collector.specs.inside.Ties.{time_cmp}
 use Rattle.idle_collector.proofs.Prefix.{front, front-stops, front-holds}
 use Rattle.idle_collector.proofs.by_moment.ByMoment.first_due.Goals as goal
 use Rattle.idle_collector.proofs.by_moment.ByMoment.first_due.Goals.{in-None, in-Some+then-now-moment}

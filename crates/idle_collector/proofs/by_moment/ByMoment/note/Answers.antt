@@ -6,7 +6,7 @@ use Rattle.std.specs.Result.{OnErr}
 use Rattle.indexmap.specs.Entry.{map_with_value, entry_key}
 use Rattle.grain_id.specs.Names.{Grain, grain_eq}
 use Rattle.grain_id.proofs.Order.{grain_eq_decides}
-use Rattle.idle_collector.specs.Ties.{time_cmp}
+use Rattle.idle_collector.specs.inside.Ties.{time_cmp}
 use Rattle.idle_collector.proofs.Moments.{found, noted_again, shown-noted, shown-same}
 use Rattle.idle_collector.proofs.Ties.{tied-same, tied-first, tied-moved}
 use Rattle.idle_collector.proofs.by_moment.ByMoment.note.Goals as goal

@@ -1,7 +1,7 @@
 use Rattle.std.proofs.Common.{◌≡◌, ◌++◌, [], cond, List, ap, sym, ◌∙◌, subst}
 use Rattle.std.specs.Prelude.{nat_le}
 use Rattle.grain_id.specs.Names.{Grain}
-use Rattle.idle_collector.specs.Aside.{with_latest, all_noted, due_of}
+use Rattle.idle_collector.specs.inside.Aside.{with_latest, all_noted, due_of}
 use Rattle.idle_collector.specs.Notes.{Collection, HoldsDue}
 use Rattle.idle_collector.proofs.Due.{holds-due}
 use Rattle.idle_collector.proofs.OneMoment.{due-all}

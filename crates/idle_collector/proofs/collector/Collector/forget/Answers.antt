@@ -1,6 +1,6 @@
 use Rattle.std.proofs.Common.{ap, sym, ◌∙◌, subst}
 use Rattle.idle_collector.specs.Notes.{Collection, forgotten}
-use Rattle.idle_collector.specs.Aside.{all_noted, IsApart}
+use Rattle.idle_collector.specs.inside.Aside.{all_noted, IsApart}
 use Rattle.idle_collector.proofs.Aside.{latest-forgotten, latest-stays, apart-forgotten}
 use Rattle.idle_collector.proofs.collector.Collector.forget.Goals as goal
 

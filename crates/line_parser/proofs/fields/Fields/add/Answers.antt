@@ -1,7 +1,7 @@
 use Rattle.std.proofs.Common.{◌≡◌, ℕ, List, true, false, true≢false, option_map, Some, Result, Ok, Err, is_err, inl, inr, refl, sym, ap, ◌∙◌}
 use Rattle.std.specs.Prelude.{OnOk, OnErr}
 use Rattle.request_codec.specs.Reading.{is_above}
-use Rattle.line_parser.specs.Fields.{Place}
+use Rattle.line_parser.specs.inside.Fields.{Place}
 use Rattle.line_parser.specs.declared.fields.Fields.{Fields}
 use Rattle.line_parser.specs.declared.fields.Known.{Known}
 use Rattle.line_parser.proofs.FieldsRead.{last_placed}

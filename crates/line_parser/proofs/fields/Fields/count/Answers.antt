@@ -1,7 +1,7 @@
 use Rattle.std.proofs.Common.{map, ◌++◌, arith}
 use Rattle.std.proofs.lemmas.List.{length-append, length-map}
 use Rattle.std.proofs.lemmas.List.Sorted.{length_permutation}
-use Rattle.line_parser.specs.Fields.{place_of, place_kept}
+use Rattle.line_parser.specs.inside.Fields.{place_of, place_kept}
 use Rattle.line_parser.proofs.fields.Fields.count.Goals as goal
 
 pub returns : goal.returns

@@ -4,7 +4,7 @@ use Rattle.std.proofs.lemmas.Bool.Decides.{nat_tests}
 use Rattle.std.proofs.lemmas.List.Sorted.{IsPermutation-trans, IsPermutation-append_comm}
 use Rattle.arrayvec.specs.ArrayVec.{ArrayVec, with_items}
 use Rattle.arrayvec.proofs.ArrayVecLemmas.{items-with_items}
-use Rattle.line_parser.specs.Fields.{PlacedField, HoldsFields, PutsSorted, Ascend, bytes_at, place_kept}
+use Rattle.line_parser.specs.inside.Fields.{PlacedField, HoldsFields, PutsSorted, Ascend, bytes_at, place_kept}
 use Rattle.line_parser.specs.declared.fields.Fields.{Fields}
 use Rattle.line_parser.specs.declared.fields.Known.{Known}
 use Rattle.line_parser.proofs.Places.{sorted_places, sorted_within}

@@ -1,6 +1,6 @@
 use Rattle.std.proofs.Common.{◌++◌, length, ap, ap₂, subst, ◌∙◌, arith}
 use Rattle.std.proofs.lemmas.List.{length-append, length-take-le}
-use Rattle.line_parser.specs.Fields.{PutsSorted}
+use Rattle.line_parser.specs.inside.Fields.{PutsSorted}
 use Rattle.line_parser.proofs.Places.{sorted_long, are_sorted, sorted_already}
 use Rattle.line_parser.proofs.fields.Fields.sort.Goals as goal
 

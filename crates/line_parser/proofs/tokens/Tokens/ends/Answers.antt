@@ -1,6 +1,6 @@
 use Rattle.std.proofs.Common.{◌≡◌, length, None, ap, ◌∙◌, sym, arith}
 use Rattle.std.proofs.lemmas.Bool.Decides.{nat_tests}
-use Rattle.line_parser.specs.Plain.{tokens_left}
+use Rattle.line_parser.specs.inside.Plain.{tokens_left}
 use Rattle.line_parser.proofs.PlainTokens.{no_tokens}
 use Rattle.line_parser.proofs.tokens.Tokens.ends.Goals as goal
 

@@ -3,7 +3,7 @@ use Rattle.silo_event.specs.declared.step.Step.{Step}
 use Rattle.silo_event.specs.declared.step.Step.TheVariants as step
 use Rattle.silo_event.specs.declared.step.Answer.TheVariants.{Done}
 use Rattle.silo_model.proofs.Journals.{not_now}
-use Rattle.silo_core.specs.Shown.{setup_of}
+use Rattle.silo_core.specs.inside.Shown.{setup_of}
 use Rattle.silo_core.proofs.Moved.{moves_lead, moved_parts}
 use Rattle.silo_core.proofs.silo.Silo.begin.Goals as goal
 

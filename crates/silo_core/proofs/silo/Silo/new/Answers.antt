@@ -6,8 +6,8 @@ use Rattle.silo_model.specs.Opening.{Setup, opening}
 use Rattle.silo_model.specs.Whole.{Whole, shown_to}
 use Rattle.silo_model.proofs.Journals.{journals_begin}
 use Rattle.silo_model.proofs.Opening.{opening_shown}
-use Rattle.silo_state.specs.Held.{Held}
-use Rattle.silo_core.specs.Shown.{rows_in, setup_of}
+use Rattle.silo_state.specs.inside.Held.{Held}
+use Rattle.silo_core.specs.inside.Shown.{rows_in, setup_of}
 use Rattle.silo_core.proofs.Opened.{listed, are_listed}
 use Rattle.silo_core.proofs.silo.Silo.new.Given as given
 use Rattle.silo_core.proofs.silo.Silo.new.Goals as goal

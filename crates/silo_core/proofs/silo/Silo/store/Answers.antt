@@ -3,7 +3,7 @@ use Rattle.std.specs.Prelude.{Ok}
 use Rattle.silo_event.specs.declared.step.Step.{Step}
 use Rattle.silo_event.specs.declared.step.Step.TheVariants as step
 use Rattle.silo_core.specs.History.{History, StepAnswersInParts}
-use Rattle.silo_core.specs.Shown.{setup_of}
+use Rattle.silo_core.specs.inside.Shown.{setup_of}
 use Rattle.silo_core.specs.Runs.{noted}
 use Rattle.silo_core.proofs.Moved.{moves_lead, moved_parts}
 use Rattle.silo_core.proofs.silo.Silo.store.Goals as goal

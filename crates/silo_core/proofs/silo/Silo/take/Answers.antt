@@ -1,6 +1,6 @@
 use Rattle.std.proofs.Common.{◌≡◌, List, ◌++◌, ap, ◌∙◌}
 use Rattle.silo_event.specs.declared.step.Step.{Step}
-use Rattle.silo_core.specs.Shown.{setup_of}
+use Rattle.silo_core.specs.inside.Shown.{setup_of}
 use Rattle.silo_core.specs.Runs.{noted}
 use Rattle.silo_core.proofs.Moved.{moves_lead}
 use Rattle.silo_core.proofs.silo.Silo.take.Goals as goal

@@ -8,7 +8,7 @@ use Rattle.silo_model.proofs.WorkAtGrains.{work_is_done}
 use Rattle.silo_state.specs.Sends.{HasSent}
 use Rattle.silo_state.specs.Work.{step_at}
 use Rattle.silo_core.specs.History.{History}
-use Rattle.silo_core.specs.Shown.{setup_of}
+use Rattle.silo_core.specs.inside.Shown.{setup_of}
 use Rattle.silo_core.proofs.Walked.{delivery_to_do, nothing_to_do}
 use Rattle.silo_core.proofs.silo.Silo.todo.Goals as goal
 

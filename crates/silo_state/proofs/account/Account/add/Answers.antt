@@ -2,7 +2,7 @@ use Rattle.std.proofs.Common.{◌≡◌, ℕ, ◌+◌, ◌∷◌, [], ◌++◌, 
 use Rattle.silo_model.specs.Machine.{Account}
 use Rattle.silo_state.specs.declared.account.Sent.{Sent}
 use Rattle.silo_state.specs.Sends.{send_of}
-use Rattle.silo_state.specs.Undelivered.{IsIndexed, TakesLast, numbers_at}
+use Rattle.silo_state.specs.inside.Undelivered.{IsIndexed, TakesLast, numbers_at}
 use Rattle.silo_state.proofs.Queues.{last_gone}
 use Rattle.silo_state.proofs.Takes.{shown, shown_last, insert_last, same_indexed, last_indexed}
 use Rattle.silo_state.proofs.account.Account.add.Goals as goal

@@ -1,7 +1,7 @@
 use Rattle.std.proofs.Common.{ap, sym, ◌∙◌, subst}
 use Rattle.silo_model.specs.Machine.{Account}
-use Rattle.silo_state.specs.Deliveries.{without_first}
-use Rattle.silo_state.specs.Undelivered.{IsIndexed}
+use Rattle.silo_state.specs.inside.Deliveries.{without_first}
+use Rattle.silo_state.specs.inside.Undelivered.{IsIndexed}
 use Rattle.silo_state.proofs.Takes.{shown, first_none, first_out, rest_indexed}
 use Rattle.silo_state.proofs.account.Account.take_first.Goals as goal
 

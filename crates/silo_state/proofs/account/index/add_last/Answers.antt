@@ -1,7 +1,7 @@
 use Rattle.std.proofs.Common.{◌≡◌, ◌∷◌, [], ◌++◌, Some, None, refl, ap, sym, ◌∙◌, subst}
 use Rattle.std.proofs.lemmas.Result.{err_from_is_err_and}
 use Rattle.grain_id.specs.Names.{Grain}
-use Rattle.silo_state.specs.Undelivered.{Index}
+use Rattle.silo_state.specs.inside.Undelivered.{Index}
 use Rattle.silo_state.proofs.Queues.{Puts, puts_same, puts_last}
 use Rattle.silo_state.proofs.account.index.add_last.Goals as goal
 

@@ -1,5 +1,5 @@
 use Rattle.std.proofs.Common.{Some, ◌++◌, refl, ap, sym, ◌∙◌}
-use Rattle.silo_state.specs.Undelivered.{only_at}
+use Rattle.silo_state.specs.inside.Undelivered.{only_at}
 use Rattle.std.specs.Option.{option_to_list}
 use Rattle.silo_state.proofs.Queues.{puts_first_out}
 use Rattle.silo_state.proofs.account.index.take_first.Goals as goal

@@ -1,6 +1,6 @@
 use Rattle.std.proofs.Common.{ap, sym, ◌∙◌}
 use Rattle.std.specs.FinMap as map
-use Rattle.silo_state.specs.Accounts.{by_bytes}
+use Rattle.silo_state.specs.inside.Accounts.{by_bytes}
 use Rattle.silo_state.proofs.AccountMaps.{get-by_bytes, by_bytes-updated, lent, there}
 use Rattle.silo_state.proofs.accounts.Accounts.get_mut.Goals as goal
 

@@ -2,7 +2,7 @@ use Rattle.std.proofs.Common.{None, refl, ap, sym, subst}
 use Rattle.std.specs.Prelude.{option_and_then}
 use Rattle.silo_event.specs.declared.step.Answer.TheVariants.{NotNow}
 use Rattle.silo_model.specs.Turns.{activated}
-use Rattle.silo_state.specs.Activations.{Activations}
+use Rattle.silo_state.specs.inside.Activations.{Activations}
 use Rattle.silo_state.specs.Shown.{entries_of}
 use Rattle.silo_state.specs.Entries.{Activates}
 use Rattle.silo_state.proofs.Idle.{activate_noted}

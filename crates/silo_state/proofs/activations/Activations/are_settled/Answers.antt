@@ -1,7 +1,7 @@
 use Rattle.std.proofs.Common.{◌≡◌, ◌≤◌, true, refl, ap, arith, length}
 use Rattle.std.specs.FinMap as map
 use Rattle.silo_state.specs.Work.{is_settled}
-use Rattle.silo_state.specs.Activations.{Activations}
+use Rattle.silo_state.specs.inside.Activations.{Activations}
 use Rattle.silo_state.proofs.Walks.{of_each_grain}
 use Rattle.silo_state.proofs.activations.Activations.are_settled.Goals as goal
 

@@ -1,8 +1,8 @@
 use Rattle.std.proofs.Common.{None, Some, refl, ap, sym, subst}
 use Rattle.std.specs.Prelude.{option_and_then, option_map}
 use Rattle.std.specs.FinMap as map
-use Rattle.silo_state.specs.Activations.{Activations, HasRoom}
-use Rattle.silo_state.specs.Notes.{AreNoted}
+use Rattle.silo_state.specs.inside.Activations.{Activations, HasRoom}
+use Rattle.silo_state.specs.inside.Notes.{AreNoted}
 use Rattle.silo_state.specs.Shown.{phase_of, entry_of, entries_of}
 use Rattle.silo_state.specs.Entries.{Closes}
 use Rattle.silo_state.proofs.Idle.{used-turn, becomes_used, becomes_idle, expected_apart}

@@ -4,7 +4,7 @@ use Rattle.silo_model.specs.Whole.{is_of}
 use Rattle.silo_model.specs.Contexts.{active_in}
 use Rattle.finite_maps.proofs.Mapped.{len-mapped, mapped-part}
 use Rattle.std.specs.FinMap as map
-use Rattle.silo_state.specs.Activations.{Activations}
+use Rattle.silo_state.specs.inside.Activations.{Activations}
 use Rattle.silo_state.specs.Shown.{entry_of}
 use Rattle.silo_state.proofs.activations.Activations.count.Goals as goal
 

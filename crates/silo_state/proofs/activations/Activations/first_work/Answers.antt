@@ -1,7 +1,7 @@
 use Rattle.std.proofs.Common.{◌≡◌, ◌≤◌, None, ap, arith, length}
 use Rattle.std.specs.FinMap as map
 use Rattle.silo_model.specs.Todo.{work_on}
-use Rattle.silo_state.specs.Activations.{Activations}
+use Rattle.silo_state.specs.inside.Activations.{Activations}
 use Rattle.silo_state.proofs.Walks.{of_each_grain}
 use Rattle.silo_state.proofs.activations.Activations.first_work.Goals as goal
 

@@ -3,7 +3,7 @@ use Rattle.std.specs.Option.{option_map}
 use Rattle.std.specs.FinMap as map
 use Rattle.grain_id.proofs.Order.{grain_cmp_total, grain_cmp_exact}
 use Rattle.finite_maps.proofs.Mapped.{get-mapped}
-use Rattle.silo_state.specs.Activations.{Activations}
+use Rattle.silo_state.specs.inside.Activations.{Activations}
 use Rattle.silo_state.specs.Shown.{entry_of}
 use Rattle.silo_state.proofs.activations.Activations.get.Goals as goal
 

@@ -4,7 +4,7 @@ use Rattle.std.specs.FinMap as map
 use Rattle.activation_directory.specs.declared.activation.Activation.{Activation}
 use Rattle.activation_directory.specs.declared.activation.Phase.TheVariants.{Ready}
 use Rattle.silo_model.specs.Machine.{ready}
-use Rattle.silo_state.specs.Activations.{Activations, HasRoom, IsLoading}
+use Rattle.silo_state.specs.inside.Activations.{Activations, HasRoom, IsLoading}
 use Rattle.silo_state.specs.Shown.{entry_of, entries_of}
 use Rattle.silo_state.proofs.Idle.{becomes_used, becomes_idle, expected_apart, used_loading}
 use Rattle.silo_state.proofs.Shows.{get-entries, entries-put, same_mail, phase_shows}

@@ -6,7 +6,7 @@ use Rattle.idle_collector.specs.Notes.{Collection}
 use Rattle.silo_model.specs.Machine.{Entries}
 use Rattle.silo_state.specs.Shown.{entry_of, entries_of}
 use Rattle.silo_state.specs.Marks.{AllMarked}
-use Rattle.silo_state.specs.Notes.{AreNoted}
+use Rattle.silo_state.specs.inside.Notes.{AreNoted}
 use Rattle.silo_state.proofs.Requests.{none_marked}
 use Rattle.silo_state.proofs.Idle.{none_noted}
 use Rattle.silo_state.proofs.activations.Activations.new.Goals as goal

@@ -3,7 +3,7 @@ use Rattle.std.specs.Prelude.{IfOk, option_and_then}
 use Rattle.std.specs.FinMap as map
 use Rattle.std.proofs.lemmas.Result.{on_err_weaker}
 use Rattle.silo_model.specs.Turns.{opened_if_ready}
-use Rattle.silo_state.specs.Activations.{Activations}
+use Rattle.silo_state.specs.inside.Activations.{Activations}
 use Rattle.silo_state.specs.Shown.{entries_of}
 use Rattle.silo_state.proofs.Idle.{begins_noted}
 use Rattle.silo_state.specs.Entries.{Begins}

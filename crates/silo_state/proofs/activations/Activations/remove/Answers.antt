@@ -6,7 +6,7 @@ use Rattle.grain_id.proofs.Order.{grain_cmp_total, grain_cmp_exact}
 use Rattle.finite_maps.proofs.Mapped.{mapped-remove}
 use Rattle.activation_directory.specs.declared.activation.Activation.{Activation}
 use Rattle.idle_collector.specs.Notes.{Collection}
-use Rattle.silo_state.specs.Activations.{Activations}
+use Rattle.silo_state.specs.inside.Activations.{Activations}
 use Rattle.silo_state.specs.Shown.{entry_of, entries_of}
 use Rattle.silo_state.specs.Marks.{AllMarked}
 use Rattle.silo_state.proofs.Requests.{marked-removed}

@@ -1,5 +1,5 @@
 use Rattle.std.proofs.Common.{◌≡◌, drop}
-use Rattle.silo_state.specs.Sweeps.{without}
+use Rattle.silo_state.specs.inside.Sweeps.{without}
 use Rattle.silo_state.proofs.activations.Activations.remove_all.Given as goal
 
 -- what is left without the grains that are still to go

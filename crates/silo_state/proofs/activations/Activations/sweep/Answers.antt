@@ -1,8 +1,8 @@
 use Rattle.std.proofs.Common.{ap, ◌∙◌, sym}
 use Rattle.silo_model.specs.Idle.{kept_entries}
-use Rattle.silo_state.specs.Activations.{Activations}
+use Rattle.silo_state.specs.inside.Activations.{Activations}
 use Rattle.silo_state.specs.Shown.{entries_of}
-use Rattle.silo_state.specs.Sweeps.{without}
+use Rattle.silo_state.specs.inside.Sweeps.{without}
 use Rattle.silo_state.proofs.Sweeps.{due_go}
 use Rattle.silo_state.proofs.activations.Activations.sweep.Goals as goal
 

@@ -1,9 +1,9 @@
 use Rattle.std.proofs.Common.{ap, sym, ◌∙◌, subst}
 use Rattle.idle_collector.specs.Notes.{Collection}
 use Rattle.silo_model.specs.Machine.{Entries}
-use Rattle.silo_state.specs.Activations.{Activations}
-use Rattle.silo_state.specs.Arrivals.{with_waiting}
-use Rattle.silo_state.specs.Notes.{AreNoted}
+use Rattle.silo_state.specs.inside.Activations.{Activations}
+use Rattle.silo_state.specs.inside.Arrivals.{with_waiting}
+use Rattle.silo_state.specs.inside.Notes.{AreNoted}
 use Rattle.silo_state.specs.Shown.{request_of, entries_of}
 use Rattle.silo_state.proofs.Idle.{wait_noted}
 use Rattle.silo_state.proofs.activations.Activations.wait.Goals as goal

@@ -6,7 +6,7 @@ use Rattle.silo_event.specs.declared.fault.Fault.TheVariants.{NoMemory}
 use Rattle.silo_event.specs.declared.reply.Reply.{Reply}
 use Rattle.silo_model.specs.Machine.{Entries}
 use Rattle.silo_state.specs.Closings.{ClosesTold}
-use Rattle.silo_state.specs.Notes.{none_waits}
+use Rattle.silo_state.specs.inside.Notes.{none_waits}
 use Rattle.silo_state.specs.Shown.{entry_of}
 use Rattle.silo_state.proofs.Shows.{turn_shown}
 use Rattle.silo_state.proofs.Steps.{abandon_none, abandon_moves}

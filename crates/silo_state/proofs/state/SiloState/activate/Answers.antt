@@ -1,6 +1,6 @@
 use Rattle.std.proofs.Common.{Ok, subst}
 use Rattle.silo_event.specs.declared.step.Step.TheVariants as step
-use Rattle.silo_state.specs.Held.{Held, held_of}
+use Rattle.silo_state.specs.inside.Held.{Held, held_of}
 use Rattle.silo_state.specs.Moves.{Moves}
 use Rattle.silo_state.proofs.Steps.{with_activations, activate_moves}
 use Rattle.silo_state.proofs.state.SiloState.activate.Goals as goal

@@ -4,8 +4,8 @@ use Rattle.std.specs.Option.{option_copied}
 use Rattle.std.specs.FinMap as map
 use Rattle.silo_event.specs.declared.reply.Party.TheVariants as party
 use Rattle.silo_model.proofs.SendSteps.{deliver_unknown, deliver_nothing}
-use Rattle.silo_state.specs.Held.{Held, held_of}
-use Rattle.silo_state.specs.Requests.{with_told, with_accepted}
+use Rattle.silo_state.specs.inside.Held.{Held, held_of}
+use Rattle.silo_state.specs.inside.Requests.{with_told, with_accepted}
 use Rattle.silo_state.specs.Sends.{send_of}
 use Rattle.silo_state.specs.Verdicts.{verdict, Settles}
 use Rattle.silo_state.proofs.Calls.{deliver_told, deliver_taken, without_sent}

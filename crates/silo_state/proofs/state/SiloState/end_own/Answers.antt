@@ -7,7 +7,7 @@ use Rattle.silo_event.specs.declared.reply.Reply.{Reply}
 use Rattle.silo_model.specs.Machine.{Entries, ready}
 use Rattle.silo_model.specs.Effect.{change_at}
 use Rattle.silo_model.specs.Turns.{sent_by, outcome_of}
-use Rattle.silo_state.specs.Held.{Held}
+use Rattle.silo_state.specs.inside.Held.{Held}
 use Rattle.silo_state.specs.Sends.{with_more}
 use Rattle.silo_state.specs.Closings.{ClosesTold}
 use Rattle.silo_state.specs.Finds.{IsOwn, asks}

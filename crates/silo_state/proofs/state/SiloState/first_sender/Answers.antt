@@ -1,6 +1,6 @@
 use Rattle.std.proofs.Common.{subst}
 use Rattle.std.specs.Prelude.{IfNone}
-use Rattle.silo_state.specs.Held.{Held}
+use Rattle.silo_state.specs.inside.Held.{Held}
 use Rattle.silo_state.specs.Sends.{NothingSent}
 use Rattle.silo_state.proofs.state.SiloState.first_sender.Goals as goal
 

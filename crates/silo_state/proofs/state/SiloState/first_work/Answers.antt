@@ -3,7 +3,7 @@ use Rattle.std.specs.Prelude.{IfNone}
 use Rattle.std.specs.FinMap as map
 use Rattle.grain_id.specs.Names.{Grain}
 use Rattle.silo_model.specs.Todo.{work_on}
-use Rattle.silo_state.specs.Held.{Held}
+use Rattle.silo_state.specs.inside.Held.{Held}
 use Rattle.silo_state.proofs.state.SiloState.first_work.Goals as goal
 
 pub returns-clause-none : goal.returns-clause-none

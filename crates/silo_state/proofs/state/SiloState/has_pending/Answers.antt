@@ -1,5 +1,5 @@
 use Rattle.std.proofs.Common.{ap, ◌∙◌}
-use Rattle.silo_state.specs.Held.{Held}
+use Rattle.silo_state.specs.inside.Held.{Held}
 use Rattle.silo_state.specs.Work.{pending_in_part}
 use Rattle.silo_state.proofs.Pendings.{pending_shown}
 use Rattle.silo_state.proofs.state.SiloState.has_pending.Goals as goal

@@ -6,7 +6,7 @@ use Rattle.silo_event.specs.declared.fault.Fault.TheVariants.{StorageFailed}
 use Rattle.silo_model.specs.Machine.{Entries, ready}
 use Rattle.silo_model.specs.Calls.{reply_to}
 use Rattle.silo_model.proofs.EntrySteps.{load_absent}
-use Rattle.silo_state.specs.Notes.{none_waits}
+use Rattle.silo_state.specs.inside.Notes.{none_waits}
 use Rattle.silo_state.specs.Shown.{entry_of}
 use Rattle.silo_state.proofs.Loads.{loads, load_not, load_moves, load_marked, load_failed}
 use Rattle.silo_state.proofs.state.SiloState.load.Goals as goal

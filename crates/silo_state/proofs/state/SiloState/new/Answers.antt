@@ -1,5 +1,5 @@
 use Rattle.silo_model.specs.Opening.{opening}
-use Rattle.silo_state.specs.Held.{held_of}
+use Rattle.silo_state.specs.inside.Held.{held_of}
 use Rattle.silo_state.proofs.state.SiloState.new.Goals as goal
 
 pub returns : goal.returns

@@ -4,9 +4,9 @@ use Rattle.silo_event.specs.declared.fault.Fault.TheVariants.{StorageFailed}
 use Rattle.silo_event.specs.declared.reply.Party.TheVariants as party
 use Rattle.silo_event.specs.declared.step.Step.TheVariants as step
 use Rattle.silo_model.specs.Calls.{told}
-use Rattle.silo_state.specs.Held.{Held, held_of}
+use Rattle.silo_state.specs.inside.Held.{Held, held_of}
 use Rattle.silo_state.specs.Moves.{Moves}
-use Rattle.silo_state.specs.Requests.{with_told}
+use Rattle.silo_state.specs.inside.Requests.{with_told}
 use Rattle.silo_state.specs.Verdicts.{gated, Passes}
 use Rattle.silo_state.proofs.Asks.{told_moves, poke_stopped, poke_marked, poke_moves}
 use Rattle.silo_state.proofs.state.SiloState.poke.Goals as goal

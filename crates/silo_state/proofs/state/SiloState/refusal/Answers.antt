@@ -3,7 +3,7 @@ use Rattle.std.specs.Prelude.{option_map, length}
 use Rattle.std.specs.FinMap as map
 use Rattle.silo_event.specs.Owner.{tenant_of}
 use Rattle.silo_model.specs.Contexts.{active_in}
-use Rattle.silo_state.specs.Held.{Held}
+use Rattle.silo_state.specs.inside.Held.{Held}
 use Rattle.silo_state.specs.Verdicts.{gated, Passes}
 use Rattle.silo_state.proofs.Calls.{nothing_waits, some_wait, settles_new, settles_again}
 use Rattle.silo_state.proofs.state.SiloState.refusal.Goals as goal

@@ -4,7 +4,7 @@ use Rattle.silo_event.specs.declared.reply.Party.TheVariants as party
 use Rattle.silo_event.specs.declared.step.Step.TheVariants as step
 use Rattle.silo_event.specs.Fault.{refusal_fault}
 use Rattle.silo_model.proofs.AskSteps.{refuse_is}
-use Rattle.silo_state.specs.Requests.{with_told}
+use Rattle.silo_state.specs.inside.Requests.{with_told}
 use Rattle.silo_state.proofs.Asks.{told_moves}
 use Rattle.silo_state.proofs.state.SiloState.refuse.Goals as goal
 

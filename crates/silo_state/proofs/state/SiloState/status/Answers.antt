@@ -6,8 +6,8 @@ use Rattle.silo_event.specs.declared.reply.Party.TheVariants as party
 use Rattle.silo_event.specs.declared.step.Step.TheVariants as step
 use Rattle.silo_model.specs.Contexts.{active_in}
 use Rattle.silo_model.proofs.AskSteps.{status_unknown_tenant, status_is}
-use Rattle.silo_state.specs.Held.{Held}
-use Rattle.silo_state.specs.Requests.{with_told}
+use Rattle.silo_state.specs.inside.Held.{Held}
+use Rattle.silo_state.specs.inside.Requests.{with_told}
 use Rattle.silo_state.specs.Status.{status_value}
 use Rattle.silo_state.proofs.Asks.{told_moves}
 use Rattle.silo_state.proofs.state.SiloState.status.Goals as goal

@@ -6,12 +6,12 @@ use Rattle.grain_kinds.specs.declared.turn.OpenedTurn.{OpenedTurn}
 use Rattle.silo_event.specs.declared.reply.Reply.{Reply}
 use Rattle.silo_event.specs.declared.step.Step.TheVariants as step
 use Rattle.silo_model.specs.Machine.{Entry, Entries}
-use Rattle.silo_state.specs.Held.{Held, held_of}
+use Rattle.silo_state.specs.inside.Held.{Held, held_of}
 use Rattle.silo_state.specs.Moves.{Moves}
 use Rattle.silo_state.specs.Shown.{entry_of}
 use Rattle.silo_state.specs.Finds.{IsOwn, asks}
 use Rattle.silo_state.specs.Closings.{ClosesBy}
-use Rattle.silo_state.specs.Storing.{given, GivesMarked}
+use Rattle.silo_state.specs.inside.Storing.{given, GivesMarked}
 use Rattle.silo_state.proofs.Ends.{waits_known}
 use Rattle.silo_state.proofs.Stores.{store_silent, stored_moves, left}
 use Rattle.silo_state.proofs.state.SiloState.store_own.Goals as goal

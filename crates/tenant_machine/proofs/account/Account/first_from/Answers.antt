@@ -1,6 +1,6 @@
 use Rattle.std.proofs.Common.{◌≡◌, ◌<◌, List, length, slice_index_or, IfSome, IsSome, ap, sym, ◌∙◌, subst}
 use Rattle.tenant_machine.specs.declared.account.Sent.{Sent}
-use Rattle.tenant_machine.specs.Sends.{first_place}
+use Rattle.tenant_machine.specs.inside.Sends.{first_place}
 use Rattle.tenant_machine.proofs.Firsts.{none_first, found_first}
 use Rattle.tenant_machine.proofs.account.Account.first_from.Goals as goal
 

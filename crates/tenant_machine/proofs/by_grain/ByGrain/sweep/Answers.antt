@@ -3,7 +3,7 @@ use Rattle.std.specs.FinMap as map
 use Rattle.std.proofs.lemmas.Map.Made.{filter_same_pairs}
 use Rattle.silo_model.specs.Idle.{is_due}
 use Rattle.silo_state.specs.Shown.{entry_of}
-use Rattle.tenant_machine.specs.Sweeps.{left_of}
+use Rattle.tenant_machine.specs.inside.Sweeps.{left_of}
 use Rattle.tenant_machine.proofs.Trees.{left-shown}
 use Rattle.tenant_machine.proofs.by_grain.ByGrain.sweep.Goals as goal
 

@@ -1,6 +1,6 @@
 use Rattle.std.proofs.Common.{subst}
 use Rattle.silo_state.specs.Verdicts.{Settles}
-use Rattle.tenant_machine.specs.Requests.{verdict}
+use Rattle.tenant_machine.specs.inside.Requests.{verdict}
 use Rattle.tenant_machine.proofs.Calls.{call_told, call_taken}
 use Rattle.tenant_machine.proofs.machine.TenantMachine.call.Goals as goal
 

@@ -1,8 +1,8 @@
 use Rattle.std.proofs.Common.{◌≡◌, Some, refl, ap, sym, ◌∙◌, subst}
 use Rattle.silo_model.specs.Machine.{Machine}
 use Rattle.silo_state.specs.Verdicts.{Settles}
-use Rattle.tenant_machine.specs.Requests.{verdict}
-use Rattle.tenant_machine.specs.Sends.{send_of}
+use Rattle.tenant_machine.specs.inside.Requests.{verdict}
+use Rattle.tenant_machine.specs.inside.Sends.{send_of}
 use Rattle.tenant_machine.proofs.Sends.{deliver_unknown, deliver_nothing, deliver_told, deliver_taken}
 use Rattle.tenant_machine.proofs.machine.TenantMachine.deliver.Goals as goal
 use Rattle.tenant_machine.proofs.machine.TenantMachine.deliver.Goals.{in-Some-2+in_ok-tell-in-Some-2, in-None+in_ok-accept-in-None}

@@ -3,7 +3,7 @@ use Rattle.std.specs.FinMap as map
 use Rattle.std.proofs.lemmas.List.{length-map}
 use Rattle.silo_model.specs.Machine.{Machine}
 use Rattle.silo_state.specs.Shown.{entry_of, request_of}
-use Rattle.tenant_machine.specs.Requests.{seen_at}
+use Rattle.tenant_machine.specs.inside.Requests.{seen_at}
 use Rattle.tenant_machine.proofs.Gate.{new_free, again_free}
 use Rattle.tenant_machine.proofs.machine.TenantMachine.no_room.Goals as goal
 

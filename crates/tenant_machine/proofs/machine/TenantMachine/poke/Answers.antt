@@ -7,7 +7,7 @@ use Rattle.silo_model.specs.Calls.{told}
 use Rattle.silo_model.specs.Machine.{Machine}
 use Rattle.silo_model.specs.Step.{machine_step}
 use Rattle.silo_state.specs.Verdicts.{Settles}
-use Rattle.tenant_machine.specs.Requests.{gated, with_told}
+use Rattle.tenant_machine.specs.inside.Requests.{gated, with_told}
 use Rattle.tenant_machine.proofs.Asks.{poke_stopped, poke_marked, poke_stored}
 use Rattle.tenant_machine.proofs.Parts.{machine_of}
 use Rattle.tenant_machine.proofs.machine.TenantMachine.poke.Goals as goal

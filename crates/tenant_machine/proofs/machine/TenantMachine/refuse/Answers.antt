@@ -1,7 +1,7 @@
 use Rattle.std.proofs.Common.{Some, ap, sym, ◌∙◌}
 use Rattle.std.specs.Prelude.{Err}
 use Rattle.silo_event.specs.declared.reply.Party.TheVariants as party
-use Rattle.tenant_machine.specs.Requests.{with_told}
+use Rattle.tenant_machine.specs.inside.Requests.{with_told}
 use Rattle.tenant_machine.proofs.Asks.{refuse_is}
 use Rattle.tenant_machine.proofs.machine.TenantMachine.refuse.Goals as goal
 

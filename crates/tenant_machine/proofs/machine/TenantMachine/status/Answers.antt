@@ -1,6 +1,6 @@
 use Rattle.std.proofs.Common.{Some, ap, sym, ◌∙◌}
 use Rattle.silo_event.specs.declared.reply.Party.TheVariants as party
-use Rattle.tenant_machine.specs.Requests.{with_told}
+use Rattle.tenant_machine.specs.inside.Requests.{with_told}
 use Rattle.tenant_machine.proofs.Asks.{status_is}
 use Rattle.tenant_machine.proofs.machine.TenantMachine.status.Goals as goal
 

@@ -8,8 +8,8 @@ use Rattle.silo_event.specs.declared.step.Step.TheVariants as step
 use Rattle.silo_model.specs.Machine.{Machine, Entry}
 use Rattle.silo_state.specs.Finds.{IsOwn, asks}
 use Rattle.silo_state.specs.Shown.{entry_of}
-use Rattle.silo_state.specs.Storing.{given, GivesMarked}
-use Rattle.tenant_machine.specs.Closings.{ClosesBy}
+use Rattle.silo_state.specs.inside.Storing.{given, GivesMarked}
+use Rattle.tenant_machine.specs.inside.Closings.{ClosesBy}
 use Rattle.tenant_machine.specs.Machines.{StepAnswers}
 use Rattle.tenant_machine.proofs.Stores.{store_silent, store_answers, left}
 use Rattle.tenant_machine.proofs.Parts.{machine_of}

@@ -1,5 +1,5 @@
 use Rattle.std.proofs.Common.{◌≡◌, List, map, sym, ap, subst, ◌∙◌}
-use Rattle.request_codec.specs.Level.{AreKept}
+use Rattle.request_codec.specs.inside.Level.{AreKept}
 use Rattle.request_codec.specs.Tree as tree
 use Rattle.turn_arena.specs.Ascending.{MapsAscend, FieldsAscend}
 use Rattle.turn_arena.specs.NodeValue.{node_value, node_values, field_values}

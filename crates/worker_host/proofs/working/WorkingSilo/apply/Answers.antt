@@ -1,5 +1,5 @@
 use Rattle.std.proofs.Common.{◌-◌, ap, refl, ◌∙◌}
-use Rattle.worker_host.specs.Working.{asks_once, owing_to}
+use Rattle.worker_host.specs.inside.Working.{asks_once, owing_to}
 use Rattle.worker_host.proofs.AtWork.{working_same, working_settled}
 use Rattle.worker_host.proofs.working.WorkingSilo.apply.Goals as goal
 

@@ -1,7 +1,7 @@
 use Rattle.std.proofs.Common.{◌-◌, ℕ, length, drop, sym, ap, subst, ◌∙◌}
 use Rattle.silo_model.proofs.Lawful.{lawful_readers}
 use Rattle.lane_model.specs.Asking.{ids_told}
-use Rattle.worker_host.specs.Working.{IsWorking, owing_to}
+use Rattle.worker_host.specs.inside.Working.{IsWorking, owing_to}
 use Rattle.worker_host.proofs.AtWork.{working_seen}
 use Rattle.worker_host.proofs.working.WorkingSilo.look_at_replies.Goals as goal
 

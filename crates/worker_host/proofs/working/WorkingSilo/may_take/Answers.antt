@@ -1,6 +1,6 @@
 use Rattle.std.proofs.Common.{ap, ◌∙◌}
 use Rattle.std.specs.Prelude.{not}
-use Rattle.worker_host.specs.Working.{may_ask_in}
+use Rattle.worker_host.specs.inside.Working.{may_ask_in}
 use Rattle.worker_host.proofs.working.WorkingSilo.may_take.Goals as goal
 
 pub returns-in-Some : goal.returns-in-Some

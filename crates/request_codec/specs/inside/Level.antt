@@ -2,7 +2,7 @@
 use Rattle.std.specs.Prelude.{◌≡◌, ℕ, List, [], ◌∷◌, length}
 use Rattle.request_codec.specs.Tree as tree
 use Rattle.request_codec.specs.Tree.{Tree, members_of, fields_of}
-use Rattle.request_codec.specs.Build.{Named}
+use Rattle.request_codec.specs.inside.Build.{Named}
 use Rattle.request_codec.specs.declared.shown.Level.{Level}
 use Rattle.request_codec.specs.declared.shown.Level.TheVariants as levels
 

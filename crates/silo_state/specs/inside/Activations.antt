@@ -7,7 +7,7 @@ use Rattle.activation_directory.specs.declared.activation.Activation.{Activation
 use Rattle.idle_collector.specs.Notes.{Collection}
 use Rattle.silo_model.specs.Machine.{Entry, Entries, loading}
 use Rattle.silo_state.specs.Shown.{entries_of}
-use Rattle.silo_state.specs.Notes.{none_waits}
+use Rattle.silo_state.specs.inside.Notes.{none_waits}
 
 -- the entries, after how long an idle one goes, and the grain that is expected to be idle, for whose note there is room
 pub record Activations : Type 0 where

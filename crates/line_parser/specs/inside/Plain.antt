@@ -2,7 +2,7 @@
 use Rattle.std.specs.Prelude.{◌≡◌, ℕ, List, [], ◌∷◌, ◌++◌, Bool, false, ◌||◌, ◌==◌, nat_le, Option, Some, None}
 use Rattle.std.specs.Char.{is_ascii_digit}
 use Rattle.json.specs.Token.{Token}
-use Rattle.line_parser.specs.LineMembers.{name_text}
+use Rattle.line_parser.specs.inside.LineMembers.{name_text}
 use Rattle.line_parser.specs.declared.line_members.Name.{Name}
 use Rattle.json.specs.Lex.{between, lex, after_value, begins_colon, punctuate, tokens}
 

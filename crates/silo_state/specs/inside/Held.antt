@@ -6,7 +6,7 @@ use Rattle.grain_storage.specs.Rows.{Rows}
 use Rattle.silo_event.specs.declared.reply.Reply.{Reply}
 use Rattle.silo_model.specs.Machine.{Account}
 use Rattle.silo_model.specs.Whole.{Whole}
-use Rattle.silo_state.specs.Activations.{Activations}
+use Rattle.silo_state.specs.inside.Activations.{Activations}
 
 -- all tenants' parts together, and how many calls of the storage failed
 pub record Held : Type 0 where

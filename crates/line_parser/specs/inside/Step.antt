@@ -8,7 +8,7 @@ use Rattle.silo_event.specs.declared.step.Step.{Step}
 use Rattle.silo_event.specs.declared.step.Step.TheVariants as step
 use Rattle.line_parser.specs.Form.{text_at, natural_at, truth_at, has_members, call_of, poke_of, status_of, grain_form, load_of}
 use Rattle.line_parser.specs.Form.{store_of, turn_form, tick_of, sweep_of}
-use Rattle.line_parser.specs.LineMembers.{IsAsked}
+use Rattle.line_parser.specs.inside.LineMembers.{IsAsked}
 use Rattle.line_parser.specs.declared.line_members.LineMembers.{LineMembers}
 use Rattle.line_parser.specs.declared.line_members.ValueIn.{ValueIn}
 use Rattle.line_parser.specs.declared.line_members.ValueIn.TheVariants.{Bytes, Json}

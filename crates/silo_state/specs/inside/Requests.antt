@@ -9,7 +9,7 @@ use Rattle.silo_event.specs.declared.fault.Fault.{Fault}
 use Rattle.silo_event.specs.declared.reply.Party.{Party}
 use Rattle.silo_model.specs.Machine.{Account}
 use Rattle.silo_model.specs.Calls.{told, with_request}
-use Rattle.silo_state.specs.Held.{Held}
+use Rattle.silo_state.specs.inside.Held.{Held}
 
 -- one reply more
 abbrev pub with_told : Held → Party → Result Tree Fault → Held

@@ -15,7 +15,7 @@ use Rattle.silo_model.specs.Effect.{Context}
 use Rattle.silo_model.specs.Calls.{told, gate, admitted, with_request}
 use Rattle.silo_model.specs.Stores.{version_value}
 use Rattle.silo_state.specs.Status.{status_value}
-use Rattle.tenant_machine.specs.Sends.{without_first}
+use Rattle.tenant_machine.specs.inside.Sends.{without_first}
 
 -- what a step at the grain sees
 abbrev pub seen_at : Machine → Grain → Context

@@ -1,0 +1,8 @@
+-- What only the contracts of this crate's own parts cite. No promise stands on it.
+pub mod Argument
+pub mod Fields
+pub mod LineMembers
+pub mod Number
+pub mod Plain
+pub mod QuickFault
+pub mod Step

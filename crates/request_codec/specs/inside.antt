@@ -1,0 +1,7 @@
+-- What only the contracts of this crate's own parts cite. No promise stands on it.
+pub mod Build
+pub mod Converted
+pub mod Ends
+pub mod Level
+pub mod SharedBytes
+pub mod SmallBytes

@@ -1,0 +1,4 @@
+-- What only the contracts of this crate's own parts cite. No promise stands on it.
+pub mod Answers
+pub mod Made
+pub mod Places
