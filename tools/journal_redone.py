@@ -83,4 +83,6 @@ def struck(journal: Journal, tenant: str) -> Journal:
         tuple(step for step in journal.steps if owner(step) in (tenant, None)),
         tuple(reply for reply in journal.replies if reply.tenant() == tenant),
         tuple((grain, row) for grain, row in journal.rows if grain.tenant == tenant),
+        journal.kinds,
+        journal.ages,
     )

@@ -3,6 +3,7 @@
 from __future__ import annotations
 
 HEAD = ["silo-journal 1", "age 900000", "tenant red 2 4"]
+SECOND = ["silo-journal 2", "kinds 1", "age 900000"]
 A = "counter/red:a"
 NO = "no 60 method is unknown"
 LAST = 2**63 - 1
@@ -42,6 +43,26 @@ def named(grain: str) -> bytes:
 
 def tenants(count: int) -> bytes:
     return text(["sweep"], head=[*HEAD[:2], *(f"tenant t{number} 1 1" for number in range(count))])
+
+
+def aged(*ages: str) -> bytes:
+    """A journal of the second form with these ages of kinds."""
+    return text(["sweep"], head=[*SECOND, *(f"kind {age}" for age in ages), HEAD[2]])
+
+
+def logics() -> list[bytes]:
+    """The logic and the ages of kinds, each at its limits and past them, and out of their places."""
+    found = [text(["sweep"], head=[SECOND[0], f"kinds {number}", *HEAD[1:]]) for number in (0, 1, 2, 3, "01", "", "-1")]
+    found += [aged(f"counter {number}") for number in (0, 1, 86_400_000, 86_400_001, "01", "")]
+    found += [aged(*(f"k{number} 1" for number in range(100, 100 + count))) for count in (64, 65)]
+    found += [aged(f"{'k' * count} 1") for count in (0, 1, 32, 33)]
+    for kinds in (["a", "a"], ["b", "a"], ["a", "a-"], ["a-", "a"], ["a-b", "a0"], ["a0", "a-b"], ["A"], ["a b"]):
+        found.append(aged(*(f"{kind} 1" for kind in kinds)))
+    for lines in (SECOND[:1], SECOND[:2], [SECOND[0], *HEAD[1:]], [*SECOND, "kind a 1"], [*SECOND, HEAD[2], "kind a 1"],
+                  [HEAD[0], SECOND[1], *HEAD[1:]], [*HEAD[:2], "kind a 1", HEAD[2]], [*SECOND[:2], "kind a 1", *HEAD[1:]],
+                  [*SECOND[:2], *SECOND[1:], HEAD[2]]):
+        found.append(text([], head=lines))
+    return found
 
 
 def numbers() -> list[bytes]:
@@ -86,4 +107,4 @@ def ends() -> list[bytes]:
     return found + [called(node) for node in ("", "07", "0", "0G", "03", names_out_of_order, "0400000001ff")]
 
 
-ALL = [*numbers(), *lengths(), *ends()]
+ALL = [*logics(), *numbers(), *lengths(), *ends()]

@@ -346,7 +346,7 @@ def with_lines_changed(random: Random, text: bytes) -> bytes:
         changed[place : place + 2] = reversed(changed[place : place + 2])
     else:
         changed[place] = damaged(random, changed[place])
-    heads = (b"silo-journal", b"age", b"tenant", b"reply", b"row", b"close")
+    heads = (b"silo-journal", b"kind", b"age", b"tenant", b"reply", b"row", b"close")
     steps = sum(not line.startswith(heads) for line in changed)
     if changed and changed[-1].startswith(b"close") and random.random() < 0.8:
         changed[-1] = b"close %d\n" % steps

@@ -1,4 +1,9 @@
-"""A journal's text: what a silo was set up with, the steps that it did, what it replied, and its rows."""
+"""A journal's text: what a silo was set up with, the steps that it did, what it replied, and its rows.
+
+There are two forms of it. The second also tells which logic the kinds have, by its number, and the kinds that have an
+age of their own; in the first they have the first logic, and none has an age of its own. A silo's journal is written in
+the first.
+"""
 
 from __future__ import annotations
 
@@ -15,6 +20,7 @@ from .storage import CLEARED, LAST_VERSION, Row
 from .values import NotSpelled, read_message, read_state, spelled, spelled_message
 
 MAX_AGE = 86_400_000
+MAX_AGES = 64
 MAX_TENANTS = 1_000
 MAX_ACTIVATIONS = 10_000
 MAX_MAILBOX = 1_000
@@ -26,6 +32,8 @@ class Journal(NamedTuple):
     steps: tuple[Step, ...]
     replies: tuple[Reply, ...]
     rows: tuple[tuple[Grain, Row], ...]
+    kinds: int = 1
+    ages: tuple[tuple[str, int], ...] = ()
 
 
 class RefusedAt(Exception):
@@ -70,7 +78,10 @@ def row_fields(grain: Grain, row: Row) -> list:
 
 
 def journal_text(journal: Journal) -> bytes:
-    lines = [["silo-journal", 1], ["age", journal.age]]
+    """The text, in the first form if that can tell it, and else in the second."""
+    told = (journal.kinds, journal.ages) != (1, ())
+    lines = [["silo-journal", 2], ["kinds", journal.kinds]] if told else [["silo-journal", 1]]
+    lines += [["age", journal.age], *(["kind", *entry] for entry in journal.ages)]
     lines += [["tenant", tenant, *limits] for tenant, limits in journal.tenants]
     lines += [[type(step).__name__.lower(), *step_fields(step)] for step in journal.steps]
     lines += [["reply", *reply_fields(reply)] for reply in journal.replies]
@@ -230,8 +241,16 @@ class Reader:
         return found
 
 
-def read_head(line: str, _before: list) -> bool:
-    return fits(line == "silo-journal 1")
+def read_head(line: str, _before: list) -> int:
+    word, form = split(line, 2)
+    fits(word == "silo-journal" and form in ("1", "2"))
+    return int(form)
+
+
+def read_kinds(line: str, _before: list) -> int:
+    word, kinds = split(line, 2)
+    fits(word == "kinds")
+    return number(kinds, 1, 2)
 
 
 def read_age(line: str, _before: list) -> int:
@@ -240,11 +259,19 @@ def read_age(line: str, _before: list) -> int:
     return number(age, 1, MAX_AGE)
 
 
+def read_kind(line: str, before: list) -> tuple[str, int]:
+    word, kind, age = split(line, 3)
+    fits(word == "kind" and is_word(kind) and len(before) < MAX_AGES and (not before or before[-1][0] < kind))
+    return kind, number(age, 1, MAX_AGE)
+
+
 def read_journal(text: bytes) -> Journal:
     """The journal, or RefusedAt."""
     reader = Reader(text)
-    reader.next(read_head)
+    form = reader.next(read_head)
+    kinds = 1 if form == 1 else reader.next(read_kinds)
     age = reader.next(read_age)
+    ages = [] if form == 1 else reader.all_that(read_kind)
     tenants = reader.all_that(read_tenant)
     if not tenants:
         raise reader.refused()
@@ -254,4 +281,4 @@ def read_journal(text: bytes) -> Journal:
     reader.next(lambda line, _before: fits(line == f"close {len(steps)}"))
     if reader.place < len(reader.lines) or reader.rest:
         raise reader.refused()
-    return Journal(tuple(tenants), age, tuple(steps), tuple(replies), tuple(rows))
+    return Journal(tuple(tenants), age, tuple(steps), tuple(replies), tuple(rows), kinds, tuple(ages))

@@ -378,6 +378,15 @@ def cut(number) -> list:
 
 
 SHORT = "silo-journal 1\nage 1\ntenant red 1 1\n"
+SECOND = ["silo-journal 2", "kinds 2", *JOURNAL[1:]]
+AGES = ["kind counter 10", "kind sheet 86400000"]
+
+
+def aged(*ages) -> str:
+    """The journal of the second form, with these lines behind its age."""
+    return text(SECOND[:3] + list(ages) + SECOND[3:])
+
+
 POKED = f"poke red/c1 1 {A} ok 00\nreply red/c1 1 ok 040000000131\n"
 JOURNALS = [
     audited("a journal that agrees", text(JOURNAL), ["tenant red: 5 steps, 1 replies, 0 rows"]),
@@ -406,7 +415,7 @@ JOURNALS = [
     audited("two tenants that differ", SHORT + "status blue/c1 1\ntick 2\ntick 1\nclose 3\n",
             ["tenant red: step 2 differs", "tenant blue: step 3 differs"], 3),
     refused_at("an empty journal", "", 1),
-    refused_at("another form of journal", "silo-journal 2\n", 1),
+    refused_at("another form of journal", "silo-journal 4\n", 1),
     refused_at("an age of 0", "silo-journal 1\nage 0\n", 2),
     refused_at("nothing behind the tenants", SHORT, 4),
     refused_at("a step fewer than is told", SHORT + "tick 5\nclose 2\n", 5),
@@ -416,6 +425,33 @@ JOURNALS = [
     refused_at("another number of steps", text(changed(10, "close 6")), 10),
     refused_at("a line after the last", text(JOURNAL + ["close 5"]), 11),
     refused_at("a step after a reply", text(JOURNAL[:9] + [f"begin {A}"]), 10),
+    audited("a journal of the second form", text(SECOND), ["tenant red: 5 steps, 1 replies, 0 rows"]),
+    audited("the first logic in a journal of the second form", text(["silo-journal 2", "kinds 1", *JOURNAL[1:]]),
+            ["tenant red: 5 steps, 1 replies, 0 rows"]),
+    audited("another reply in a journal of the second form", text(SECOND).replace("03\nclose", "04\nclose"),
+            ["tenant red: reply 1 differs"], 3),
+    audited("kinds with ages of their own", aged(*AGES), ["tenant red: 5 steps, 1 replies, 0 rows"]),
+    audited("64 kinds with ages of their own", aged(*(f"kind k{number} 1" for number in range(10, 74))),
+            ["tenant red: 5 steps, 1 replies, 0 rows"]),
+    refused_at("a journal of the second form without its last line", text(SECOND[:-1]), 11),
+    refused_at("no logic", text(["silo-journal 2", *JOURNAL[1:]]), 2),
+    refused_at("a logic that there isn't", text(["silo-journal 2", "kinds 3", *JOURNAL[1:]]), 2),
+    refused_at("the logic 0", text(["silo-journal 2", "kinds 0", *JOURNAL[1:]]), 2),
+    refused_at("a logic in a journal of the first form", text(["silo-journal 1", "kinds 1", *JOURNAL[1:]]), 2),
+    refused_at("the logic behind the age", text(["silo-journal 2", "age 900000", "kinds 2", *JOURNAL[2:]]), 2),
+    refused_at("a logic that stands twice", text(["silo-journal 2", "kinds 2", *SECOND[1:]]), 3),
+    refused_at("a kind's age in a journal of the first form", text(JOURNAL[:2] + AGES + JOURNAL[2:]), 3),
+    refused_at("a kind before the age", text([*SECOND[:2], *AGES, *SECOND[2:]]), 3),
+    refused_at("a kind that stands twice", aged(AGES[0], AGES[0]), 5),
+    refused_at("kinds out of order", aged(*reversed(AGES)), 5),
+    refused_at("a kind that ends another", aged("kind sheet 1", "kind she 1"), 5),
+    refused_at("a kind too many", aged(*(f"kind k{number} 1" for number in range(10, 75))), 68),
+    refused_at("a kind behind a tenant", text(SECOND[:4] + AGES + SECOND[4:]), 5),
+    refused_at("a kind in upper case", aged("kind Counter 10"), 4),
+    refused_at("a kind with no age", aged("kind counter"), 4),
+    refused_at("a kind's age of 0", aged("kind counter 0"), 4),
+    refused_at("a kind's age above a day", aged("kind counter 86400001"), 4),
+    refused_at("a kind's age with a zero before it", aged("kind counter 010"), 4),
 ]
 
 ROWS = [*COUNTERS, *STORAGE, *OTHER_KINDS, *TENANTS, *CLOCK, *LINES, *WORDS, *LANES, *JOURNALS, *ANSWERED]
