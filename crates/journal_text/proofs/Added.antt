@@ -1,9 +1,10 @@
 -- A draft with a line more is a draft, and its lines are those before and the line.
 use Rattle.std.proofs.Common.{◌≡◌, ℕ, ◌<◌, ◌≤◌, Bool, true, false, true≢false, not, cond, ◌&&◌, ltb, ltb-true, List, [], ◌∷◌, ◌++◌, length, All, Option, Some, None, refl, ap, sym, subst, ◌∙◌, arith}
+use Rattle.std.specs.Prelude.{IsTrue}
 use Rattle.std.specs.Cmp.{first_so, second_so}
 use Rattle.std.specs.List.{list_any}
 use Rattle.std.proofs.lemmas.List.{append-nil, append_assoc, map-append}
-use Rattle.std.proofs.lemmas.List.Elements.{All-nil, All-cons, All-push}
+use Rattle.std.proofs.lemmas.List.Elements.{All-nil, All-cons, All-append, All-push}
 use Rattle.std.proofs.lemmas.Bool.{not-true}
 use Rattle.finite_maps.proofs.Options.{none_from_cond}
 use Rattle.tenant_gate.proofs.Repeats.{first_repeat-push}
@@ -12,37 +13,72 @@ use Rattle.grain_id.specs.Names.{Grain, same_text}
 use Rattle.tenant_gate.specs.declared.limits.Limits.{Limits}
 use Rattle.tenant_gate.specs.Table.{Table, names_of, first_repeat}
 use Rattle.grain_storage.specs.declared.row.Row.{Row}
+use Rattle.idle_collector.specs.Ages.{Ages}
 use Rattle.silo_event.specs.declared.step.Step.{Step}
 use Rattle.journal_text.specs.declared.form.Form.{Form}
+use Rattle.journal_text.specs.declared.form.Form.TheVariants as forms
 use Rattle.journal_text.specs.declared.recorded.RecordedReply.{RecordedReply}
 use Rattle.journal_text.specs.declared.line.Line.{Line}
 use Rattle.journal_text.specs.declared.line.Line.TheVariants as line
-use Rattle.journal_text.specs.Text.{History, history, tenant_line, row_line}
+use Rattle.journal_text.specs.Form.{tells_kinds}
+use Rattle.journal_text.specs.Text.{History, history_of, kind_line, tenant_line, row_line, body, start_lines}
 use Rattle.tenant_gate.specs.Age.{IsAge}
-use Rattle.journal_text.specs.Rules.{IsLine, comes_after, are_ascending}
+use Rattle.journal_text.specs.Rules.{IsKinds, IsLine, comes_after, are_ascending}
+use Rattle.journal_text.specs.inside.Answers.{AreKinds}
 use Rattle.journal_text.specs.inside.Candidates.{only_if}
-use Rattle.journal_text.specs.inside.Draft.{body, lines_so_far, IsDraft, is_empty, has_tenant, last_grain, tenant_fits, step_fits, reply_fits, row_fits, added}
+use Rattle.journal_text.specs.inside.Draft.{lines_so_far, IsDraft, is_empty, has_tenant, kind_after, are_kinds_ascending, last_kind, last_grain, kind_fits, tenant_fits, step_fits, reply_fits, row_fits, added}
 use Rattle.journal_text.proofs.Drafts.{empty, length-push, names_of-push, has_tenant-names}
 
--- a draft of the age alone
-pub empty_is_draft : (form : Form) (age : ℕ) → IsAge age → IsDraft form (empty age)
-empty_is_draft form age is = record {
+-- the first lines may stand in a journal of the form
+pub start_are : (form : Form) (kinds age : ℕ) → IsKinds kinds → IsAge age → All (IsLine form) (start_lines form kinds age)
+start_are forms.First kinds age are is =
+    All-cons (IsLine forms.First) line.Head (line.Age age ∷ []) tt (All-cons (IsLine forms.First) (line.Age age) [] is (All-nil (IsLine forms.First)))
+start_are forms.Second kinds age are is =
+    All-cons (IsLine forms.Second) line.Head (line.Kinds kinds ∷ line.Age age ∷ []) tt
+    (All-cons (IsLine forms.Second) (line.Kinds kinds) (line.Age age ∷ []) (refl, are)
+    (All-cons (IsLine forms.Second) (line.Age age) [] is (All-nil (IsLine forms.Second))))
+
+-- a draft of the first lines alone
+pub empty_is_draft : (form : Form) (kinds age : ℕ) → AreKinds form kinds → IsAge age → IsDraft form (empty kinds age)
+empty_is_draft form kinds age are is = record {
+  kinds = are.0;
+  few_ages = omega arith;
+  ages_ascending = refl;
+  untold = λ e. (are.1 e, refl);
   few = omega arith;
   distinct = refl;
   ascending = refl;
   tenants_first = λ e. (refl, refl, refl);
-  lines = All-cons (IsLine form) line.Head (line.Age age ∷ []) tt (All-cons (IsLine form) (line.Age age) [] is (All-nil (IsLine form)));
+  lines = All-append (IsLine form) (start_lines form kinds age) [] (start_are form kinds age are.0 is) (All-nil (IsLine form));
 }
 
 -- ---- what a line's test says
 
-none_of : {A : Type 0} (xs : List A) → is_empty xs ≡ true → xs ≡ []
+pub none_of : {A : Type 0} (xs : List A) → is_empty xs ≡ true → xs ≡ []
 none_of [] e = refl
 none_of (x ∷ xs) e = absurd (true≢false (sym e))
 
 only_some : {A : Type 0} (b : Bool) (x e : A) → only_if b x ≡ Some e → (b ≡ true) × (x ≡ e)
 only_some true x e is = (refl, cc)
 only_some false x e is = cc
+
+-- What the test of a kind's line says.
+record KindFits (tenants : Table) (ages : Ages) (kind : List ℕ) : Type 0 where
+  no_tenants : tenants ≡ []
+  room : length ages < 64
+  after : kind_after (last_kind None ages) kind ≡ true
+
+kind_test : (d : History) (kind : List ℕ) → kind_fits d kind ≡ true → KindFits d.tenants d.ages kind
+kind_test d kind fits =
+    let none = is_empty d.tenants in
+    let room = ltb (length d.ages) 64 in
+    let after = kind_after (last_kind None d.ages) kind in
+    let front = first_so (none && room) after fits in
+    record {
+      no_tenants = none_of d.tenants (first_so none room front);
+      room = ltb-true (length d.ages) 64 (second_so none room front);
+      after = second_so (none && room) after fits;
+    }
 
 -- What the test of a tenant's line says.
 record TenantFits (tenants : Table) (steps : List Step) (replies : List RecordedReply) (rows : List (Grain × Row)) (name : List ℕ) : Type 0 where
@@ -75,17 +111,20 @@ some_tenant xs some none = true≢false (sym some ∙ ap (λ ys. not (is_empty y
 
 -- ---- the lines
 
-tenant_body : (tenants : Table) (age : ℕ) (entry : List ℕ × Limits) → body (history (tenants ++ entry ∷ []) age [] [] []) ≡ body (history tenants age [] [] []) ++ tenant_line entry ∷ []
-tenant_body tenants age entry = simp (append-nil, map-append)
+kind_body : (kinds age : ℕ) (ages : Ages) (entry : List ℕ × ℕ) → body (history_of kinds age (ages ++ entry ∷ []) [] [] [] []) ≡ body (history_of kinds age ages [] [] [] []) ++ kind_line entry ∷ []
+kind_body kinds age ages entry = simp (append-nil, map-append)
 
-step_body : (tenants : Table) (age : ℕ) (steps : List Step) (s : Step) → body (history tenants age (steps ++ s ∷ []) [] []) ≡ body (history tenants age steps [] []) ++ line.Step s ∷ []
-step_body tenants age steps s = simp (append-nil, map-append, append_assoc)
+pub tenant_body : (kinds age : ℕ) (ages : Ages) (tenants : Table) (entry : List ℕ × Limits) → body (history_of kinds age ages (tenants ++ entry ∷ []) [] [] []) ≡ body (history_of kinds age ages tenants [] [] []) ++ tenant_line entry ∷ []
+tenant_body kinds age ages tenants entry = simp (append-nil, map-append, append_assoc)
 
-reply_body : (tenants : Table) (age : ℕ) (steps : List Step) (replies : List RecordedReply) (reply : RecordedReply) → body (history tenants age steps (replies ++ reply ∷ []) []) ≡ body (history tenants age steps replies []) ++ line.Reply reply ∷ []
-reply_body tenants age steps replies reply = simp (append-nil, map-append, append_assoc)
+step_body : (kinds age : ℕ) (ages : Ages) (tenants : Table) (steps : List Step) (s : Step) → body (history_of kinds age ages tenants (steps ++ s ∷ []) [] []) ≡ body (history_of kinds age ages tenants steps [] []) ++ line.Step s ∷ []
+step_body kinds age ages tenants steps s = simp (append-nil, map-append, append_assoc)
 
-row_body : (tenants : Table) (age : ℕ) (steps : List Step) (replies : List RecordedReply) (rows : List (Grain × Row)) (row : Grain × Row) → body (history tenants age steps replies (rows ++ row ∷ [])) ≡ body (history tenants age steps replies rows) ++ row_line row ∷ []
-row_body tenants age steps replies rows row = simp (map-append, append_assoc)
+reply_body : (kinds age : ℕ) (ages : Ages) (tenants : Table) (steps : List Step) (replies : List RecordedReply) (reply : RecordedReply) → body (history_of kinds age ages tenants steps (replies ++ reply ∷ []) []) ≡ body (history_of kinds age ages tenants steps replies []) ++ line.Reply reply ∷ []
+reply_body kinds age ages tenants steps replies reply = simp (append-nil, map-append, append_assoc)
+
+row_body : (kinds age : ℕ) (ages : Ages) (tenants : Table) (steps : List Step) (replies : List RecordedReply) (rows : List (Grain × Row)) (row : Grain × Row) → body (history_of kinds age ages tenants steps replies (rows ++ row ∷ [])) ≡ body (history_of kinds age ages tenants steps replies rows) ++ row_line row ∷ []
+row_body kinds age ages tenants steps replies rows row = simp (map-append, append_assoc)
 
 -- ---- the rules
 
@@ -96,81 +135,134 @@ ascending-push last (r ∷ rows) row ascending after =
     let behind = second_so (comes_after last r.0) (are_ascending (Some r.0) rows) ascending in
     ap (λ b. b && are_ascending (Some r.0) (rows ++ row ∷ [])) here ∙ ascending-push (Some r.0) rows row behind after
 
+kinds_ascending-push : (last : Option (List ℕ)) (ages : Ages) (entry : List ℕ × ℕ) → are_kinds_ascending last ages ≡ true → kind_after (last_kind last ages) entry.0 ≡ true → are_kinds_ascending last (ages ++ entry ∷ []) ≡ true
+kinds_ascending-push last [] entry ascending after = ap (λ b. b && true) after
+kinds_ascending-push last (e ∷ ages) entry ascending after =
+    let here = first_so (kind_after last e.0) (are_kinds_ascending (Some e.0) ages) ascending in
+    let behind = second_so (kind_after last e.0) (are_kinds_ascending (Some e.0) ages) ascending in
+    ap (λ b. b && are_kinds_ascending (Some e.0) (ages ++ entry ∷ [])) here ∙ kinds_ascending-push (Some e.0) ages entry behind after
+
 -- What a line more makes of a draft: a draft, with that line behind its own.
 pub record Extends (form : Form) (d e : History) (l : Line) : Type 0 where
-  pub same_age : e.age ≡ d.age
   pub is_draft : IsDraft form e
-  pub lines : lines_so_far e ≡ lines_so_far d ++ l ∷ []
+  pub lines : lines_so_far form e ≡ lines_so_far form d ++ l ∷ []
 
-extended : (form : Form) (d e : History) (l : Line) → IsDraft form d → IsLine form l → d.age ≡ e.age → body e ≡ body d ++ l ∷ [] → length e.tenants ≤ 1000 → first_repeat [] (names_of e.tenants) ≡ None → are_ascending None e.rows ≡ true → (e.tenants ≡ [] → (e.steps ≡ []) × (e.replies ≡ []) × (e.rows ≡ [])) → Extends form d e l
-extended form d e l is also age more few distinct ascending first =
-    let lines : lines_so_far e ≡ lines_so_far d ++ l ∷ [] = (λ i. line.Head ∷ line.Age (sym age i) ∷ more i) in
+-- one line more behind the first lines
+pub more_lines : (start lines more : List Line) (l : Line) → more ≡ lines ++ l ∷ [] → start ++ more ≡ (start ++ lines) ++ l ∷ []
+more_lines start lines more l is = ap (λ ls. start ++ ls) is ∙ sym (append_assoc start lines (l ∷ []))
+
+more_are : (form : Form) (d e : History) (l : Line) → IsDraft form d → IsLine form l → lines_so_far form e ≡ lines_so_far form d ++ l ∷ [] → All (IsLine form) (lines_so_far form e)
+more_are form d e l is also lines = subst (All (IsLine form)) (sym lines) (All-push (IsLine form) (lines_so_far form d) l is.lines also)
+
+kind_added : (form : Form) (kinds age : ℕ) (ages : Ages) (entry : List ℕ × ℕ) → IsDraft form (history_of kinds age ages [] [] [] []) → IsLine form (kind_line entry) → length ages < 64 → kind_after (last_kind None ages) entry.0 ≡ true → Extends form (history_of kinds age ages [] [] [] []) (history_of kinds age (ages ++ entry ∷ []) [] [] [] []) (kind_line entry)
+kind_added form kinds age ages entry is also room after =
+    let d : History = history_of kinds age ages [] [] [] [] in
+    let e : History = history_of kinds age (ages ++ entry ∷ []) [] [] [] [] in
+    let lines = more_lines (start_lines form kinds age) (body d) (body e) (kind_line entry) (kind_body kinds age ages entry) in
     record {
-      same_age = sym age;
       is_draft = record {
-        few = few;
-        distinct = distinct;
-        ascending = ascending;
-        tenants_first = first;
-        lines = subst (All (IsLine form)) (sym lines) (All-push (IsLine form) (lines_so_far d) l is.lines also);
+        kinds = is.kinds;
+        few_ages = omega (arith, length-push ages entry, room);
+        ages_ascending = kinds_ascending-push None ages entry is.ages_ascending after;
+        untold = λ untold. absurd (true≢false (sym also.0 ∙ untold));
+        few = is.few;
+        distinct = is.distinct;
+        ascending = is.ascending;
+        tenants_first = is.tenants_first;
+        lines = more_are form d e (kind_line entry) is also lines;
       };
       lines = lines;
     }
 
-tenant_added : (form : Form) (tenants : Table) (age : ℕ) (steps : List Step) (replies : List RecordedReply) (rows : List (Grain × Row)) (entry : List ℕ × Limits) → IsDraft form (history tenants age steps replies rows) → IsLine form (tenant_line entry) → TenantFits tenants steps replies rows entry.0 → Extends form (history tenants age steps replies rows) (history (tenants ++ entry ∷ []) age steps replies rows) (tenant_line entry)
-tenant_added form tenants age steps replies rows entry is also fits =
-    extended form (history tenants age steps replies rows) (history (tenants ++ entry ∷ []) age steps replies rows) (tenant_line entry) is also refl
-    (rw (fits.no_steps, fits.no_replies, fits.no_rows) (tenant_body tenants age entry))
-    (omega (arith, length-push tenants entry, fits.room))
-    (ap (first_repeat []) (names_of-push tenants entry) ∙ first_repeat-push [] (names_of tenants) entry.0 is.distinct fits.new)
-    is.ascending
-    (λ e. absurd (push_not_empty tenants entry e))
+-- a draft with a line behind the ages of kinds
+behind_ages : (form : Form) (kinds age : ℕ) (ages : Ages) (tenants others : Table) (steps more_steps : List Step) (replies more_replies : List RecordedReply) (rows more_rows : List (Grain × Row)) (l : Line) → IsDraft form (history_of kinds age ages tenants steps replies rows) → IsLine form l → body (history_of kinds age ages others more_steps more_replies more_rows) ≡ body (history_of kinds age ages tenants steps replies rows) ++ l ∷ [] → length others ≤ 1000 → first_repeat [] (names_of others) ≡ None → are_ascending None more_rows ≡ true → (others ≡ [] → (more_steps ≡ []) × (more_replies ≡ []) × (more_rows ≡ [])) → Extends form (history_of kinds age ages tenants steps replies rows) (history_of kinds age ages others more_steps more_replies more_rows) l
+behind_ages form kinds age ages tenants others steps more_steps replies more_replies rows more_rows l is also more few distinct ascending first =
+    let d : History = history_of kinds age ages tenants steps replies rows in
+    let e : History = history_of kinds age ages others more_steps more_replies more_rows in
+    let lines = more_lines (start_lines form kinds age) (body d) (body e) l more in
+    record {
+      is_draft = record {
+        kinds = is.kinds;
+        few_ages = is.few_ages;
+        ages_ascending = is.ages_ascending;
+        untold = is.untold;
+        few = few;
+        distinct = distinct;
+        ascending = ascending;
+        tenants_first = first;
+        lines = more_are form d e l is also lines;
+      };
+      lines = lines;
+    }
 
-step_added : (form : Form) (tenants : Table) (age : ℕ) (steps : List Step) (replies : List RecordedReply) (rows : List (Grain × Row)) (s : Step) → IsDraft form (history tenants age steps replies rows) → IsLine form (line.Step s) → step_fits (history tenants age steps replies rows) ≡ true → Extends form (history tenants age steps replies rows) (history tenants age (steps ++ s ∷ []) replies rows) (line.Step s)
-step_added form tenants age steps replies rows s is also fits =
-    let some = not (is_empty tenants) in
-    let front = first_so (some && is_empty replies) (is_empty rows) fits in
-    let no_replies : replies ≡ [] = none_of replies (second_so some (is_empty replies) front) in
-    let no_rows : rows ≡ [] = none_of rows (second_so (some && is_empty replies) (is_empty rows) fits) in
-    extended form (history tenants age steps replies rows) (history tenants age (steps ++ s ∷ []) replies rows) (line.Step s) is also refl
-    (rw (no_replies, no_rows) (step_body tenants age steps s))
-    is.few is.distinct is.ascending
-    (λ e. absurd (some_tenant tenants (first_so some (is_empty replies) front) e))
+module _ (form : Form) (kinds age : ℕ) (ages : Ages) (tenants : Table) (steps : List Step) (replies : List RecordedReply) (rows : List (Grain × Row)) (is : IsDraft form (history_of kinds age ages tenants steps replies rows)) where
+  abbrev before : History
+  before = history_of kinds age ages tenants steps replies rows
 
-reply_added : (form : Form) (tenants : Table) (age : ℕ) (steps : List Step) (replies : List RecordedReply) (rows : List (Grain × Row)) (reply : RecordedReply) → IsDraft form (history tenants age steps replies rows) → IsLine form (line.Reply reply) → reply_fits (history tenants age steps replies rows) ≡ true → Extends form (history tenants age steps replies rows) (history tenants age steps (replies ++ reply ∷ []) rows) (line.Reply reply)
-reply_added form tenants age steps replies rows reply is also fits =
-    let some = not (is_empty tenants) in
-    let no_rows : rows ≡ [] = none_of rows (second_so some (is_empty rows) fits) in
-    extended form (history tenants age steps replies rows) (history tenants age steps (replies ++ reply ∷ []) rows) (line.Reply reply) is also refl
-    (rw no_rows (reply_body tenants age steps replies reply))
-    is.few is.distinct is.ascending
-    (λ e. absurd (some_tenant tenants (first_so some (is_empty rows) fits) e))
+  tenant_added : (entry : List ℕ × Limits) → IsLine form (tenant_line entry) → TenantFits tenants steps replies rows entry.0 → Extends form before (history_of kinds age ages (tenants ++ entry ∷ []) steps replies rows) (tenant_line entry)
+  tenant_added entry also fits =
+      behind_ages form kinds age ages tenants (tenants ++ entry ∷ []) steps steps replies replies rows rows (tenant_line entry) is also
+      (rw (fits.no_steps, fits.no_replies, fits.no_rows) (tenant_body kinds age ages tenants entry))
+      (omega (arith, length-push tenants entry, fits.room))
+      (ap (first_repeat []) (names_of-push tenants entry) ∙ first_repeat-push [] (names_of tenants) entry.0 is.distinct fits.new)
+      is.ascending
+      (λ e. absurd (push_not_empty tenants entry e))
 
-row_added : (form : Form) (tenants : Table) (age : ℕ) (steps : List Step) (replies : List RecordedReply) (rows : List (Grain × Row)) (row : Grain × Row) → IsDraft form (history tenants age steps replies rows) → IsLine form (row_line row) → row_fits (history tenants age steps replies rows) row.0 ≡ true → Extends form (history tenants age steps replies rows) (history tenants age steps replies (rows ++ row ∷ [])) (row_line row)
-row_added form tenants age steps replies rows row is also fits =
-    let some = not (is_empty tenants) in
-    let after = comes_after (last_grain None rows) row.0 in
-    extended form (history tenants age steps replies rows) (history tenants age steps replies (rows ++ row ∷ [])) (row_line row) is also refl
-    (row_body tenants age steps replies rows row)
-    is.few is.distinct
-    (ascending-push None rows row is.ascending (second_so some after fits))
-    (λ e. absurd (some_tenant tenants (first_so some after fits) e))
+  step_added : (s : Step) → IsLine form (line.Step s) → step_fits before ≡ true → Extends form before (history_of kinds age ages tenants (steps ++ s ∷ []) replies rows) (line.Step s)
+  step_added s also fits =
+      let some = not (is_empty tenants) in
+      let front = first_so (some && is_empty replies) (is_empty rows) fits in
+      let no_replies : replies ≡ [] = none_of replies (second_so some (is_empty replies) front) in
+      let no_rows : rows ≡ [] = none_of rows (second_so (some && is_empty replies) (is_empty rows) fits) in
+      behind_ages form kinds age ages tenants tenants steps (steps ++ s ∷ []) replies replies rows rows (line.Step s) is also
+      (rw (no_replies, no_rows) (step_body kinds age ages tenants steps s))
+      is.few is.distinct is.ascending
+      (λ e. absurd (some_tenant tenants (first_so some (is_empty replies) front) e))
+
+  reply_added : (reply : RecordedReply) → IsLine form (line.Reply reply) → reply_fits before ≡ true → Extends form before (history_of kinds age ages tenants steps (replies ++ reply ∷ []) rows) (line.Reply reply)
+  reply_added reply also fits =
+      let some = not (is_empty tenants) in
+      let no_rows : rows ≡ [] = none_of rows (second_so some (is_empty rows) fits) in
+      behind_ages form kinds age ages tenants tenants steps steps replies (replies ++ reply ∷ []) rows rows (line.Reply reply) is also
+      (rw no_rows (reply_body kinds age ages tenants steps replies reply))
+      is.few is.distinct is.ascending
+      (λ e. absurd (some_tenant tenants (first_so some (is_empty rows) fits) e))
+
+  row_added : (row : Grain × Row) → IsLine form (row_line row) → row_fits before row.0 ≡ true → Extends form before (history_of kinds age ages tenants steps replies (rows ++ row ∷ [])) (row_line row)
+  row_added row also fits =
+      let some = not (is_empty tenants) in
+      let after = comes_after (last_grain None rows) row.0 in
+      behind_ages form kinds age ages tenants tenants steps steps replies replies rows (rows ++ row ∷ []) (row_line row) is also
+      (row_body kinds age ages tenants steps replies rows row)
+      is.few is.distinct
+      (ascending-push None rows row is.ascending (second_so some after fits))
+      (λ e. absurd (some_tenant tenants (first_so some after fits) e))
+
+  kind_extends : (entry : List ℕ × ℕ) → IsLine form (kind_line entry) → KindFits tenants ages entry.0 → Extends form before (history_of kinds age (ages ++ entry ∷ []) tenants steps replies rows) (kind_line entry)
+  kind_extends entry also fits =
+      let none = is.tenants_first fits.no_tenants in
+      let empty_is : IsDraft form (history_of kinds age ages [] [] [] []) = subst (IsDraft form) (λ i. history_of kinds age ages (fits.no_tenants i) (none.0 i) (none.1 i) (none.2 i)) is in
+      rw (fits.no_tenants, none.0, none.1, none.2) (kind_added form kinds age ages entry empty_is also fits.room fits.after)
 
 -- a line that is added extends the draft
 pub added_extends : (form : Form) (d e : History) (l : Line) → IsDraft form d → IsLine form l → added d l ≡ Some e → Extends form d e l
 unfolding added
+added_extends form d e (line.Kind kind age) is also taken =
+    let only = only_some (kind_fits d kind) (history_of d.kinds d.age (d.ages ++ (kind, age) ∷ []) d.tenants d.steps d.replies d.rows) e taken in
+    subst (λ f. Extends form d f (line.Kind kind age)) only.1 (kind_extends form d.kinds d.age d.ages d.tenants d.steps d.replies d.rows is (kind, age) also (kind_test d kind only.0))
 added_extends form d e (line.Tenant tenant limits) is also taken =
-    let only = only_some (tenant_fits d tenant) (history (d.tenants ++ (tenant, limits) ∷ []) d.age d.steps d.replies d.rows) e taken in
-    subst (λ f. Extends form d f (line.Tenant tenant limits)) only.1 (tenant_added form d.tenants d.age d.steps d.replies d.rows (tenant, limits) is also (tenant_test d tenant only.0))
+    let only = only_some (tenant_fits d tenant) (history_of d.kinds d.age d.ages (d.tenants ++ (tenant, limits) ∷ []) d.steps d.replies d.rows) e taken in
+    subst (λ f. Extends form d f (line.Tenant tenant limits)) only.1 (tenant_added form d.kinds d.age d.ages d.tenants d.steps d.replies d.rows is (tenant, limits) also (tenant_test d tenant only.0))
 added_extends form d e (line.Step s) is also taken =
-    let only = only_some (step_fits d) (history d.tenants d.age (d.steps ++ s ∷ []) d.replies d.rows) e taken in
-    subst (λ f. Extends form d f (line.Step s)) only.1 (step_added form d.tenants d.age d.steps d.replies d.rows s is also only.0)
+    let only = only_some (step_fits d) (history_of d.kinds d.age d.ages d.tenants (d.steps ++ s ∷ []) d.replies d.rows) e taken in
+    subst (λ f. Extends form d f (line.Step s)) only.1 (step_added form d.kinds d.age d.ages d.tenants d.steps d.replies d.rows is s also only.0)
 added_extends form d e (line.Reply reply) is also taken =
-    let only = only_some (reply_fits d) (history d.tenants d.age d.steps (d.replies ++ reply ∷ []) d.rows) e taken in
-    subst (λ f. Extends form d f (line.Reply reply)) only.1 (reply_added form d.tenants d.age d.steps d.replies d.rows reply is also only.0)
+    let only = only_some (reply_fits d) (history_of d.kinds d.age d.ages d.tenants d.steps (d.replies ++ reply ∷ []) d.rows) e taken in
+    subst (λ f. Extends form d f (line.Reply reply)) only.1 (reply_added form d.kinds d.age d.ages d.tenants d.steps d.replies d.rows is reply also only.0)
 added_extends form d e (line.Row grain row) is also taken =
-    let only = only_some (row_fits d grain) (history d.tenants d.age d.steps d.replies (d.rows ++ (grain, row) ∷ [])) e taken in
-    subst (λ f. Extends form d f (line.Row grain row)) only.1 (row_added form d.tenants d.age d.steps d.replies d.rows (grain, row) is also only.0)
+    let only = only_some (row_fits d grain) (history_of d.kinds d.age d.ages d.tenants d.steps d.replies (d.rows ++ (grain, row) ∷ [])) e taken in
+    subst (λ f. Extends form d f (line.Row grain row)) only.1 (row_added form d.kinds d.age d.ages d.tenants d.steps d.replies d.rows is (grain, row) also only.0)
 added_extends form d e line.Head is also taken = cc
+added_extends form d e (line.Kinds kinds) is also taken = cc
 added_extends form d e (line.Age age) is also taken = cc
 added_extends form d e (line.Close steps) is also taken = cc

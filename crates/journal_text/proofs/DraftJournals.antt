@@ -1,5 +1,5 @@
 -- A draft's lines are the first of a journal's, and a closed draft is a journal.
-use Rattle.std.proofs.Common.{◌≡◌, ℕ, ◌<◌, ◌≤◌, ◌^◌, Bool, true, false, true≢false, not, cond, ltb, eqb, List, [], ◌∷◌, ◌++◌, map, length, All, Option, Some, None, refl, ap, sym, ◌∙◌, lit<, arith}
+use Rattle.std.proofs.Common.{◌≡◌, ℕ, ◌<◌, ◌≤◌, ◌^◌, Bool, true, false, true≢false, not, cond, ltb, eqb, List, [], ◌∷◌, ◌++◌, map, length, All, Option, Some, None, refl, ap, sym, subst, ◌∙◌, lit<, arith}
 use Rattle.std.specs.Prelude.{find, codes, option_map}
 use Rattle.std.specs.Option.{option_or}
 use Rattle.std.proofs.lemmas.List.{append_assoc}
@@ -10,16 +10,19 @@ use Rattle.tenant_gate.specs.declared.limits.Limits.{Limits}
 use Rattle.tenant_gate.specs.declared.fault.TableFault.TheVariants as faults
 use Rattle.tenant_gate.specs.Table.{Table, names_of, first_repeat, first_out_of_range, are_in_range, table_fault}
 use Rattle.grain_storage.specs.declared.row.Row.{Row}
+use Rattle.idle_collector.specs.Ages.{Ages}
 use Rattle.silo_event.specs.declared.step.Step.{Step}
 use Rattle.journal_text.specs.declared.form.Form.{Form}
 use Rattle.journal_text.specs.declared.recorded.RecordedReply.{RecordedReply}
 use Rattle.journal_text.specs.declared.line.Line.{Line}
 use Rattle.journal_text.specs.declared.line.Line.TheVariants as line
-use Rattle.journal_text.specs.Text.{History, history, tenant_line, row_line, journal_lines}
-use Rattle.journal_text.specs.Rules.{IsLine, IsTable, KeepsRulesIn}
+use Rattle.journal_text.specs.Form.{tells_kinds}
+use Rattle.journal_text.specs.Text.{History, history_of, kind_line, tenant_line, row_line, body, start_lines, journal_lines}
+use Rattle.journal_text.specs.Rules.{IsKinds, IsLine, IsTable, KeepsRulesIn}
 use Rattle.journal_text.specs.FirstFault.{BeginJournal}
-use Rattle.journal_text.specs.inside.Draft.{body, lines_so_far, IsDraft, is_empty}
-use Rattle.journal_text.proofs.Drafts.{empty}
+use Rattle.journal_text.specs.inside.Draft.{lines_so_far, IsDraft, is_empty}
+use Rattle.journal_text.proofs.AgesKept.{are_ages, one_after_another}
+use Rattle.journal_text.proofs.Added.{more_lines, tenant_body}
 
 -- ---- what is true of all is true of each part
 
@@ -55,28 +58,43 @@ table form t tenants few distinct all = no_fault (eqb (length (t ∷ tenants)) 0
 
 -- ---- a closed draft
 
-tenants_of : (form : Form) (tenants : Table) (age : ℕ) (steps : List Step) (replies : List RecordedReply) (rows : List (Grain × Row)) → All (IsLine form) (lines_so_far (history tenants age steps replies rows)) → All (IsLine form) (map tenant_line tenants)
-tenants_of form tenants age steps replies rows all =
-    let behind : List Line = body (history tenants age steps replies rows) in
-    All-front (IsLine form) (map tenant_line tenants) (map line.Step steps) (All-front (IsLine form) (map tenant_line tenants ++ map line.Step steps) (map line.Reply replies) (All-front (IsLine form) (map tenant_line tenants ++ map line.Step steps ++ map line.Reply replies) (map row_line rows) (All-tail (IsLine form) (line.Age age) behind (All-tail (IsLine form) line.Head (line.Age age ∷ behind) all))))
+-- the ages of kinds, and the tenants, of a draft's lines
+record FirstParts (form : Form) (ages : Ages) (tenants : Table) : Type 0 where
+  of_ages : All (IsLine form) (map kind_line ages)
+  of_tenants : All (IsLine form) (map tenant_line tenants)
+
+first_parts : (form : Form) (kinds age : ℕ) (ages : Ages) (tenants : Table) (steps : List Step) (replies : List RecordedReply) (rows : List (Grain × Row)) → All (IsLine form) (lines_so_far form (history_of kinds age ages tenants steps replies rows)) → FirstParts form ages tenants
+first_parts form kinds age ages tenants steps replies rows all =
+    let l1 : List Line = map kind_line ages in
+    let l2 : List Line = l1 ++ map tenant_line tenants in
+    let l3 : List Line = l2 ++ map line.Step steps in
+    let l4 : List Line = l3 ++ map line.Reply replies in
+    let behind = All-back (IsLine form) (start_lines form kinds age) (l4 ++ map row_line rows) all in
+    let parts = All-front (IsLine form) l2 (map line.Step steps) (All-front (IsLine form) l3 (map line.Reply replies) (All-front (IsLine form) l4 (map row_line rows) behind)) in
+    record { of_ages = All-front (IsLine form) l1 (map tenant_line tenants) parts; of_tenants = All-back (IsLine form) l1 (map tenant_line tenants) parts }
 
 -- a draft with its close is a journal
-keeps : (form : Form) (t : List ℕ × Limits) (tenants : Table) (age : ℕ) (steps : List Step) (replies : List RecordedReply) (rows : List (Grain × Row)) → IsDraft form (history (t ∷ tenants) age steps replies rows) → length steps < 2 ^ 64 → KeepsRulesIn form (history (t ∷ tenants) age steps replies rows)
+keeps : (form : Form) (kinds age : ℕ) (ages : Ages) (t : List ℕ × Limits) (tenants : Table) (steps : List Step) (replies : List RecordedReply) (rows : List (Grain × Row)) → IsDraft form (history_of kinds age ages (t ∷ tenants) steps replies rows) → length steps < 2 ^ 64 → KeepsRulesIn form (history_of kinds age ages (t ∷ tenants) steps replies rows)
 unfolding journal_lines
-keeps form t tenants age steps replies rows is small = record {
-  is_table = table form t tenants is.few is.distinct (tenants_of form (t ∷ tenants) age steps replies rows is.lines);
-  ascending = is.ascending;
-  lines = All-push (IsLine form) (lines_so_far (history (t ∷ tenants) age steps replies rows)) (line.Close (length steps)) is.lines small;
-}
+keeps form kinds age ages t tenants steps replies rows is small =
+    let parts = first_parts form kinds age ages (t ∷ tenants) steps replies rows is.lines in
+    record {
+      kinds = is.kinds;
+      ages = are_ages form ages is.few_ages is.ages_ascending parts.of_ages;
+      untold = is.untold;
+      is_table = table form t tenants is.few is.distinct parts.of_tenants;
+      ascending = is.ascending;
+      lines = All-push (IsLine form) (lines_so_far form (history_of kinds age ages (t ∷ tenants) steps replies rows)) (line.Close (length steps)) is.lines small;
+    }
 
 -- its lines are the draft's and the close
-pub closed_lines : (d : History) → journal_lines d ≡ lines_so_far d ++ line.Close (length d.steps) ∷ []
+pub closed_lines : (form : Form) (d : History) → journal_lines form d ≡ lines_so_far form d ++ line.Close (length d.steps) ∷ []
 unfolding journal_lines
-closed_lines d = refl
+closed_lines form d = refl
 
-pub closed_keeps : (form : Form) (tenants : Table) (age : ℕ) (steps : List Step) (replies : List RecordedReply) (rows : List (Grain × Row)) → IsDraft form (history tenants age steps replies rows) → not (is_empty tenants) ≡ true → length steps < 2 ^ 64 → KeepsRulesIn form (history tenants age steps replies rows)
-closed_keeps form [] age steps replies rows is some small = absurd (true≢false (sym some))
-closed_keeps form (t ∷ tenants) age steps replies rows is some small = keeps form t tenants age steps replies rows is small
+pub closed_keeps : (form : Form) (kinds age : ℕ) (ages : Ages) (tenants : Table) (steps : List Step) (replies : List RecordedReply) (rows : List (Grain × Row)) → IsDraft form (history_of kinds age ages tenants steps replies rows) → not (is_empty tenants) ≡ true → length steps < 2 ^ 64 → KeepsRulesIn form (history_of kinds age ages tenants steps replies rows)
+closed_keeps form kinds age ages [] steps replies rows is some small = absurd (true≢false (sym some))
+closed_keeps form kinds age ages (t ∷ tenants) steps replies rows is some small = keeps form kinds age ages t tenants steps replies rows is small
 
 cons_nil : {A : Type 0} (x : A) (xs : List A) → x ∷ xs ≡ [] → ⊥
 cons_nil x xs e = cc
@@ -103,35 +121,47 @@ is_some_tenant : (form : Form) → IsLine form (tenant_line some_tenant)
 unfolding is_word some_tenant
 is_some_tenant form = (refl, refl)
 
-one_tenant : (form : Form) (age : ℕ) → IsDraft form (empty age) → IsDraft form (history (some_tenant ∷ []) age [] [] [])
-one_tenant form age is = record {
-  few = omega arith;
-  distinct = refl;
-  ascending = refl;
-  tenants_first = λ none. absurd (cons_nil some_tenant [] none);
-  lines = All-push (IsLine form) (lines_so_far (empty age)) (tenant_line some_tenant) is.lines (is_some_tenant form);
-}
+-- the lines of a draft of ages alone, and of it with a tenant
+with_tenant : (form : Form) (kinds age : ℕ) (ages : Ages) → lines_so_far form (history_of kinds age ages (some_tenant ∷ []) [] [] []) ≡ lines_so_far form (history_of kinds age ages [] [] [] []) ++ tenant_line some_tenant ∷ []
+with_tenant form kinds age ages =
+    more_lines (start_lines form kinds age) (body (history_of kinds age ages [] [] [] [])) (body (history_of kinds age ages (some_tenant ∷ []) [] [] [])) (tenant_line some_tenant) (tenant_body kinds age ages [] some_tenant)
 
-begins : (form : Form) (tenants : Table) (age : ℕ) (steps : List Step) (replies : List RecordedReply) (rows : List (Grain × Row)) → IsDraft form (history tenants age steps replies rows) → length steps < 2 ^ 64 → BeginJournal form (lines_so_far (history tenants age steps replies rows))
+-- a draft of ages alone, with a tenant
+one_tenant : (form : Form) (kinds age : ℕ) (ages : Ages) → IsDraft form (history_of kinds age ages [] [] [] []) → IsDraft form (history_of kinds age ages (some_tenant ∷ []) [] [] [])
+one_tenant form kinds age ages is =
+    let before : List Line = lines_so_far form (history_of kinds age ages [] [] [] []) in
+    record {
+      kinds = is.kinds;
+      few_ages = is.few_ages;
+      ages_ascending = is.ages_ascending;
+      untold = is.untold;
+      few = omega arith;
+      distinct = refl;
+      ascending = refl;
+      tenants_first = λ none. absurd (cons_nil some_tenant [] none);
+      lines = subst (All (IsLine form)) (sym (with_tenant form kinds age ages)) (All-push (IsLine form) before (tenant_line some_tenant) is.lines (is_some_tenant form));
+    }
+
+begins : (form : Form) (kinds age : ℕ) (ages : Ages) (tenants : Table) (steps : List Step) (replies : List RecordedReply) (rows : List (Grain × Row)) → IsDraft form (history_of kinds age ages tenants steps replies rows) → length steps < 2 ^ 64 → BeginJournal form (lines_so_far form (history_of kinds age ages tenants steps replies rows))
 unfolding journal_lines
-begins form [] age [] [] [] is small = record {
-  journal = history (some_tenant ∷ []) age [] [] [];
+begins form kinds age ages [] [] [] [] is small = record {
+  journal = history_of kinds age ages (some_tenant ∷ []) [] [] [];
   behind = tenant_line some_tenant ∷ line.Close 0 ∷ [];
-  keeps = keeps form some_tenant [] age [] [] [] (one_tenant form age is) (lit< tt);
-  are_first = refl;
+  keeps = keeps form kinds age ages some_tenant [] [] [] [] (one_tenant form kinds age ages is) (lit< tt);
+  are_first = ap (λ lines. lines ++ line.Close 0 ∷ []) (with_tenant form kinds age ages) ∙ append_assoc (lines_so_far form (history_of kinds age ages [] [] [] [])) (tenant_line some_tenant ∷ []) (line.Close 0 ∷ []);
 }
-begins form [] age (s ∷ steps) replies rows is small = let none = (is.tenants_first refl).0 in cc
-begins form [] age [] (reply ∷ replies) rows is small = let none = (is.tenants_first refl).1 in cc
-begins form [] age [] [] (row ∷ rows) is small = let none = (is.tenants_first refl).2 in cc
-begins form (t ∷ tenants) age steps replies rows is small = record {
-  journal = history (t ∷ tenants) age steps replies rows;
+begins form kinds age ages [] (s ∷ steps) replies rows is small = let none = (is.tenants_first refl).0 in cc
+begins form kinds age ages [] [] (reply ∷ replies) rows is small = let none = (is.tenants_first refl).1 in cc
+begins form kinds age ages [] [] [] (row ∷ rows) is small = let none = (is.tenants_first refl).2 in cc
+begins form kinds age ages (t ∷ tenants) steps replies rows is small = record {
+  journal = history_of kinds age ages (t ∷ tenants) steps replies rows;
   behind = line.Close (length steps) ∷ [];
-  keeps = keeps form t tenants age steps replies rows is small;
+  keeps = keeps form kinds age ages t tenants steps replies rows is small;
   are_first = refl;
 }
 
-pub draft_begins : (form : Form) (d : History) → IsDraft form d → length d.steps < 2 ^ 64 → BeginJournal form (lines_so_far d)
-draft_begins form d is small = begins form d.tenants d.age d.steps d.replies d.rows is small
+pub draft_begins : (form : Form) (d : History) → IsDraft form d → length d.steps < 2 ^ 64 → BeginJournal form (lines_so_far form d)
+draft_begins form d is small = begins form d.kinds d.age d.ages d.tenants d.steps d.replies d.rows is small
 
 -- ---- a journal is a draft
 
@@ -165,11 +195,15 @@ unfolding journal_lines
 journal_is_draft form j keeps =
     let table = table_keeps j.tenants keeps.is_table in
     record {
+      kinds = keeps.kinds;
+      few_ages = keeps.ages.few;
+      ages_ascending = one_after_another j.ages keeps.ages.ascending;
+      untold = keeps.untold;
       few = table.few;
       distinct = table.distinct;
       ascending = keeps.ascending;
       tenants_first = λ none. absurd (table.some none);
-      lines = All-front (IsLine form) (lines_so_far j) (line.Close (length j.steps) ∷ []) keeps.lines;
+      lines = All-front (IsLine form) (lines_so_far form j) (line.Close (length j.steps) ∷ []) keeps.lines;
     }
 
 pub has_tenants : (form : Form) (j : History) → KeepsRulesIn form j → not (is_empty j.tenants) ≡ true

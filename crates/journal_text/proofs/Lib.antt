@@ -8,6 +8,7 @@ pub mod StepsBack
 pub mod LinesBack
 pub mod OwnText
 pub mod Drafts
+pub mod AgesKept
 pub mod Added
 pub mod DraftJournals
 pub mod LinesCut

@@ -3,7 +3,7 @@ use Rattle.std.proofs.Common.{◌≡◌, ℕ, ◌<◌, ◌≤◌, ◌^◌, true,
 use Rattle.std.specs.Prelude.{IsTrue, decimal, codes}
 use Rattle.std.specs.List.{list_all}
 use Rattle.std.specs.Cmp.{first_so, second_so}
-use Rattle.std.proofs.lemmas.Bool.{leb-true}
+use Rattle.std.proofs.lemmas.Bool.{leb-true, le-leb, and_from}
 use Rattle.std.proofs.lemmas.List.{append_assoc}
 use Rattle.request_codec.specs.Tree.{Tree}
 use Rattle.grain_id.specs.Names.{Grain, client_text, grain_text, same_text, is_grain}
@@ -17,11 +17,12 @@ use Rattle.journal_text.specs.declared.form.Form.{Form}
 use Rattle.journal_text.specs.declared.form.Form.TheVariants as forms
 use Rattle.journal_text.specs.declared.line.Line.{Line}
 use Rattle.journal_text.specs.declared.line.Line.TheVariants as line
-use Rattle.journal_text.specs.Form.{form_text, is_code}
+use Rattle.tenant_gate.specs.Age.{IsAge}
+use Rattle.journal_text.specs.Form.{form_text, tells_kinds, is_code}
 use Rattle.journal_text.specs.RecordedFault.{CodeAndText, is_recorded_fault, is_text_byte}
-use Rattle.journal_text.specs.inside.Candidates.{tenant_of, recipient_of, recorded_fault_of, outcome_of, reply_of, row_of, head_of, candidate_of}
+use Rattle.journal_text.specs.inside.Candidates.{kinds_of, kind_of, tenant_of, recipient_of, recorded_fault_of, outcome_of, reply_of, row_of, head_of, candidate_of}
 use Rattle.journal_text.specs.Text.{◌␣◌, state_text, recipient_text, outcome_text, content_text, line_text}
-use Rattle.journal_text.specs.Rules.{IsParty, IsOutcome, IsRow, IsLine}
+use Rattle.journal_text.specs.Rules.{IsKinds, IsParty, IsOutcome, IsRow, IsLine}
 use Rattle.journal_text.proofs.Words.{differ}
 use Rattle.journal_text.proofs.Numbers.{decimal_begins}
 use Rattle.journal_text.proofs.Cuts.{IsField, cut-field}
@@ -32,6 +33,7 @@ use Rattle.journal_text.proofs.StepsBack.{line_of, step_back}
 
 code_small : (form : Form) (n : ℕ) → is_code form n ≡ true → n < 2 ^ 64
 code_small forms.First n is = grind (arith, is)
+code_small forms.Second n is = grind (arith, is)
 
 fault_back : (form : Form) (t : CodeAndText) → IsTrue (is_recorded_fault form t) → Back (recorded_fault_of form) (decimal t.code ␣ t.text) t
 unfolding is_recorded_fault
@@ -80,14 +82,29 @@ tenant_back t l well is =
     let b = more (word t well) (two (wide l.activations (omega (arith, most))) (wide l.mailbox (omega (arith, waiting)))) in
     record { plain = b.plain; is = rw (b.is, is) refl }
 
+-- ---- the logic and the ages of kinds
+
+kinds_back : (form : Form) (n : ℕ) → IsTrue (tells_kinds form) → IsKinds n → Back (kinds_of form) (decimal n) n
+kinds_back form n tells are =
+    let b = last (wide n (omega (arith, are))) in
+    record { plain = b.plain; is = rw (b.is, tells, and_from (leb 1 n) (leb n 2) (le-leb 1 n are.0) (le-leb n 2 are.1)) refl }
+
+kind_back : (form : Form) (k : List ℕ) (n : ℕ) → IsTrue (tells_kinds form) → IsTrue (is_word k) → IsAge n → Back (kind_of form) (k ␣ decimal n) (k, n)
+kind_back form k n tells well is =
+    let b = two (word k well) (age n is) in
+    record { plain = b.plain; is = rw (b.is, tells) refl }
+
 -- ---- lines
 
 head_back : (form : Form) → Back (head_of form) (form_text form) line.Head
 head_back forms.First = record { plain = refl; is = refl }
+head_back forms.Second = record { plain = refl; is = refl }
 
 pub line_back : (form : Form) (l : Line) → IsLine form l → Back (candidate_of form) (line_text form l) l
 line_back form line.Head is = line_of form (codes "silo-journal") _ _ refl refl (head_back form)
+line_back form (line.Kinds n) is = line_of form (codes "kinds") _ _ refl refl (made (kinds_back form n is.0 is.1) line.Kinds)
 line_back form (line.Age n) is = line_of form (codes "age") _ _ refl refl (made (last (age n is)) line.Age)
+line_back form (line.Kind k n) is = line_of form (codes "kind") _ _ refl refl (made (kind_back form k n is.0 is.1 is.2) (λ entry. line.Kind entry.0 entry.1))
 line_back form (line.Tenant t l) is = line_of form (codes "tenant") _ _ refl refl (made (tenant_back t l is.0 is.1) (λ entry. line.Tenant entry.0 entry.1))
 line_back form (line.Step s) is = step_back form s is
 line_back form (line.Reply reply) is = line_of form (codes "reply") _ _ refl refl (made (reply_back form reply.recipient reply.outcome is.0 is.1) line.Reply)

@@ -1,33 +1,53 @@
 -- Journals that have the same text are the same.
-use Rattle.std.proofs.Common.{◌≡◌, List, [], ◌∷◌, ◌++◌, length, Some, sym, ◌∙◌}
-use Rattle.std.proofs.lemmas.List.Elements.{All-head, All-tail}
+use Rattle.std.proofs.Common.{◌≡◌, ℕ, List, [], ◌∷◌, ◌++◌, length, All, Some, ap, sym, subst, ◌∙◌}
+use Rattle.std.proofs.lemmas.List.{append_assoc, append-nil}
+use Rattle.std.proofs.lemmas.List.Elements.{All-head}
 use Rattle.std.proofs.lemmas.Option.{same_Some}
 use Rattle.journal_text.specs.declared.form.Form.{Form}
 use Rattle.journal_text.specs.declared.line.Line.{Line}
 use Rattle.journal_text.specs.declared.line.Line.TheVariants as line
-use Rattle.journal_text.specs.Text.{History, journal_lines, text_in}
+use Rattle.journal_text.specs.Text.{History, body, kinds_lines, start_lines, journal_lines, text_in}
+use Rattle.journal_text.specs.JournalAnswers.{IsJournalText}
 use Rattle.tenant_gate.specs.Age.{IsAge}
 use Rattle.journal_text.specs.Rules.{IsLine, KeepsRulesIn}
-use Rattle.journal_text.specs.inside.Draft.{body}
+use Rattle.journal_text.specs.inside.Draft.{lines_so_far}
 use Rattle.journal_text.proofs.LinesCut.{same_lines}
 use Rattle.journal_text.proofs.Drafts.{empty, completed}
 use Rattle.journal_text.proofs.Added.{empty_is_draft}
-use Rattle.journal_text.proofs.DraftJournals.{closed_lines}
-use Rattle.journal_text.proofs.Faults.{journal_completed}
+use Rattle.journal_text.proofs.DraftJournals.{All-front, All-back, closed_lines}
+use Rattle.journal_text.proofs.Faults.{journal_completed, same_form, text_head}
 
-behind_head : History → List Line
-behind_head j = body j ++ line.Close (length j.steps) ∷ []
+-- the age's line, in each form
+age_is : (form : Form) (kinds age : ℕ) → All (IsLine form) (start_lines form kinds age) → IsAge age
+age_is form kinds age all = All-head (IsLine form) (line.Age age) [] (All-back (IsLine form) (line.Head ∷ kinds_lines form kinds) (line.Age age ∷ []) all)
 
 -- a journal's age is in its range
 pub journal_age : (form : Form) (j : History) → KeepsRulesIn form j → IsAge j.age
-unfolding journal_lines behind_head
-journal_age form j keeps = All-head (IsLine form) (line.Age j.age) (behind_head j) (All-tail (IsLine form) line.Head (line.Age j.age ∷ behind_head j) keeps.lines)
+unfolding journal_lines
+journal_age form j keeps =
+    age_is form j.kinds j.age
+    (All-front (IsLine form) (start_lines form j.kinds j.age) (body j) (All-front (IsLine form) (start_lines form j.kinds j.age ++ body j) (line.Close (length j.steps) ∷ []) keeps.lines))
 
 pub one_journal : (form : Form) (j k : History) → KeepsRulesIn form j → KeepsRulesIn form k → text_in form j ≡ text_in form k → j ≡ k
-unfolding behind_head
 one_journal form j k keeps also same =
-    let lines : journal_lines j ≡ journal_lines k = same_lines form (journal_lines j) (journal_lines k) keeps.lines also.lines same in
-    let age = empty_is_draft form j.age (journal_age form j keeps) in
-    let one : completed (empty j.age) (behind_head j) ≡ Some j = journal_completed form j (empty j.age) (behind_head j) keeps age (closed_lines j) in
-    let other : completed (empty j.age) (behind_head j) ≡ Some k = journal_completed form k (empty j.age) (behind_head j) also age (sym lines ∙ closed_lines j) in
+    let lines : journal_lines form j ≡ journal_lines form k = same_lines form (journal_lines form j) (journal_lines form k) keeps.lines also.lines same in
+    let start = empty_is_draft form j.kinds j.age (keeps.kinds, λ untold. (keeps.untold untold).0) (journal_age form j keeps) in
+    let behind : List Line = body j ++ line.Close (length j.steps) ∷ [] in
+    let whole : journal_lines form j ≡ lines_so_far form (empty j.kinds j.age) ++ behind =
+    closed_lines form j
+    ∙ append_assoc (start_lines form j.kinds j.age) (body j) (line.Close (length j.steps) ∷ [])
+    ∙ ap (λ ls. ls ++ behind) (sym (append-nil (start_lines form j.kinds j.age))) in
+    let one : completed (empty j.kinds j.age) behind ≡ Some j = journal_completed form j (empty j.kinds j.age) behind keeps start whole in
+    let other : completed (empty j.kinds j.age) behind ≡ Some k = journal_completed form k (empty j.kinds j.age) behind also start (sym lines ∙ whole) in
     same_Some j k (sym one ∙ other)
+
+-- bytes are the text of journals in one form alone
+pub one_form_of : (bytes : List ℕ) (j k : History) (one : IsJournalText bytes j) (other : IsJournalText bytes k) → one.form ≡ other.form
+one_form_of bytes j k one other = same_form one.form other.form bytes (text_head one.form bytes j one.text) (text_head other.form bytes k other.text)
+
+pub one_text_of : (bytes : List ℕ) (j k : History) → IsJournalText bytes j → IsJournalText bytes k → j ≡ k
+one_text_of bytes j k one other =
+    let same = one_form_of bytes j k one other in
+    let keeps : KeepsRulesIn one.form k = subst (λ (form : Form). KeepsRulesIn form k) (sym same) other.keeps in
+    let text : bytes ≡ text_in one.form k = subst (λ (form : Form). bytes ≡ text_in form k) (sym same) other.text in
+    one_journal one.form j k one.keeps keeps (sym one.text ∙ text)

@@ -10,7 +10,7 @@ pub record BeginJournal (form : Form) (lines : List Line) : Type 0 where
   pub journal : History
   pub behind : List Line
   pub keeps : KeepsRulesIn form journal
-  pub are_first : journal_lines journal ≡ lines ++ behind
+  pub are_first : journal_lines form journal ≡ lines ++ behind
 
 -- The bytes begin with so many whole lines of that form, which are the first lines of a journal.
 pub record LinesFit (form : Form) (bytes : List ℕ) (count : ℕ) : Type 0 where

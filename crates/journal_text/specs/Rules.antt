@@ -1,5 +1,5 @@
 -- The rules that a journal keeps.
-use Rattle.std.specs.Prelude.{◌≡◌, ℕ, ◌<◌, ◌≤◌, ◌^◌, Bool, true, ◌&&◌, List, []}
+use Rattle.std.specs.Prelude.{◌≡◌, ℕ, ◌<◌, ◌≤◌, ◌^◌, Bool, true, false, ◌&&◌, List, []}
 use Rattle.std.specs.Prelude.{◌∷◌, All, Option, Some, None, Result, Ok, Err, IsTrue, IfSome}
 use Rattle.std.specs.Ordering.{is_lt}
 use Rattle.grain_id.specs.Names.{Grain, grain_cmp, is_grain, is_client}
@@ -7,13 +7,14 @@ use Rattle.grain_id.specs.Words.{is_word}
 use Rattle.tenant_gate.specs.Age.{IsAge}
 use Rattle.tenant_gate.specs.Table.{Table, table_fault, are_in_range}
 use Rattle.grain_storage.specs.declared.row.Row.{Row}
+use Rattle.idle_collector.specs.Ages.{IsTable as AreAges}
 use Rattle.silo_event.specs.declared.reply.Party.{Party}
 use Rattle.silo_event.specs.declared.reply.Party.TheVariants as party
 use Rattle.silo_event.specs.declared.step.Step.{Step}
 use Rattle.silo_event.specs.declared.step.Step.TheVariants.{Refuse, Call as Calling, Poke, Status, Deliver, Activate}
 use Rattle.silo_event.specs.declared.step.Step.TheVariants.{Load, Begin, Store, End, Abandon, Tick, Sweep}
 use Rattle.request_codec.specs.Tree.{Tree}
-use Rattle.journal_text.specs.Form.{HasMessage, HasState, newest}
+use Rattle.journal_text.specs.Form.{HasMessage, HasState, tells_kinds, written}
 use Rattle.journal_text.specs.declared.form.Form.{Form}
 use Rattle.journal_text.specs.RecordedFault.{CodeAndText, is_recorded_fault}
 use Rattle.journal_text.specs.Text.{History, journal_lines}
@@ -23,6 +24,10 @@ use Rattle.journal_text.specs.declared.line.Line.TheVariants as line
 -- a client's number, a turn's number, or a moment
 abbrev pub IsNumber : ℕ → Type 0
 IsNumber n = n < 2 ^ 63
+
+-- the number of one of the two logics
+abbrev pub IsKinds : ℕ → Type 0
+IsKinds kinds = (1 ≤ kinds) × (kinds ≤ 2)
 
 abbrev pub IsParty : Party → Type 0
 IsParty (party.Client client id) = IsTrue (is_client client) × IsNumber id
@@ -54,7 +59,9 @@ IsStep form Sweep = Unit {0}
 -- What the line holds may stand in a journal of that form.
 abbrev pub IsLine : Form → Line → Type 0
 IsLine form line.Head = Unit {0}
+IsLine form (line.Kinds kinds) = IsTrue (tells_kinds form) × IsKinds kinds
 IsLine form (line.Age age) = IsAge age
+IsLine form (line.Kind kind age) = IsTrue (tells_kinds form) × IsTrue (is_word kind) × IsAge age
 IsLine form (line.Tenant tenant limits) = IsTrue (is_word tenant) × IsTrue (are_in_range limits)
 IsLine form (line.Step s) = IsStep form s
 IsLine form (line.Reply reply) = IsParty reply.recipient × IsOutcome form reply.outcome
@@ -75,12 +82,17 @@ are_ascending last (row ∷ rows) = comes_after last row.0 && are_ascending (Som
 abbrev pub IsTable : Table → Type 0
 IsTable tenants = table_fault tenants ≡ None
 
--- Its tenants are a table, its rows ascend, and each of its lines holds what may stand in a journal of that form.
+-- Its kinds have one of the two logics, and those with an age of their own are a table: at most 64, ascending. Its tenants
+-- are a table, its rows ascend, and each of its lines holds what may stand in a journal of that form. In a form that
+-- doesn't tell it, the kinds have the first logic, and no age of their own.
 pub record KeepsRulesIn (form : Form) (j : History) : Type 0 where
+  pub kinds : IsKinds j.kinds
+  pub ages : AreAges j.ages
+  pub untold : tells_kinds form ≡ false → (j.kinds ≡ 1) × (j.ages ≡ [])
   pub is_table : IsTable j.tenants
   pub ascending : IsTrue (are_ascending None j.rows)
-  pub lines : All (IsLine form) (journal_lines j)
+  pub lines : All (IsLine form) (journal_lines form j)
 
 -- The same, of the form in which journals are written.
 abbrev pub KeepsRules : History → Type 0
-KeepsRules j = KeepsRulesIn newest j
+KeepsRules j = KeepsRulesIn written j

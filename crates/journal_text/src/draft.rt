@@ -2,33 +2,37 @@
 
 ghost use Rattle.std.specs.Prelude.{◌≡◌, [], None};
 ghost use Rattle.journal_text.specs.declared.line.Line.TheVariants as line;
-ghost use Rattle.journal_text.specs.Rules.{KeepsRules, comes_after};
-ghost use Rattle.journal_text.specs.Text.{history};
-ghost use Rattle.journal_text.specs.inside.Draft.{has_tenant, last_grain, tenant_fits, step_fits};
+ghost use Rattle.journal_text.specs.Form.{newest};
+ghost use Rattle.journal_text.specs.Rules.{KeepsRulesIn, comes_after};
+ghost use Rattle.journal_text.specs.Text.{history_of};
+ghost use Rattle.journal_text.specs.inside.Draft.{has_tenant, last_grain, last_kind, kind_after, kind_fits, tenant_fits, step_fits};
 ghost use Rattle.journal_text.specs.inside.Draft.{reply_fits, row_fits, close_fits, AddAnswers};
 
 use crate::journal::Journal;
 use crate::line::Line;
 use crate::recorded::RecordedReply;
-use grain_id::{GrainId, Tenant};
+use grain_id::{GrainId, Kind, Tenant};
 use grain_storage::Row;
+use idle_collector::MAX_AGES;
 use silo_event::Step;
 use std::alloc::{AllocError, Global};
 use std::marker::Model;
 use tenant_gate::{Age, Limits, MAX_TENANTS};
 
-/// The parts of a journal that are read, behind its age.
+/// A journal as far as it is read, from its age on.
 #[derive(Drop)]
 pub(crate) struct Draft {
-    tenants: Vec<(Tenant, Limits)>,
+    kinds: u8,
     age: Age,
+    ages: Vec<(Kind, u64)>,
+    tenants: Vec<(Tenant, Limits)>,
     steps: Vec<Step>,
     replies: Vec<RecordedReply>,
     rows: Vec<(GrainId, Row)>,
 }
 
 impl Model for Draft {
-    ghost use Rattle.journal_text.specs.Text.{History, history};
+    ghost use Rattle.journal_text.specs.Text.{History, history_of};
     ghost use Rattle.std.specs.Coded.{codes};
     ghost use Rattle.request_codec.specs.Code.{coded_tree};
 
@@ -36,21 +40,40 @@ impl Model for Draft {
 
     ghost coded = { Prim.hlevel (codes, coded_tree) };
 
-    ghost view = { λ d. history d.tenants.items d.age d.steps.items d.replies.items d.rows.items };
+    ghost view = { λ d. history_of d.kinds d.age d.ages.items d.tenants.items d.steps.items d.replies.items d.rows.items };
 }
 
 impl Draft {
     /// Nothing is read behind the age.
-    pub(crate) fn new(alloc: Global, age: Age) -> Draft
-        ensures { result ≡ history [] age [] [] [] }
+    pub(crate) fn new(alloc: Global, kinds: u8, age: Age) -> Draft
+        ensures { result ≡ history_of kinds age [] [] [] [] [] }
     {
         Draft {
-            tenants: Vec::new(alloc),
+            kinds,
             age,
+            ages: Vec::new(alloc),
+            tenants: Vec::new(alloc),
             steps: Vec::new(alloc),
             replies: Vec::new(alloc),
             rows: Vec::new(alloc),
         }
+    }
+
+    /// Whether the kind comes after those that have an age of their own.
+    fn comes_after_kinds(&self, kind: &Kind) -> bool
+        ensures { result ≡ kind_after (last_kind None self.now.ages) kind.now }
+    {
+        match self.ages.last() {
+            Some((last, _)) => last < kind,
+            None => true,
+        }
+    }
+
+    /// Whether the age of that kind may stand behind what is read.
+    fn kind_fits(&self, kind: &Kind) -> bool
+        ensures { result ≡ kind_fits self.now kind.now }
+    {
+        self.tenants.is_empty() && self.ages.len() < MAX_AGES && self.comes_after_kinds(kind)
     }
 
     /// Whether one of the tenants has that name.
@@ -110,6 +133,18 @@ impl Draft {
     }
 
     #[tactic(auto, unfolding(crate::specs::inside::Draft::added))]
+    fn add_kind(&mut self, kind: Kind, age: u64) -> Result<bool, AllocError>
+        ensures { AddAnswers self.old (line.Kind kind age) result self.new }
+    {
+        if !self.kind_fits(&kind) {
+            drop(kind);
+            return Ok(false);
+        }
+        self.ages.push((kind, age))?;
+        Ok(true)
+    }
+
+    #[tactic(auto, unfolding(crate::specs::inside::Draft::added))]
     fn add_tenant(&mut self, tenant: Tenant, limits: Limits) -> Result<bool, AllocError>
         ensures { AddAnswers self.old (line.Tenant tenant limits) result self.new }
     {
@@ -158,28 +193,32 @@ impl Draft {
         Ok(true)
     }
 
-    /// Adds the line if it is a tenant, a step, a reply or a row that may stand behind what is read.
+    /// Adds the line if it is a kind's age, a tenant, a step, a reply or a row that may stand behind what is
+    /// read.
     #[tactic(auto, unfolding(crate::specs::inside::Draft::added))]
     pub(crate) fn add(&mut self, line: Line) -> Result<bool, AllocError>
         ensures { AddAnswers self.old line result self.new }
     {
         match line {
+            Line::Kind(kind, age) => self.add_kind(kind, age.millis()),
             Line::Tenant(tenant, limits) => self.add_tenant(tenant, limits),
             Line::Step(step) => self.add_step(step),
             Line::Reply(reply) => self.add_reply(reply),
             Line::Row(grain, row) => self.add_row(grain, row),
-            Line::Head | Line::Age(_) | Line::Close(_) => Ok(false),
+            Line::Head | Line::Kinds(_) | Line::Age(_) | Line::Close(_) => Ok(false),
         }
     }
 
     /// The journal, if its close may stand behind what is read.
     pub(crate) fn finish(self) -> Journal
-        requires { KeepsRules self }
+        requires { KeepsRulesIn newest self }
         ensures { result ≡ self }
     {
         Journal {
-            tenants: self.tenants,
+            kinds: self.kinds,
             age: self.age,
+            kind_ages: self.ages,
+            tenants: self.tenants,
             steps: self.steps,
             replies: self.replies,
             rows: self.rows,

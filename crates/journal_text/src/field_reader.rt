@@ -152,7 +152,7 @@ fn read_message(alloc: Global, form: Form, bytes: &[u8]) -> Result<Message, Line
     ensures exact { IfOk result (λ read. message_bytes form read ≡ bytes.now) }
 {
     match form {
-        Form::First => match Message::read(alloc, bytes) {
+        Form::First | Form::Second => match Message::read(alloc, bytes) {
             Ok(message) => Ok(message),
             Err(CodecFault::Memory) => Err(LineFault::Memory),
             Err(_) => Err(LineFault::NoForm),
@@ -176,7 +176,7 @@ fn read_state(alloc: Global, form: Form, bytes: &[u8]) -> Result<StateBytes, Lin
     ensures exact { IfOk result (λ read. state_bytes read ≡ bytes.now) }
 {
     match form {
-        Form::First => match StateBytes::read(alloc, bytes) {
+        Form::First | Form::Second => match StateBytes::read(alloc, bytes) {
             Ok(state) => Ok(state),
             Err(CodecFault::Memory) => Err(LineFault::Memory),
             Err(_) => Err(LineFault::NoForm),

@@ -1,9 +1,9 @@
 //! The forms of a journal's text.
 
-ghost use Rattle.std.specs.Prelude.{◌≡◌, IfSome, None};
+ghost use Rattle.std.specs.Prelude.{◌≡◌, ◌≤◌, ℕ, ◌+◌, IfSome, None, length};
 ghost use Rattle.journal_text.specs.declared.form.Form.{Form};
-ghost use Rattle.journal_text.specs.Form.{newest, form_text};
-ghost use Rattle.journal_text.specs.Text.{line_text};
+ghost use Rattle.journal_text.specs.Form.{written, form_text, tells_kinds};
+ghost use Rattle.journal_text.specs.Text.{line_text, kinds_lines};
 ghost use Rattle.journal_text.specs.declared.line.Line.TheVariants as line;
 
 /// A form of a journal's text. The head of a journal names it.
@@ -11,12 +11,14 @@ ghost use Rattle.journal_text.specs.declared.line.Line.TheVariants as line;
 pub enum Form {
     /// `silo-journal 1`.
     First,
+    /// `silo-journal 2`: it tells which logic the kinds have, and their ages.
+    Second,
 }
 
 impl Form {
     /// The form in which journals are written.
-    pub(crate) fn newest() -> Form
-        ensures { result ≡ newest }
+    pub(crate) fn written() -> Form
+        ensures { result ≡ written }
     {
         Form::First
     }
@@ -27,6 +29,28 @@ impl Form {
     {
         match self {
             Form::First => "1",
+            Form::Second => "2",
+        }
+    }
+
+    /// Whether a journal of the form tells which logic its kinds have, and may tell their ages.
+    pub(crate) fn tells_kinds(self) -> bool
+        ensures { result ≡ tells_kinds self }
+    {
+        match self {
+            Form::First => false,
+            Form::Second => true,
+        }
+    }
+
+    /// The number of the age's line.
+    pub(crate) fn age_line(self) -> usize
+        ensures place { (kinds : ℕ) → result ≡ length (kinds_lines self kinds) + 2 }
+        ensures early { result ≤ 3 }
+    {
+        match self {
+            Form::First => 2,
+            Form::Second => 3,
         }
     }
 
@@ -37,6 +61,7 @@ impl Form {
     {
         match text {
             "silo-journal 1" => Some(Form::First),
+            "silo-journal 2" => Some(Form::Second),
             _ => None,
         }
     }

@@ -1,11 +1,12 @@
 //! Journals.
 
 ghost use Rattle.std.specs.Prelude.{◌≡◌, IsTrue, None};
-ghost use Rattle.journal_text.specs.Rules.{IsTable, are_ascending};
+ghost use Rattle.idle_collector.specs.Ages.{IsTable as AreAges};
+ghost use Rattle.journal_text.specs.Rules.{IsKinds, IsTable, are_ascending};
 ghost use Rattle.tenant_gate.specs.Age.{IsAge};
 
 use crate::recorded::RecordedReply;
-use grain_id::{GrainId, Tenant};
+use grain_id::{GrainId, Kind, Tenant};
 use grain_storage::Row;
 use silo_event::Step;
 use std::marker::Model;
@@ -14,16 +15,19 @@ use tenant_gate::{Age, Limits};
 /// What a silo was, did and showed in the end. It keeps the rules of a journal's text.
 #[derive(Drop)]
 pub struct Journal {
-    pub(crate) tenants: Vec<(Tenant, Limits)>,
+    pub(crate) kinds: u8,
     pub(crate) age: Age,
+    pub(crate) kind_ages: Vec<(Kind, u64)>,
+    pub(crate) tenants: Vec<(Tenant, Limits)>,
     pub(crate) steps: Vec<Step>,
     pub(crate) replies: Vec<RecordedReply>,
     pub(crate) rows: Vec<(GrainId, Row)>,
 }
 
 impl Model for Journal {
-    ghost use Rattle.journal_text.specs.Text.{History, history};
-    ghost use Rattle.journal_text.specs.Rules.{KeepsRules};
+    ghost use Rattle.journal_text.specs.Text.{History, history_of};
+    ghost use Rattle.journal_text.specs.Form.{newest};
+    ghost use Rattle.journal_text.specs.Rules.{KeepsRulesIn};
     ghost use Rattle.std.specs.Coded.{codes};
     ghost use Rattle.request_codec.specs.Code.{coded_tree};
 
@@ -31,12 +35,21 @@ impl Model for Journal {
 
     ghost coded = { Prim.hlevel (codes, coded_tree) };
 
-    ghost view = { λ j. history j.tenants.items j.age j.steps.items j.replies.items j.rows.items };
+    ghost view = { λ j. history_of j.kinds j.age j.kind_ages.items j.tenants.items j.steps.items j.replies.items j.rows.items };
 
-    ghost invariant = { λ j. KeepsRules (history j.tenants.items j.age j.steps.items j.replies.items j.rows.items) };
+    ghost invariant = { λ j. KeepsRulesIn newest
+        (history_of j.kinds j.age j.kind_ages.items j.tenants.items j.steps.items j.replies.items j.rows.items) };
 }
 
 impl Journal {
+    /// Which logic the kinds had: 1, or 2, which also knows grains that rest and grains that stay.
+    pub fn kinds(&self) -> u8
+        ensures kinds { result ≡ self.now.kinds }
+        ensures in_range { IsKinds self.now.kinds }
+    {
+        self.kinds
+    }
+
     /// The tenants with their limits, in the order of the silo's table: 1 to 1,000 of them, none
     /// twice.
     pub fn tenants(&self) -> &[(Tenant, Limits)]
@@ -52,6 +65,15 @@ impl Journal {
         ensures in_range { IsAge self.now.age }
     {
         self.age
+    }
+
+    /// The kinds that had an age of their own, each with it, 1 to 86,400,000 milliseconds: at most 64,
+    /// ascending.
+    pub fn ages(&self) -> &[(Kind, u64)]
+        ensures ages { result.now ≡ self.now.ages }
+        ensures are_ages { AreAges self.now.ages }
+    {
+        self.kind_ages.as_slice()
     }
 
     /// The steps that the silo took, in order.

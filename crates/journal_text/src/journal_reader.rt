@@ -1,14 +1,16 @@
 //! Whole journals, read.
 
 ghost use Rattle.std.specs.Prelude.{◌≡◌, ◌↔◌, ℕ, ◌++◌, ◌∷◌, ◌+◌, ◌^◌, ◌<◌};
-ghost use Rattle.std.specs.Prelude.{IfOk, IfSome, IsTrue, None, length, option_map, slice_index, take};
+ghost use Rattle.std.specs.Prelude.{IfOk, IfSome, IsTrue, None, false, length, option_map, slice_index, take};
 ghost use Rattle.journal_text.specs.declared.line.Line.TheVariants as lines;
 ghost use Rattle.journal_text.specs.JournalAnswers.{ReadsJournal};
 ghost use Rattle.journal_text.specs.inside.Answers.{HasNoBreak, CutsLine, BeginsWithLine, BeginsWithHead};
-ghost use Rattle.journal_text.specs.inside.Answers.{BeginsWithAge, ReadsStart, ReadsRest, start_of};
-ghost use Rattle.journal_text.specs.Text.{line_text, lines_text};
+ghost use Rattle.journal_text.specs.inside.Answers.{AreKinds, BeginsWithAge, BeginsWithKinds, TakesKinds};
+ghost use Rattle.journal_text.specs.inside.Answers.{ReadsStart, ReadsRest, start_of};
+ghost use Rattle.journal_text.specs.Form.{tells_kinds};
+ghost use Rattle.journal_text.specs.Text.{line_text, lines_text, start_lines};
 ghost use Rattle.tenant_gate.specs.Age.{IsAge};
-ghost use Rattle.journal_text.specs.inside.Draft.{start_lines, lines_so_far, IsDraft};
+ghost use Rattle.journal_text.specs.inside.Draft.{lines_so_far, IsDraft};
 
 use crate::draft::Draft;
 use crate::fault::{JournalFault, LineFault};
@@ -60,6 +62,17 @@ fn next_line<'a>(
     }
 }
 
+/// The number of a logic's line.
+fn kinds_of(line: &Line) -> Option<u8>
+    ensures some { IfSome result (λ kinds. line.now ≡ lines.Kinds kinds) }
+    ensures none { result ≡ None → (kinds : ℕ) → line.now ≡ lines.Kinds kinds → ⊥ }
+{
+    match line {
+        Line::Kinds(kinds) => Some(*kinds),
+        _ => None,
+    }
+}
+
 /// The age of an age's line.
 fn age_of(line: &Line) -> Option<Age>
     ensures some { IfSome result (λ age. line.now ≡ lines.Age age) }
@@ -84,6 +97,43 @@ fn next_head(bytes: &[u8]) -> Option<(Form, &[u8])>
     }
 }
 
+/// The number of a logic, and what stands behind its line, if the bytes begin with one.
+fn next_kinds_line<'a>(
+    alloc: Global,
+    form: Form,
+    scratch: &mut LineScratch,
+    bytes: &'a [u8],
+) -> Result<Option<(u8, &'a [u8])>, AllocError>
+    requires { IsTrue (tells_kinds form) }
+    ensures { IfOk result (λ found. BeginsWithKinds form bytes.now (option_map (λ next. (next.0, next.1.now)) found)) }
+{
+    let Some((line, behind)) = next_line(alloc, form, scratch, bytes)? else {
+        return Ok(None);
+    };
+    let kinds = kinds_of(&line);
+    drop(line);
+    match kinds {
+        Some(kinds) => Ok(Some((kinds, behind))),
+        None => Ok(None),
+    }
+}
+
+/// Which logic the kinds have, and what stands behind its line, if the form has such a line.
+fn next_kinds<'a>(
+    alloc: Global,
+    form: Form,
+    scratch: &mut LineScratch,
+    bytes: &'a [u8],
+) -> Result<Option<(u8, &'a [u8])>, AllocError>
+    ensures { IfOk result (λ found. TakesKinds form bytes.now (option_map (λ next. (next.0, next.1.now)) found)) }
+{
+    if form.tells_kinds() {
+        next_kinds_line(alloc, form, scratch, bytes)
+    } else {
+        Ok(Some((1, bytes)))
+    }
+}
+
 /// The age, and what stands behind its line, if the bytes begin with one.
 fn next_age<'a>(
     alloc: Global,
@@ -104,27 +154,40 @@ fn next_age<'a>(
     }
 }
 
-/// What the first two lines say, and the bytes behind them.
+/// What the first lines say, and the bytes behind them.
 #[derive(Clone, Copy)]
 struct Start<'a> {
     form: Form,
+    kinds: u8,
     age: Age,
     behind: &'a [u8],
 }
 
-/// The form, the age, and the bytes behind the first two lines.
+/// The form, the number of the logic, the age, and the bytes behind the first lines.
 fn read_start<'a>(
     alloc: Global,
     scratch: &mut LineScratch,
     bytes: &'a [u8],
 ) -> Result<Start<'a>, JournalFault>
-    ensures { ReadsStart (λ start. start_of start.form start.age start.behind.now) bytes.now result }
+    ensures { ReadsStart (λ start. start_of start.form start.kinds start.age start.behind.now) bytes.now result }
 {
     let Some((form, rest)) = next_head(bytes) else {
         return Err(JournalFault::At { line: 1 });
     };
-    match next_age(alloc, form, scratch, rest) {
-        Ok(Some((age, behind))) => Ok(Start { form, age, behind }),
+    match next_kinds(alloc, form, scratch, rest) {
+        Ok(Some((kinds, rest))) => match next_age(alloc, form, scratch, rest) {
+            Ok(Some((age, behind))) => Ok(Start {
+                form,
+                kinds,
+                age,
+                behind,
+            }),
+            Ok(None) => {
+                let line = form.age_line();
+                Err(JournalFault::At { line })
+            }
+            Err(_) => Err(JournalFault::Memory),
+        },
         Ok(None) => Err(JournalFault::At { line: 2 }),
         Err(_) => Err(JournalFault::Memory),
     }
@@ -141,9 +204,9 @@ fn closed(
 ) -> Result<Journal, JournalFault>
     requires is_line { steps < 2 ^ 64 }
     requires is_draft { IsDraft form draft }
-    requires counted { number ≡ length (lines_so_far draft) + 1 }
+    requires counted { number ≡ length (lines_so_far form draft) + 1 }
     requires room { number + 1 < 2 ^ 64 }
-    ensures { ReadsRest form (lines_text form (lines_so_far draft) ++ (line_text form (lines.Close steps) ++ 10 ∷ behind.now)) result }
+    ensures { ReadsRest form (lines_text form (lines_so_far form draft) ++ (line_text form (lines.Close steps) ++ 10 ∷ behind.now)) result }
 {
     if !draft.close_fits(steps) {
         return Err(JournalFault::At { line: number });
@@ -154,20 +217,22 @@ fn closed(
     Ok(draft.finish())
 }
 
-/// The journal whose lines behind the head and the age these are.
+/// The journal whose lines behind the first ones these are.
 fn read_parts(
     alloc: Global,
     form: Form,
     scratch: &mut LineScratch,
+    kinds: u8,
     age: Age,
     bytes: &[u8],
 ) -> Result<Journal, JournalFault>
-    requires { IsAge age }
-    ensures { ReadsRest form (lines_text form (start_lines age) ++ bytes.now) result }
+    requires are_kinds { AreKinds form kinds }
+    requires is_age { IsAge age }
+    ensures { ReadsRest form (lines_text form (start_lines form kinds age) ++ bytes.now) result }
 {
-    let mut draft = Draft::new(alloc, age);
+    let mut draft = Draft::new(alloc, kinds, age);
     let mut rest = bytes;
-    let mut number = 3;
+    let mut number = form.age_line() + 1;
     'lines: loop {
         let Some((line, behind)) = next_line(alloc, form, scratch, rest)? else {
             return Err(JournalFault::At { line: number });
@@ -196,7 +261,14 @@ pub fn read_journal(alloc: Global, bytes: &[u8]) -> Result<Journal, JournalFault
 {
     let mut scratch = LineScratch::new(alloc)?;
     match read_start(alloc, &mut scratch, bytes) {
-        Ok(start) => read_parts(alloc, start.form, &mut scratch, start.age, start.behind),
+        Ok(start) => read_parts(
+            alloc,
+            start.form,
+            &mut scratch,
+            start.kinds,
+            start.age,
+            start.behind,
+        ),
         Err(fault) => Err(fault),
     }
 }

@@ -2,7 +2,7 @@
 
 ghost use Rattle.std.specs.Prelude.{◌≡◌, ◌++◌, ◌<◌, ◌^◌, ◌∷◌, [], length, map, IfOk, OnOk, Ok, Err, string_bytes};
 ghost use Rattle.journal_text.specs.declared.line.Line.TheVariants as line;
-ghost use Rattle.journal_text.specs.Form.{newest};
+ghost use Rattle.journal_text.specs.Form.{written};
 ghost use Rattle.journal_text.specs.RecordedReply.{recorded_of};
 ghost use Rattle.journal_text.specs.Text.{line_text, lines_text, tenant_line, row_line, history, journal_text};
 
@@ -17,7 +17,7 @@ use std::alloc::{AllocError, Global};
 use tenant_gate::Limits;
 
 fn push_tenants(text: &mut String, tenants: &[(Tenant, Limits)]) -> Result<(), AllocError>
-    ensures { OnOk result (string_bytes text.new ≡ string_bytes text.old ++ lines_text newest (map tenant_line tenants.now)) }
+    ensures { OnOk result (string_bytes text.new ≡ string_bytes text.old ++ lines_text written (map tenant_line tenants.now)) }
 {
     'tenants: for (tenant, limits) in tenants {
         push_tenant(text, tenant, *limits)?;
@@ -26,10 +26,10 @@ fn push_tenants(text: &mut String, tenants: &[(Tenant, Limits)]) -> Result<(), A
 }
 
 fn push_steps(alloc: Global, text: &mut String, steps: &[Step]) -> Result<(), AllocError>
-    ensures { OnOk result (string_bytes text.new ≡ string_bytes text.old ++ lines_text newest (map line.Step steps.now)) }
+    ensures { OnOk result (string_bytes text.new ≡ string_bytes text.old ++ lines_text written (map line.Step steps.now)) }
 {
     'steps: for step in steps {
-        push_step(alloc, Form::newest(), text, step)?;
+        push_step(alloc, Form::written(), text, step)?;
     }
     Ok(())
 }
@@ -37,7 +37,7 @@ fn push_steps(alloc: Global, text: &mut String, steps: &[Step]) -> Result<(), Al
 /// Adds the line of a reply, as a journal records it.
 fn push_reply(alloc: Global, text: &mut String, reply: &Reply) -> Result<(), AllocError>
     ensures { OnOk result (string_bytes text.new
-        ≡ string_bytes text.old ++ (line_text newest (line.Reply (recorded_of reply.now)) ++ 10 ∷ [])) }
+        ≡ string_bytes text.old ++ (line_text written (line.Reply (recorded_of reply.now)) ++ 10 ∷ [])) }
 {
     match &reply.outcome {
         Ok(value) => push_value(alloc, text, &reply.recipient, value),
@@ -50,7 +50,7 @@ fn push_reply(alloc: Global, text: &mut String, reply: &Reply) -> Result<(), All
 
 fn push_replies(alloc: Global, text: &mut String, replies: &[Reply]) -> Result<(), AllocError>
     ensures { OnOk result (string_bytes text.new
-        ≡ string_bytes text.old ++ lines_text newest (map line.Reply (map recorded_of replies.now))) }
+        ≡ string_bytes text.old ++ lines_text written (map line.Reply (map recorded_of replies.now))) }
 {
     'replies: for reply in replies {
         push_reply(alloc, text, reply)?;
@@ -59,7 +59,7 @@ fn push_replies(alloc: Global, text: &mut String, replies: &[Reply]) -> Result<(
 }
 
 fn push_rows(alloc: Global, text: &mut String, rows: &[(GrainId, Row)]) -> Result<(), AllocError>
-    ensures { OnOk result (string_bytes text.new ≡ string_bytes text.old ++ lines_text newest (map row_line rows.now)) }
+    ensures { OnOk result (string_bytes text.new ≡ string_bytes text.old ++ lines_text written (map row_line rows.now)) }
 {
     'rows: for (grain, row) in rows {
         push_row(alloc, text, grain, row)?;
@@ -81,7 +81,7 @@ fn push_parts(
     ensures { OnOk result (string_bytes text.new
         ≡ journal_text (history tenants.now age steps.now (map recorded_of replies.now) rows.now)) }
 {
-    push_head(Form::newest(), text)?;
+    push_head(Form::written(), text)?;
     push_age(text, age)?;
     push_tenants(text, tenants)?;
     push_steps(alloc, text, steps)?;

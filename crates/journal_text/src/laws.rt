@@ -8,6 +8,7 @@ ghost use Rattle.journal_text.specs.RecordedFault.{is_text_byte};
 ghost use Rattle.journal_text.specs.Rules.{IsLine, KeepsRules};
 ghost use Rattle.journal_text.specs.Text.{History, line_text, journal_text};
 ghost use Rattle.journal_text.specs.FirstFault.{IsFirstFault, IsNoJournal};
+ghost use Rattle.journal_text.specs.JournalAnswers.{IsJournalText};
 
 /// No two lines of a journal have the same text.
 pub fn one_line()
@@ -22,6 +23,12 @@ pub fn plain_line()
 /// No two journals have the same text.
 pub fn one_text()
     ensures { (j k : History) → KeepsRules j → KeepsRules k → journal_text j ≡ journal_text k → j ≡ k }
+{}
+
+/// Bytes are the text of one journal at most, and in one form.
+pub fn one_journal()
+    ensures journal { (bytes : List ℕ) (j k : History) → IsJournalText bytes j → IsJournalText bytes k → j ≡ k }
+    ensures form { (bytes : List ℕ) (j k : History) (one : IsJournalText bytes j) (other : IsJournalText bytes k) → one.form ≡ other.form }
 {}
 
 /// Of some bytes at most one line is the first at fault, and then they are no journal's.

@@ -1,9 +1,10 @@
 //! Journals as text: what a silo did, written whole and read whole.
 //!
-//! A layer above may rely on this: a journal is seen as its tenants with their limits, its age, its
-//! steps, its recorded replies and its recorded rows, and it keeps the rules of a journal's text. The
-//! text of a journal is in `specs/Text.antt`, the rules in `specs/Rules.antt`, and which line of other
-//! bytes is at fault in `specs/FirstFault.antt`.
+//! A layer above may rely on this: a journal is seen as which logic its kinds have, its age, the ages of
+//! kinds, its tenants with their limits, its steps, its recorded replies and its recorded rows, and it
+//! keeps the rules of a journal's text, which has two forms. The text of a journal is in
+//! `specs/Text.antt`, the rules in `specs/Rules.antt`, and which line of other bytes is at fault in
+//! `specs/FirstFault.antt`.
 #![tactic(auto)]
 
 mod draft;

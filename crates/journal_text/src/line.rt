@@ -1,7 +1,7 @@
 //! The lines of a journal.
 
 use crate::recorded::RecordedReply;
-use grain_id::{GrainId, Tenant};
+use grain_id::{GrainId, Kind, Tenant};
 use grain_storage::Row;
 use silo_event::Step;
 use tenant_gate::{Age, Limits};
@@ -11,8 +11,12 @@ use tenant_gate::{Age, Limits};
 pub enum Line {
     /// The first line, which names the form.
     Head,
+    /// Which logic the kinds have, by its number.
+    Kinds(u8),
     /// How long an idle grain stays.
     Age(Age),
+    /// How long an idle grain of that kind stays.
+    Kind(Kind, Age),
     /// A tenant with its limits.
     Tenant(Tenant, Limits),
     /// A step.

@@ -1,16 +1,16 @@
 //! The lines of a journal, read.
 
-ghost use Rattle.std.specs.Prelude.{◌≡◌, ◌≤◌, ◌<◌, ◌^◌, ◌++◌, ◌∷◌, [], ℕ, List, Some, IfOk, IfSome, IsTrue};
+ghost use Rattle.std.specs.Prelude.{◌≡◌, ◌≤◌, ◌<◌, ◌^◌, ◌&&◌, nat_le, ◌++◌, ◌∷◌, [], ℕ, List, Some, IfOk, IfSome, IsTrue};
 ghost use Rattle.grain_id.specs.Names.{is_grain};
 ghost use Rattle.grain_id.specs.Words.{is_word};
 ghost use Rattle.tenant_gate.specs.Table.{are_in_range};
 ghost use Rattle.journal_text.specs.inside.Answers.{Reads};
-ghost use Rattle.journal_text.specs.inside.Candidates.{age_of, limits_of, word_of, tenant_of, recipient_of};
+ghost use Rattle.journal_text.specs.inside.Candidates.{kinds_of, age_of, kind_of, limits_of, word_of, tenant_of, recipient_of};
 ghost use Rattle.journal_text.specs.inside.Candidates.{outcome_of, reply_of, content_of, version_of, row_of};
 ghost use Rattle.journal_text.specs.inside.Candidates.{head_of, step_line, step_of, named_of, candidate_of};
-ghost use Rattle.journal_text.specs.Rules.{IsLine, IsParty, IsOutcome, IsRow};
+ghost use Rattle.journal_text.specs.Rules.{IsKinds, IsLine, IsParty, IsOutcome, IsRow};
 ghost use Rattle.tenant_gate.specs.Age.{IsAge};
-ghost use Rattle.journal_text.specs.Form.{HasState};
+ghost use Rattle.journal_text.specs.Form.{HasState, tells_kinds};
 ghost use Rattle.grain_id.specs.Names.{same_text};
 ghost use Rattle.journal_text.specs.Text.{line_text};
 ghost use Rattle.journal_text.specs.inside.Answers.{ReadsLine};
@@ -22,7 +22,7 @@ use crate::line::Line;
 use crate::line_writer::push_line;
 use crate::recorded::{RecordedFault, RecordedReply, parse_recorded_fault};
 use crate::step_reader::parse_step;
-use grain_id::{GrainId, IdFault, NameCache, Tenant};
+use grain_id::{GrainId, IdFault, Kind, NameCache, Tenant};
 use grain_storage::Row;
 use request_codec::StateBytes;
 use silo_event::{Party, Step};
@@ -47,6 +47,26 @@ impl LineScratch {
     }
 }
 
+/// Whether a logic has that number.
+fn is_kinds(number: u64) -> bool
+    ensures { result ≡ nat_le 1 number && nat_le number 2 }
+{
+    1 <= number && number <= 2
+}
+
+/// What stands behind `kinds`, in a form that tells it.
+fn parse_kinds(form: Form, field: &str) -> Result<u8, LineFault>
+    ensures gives { Reads (λ read. read) result (kinds_of form field.now) }
+    ensures is_kinds { IfOk result (λ kinds. IsTrue (tells_kinds form) × IsKinds kinds) }
+{
+    let number = parse_u64(field)?;
+    if form.tells_kinds() && is_kinds(number) {
+        Ok(number as u8)
+    } else {
+        Err(LineFault::NoForm)
+    }
+}
+
 /// What stands behind `age`.
 fn parse_age(field: &str) -> Result<Age, LineFault>
     ensures gives { Reads (λ read. read) result (age_of field.now) }
@@ -56,6 +76,35 @@ fn parse_age(field: &str) -> Result<Age, LineFault>
         Some(age) => Ok(age),
         None => Err(LineFault::NoForm),
     }
+}
+
+/// The kind of that name.
+fn parse_kind_name(alloc: Global, field: &str) -> Result<Kind, LineFault>
+    ensures gives { Reads (λ read. read) result (word_of field.now) }
+    ensures well_formed { IfOk result (λ kind. IsTrue (is_word kind)) }
+{
+    match Kind::read(alloc, field) {
+        Ok(kind) => Ok(kind),
+        Err(IdFault::Memory) => Err(LineFault::Memory),
+        Err(IdFault::Kind | IdFault::Tenant | IdFault::Name | IdFault::Client) => {
+            Err(LineFault::NoForm)
+        }
+    }
+}
+
+/// What stands behind `kind`, in a form that tells the ages of kinds.
+fn parse_kind(alloc: Global, form: Form, fields: &str) -> Result<(Kind, Age), LineFault>
+    ensures gives { Reads (λ read. read) result (kind_of form fields.now) }
+    ensures well_formed { IfOk result (λ read. IsTrue (tells_kinds form) × IsTrue (is_word read.0) × IsAge read.1) }
+{
+    let (name, age) = cut(fields)?;
+    let kind = parse_kind_name(alloc, name)?;
+    let age = parse_age(age)?;
+    if form.tells_kinds() {
+        return Ok((kind, age));
+    }
+    drop(kind);
+    Err(LineFault::NoForm)
 }
 
 /// The tenant of that name.
@@ -253,9 +302,17 @@ fn parse_named(
 {
     match word {
         "silo-journal" => parse_head(form, fields),
+        "kinds" => {
+            let kinds = parse_kinds(form, fields)?;
+            Ok(Line::Kinds(kinds))
+        }
         "age" => {
             let age = parse_age(fields)?;
             Ok(Line::Age(age))
+        }
+        "kind" => {
+            let (kind, age) = parse_kind(alloc, form, fields)?;
+            Ok(Line::Kind(kind, age))
         }
         "tenant" => {
             let (tenant, limits) = parse_tenant(alloc, fields)?;

@@ -11,7 +11,7 @@ ghost use Rattle.journal_text.specs.Text.{◌␣◌, mark_text, state_text, reci
 use crate::form::Form;
 use crate::line::Line;
 use crate::recorded::RecordedReply;
-use grain_id::{Caller, GrainId, Tenant};
+use grain_id::{Caller, GrainId, Kind, Tenant};
 use grain_storage::Row;
 use request_codec::{Message, StateBytes};
 use silo_event::{Party, Refusal, Step};
@@ -41,7 +41,7 @@ fn message_bytes(form: Form, message: &Message) -> &[u8]
     ensures { result.now ≡ message_bytes form message.now }
 {
     match form {
-        Form::First => message.bytes(),
+        Form::First | Form::Second => message.bytes(),
     }
 }
 
@@ -179,6 +179,21 @@ pub(crate) fn push_head(form: Form, text: &mut String) -> Result<(), AllocError>
     write!(text, "silo-journal {number}\n")
 }
 
+/// Adds the line of the logic of that number.
+fn push_kinds(text: &mut String, kinds: u8) -> Result<(), AllocError>
+    ensures { OnOk result (string_bytes text.new ≡ string_bytes text.old ++ (line_text newest (line.Kinds kinds) ++ 10 ∷ [])) }
+{
+    push_number(text, "kinds", u64::from(kinds))
+}
+
+/// Adds the line of a kind with an age of so many milliseconds.
+fn push_kind(text: &mut String, kind: &Kind, age: u64) -> Result<(), AllocError>
+    ensures { OnOk result (string_bytes text.new ≡ string_bytes text.old ++ (line_text newest (line.Kind kind.now age) ++ 10 ∷ [])) }
+{
+    let kind = kind.text();
+    write!(text, "kind {kind} {age}\n")
+}
+
 /// Adds the line of an age of so many milliseconds.
 pub(crate) fn push_age(text: &mut String, age: u64) -> Result<(), AllocError>
     ensures { OnOk result (string_bytes text.new ≡ string_bytes text.old ++ (line_text newest (line.Age age) ++ 10 ∷ [])) }
@@ -298,7 +313,9 @@ pub(crate) fn push_line(
 {
     match line {
         Line::Head => push_head(form, text),
+        Line::Kinds(kinds) => push_kinds(text, *kinds),
         Line::Age(age) => push_age(text, age.millis()),
+        Line::Kind(kind, age) => push_kind(text, kind, age.millis()),
         Line::Tenant(tenant, limits) => push_tenant(text, tenant, *limits),
         Line::Step(step) => push_step(alloc, form, text, step),
         Line::Reply(reply) => push_recorded(alloc, text, reply),

@@ -66,7 +66,7 @@ fn is_code(form: Form, number: u64) -> bool
     ensures { result ≡ is_code form number }
 {
     match form {
-        Form::First => matches!(
+        Form::First | Form::Second => matches!(
             number,
             10..=13 | 20..=22 | 40..=43 | 53 | 54 | 56 | 60..=63 | 70
         ),

@@ -16,7 +16,7 @@ use Rattle.tenant_gate.specs.Table.{are_in_range}
 use Rattle.grain_storage.specs.declared.row.Row.{Row}
 use Rattle.silo_event.specs.declared.reply.Party.{Party}
 use Rattle.silo_event.specs.declared.reply.Party.TheVariants as party
-use Rattle.journal_text.specs.Form.{form_text, message_in, state_in}
+use Rattle.journal_text.specs.Form.{form_text, tells_kinds, message_in, state_in}
 use Rattle.journal_text.specs.declared.form.Form.{Form}
 use Rattle.journal_text.specs.RecordedFault.{CodeAndText, code_and_text, is_recorded_fault}
 use Rattle.journal_text.specs.declared.recorded.RecordedReply.{RecordedReply}
@@ -188,6 +188,18 @@ step_of form word fields =
 
 -- ---- the other lines
 
+-- the number of a logic, in a form that tells it
+abbrev pub kinds_of : Form → List ℕ → Option ℕ
+kinds_of form field = do
+  kinds ← wide_of field
+  only_if (tells_kinds form && (nat_le 1 kinds && nat_le kinds 2)) kinds
+
+-- a kind and its age, in a form that tells them
+abbrev pub kind_of : Form → List ℕ → Option (List ℕ × ℕ)
+kind_of form fields = do
+  f ← (word_of ⊗ age_of) fields
+  only_if (tells_kinds form) f
+
 abbrev pub tenant_of : List ℕ → Option (List ℕ × Limits)
 tenant_of fields = do
   f ← (word_of ⊗ wide_of ⊗ wide_of) fields
@@ -216,7 +228,9 @@ step_line found = found >>= λ s. Some (line.Step s)
 abbrev pub named_of : Form → List ℕ → List ℕ → Option Line
 named_of form word fields =
     if same_text word (codes "silo-journal") then head_of form fields
+    else if same_text word (codes "kinds") then (kinds_of form fields >>= λ kinds. Some (line.Kinds kinds))
     else if same_text word (codes "age") then (age_of fields >>= λ age. Some (line.Age age))
+    else if same_text word (codes "kind") then (kind_of form fields >>= λ entry. Some (line.Kind entry.0 entry.1))
     else if same_text word (codes "tenant") then (tenant_of fields >>= λ entry. Some (line.Tenant entry.0 entry.1))
     else if same_text word (codes "reply") then (reply_of form fields >>= λ reply. Some (line.Reply reply))
     else if same_text word (codes "row") then (row_of form fields >>= λ entry. Some (line.Row entry.0 entry.1))

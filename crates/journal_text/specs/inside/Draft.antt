@@ -3,35 +3,44 @@ use Rattle.std.specs.Prelude.{◌≡◌, ℕ, ◌≤◌, Bool, true, false, not,
 use Rattle.std.specs.Prelude.{◌∷◌, ◌++◌, length, map, All, IsTrue, Option, Some, None, Result, Ok, Err}
 use Rattle.std.specs.declared.alloc.AllocError.{AllocError}
 use Rattle.std.specs.List.{list_any}
-use Rattle.grain_id.specs.Names.{Grain, same_text}
+use Rattle.std.specs.Ordering.{is_lt}
+use Rattle.grain_id.specs.Names.{Grain, same_text, text_cmp}
 use Rattle.tenant_gate.specs.Table.{Table, most_tenants, names_of, first_repeat}
 use Rattle.grain_storage.specs.declared.row.Row.{Row}
-use Rattle.journal_text.specs.Text.{History, tenant_line, row_line}
-use Rattle.journal_text.specs.Rules.{IsLine, comes_after, are_ascending}
+use Rattle.idle_collector.specs.Ages.{Ages, most_ages}
+use Rattle.journal_text.specs.Form.{tells_kinds}
+use Rattle.journal_text.specs.Text.{History, body, start_lines}
+use Rattle.journal_text.specs.Rules.{IsKinds, IsLine, comes_after, are_ascending}
 use Rattle.journal_text.specs.inside.Candidates.{only_if}
 use Rattle.journal_text.specs.declared.form.Form.{Form}
 use Rattle.journal_text.specs.declared.line.Line.{Line}
 use Rattle.journal_text.specs.declared.line.Line.TheVariants as line
 
--- the lines behind the head and the age
-abbrev pub body : History → List Line
-body d = map tenant_line d.tenants ++ map line.Step d.steps ++ map line.Reply d.replies ++ map row_line d.rows
-
 -- the lines that are read
-abbrev pub lines_so_far : History → List Line
-lines_so_far d = line.Head ∷ line.Age d.age ∷ body d
+abbrev pub lines_so_far : Form → History → List Line
+lines_so_far form d = start_lines form d.kinds d.age ++ body d
 
--- the first two lines
-abbrev pub start_lines : ℕ → List Line
-start_lines age = line.Head ∷ line.Age age ∷ []
+-- the kind comes after the last one, if there is one
+abbrev pub kind_after : Option (List ℕ) → List ℕ → Bool
+kind_after None kind = true
+kind_after (Some last) kind = is_lt (text_cmp last kind)
+
+-- the kinds come one after another, the first after the last one before them
+abbrev pub are_kinds_ascending : Option (List ℕ) → Ages → Bool
+are_kinds_ascending last [] = true
+are_kinds_ascending last (entry ∷ ages) = kind_after last entry.0 && are_kinds_ascending (Some entry.0) ages
 
 -- What a draft of a journal of that form keeps.
 pub record IsDraft (form : Form) (d : History) : Type 0 where
+  pub kinds : IsKinds d.kinds
+  pub few_ages : length d.ages ≤ 64
+  pub ages_ascending : IsTrue (are_kinds_ascending None d.ages)
+  pub untold : tells_kinds form ≡ false → (d.kinds ≡ 1) × (d.ages ≡ [])
   pub few : length d.tenants ≤ 1000
   pub distinct : first_repeat [] (names_of d.tenants) ≡ None
   pub ascending : IsTrue (are_ascending None d.rows)
   pub tenants_first : d.tenants ≡ [] → (d.steps ≡ []) × (d.replies ≡ []) × (d.rows ≡ [])
-  pub lines : All (IsLine form) (lines_so_far d)
+  pub lines : All (IsLine form) (lines_so_far form d)
 
 abbrev pub is_empty : {A : Type 0} → List A → Bool
 is_empty [] = true
@@ -45,6 +54,15 @@ has_tenant tenants name = list_any (λ entry. same_text name entry.0) tenants
 abbrev pub last_grain : Option Grain → List (Grain × Row) → Option Grain
 last_grain before [] = before
 last_grain before (row ∷ rows) = last_grain (Some row.0) rows
+
+-- the last of the kinds, or the one before them
+abbrev pub last_kind : Option (List ℕ) → Ages → Option (List ℕ)
+last_kind before [] = before
+last_kind before (entry ∷ ages) = last_kind (Some entry.0) ages
+
+-- the age of a kind stands before the tenants, behind the kinds that come before its own, and there is room for one more
+abbrev pub kind_fits : History → List ℕ → Bool
+kind_fits d kind = is_empty d.tenants && nat_lt (length d.ages) most_ages && kind_after (last_kind None d.ages) kind
 
 -- a tenant stands among the tenants: there is none of its name, and room for one more
 abbrev pub tenant_fits : History → List ℕ → Bool
@@ -70,11 +88,13 @@ close_fits d steps = not (is_empty d.tenants) && (steps == length d.steps)
 
 -- the draft with a line more, if the line may stand there
 unfoldable pub added : History → Line → Option History
+added d (line.Kind kind age) = only_if (kind_fits d kind) (record d { ages = d.ages ++ (kind, age) ∷ [] })
 added d (line.Tenant tenant limits) = only_if (tenant_fits d tenant) (record d { tenants = d.tenants ++ (tenant, limits) ∷ [] })
 added d (line.Step s) = only_if (step_fits d) (record d { steps = d.steps ++ s ∷ [] })
 added d (line.Reply reply) = only_if (reply_fits d) (record d { replies = d.replies ++ reply ∷ [] })
 added d (line.Row grain row) = only_if (row_fits d grain) (record d { rows = d.rows ++ (grain, row) ∷ [] })
 added d line.Head = None
+added d (line.Kinds kinds) = None
 added d (line.Age age) = None
 added d (line.Close steps) = None
 

@@ -1,8 +1,8 @@
 use Rattle.std.proofs.Common.{List, ℕ, subst, sym}
 use Rattle.journal_text.specs.inside.Answers.{ReadsRest}
-use Rattle.journal_text.proofs.Forms.{reads_newest}
+use Rattle.journal_text.proofs.Forms.{reads_journal}
 use Rattle.journal_text.proofs.journal_reader.read_journal.Goals as goal
 
 pub returns-in-Ok : goal.returns-in-Ok
 returns-in-Ok c =
-    reads_newest c.in-Ok.start.form c.args.bytes.now c.read_parts.result (subst (λ (bytes : List ℕ). ReadsRest c.in-Ok.start.form bytes c.read_parts.result) (sym c.in-Ok.ensures.1) c.read_parts.ensures)
+    reads_journal c.in-Ok.start.form c.args.bytes.now c.read_parts.result (subst (λ (bytes : List ℕ). ReadsRest c.in-Ok.start.form bytes c.read_parts.result) (sym c.in-Ok.ensures.2) c.read_parts.ensures)

@@ -1,8 +1,8 @@
 use Rattle.std.proofs.Common.{◌≡◌, ◌++◌, map, drop, string_bytes}
 use Rattle.journal_text.specs.declared.line.Line.TheVariants as line
-use Rattle.journal_text.specs.Form.{newest}
+use Rattle.journal_text.specs.Form.{written}
 use Rattle.journal_text.specs.Text.{lines_text}
 use Rattle.journal_text.proofs.journal_writer.push_steps.Given as goal
 
 abbrev pub invariant-steps : goal.invariant-steps
-invariant-steps l = string_bytes l.text ++ lines_text newest (map line.Step (drop l.step-index l.steps)) ≡ string_bytes l.initial.text ++ lines_text newest (map line.Step l.steps)
+invariant-steps l = string_bytes l.text ++ lines_text written (map line.Step (drop l.step-index l.steps)) ≡ string_bytes l.initial.text ++ lines_text written (map line.Step l.steps)

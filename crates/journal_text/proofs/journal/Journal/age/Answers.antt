@@ -1,8 +1,8 @@
 use Rattle.std.proofs.Common.{subst}
 use Rattle.journal_text.specs.Form.{newest}
-use Rattle.journal_text.specs.Rules.{KeepsRules}
+use Rattle.journal_text.specs.Rules.{KeepsRulesIn}
 use Rattle.journal_text.proofs.OneText.{journal_age}
 use Rattle.journal_text.proofs.journal.Journal.age.Goals as goal
 
 pub returns-clause-in_range : goal.returns-clause-in_range
-returns-clause-in_range c = journal_age newest c.args.self.now (subst KeepsRules c.self.view_is c.self.invariant)
+returns-clause-in_range c = journal_age newest c.args.self.now (subst (KeepsRulesIn newest) c.self.view_is c.self.invariant)

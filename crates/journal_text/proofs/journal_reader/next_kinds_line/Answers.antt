@@ -1,0 +1,9 @@
+use Rattle.std.proofs.Common.{None}
+use Rattle.journal_text.specs.declared.line.Line.TheVariants as line
+use Rattle.journal_text.specs.inside.Answers.{BeginsWithLine}
+use Rattle.journal_text.proofs.journal_reader.next_kinds_line.Goals as goal
+
+pub returns-in_default : goal.returns-in_default
+returns-in_default c kinds behind is same =
+    let none : BeginsWithLine c.args.form c.args.bytes.now None = rw c.in_default.is at c.in_ok-line.ensures in
+    none (line.Kinds kinds) behind (c.requires, is) same
