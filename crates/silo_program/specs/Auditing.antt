@@ -6,8 +6,8 @@ use Rattle.std.specs.Io.KnownBytes.{Appends, Keeps}
 use Rattle.grain_kinds.specs.Kinds.{kinds}
 use Rattle.line_protocol.specs.declared.written.WriterCalls.{WriterCalls}
 use Rattle.journal_text.specs.FirstFault.{IsFirstFault}
-use Rattle.journal_text.specs.Rules.{KeepsRules}
-use Rattle.journal_text.specs.Text.{History, journal_text}
+use Rattle.journal_text.specs.JournalAnswers.{IsJournalText}
+use Rattle.journal_text.specs.Text.{History}
 use Rattle.audit_model.specs.Report.{IsReport, TenantReport}
 use Rattle.tenant_audit.specs.ReportText.{report_line}
 use Rattle.silo_program.specs.Status.{no_journal_text}
@@ -38,10 +38,11 @@ IsEndOf end.Differs reports = some_differs reports ≡ true
 
 -- ---- what a file may have
 
--- The file may have the text of this journal, which keeps the rules of journals.
+-- The file may have bytes that are the text of this journal, in one of its forms.
 pub record MayHoldJournal (may_hold : List ℕ → Type 0) (journal : History) : Type 0 where
-  pub keeps : KeepsRules journal
-  pub held : may_hold (journal_text journal)
+  pub bytes : List ℕ
+  pub held : may_hold bytes
+  pub is : IsJournalText bytes journal
 
 -- The file may have a journal, on which the audit reports this of each tenant.
 pub record AreReportsOf (may_hold : List ℕ → Type 0) (reports : List TenantReport) : Type 0 where

@@ -4,8 +4,7 @@ ghost use Rattle.std.specs.Prelude.{◌≡◌, ℕ, List, Option, IfOk, IfErr, O
 ghost use Rattle.std.specs.Io.KnownBytes.{Appends};
 ghost use Rattle.grain_kinds.specs.Kinds.{kinds};
 ghost use Rattle.line_protocol.specs.declared.written.WriterCalls.{WriterCalls};
-ghost use Rattle.journal_text.specs.Rules.{KeepsRules};
-ghost use Rattle.journal_text.specs.Text.{journal_text};
+ghost use Rattle.journal_text.specs.JournalAnswers.{IsJournalText};
 ghost use Rattle.audit_model.specs.Report.{IsReport};
 ghost use Rattle.silo_program.specs.Auditing.{AuditsFile, IsAuditCause, IsAuditFault, IsEndOf, IsReadingFault, IsRefusalOf};
 ghost use Rattle.silo_program.specs.Auditing.{IsWritingCause, MayHoldJournal, file_cause, reports_text};
@@ -45,7 +44,7 @@ fn refuse_line(alloc: Global, number: usize) -> ProgramFault
 
 /// The journal whose text the bytes are.
 fn journal_in(alloc: Global, bytes: &[u8]) -> Result<Journal, ProgramFault>
-    ensures journal { IfOk result (λ journal. KeepsRules journal × (bytes.now ≡ journal_text journal)) }
+    ensures journal { IfOk result (λ journal. IsJournalText bytes.now journal) }
     ensures fault { IfErr result (λ fault. IsReadingFault bytes.now fault) }
 {
     match read_journal(alloc, bytes) {
