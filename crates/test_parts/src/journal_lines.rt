@@ -14,11 +14,29 @@ const AGE: Place = ("silo-journal 1\n", 1);
 
 const TENANT: Place = ("silo-journal 1\nage 1\n", 2);
 
+/// Behind the head of the second form.
+const KINDS: Place = ("silo-journal 2\n", 1);
+
+/// Behind the age of a journal of the second form.
+const KIND: Place = ("silo-journal 2\nkinds 2\nage 1\n", 3);
+
+/// Behind a kind that has an age of its own.
+const NEXT_KIND: Place = ("silo-journal 2\nkinds 1\nage 1\nkind sheet 5\n", 4);
+
 /// Among the steps, the replies or the rows.
 const BODY: Place = ("silo-journal 1\nage 1\ntenant red 1 1\n", 3);
 
-static LINES: [(Place, &str); 30] = [
+static LINES: [(Place, &str); 39] = [
     (HEAD, "silo-journal 1"),
+    (HEAD, "silo-journal 2"),
+    (KINDS, "kinds 1"),
+    (KINDS, "kinds 2"),
+    (KIND, "kind counter 10"),
+    (KIND, "kind k-9 86400000"),
+    (KIND, "tenant red 2 4"),
+    (NEXT_KIND, "kind sheet-2 1"),
+    (NEXT_KIND, "kind z 1"),
+    (NEXT_KIND, "tenant red 2 4"),
     (AGE, "age 900000"),
     (AGE, "age 1"),
     (AGE, "age 86400000"),
@@ -56,9 +74,31 @@ static LINES: [(Place, &str); 30] = [
     (BODY, "tick 9223372036854775807"),
 ];
 
-static REFUSED: [(Place, &str); 30] = [
+static REFUSED: [(Place, &str); 52] = [
     (HEAD, ""),
-    (HEAD, "silo-journal 2"),
+    (HEAD, "silo-journal 4"),
+    (HEAD, "silo-journal 0"),
+    (HEAD, "silo-journal 01"),
+    (KINDS, "kinds 0"),
+    (KINDS, "kinds 3"),
+    (KINDS, "kinds 01"),
+    (KINDS, "kinds"),
+    (KINDS, "age 1"),
+    (KINDS, "kind counter 10"),
+    (AGE, "kinds 1"),
+    (TENANT, "kind counter 10"),
+    (KIND, "kinds 2"),
+    (KIND, "age 1"),
+    (KIND, "kind counter 0"),
+    (KIND, "kind counter 86400001"),
+    (KIND, "kind counter 01"),
+    (KIND, "kind counter"),
+    (KIND, "kind Counter 10"),
+    (KIND, "kind  10"),
+    (KIND, "sweep"),
+    (NEXT_KIND, "kind sheet 5"),
+    (NEXT_KIND, "kind relay 5"),
+    (NEXT_KIND, "kind shee 5"),
     (HEAD, "silo-journal"),
     (AGE, "age 0"),
     (AGE, "age 86400001"),

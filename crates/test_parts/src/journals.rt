@@ -19,6 +19,10 @@ const FAULT: &str =
 const EACH_KIND: &str =
     "silo-journal 1\nage 86400000\ntenant red 2 4\ntenant blue-2 10000 1000\nrefuse red/c1 0 13\ncall red/c1 1 counter/red:a 01000000036164640600000001000000026279030000000000000003\npoke red/c1 2 sheet/red:s ok 0600000000\nstatus green/c 3\nactivate counter/red:a\nload counter/red:a failed\nbegin counter/red:a\nstore counter/red:a 1 ok\nend counter/red:a 1\nabandon counter/red:a 2\ndeliver relay/red:r\ntick 9223372036854775807\nsweep\nreply red/c1 1 ok 030000000000000003\nreply green/c 3 no 21 tenant green is unknown\nreply relay/red:r - no 22 kind x is unknown\nrow counter/red:a 18446744073709551615 00\nrow sheet/red:s 1 -\nclose 13\n";
 
+/// A journal of the second form, in which two kinds have an age of their own.
+const SECOND: &str =
+    "silo-journal 2\nkinds 2\nage 900000\nkind counter 10\nkind sheet 86400000\ntenant red 2 4\ntick 7\nclose 1\n";
+
 /// The line at fault in bytes, or 0 for a journal.
 pub fn verdict(alloc: Global, bytes: &[u8]) -> Result<usize, Fail> {
     match read_journal(alloc, bytes) {
@@ -143,7 +147,7 @@ fn a_cut_is_at_the_first_line_that_is_not_whole(rt: HostRuntime) -> Result<(), F
 }
 
 /// A part of the worked journal, what stands in its place, and the line at fault.
-static CHANGES: [(&str, &str, usize); 17] = [
+static CHANGES: [(&str, &str, usize); 18] = [
     ("tenant red 2 4", "tenant red 02 4", 3),
     ("030000000000000003\na", "03000000000000000A\na", 4),
     (
@@ -152,7 +156,8 @@ static CHANGES: [(&str, &str, usize); 17] = [
         9,
     ),
     ("close 5", "close 6", 10),
-    ("silo-journal 1", "silo-journal 2", 1),
+    ("silo-journal 1", "silo-journal 2", 2),
+    ("silo-journal 1", "silo-journal 4", 1),
     ("age 900000", "age 0", 2),
     ("tenant red 2 4\n", "", 3),
     ("tenant red 2 4\n", "tenant red 2 4\ntenant red 1 1\n", 4),
@@ -187,4 +192,65 @@ fn a_wrong_line_is_named(rt: HostRuntime) -> Result<(), Fail> {
     }
     is_verdict(rt.alloc(), EACH_KIND.as_bytes(), 0)?;
     is_verdict(rt.alloc(), b"\xFF\n", 1)
+}
+
+/// A part of the journal of the second form, what stands in its place, and the line at fault.
+static SECOND_CHANGES: [(&str, &str, usize); 8] = [
+    ("kinds 2\n", "", 2),
+    ("kinds 2\n", "kinds 2\nkinds 2\n", 3),
+    ("kind counter 10\n", "", 0),
+    ("kind sheet 86400000\n", "kind counter 10\n", 5),
+    ("kind counter 10\n", "kind sheet 10\n", 5),
+    ("tick 7\n", "kind sheet 10\ntick 7\n", 7),
+    ("silo-journal 2\nkinds 2\n", "silo-journal 1\n", 3),
+    ("close 1\n", "", 8),
+];
+
+/// The kinds of a journal that have an age of their own, each with it.
+fn ages_of_kinds(alloc: Global, journal: &Journal) -> Result<String, Fail> {
+    let mut text = String::new(alloc);
+    for (kind, age) in journal.ages() {
+        let kind = kind.text();
+        write!(text, "{kind} {age}, ")?;
+    }
+    Ok(text)
+}
+
+#[test]
+fn a_journal_of_the_second_form_tells_its_kinds(rt: HostRuntime) -> Result<(), Fail> {
+    let read = journal(rt.alloc(), SECOND)?;
+    same(read.kinds(), 2)?;
+    same(read.age().millis(), 900_000)?;
+    same(
+        ages_of_kinds(rt.alloc(), &read)?.as_str(),
+        "counter 10, sheet 86400000, ",
+    )?;
+    same(read.tenants().len(), 1)?;
+    let first = journal(rt.alloc(), WORKED)?;
+    same((first.kinds(), first.ages().len()), (1, 0))?;
+    for (old, new, line) in &SECOND_CHANGES {
+        let found = verdict(
+            rt.alloc(),
+            SECOND.replace(rt.alloc(), *old, *new)?.as_bytes(),
+        )?;
+        same_at(*new, found, *line)?;
+    }
+    Ok(())
+}
+
+/// A journal in which the kinds from `k10` to the one before this have an age of their own.
+fn with_kinds(alloc: Global, end: usize) -> Result<String, Fail> {
+    let mut text = String::new(alloc);
+    text.push_str("silo-journal 2\nkinds 1\nage 1\n")?;
+    for number in 10..end {
+        write!(text, "kind k{number} 1\n")?;
+    }
+    text.push_str("tenant red 1 1\nclose 0\n")?;
+    Ok(text)
+}
+
+#[test]
+fn a_journal_has_64_ages_of_kinds_at_most(rt: HostRuntime) -> Result<(), Fail> {
+    is_verdict(rt.alloc(), with_kinds(rt.alloc(), 74)?.as_bytes(), 0)?;
+    is_verdict(rt.alloc(), with_kinds(rt.alloc(), 75)?.as_bytes(), 68)
 }

@@ -11,5 +11,6 @@ fn the_laws_are_stated() {
     journal_text::laws::one_line();
     journal_text::laws::plain_line();
     journal_text::laws::one_text();
+    journal_text::laws::one_journal();
     journal_text::laws::one_first_fault();
 }
