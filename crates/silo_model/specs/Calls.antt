@@ -1,5 +1,6 @@
 -- How a request is accepted or refused.
 use Rattle.std.specs.Prelude.{ℕ, ◌+◌, List, [], ◌∷◌, ◌++◌, length, Option, Some, None, Result, Ok, Err, nat_lt, ◌==◌, if◌then◌else◌}
+use Rattle.std.specs.Prelude.{false}
 use Rattle.std.specs.FinMap as map
 use Rattle.grain_id.specs.Names.{Grain, same_text}
 use Rattle.request_codec.specs.Tree.{Tree}
@@ -53,7 +54,8 @@ admitted s grain (Err why) = Err why
 
 -- the entry with one more waiting request; a new entry waits to be activated
 abbrev pub with_request : ℕ → Request → Option Entry → Entry
-with_request clock request None = record { phase = waiting; queue = request ∷ []; turns = map.empty; last = clock }
+with_request clock request None =
+    record { phase = waiting; queue = request ∷ []; turns = map.empty; last = clock; until = 0; resting = false }
 with_request clock request (Some e) = record e { queue = e.queue ++ request ∷ []; last = clock }
 
 -- the request is numbered and waits last

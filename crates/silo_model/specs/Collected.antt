@@ -3,6 +3,7 @@ use Rattle.std.specs.Prelude.{◌≡◌, ℕ, ◌≤◌, ◌<◌, [], Option, So
 use Rattle.std.specs.FinMap as map
 use Rattle.grain_id.specs.Names.{Grain}
 use Rattle.request_codec.specs.Tree.{Tree}
+use Rattle.idle_collector.specs.Ages.{kind_age}
 use Rattle.silo_event.specs.declared.step.Step.TheVariants.{Sweep}
 use Rattle.grain_kinds.specs.Logic.{Logic}
 use Rattle.silo_model.specs.Machine.{Entry, ready}
@@ -19,9 +20,10 @@ pub record IsIdle (e : Entry) : Type 0 where
 
 -- What a sweep leaves: no idle entry whose due moment has come, and every other as it was; and every row.
 pub record LeavesUsed (before after : Whole) : Type 0 where
-  pub goes : (grain : Grain) (e : Entry) → map.get before.entries grain ≡ Some e → IsIdle e → due_moment before.age e ≤ before.clock
+  pub goes : (grain : Grain) (e : Entry) → map.get before.entries grain ≡ Some e → IsIdle e
+      → due_moment (kind_age before.ages before.age grain.kind) e ≤ before.clock
       → map.get after.entries grain ≡ None
-  pub stays : (grain : Grain) (e : Entry) → map.get before.entries grain ≡ Some e → (IsIdle e → before.clock < due_moment before.age e)
+  pub stays : (grain : Grain) (e : Entry) → map.get before.entries grain ≡ Some e → (IsIdle e → before.clock < due_moment (kind_age before.ages before.age grain.kind) e)
       → map.get after.entries grain ≡ Some e
   pub rows : after.rows ≡ before.rows
 

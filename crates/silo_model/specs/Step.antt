@@ -7,6 +7,7 @@ use Rattle.silo_event.specs.declared.step.Step.{Step}
 use Rattle.silo_event.specs.declared.step.Step.TheVariants.{Refuse, Call, Poke, Status, Deliver, Activate, Load, Begin, Store, End}
 use Rattle.silo_event.specs.declared.step.Step.TheVariants.{Abandon, Tick, Sweep}
 use Rattle.silo_event.specs.declared.reply.Party.TheVariants as party
+use Rattle.idle_collector.specs.Ages.{kind_age}
 use Rattle.grain_kinds.specs.Logic.{Logic}
 use Rattle.silo_model.specs.Machine.{Machine, Account, Entry, Request}
 use Rattle.silo_model.specs.Effect.{Context, Effect, context_at, applied}
@@ -68,7 +69,7 @@ ticked m now = if nat_le m.clock now then Some (record m { clock = now }) else N
 
 -- the entries that are due go
 abbrev pub swept : Machine → Machine
-swept m = record m { entries = kept_entries m.clock m.age m.entries }
+swept m = record m { entries = kept_entries m.clock (kind_age m.ages m.age) m.entries }
 
 abbrev pub shared_step : Machine → Step → Option Machine
 shared_step m (Tick now) = ticked m now

@@ -1,5 +1,5 @@
 -- How an entry is activated and loaded, and how its turns are opened and closed.
-use Rattle.std.specs.Prelude.{ℕ, Bool, List, [], ◌∷◌, ◌++◌, map, flat_map, Option, Some, None, option_map, Result, Ok, Err}
+use Rattle.std.specs.Prelude.{ℕ, ◌+◌, Bool, true, false, ◌&&◌, List, [], ◌∷◌, ◌++◌, map, flat_map, Option, Some, None, option_map, Result, Ok, Err}
 use Rattle.std.specs.Prelude.{if◌then◌else◌, ◌==◌}
 use Rattle.std.specs.List.{list_all}
 use Rattle.std.specs.FinMap as finite
@@ -11,10 +11,12 @@ use Rattle.silo_event.specs.declared.fault.Fault.{Fault}
 use Rattle.silo_event.specs.declared.fault.Fault.TheVariants.{StorageFailed, StateChanged, VersionsSpent, NoMemory}
 use Rattle.grain_kinds.specs.declared.fault.MethodFault.{MethodFault}
 use Rattle.grain_kinds.specs.Logic.{Logic, Plan, Outgoing, StorageCall, asks_nothing, reads_row, writes_row, clears_row}
+use Rattle.grain_kinds.specs.Logic.{Keep, same, rest, stay}
 use Rattle.silo_model.specs.Methods.{method_fault}
 use Rattle.silo_model.specs.Machine.{Account, Entry, Request, Send, Phase, waiting, loading, ready}
 use Rattle.silo_model.specs.Effect.{Context, Effect, Change, keep, put, drop, on_entry}
 use Rattle.silo_model.specs.Calls.{reply_to}
+use Rattle.silo_model.specs.Idle.{is_idle}
 use Rattle.silo_model.specs.Stores.{row_written, row_cleared, version_value}
 
 -- ---- activating and loading
@@ -29,12 +31,13 @@ activated e (ready state version) = None
 abbrev pub unloaded : Entry → Effect
 unloaded e = record { account = keep; entry = drop; row = keep; replies = flat_map (λ q. reply_to q.sender (Err StorageFailed)) e.queue }
 
--- an entry that loads gets the row's content, or the kind's empty state, and stands on the row's version
+-- An entry that loads gets the row's content, or the kind's empty state, and stands on the row's version. It neither rests
+-- nor stays.
 abbrev pub loaded : Logic → Context → Grain → Bool → Entry → Phase → Option Effect
 loaded logic s grain failed e waiting = None
 loaded logic s grain failed e loading =
     Some (if failed then unloaded e else on_entry
-    (record e { phase = ready (content_or (logic.empty grain.kind) s.row) (version_of s.row) }))
+    (record e { phase = ready (content_or (logic.empty grain.kind) s.row) (version_of s.row); until = 0; resting = false }))
 loaded logic s grain failed e (ready state version) = None
 
 -- ---- opening a turn
@@ -70,11 +73,26 @@ plan_of logic grain state request = logic.plan grain.kind request.call.method st
 abbrev pub without_turn : Entry → Request → Entry
 without_turn e request = record e { turns = finite.remove e.turns request.number }
 
--- The turn is closed, and its request answered. The entry stays ready with this state, and stands on this version.
-abbrev pub closed : Context → Entry → Request → Tree → Option ℕ → Change Row → Result Tree Fault → Effect
-closed s e request state version row outcome = record {
+-- what a turn that closes at this moment said of the activation, in the entry: that it rests, or until when it stays
+abbrev pub kept_by : ℕ → Keep → Entry → Entry
+kept_by clock same e = e
+kept_by clock rest e = record e { until = 0; resting = true }
+kept_by clock (stay time) e = record e { until = clock + time; resting = false }
+
+-- an entry that rests goes if it is idle, and any other stays
+abbrev pub stays_or_goes : Entry → Change Entry
+stays_or_goes e = if e.resting && is_idle e then drop else put e
+
+-- The entry without the turn: ready with this state, on this version, and last used now.
+abbrev pub closed_entry : ℕ → Entry → Request → Tree → Option ℕ → Keep → Entry
+closed_entry clock e request state version said =
+    kept_by clock said (record (without_turn e request) { phase = ready state version; last = clock })
+
+-- The turn is closed, and its request answered. The entry goes if it rests and is idle now, and else stays ready.
+abbrev pub closed : Context → Entry → Request → Tree → Option ℕ → Keep → Change Row → Result Tree Fault → Effect
+closed s e request state version said row outcome = record {
   account = keep;
-  entry = put (record (without_turn e request) { phase = ready state version; last = s.clock });
+  entry = stays_or_goes (closed_entry s.clock e request state version said);
   row = row;
   replies = reply_to request.sender outcome;
 }
@@ -98,7 +116,7 @@ outcome_of (Err why) = Err (method_fault why)
 -- the plan's state stands, its sends go out, and its outcome is the reply
 abbrev pub ended_by : Context → Grain → Entry → Request → Option ℕ → Plan → StorageCall → Option Effect
 ended_by s grain e request version plan asks_nothing =
-    Some (record (closed s e request plan.state version keep (outcome_of plan.outcome)) { account = with_sends grain s.account plan.sends })
+    Some (record (closed s e request plan.state version plan.keep keep (outcome_of plan.outcome)) { account = with_sends grain s.account plan.sends })
 ended_by s grain e request version plan reads_row = None
 ended_by s grain e request version plan writes_row = None
 ended_by s grain e request version plan clears_row = None
@@ -119,20 +137,20 @@ ends_activation e request (first ∷ others) = put (record (without_turn e reque
 
 -- what a change of the row answered: if it was done, the entry has the new state and stands on the row's version
 abbrev pub row_changed : Context → Grain → Entry → Request → Tree → Option ℕ → Tree → Result (Option ℕ × Change Row) RowFault → Effect
-row_changed s grain e request state version new (Ok done) = closed s e request new done.0 done.1 (Ok (version_value done.0))
+row_changed s grain e request state version new (Ok done) = closed s e request new done.0 same done.1 (Ok (version_value done.0))
 row_changed s grain e request state version new (Err (stale found)) = record {
   account = keep;
   entry = ends_activation e request e.queue;
   row = keep;
   replies = reply_to request.sender (Err (StateChanged grain));
 }
-row_changed s grain e request state version new (Err spent) = closed s e request state version keep (Err (VersionsSpent grain))
+row_changed s grain e request state version new (Err spent) = closed s e request state version same keep (Err (VersionsSpent grain))
 
 -- what the storage is asked for, at the row that the step sees
 abbrev pub stored_by : Logic → Context → Grain → Entry → Request → Tree → Option ℕ → StorageCall → Option Effect
 stored_by logic s grain e request state version asks_nothing = None
 stored_by logic s grain e request state version reads_row =
-    Some (closed s e request (content_or (logic.empty grain.kind) s.row) (version_of s.row) keep (Ok (version_value (version_of s.row))))
+    Some (closed s e request (content_or (logic.empty grain.kind) s.row) (version_of s.row) same keep (Ok (version_value (version_of s.row))))
 stored_by logic s grain e request state version writes_row =
     Some (row_changed s grain e request state version state (row_written version s.row state))
 stored_by logic s grain e request state version clears_row =
@@ -143,7 +161,7 @@ abbrev pub stored : Logic → Context → Grain → Bool → Entry → Request �
 stored logic s grain failed e request waiting = None
 stored logic s grain failed e request loading = None
 stored logic s grain failed e request (ready state version) =
-    option_map (λ answer. if failed then closed s e request state version keep (Err StorageFailed) else answer)
+    option_map (λ answer. if failed then closed s e request state version same keep (Err StorageFailed) else answer)
     (stored_by logic s grain e request state version (plan_of logic grain state request).storage)
 
 -- ---- a turn that ran out of memory
@@ -151,7 +169,7 @@ stored logic s grain failed e request (ready state version) =
 abbrev pub abandoned : Context → Entry → Request → Effect
 abandoned s e request = record {
   account = keep;
-  entry = put (record (without_turn e request) { last = s.clock });
+  entry = stays_or_goes (record (without_turn e request) { last = s.clock });
   row = keep;
   replies = reply_to request.sender (Err NoMemory);
 }

@@ -4,6 +4,7 @@ use Rattle.std.specs.FinMap as map
 use Rattle.std.specs.FinMap.{FinMap}
 use Rattle.grain_id.specs.Names.{Grain, text_cmp, same_text}
 use Rattle.grain_storage.specs.Rows.{Rows}
+use Rattle.idle_collector.specs.Ages.{Ages, kind_age}
 use Rattle.silo_event.specs.Owner.{owner_of, tenant_of}
 use Rattle.silo_event.specs.declared.reply.Reply.{Reply}
 use Rattle.silo_event.specs.declared.step.Step.{Step}
@@ -17,7 +18,9 @@ use Rattle.silo_model.specs.Step.{grain_of, effect_of}
 pub record Whole : Type 0 where
   -- of each tenant that is known
   pub accounts : FinMap text_cmp Account
+  -- the age of the kinds that have none of their own, and the ages of those that do
   pub age : ℕ
+  pub ages : Ages
   pub clock : ℕ
   pub entries : Entries
   pub rows : Rows
@@ -35,6 +38,7 @@ shown_to tenant w = record {
   tenant = tenant;
   account = map.get w.accounts tenant;
   age = w.age;
+  ages = w.ages;
   clock = w.clock;
   entries = map.retain_keys w.entries (is_of tenant);
   rows = map.retain_keys w.rows (is_of tenant);
@@ -59,7 +63,7 @@ abbrev pub whole_ticked : Whole → ℕ → Option Whole
 whole_ticked w now = if nat_le w.clock now then Some (record w { clock = now }) else None
 
 abbrev pub whole_swept : Whole → Whole
-whole_swept w = record w { entries = kept_entries w.clock w.age w.entries }
+whole_swept w = record w { entries = kept_entries w.clock (kind_age w.ages w.age) w.entries }
 
 abbrev pub whole_shared_step : Whole → Step → Option Whole
 whole_shared_step w (Tick now) = whole_ticked w now
