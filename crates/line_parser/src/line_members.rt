@@ -96,7 +96,7 @@ const MEMBER_DEPTH: usize = 126;
 /// Whether a message or a state is too long is asked once they are known.
 const MAX_VALUE_BYTES: usize = 1_048_576;
 
-#[tactic(auto, unfolding(crate::specs::LineMembers::named))]
+#[tactic(auto, unfolding(crate::specs::inside::LineMembers::named))]
 /// The member of that name.
 pub(crate) fn name_of(key: &str) -> Option<Name>
     ensures known { IfSome result (λ name. key.now ≡ name_text name) }
