@@ -110,7 +110,7 @@ module _ (logic : Logic) (w : Whole) (caller : Client) (id : ℕ) (g : Grain) (m
           pub call_new : map.get w.entries g ≡ None → nat_lt (active_of w caller.tenant) a.limits.activations ≡ true
               → whole_step logic w (Call caller id g message) ≡ Some (record w {
                 accounts = map.insert w.accounts caller.tenant (record a { count = a.count + 1 });
-                entries = map.insert w.entries g (record { phase = waiting; queue = next_request a (party.Client caller id) message ∷ []; turns = map.empty; last = w.clock });
+                entries = map.insert w.entries g (record { phase = waiting; queue = next_request a (party.Client caller id) message ∷ []; turns = map.empty; last = w.clock; until = 0; resting = false });
               })
           call_new absent free =
               by_own _ (called_new logic own_seen g (party.Client caller id) message a passed left absent free) ∙ ap Some spread-accepted ∙ ap (λ o. Some (accepted_whole o)) absent

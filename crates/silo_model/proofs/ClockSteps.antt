@@ -1,6 +1,7 @@
 -- What a tick and a sweep come to.
 use Rattle.std.proofs.Common.{◌≡◌, ℕ, true, false, Some, None, refl, ap}
 use Rattle.std.specs.Prelude.{nat_le, if◌then◌else◌}
+use Rattle.idle_collector.specs.Ages.{kind_age}
 use Rattle.silo_event.specs.declared.step.Step.TheVariants.{Tick, Sweep}
 use Rattle.grain_kinds.specs.Logic.{Logic}
 use Rattle.silo_model.specs.Idle.{kept_entries}
@@ -18,6 +19,6 @@ module _ (logic : Logic) (w : Whole) where
   tick_back now back = ap (λ b. if b then Some (record w { clock = now }) else None) back
 
   -- the entries that are due go
-  pub sweep_is : whole_step logic w Sweep ≡ Some (record w { entries = kept_entries w.clock w.age w.entries })
+  pub sweep_is : whole_step logic w Sweep ≡ Some (record w { entries = kept_entries w.clock (kind_age w.ages w.age) w.entries })
   unfolding whole_step
   sweep_is = refl

@@ -15,7 +15,7 @@ use Rattle.silo_model.specs.Machine.{Entry, Request, ready}
 use Rattle.silo_model.specs.Calls.{reply_to}
 use Rattle.silo_model.specs.Turns.{plan_of, outcome_of}
 use Rattle.silo_model.specs.Whole.{Whole, whole_step}
-use Rattle.silo_model.proofs.TurnSteps.{closed_turn, end_silent_turn}
+use Rattle.silo_model.proofs.TurnSteps.{closed_at, end_silent_turn}
 
 pub record IsSilent (plan : Plan) : Type 0 where
   pub storage : plan.storage ≡ asks_nothing
@@ -50,7 +50,7 @@ counter_silent kind method state argument =
 pub end_counter : (w : Whole) (g : Grain) (turn : ℕ) (e : Entry) (request : Request) (state : Tree) (version : Option ℕ)
     → map.get w.entries g ≡ Some e → map.get e.turns turn ≡ Some request → e.phase ≡ ready state version
     → whole_step counters w (End g turn) ≡ Some (record w {
-      entries = map.insert w.entries g (closed_turn w e request (plan_of counters g state request).state version);
+      entries = closed_at w g e request (plan_of counters g state request).state version (plan_of counters g state request).keep;
       replies = w.replies ++ reply_to request.sender (outcome_of (plan_of counters g state request).outcome);
     })
 end_counter w g turn e request state version found open_turn is =

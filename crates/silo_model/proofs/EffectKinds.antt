@@ -1,7 +1,8 @@
 -- What an effect can be: each step's is one of a few, so that what holds of each of these holds of every step.
-use Rattle.std.proofs.Common.{◌≡◌, ℕ, ◌==◌, Bool, true, false, List, [], ◌∷◌, Option, Some, None, refl, ap, subst, true≢false, inl, inr}
+use Rattle.std.proofs.Common.{◌≡◌, ℕ, ◌==◌, Bool, true, false, List, [], ◌∷◌, Option, Some, None, refl, ap, sym, ◌∙◌, subst, true≢false, inl, inr}
 use Rattle.std.specs.Prelude.{◌⊎◌, Result, Ok, Err, option_map, option_and_then, nat_lt, length, if◌then◌else◌}
 use Rattle.std.specs.FinMap as map
+use Rattle.std.proofs.lemmas.Bool.{and_parts}
 use Rattle.grain_id.specs.Names.{Grain, grain_eq, same_text}
 use Rattle.grain_id.proofs.Order.{same_text_decides}
 use Rattle.request_codec.specs.Tree.{Tree}
@@ -15,18 +16,21 @@ use Rattle.silo_event.specs.declared.reply.Party.{Party}
 use Rattle.silo_event.specs.declared.reply.Party.TheVariants as party
 use Rattle.silo_event.specs.declared.step.Step.{Step}
 use Rattle.silo_event.specs.declared.step.Step.TheVariants.{Refuse, Call, Poke, Status, Deliver, Activate, Load, Begin, Store, End, Abandon, Tick, Sweep}
-use Rattle.grain_kinds.specs.Logic.{Logic, Plan, Outgoing, StorageCall, asks_nothing, reads_row, writes_row, clears_row}
+use Rattle.grain_kinds.specs.Logic.{Logic, Plan, Outgoing, StorageCall, asks_nothing, reads_row, writes_row, clears_row, Keep, same}
 use Rattle.silo_model.specs.Machine.{Account, Entry, Request, Send, Phase, waiting, loading, ready}
 use Rattle.silo_model.specs.Effect.{Context, Effect, Change, keep, put, drop, on_entry, change_option}
 use Rattle.silo_model.specs.Calls.{reply_to, told, kind_gate, gate, room, admitted, accepted, last_number, call_settled, called}
 use Rattle.silo_model.specs.Asks.{row_told, poke_settled, poked, status_told}
 use Rattle.silo_model.specs.Sends.{first_from, first_target, on_account, delivered_to, delivered}
 use Rattle.silo_model.specs.Stores.{row_poked, row_written, row_cleared}
-use Rattle.silo_model.specs.Turns.{activated, unloaded, loaded, may_open, opened, opened_if_ready, plan_of, closed, with_sends, ended_by, ended, ends_activation, row_changed, stored_by, stored, abandoned}
-use Rattle.silo_model.specs.Idle.{is_ready}
+use Rattle.silo_model.specs.Turns.{activated, unloaded, loaded, may_open, opened, opened_if_ready, plan_of, stays_or_goes, closed_entry, closed, with_sends}
+use Rattle.silo_model.specs.Turns.{ended_by, ended, ends_activation, row_changed, stored_by, stored, abandoned_entry, abandoned}
+use Rattle.silo_model.specs.Idle.{is_ready, is_idle}
 use Rattle.silo_model.specs.Step.{grain_of, at_turn, effect_of}
 use Rattle.silo_model.specs.Saved.{touches_row}
 use Rattle.silo_model.specs.Todo.{sender_by}
+use Rattle.silo_model.proofs.TurnMaps.{Turns}
+use Rattle.silo_model.proofs.Leaving.{idle_parts, stays_or_goes_by}
 
 -- ---- what a step is to its owner
 
@@ -80,7 +84,7 @@ Stores logic g request = (state : Tree) × ((plan_of logic g state request).stor
 pub data IsLeft (logic : Logic) (g : Grain) (e : Entry) (request : Request) : Change Entry → Type 0 where
   stays : (new : Entry) → new.queue ≡ e.queue → new.turns ≡ map.remove e.turns request.number
       → (is_ready new.phase ≡ false → (is_ready e.phase ≡ false) ⊎ Stores logic g request) → IsLeft logic g e request (put new)
-  goes : e.queue ≡ [] → Stores logic g request → IsLeft logic g e request drop
+  goes : e.queue ≡ [] → (map.len (map.remove e.turns request.number) ≡ 0) ⊎ Stores logic g request → IsLeft logic g e request drop
 
 -- the step may change the row of this grain, and of no other
 abbrev pub Touches : Step → Grain → Type 0
@@ -99,8 +103,8 @@ pub data Does (logic : Logic) (s : Context) (step : Step) : Role → Option Grai
       → change_option s.account left ≡ Some a
       → Does logic s step (asks p) (Some g) (accepted s p call a)
   -- an entry that isn't ready goes on
-  goes_on : (g : Grain) (e : Entry) (phase : Phase) → s.entry ≡ Some e → is_ready e.phase ≡ false
-      → Does logic s step (enters g) (Some g) (on_entry (record e { phase = phase }))
+  goes_on : (g : Grain) (e : Entry) (phase : Phase) (until : ℕ) (resting : Bool) → s.entry ≡ Some e → is_ready e.phase ≡ false
+      → Does logic s step (enters g) (Some g) (on_entry (record e { phase = phase; until = until; resting = resting }))
   -- it is given up, and each that waits is told so
   unloads : (g : Grain) (e : Entry) → s.entry ≡ Some e → is_ready e.phase ≡ false → Does logic s step (enters g) (Some g) (unloaded e)
   -- the first that waits becomes an open turn
@@ -225,14 +229,14 @@ module _ (logic : Logic) (s : Context) (step : Step) where
     Beginning = Doing logic s step (begins g) (Some g)
 
     activated_does : (p : Phase) → e.phase ≡ p → Entering (activated e p)
-    activated_does waiting phase = goes_on g e loading is (ap is_ready phase)
+    activated_does waiting phase = goes_on g e loading e.until e.resting is (ap is_ready phase)
     activated_does loading phase = tt
     activated_does (ready state version) phase = tt
 
     loaded_does : (failed : Bool) (p : Phase) → e.phase ≡ p → Entering (loaded logic s g failed e p)
     loaded_does failed waiting phase = tt
     loaded_does true loading phase = unloads g e is (ap is_ready phase)
-    loaded_does false loading phase = goes_on g e (ready (content_or (logic.empty g.kind) s.row) (version_of s.row)) is (ap is_ready phase)
+    loaded_does false loading phase = goes_on g e (ready (content_or (logic.empty g.kind) s.row) (version_of s.row)) 0 false is (ap is_ready phase)
     loaded_does failed (ready state version) phase = tt
 
     opened_does : (queue : List Request) → e.queue ≡ queue → is_ready e.phase ≡ true → Beginning (opened logic g e queue)
@@ -253,9 +257,19 @@ module _ (logic : Logic) (s : Context) (step : Step) where
 
 module _ (logic : Logic) (s : Context) (g : Grain) (turn : ℕ) (e : Entry) (request : Request) (is : s.entry ≡ Some e)
     (open_turn : map.get e.turns turn ≡ Some request) where
-  ready_left : (state : Tree) (version : Option ℕ)
-      → IsLeft logic g e request (put (record e { phase = ready state version; turns = map.remove e.turns request.number; last = s.clock }))
-  ready_left state version = stays _ refl refl (λ isnt. absurd (true≢false isnt))
+  -- it goes if it rests and is idle without the turn
+  left_by : (new : Entry) → new.queue ≡ e.queue → new.turns ≡ map.remove e.turns request.number
+      → (is_ready new.phase ≡ false → (is_ready e.phase ≡ false) ⊎ Stores logic g request) → IsLeft logic g e request (stays_or_goes new)
+  left_by new queue turns rests =
+      stays_or_goes_by new (λ left. IsLeft logic g e request left)
+      (λ both.
+      let parts = idle_parts new (and_parts new.resting (is_idle new) both).1 in
+      goes (sym queue ∙ parts.1) (inl (ap (λ (t : Turns). map.len t) (sym turns) ∙ parts.2)))
+      (λ _. stays new queue turns rests)
+
+  ready_left : (state : Tree) (version : Option ℕ) (said : Keep)
+      → IsLeft logic g e request (stays_or_goes (closed_entry s.clock e request state version said))
+  ready_left state version said = left_by (closed_entry s.clock e request state version said) refl refl (λ isnt. absurd (true≢false isnt))
 
   abbrev Closing : Step → Option Effect → Type 0
   Closing step o = Doing logic s step (ends g turn) (Some g) o
@@ -263,7 +277,7 @@ module _ (logic : Logic) (s : Context) (g : Grain) (turn : ℕ) (e : Entry) (req
   ended_by_does : (version : Option ℕ) (plan : Plan) (storage : StorageCall)
       → Closing (End g turn) (ended_by s g e request version plan storage)
   ended_by_does version plan asks_nothing =
-      closes g turn e request _ plan.sends keep _ is open_turn (ready_left plan.state version) (inr refl) (inl refl)
+      closes g turn e request _ plan.sends keep _ is open_turn (ready_left plan.state version plan.keep) (inr refl) (inl refl)
   ended_by_does version plan reads_row = tt
   ended_by_does version plan writes_row = tt
   ended_by_does version plan clears_row = tt
@@ -277,11 +291,11 @@ module _ (logic : Logic) (s : Context) (g : Grain) (turn : ℕ) (e : Entry) (req
 
   abandoned_does : Closing (Abandon g turn) (Some (abandoned s e request))
   abandoned_does =
-      closes g turn e request _ [] keep (Err NoMemory) is open_turn (stays _ refl refl (λ isnt. inl isnt)) (inl refl) (inl refl)
+      closes g turn e request _ [] keep (Err NoMemory) is open_turn (left_by (abandoned_entry s.clock e request) refl refl (λ isnt. inl isnt)) (inl refl) (inl refl)
 
   activation_left : (queue : List Request) → e.queue ≡ queue → Stores logic g request
       → IsLeft logic g e request (ends_activation e request queue)
-  activation_left [] none asks_some = goes none asks_some
+  activation_left [] none asks_some = goes none (inr asks_some)
   activation_left (first ∷ others) some asks_some = stays _ refl refl (λ _. inr asks_some)
 
   module _ (failed : Bool) (state : Tree) (version : Option ℕ) where
@@ -289,9 +303,9 @@ module _ (logic : Logic) (s : Context) (g : Grain) (turn : ℕ) (e : Entry) (req
     Storing = Closing (Store g turn failed)
 
     closed_does : (new : Tree) (at : Option ℕ) (row : Change Row) (outcome : Result Tree Fault)
-        → Storing (Some (closed s e request new at row outcome))
+        → Storing (Some (closed s e request new at same row outcome))
     closed_does new at row outcome =
-        closes g turn e request _ [] row outcome is open_turn (ready_left new at) (inl refl) (inr (λ h. refl))
+        closes g turn e request _ [] row outcome is open_turn (ready_left new at same) (inl refl) (inr (λ h. refl))
 
     row_changed_does : (new : Tree) (r : Result (Option ℕ × Change Row) RowFault) → Stores logic g request
         → Storing (Some (row_changed s g e request state version new r))
@@ -308,7 +322,7 @@ module _ (logic : Logic) (s : Context) (g : Grain) (turn : ℕ) (e : Entry) (req
     stored_by_does clears_row asked = row_changed_does (logic.empty g.kind) (row_cleared version s.row) (state, λ none. cc)
 
     unless_failed : (b : Bool) (o : Option Effect) → Storing o
-        → Storing (option_map (λ answer. if b then closed s e request state version keep (Err StorageFailed) else answer) o)
+        → Storing (option_map (λ answer. if b then closed s e request state version same keep (Err StorageFailed) else answer) o)
     unless_failed b None h = tt
     unless_failed true (Some x) h = closed_does state version keep (Err StorageFailed)
     unless_failed false (Some x) h = h

@@ -59,10 +59,21 @@ module _ (logic : Logic) (w : Whole) (g : Grain) (e : Entry) (found : map.get w.
   pub load_ready : (failed : Bool) (state : Tree) (version : Option ℕ) → e.phase ≡ ready state version → whole_step logic w (Load g failed) ≡ None
   load_ready failed state version is = load_found failed None (ap (loaded logic (context_of w g.tenant g) g failed e) is)
 
+  abbrev loaded_entry : Entry
+  loaded_entry = record e { phase = ready (content_or (logic.empty g.kind) (map.get w.rows g)) (version_of (map.get w.rows g)); until = 0; resting = false }
+
   -- an entry that loads gets the row's content, or the kind's empty state
   pub load_loading : e.phase ≡ loading
-      → whole_step logic w (Load g false) ≡ Some (record w { entries = map.insert w.entries g (record e { phase = ready (content_or (logic.empty g.kind) (map.get w.rows g)) (version_of (map.get w.rows g)) }) })
-  load_loading is = load_found false (Some (on_entry (record e { phase = ready (content_or (logic.empty g.kind) (map.get w.rows g)) (version_of (map.get w.rows g)) }))) (ap (loaded logic (context_of w g.tenant g) g false e) is) ∙ ap Some (spread-on_entry w g.tenant g _)
+      → whole_step logic w (Load g false) ≡ Some (record w {
+        entries = map.insert w.entries g (record e {
+          phase = ready (content_or (logic.empty g.kind) (map.get w.rows g)) (version_of (map.get w.rows g));
+          until = 0;
+          resting = false;
+        });
+      })
+  load_loading is =
+      load_found false (Some (on_entry loaded_entry)) (ap (loaded logic (context_of w g.tenant g) g false e) is)
+      ∙ ap Some (spread-on_entry w g.tenant g loaded_entry)
 
   -- where the storage failed, each request that waits is told so, and the entry goes
   pub load_fails : e.phase ≡ loading → whole_step logic w (Load g true) ≡ Some (record w { entries = map.remove w.entries g; replies = w.replies ++ flat_map (λ q. reply_to q.sender (Err StorageFailed)) e.queue })

@@ -24,14 +24,14 @@ use Rattle.silo_event.specs.declared.step.Step.TheVariants.{Call, Activate, Load
 use Rattle.silo_model.specs.Machine.{Account, Entry, Request, loading, waiting, ready}
 use Rattle.silo_model.specs.Calls.{told, reply_to, last_number}
 use Rattle.silo_model.specs.Turns.{plan_of, outcome_of}
-use Rattle.grain_kinds.specs.Logic.{Logic}
+use Rattle.grain_kinds.specs.Logic.{Logic, Plan}
 use Rattle.silo_model.specs.Whole.{Whole, whole_step}
 use Rattle.silo_model.specs.Opening.{Setup, fresh_account, opening}
 use Rattle.silo_model.specs.Journal.{all_done, LeadsTo}
 use Rattle.silo_model.specs.FirstCall.{add_call, first_call, FirstCallAnswered}
 use Rattle.silo_model.proofs.CallSteps.{next_request, call_new}
 use Rattle.silo_model.proofs.EntrySteps.{activate_waiting, load_loading, begin_first}
-use Rattle.silo_model.proofs.TurnSteps.{closed_turn}
+use Rattle.silo_model.proofs.TurnSteps.{closed_at}
 use Rattle.silo_model.proofs.Counters.{end_counter}
 use Rattle.silo_model.proofs.Opening.{get-fresh_accounts, no_entry_of}
 use Rattle.silo_model.proofs.Fair.{may_open_alone}
@@ -62,7 +62,7 @@ module _ (w : Whole) (a : Account) (caller : Client) (id : ℕ) (g : Grain) (n :
   request = next_request a (party.Client caller id) (add_call n)
 
   abbrev entry_called : Entry
-  entry_called = record { phase = waiting; queue = request ∷ []; turns = map.empty; last = w.clock }
+  entry_called = record { phase = waiting; queue = request ∷ []; turns = map.empty; last = w.clock; until = 0; resting = false }
 
   abbrev after_call : Whole
   after_call = record w { accounts = map.insert w.accounts caller.tenant (record a { count = a.count + 1 }); entries = map.insert w.entries g entry_called }
@@ -77,7 +77,7 @@ module _ (w : Whole) (a : Account) (caller : Client) (id : ℕ) (g : Grain) (n :
   state_loaded = content_or (counters.empty g.kind) (map.get w.rows g)
 
   abbrev entry_loaded : Entry
-  entry_loaded = record entry_activated { phase = ready state_loaded (version_of (map.get w.rows g)) }
+  entry_loaded = record entry_activated { phase = ready state_loaded (version_of (map.get w.rows g)); until = 0; resting = false }
 
   abbrev after_load : Whole
   after_load = record after_activate { entries = map.insert after_activate.entries g entry_loaded }
@@ -88,10 +88,13 @@ module _ (w : Whole) (a : Account) (caller : Client) (id : ℕ) (g : Grain) (n :
   abbrev after_begin : Whole
   after_begin = record after_load { entries = map.insert after_load.entries g entry_begun }
 
+  abbrev plan : Plan
+  plan = plan_of counters g state_loaded request
+
   abbrev pub after_end : Whole
   after_end = record after_begin {
-    entries = map.insert after_begin.entries g (closed_turn after_begin entry_begun request (plan_of counters g state_loaded request).state (version_of (map.get w.rows g)));
-    replies = w.replies ++ reply_to request.sender (outcome_of (plan_of counters g state_loaded request).outcome);
+    entries = closed_at after_begin g entry_begun request plan.state (version_of (map.get w.rows g)) plan.keep;
+    replies = w.replies ++ reply_to request.sender (outcome_of plan.outcome);
   }
 
   put_there : {X : Type 0} (m : FinMap grain_cmp X) (x : X) → map.get (map.insert m g x) g ≡ Some x

@@ -1,13 +1,14 @@
 -- Which entries a sweep takes.
-use Rattle.std.proofs.Common.{◌≡◌, ℕ, ◌+◌, ◌≤◌, ◌<◌, ◌==◌, Bool, true, false, not, cond, length, Some, None, refl, ap, sym, ◌∙◌, arith, true≢false}
+use Rattle.std.proofs.Common.{◌≡◌, ℕ, ◌+◌, ◌≤◌, ◌<◌, ◌==◌, Bool, true, false, not, cond, length, Option, Some, None, refl, ap, sym, ◌∙◌, arith, true≢false}
 use Rattle.std.specs.Prelude.{◌&&◌, nat_le}
 use Rattle.std.specs.FinMap as map
 use Rattle.std.proofs.lemmas.Bool.{eqb-true, eq-eqb}
 use Rattle.std.proofs.lemmas.Bool.Decides.{nat_tests}
 use Rattle.grain_id.specs.Names.{Grain}
+use Rattle.idle_collector.specs.Ages.{kind_age}
 use Rattle.silo_model.specs.Machine.{Entry, Phase, waiting, loading, ready}
 use Rattle.silo_model.specs.Idle.{is_ready, due_moment, is_due, is_kept, kept_entries}
-use Rattle.silo_model.specs.Whole.{Whole}
+use Rattle.silo_model.specs.Whole.{Whole, whole_swept}
 use Rattle.silo_model.specs.Collected.{IsIdle, IdleGoes}
 use Rattle.silo_model.proofs.SharedSteps.{get-kept}
 use Rattle.silo_model.proofs.ClockSteps.{sweep_is}
@@ -48,25 +49,33 @@ module _ (clock age : ℕ) (e : Entry) where
 -- ---- the sweep
 
 module _ (w : Whole) (g : Grain) (e : Entry) (found : map.get w.entries g ≡ Some e) where
-  left_by : (due : Bool) → is_due w.clock w.age e ≡ due → map.get (kept_entries w.clock w.age w.entries) g ≡ cond (not due) (Some e) None
-  left_by due is = get-kept w.clock w.age w.entries g ∙ ap (λ o. cond (is_kept w.clock w.age o) o None) found ∙ ap (λ b. cond (not b) (Some e) None) is
+  abbrev age : ℕ
+  age = kind_age w.ages w.age g.kind
 
-  stays_by : (IsIdle e → w.clock < due_moment w.age e) → (due : Bool) → is_due w.clock w.age e ≡ due → map.get (kept_entries w.clock w.age w.entries) g ≡ Some e
+  abbrev left : Option Entry
+  left = map.get (kept_entries w.clock (kind_age w.ages w.age) w.entries) g
+
+  left_by : (due : Bool) → is_due w.clock age e ≡ due → left ≡ cond (not due) (Some e) None
+  left_by due is = get-kept w.clock (kind_age w.ages w.age) w.entries g ∙ ap (λ o. cond (is_kept w.clock age o) o None) found ∙ ap (λ b. cond (not b) (Some e) None) is
+
+  pub due_goes : IsIdle e → due_moment age e ≤ w.clock → left ≡ None
+  due_goes idle come = left_by true (idle_is_due w.clock age e idle come)
+
+  stays_by : (IsIdle e → w.clock < due_moment age e) → (due : Bool) → is_due w.clock age e ≡ due → left ≡ Some e
   stays_by later true is =
-      let both = due_is_idle w.clock w.age e is in
+      let both = due_is_idle w.clock age e is in
       absurd (never (later both.0) both.1)
     where
-      never : w.clock < due_moment w.age e → due_moment w.age e ≤ w.clock → ⊥
+      never : w.clock < due_moment age e → due_moment age e ≤ w.clock → ⊥
       never a b = omega arith
   stays_by later false is = left_by false is
 
+  pub used_stays : (IsIdle e → w.clock < due_moment age e) → left ≡ Some e
+  used_stays later = stays_by later (is_due w.clock age e) refl
+
 pub idle_goes : IdleGoes
 idle_goes logic w = (
-  record w { entries = kept_entries w.clock w.age w.entries },
+  whole_swept w,
   sweep_is logic w,
-  record {
-    goes = λ g e found idle come. left_by w g e found true (idle_is_due w.clock w.age e idle come);
-    stays = λ g e found later. stays_by w g e found later (is_due w.clock w.age e) refl;
-    rows = refl;
-  },
+  record { goes = due_goes w; stays = used_stays w; rows = refl },
 )

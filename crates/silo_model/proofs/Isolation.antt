@@ -62,6 +62,7 @@ module _ (w : Whole) (owner : List ℕ) (grain : Option Grain) (e : Effect) (pro
         tenant = owner;
         account = get-change_same text_cmp_total text_cmp_exact w.accounts owner e.account i;
         age = w.age;
+        ages = w.ages;
         clock = w.clock;
         entries = part-changed_in grain_cmp_total grain_cmp_exact w.entries (is_of owner) grain e.entry (WhereChanged-map e.entry own proper.entry) i;
         rows = part-changed_in grain_cmp_total grain_cmp_exact w.rows (is_of owner) grain e.row (WhereChanged-map e.row own proper.row) i;
@@ -78,6 +79,7 @@ module _ (w : Whole) (owner : List ℕ) (grain : Option Grain) (e : Effect) (pro
         tenant = tenant;
         account = get-change_other text_cmp_total text_cmp_exact w.accounts owner tenant e.account another_key i;
         age = w.age;
+        ages = w.ages;
         clock = w.clock;
         entries = part-changed_out grain_cmp_total grain_cmp_exact w.entries (is_of tenant) grain e.entry (WhereChanged-map e.entry other proper.entry) i;
         rows = part-changed_out grain_cmp_total grain_cmp_exact w.rows (is_of tenant) grain e.row (WhereChanged-map e.row other proper.row) i;

@@ -2,6 +2,7 @@ pub mod Changes
 pub mod Contexts
 pub mod TurnMaps
 pub mod Sound
+pub mod Leaving
 pub mod EffectKinds
 pub mod Proper
 pub mod SharedSteps

@@ -278,6 +278,11 @@ module _ (logic : Logic) (s : Context) (g : Grain) (e : Entry) (is : s.entry ≡
         by_kind true only = absurd (stores.1 (law g.kind request.call.method stores.0 request.call.argument only))
         by_kind false only = refl
 
+    none_open : ReadersAskNothing logic → (map.len (map.remove e.turns request.number) ≡ 0) ⊎ Stores logic g request
+        → map.len (map.remove e.turns request.number) ≡ 0
+    none_open law (inl none) = none
+    none_open law (inr stores) = was_alone law stores
+
     no_turn : ReadersAskNothing logic → (is_ready e.phase ≡ false) ⊎ Stores logic g request
         → map.len (map.remove e.turns request.number) ≡ 0
     no_turn law (inl rests) = absurd (none-some request (sym (get-none e.turns turn (fair.at_rest rests)) ∙ open_turn))
@@ -299,8 +304,8 @@ module _ (logic : Logic) (s : Context) (g : Grain) (e : Entry) (is : s.entry ≡
       );
       turns = λ n q apart found. ap (λ (t : Turns). map.get t n) turns ∙ others_stay n q apart found;
     }
-    closed_moves law account row outcome same (goes is_empty stores) =
-        let none = was_alone law stores in
+    closed_moves law account row outcome same (goes is_empty alone) =
+        let none = none_open law alone in
         let left_turns : Turns = map.remove e.turns request.number in
         record {
           placed = tt;
@@ -331,7 +336,7 @@ does_moves logic law s step sees (tells p grain left outcome remains) = told_mov
 does_moves logic law s step sees (pokes p g row outcome own touches) = told_moves logic (Some g) s p keep row outcome refl
 does_moves logic law s step sees (accepts p g call left a own remains known) =
     accepted_moves logic s p g call a (sym (ap count_of known) ∙ remains_count remains) sees
-does_moves logic law s step sees (goes_on g e phase found rests) =
+does_moves logic law s step sees (goes_on g e phase until resting found rests) =
     on_entry_moves logic s g e found (enters g) _ (λ w. refl) (idle_entry logic g _ ((sees e found).0.at_rest rests)) (λ f. refl)
     (turn_is logic s g e found)
 does_moves logic law s step sees (unloads g e found rests) = unloaded_moves logic s g e found ((sees e found).0.at_rest rests)

@@ -38,6 +38,7 @@ opening_shown setup t = λ i. record {
   tenant = t;
   account = get-fresh_accounts setup.tenants t i;
   age = setup.age;
+  ages = setup.ages;
   clock = 0;
   entries = no_entry_of t i;
   rows = map.retain_keys setup.rows (is_of t);

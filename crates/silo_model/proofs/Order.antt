@@ -8,6 +8,7 @@ use Rattle.std.proofs.lemmas.Option.{same_Some, none-some}
 use Rattle.finite_maps.proofs.Options.{some_from_and_then}
 use Rattle.grain_id.specs.Names.{Grain, grain_cmp}
 use Rattle.grain_id.proofs.Order.{grain_cmp_total, grain_cmp_exact}
+use Rattle.idle_collector.specs.Ages.{kind_age}
 use Rattle.silo_event.specs.Owner.{owner_of}
 use Rattle.silo_event.specs.declared.step.Step.{Step}
 use Rattle.silo_event.specs.declared.step.Step.TheVariants.{Tick, Sweep}
@@ -147,7 +148,7 @@ module _ (logic : Logic) (s : Context) (step : Step) (old : (x : Entry) → s.en
         counts = omega (arith, same);
         left = asked s.clock a.count _ s.entry refl (λ x found. subst (λ n. IsOrdered n x) (sym same) (old x found));
       }
-  by_kind _ _ _ (goes_on g e phase is unready) =
+  by_kind _ _ _ (goes_on g e phase until resting is unready) =
       let o = old e is in
       record { counts = omega arith; left = record { queue = o.queue; counted = o.counted; turns = o.turns } }
   by_kind _ _ _ (unloads g e is unready) = record { counts = omega arith; left = tt }
@@ -190,7 +191,7 @@ module _ (logic : Logic) (m new : Machine) (s : Step) (ordered : IsOrderedMachin
 
   shared_so : (s : Step) → shared_step m s ≡ Some new → IsOrderedMachine new
   shared_so (Tick now) h = ticked_so now (nat_le m.clock now) h
-  shared_so Sweep h = subst IsOrderedMachine (same_Some _ new h) (λ g e found. ordered g e (get-kept_there m.clock m.age m.entries g e found))
+  shared_so Sweep h = subst IsOrderedMachine (same_Some _ new h) (λ g e found. ordered g e (get-kept_there m.clock (kind_age m.ages m.age) m.entries g e found))
   shared_so _ h = absurd (none-some new h)
 
   by_owner : (o : Option (List ℕ)) → step_by logic m s o ≡ Some new → IsOrderedMachine new

@@ -59,7 +59,7 @@ left_of logic g tenant e request entry (stays new queue turns rest) = record {
   queue = subst (AllFrom tenant) (sym queue) entry.queue;
   turns = subst (AreOpenFrom tenant) (sym turns) (remove-AreOpenFrom tenant e.turns request.number entry.turns);
 }
-left_of logic g tenant e request entry (goes is_empty stores) = tt
+left_of logic g tenant e request entry (goes is_empty alone) = tt
 
 -- each effect is such a one
 pub does_proper : (logic : Logic) (s : Context) (step : Step) (tenant : List ℕ) {role : Role} {grain : Option Grain} {e : Effect}
@@ -71,7 +71,7 @@ does_proper logic s step tenant owner is sees (pokes p g row outcome own touches
 does_proper logic s step tenant owner is sees (accepts p g call left a own remains known) =
     let from : tenant_of p ≡ tenant = same_Some (tenant_of p) tenant owner in
     record { entry = own ∙ is; row = tt; left = with_request-IsEntryOf tenant s.clock _ s.entry from sees; replies = tt }
-does_proper logic s step tenant owner is sees (goes_on g e phase found rests) =
+does_proper logic s step tenant owner is sees (goes_on g e phase until resting found rests) =
     let there : IsEntryOf tenant e = sees e found in
     record { entry = same_Some g.tenant tenant owner; row = tt; left = record { queue = there.queue; turns = there.turns }; replies = tt }
 does_proper logic s step tenant owner is sees (unloads g e found rests) =

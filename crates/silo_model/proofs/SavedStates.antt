@@ -16,7 +16,7 @@ use Rattle.grain_storage.specs.Rows.{Rows, stale, spent, next_version, version_o
 use Rattle.silo_event.specs.Owner.{owner_of}
 use Rattle.silo_event.specs.declared.step.Step.{Step}
 use Rattle.silo_event.specs.declared.step.Step.TheVariants.{Load, Store}
-use Rattle.grain_kinds.specs.Logic.{Logic, writes_row}
+use Rattle.grain_kinds.specs.Logic.{Logic, writes_row, same}
 use Rattle.silo_model.specs.Machine.{Entry, loading, ready}
 use Rattle.silo_model.specs.Effect.{Context, Effect, Change, keep, put, changed_at, context_at}
 use Rattle.silo_model.specs.Stores.{next_row, version_value}
@@ -96,7 +96,7 @@ module _ (logic : Logic) (w : Whole) (g : Grain) (turn : ℕ) (state : Tree) (sa
   new_row = next_row (map.get w.rows g) (Some state)
 
   abbrev answer : Effect
-  answer = closed (seen_at w g) saves.entry saves.request state (Some new_version) (put new_row) (Ok (version_value (Some new_version)))
+  answer = closed (seen_at w g) saves.entry saves.request state (Some new_version) same (put new_row) (Ok (version_value (Some new_version)))
 
   answer_is : stored_by logic (seen_at w g) g saves.entry saves.request state saves.version writes_row ≡ Some answer
   answer_is = ap (λ r. Some (row_changed (seen_at w g) g saves.entry saves.request state saves.version state r)) (may_change saves.version (map.get w.rows g) (Some new_version, put new_row) saves.current saves.unspent)
@@ -112,10 +112,10 @@ module _ (logic : Logic) (w : Whole) (g : Grain) (turn : ℕ) (state : Tree) (sa
   row_is = get-insert_same grain_cmp_total grain_cmp_exact w.rows g new_row
 
   loaded_entry : Entry → Option Row → Entry
-  loaded_entry e row = record e { phase = ready (content_or (logic.empty g.kind) row) (version_of row) }
+  loaded_entry e row = record e { phase = ready (content_or (logic.empty g.kind) row) (version_of row); until = 0; resting = false }
 
   comes_back : (steps : List Step) (later : Whole) (e : Entry) → all_done logic saved steps ≡ Some later → list_any (touches_row g) steps ≡ false → map.get later.entries g ≡ Some e → e.phase ≡ loading
-      → (after : Whole) × (whole_step logic later (Load g false) ≡ Some after) × (map.get after.entries g ≡ Some (record e { phase = ready state (Some new_version) }))
+      → (after : Whole) × (whole_step logic later (Load g false) ≡ Some after) × (map.get after.entries g ≡ Some (record e { phase = ready state (Some new_version); until = 0; resting = false }))
   unfolding loaded_entry
   comes_back steps later e done apart found is =
       let stored : map.get later.rows g ≡ Some new_row = rows_stay logic saved later steps g done apart ∙ row_is in (

@@ -1,11 +1,11 @@
 -- What a turn sends is delivered.
-use Rattle.std.proofs.Common.{◌≡◌, ℕ, ◌+◌, Bool, true, false, List, [], ◌∷◌, ◌++◌, Option, Some, None, refl, ap, ◌∙◌}
+use Rattle.std.proofs.Common.{◌≡◌, ℕ, ◌+◌, Bool, true, false, List, [], ◌∷◌, ◌++◌, Option, Some, None, refl, ap, ◌∙◌, arith}
 use Rattle.std.specs.Prelude.{nat_lt, option_map, if◌then◌else◌}
 use Rattle.std.specs.List.{list_any}
 use Rattle.std.specs.Ordering.{eq_by_cmp}
 use Rattle.std.specs.FinMap as map
-use Rattle.std.proofs.lemmas.Bool.{or_parts}
-use Rattle.finite_maps.proofs.Maps.{get-insert_same, get-insert_other}
+use Rattle.std.proofs.lemmas.Bool.{or_parts, lt-ltb, ltb-true}
+use Rattle.finite_maps.proofs.Maps.{get-insert_same}
 use Rattle.grain_id.specs.Names.{Grain, grain_cmp, grain_eq}
 use Rattle.grain_id.proofs.Order.{eq_by_cmp-Decides, grain_cmp_total, grain_cmp_exact, grain_eq_decides, text_cmp_total, text_cmp_exact}
 use Rattle.silo_event.specs.declared.reply.Party.TheVariants as party
@@ -15,12 +15,14 @@ use Rattle.silo_model.specs.Machine.{Account, Entry, Send}
 use Rattle.silo_model.specs.Effect.{change_at}
 use Rattle.silo_model.specs.Calls.{reply_to, with_request}
 use Rattle.silo_model.specs.Sends.{first_from}
-use Rattle.silo_model.specs.Turns.{plan_of, sent_by, with_sends, outcome_of}
+use Rattle.silo_model.specs.Turns.{plan_of, stays_or_goes, closed_entry, sent_by, with_sends, outcome_of}
 use Rattle.silo_model.specs.Whole.{Whole, whole_step}
+use Rattle.silo_model.specs.Contexts.{active_of}
 use Rattle.silo_model.specs.Sent.{IsSending, SentArrives}
-use Rattle.silo_model.proofs.Actives.{active-again}
+use Rattle.silo_model.proofs.Actives.{active-changed}
+use Rattle.silo_model.proofs.Changes.{get-change_other}
 use Rattle.silo_model.proofs.CallSteps.{next_request}
-use Rattle.silo_model.proofs.TurnSteps.{closed_turn, end_turn}
+use Rattle.silo_model.proofs.TurnSteps.{end_turn}
 use Rattle.silo_model.proofs.SendSteps.{deliver_new}
 
 -- the first of some sends, by whether it is the grain's
@@ -43,12 +45,12 @@ module _ (logic : Logic) (w : Whole) (g : Grain) (turn : ℕ) (a : Account) (o :
   account_sent = record a { sends = a.sends ++ sent_by g (o ∷ sending.others) }
 
   abbrev entry_closed : Entry
-  entry_closed = closed_turn w sending.entry sending.request plan.state sending.version
+  entry_closed = closed_entry w.clock sending.entry sending.request plan.state sending.version plan.keep
 
   abbrev sent : Whole
   sent = record w {
     accounts = map.insert w.accounts g.tenant account_sent;
-    entries = map.insert w.entries g entry_closed;
+    entries = change_at w.entries g (stays_or_goes entry_closed);
     replies = w.replies ++ reply_to sending.request.sender (outcome_of plan.outcome);
   }
 
@@ -57,7 +59,7 @@ module _ (logic : Logic) (w : Whole) (g : Grain) (turn : ℕ) (a : Account) (o :
       end_turn logic w g turn sending.entry sending.found sending.request sending.open_turn sending.state sending.version sending.phase plan refl sending.asks
       ∙ (λ i. Some (record w {
         accounts = change_at w.accounts g.tenant (with_sends g (sending.known i) (sending.sends i));
-        entries = map.insert w.entries g entry_closed;
+        entries = change_at w.entries g (stays_or_goes entry_closed);
         replies = w.replies ++ reply_to sending.request.sender (outcome_of plan.outcome);
       }))
 
@@ -67,6 +69,11 @@ module _ (logic : Logic) (w : Whole) (g : Grain) (turn : ℕ) (a : Account) (o :
       by_test : (b : Bool) → eq_by_cmp grain_cmp o.target g ≡ b → b ≡ false
       by_test true tied = absurd (sending.another ((eq_by_cmp-Decides grain_cmp_total grain_cmp_exact o.target g).0 tied))
       by_test false tied = refl
+
+  -- there is room also if the sender goes
+  room_left : nat_lt (active_of sent g.tenant) a.limits.activations ≡ true
+  room_left =
+      lt-ltb _ _ (omega (arith, active-changed w.entries g.tenant g sending.entry (stays_or_goes entry_closed) sending.found, ltb-true _ _ sending.room))
 
   abbrev delivered : Whole
   delivered = record sent {
@@ -79,8 +86,8 @@ module _ (logic : Logic) (w : Whole) (g : Grain) (turn : ℕ) (a : Account) (o :
       deliver_new logic sent g account_sent (get-insert_same text_cmp_total text_cmp_exact w.accounts g.tenant account_sent)
       (record { source = g; message = o }) (a.sends ++ sent_by g sending.others) (first_from-append g a.sends o sending.others sending.none_before)
       sending.own sending.knows sending.number_left
-      (get-insert_other grain_cmp_total grain_cmp_exact w.entries g o.target entry_closed apart ∙ sending.absent)
-      (ap (λ n. nat_lt n a.limits.activations) (active-again w.entries g.tenant g entry_closed sending.entry sending.found) ∙ sending.room)
+      (get-change_other grain_cmp_total grain_cmp_exact w.entries g o.target (stays_or_goes entry_closed) apart ∙ sending.absent)
+      room_left
 
 pub sent_arrives : SentArrives
 sent_arrives logic w g turn a o sending = (

@@ -14,6 +14,7 @@ use Rattle.silo_event.specs.declared.reply.Reply.{Reply}
 use Rattle.silo_event.specs.declared.reply.Party.{Party}
 use Rattle.silo_event.specs.declared.step.Step.{Step}
 use Rattle.silo_event.specs.declared.step.Step.TheVariants.{Tick, Sweep}
+use Rattle.idle_collector.specs.Ages.{kind_age}
 use Rattle.grain_kinds.specs.Logic.{Logic}
 use Rattle.grain_kinds.specs.Laws.{ReadersAskNothing}
 use Rattle.silo_model.specs.Machine.{Machine, Entry, Entries, Request}
@@ -24,7 +25,7 @@ use Rattle.silo_model.proofs.Changes.{OfPut, OfPutAt, changed_all}
 use Rattle.silo_model.proofs.Fair.{held, pend, one_if, numbered, IsFairEntry, IsFair, front_is_new}
 use Rattle.silo_model.proofs.EffectKinds.{role_of, effect_kind}
 use Rattle.silo_model.proofs.Moves.{replied, sent, Quiet, asked_by, count_of, IsPlaced, IsFairAt, SeesFair, Counted, NumbersMove, Moves, does_moves}
-use Rattle.silo_model.proofs.SharedSteps.{get-kept_there}
+use Rattle.silo_model.proofs.SharedSteps.{AgeOf, get-kept_there}
 
 -- ---- all entries
 
@@ -128,26 +129,28 @@ due_is_bare clock age e due =
 due_is_light : (f : Request → ℕ) (clock age : ℕ) (e : Entry) → is_kept clock age (Some e) ≡ false → held f e ≡ 0
 due_is_light f clock age e due = let bare = due_is_bare clock age e due in omega (arith, ap (sum_by f) bare.0, total-none f e.turns bare.1)
 
-kept_weight : (f : Request → ℕ) (clock age : ℕ) (entries : Entries) → pend f (kept_entries clock age entries) ≡ pend f entries
+kept_weight : (f : Request → ℕ) (clock : ℕ) (age_of : AgeOf) (entries : Entries) → pend f (kept_entries clock age_of entries) ≡ pend f entries
 unfolding kept_entries
-kept_weight f clock age entries =
-    total-retain_keys grain_cmp_total grain_cmp_exact (held f) entries (λ g. is_kept clock age (map.get entries g)) (λ g e found dropped. due_is_light f clock age e (ap (is_kept clock age) (sym found) ∙ dropped))
+kept_weight f clock age_of entries =
+    total-retain_keys grain_cmp_total grain_cmp_exact (held f) entries (λ g. is_kept clock (age_of g.kind) (map.get entries g))
+    (λ g e found dropped. due_is_light f clock (age_of g.kind) e (ap (is_kept clock (age_of g.kind)) (sym found) ∙ dropped))
 
-sweep_moves : (logic : Logic) (m : Machine) → IsFairMachine logic m → MachineMoves logic m Sweep (record m { entries = kept_entries m.clock m.age m.entries })
-sweep_moves logic m fair = record {
+sweep_moves : (logic : Logic) (m : Machine) (age_of : AgeOf) → IsFairMachine logic m
+    → MachineMoves logic m Sweep (record m { entries = kept_entries m.clock age_of m.entries })
+sweep_moves logic m age_of fair = record {
   added = [];
   replies = sym (append-nil m.replies);
   fair = record {
-    each = λ g e found. fair.each g e (get-kept_there m.clock m.age m.entries g e found);
-    once = λ n. omega (arith, kept_weight (numbered n) m.clock m.age m.entries, fair.once n);
-    unused = λ n above. kept_weight (numbered n) m.clock m.age m.entries ∙ fair.unused n above;
+    each = λ g e found. fair.each g e (get-kept_there m.clock age_of m.entries g e found);
+    once = λ n. omega (arith, kept_weight (numbered n) m.clock age_of m.entries, fair.once n);
+    unused = λ n above. kept_weight (numbered n) m.clock age_of m.entries ∙ fair.unused n above;
   };
-  balance = λ w quiet. omega (arith, kept_weight (sent w) m.clock m.age m.entries);
+  balance = λ w quiet. omega (arith, kept_weight (sent w) m.clock age_of m.entries);
 }
 
 shared_moves : (logic : Logic) (m new : Machine) (s : Step) → IsFairMachine logic m → shared_step m s ≡ Some new → MachineMoves logic m s new
 shared_moves logic m new (Tick now) fair h = tick_moves logic m new now (nat_le m.clock now) fair h
-shared_moves logic m new Sweep fair h = subst (MachineMoves logic m Sweep) (same_Some _ new h) (sweep_moves logic m fair)
+shared_moves logic m new Sweep fair h = subst (MachineMoves logic m Sweep) (same_Some _ new h) (sweep_moves logic m (kind_age m.ages m.age) fair)
 shared_moves logic m new _ fair h = absurd (none-some new h)
 
 -- ---- every step

@@ -9,11 +9,12 @@ use Rattle.grain_storage.specs.Rows.{RowFault, stale, spent, version_of, content
 use Rattle.silo_model.specs.Stores.{version_value}
 use Rattle.silo_event.specs.declared.fault.Fault.TheVariants.{StorageFailed, StateChanged, VersionsSpent, NoMemory}
 use Rattle.silo_event.specs.declared.step.Step.TheVariants.{Store, End, Abandon}
-use Rattle.grain_kinds.specs.Logic.{Logic, Plan, Outgoing, StorageCall, asks_nothing, reads_row, writes_row, clears_row}
-use Rattle.silo_model.specs.Machine.{Entry, Request, waiting, loading, ready}
+use Rattle.grain_kinds.specs.Logic.{Logic, Plan, Outgoing, StorageCall, asks_nothing, reads_row, writes_row, clears_row, Keep, same}
+use Rattle.silo_model.specs.Machine.{Entry, Entries, Request, waiting, loading, ready}
 use Rattle.silo_model.specs.Effect.{Context, Effect, Change, keep, change_at}
 use Rattle.silo_model.specs.Calls.{reply_to}
-use Rattle.silo_model.specs.Turns.{plan_of, closed, with_sends, outcome_of, ended_by, ended, ends_activation, row_changed, stored_by, stored, abandoned}
+use Rattle.silo_model.specs.Turns.{plan_of, stays_or_goes, closed_entry, closed, with_sends, outcome_of, ended_by, ended, ends_activation, row_changed}
+use Rattle.silo_model.specs.Turns.{stored_by, stored, abandoned_entry, abandoned}
 use Rattle.silo_model.specs.Step.{at_turn, effect_of}
 use Rattle.silo_model.specs.Whole.{Whole, spread, whole_step}
 use Rattle.silo_model.specs.Contexts.{context_of}
@@ -24,9 +25,13 @@ never : {A B : Type 0} (f : A → Option B) (o : Option A) → ((x : A) → f x 
 never f None h = refl
 never f (Some x) h = h x
 
--- the entry without the turn, ready with this state and standing on this version
-abbrev pub closed_turn : Whole → Entry → Request → Tree → Option ℕ → Entry
-closed_turn w e request state version = record e { phase = ready state version; turns = map.remove e.turns request.number; last = w.clock }
+-- the entries after a close: the entry without the turn stays, or goes
+abbrev pub left_at : Whole → Grain → Entry → Entries
+left_at w g new = change_at w.entries g (stays_or_goes new)
+
+-- the same, by the state and the version that it is ready with, and what the turn said of the activation
+abbrev pub closed_at : Whole → Grain → Entry → Request → Tree → Option ℕ → Keep → Entries
+closed_at w g e request state version said = left_at w g (closed_entry w.clock e request state version said)
 
 -- what the whole has at the grain, as a step there sees it
 abbrev pub seen_at : Whole → Grain → Context
@@ -93,7 +98,7 @@ module _ (logic : Logic) (w : Whole) (g : Grain) (turn : ℕ) where
 
     module _ (request : Request) (open_turn : map.get e.turns turn ≡ Some request) where
       pub abandon_turn : whole_step logic w (Abandon g turn)
-          ≡ Some (record w { entries = map.insert w.entries g (record e { turns = map.remove e.turns request.number; last = w.clock }); replies = w.replies ++ reply_to request.sender (Err NoMemory) })
+          ≡ Some (record w { entries = left_at w g (abandoned_entry w.clock e request); replies = w.replies ++ reply_to request.sender (Err NoMemory) })
       unfolding spread
       abandon_turn = abandon_found (Some (abandoned (seen_at w g) e request)) (ap (option_and_then (abandoning e)) open_turn)
 
@@ -122,7 +127,7 @@ module _ (logic : Logic) (w : Whole) (g : Grain) (turn : ℕ) where
         abbrev ended_whole : List Outgoing → Whole
         ended_whole sends = record w {
           accounts = change_at w.accounts g.tenant (with_sends g (map.get w.accounts g.tenant) sends);
-          entries = map.insert w.entries g (closed_turn w e request plan.state version);
+          entries = closed_at w g e request plan.state version plan.keep;
           replies = w.replies ++ reply_to request.sender (outcome_of plan.outcome);
         }
 
@@ -130,7 +135,7 @@ module _ (logic : Logic) (w : Whole) (g : Grain) (turn : ℕ) where
         pub end_turn : plan.storage ≡ asks_nothing
             → whole_step logic w (End g turn) ≡ Some (record w {
               accounts = change_at w.accounts g.tenant (with_sends g (map.get w.accounts g.tenant) plan.sends);
-              entries = map.insert w.entries g (closed_turn w e request plan.state version);
+              entries = closed_at w g e request plan.state version plan.keep;
               replies = w.replies ++ reply_to request.sender (outcome_of plan.outcome);
             })
         unfolding spread
@@ -138,13 +143,13 @@ module _ (logic : Logic) (w : Whole) (g : Grain) (turn : ℕ) where
 
         -- a plan that sends nothing leaves the account
         pub end_silent_turn : plan.storage ≡ asks_nothing → plan.sends ≡ []
-            → whole_step logic w (End g turn) ≡ Some (record w { entries = map.insert w.entries g (closed_turn w e request plan.state version); replies = w.replies ++ reply_to request.sender (outcome_of plan.outcome) })
+            → whole_step logic w (End g turn) ≡ Some (record w { entries = closed_at w g e request plan.state version plan.keep; replies = w.replies ++ reply_to request.sender (outcome_of plan.outcome) })
         end_silent_turn asks silent = end_turn asks ∙ ap (λ sends. Some (ended_whole sends)) silent
 
         -- ---- Store
 
         abbrev unless : Bool → Effect → Effect
-        unless failed answer = if failed then closed (seen_at w g) e request state version keep (Err StorageFailed) else answer
+        unless failed answer = if failed then closed (seen_at w g) e request state version same keep (Err StorageFailed) else answer
 
         store_planned : (failed : Bool) (storage : StorageCall) (r : Option Effect) → plan.storage ≡ storage → stored_by logic (seen_at w g) g e request state version storage ≡ r
             → whole_step logic w (Store g turn failed) ≡ option_map (spread w g.tenant (Some g)) (option_map (unless failed) r)
@@ -167,7 +172,7 @@ module _ (logic : Logic) (w : Whole) (g : Grain) (turn : ℕ) where
 
         -- the storage failed
         pub store_failed : (storage : StorageCall) (answer : Effect) → plan.storage ≡ storage → stored_by logic (seen_at w g) g e request state version storage ≡ Some answer
-            → whole_step logic w (Store g turn true) ≡ Some (record w { entries = map.insert w.entries g (closed_turn w e request state version); replies = w.replies ++ reply_to request.sender (Err StorageFailed) })
+            → whole_step logic w (Store g turn true) ≡ Some (record w { entries = closed_at w g e request state version same; replies = w.replies ++ reply_to request.sender (Err StorageFailed) })
         unfolding spread
         store_failed storage answer asks h = store_planned true storage (Some answer) asks h
 
@@ -176,7 +181,7 @@ module _ (logic : Logic) (w : Whole) (g : Grain) (turn : ℕ) where
         -- the row is read again
         pub store_read : plan.storage ≡ reads_row
             → whole_step logic w (Store g turn false) ≡ Some (record w {
-              entries = map.insert w.entries g (closed_turn w e request (content_or (logic.empty g.kind) (map.get w.rows g)) (version_of (map.get w.rows g)));
+              entries = closed_at w g e request (content_or (logic.empty g.kind) (map.get w.rows g)) (version_of (map.get w.rows g)) same;
               replies = w.replies ++ reply_to request.sender (Ok (version_value (version_of (map.get w.rows g))));
             })
         unfolding spread
@@ -191,7 +196,7 @@ module _ (logic : Logic) (w : Whole) (g : Grain) (turn : ℕ) where
           -- the row was changed
           pub store_changed : (at : Option ℕ) (row : Change Row) → r ≡ Ok (at, row)
               → whole_step logic w (Store g turn false) ≡ Some (record w {
-                entries = map.insert w.entries g (closed_turn w e request new at);
+                entries = closed_at w g e request new at same;
                 rows = change_at w.rows g row;
                 replies = w.replies ++ reply_to request.sender (Ok (version_value at));
               })
@@ -200,7 +205,7 @@ module _ (logic : Logic) (w : Whole) (g : Grain) (turn : ℕ) where
 
           -- it has no version left
           pub store_spent : r ≡ Err spent
-              → whole_step logic w (Store g turn false) ≡ Some (record w { entries = map.insert w.entries g (closed_turn w e request state version); replies = w.replies ++ reply_to request.sender (Err (VersionsSpent g)) })
+              → whole_step logic w (Store g turn false) ≡ Some (record w { entries = closed_at w g e request state version same; replies = w.replies ++ reply_to request.sender (Err (VersionsSpent g)) })
           unfolding spread
           store_spent is = by_answer (Err spent) is
 

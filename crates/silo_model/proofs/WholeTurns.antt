@@ -10,6 +10,7 @@ use Rattle.grain_id.proofs.Order.{eq_by_cmp-Decides, grain_cmp_total, grain_cmp_
 use Rattle.silo_event.specs.Owner.{owner_of}
 use Rattle.silo_event.specs.declared.step.Step.{Step}
 use Rattle.silo_event.specs.declared.step.Step.TheVariants.{Begin, Tick, Sweep}
+use Rattle.idle_collector.specs.Ages.{kind_age}
 use Rattle.grain_kinds.specs.Logic.{Logic}
 use Rattle.grain_kinds.specs.Laws.{ReadersAskNothing}
 use Rattle.silo_model.specs.Machine.{Account, Entry, Request}
@@ -21,7 +22,7 @@ use Rattle.silo_model.proofs.Changes.{WhereChanged, get-change_same, get-change_
 use Rattle.silo_model.proofs.Moves.{turn_in, KeepsTurns, ClosesTurn, OpensTurn, TurnsMove, does_moves}
 use Rattle.silo_model.proofs.StepMoves.{IsFairMachine, sees_fair, due_is_bare}
 use Rattle.silo_model.proofs.Contexts.{get-own}
-use Rattle.silo_model.proofs.SharedSteps.{get-kept}
+use Rattle.silo_model.proofs.SharedSteps.{AgeOf, get-kept}
 use Rattle.silo_model.proofs.Sound.{IsSound}
 use Rattle.silo_model.proofs.Proper.{IsAt}
 use Rattle.silo_model.proofs.Isolation.{place_in, Did, did, did_does, did_proper, shared_by}
@@ -101,8 +102,10 @@ module _ (logic : Logic) (law : ReadersAskNothing logic) (w after : Whole) (s : 
   kept_turn clock age None false is n q open_turn = open_turn
   kept_turn clock age (Some e) false is n q open_turn = absurd (none-some q (sym (get-none e.turns n (due_is_bare clock age e is).1) ∙ open_turn))
 
-  sweep_keeps : (h : Grain) → KeepsTurns (map.get w.entries h) (map.get (kept_entries w.clock w.age w.entries) h)
-  sweep_keeps h n q open_turn = ap (λ o. turn_in o n) (get-kept w.clock w.age w.entries h) ∙ kept_turn w.clock w.age (map.get w.entries h) (is_kept w.clock w.age (map.get w.entries h)) refl n q open_turn
+  sweep_keeps : (age_of : AgeOf) (h : Grain) → KeepsTurns (map.get w.entries h) (map.get (kept_entries w.clock age_of w.entries) h)
+  sweep_keeps age_of h n q open_turn =
+      ap (λ o. turn_in o n) (get-kept w.clock age_of w.entries h)
+      ∙ kept_turn w.clock (age_of h.kind) (map.get w.entries h) (is_kept w.clock (age_of h.kind) (map.get w.entries h)) refl n q open_turn
 
   tick_keeps : (now : ℕ) (b : Bool) → (if b then Some (record w { clock = now }) else None) ≡ Some after → (h : Grain) → KeepsTurns (map.get w.entries h) (map.get after.entries h)
   tick_keeps now true is h = stays (ap (λ (x : Whole). map.get x.entries h) (sym (same_Some (record w { clock = now }) after is)))
@@ -110,7 +113,7 @@ module _ (logic : Logic) (law : ReadersAskNothing logic) (w after : Whole) (s : 
 
   shared_keep : (t : Step) → whole_shared_step w t ≡ Some after → (h : Grain) → KeepsTurns (map.get w.entries h) (map.get after.entries h)
   shared_keep (Tick now) is h = tick_keeps now (nat_le w.clock now) is h
-  shared_keep Sweep is h = subst (λ (x : Whole). KeepsTurns (map.get w.entries h) (map.get x.entries h)) (same_Some (whole_swept w) after is) (sweep_keeps h)
+  shared_keep Sweep is h = subst (λ (x : Whole). KeepsTurns (map.get w.entries h) (map.get x.entries h)) (same_Some (whole_swept w) after is) (sweep_keeps (kind_age w.ages w.age) h)
   shared_keep _ is h = absurd (none-some after is)
 
   -- ---- every step

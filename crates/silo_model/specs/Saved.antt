@@ -40,4 +40,4 @@ SavedComesBack = (logic : Logic) (w : Whole) (grain : Grain) (turn : ℕ) (state
     → all_done logic saved steps ≡ Some later → list_any (touches_row grain) steps ≡ false → map.get later.entries grain ≡ Some e
     → e.phase ≡ loading
     → (after : Whole) × (whole_step logic later (Load grain false) ≡ Some after)
-    × (map.get after.entries grain ≡ Some (record e { phase = ready state (Some version) })))
+    × (map.get after.entries grain ≡ Some (record e { phase = ready state (Some version); until = 0; resting = false })))

@@ -48,6 +48,8 @@ SentArrives =
       queue = record { number = account.count + 1; sender = party.Grain grain; call = outgoing.call } ∷ [];
       turns = map.empty;
       last = w.clock;
+      until = 0;
+      resting = false;
     }))
     × (map.get delivered.accounts grain.tenant
     ≡ Some (record account { count = account.count + 1; sends = account.sends ++ sent_by grain sending.others }))

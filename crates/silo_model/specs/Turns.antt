@@ -73,20 +73,29 @@ plan_of logic grain state request = logic.plan grain.kind request.call.method st
 abbrev pub without_turn : Entry → Request → Entry
 without_turn e request = record e { turns = finite.remove e.turns request.number }
 
--- what a turn that closes at this moment said of the activation, in the entry: that it rests, or until when it stays
-abbrev pub kept_by : ℕ → Keep → Entry → Entry
-kept_by clock same e = e
-kept_by clock rest e = record e { until = 0; resting = true }
-kept_by clock (stay time) e = record e { until = clock + time; resting = false }
+-- until when an entry stays after a turn that closed at this moment and said this, and whether it rests then
+abbrev pub until_by : ℕ → Keep → ℕ → ℕ
+until_by clock same until = until
+until_by clock rest until = 0
+until_by clock (stay time) until = clock + time
+
+abbrev pub resting_by : Keep → Bool → Bool
+resting_by same resting = resting
+resting_by rest resting = true
+resting_by (stay time) resting = false
 
 -- an entry that rests goes if it is idle, and any other stays
 abbrev pub stays_or_goes : Entry → Change Entry
 stays_or_goes e = if e.resting && is_idle e then drop else put e
 
--- The entry without the turn: ready with this state, on this version, and last used now.
+-- The entry without the turn: ready with this state, on this version, last used now, and as the turn said of it.
 abbrev pub closed_entry : ℕ → Entry → Request → Tree → Option ℕ → Keep → Entry
-closed_entry clock e request state version said =
-    kept_by clock said (record (without_turn e request) { phase = ready state version; last = clock })
+closed_entry clock e request state version said = record (without_turn e request) {
+  phase = ready state version;
+  last = clock;
+  until = until_by clock said e.until;
+  resting = resting_by said e.resting;
+}
 
 -- The turn is closed, and its request answered. The entry goes if it rests and is idle now, and else stays ready.
 abbrev pub closed : Context → Entry → Request → Tree → Option ℕ → Keep → Change Row → Result Tree Fault → Effect
@@ -166,10 +175,14 @@ stored logic s grain failed e request (ready state version) =
 
 -- ---- a turn that ran out of memory
 
+-- The entry without the turn, last used now.
+abbrev pub abandoned_entry : ℕ → Entry → Request → Entry
+abandoned_entry clock e request = record (without_turn e request) { last = clock }
+
 abbrev pub abandoned : Context → Entry → Request → Effect
 abandoned s e request = record {
   account = keep;
-  entry = stays_or_goes (record (without_turn e request) { last = s.clock });
+  entry = stays_or_goes (abandoned_entry s.clock e request);
   row = keep;
   replies = reply_to request.sender (Err NoMemory);
 }

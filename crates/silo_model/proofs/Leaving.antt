@@ -1,0 +1,38 @@
+-- Whether an entry goes as its turn closes: if it rests and is idle then.
+use Rattle.std.proofs.Common.{◌≡◌, ◌==◌, Bool, true, false, length, [], refl, ap}
+use Rattle.std.specs.Prelude.{◌&&◌, if◌then◌else◌}
+use Rattle.std.specs.FinMap as map
+use Rattle.std.proofs.lemmas.Bool.{eqb-true, and_parts, and_from, and_left, and_right}
+use Rattle.std.proofs.lemmas.List.{nil_from_length}
+use Rattle.silo_model.specs.Machine.{Entry}
+use Rattle.silo_model.specs.Effect.{Change, put, drop}
+use Rattle.silo_model.specs.Idle.{is_ready, is_idle}
+use Rattle.silo_model.specs.Turns.{stays_or_goes}
+
+module _ (e : Entry) where
+  -- an idle entry is ready, no request waits, and no turn is open
+  pub idle_parts : is_idle e ≡ true → (is_ready e.phase ≡ true) × (e.queue ≡ []) × (map.len e.turns ≡ 0)
+  idle_parts idle =
+      let both = and_parts (is_ready e.phase && (length e.queue == 0)) (map.len e.turns == 0) idle in
+      let first = and_parts (is_ready e.phase) (length e.queue == 0) both.0 in
+      (first.0, nil_from_length e.queue (eqb-true (length e.queue) 0 first.1), eqb-true (map.len e.turns) 0 both.1)
+
+  abbrev by_test : Bool → Change Entry
+  by_test b = if b then drop else put e
+
+  -- what holds where it goes and where it stays
+  pub stays_or_goes_by : (P : Change Entry → Type 0) → (e.resting && is_idle e ≡ true → P drop) → (e.resting && is_idle e ≡ false → P (put e)) → P (stays_or_goes e)
+  stays_or_goes_by P goes stays = by_case (e.resting && is_idle e) refl
+    where
+      by_case : (b : Bool) → e.resting && is_idle e ≡ b → P (by_test b)
+      by_case true is = goes is
+      by_case false is = stays is
+
+  pub resting_goes : e.resting ≡ true → is_idle e ≡ true → stays_or_goes e ≡ drop
+  resting_goes rests idle = ap by_test (and_from e.resting (is_idle e) rests idle)
+
+  pub awake_stays : e.resting ≡ false → stays_or_goes e ≡ put e
+  awake_stays awake = ap by_test (and_left e.resting (is_idle e) awake)
+
+  pub busy_stays : is_idle e ≡ false → stays_or_goes e ≡ put e
+  busy_stays busy = ap by_test (and_right e.resting (is_idle e) busy)
