@@ -14,16 +14,17 @@ use Rattle.silo_event.specs.declared.fault.Fault.{Fault}
 use Rattle.silo_event.specs.declared.fault.Fault.TheVariants.{StorageFailed, StateChanged, VersionsSpent, NoMemory}
 use Rattle.silo_event.specs.declared.step.Step.{Step}
 use Rattle.silo_event.specs.declared.step.Step.TheVariants.{Store, End, Abandon}
-use Rattle.grain_kinds.specs.Logic.{Logic, Plan, StorageCall, asks_nothing, reads_row, writes_row, clears_row}
+use Rattle.grain_kinds.specs.Logic.{Logic, Plan, StorageCall, asks_nothing, reads_row, writes_row, clears_row, Keep, same}
 use Rattle.silo_model.specs.Collected.{IsIdle}
 use Rattle.silo_model.specs.Machine.{Entry, Entries, Request, ready}
 use Rattle.silo_model.specs.Effect.{Change, Effect, change_at}
 use Rattle.silo_model.specs.Calls.{reply_to}
 use Rattle.silo_model.specs.Stores.{row_written, row_cleared, version_value}
-use Rattle.silo_model.specs.Turns.{plan_of, outcome_of, ends_activation, row_changed, stored_by}
+use Rattle.silo_model.specs.Turns.{plan_of, closed_entry, outcome_of, ends_activation, row_changed, stored_by, abandoned_entry}
 use Rattle.silo_model.specs.Whole.{Whole, whole_step}
 use Rattle.silo_model.specs.Run.{whole_run}
-use Rattle.silo_model.proofs.TurnSteps.{closed_turn, seen_at, end_turn, end_reads, end_writes, end_clears, store_read, store_changed, store_spent, store_stale, store_failed, abandon_turn}
+use Rattle.silo_model.proofs.Leaving.{stays_or_goes_by}
+use Rattle.silo_model.proofs.TurnSteps.{left_at, closed_at, seen_at, end_turn, end_reads, end_writes, end_clears, store_read, store_changed, store_spent, store_stale, store_failed, abandon_turn}
 use Rattle.answer_model.specs.Answering.{Closing, well, storage_failed, out_of_memory, whole_stepper, ending, closing}
 
 -- nothing changed at other grains
@@ -65,6 +66,13 @@ answers_gone w after g q outcome put replies = record {
   replies = replies;
 }
 
+-- by the entry that is left: idle, it goes if it rests
+answers_left : (w after : Whole) (g : Grain) (q : Request) (x : Entry) (outcome : Result Tree Fault) → after.entries ≡ left_at w g x → IsIdle x
+    → after.replies ≡ w.replies ++ reply_to q.sender outcome → Answers w after g q
+answers_left w after g q x outcome left idle replies =
+    stays_or_goes_by x (λ c. after.entries ≡ change_at w.entries g c → Answers w after g q) (λ _ goes. answers_gone w after g q outcome goes replies)
+    (λ _ stays. answers_put w after g q x outcome stays idle replies) left
+
 -- the whole after a step that is done or isn't
 pub run_done : (logic : Logic) (w after : Whole) (s : Step) (steps : List Step) → whole_step logic w s ≡ Some after → whole_run logic w (s ∷ steps) ≡ whole_run logic after steps
 run_done logic w after s steps step = ap (λ o. whole_run logic (unwrap_or o w) steps) step
@@ -77,12 +85,12 @@ module _ (logic : Logic) (w : Whole) (g : Grain) (e : Entry) (found : map.get w.
   abbrev plan : Plan
   plan = plan_of logic g state q
 
-  closed_idle : (new : Tree) (at : Option ℕ) → IsIdle (closed_turn w e q new at)
-  closed_idle new at = record { state = new; version = at; phase = refl; nothing_waits = queue; none_open = none }
+  closed_idle : (new : Tree) (at : Option ℕ) (said : Keep) → IsIdle (closed_entry w.clock e q new at said)
+  closed_idle new at said = record { state = new; version = at; phase = refl; nothing_waits = queue; none_open = none }
 
-  put_answers : (new : Tree) (at : Option ℕ) (outcome : Result Tree Fault) (after : Whole) → after.entries ≡ map.insert w.entries g (closed_turn w e q new at)
+  left_answers : (new : Tree) (at : Option ℕ) (said : Keep) (outcome : Result Tree Fault) (after : Whole) → after.entries ≡ closed_at w g e q new at said
       → after.replies ≡ w.replies ++ reply_to q.sender outcome → Answers w after g q
-  put_answers new at outcome after put replies = answers_put w after g q (closed_turn w e q new at) outcome put (closed_idle new at) replies
+  left_answers new at said outcome after left replies = answers_left w after g q (closed_entry w.clock e q new at said) outcome left (closed_idle new at said) replies
 
   abbrev AnswersBy : List Step → Type 0
   AnswersBy steps = Answers w (whole_run logic w steps) g q
@@ -98,11 +106,11 @@ module _ (logic : Logic) (w : Whole) (g : Grain) (e : Entry) (found : map.get w.
   changed storage asks new (Ok done) changes =
       by_done _ (Store g q.number false)
       (store_changed logic w g q.number e found q open_turn state version is plan refl storage asks new (Ok done) changes done.0 done.1 refl)
-      (put_answers new done.0 (Ok (version_value done.0)) _ refl refl)
+      (left_answers new done.0 same (Ok (version_value done.0)) _ refl refl)
   changed storage asks new (Err spent) changes =
       by_done _ (Store g q.number false)
       (store_spent logic w g q.number e found q open_turn state version is plan refl storage asks new (Err spent) changes refl)
-      (put_answers state version (Err (VersionsSpent g)) _ refl refl)
+      (left_answers state version same (Err (VersionsSpent g)) _ refl refl)
   changed storage asks new (Err (stale there)) changes =
       by_done _ (Store g q.number false)
       (store_stale logic w g q.number e found q open_turn state version is plan refl storage asks new (Err (stale there)) changes there refl)
@@ -113,7 +121,7 @@ module _ (logic : Logic) (w : Whole) (g : Grain) (e : Entry) (found : map.get w.
   failed storage answer asks h =
       by_done _ (Store g q.number true)
       (store_failed logic w g q.number e found q open_turn state version is plan refl storage answer asks h)
-      (put_answers state version (Err StorageFailed) _ refl refl)
+      (left_answers state version same (Err StorageFailed) _ refl refl)
 
   -- ---- by the plan, or else by the storage
 
@@ -127,11 +135,11 @@ module _ (logic : Logic) (w : Whole) (g : Grain) (e : Entry) (found : map.get w.
   ended_by b asks_nothing asks =
       let ended = end_turn logic w g q.number e found q open_turn state version is plan refl asks in
       subst AnswersBy (sym (ap (λ o. if is_some o then End g q.number ∷ [] else Store g q.number b ∷ []) ended))
-      (by_done _ (End g q.number) ended (put_answers plan.state version (outcome_of plan.outcome) _ refl refl))
+      (by_done _ (End g q.number) ended (left_answers plan.state version plan.keep (outcome_of plan.outcome) _ refl refl))
   ended_by false reads_row asks =
       not_ended false (end_reads logic w g q.number e found q open_turn state version is plan refl asks)
       (by_done _ (Store g q.number false) (store_read logic w g q.number e found q open_turn state version is plan refl asks)
-      (put_answers (content_or (logic.empty g.kind) (map.get w.rows g)) (version_of (map.get w.rows g)) (Ok (version_value (version_of (map.get w.rows g)))) _ refl refl))
+      (left_answers (content_or (logic.empty g.kind) (map.get w.rows g)) (version_of (map.get w.rows g)) same (Ok (version_value (version_of (map.get w.rows g)))) _ refl refl))
   ended_by true reads_row asks =
       not_ended true (end_reads logic w g q.number e found q open_turn state version is plan refl asks) (failed reads_row _ asks refl)
   ended_by false writes_row asks =
@@ -150,5 +158,5 @@ module _ (logic : Logic) (w : Whole) (g : Grain) (e : Entry) (found : map.get w.
   closes storage_failed = ended_by true plan.storage refl
   closes out_of_memory =
       by_done _ (Abandon g q.number) (abandon_turn logic w g q.number e found q open_turn)
-      (answers_put w _ g q (record e { turns = map.remove e.turns q.number; last = w.clock }) (Err NoMemory) refl
+      (answers_left w _ g q (abandoned_entry w.clock e q) (Err NoMemory) refl
       (record { state = state; version = version; phase = is; nothing_waits = queue; none_open = none }) refl)

@@ -77,7 +77,7 @@ module _ (logic : Logic) (w : Whole) (g : Grain) (q : Request) where
   loads e found queue none is false =
       let state = content_or (logic.empty g.kind) (map.get w.rows g) in
       let version = version_of (map.get w.rows g) in
-      let new : Entry = record e { phase = ready state version } in
+      let new : Entry = record e { phase = ready state version; until = 0; resting = false } in
       let after : Whole = record w { entries = map.insert w.entries g new } in
       subst (λ x. Raises w x g q) (sym (run_done logic w after (Load g false) [] (load_loading logic w g e found is)))
       (inl (record {

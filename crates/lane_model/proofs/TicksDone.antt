@@ -8,8 +8,7 @@ use Rattle.silo_event.specs.declared.step.Step.{Step}
 use Rattle.silo_event.specs.declared.step.Step.TheVariants.{Tick, Sweep}
 use Rattle.grain_kinds.specs.Logic.{Logic}
 use Rattle.silo_model.specs.Machine.{Machine}
-use Rattle.silo_model.specs.Idle.{kept_entries}
-use Rattle.silo_model.specs.Step.{machine_step}
+use Rattle.silo_model.specs.Step.{swept, machine_step}
 use Rattle.silo_model.specs.Run.{done_by, if_possible}
 use Rattle.lane_model.specs.Lanes.{may_give, without_ticks_below, TicksAreDone}
 
@@ -34,7 +33,7 @@ module _ (logic : Logic) where
 
   sweep_done : (m : Machine) (steps : List Step) → ((x : Machine) → done x steps ≡ without_ticks_below x.clock steps) → done m (Sweep ∷ steps) ≡ without_ticks_below m.clock (Sweep ∷ steps)
   unfolding machine_step
-  sweep_done m steps rest = ap (λ xs. Sweep ∷ xs) (rest (record m { entries = kept_entries m.clock m.age m.entries }))
+  sweep_done m steps rest = ap (λ xs. Sweep ∷ xs) (rest (swept m))
 
   one_done : (m : Machine) (s : Step) (steps : List Step) → may_give None s ≡ true → ((x : Machine) → done x steps ≡ without_ticks_below x.clock steps) → done m (s ∷ steps) ≡ without_ticks_below m.clock (s ∷ steps)
   one_done m (Tick now) steps own rest = tick_done m now steps rest

@@ -1,38 +1,41 @@
--- A counter's turn asks nothing of the storage and sends nothing, so every End of an open turn closes it.
-use Rattle.std.proofs.Common.{◌≡◌, ℕ, Bool, true, false, List, [], Option, Some, None, refl}
+-- A counter's turn asks nothing of the storage, sends nothing and says nothing of the activation, so every End of an open turn closes it.
+use Rattle.std.proofs.Common.{◌≡◌, ℕ, Bool, true, false, List, [], Option, Some, None, refl, ap, ◌∙◌}
 use Rattle.std.specs.Prelude.{codes, if◌then◌else◌, Result, Ok, Err, ℤ, ◌+ℤ◌, ◌++◌}
 use Rattle.std.specs.FinMap as map
 use Rattle.grain_id.specs.Names.{Grain, same_text}
 use Rattle.request_codec.specs.Tree.{Tree, integer}
 use Rattle.grain_kinds.specs.declared.fault.MethodFault.{MethodFault}
 use Rattle.grain_kinds.specs.declared.fault.MethodFault.TheVariants.{UnknownMethod, Misfit, OutOfRange}
-use Rattle.grain_kinds.specs.Logic.{Plan, asks_nothing}
+use Rattle.grain_kinds.specs.Logic.{Plan, asks_nothing, same}
 use Rattle.grain_kinds.specs.Shared.{keeps, becomes, is_null, for_shape, for_null, integer_field}
 use Rattle.grain_kinds.specs.Counter.{add_plan, get_plan, fits_64, number_of, number_plan}
 use Rattle.grain_kinds.specs.Counters.{counters}
 use Rattle.silo_event.specs.declared.step.Step.TheVariants.{End}
 use Rattle.silo_model.specs.Machine.{Entry, Request, ready}
 use Rattle.silo_model.specs.Calls.{reply_to}
-use Rattle.silo_model.specs.Turns.{plan_of, outcome_of}
+use Rattle.silo_model.specs.Effect.{change_at}
+use Rattle.silo_model.specs.Turns.{plan_of, stays_or_goes, closed_entry, outcome_of}
 use Rattle.silo_model.specs.Whole.{Whole, whole_step}
-use Rattle.silo_model.proofs.TurnSteps.{closed_at, end_silent_turn}
+use Rattle.silo_model.proofs.TurnSteps.{end_silent_turn}
+use Rattle.silo_model.proofs.Leaving.{awake_stays}
 
 pub record IsSilent (plan : Plan) : Type 0 where
   pub storage : plan.storage ≡ asks_nothing
   pub sends : plan.sends ≡ []
+  pub keep : plan.keep ≡ same
 
 either : (b : Bool) (p q : Plan) → IsSilent p → IsSilent q → IsSilent (if b then p else q)
 either true p q h k = h
 either false p q h k = k
 
 keeps_silent : (state : Tree) (outcome : Result Tree MethodFault) → IsSilent (keeps state outcome)
-keeps_silent state outcome = record { storage = refl; sends = refl }
+keeps_silent state outcome = record { storage = refl; sends = refl; keep = refl }
 
 add_silent : (state : Tree) (by : Option ℤ) → IsSilent (for_shape state by (add_plan state))
 add_silent state None = keeps_silent state (Err Misfit)
 add_silent state (Some by) =
     let sum = number_of state +ℤ by in
-    either (fits_64 sum) (becomes (integer sum) (integer sum)) (keeps state (Err OutOfRange)) (record { storage = refl; sends = refl }) (keeps_silent state (Err OutOfRange))
+    either (fits_64 sum) (becomes (integer sum) (integer sum)) (keeps state (Err OutOfRange)) (record { storage = refl; sends = refl; keep = refl }) (keeps_silent state (Err OutOfRange))
 
 get_silent : (state argument : Tree) → IsSilent (for_null state argument (get_plan state))
 get_silent state argument = either (is_null argument) (get_plan state) (keeps state (Err Misfit)) (keeps_silent state (Ok (integer (number_of state)))) (keeps_silent state (Err Misfit))
@@ -46,13 +49,17 @@ counter_silent kind method state argument =
     either (same_text method (codes "add")) (for_shape state by (add_plan state)) (if same_text method (codes "get") then get else unknown) (add_silent state by)
     (either (same_text method (codes "get")) get unknown (get_silent state argument) (keeps_silent state (Err UnknownMethod)))
 
--- a counter's turn is closed by its plan
+-- a counter's turn is closed by its plan, and its entry stays if it doesn't rest
 pub end_counter : (w : Whole) (g : Grain) (turn : ℕ) (e : Entry) (request : Request) (state : Tree) (version : Option ℕ)
-    → map.get w.entries g ≡ Some e → map.get e.turns turn ≡ Some request → e.phase ≡ ready state version
+    → map.get w.entries g ≡ Some e → map.get e.turns turn ≡ Some request → e.phase ≡ ready state version → e.resting ≡ false
     → whole_step counters w (End g turn) ≡ Some (record w {
-      entries = closed_at w g e request (plan_of counters g state request).state version (plan_of counters g state request).keep;
+      entries = map.insert w.entries g (closed_entry w.clock e request (plan_of counters g state request).state version same);
       replies = w.replies ++ reply_to request.sender (outcome_of (plan_of counters g state request).outcome);
     })
-end_counter w g turn e request state version found open_turn is =
+end_counter w g turn e request state version found open_turn is awake =
+    let plan = plan_of counters g state request in
     let silent = counter_silent g.kind request.call.method state request.call.argument in
-    end_silent_turn counters w g turn e found request open_turn state version is (plan_of counters g state request) refl silent.storage silent.sends
+    end_silent_turn counters w g turn e found request open_turn state version is plan refl silent.storage silent.sends
+    ∙ ap (λ c. Some (record w { entries = change_at w.entries g c; replies = w.replies ++ reply_to request.sender (outcome_of plan.outcome) }))
+    (ap (λ said. stays_or_goes (closed_entry w.clock e request plan.state version said)) silent.keep
+    ∙ awake_stays (closed_entry w.clock e request plan.state version same) awake)

@@ -23,15 +23,14 @@ use Rattle.silo_event.specs.declared.step.Step.{Step}
 use Rattle.silo_event.specs.declared.step.Step.TheVariants.{Call, Activate, Load, Begin, End}
 use Rattle.silo_model.specs.Machine.{Account, Entry, Request, loading, waiting, ready}
 use Rattle.silo_model.specs.Calls.{told, reply_to, last_number}
-use Rattle.silo_model.specs.Turns.{plan_of, outcome_of}
-use Rattle.grain_kinds.specs.Logic.{Logic, Plan}
+use Rattle.silo_model.specs.Turns.{plan_of, closed_entry, outcome_of}
+use Rattle.grain_kinds.specs.Logic.{Logic, Plan, same}
 use Rattle.silo_model.specs.Whole.{Whole, whole_step}
 use Rattle.silo_model.specs.Opening.{Setup, fresh_account, opening}
 use Rattle.silo_model.specs.Journal.{all_done, LeadsTo}
 use Rattle.silo_model.specs.FirstCall.{add_call, first_call, FirstCallAnswered}
 use Rattle.silo_model.proofs.CallSteps.{next_request, call_new}
 use Rattle.silo_model.proofs.EntrySteps.{activate_waiting, load_loading, begin_first}
-use Rattle.silo_model.proofs.TurnSteps.{closed_at}
 use Rattle.silo_model.proofs.Counters.{end_counter}
 use Rattle.silo_model.proofs.Opening.{get-fresh_accounts, no_entry_of}
 use Rattle.silo_model.proofs.Fair.{may_open_alone}
@@ -93,7 +92,7 @@ module _ (w : Whole) (a : Account) (caller : Client) (id : ℕ) (g : Grain) (n :
 
   abbrev pub after_end : Whole
   after_end = record after_begin {
-    entries = closed_at after_begin g entry_begun request plan.state (version_of (map.get w.rows g)) plan.keep;
+    entries = map.insert after_begin.entries g (closed_entry w.clock entry_begun request plan.state (version_of (map.get w.rows g)) same);
     replies = w.replies ++ reply_to request.sender (outcome_of plan.outcome);
   }
 
@@ -120,7 +119,7 @@ module _ (w : Whole) (a : Account) (caller : Client) (id : ℕ) (g : Grain) (n :
       let activated = activate_waiting counters after_call g entry_called (put_there w.entries entry_called) refl in
       let loaded = load_loading counters after_activate g entry_activated (put_there after_call.entries entry_activated) refl in
       let begun = begin_first counters after_load g entry_loaded (put_there after_activate.entries entry_loaded) state_loaded version request [] refl refl (may_open_alone counters g entry_loaded request (map.len-empty nat_cmp Request)) in
-      let ended = end_counter after_begin g request.number entry_begun request state_loaded version (put_there after_load.entries entry_begun) (get-insert_same nat_cmp_total nat_cmp-IsAntisymmetric map.empty request.number request) refl in
+      let ended = end_counter after_begin g request.number entry_begun request state_loaded version (put_there after_load.entries entry_begun) (get-insert_same nat_cmp_total nat_cmp-IsAntisymmetric map.empty request.number request) refl refl in
       then_done counters w after_call after_end (Call caller id g (add_call n)) activates called
       (then_done counters after_call after_activate after_end (Activate g) loads activated
       (then_done counters after_activate after_load after_end (Load g false) beginning loaded
