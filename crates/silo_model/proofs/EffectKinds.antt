@@ -1,8 +1,8 @@
 -- What an effect can be: each step's is one of a few, so that what holds of each of these holds of every step.
 use Rattle.std.proofs.Common.{◌≡◌, ℕ, ◌==◌, Bool, true, false, List, [], ◌∷◌, Option, Some, None, refl, ap, sym, ◌∙◌, subst, true≢false, inl, inr}
-use Rattle.std.specs.Prelude.{◌⊎◌, Result, Ok, Err, option_map, option_and_then, nat_lt, length, if◌then◌else◌}
+use Rattle.std.specs.Prelude.{◌⊎◌, ◌&&◌, Result, Ok, Err, option_map, option_and_then, nat_lt, length, if◌then◌else◌}
 use Rattle.std.specs.FinMap as map
-use Rattle.std.proofs.lemmas.Bool.{and_parts}
+use Rattle.std.proofs.lemmas.Bool.{and_parts, and_right}
 use Rattle.grain_id.specs.Names.{Grain, grain_eq, same_text}
 use Rattle.grain_id.proofs.Order.{same_text_decides}
 use Rattle.request_codec.specs.Tree.{Tree}
@@ -23,7 +23,7 @@ use Rattle.silo_model.specs.Calls.{reply_to, told, kind_gate, gate, room, admitt
 use Rattle.silo_model.specs.Asks.{row_told, poke_settled, poked, status_told}
 use Rattle.silo_model.specs.Sends.{first_from, first_target, on_account, delivered_to, delivered}
 use Rattle.silo_model.specs.Stores.{row_poked, row_written, row_cleared}
-use Rattle.silo_model.specs.Turns.{activated, unloaded, loaded, may_open, opened, opened_if_ready, plan_of, stays_or_goes, closed_entry, closed, with_sends}
+use Rattle.silo_model.specs.Turns.{activated, unloaded, loaded, may_open, opened, opened_if_ready, plan_of, without_turn, until_by, resting_by, stays_or_goes, closed_entry, closed, with_sends}
 use Rattle.silo_model.specs.Turns.{ended_by, ended, ends_activation, row_changed, stored_by, stored, abandoned_entry, abandoned}
 use Rattle.silo_model.specs.Idle.{is_ready, is_idle}
 use Rattle.silo_model.specs.Step.{grain_of, at_turn, effect_of}
@@ -80,15 +80,34 @@ pub data Remains (o : Option Account) : Change Account → Type 0 where
 abbrev pub Stores : Logic → Grain → Request → Type 0
 Stores logic g request = (state : Tree) × ((plan_of logic g state request).storage ≡ asks_nothing → ⊥)
 
+-- what a turn that closes may say of the activation: nothing, or what its plan says
+abbrev pub MaySay : Logic → Grain → Request → Keep → Type 0
+MaySay logic g request said = (said ≡ same) ⊎ ((state : Tree) × ((plan_of logic g state request).keep ≡ said))
+
+-- The entry stays and rests as the turn said, and isn't one that rests and is idle.
+pub record IsAsSaid (logic : Logic) (g : Grain) (e : Entry) (request : Request) (new : Entry) : Type 0 where
+  pub said : Keep
+  pub may_say : MaySay logic g request said
+  pub clock : ℕ
+  pub until : new.until ≡ until_by clock said e.until
+  pub resting : new.resting ≡ resting_by said e.resting
+  pub busy : new.resting && is_idle new ≡ false
+
 -- what an entry comes to where a turn is closed: it holds what it held but for the turn, or is gone
 pub data IsLeft (logic : Logic) (g : Grain) (e : Entry) (request : Request) : Change Entry → Type 0 where
   stays : (new : Entry) → new.queue ≡ e.queue → new.turns ≡ map.remove e.turns request.number
-      → (is_ready new.phase ≡ false → (is_ready e.phase ≡ false) ⊎ Stores logic g request) → IsLeft logic g e request (put new)
+      → (is_ready new.phase ≡ false → (is_ready e.phase ≡ false) ⊎ Stores logic g request) → IsAsSaid logic g e request new
+      → IsLeft logic g e request (put new)
   goes : e.queue ≡ [] → (map.len (map.remove e.turns request.number) ≡ 0) ⊎ Stores logic g request → IsLeft logic g e request drop
 
 -- the step may change the row of this grain, and of no other
 abbrev pub Touches : Step → Grain → Type 0
 Touches step g = (h : Grain) → touches_row h step ≡ grain_eq g h
+
+-- an entry that isn't ready goes on as it was, or it gets ready, and then neither stays nor rests
+abbrev pub IsEntered : Entry → Phase → ℕ → Bool → Type 0
+IsEntered e phase until resting =
+    ((is_ready phase ≡ false) × (until ≡ e.until) × (resting ≡ e.resting)) ⊎ ((until ≡ 0) × (resting ≡ false))
 
 -- What the step does, by what it is to its owner, at its grain or at none.
 pub data Does (logic : Logic) (s : Context) (step : Step) : Role → Option Grain → Effect → Type 0 where
@@ -104,6 +123,7 @@ pub data Does (logic : Logic) (s : Context) (step : Step) : Role → Option Grai
       → Does logic s step (asks p) (Some g) (accepted s p call a)
   -- an entry that isn't ready goes on
   goes_on : (g : Grain) (e : Entry) (phase : Phase) (until : ℕ) (resting : Bool) → s.entry ≡ Some e → is_ready e.phase ≡ false
+      → IsEntered e phase until resting
       → Does logic s step (enters g) (Some g) (on_entry (record e { phase = phase; until = until; resting = resting }))
   -- it is given up, and each that waits is told so
   unloads : (g : Grain) (e : Entry) → s.entry ≡ Some e → is_ready e.phase ≡ false → Does logic s step (enters g) (Some g) (unloaded e)
@@ -229,14 +249,14 @@ module _ (logic : Logic) (s : Context) (step : Step) where
     Beginning = Doing logic s step (begins g) (Some g)
 
     activated_does : (p : Phase) → e.phase ≡ p → Entering (activated e p)
-    activated_does waiting phase = goes_on g e loading e.until e.resting is (ap is_ready phase)
+    activated_does waiting phase = goes_on g e loading e.until e.resting is (ap is_ready phase) (inl (refl, refl, refl))
     activated_does loading phase = tt
     activated_does (ready state version) phase = tt
 
     loaded_does : (failed : Bool) (p : Phase) → e.phase ≡ p → Entering (loaded logic s g failed e p)
     loaded_does failed waiting phase = tt
     loaded_does true loading phase = unloads g e is (ap is_ready phase)
-    loaded_does false loading phase = goes_on g e (ready (content_or (logic.empty g.kind) s.row) (version_of s.row)) 0 false is (ap is_ready phase)
+    loaded_does false loading phase = goes_on g e (ready (content_or (logic.empty g.kind) s.row) (version_of s.row)) 0 false is (ap is_ready phase) (inr (refl, refl))
     loaded_does failed (ready state version) phase = tt
 
     opened_does : (queue : List Request) → e.queue ≡ queue → is_ready e.phase ≡ true → Beginning (opened logic g e queue)
@@ -258,45 +278,51 @@ module _ (logic : Logic) (s : Context) (step : Step) where
 module _ (logic : Logic) (s : Context) (g : Grain) (turn : ℕ) (e : Entry) (request : Request) (is : s.entry ≡ Some e)
     (open_turn : map.get e.turns turn ≡ Some request) where
   -- it goes if it rests and is idle without the turn
-  left_by : (new : Entry) → new.queue ≡ e.queue → new.turns ≡ map.remove e.turns request.number
-      → (is_ready new.phase ≡ false → (is_ready e.phase ≡ false) ⊎ Stores logic g request) → IsLeft logic g e request (stays_or_goes new)
-  left_by new queue turns rests =
+  left_by : (new : Entry) (said : Keep) → new.queue ≡ e.queue → new.turns ≡ map.remove e.turns request.number
+      → (is_ready new.phase ≡ false → (is_ready e.phase ≡ false) ⊎ Stores logic g request) → MaySay logic g request said
+      → new.until ≡ until_by s.clock said e.until → new.resting ≡ resting_by said e.resting → IsLeft logic g e request (stays_or_goes new)
+  left_by new said queue turns rests may_say until resting =
       stays_or_goes_by new (λ left. IsLeft logic g e request left)
       (λ both.
       let parts = idle_parts new (and_parts new.resting (is_idle new) both).1 in
       goes (sym queue ∙ parts.1) (inl (ap (λ (t : Turns). map.len t) (sym turns) ∙ parts.2)))
-      (λ _. stays new queue turns rests)
+      (λ busy.
+      stays new queue turns rests (record { said = said; may_say = may_say; clock = s.clock; until = until; resting = resting; busy = busy }))
 
-  ready_left : (state : Tree) (version : Option ℕ) (said : Keep)
+  ready_left : (state : Tree) (version : Option ℕ) (said : Keep) → MaySay logic g request said
       → IsLeft logic g e request (stays_or_goes (closed_entry s.clock e request state version said))
-  ready_left state version said = left_by (closed_entry s.clock e request state version said) refl refl (λ isnt. absurd (true≢false isnt))
+  ready_left state version said may_say =
+      left_by (closed_entry s.clock e request state version said) said refl refl (λ isnt. absurd (true≢false isnt)) may_say refl refl
 
   abbrev Closing : Step → Option Effect → Type 0
   Closing step o = Doing logic s step (ends g turn) (Some g) o
 
-  ended_by_does : (version : Option ℕ) (plan : Plan) (storage : StorageCall)
+  ended_by_does : (version : Option ℕ) (plan : Plan) (storage : StorageCall) → MaySay logic g request plan.keep
       → Closing (End g turn) (ended_by s g e request version plan storage)
-  ended_by_does version plan asks_nothing =
-      closes g turn e request _ plan.sends keep _ is open_turn (ready_left plan.state version plan.keep) (inr refl) (inl refl)
-  ended_by_does version plan reads_row = tt
-  ended_by_does version plan writes_row = tt
-  ended_by_does version plan clears_row = tt
+  ended_by_does version plan asks_nothing may_say =
+      closes g turn e request _ plan.sends keep _ is open_turn (ready_left plan.state version plan.keep may_say) (inr refl) (inl refl)
+  ended_by_does version plan reads_row may_say = tt
+  ended_by_does version plan writes_row may_say = tt
+  ended_by_does version plan clears_row may_say = tt
 
   ended_does : (p : Phase) → Closing (End g turn) (ended logic s g e request p)
   ended_does waiting = tt
   ended_does loading = tt
   ended_does (ready state version) =
       let plan = plan_of logic g state request in
-      ended_by_does version plan plan.storage
+      ended_by_does version plan plan.storage (inr (state, refl))
 
   abandoned_does : Closing (Abandon g turn) (Some (abandoned s e request))
   abandoned_does =
-      closes g turn e request _ [] keep (Err NoMemory) is open_turn (left_by (abandoned_entry s.clock e request) refl refl (λ isnt. inl isnt)) (inl refl) (inl refl)
+      closes g turn e request _ [] keep (Err NoMemory) is open_turn
+      (left_by (abandoned_entry s.clock e request) same refl refl (λ isnt. inl isnt) (inl refl) refl refl) (inl refl) (inl refl)
 
   activation_left : (queue : List Request) → e.queue ≡ queue → Stores logic g request
       → IsLeft logic g e request (ends_activation e request queue)
   activation_left [] none asks_some = goes none (inr asks_some)
-  activation_left (first ∷ others) some asks_some = stays _ refl refl (λ _. inr asks_some)
+  activation_left (first ∷ others) some asks_some =
+      stays (record (without_turn e request) { phase = waiting }) refl refl (λ _. inr asks_some)
+      (record { said = same; may_say = inl refl; clock = s.clock; until = refl; resting = refl; busy = and_right e.resting false refl })
 
   module _ (failed : Bool) (state : Tree) (version : Option ℕ) where
     abbrev Storing : Option Effect → Type 0
@@ -305,7 +331,7 @@ module _ (logic : Logic) (s : Context) (g : Grain) (turn : ℕ) (e : Entry) (req
     closed_does : (new : Tree) (at : Option ℕ) (row : Change Row) (outcome : Result Tree Fault)
         → Storing (Some (closed s e request new at same row outcome))
     closed_does new at row outcome =
-        closes g turn e request _ [] row outcome is open_turn (ready_left new at same) (inl refl) (inr (λ h. refl))
+        closes g turn e request _ [] row outcome is open_turn (ready_left new at same (inl refl)) (inl refl) (inr (λ h. refl))
 
     row_changed_does : (new : Tree) (r : Result (Option ℕ × Change Row) RowFault) → Stores logic g request
         → Storing (Some (row_changed s g e request state version new r))

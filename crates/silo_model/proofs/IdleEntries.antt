@@ -1,13 +1,13 @@
 -- Which entries a sweep takes.
-use Rattle.std.proofs.Common.{◌≡◌, ℕ, ◌+◌, ◌≤◌, ◌<◌, ◌==◌, Bool, true, false, not, cond, length, Option, Some, None, refl, ap, sym, ◌∙◌, arith, true≢false}
+use Rattle.std.proofs.Common.{◌≡◌, ℕ, ◌≤◌, ◌<◌, ◌==◌, Bool, true, false, not, cond, length, Option, Some, None, refl, ap, sym, ◌∙◌, arith, true≢false}
 use Rattle.std.specs.Prelude.{◌&&◌, nat_le}
 use Rattle.std.specs.FinMap as map
-use Rattle.std.proofs.lemmas.Bool.{eqb-true, eq-eqb}
+use Rattle.std.proofs.lemmas.Bool.{eqb-true, eq-eqb, and_from}
 use Rattle.std.proofs.lemmas.Bool.Decides.{nat_tests}
 use Rattle.grain_id.specs.Names.{Grain}
 use Rattle.idle_collector.specs.Ages.{kind_age}
 use Rattle.silo_model.specs.Machine.{Entry, Phase, waiting, loading, ready}
-use Rattle.silo_model.specs.Idle.{is_ready, due_moment, is_due, is_kept, kept_entries}
+use Rattle.silo_model.specs.Idle.{is_ready, is_idle, due_moment, is_due, is_kept, kept_entries}
 use Rattle.silo_model.specs.Whole.{Whole, whole_swept}
 use Rattle.silo_model.specs.Collected.{IsIdle, IdleGoes}
 use Rattle.silo_model.proofs.SharedSteps.{get-kept}
@@ -22,9 +22,12 @@ all_four true false c d e = absurd (true≢false (sym e))
 all_four true true false d e = absurd (true≢false (sym e))
 all_four true true true d e = (refl, refl, refl, e)
 
+pub idle_is : (e : Entry) → IsIdle e → is_idle e ≡ true
+idle_is e idle = λ i. is_ready (idle.phase i) && (length (idle.nothing_waits i) == 0) && eq-eqb (map.len e.turns) 0 idle.none_open i
+
 module _ (clock age : ℕ) (e : Entry) where
   idle_is_due : IsIdle e → due_moment age e ≤ clock → is_due clock age e ≡ true
-  idle_is_due idle come = λ i. is_ready (idle.phase i) && (length (idle.nothing_waits i) == 0) && eq-eqb (map.len e.turns) 0 idle.none_open i && has_come i
+  idle_is_due idle come = and_from (is_idle e) (nat_le (due_moment age e) clock) (idle_is e idle) has_come
     where
       has_come : nat_le (due_moment age e) clock ≡ true
       has_come = grind (arith, nat_tests)

@@ -37,6 +37,11 @@ pub mod AnswersInParts
 pub mod RepliesInOrder
 pub mod ReadersTogether
 pub mod IdleEntries
+pub mod EachEntry
+pub mod SameAges
+pub mod RestingEntries
+pub mod StayingEntries
+pub mod OneAge
 pub mod Lawful
 pub mod WorkAtGrains
 pub mod QuietCounts

@@ -292,7 +292,7 @@ module _ (logic : Logic) (s : Context) (g : Grain) (e : Entry) (is : s.entry ≡
         → (account : Change Account) {left : Change Entry} (row : Change Row) (outcome : Result Tree Fault)
         → count_of (change_option s.account account) ≡ count_of s.account
         → IsLeft logic g e request left → Closing account left row outcome
-    closed_moves law account row outcome same (stays new queue turns rest) = record {
+    closed_moves law account row outcome same (stays new queue turns rest said) = record {
       placed = tt;
       left = closed_entry logic g e new request.number request fair there turns (λ rests. no_turn law (rest rests));
       numbers = record { request = None; holds = λ f. omega (arith, less_held new queue turns f, held_is f); counted = same };
@@ -336,7 +336,7 @@ does_moves logic law s step sees (tells p grain left outcome remains) = told_mov
 does_moves logic law s step sees (pokes p g row outcome own touches) = told_moves logic (Some g) s p keep row outcome refl
 does_moves logic law s step sees (accepts p g call left a own remains known) =
     accepted_moves logic s p g call a (sym (ap count_of known) ∙ remains_count remains) sees
-does_moves logic law s step sees (goes_on g e phase until resting found rests) =
+does_moves logic law s step sees (goes_on g e phase until resting found rests entered) =
     on_entry_moves logic s g e found (enters g) _ (λ w. refl) (idle_entry logic g _ ((sees e found).0.at_rest rests)) (λ f. refl)
     (turn_is logic s g e found)
 does_moves logic law s step sees (unloads g e found rests) = unloaded_moves logic s g e found ((sees e found).0.at_rest rests)

@@ -12,11 +12,10 @@ use Rattle.idle_collector.specs.Ages.{kind_age}
 use Rattle.silo_event.specs.Owner.{owner_of}
 use Rattle.silo_event.specs.declared.step.Step.{Step}
 use Rattle.silo_event.specs.declared.step.Step.TheVariants.{Tick, Sweep}
-use Rattle.grain_kinds.specs.Logic.{Logic, Outgoing}
-use Rattle.silo_model.specs.Machine.{Machine, Account, Entry, Request}
+use Rattle.grain_kinds.specs.Logic.{Logic}
+use Rattle.silo_model.specs.Machine.{Machine, Entry, Request}
 use Rattle.silo_model.specs.Effect.{Context, Effect, Change, keep, change_option, context_at, applied}
 use Rattle.silo_model.specs.Calls.{with_request}
-use Rattle.silo_model.specs.Turns.{with_sends}
 use Rattle.silo_model.specs.Step.{grain_of, effect_of, shared_step, step_by, machine_step}
 use Rattle.silo_model.specs.Whole.{shown_to}
 use Rattle.silo_model.specs.Run.{restricted_to}
@@ -24,7 +23,7 @@ use Rattle.silo_model.specs.Opening.{Setup, start_of}
 use Rattle.silo_model.specs.Journal.{machine_all_done}
 use Rattle.silo_model.specs.Order.{AllBehind, Ascend, BeginInOrder}
 use Rattle.silo_model.proofs.Changes.{OfPutAt, changed_all}
-use Rattle.silo_model.proofs.EffectKinds.{Role, role_of, Does, tells, pokes, accepts, goes_on, unloads, opens, closes, Remains, untouched, without, IsLeft, stays, goes, effect_kind}
+use Rattle.silo_model.proofs.EffectKinds.{Role, role_of, Does, tells, pokes, accepts, goes_on, unloads, opens, closes, IsLeft, stays, goes, effect_kind}
 use Rattle.silo_model.proofs.Moves.{count_of, count-with_sends, remains_count}
 use Rattle.silo_model.proofs.Journals.{parts_lead}
 use Rattle.silo_model.proofs.QuietCounts.{shown_entry}
@@ -125,7 +124,7 @@ pub record Orders (s : Context) (grain : Option Grain) (e : Effect) : Type 0 whe
 module _ (logic : Logic) (s : Context) (step : Step) (old : (x : Entry) → s.entry ≡ Some x → IsOrdered (count_of s.account) x) where
   by_left : (g : Grain) (e : Entry) (request : Request) (c : Change Entry) (after : ℕ)
       → IsOrdered (count_of s.account) e → after ≡ count_of s.account → IsLeft logic g e request c → OfPutAt (λ (g : Grain). IsOrdered after) (Some g) c
-  by_left g e request _ after is same (stays new queue turns ready) =
+  by_left g e request _ after is same (stays new queue turns ready said) =
       grown (count_of s.account) after new (omega (arith, same))
       (record {
         queue = subst Ascend (sym queue) is.queue;
@@ -148,7 +147,7 @@ module _ (logic : Logic) (s : Context) (step : Step) (old : (x : Entry) → s.en
         counts = omega (arith, same);
         left = asked s.clock a.count _ s.entry refl (λ x found. subst (λ n. IsOrdered n x) (sym same) (old x found));
       }
-  by_kind _ _ _ (goes_on g e phase until resting is unready) =
+  by_kind _ _ _ (goes_on g e phase until resting is unready entered) =
       let o = old e is in
       record { counts = omega arith; left = record { queue = o.queue; counted = o.counted; turns = o.turns } }
   by_kind _ _ _ (unloads g e is unready) = record { counts = omega arith; left = tt }

@@ -55,11 +55,23 @@ all_failed_to tenant (q ∷ queue) from = AllTo-append tenant (reply_to q.sender
 -- an entry of the tenant without a turn
 left_of : (logic : Logic) (g : Grain) (tenant : List ℕ) (e : Entry) (request : Request) {left : Change Entry} → IsEntryOf tenant e
     → IsLeft logic g e request left → OfPut (IsEntryOf tenant) left
-left_of logic g tenant e request entry (stays new queue turns rest) = record {
+left_of logic g tenant e request entry (stays new queue turns rest said) = record {
   queue = subst (AllFrom tenant) (sym queue) entry.queue;
   turns = subst (AreOpenFrom tenant) (sym turns) (remove-AreOpenFrom tenant e.turns request.number entry.turns);
 }
 left_of logic g tenant e request entry (goes is_empty alone) = tt
+
+-- an entry is touched at a grain of the tenant alone
+pub does_placed : (logic : Logic) (s : Context) (step : Step) (tenant : List ℕ) {role : Role} {grain : Option Grain} {e : Effect}
+    → role_owner role ≡ Some tenant → s.tenant ≡ tenant → Does logic s step role grain e → WhereChanged e.entry (IsAt tenant grain)
+does_placed logic s step tenant owner is (tells p grain left outcome remains) = tt
+does_placed logic s step tenant owner is (pokes p g row outcome own touches) = tt
+does_placed logic s step tenant owner is (accepts p g call left a own remains known) = own ∙ is
+does_placed logic s step tenant owner is (goes_on g e phase until resting found rests entered) = same_Some g.tenant tenant owner
+does_placed logic s step tenant owner is (unloads g e found rests) = same_Some g.tenant tenant owner
+does_placed logic s step tenant owner is (opens g e first others found is_open queue may) = same_Some g.tenant tenant owner
+does_placed logic s step tenant owner is (closes g turn e request left sends row outcome found open_turn is_left by_sends by_row) =
+    WhereChanged-holds left (same_Some g.tenant tenant owner)
 
 -- each effect is such a one
 pub does_proper : (logic : Logic) (s : Context) (step : Step) (tenant : List ℕ) {role : Role} {grain : Option Grain} {e : Effect}
@@ -71,7 +83,7 @@ does_proper logic s step tenant owner is sees (pokes p g row outcome own touches
 does_proper logic s step tenant owner is sees (accepts p g call left a own remains known) =
     let from : tenant_of p ≡ tenant = same_Some (tenant_of p) tenant owner in
     record { entry = own ∙ is; row = tt; left = with_request-IsEntryOf tenant s.clock _ s.entry from sees; replies = tt }
-does_proper logic s step tenant owner is sees (goes_on g e phase until resting found rests) =
+does_proper logic s step tenant owner is sees (goes_on g e phase until resting found rests entered) =
     let there : IsEntryOf tenant e = sees e found in
     record { entry = same_Some g.tenant tenant owner; row = tt; left = record { queue = there.queue; turns = there.turns }; replies = tt }
 does_proper logic s step tenant owner is sees (unloads g e found rests) =

@@ -24,6 +24,7 @@ use Rattle.silo_model.specs.Turns.{closed, row_changed, stored_by}
 use Rattle.silo_model.specs.Whole.{Whole, shown_to, spread, whole_step}
 use Rattle.silo_model.specs.Journal.{all_done}
 use Rattle.silo_model.specs.Saved.{IsSaving, touches_row, SavedComesBack}
+use Rattle.silo_model.specs.Resting.{ComesBack}
 use Rattle.silo_model.proofs.Changes.{get-change_other}
 use Rattle.silo_model.proofs.EffectKinds.{Role, Touches, Does, pokes, closes}
 use Rattle.silo_model.proofs.SharedSteps.{shared_leaves}
@@ -83,6 +84,20 @@ rows_stay logic w after (s ∷ steps) g e apart =
     let tests = or_parts (touches_row g s) (list_any (touches_row g) steps) apart in
     rows_stay logic next.0 after steps g next.2 tests.1 ∙ row_stays logic w next.0 s g next.1 tests.0
 
+-- ---- a grain that is loaded
+
+abbrev pub entry_with : Logic → Grain → Entry → Option Row → Entry
+entry_with logic g e row = record e { phase = ready (content_or (logic.empty g.kind) row) (version_of row); until = 0; resting = false }
+
+-- it has what its row held, where no step since may have changed the row
+pub loads_row : (logic : Logic) (w : Whole) (g : Grain) → ComesBack logic g (map.get w.rows g) w
+loads_row logic w g steps later e done apart found is = (
+  record later { entries = map.insert later.entries g (entry_with logic g e (map.get later.rows g)) },
+  load_loading logic later g e found is,
+  get-insert_same grain_cmp_total grain_cmp_exact later.entries g (entry_with logic g e (map.get later.rows g))
+      ∙ ap (λ row. Some (entry_with logic g e row)) (rows_stay logic w later steps g done apart),
+)
+
 -- ---- the law
 
 may_change : (expected : Option ℕ) (found : Option Row) (done : Option ℕ × Change Row) → is_stale expected found ≡ false → is_spent found ≡ false → changed expected found done ≡ Ok done
@@ -111,18 +126,11 @@ module _ (logic : Logic) (w : Whole) (g : Grain) (turn : ℕ) (state : Tree) (sa
   unfolding spread
   row_is = get-insert_same grain_cmp_total grain_cmp_exact w.rows g new_row
 
-  loaded_entry : Entry → Option Row → Entry
-  loaded_entry e row = record e { phase = ready (content_or (logic.empty g.kind) row) (version_of row); until = 0; resting = false }
-
   comes_back : (steps : List Step) (later : Whole) (e : Entry) → all_done logic saved steps ≡ Some later → list_any (touches_row g) steps ≡ false → map.get later.entries g ≡ Some e → e.phase ≡ loading
       → (after : Whole) × (whole_step logic later (Load g false) ≡ Some after) × (map.get after.entries g ≡ Some (record e { phase = ready state (Some new_version); until = 0; resting = false }))
-  unfolding loaded_entry
   comes_back steps later e done apart found is =
-      let stored : map.get later.rows g ≡ Some new_row = rows_stay logic saved later steps g done apart ∙ row_is in (
-        record later { entries = map.insert later.entries g (loaded_entry e (map.get later.rows g)) },
-        load_loading logic later g e found is,
-        get-insert_same grain_cmp_total grain_cmp_exact later.entries g (loaded_entry e (map.get later.rows g)) ∙ ap (λ o. Some (loaded_entry e o)) stored,
-      )
+      let loaded = loads_row logic saved g steps later e done apart found is in
+      (loaded.0, loaded.1, loaded.2 ∙ ap (λ row. Some (entry_with logic g e row)) row_is)
 
 pub saved_comes_back : SavedComesBack
 saved_comes_back logic w g turn state saves = (saved logic w g turn state saves, new_version logic w g turn state saves, store_is logic w g turn state saves, comes_back logic w g turn state saves)

@@ -23,7 +23,8 @@ pub record LeavesUsed (before after : Whole) : Type 0 where
   pub goes : (grain : Grain) (e : Entry) → map.get before.entries grain ≡ Some e → IsIdle e
       → due_moment (kind_age before.ages before.age grain.kind) e ≤ before.clock
       → map.get after.entries grain ≡ None
-  pub stays : (grain : Grain) (e : Entry) → map.get before.entries grain ≡ Some e → (IsIdle e → before.clock < due_moment (kind_age before.ages before.age grain.kind) e)
+  pub stays : (grain : Grain) (e : Entry) → map.get before.entries grain ≡ Some e
+      → (IsIdle e → before.clock < due_moment (kind_age before.ages before.age grain.kind) e)
       → map.get after.entries grain ≡ Some e
   pub rows : after.rows ≡ before.rows
 

@@ -1,6 +1,6 @@
 -- How an entry is activated and loaded, and how its turns are opened and closed.
-use Rattle.std.specs.Prelude.{ℕ, ◌+◌, Bool, true, false, ◌&&◌, List, [], ◌∷◌, ◌++◌, map, flat_map, Option, Some, None, option_map, Result, Ok, Err}
-use Rattle.std.specs.Prelude.{if◌then◌else◌, ◌==◌}
+use Rattle.std.specs.Prelude.{ℕ, ◌+◌, Bool, true, false, ◌&&◌, ◌==◌, if◌then◌else◌, List, [], ◌∷◌, ◌++◌, map, flat_map}
+use Rattle.std.specs.Prelude.{Option, Some, None, option_map, Result, Ok, Err}
 use Rattle.std.specs.List.{list_all}
 use Rattle.std.specs.FinMap as finite
 use Rattle.grain_id.specs.Names.{Grain}
@@ -125,7 +125,10 @@ outcome_of (Err why) = Err (method_fault why)
 -- the plan's state stands, its sends go out, and its outcome is the reply
 abbrev pub ended_by : Context → Grain → Entry → Request → Option ℕ → Plan → StorageCall → Option Effect
 ended_by s grain e request version plan asks_nothing =
-    Some (record (closed s e request plan.state version plan.keep keep (outcome_of plan.outcome)) { account = with_sends grain s.account plan.sends })
+    Some
+    (record (closed s e request plan.state version plan.keep keep (outcome_of plan.outcome)) {
+      account = with_sends grain s.account plan.sends;
+    })
 ended_by s grain e request version plan reads_row = None
 ended_by s grain e request version plan writes_row = None
 ended_by s grain e request version plan clears_row = None
@@ -159,7 +162,8 @@ row_changed s grain e request state version new (Err spent) = closed s e request
 abbrev pub stored_by : Logic → Context → Grain → Entry → Request → Tree → Option ℕ → StorageCall → Option Effect
 stored_by logic s grain e request state version asks_nothing = None
 stored_by logic s grain e request state version reads_row =
-    Some (closed s e request (content_or (logic.empty grain.kind) s.row) (version_of s.row) same keep (Ok (version_value (version_of s.row))))
+    let there = version_of s.row in
+    Some (closed s e request (content_or (logic.empty grain.kind) s.row) there same keep (Ok (version_value there)))
 stored_by logic s grain e request state version writes_row =
     Some (row_changed s grain e request state version state (row_written version s.row state))
 stored_by logic s grain e request state version clears_row =

@@ -12,6 +12,7 @@ ghost use Rattle.silo_model.specs.Parts.{StepAnswersInParts, RunsAnswer};
 ghost use Rattle.silo_model.specs.Pending.{QuietByCounts};
 ghost use Rattle.silo_model.specs.Readers.{ReadersTogether};
 ghost use Rattle.silo_model.specs.Replies.{RepliesInOrder};
+ghost use Rattle.silo_model.specs.Resting.{OneAgeCounts, RestingGoes, RestingIsUsed, StayingGoes, StayingStays};
 ghost use Rattle.silo_model.specs.Saved.{SavedComesBack};
 ghost use Rattle.silo_model.specs.Sent.{SentArrives};
 ghost use Rattle.silo_model.specs.Settled.{JournalsSettle, RunsSettle};
@@ -144,10 +145,37 @@ pub fn readers_together()
     ensures { ReadersTogether }
 {}
 
-/// A sweep takes the idle entries that are due, an age after they were last used; leaves every other, and leaves
-/// every row: so the laws are said of a silo that lets go of what isn't used.
+/// A sweep takes the idle entries that are due, the age of their kind after they were last used and not before the
+/// moment until which they stay; leaves every other, and leaves every row: so the laws are said of a silo that lets go of
+/// what isn't used.
 pub fn idle_goes()
     ensures { IdleGoes }
+{}
+
+/// An entry that rests goes with the end of its last turn, and its row is what its next activation loads.
+pub fn resting_goes()
+    ensures { RestingGoes }
+{}
+
+/// No entry that rests is idle, in any whole that a journal leads to: it goes in the step that leaves it idle.
+pub fn resting_is_used()
+    ensures { RestingIsUsed }
+{}
+
+/// An entry that stays isn't taken before its time has passed, unless a turn of it is closed again.
+pub fn staying_stays()
+    ensures { StayingStays }
+{}
+
+/// From then on, and an age after it was last used, a sweep takes it if it is idle.
+pub fn staying_goes()
+    ensures { StayingGoes }
+{}
+
+/// If no plan says anything of activations and no kind has an age of its own, no entry stays or rests, and a sweep takes
+/// what was idle for the one age, and nothing else.
+pub fn one_age_counts()
+    ensures { OneAgeCounts }
 {}
 
 /// What is to do with a grain's entry, or is to be delivered of what it sent, would be done now.

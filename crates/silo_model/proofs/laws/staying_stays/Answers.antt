@@ -1,0 +1,5 @@
+use Rattle.silo_model.proofs.StayingEntries as lemmas
+use Rattle.silo_model.proofs.laws.staying_stays.Goals as goal
+
+pub returns : goal.returns
+returns c = lemmas.staying_stays
