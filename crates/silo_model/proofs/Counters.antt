@@ -10,6 +10,7 @@ use Rattle.grain_kinds.specs.Logic.{Plan, asks_nothing, same}
 use Rattle.grain_kinds.specs.Shared.{keeps, becomes, is_null, for_shape, for_null, integer_field}
 use Rattle.grain_kinds.specs.Counter.{add_plan, get_plan, fits_64, number_of, number_plan}
 use Rattle.grain_kinds.specs.Counters.{counters}
+use Rattle.grain_kinds.proofs.KeepSame.{counters_keep_same}
 use Rattle.silo_event.specs.declared.step.Step.TheVariants.{End}
 use Rattle.silo_model.specs.Machine.{Entry, Request, ready}
 use Rattle.silo_model.specs.Calls.{reply_to}
@@ -22,20 +23,19 @@ use Rattle.silo_model.proofs.Leaving.{awake_stays}
 pub record IsSilent (plan : Plan) : Type 0 where
   pub storage : plan.storage ≡ asks_nothing
   pub sends : plan.sends ≡ []
-  pub keep : plan.keep ≡ same
 
 either : (b : Bool) (p q : Plan) → IsSilent p → IsSilent q → IsSilent (if b then p else q)
 either true p q h k = h
 either false p q h k = k
 
 keeps_silent : (state : Tree) (outcome : Result Tree MethodFault) → IsSilent (keeps state outcome)
-keeps_silent state outcome = record { storage = refl; sends = refl; keep = refl }
+keeps_silent state outcome = record { storage = refl; sends = refl }
 
 add_silent : (state : Tree) (by : Option ℤ) → IsSilent (for_shape state by (add_plan state))
 add_silent state None = keeps_silent state (Err Misfit)
 add_silent state (Some by) =
     let sum = number_of state +ℤ by in
-    either (fits_64 sum) (becomes (integer sum) (integer sum)) (keeps state (Err OutOfRange)) (record { storage = refl; sends = refl; keep = refl }) (keeps_silent state (Err OutOfRange))
+    either (fits_64 sum) (becomes (integer sum) (integer sum)) (keeps state (Err OutOfRange)) (record { storage = refl; sends = refl }) (keeps_silent state (Err OutOfRange))
 
 get_silent : (state argument : Tree) → IsSilent (for_null state argument (get_plan state))
 get_silent state argument = either (is_null argument) (get_plan state) (keeps state (Err Misfit)) (keeps_silent state (Ok (integer (number_of state)))) (keeps_silent state (Err Misfit))
@@ -61,5 +61,5 @@ end_counter w g turn e request state version found open_turn is awake =
     let silent = counter_silent g.kind request.call.method state request.call.argument in
     end_silent_turn counters w g turn e found request open_turn state version is plan refl silent.storage silent.sends
     ∙ ap (λ c. Some (record w { entries = change_at w.entries g c; replies = w.replies ++ reply_to request.sender (outcome_of plan.outcome) }))
-    (ap (λ said. stays_or_goes (closed_entry w.clock e request plan.state version said)) silent.keep
+    (ap (λ said. stays_or_goes (closed_entry w.clock e request plan.state version said)) (counters_keep_same g.kind request.call.method state request.call.argument)
     ∙ awake_stays (closed_entry w.clock e request plan.state version same) awake)

@@ -4,13 +4,14 @@ use Rattle.std.specs.FinMap as map
 use Rattle.grain_id.specs.Names.{Grain}
 use Rattle.idle_collector.specs.Ages.{Ages, kind_age}
 use Rattle.grain_kinds.specs.Logic.{Logic, Keep, same}
+use Rattle.grain_kinds.specs.Laws.{KeepsSame}
 use Rattle.silo_model.specs.Machine.{Entry, Phase, Request}
 use Rattle.silo_model.specs.Calls.{with_request}
 use Rattle.silo_model.specs.Effect.{Change}
 use Rattle.silo_model.specs.Idle.{due_moment}
 use Rattle.silo_model.specs.Turns.{until_by, resting_by}
 use Rattle.silo_model.specs.Whole.{Whole, whole_swept}
-use Rattle.silo_model.specs.Resting.{StaysUntil, SaysNothing, LeavesYounger, OneAgeCounts}
+use Rattle.silo_model.specs.Resting.{StaysUntil, LeavesYounger, OneAgeCounts}
 use Rattle.silo_model.proofs.Changes.{OfPut}
 use Rattle.silo_model.proofs.ClockSteps.{sweep_is}
 use Rattle.silo_model.proofs.EachEntry.{Each, Puts, journal_each}
@@ -31,10 +32,10 @@ entered_plain : (e : Entry) (phase : Phase) (until : ℕ) (resting : Bool) → I
 entered_plain e phase until resting was (inl (unready, same_until, same_resting)) = record { until = same_until ∙ was.until; awake = same_resting ∙ was.awake }
 entered_plain e phase until resting was (inr (none, awake)) = record { until = none; awake = awake }
 
-module _ (logic : Logic) (says_nothing : SaysNothing logic) where
+module _ (logic : Logic) (keeps_same : KeepsSame logic) where
   nothing_said : (g : Grain) (request : Request) (said : Keep) → MaySay logic g request said → said ≡ same
   nothing_said g request said (inl is) = is
-  nothing_said g request said (inr (state, is)) = sym is ∙ says_nothing g.kind request.call.method state request.call.argument
+  nothing_said g request said (inr (state, is)) = sym is ∙ keeps_same g.kind request.call.method state request.call.argument
 
   said_plain : (g : Grain) (e : Entry) (request : Request) (new : Entry) → IsPlain e → IsAsSaid logic g e request new → IsPlain new
   said_plain g e request new was is =
@@ -78,7 +79,7 @@ module _ (age : ℕ) (w : Whole) (one : w.age ≡ age) (none : w.ages ≡ []) (p
   }
 
 pub one_age_counts : OneAgeCounts
-one_age_counts logic says_nothing setup journal w leads =
-    let plain = journal_each IsPlain logic (puts_plain logic says_nothing) setup journal w leads in
+one_age_counts logic keeps_same setup journal w leads =
+    let plain = journal_each IsPlain logic (puts_plain logic keeps_same) setup journal w leads in
     let ages = journal_ages logic setup journal w leads in
     (plain, λ none. (whole_swept w, sweep_is logic w, leaves_younger setup.age w ages.0 (ages.1 ∙ none) plain))

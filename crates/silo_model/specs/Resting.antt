@@ -9,7 +9,8 @@ use Rattle.grain_storage.specs.Rows.{version_of, content_or}
 use Rattle.idle_collector.specs.Ages.{kind_age}
 use Rattle.silo_event.specs.declared.step.Step.{Step}
 use Rattle.silo_event.specs.declared.step.Step.TheVariants.{Load, Store, End, Abandon, Sweep}
-use Rattle.grain_kinds.specs.Logic.{Logic, Keep, asks_nothing, same, rest, stay}
+use Rattle.grain_kinds.specs.Logic.{Logic, Keep, asks_nothing, rest, stay}
+use Rattle.grain_kinds.specs.Laws.{KeepsSame}
 use Rattle.silo_model.specs.Machine.{Entry, Request, loading, ready}
 use Rattle.silo_model.specs.Turns.{plan_of}
 use Rattle.silo_model.specs.Saved.{touches_row}
@@ -95,10 +96,6 @@ StayingGoes =
 
 -- ---- a logic that says nothing of activations
 
--- No plan says anything of the activation.
-abbrev pub SaysNothing : Logic → Type 0
-SaysNothing logic = (kind method : List ℕ) (state argument : Tree) → (logic.plan kind method state argument).keep ≡ same
-
 -- What a sweep leaves if an age alone counts: no entry that was idle for so long, and every other as it was; and every row.
 pub record LeavesYounger (age : ℕ) (before after : Whole) : Type 0 where
   pub goes : (grain : Grain) (e : Entry) → map.get before.entries grain ≡ Some e → IsIdle e → e.last + age ≤ before.clock
@@ -110,6 +107,6 @@ pub record LeavesYounger (age : ℕ) (before after : Whole) : Type 0 where
 -- Where no plan says anything of the activation, no entry ever stays or rests, so that no close takes one; and where no
 -- kind has an age of its own, a sweep takes what was idle for the one age, and nothing else.
 abbrev pub OneAgeCounts : Type 0
-OneAgeCounts = (logic : Logic) → SaysNothing logic → (setup : Setup) (journal : List Step) (w : Whole) → LeadsTo logic setup journal w
+OneAgeCounts = (logic : Logic) → KeepsSame logic → (setup : Setup) (journal : List Step) (w : Whole) → LeadsTo logic setup journal w
     → ((grain : Grain) (e : Entry) → map.get w.entries grain ≡ Some e → StaysUntil 0 e)
     × (setup.ages ≡ [] → (swept : Whole) × (whole_step logic w Sweep ≡ Some swept) × LeavesYounger setup.age w swept)
