@@ -6,8 +6,8 @@
 from __future__ import annotations
 
 from .row import Row
-from .short_lines import (A, B, BLUE, BLUE_A, NOT_A_REQUEST, NOT_NOW, SWEEP, at, begin, call, line, no, ok, poke, seen,
-                          status, text, tick, told)
+from .short_lines import (A, B, BLUE, BLUE_A, NOT_A_REQUEST, NOT_NOW, SHEET, SWEEP, at, begin, call, line, no, ok, poke,
+                          seen, status, text, tick, told)
 
 R, RB = "relay/red:r", "relay/red:s"
 TWO = ["red:4:4", "blue:2:2"]
@@ -24,7 +24,7 @@ def send(number: int, relay: str, method: str, args: object = None) -> list:
 ADD = {"by": 1}
 # a relay that sends what it is sent to its second, and that to a counter
 CHAIN = join(1, R, RB) + join(2, RB, A)
-FIRST = ["silo-journal 1", "age 900000", "tenant red 2 4"]
+FIRST = ["silo-journal 2", "kinds 2", "age 900000", "tenant red 2 4"]
 CLOSED = text([*FIRST, "close 0"])
 
 ANSWERED = [
@@ -58,11 +58,21 @@ ANSWERED = [
     Row("steps that are no client's, and a poke that is marked, are no requests", ["answer", "red:2:4"],
         begin(A) + at("deliver", R) + line(op="poke", from_="red/c1", id=1, grain=A, state=1, failed=True) + ["hello"],
         NOT_A_REQUEST * 4),
+    Row("a grain that rests goes when its line is answered, and a kind has an age of its own",
+        ["answer", "--age", "10", "--ages", "sheet=1", "red:4:4"],
+        call(1, A, "add", {"by": 3}) + call(2, A, "rest") + status(3) + call(4, A, "get") + call(5, SHEET, "list") + tick(1)
+        + SWEEP + status(6) + call(7, A, "stay", {"for": 20}) + tick(20) + SWEEP + status(8) + tick(21) + SWEEP + status(9),
+        ok(1, 3) + ok(2, None) + seen(3, 0, 0, 2) + ok(4, 0) + ok(5, []) + seen(6, 1, 1, 4) + ok(7, None)
+        + seen(8, 1, 20, 5) + seen(9, 0, 21, 5)),
     Row("a journal of no lines", ["answer", "--journal", "j", "red:2:4"], [], [], files_after={"j": CLOSED}),
     Row("the journal is that of the steps", ["answer", "--journal", "j", "red:2:4"], call(1, A, "get"), ok(1, 0),
         files_after={"j": text([
             *FIRST, "call red/c1 1 counter/red:a 010000000367657400", "activate counter/red:a", "load counter/red:a ok",
             "begin counter/red:a", "end counter/red:a 1", "reply red/c1 1 ok 030000000000000000", "close 5"])}),
+    Row("the ages of kinds are written down", ["answer", "--journal", "j", "--ages", "sheet=5,relay=4", "red:2:4"], [], [],
+        files_after={"j": text([*FIRST[:3], "kind relay 4", "kind sheet 5", FIRST[3], "close 0"])}),
+    Row("a refused age of a kind comes before the journal", ["answer", "--journal", "j", "--ages", "sheet", "red:2:4"],
+        call(1, A, "get"), [], status=2, errors="silo: ages are refused"),
     Row("deliveries are from 0 to 1,000,000", ["answer", "--sends", "1000001", "red:2:4"], [], [], status=2),
     Row("deliveries are told without a sign", ["answer", "--sends", "+5", "red:2:4"], call(1, A, "get"), [], status=2,
         errors="error: the words are out of range"),

@@ -6,6 +6,7 @@ from itertools import zip_longest
 from typing import NamedTuple, Optional
 
 from .journal import Journal
+from .kinds import logic_of
 from .machine import Machine
 from .names import Grain
 from .steps import Reply, concerns, owner
@@ -52,12 +53,17 @@ def tenants_of(journal: Journal) -> list[str]:
     return listed + sorted(others - set(listed))
 
 
+def machine_of(journal: Journal, tenant: str) -> Machine:
+    """The tenant's machine at the start, under the logic that the journal names."""
+    limits, logic = dict(journal.tenants).get(tenant), logic_of(journal.kinds)
+    return Machine(tenant, limits, journal.age, dict(journal.ages), logic, Storage([], Fuse()))
+
+
 def report(journal: Journal, tenant: str) -> Report:
     steps = [step for step in journal.steps if concerns(step, tenant)]
     replies = [reply for reply in journal.replies if reply.tenant() == tenant]
     rows = {grain: row for grain, row in journal.rows if grain.tenant == tenant}
-    machine = Machine(tenant, dict(journal.tenants).get(tenant), journal.age, Storage([], Fuse()))
-    difference = first_difference(machine, steps, replies, rows)
+    difference = first_difference(machine_of(journal, tenant), steps, replies, rows)
     return Report(tenant, len(steps), len(replies), len(rows), difference)
 
 

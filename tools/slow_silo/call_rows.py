@@ -14,7 +14,7 @@ from .laws import first_broken
 from .lines import ReaderFailed, WriterFailed, read_line, run_lines
 from .machine import Limits
 from .names import read_caller, read_grain
-from .program import DEFAULT_AGE, run_program, tenants_of
+from .program import run_program, setup_of_words
 from .row import Row
 from .rows import FIRST_CALL, LANES, OVERWRITTEN, ROWS
 from .serve import Lane, are_distinct, lanes_of, serve
@@ -255,11 +255,9 @@ def any_order_answers_the_lanes_alike() -> bool:
 # ---- journals
 
 def setup_and_steps(row: Row) -> tuple[Setup, list[Step]]:
-    age = int(row.words[row.words.index("--age") + 1]) if "--age" in row.words else DEFAULT_AGE
-    tenants = [word for word in row.words[1:] if ":" in word]
     said = [read_line(line.encode()) for line in row.lines]
     steps = [step for step in said if step is not None and not isinstance(step, int)]
-    return Setup(tenants_of(tenants), age), steps
+    return setup_of_words(row.words), steps
 
 
 def journal_agrees(row: Row) -> bool:

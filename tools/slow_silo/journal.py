@@ -2,7 +2,7 @@
 
 There are two forms of it. The second also tells which logic the kinds have, by its number, and the kinds that have an
 age of their own; in the first they have the first logic, and none has an age of its own. A silo's journal is written in
-the first.
+the second, and both are read.
 """
 
 from __future__ import annotations
@@ -32,8 +32,11 @@ class Journal(NamedTuple):
     steps: tuple[Step, ...]
     replies: tuple[Reply, ...]
     rows: tuple[tuple[Grain, Row], ...]
-    kinds: int = 1
+    # which logic the kinds have, by its number
+    kinds: int = 2
+    # the kinds that have an age of their own, ascending
     ages: tuple[tuple[str, int], ...] = ()
+    form: int = 2
 
 
 class RefusedAt(Exception):
@@ -46,7 +49,8 @@ class RefusedAt(Exception):
 
 def journal_of(silo: Silo) -> Journal:
     setup = silo.setup
-    return Journal(setup.tenants, setup.age, tuple(silo.journal), tuple(silo.replies), tuple(silo.rows()))
+    return Journal(setup.tenants, setup.age, tuple(silo.journal), tuple(silo.replies), tuple(silo.rows()),
+                   setup.logic.number, setup.ages)
 
 
 # ---- writing
@@ -78,9 +82,9 @@ def row_fields(grain: Grain, row: Row) -> list:
 
 
 def journal_text(journal: Journal) -> bytes:
-    """The text, in the first form if that can tell it, and else in the second."""
-    told = (journal.kinds, journal.ages) != (1, ())
-    lines = [["silo-journal", 2], ["kinds", journal.kinds]] if told else [["silo-journal", 1]]
+    """The text, in the journal's form. In the first the kinds have the first logic, and no age of their own."""
+    assert journal.form == 2 or (journal.kinds, journal.ages) == (1, ())
+    lines = [["silo-journal", journal.form], *([["kinds", journal.kinds]] if journal.form == 2 else [])]
     lines += [["age", journal.age], *(["kind", *entry] for entry in journal.ages)]
     lines += [["tenant", tenant, *limits] for tenant, limits in journal.tenants]
     lines += [[type(step).__name__.lower(), *step_fields(step)] for step in journal.steps]
@@ -281,4 +285,4 @@ def read_journal(text: bytes) -> Journal:
     reader.next(lambda line, _before: fits(line == f"close {len(steps)}"))
     if reader.place < len(reader.lines) or reader.rest:
         raise reader.refused()
-    return Journal(tuple(tenants), age, tuple(steps), tuple(replies), tuple(rows), kinds, tuple(ages))
+    return Journal(tuple(tenants), age, tuple(steps), tuple(replies), tuple(rows), kinds, tuple(ages), form)

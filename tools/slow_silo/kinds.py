@@ -2,18 +2,24 @@
 
 A method's function takes the state and the argument, and gives the plan of a turn. A state of another shape, as a poke
 can leave one, counts as the kind's empty state; a plan that keeps the state leaves such a state as it is.
+
+There are two tables of methods. In the first, which old journals were written under, no grain rests or stays.
 """
 
 from __future__ import annotations
 
-from typing import Callable, NamedTuple, Optional
+from typing import Callable, NamedTuple, Optional, Union
 
 from . import codes
 from .names import Grain, read_grain
 from .values import MAX_STATE, is_whole, spelled_length
 
 MAX_MEMBERS = 4
+# the longest that an activation may be asked to stay, in milliseconds
+MAX_STAY = 86_400_000
 READ, WRITE, CLEAR = "read", "write", "clear"
+# what a turn says of the activation: nothing, or that it rests; a number says for how long it stays
+SAME, REST = "same", "rest"
 
 
 class Send(NamedTuple):
@@ -33,6 +39,7 @@ class Plan(NamedTuple):
     # what is asked of the storage, if anything
     asks: Optional[str] = None
     sends: tuple = ()
+    keep: Union[str, int] = SAME
 
 
 def answers(state: object, value: object) -> Plan:
@@ -147,23 +154,51 @@ def asking(storage_call: str) -> Callable[[object, object], Plan]:
     return method
 
 
+def rest(state: object, args: object) -> Plan:
+    """The activation goes as soon as it is idle."""
+    return Plan(state, keep=REST) if args is None else refuses(state, codes.MISFIT)
+
+
+def stay(state: object, args: object) -> Plan:
+    """The activation isn't collected for so many milliseconds."""
+    if not has_fields(args, **{"for": int}) or not 1 <= args["for"] <= MAX_STAY:
+        return refuses(state, codes.MISFIT)
+    return Plan(state, keep=args["for"])
+
+
 STORING = {"save": asking(WRITE), "reload": asking(READ), "clear": asking(CLEAR)}
+RESTING = {"rest": rest, "stay": stay}
 METHODS = {
     "counter": {"add": add, "get": get_number, **STORING},
     "sheet": {"put": put, "get": get_value, "drop": drop, "list": list_names, **STORING},
     "relay": {"join": join, "leave": leave, "send": send, **STORING},
 }
+RESTING_METHODS = {kind: {**methods, **RESTING} for kind, methods in METHODS.items()}
 READ_METHODS = {"counter": ["get"], "sheet": ["get", "list"], "relay": []}
 EMPTY_STATES = {"counter": 0, "sheet": {}, "relay": []}
 
 
 def is_read(kind: str, method: str) -> bool:
-    """The method never changes the state, asks nothing of the storage and sends nothing."""
+    """The method never changes the state, asks nothing of the storage, sends nothing, and neither rests nor stays."""
     return method in READ_METHODS[kind]
 
 
-def plan_of(kind: str, method: str, state: object, args: object) -> Plan:
-    """What a turn of a kind that is known comes to."""
-    if method not in METHODS[kind]:
-        return refuses(state, codes.UNKNOWN_METHOD)
-    return METHODS[kind][method](state, args)
+class Logic(NamedTuple):
+    """A table of methods, under the number by which a journal names it."""
+
+    number: int
+    methods: dict
+
+    def plan_of(self, kind: str, method: str, state: object, args: object) -> Plan:
+        """What a turn of a kind that is known comes to."""
+        if method not in self.methods[kind]:
+            return refuses(state, codes.UNKNOWN_METHOD)
+        return self.methods[kind][method](state, args)
+
+
+KINDS = Logic(1, METHODS)
+RESTING_KINDS = Logic(2, RESTING_METHODS)
+
+
+def logic_of(number: int) -> Logic:
+    return KINDS if number == 1 else RESTING_KINDS

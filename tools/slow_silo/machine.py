@@ -8,7 +8,7 @@ from __future__ import annotations
 from typing import NamedTuple, Optional, Union
 
 from . import codes
-from .kinds import CLEAR, EMPTY_STATES, METHODS, READ, Plan, Send, is_read, plan_of
+from .kinds import CLEAR, EMPTY_STATES, READ, REST, SAME, Logic, Plan, Send, is_read
 from .names import Grain
 from .steps import (MAX_NUMBER, Abandon, Activate, Begin, Call, Client, Deliver, End, Load, Poke, Refuse, Reply, Status,
                     Step, Store, Sweep, Tick, fault, ok)
@@ -46,6 +46,14 @@ class Entry:
         self.turns: dict[int, Request] = {}
         # when a request last came, or a turn last closed
         self.last = 0
+        # it isn't collected before this moment
+        self.until = 0
+        # it goes as soon as it is idle
+        self.resting = False
+
+    def is_idle(self) -> bool:
+        """It is ready, nothing waits, and no turn is open."""
+        return self.phase == READY and not self.queue and not self.turns
 
 
 class Refused(Exception):
@@ -76,12 +84,18 @@ def version_value(version: Optional[int]) -> Optional[str]:
 
 
 class Machine:
-    """One tenant's part. `limits` is None for a tenant that the silo doesn't know."""
+    """One tenant's part. `limits` is None for a tenant that the silo doesn't know.
 
-    def __init__(self, tenant: str, limits: Optional[Limits], age: int, storage: Storage):
+    `ages` are those of the kinds that have one of their own; all others have the one `age`.
+    """
+
+    def __init__(self, tenant: str, limits: Optional[Limits], age: int, ages: dict[str, int], logic: Logic,
+                 storage: Storage):
         self.tenant = tenant
         self.limits = limits
         self.age = age
+        self.ages = ages
+        self.logic = logic
         self.storage = storage
         self.clock = 0
         self.count = 0
@@ -128,7 +142,7 @@ class Machine:
             raise Refused(codes.UNKNOWN_TENANT, self.tenant)
         if grain.tenant != self.tenant:
             raise Refused(codes.ACROSS_TENANTS, self.tenant, grain.tenant)
-        if grain.kind not in METHODS:
+        if grain.kind not in self.logic.methods:
             raise Refused(codes.UNKNOWN_KIND, grain.kind)
 
     def check_room(self, grain: Grain) -> None:
@@ -171,7 +185,8 @@ class Machine:
         return []
 
     def load(self, step: Load) -> Perhaps:
-        """State and version come from the row. If the storage fails, what waits is refused, and the entry goes."""
+        """State and version come from the row, and the entry neither rests nor stays. If the storage fails, what waits is
+        refused, and the entry goes."""
         entry = self.entries.get(step.grain)
         if entry is None or entry.phase != LOADING:
             return None
@@ -183,6 +198,8 @@ class Machine:
             del self.entries[step.grain]
             return [reply for request in entry.queue for reply in refused(request, codes.STORAGE_FAILED)]
         entry.phase = READY
+        entry.until = 0
+        entry.resting = False
         return []
 
     def take_row(self, grain: Grain, entry: Entry, row: Optional[Row]) -> None:
@@ -216,11 +233,20 @@ class Machine:
         if entry is None or number not in entry.turns:
             return None
         request = entry.turns[number]
-        return entry, request, plan_of(grain.kind, request.method, entry.state, request.args)
+        return entry, request, self.logic.plan_of(grain.kind, request.method, entry.state, request.args)
 
-    def close(self, entry: Entry, request: Request) -> None:
+    def close(self, grain: Grain, entry: Entry, request: Request, keep: Union[str, int] = SAME) -> None:
+        """The turn is closed. What it said of the activation counts, and an entry that rests goes if it is idle now."""
         del entry.turns[request.number]
         entry.last = self.clock
+        if keep == REST:
+            entry.until = 0
+            entry.resting = True
+        elif keep != SAME:
+            entry.until = self.clock + keep
+            entry.resting = False
+        if entry.resting and entry.is_idle():
+            del self.entries[grain]
 
     def end(self, step: End) -> Perhaps:
         """A turn that asks nothing of the storage is closed, as it was planned."""
@@ -228,7 +254,7 @@ class Machine:
         if found is None or found[2].asks is not None:
             return None
         entry, request, plan = found
-        self.close(entry, request)
+        self.close(step.grain, entry, request, plan.keep)
         entry.state = plan.state
         self.sends.extend((step.grain, sent) for sent in plan.sends)
         if plan.code is not None:
@@ -246,15 +272,15 @@ class Machine:
                 raise Failed
             self.ask_storage(step.grain, entry, plan)
         except Failed:
-            self.close(entry, request)
+            self.close(step.grain, entry, request)
             return refused(request, codes.STORAGE_FAILED)
         except Spent:
-            self.close(entry, request)
+            self.close(step.grain, entry, request)
             return refused(request, codes.VERSIONS_SPENT, step.grain.text())
         except Stale:
             self.end_activation(step.grain, entry, request)
             return refused(request, codes.STATE_CHANGED, step.grain.text())
-        self.close(entry, request)
+        self.close(step.grain, entry, request)
         return answered(request, version_value(entry.version))
 
     def ask_storage(self, grain: Grain, entry: Entry, plan: Plan) -> None:
@@ -280,7 +306,7 @@ class Machine:
         if found is None:
             return None
         entry, request, _plan = found
-        self.close(entry, request)
+        self.close(step.grain, entry, request)
         return refused(request, codes.NO_MEMORY)
 
     # ---- the clock
@@ -292,13 +318,13 @@ class Machine:
         return []
 
     def sweep(self, _step: Sweep) -> Perhaps:
-        self.entries = {grain: entry for grain, entry in self.entries.items() if not self.is_due(entry)}
+        self.entries = {grain: entry for grain, entry in self.entries.items() if not self.is_due(grain, entry)}
         return []
 
-    def is_due(self, entry: Entry) -> bool:
-        """It is ready, and has been idle for the age: nothing waits, and no turn is open."""
-        idle = entry.phase == READY and not entry.queue and not entry.turns
-        return idle and self.clock - entry.last >= self.age
+    def is_due(self, grain: Grain, entry: Entry) -> bool:
+        """It has been idle for the age of its kind, and hasn't to stay any more."""
+        age = self.ages.get(grain.kind, self.age)
+        return entry.is_idle() and max(entry.last + age, entry.until) <= self.clock
 
 
 STEPS = {

@@ -8,8 +8,8 @@ from typing import Iterable, NamedTuple, Optional
 from . import codes, lines
 from .answer import DEFAULT_SENDS, MAX_SENDS, answer_lines, is_asked
 from .audit import audit
-from .journal import (MAX_ACTIVATIONS, MAX_AGE, MAX_MAILBOX, MAX_TENANTS, RefusedAt, journal_of, journal_text,
-                      read_journal)
+from .journal import (MAX_ACTIVATIONS, MAX_AGE, MAX_AGES, MAX_MAILBOX, MAX_TENANTS, RefusedAt, journal_of,
+                      journal_text, read_journal)
 from .machine import Limits
 from .names import is_word
 from .serve import answers_of, lanes_of, replies_to_grains, serve
@@ -83,15 +83,28 @@ def tenants_of(words: list[str]) -> tuple[tuple[str, Limits], ...]:
     return tuple(found.items())
 
 
+def ages_of(text: str) -> tuple[tuple[str, int], ...]:
+    """The ages of kinds, ascending by kind: `KIND=MS`, parted by commas, at most 64, and no kind twice."""
+    found: dict[str, int] = {}
+    for entry in text.split(","):
+        kind, equals, age = entry.partition("=")
+        if not equals or not is_word(kind) or not is_decimal(age, MAX_AGE) or kind in found or len(found) == MAX_AGES:
+            raise Ended(BAD_WORDS, "silo: ages are refused")
+        found[kind] = int(age)
+    return tuple(sorted(found.items()))
+
+
 # what each subcommand takes: its options, with what their values are
 IS_AGE = ("--age", lambda text: is_option_number(text, MAX_AGE))
+# any text is a value: whether it tells ages is looked at after the tenants
+IS_AGES = ("--ages", lambda text: True)
 IS_WORKERS = ("--workers", lambda text: is_option_number(text, MAX_WORKERS))
 IS_PATH = ("--journal", lambda text: True)
 IS_SENDS = ("--sends", is_sends)
 OPTIONS = {
-    "steps": dict([IS_AGE]),
-    "answer": dict([IS_AGE, IS_SENDS, IS_PATH]),
-    "serve": dict([IS_AGE, IS_WORKERS, IS_PATH]),
+    "steps": dict([IS_AGE, IS_AGES]),
+    "answer": dict([IS_AGE, IS_AGES, IS_SENDS, IS_PATH]),
+    "serve": dict([IS_AGE, IS_AGES, IS_WORKERS, IS_PATH]),
     "audit": {},
 }
 
@@ -124,22 +137,32 @@ def asks_for_help(words: list[str]) -> bool:
     return words in [["--help"], ["-h"], ["help"], *of_commands]
 
 
+def setup_of(given: dict, words: list[str]) -> Setup:
+    """What the options and the tenant words set up: the tenants are looked at first, then the ages of kinds."""
+    if not words:
+        raise Ended(BAD_WORDS)
+    tenants = tenants_of(words)
+    ages = ages_of(given["--ages"]) if "--ages" in given else ()
+    return Setup(tenants, int(given.get("--age", DEFAULT_AGE)), ages)
+
+
+def setup_of_words(words: list[str]) -> Setup:
+    """What all words of `steps`, `answer` or `serve` set up."""
+    return setup_of(*split_words(words[1:], OPTIONS[words[0]]))
+
+
 # ---- the commands
 
 def run_steps(given: dict, words: list[str], data: bytes, written: list[bytes]) -> None:
-    if not words:
-        raise Ended(BAD_WORDS)
-    setup = Setup(tenants_of(words), int(given.get("--age", DEFAULT_AGE)))
+    silo = Silo(setup_of(given, words))
     try:
-        lines.run_lines(Silo(setup), [data], written.append)
+        lines.run_lines(silo, [data], written.append)
     except lines.TooMuchInput as error:
         raise Ended(BROKEN, "silo: too much input") from error
 
 
 def run_answer(given: dict, words: list[str], data: bytes, files: dict, written: list[bytes]) -> None:
-    if not words:
-        raise Ended(BAD_WORDS)
-    silo = Silo(Setup(tenants_of(words), int(given.get("--age", DEFAULT_AGE))))
+    silo = Silo(setup_of(given, words))
     if "--journal" in given:
         files[given["--journal"]] = journal_text(journal_of(silo))
     try:
@@ -156,9 +179,7 @@ def written_lines(texts: Iterable[str]) -> bytes:
 
 
 def run_serve(given: dict, words: list[str], data: bytes, files: dict, chance: Optional[Random]) -> bytes:
-    if not words:
-        raise Ended(BAD_WORDS)
-    setup = Setup(tenants_of(words), int(given.get("--age", DEFAULT_AGE)))
+    setup = setup_of(given, words)
     try:
         read = [lines.read_line(line) for line in lines.lines_of([data])]
     except lines.TooMuchInput as error:

@@ -5,9 +5,11 @@ from __future__ import annotations
 import json
 
 from .answer_rows import ANSWERED
+from .resting_rows import AGES_OF_KINDS, MISFIT, RESTING
 from .row import Row
 from .short_lines import (A, B, BLUE, BLUE_A, LINE_TOO_LONG, NOT_A_REQUEST, NOT_NOW, RELAY, SHEET, SWEEP, at,
                           begin, call, end, no, ok, poke, run, save, seen, status, text, tick, told, up)
+from .values import spelled, spelled_message
 
 TWO_TENANTS = ["red:2:4", "blue:2:4"]
 
@@ -307,6 +309,7 @@ WORDS = [
 
 # ---- lanes
 
+HEAD = ["silo-journal 2", "kinds 2", "age 900000"]
 SERVED = ["silo-journal 1", "age 900000", "tenant red 2 4",
           f"call red/c1 1 {A} 01000000036164640600000001000000026279030000000000000003",
           f"activate {A}", f"load {A} ok", f"begin {A}", f"end {A} 1"]
@@ -326,7 +329,14 @@ LANES = [
         OF_THREE_LANES, REPLIES_OF_THREE_LANES),
     Row("one client is served", ["serve", "--workers", "1", "red:2:4"], FIRST_CALL, ok(1, 3)),
     Row("what was served is written down", ["serve", "--workers", "1", "--journal", "j", "red:2:4"],
-        FIRST_CALL, ok(1, 3), files_after={"j": text(JOURNAL)}),
+        FIRST_CALL, ok(1, 3), files_after={"j": text(HEAD + JOURNAL[2:])}),
+    Row("the ages of kinds are written down, ascending",
+        ["serve", "--workers", "1", "--journal", "j", "--ages", "sheet=5,counter=7,c=86400000", "red:2:4"],
+        FIRST_CALL, ok(1, 3),
+        files_after={"j": text(HEAD + ["kind c 86400000", "kind counter 7", "kind sheet 5"] + JOURNAL[2:])}),
+    Row("lanes of grains that rest", ["serve", "red:2:4"],
+        FIRST_CALL + call(2, A, "rest") + status(3) + call(4, A, "get") + call(5, A, "stay", {"for": 0}),
+        ok(1, 3) + ok(2, None) + seen(3, 0, 0, 2) + ok(4, 0) + no(5, 61, MISFIT)),
     Row("two clients of two tenants", ["serve", "--workers", "2", *TWO_TENANTS],
         call(1, A, "get") + call(1, BLUE_A, "get", None, BLUE), ok(1, 0) + ok(1, 0, BLUE)),
     Row("four clients of two tenants", ["serve", "--workers", "4", *TWO_TENANTS],
@@ -382,9 +392,40 @@ SECOND = ["silo-journal 2", "kinds 2", *JOURNAL[1:]]
 AGES = ["kind counter 10", "kind sheet 86400000"]
 
 
+def message(method, args=None) -> str:
+    return spelled_message(method, args).hex()
+
+
+def value(told_value) -> str:
+    return spelled(told_value).hex()
+
+
 def aged(*ages) -> str:
     """The journal of the second form, with these lines behind its age."""
     return text(SECOND[:3] + list(ages) + SECOND[3:])
+
+
+# a turn that rests, and one of the next activation that stays, by the second logic
+RESTED = [
+    f"call red/c1 1 {A} {message('rest')}", f"activate {A}", f"load {A} ok", f"begin {A}", f"end {A} 1",
+    f"call red/c1 2 {A} {message('stay', {'for': 9})}", f"activate {A}", f"load {A} ok", f"begin {A}", f"end {A} 2",
+    "tick 8", "sweep", "status red/c1 3", "tick 9", "sweep", "status red/c1 4", "reply red/c1 1 ok 00", "reply red/c1 2 ok 00",
+    f"reply red/c1 3 ok {value({'activations': 1, 'clock': 8, 'requests': 2})}",
+    f"reply red/c1 4 ok {value({'activations': 0, 'clock': 9, 'requests': 2})}"]
+# the same turns by the first logic: one activation, and both are refused
+UNRESTED = [*RESTED[:6], *RESTED[8:10], "reply red/c1 1 no 60 method is unknown", "reply red/c1 2 no 60 method is unknown"]
+
+
+def of_logic(number, age, lines, ages=()) -> str:
+    """A journal of the second form with this logic, these ages, and these steps and replies."""
+    steps = sum(not one.startswith("reply") for one in lines)
+    return text([HEAD[0], f"kinds {number}", f"age {age}", *ages, "tenant red 1 4", *lines, f"close {steps}"])
+
+
+def in_first_form(journal) -> str:
+    """The text without its logic."""
+    head, _kinds, *others = journal.splitlines()
+    return text([head.replace("2", "1"), *others])
 
 
 POKED = f"poke red/c1 1 {A} ok 00\nreply red/c1 1 ok 040000000131\n"
@@ -452,6 +493,21 @@ JOURNALS = [
     refused_at("a kind's age of 0", aged("kind counter 0"), 4),
     refused_at("a kind's age above a day", aged("kind counter 86400001"), 4),
     refused_at("a kind's age with a zero before it", aged("kind counter 010"), 4),
+    audited("grains that rest and stay", of_logic(2, 5, RESTED), ["tenant red: 16 steps, 4 replies, 0 rows"]),
+    audited("a kind's own age in place of the others'", of_logic(2, 1, RESTED, ["kind counter 9", "kind sheet 1"]),
+            ["tenant red: 16 steps, 4 replies, 0 rows"]),
+    audited("a kind's own age above how long it stays", of_logic(2, 1, RESTED, ["kind counter 10"]),
+            ["tenant red: reply 4 differs"], 3),
+    audited("the age of all others in place of a kind's own", of_logic(2, 10, RESTED, ["kind sheet 1"]),
+            ["tenant red: reply 4 differs"], 3),
+    audited("grains that rest and stay, by the first logic", of_logic(1, 5, RESTED), ["tenant red: step 7 differs"], 3),
+    audited("grains that rest and stay, in a journal of the first form", in_first_form(of_logic(1, 5, RESTED)),
+            ["tenant red: step 7 differs"], 3),
+    audited("what isn't known by the first logic", of_logic(1, 5, UNRESTED), ["tenant red: 8 steps, 2 replies, 0 rows"]),
+    audited("what isn't known in a journal of the first form", in_first_form(of_logic(1, 5, UNRESTED)),
+            ["tenant red: 8 steps, 2 replies, 0 rows"]),
+    audited("what isn't known by the first logic, by the second", of_logic(2, 5, UNRESTED), ["tenant red: step 7 differs"], 3),
 ]
 
-ROWS = [*COUNTERS, *STORAGE, *OTHER_KINDS, *TENANTS, *CLOCK, *LINES, *WORDS, *LANES, *JOURNALS, *ANSWERED]
+ROWS = [*COUNTERS, *STORAGE, *OTHER_KINDS, *TENANTS, *CLOCK, *RESTING, *LINES, *WORDS, *AGES_OF_KINDS, *LANES, *JOURNALS,
+        *ANSWERED]

@@ -4,6 +4,7 @@ from __future__ import annotations
 
 from typing import Iterable, NamedTuple, Optional
 
+from .kinds import RESTING_KINDS, Logic
 from .machine import LOADING, WAITING, Limits, Machine
 from .names import Caller, Grain
 from .steps import (Activate, Begin, Client, Deliver, Load, Poke, Reply, Step, Store, Tick, owner)
@@ -18,9 +19,12 @@ class Setup(NamedTuple):
     # in the order in which they were given
     tenants: tuple[tuple[str, Limits], ...]
     age: int = DEFAULT_AGE
+    # the kinds that have an age of their own, ascending
+    ages: tuple[tuple[str, int], ...] = ()
     rows: tuple[tuple[Grain, Row], ...] = ()
     # which of the storage's calls fail, by their numbers from 1
     failing: tuple[int, ...] = ()
+    logic: Logic = RESTING_KINDS
 
 
 class Silo:
@@ -41,8 +45,8 @@ class Silo:
         """The tenant's machine. One that was never asked for is as it was at the start, but for the clock."""
         if tenant not in self.machines:
             rows = [(grain, row) for grain, row in self.setup.rows if grain.tenant == tenant]
-            storage = Storage(rows, self.fuse)
-            made = Machine(tenant, self.limits.get(tenant), self.setup.age, storage)
+            setup, storage = self.setup, Storage(rows, self.fuse)
+            made = Machine(tenant, self.limits.get(tenant), setup.age, dict(setup.ages), setup.logic, storage)
             made.clock = self.clock
             self.machines[tenant] = made
         return self.machines[tenant]
