@@ -6,11 +6,11 @@ from __future__ import annotations
 from random import Random
 
 from certain_input import Lanes
-from random_input import AGES, LENGTHS, TENANTS, Input, tenant_words
+from random_input import LENGTHS, TENANTS, Input, age_words, tenant_words
 from random_lines import asked_line, dumped
 from slow_silo import program
 from slow_silo.answer import answer_line
-from slow_silo.silo import Setup, Silo
+from slow_silo.silo import Silo
 
 SENDS = ["0", "1", "2", "5", "1000"]
 
@@ -29,7 +29,8 @@ class Asking(Lanes):
         member = f"{kind}/{other}:r{random.randrange(3)}"
         inner = {"method": "send", "args": {"method": "add", "args": {"by": 1}}}
         sent = random.choice([{"method": "add", "args": {"by": 1}}, {"method": "get", "args": None}, inner,
-                              {"method": "send", "args": inner}, {"method": "save", "args": None}])
+                              {"method": "send", "args": inner}, {"method": "save", "args": None},
+                              {"method": "rest", "args": None}])
         method, args = random.choice([("join", {"grain": member}), ("join", {"grain": member}), ("leave", {"grain": member}),
                                       ("send", sent), ("send", sent), ("send", sent)])
         return asked_line(random, "call", self.caller(tenant), grain=relay, method=dumped(method), args=dumped(args)).encode()
@@ -43,13 +44,14 @@ class Asking(Lanes):
 
 def make_input(random: Random, journal: str = "j") -> Input:
     tenants = TENANTS[: random.choice([1, 2, 3, 4])]
-    words = tenant_words(random, tenants)
-    age, sends = random.choice(AGES), random.choice(SENDS)
-    silo = Silo(Setup(program.tenants_of(words), int(age)))
+    sends = random.choice(SENDS)
+    options = [*age_words(random), "--sends", sends, "--journal", journal]
+    words = ["answer", *options, *tenant_words(random, tenants)]
+    silo = Silo(program.setup_of_words(words))
     world = Asking(random, tenants, silo, random.random() < 0.3)
     made = []
     for _ in range(random.choice(LENGTHS)):
         for line in world.line().split(b"\n"):
             answer_line(silo, line, int(sends))
             made.append(line + b"\n")
-    return Input(["answer", "--age", age, "--sends", sends, "--journal", journal, *words], b"".join(made))
+    return Input(words, b"".join(made))

@@ -2,7 +2,8 @@
 
 What one lane is answered is certain if no other lane asks its tenant for anything: at each moment one step is possible,
 so the journal is certain too. With a lane in each of several tenants each tenant's answers are still certain, but the
-journal isn't. Sends are left to inputs of their own: there, no lane asks a grain that is sent to.
+journal isn't; no kind has an age of its own there, since the clock may move. Sends are left to inputs of their own: there,
+no lane asks a grain that is sent to.
 """
 
 from __future__ import annotations
@@ -10,10 +11,10 @@ from __future__ import annotations
 from random import Random
 from typing import NamedTuple
 
-from random_input import AGES, LENGTHS, TENANTS, World, tenant_words
+from random_input import LENGTHS, TENANTS, World, age_words, tenant_words
 from random_lines import asked_line, damaged, dumped, long_line, raw_line
 from slow_silo import lines, program
-from slow_silo.silo import Setup, Silo
+from slow_silo.silo import Silo
 from slow_silo.steps import OF_A_CALLER, OF_NOBODY, Call, Status, Tick
 
 AGE = "86400000"
@@ -65,10 +66,9 @@ def is_kept(step: object, callers: list[str], alone: bool) -> bool:
 def lanes_input(random: Random, alone: bool) -> Certain:
     """One lane, or one in each of several tenants, of calls, pokes and lines with something wrong."""
     count = random.choice([1, 2, 3] if alone else [2, 3, 4])
-    words = tenant_words(random, TENANTS[:count])
     asking = [random.choice(TENANTS[:count])] if alone else TENANTS[:count]
-    age = random.choice(AGES) if alone else AGE
-    silo = Silo(Setup(program.tenants_of(words), int(age)))
+    words = [*(age_words(random) if alone else ["--age", AGE]), *tenant_words(random, TENANTS[:count])]
+    silo = Silo(program.setup_of_words(["serve", *words]))
     world = Lanes(random, asking, silo, random.random() < 0.3)
     kept = []
     for _ in range(random.choice(LENGTHS)):
@@ -77,7 +77,7 @@ def lanes_input(random: Random, alone: bool) -> Certain:
             if is_kept(step, [world.caller(tenant) for tenant in asking], alone):
                 lines.answer(silo, line)
                 kept.append(line + b"\n")
-    return Certain(["--age", age, *words], b"".join(kept), alone)
+    return Certain(words, b"".join(kept), alone)
 
 
 def sends_input(random: Random) -> Certain:
@@ -89,10 +89,10 @@ def sends_input(random: Random) -> Certain:
         relay = dumped(f"relay/{tenant}:r{random.randrange(2)}")
         other = random.choice([tenant, tenant, "blue", "nobody"])
         member = random.choice(["counter", "sheet", "relay", "clock"]) + f"/{other}:m{random.randrange(4)}"
-        sent = random.choice([("add", {"by": 1}), ("get", None), ("save", None), ("fly", None), ("put", 1)])
+        sent = random.choice([("add", {"by": 1}), ("get", None), ("save", None), ("fly", None), ("put", 1), ("rest", None)])
         method, args = random.choice([
             ("join", {"grain": member}), ("leave", {"grain": member}), ("send", {"args": sent[1], "method": sent[0]}),
-            ("send", {"args": sent[1], "method": sent[0]}), ("save", None)])
+            ("send", {"args": sent[1], "method": sent[0]}), ("save", None), random.choice([("rest", None), ("save", None)])])
         made.append(asked_line(random, "call", f"{tenant}/c1", grain=relay, method=dumped(method), args=dumped(args)))
     return Certain([tenant + WIDE for tenant in tenants], "".join(line + "\n" for line in made).encode(), False)
 

@@ -7,12 +7,12 @@ from __future__ import annotations
 
 from typing import NamedTuple, Optional
 
+from slow_silo.audit import machine_of
 from slow_silo.journal import Journal
 from slow_silo.kinds import Send
-from slow_silo.machine import Machine, Request
+from slow_silo.machine import Entry, Request
 from slow_silo.names import Grain
 from slow_silo.steps import Abandon, Begin, Deliver, End, Reply, Step, Store, Sweep, owner
-from slow_silo.storage import Fuse, Storage
 
 
 class Done(NamedTuple):
@@ -23,6 +23,8 @@ class Done(NamedTuple):
     step: Step
     # the grain whose entry or row it is about: of a delivery the one that is asked
     grain: Optional[Grain]
+    # the grain's entry before, which may have gone since
+    entry: Optional[Entry]
     # what it accepted, opened or closed
     request: Optional[Request]
     # what it delivered
@@ -38,7 +40,7 @@ class Redone:
     """One tenant's machine, stepped once more up to the first step that isn't possible."""
 
     def __init__(self, journal: Journal, tenant: str):
-        self.machine = Machine(tenant, dict(journal.tenants).get(tenant), journal.age, Storage([], Fuse()))
+        self.machine = machine_of(journal, tenant)
         self.replies: list[Reply] = []
         self.stopped = False
 
@@ -47,7 +49,7 @@ class Redone:
         machine, sent, request = self.machine, self.sent_by(step), self.turn_of(step)
         grain = getattr(step, "grain", None) if sent is None else sent.target
         held = sorted(machine.entries) if isinstance(step, Sweep) else [grain] if grain in machine.entries else []
-        count, waiting = machine.count, len(machine.sends)
+        count, waiting, entry = machine.count, len(machine.sends), machine.entries.get(grain)
         replies = None if self.stopped else machine.step(step)
         if replies is None:
             self.stopped = True
@@ -57,7 +59,7 @@ class Redone:
             request = machine.entries[grain].queue[-1]
         sends = len(machine.sends) - waiting if isinstance(step, End) else 0
         gone = [one for one in held if one not in machine.entries]
-        return Done(number, step, grain, request, sent, sends, gone, replies)
+        return Done(number, step, grain, entry, request, sent, sends, gone, replies)
 
     def sent_by(self, step: Step) -> Optional[Send]:
         """What a delivery takes: the oldest call that its grain sent."""
@@ -85,4 +87,5 @@ def struck(journal: Journal, tenant: str) -> Journal:
         tuple((grain, row) for grain, row in journal.rows if grain.tenant == tenant),
         journal.kinds,
         journal.ages,
+        journal.form,
     )

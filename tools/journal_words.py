@@ -71,7 +71,9 @@ def came_to(done: Done, what: str) -> str:
 
 
 def turn_came_to(done: Done, what: str) -> str:
-    return came_to(done, f"request {done.request.number} of {done.grain.text()} {what}")
+    """What a turn came to. The activation goes with it if it rests and is idle then."""
+    went = ", and the activation went, since it rests" if done.gone and done.entry.phase == READY else ""
+    return came_to(done, f"request {done.request.number} of {done.grain.text()} {what}{went}")
 
 
 def load_words(done: Done, machine: Machine) -> str:
@@ -91,13 +93,12 @@ def end_words(done: Done, _machine: Machine) -> str:
     return turn_came_to(done, f"ended{calls}")
 
 
-def store_words(done: Done, machine: Machine) -> str:
-    entry = machine.entries.get(done.grain)
+def store_words(done: Done, _machine: Machine) -> str:
     if done.step.failed:
         return turn_came_to(done, "ended, since the storage failed")
-    if entry is None or entry.phase != READY:
+    if done.entry.phase != READY:
         return turn_came_to(done, "ended with the activation, since the row has another version")
-    version = "no row" if entry.version is None else f"version {entry.version}"
+    version = "no row" if done.entry.version is None else f"version {done.entry.version}"
     return turn_came_to(done, f"{STORED[done.request.method]} {version}")
 
 

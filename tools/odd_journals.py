@@ -65,6 +65,25 @@ def logics() -> list[bytes]:
     return found
 
 
+def turned(kinds: int, node: str, said: str, method: str = "stay") -> bytes:
+    """A journal of one turn of this method and argument, by this logic, with what it was told."""
+    message_of = f"01{len(method):08x}{method.encode().hex()}{node}"
+    return text([f"call red/c1 1 {A} {message_of}", f"activate {A}", f"load {A} ok", f"begin {A}", f"end {A} 1"],
+                [f"reply red/c1 1 {said}"], [SECOND[0], f"kinds {kinds}", SECOND[2], HEAD[2]])
+
+
+def stays() -> list[bytes]:
+    """Turns that rest or stay, with the argument at its limits and past them, as each logic tells them."""
+    found = []
+    for time in (-(2**63), -1, 0, 1, 86_400_000, 86_400_001, LAST):
+        node = f"060000000100000003666f7203{time % 2**64:016x}"
+        found += [turned(kinds, node, said) for kinds, said in
+                  ((1, NO), (1, "ok 00"), (2, NO), (2, "ok 00"), (2, "no 61 arguments do not fit"))]
+    for node in ("00", "060000000100000002627903" + f"{5:016x}", "060000000100000003666f7200", "03" + f"{5:016x}"):
+        found += [turned(2, node, said, method) for method in ("stay", "rest") for said in ("ok 00", "no 61 arguments do not fit")]
+    return found
+
+
 def numbers() -> list[bytes]:
     """Each number of a line at its limits and past them."""
     heads = [("age {}", 1, 86_400_000), ("tenant red {} 4", 1, 10_000), ("tenant red 2 {}", 1, 1_000)]
@@ -107,4 +126,4 @@ def ends() -> list[bytes]:
     return found + [called(node) for node in ("", "07", "0", "0G", "03", names_out_of_order, "0400000001ff")]
 
 
-ALL = [*logics(), *numbers(), *lengths(), *ends()]
+ALL = [*logics(), *stays(), *numbers(), *lengths(), *ends()]

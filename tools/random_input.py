@@ -14,18 +14,27 @@ from random_lines import (BAD_CALLERS, BAD_GRAINS, NUMBERS, ODD_ARGUMENTS, OTHER
                           some_value, with_extra)
 from slow_silo import lines, program
 from slow_silo.journal import journal_of, journal_text
-from slow_silo.kinds import METHODS, STORING
+from slow_silo.kinds import KINDS, RESTING, RESTING_METHODS, STORING
 from slow_silo.machine import LOADING, WAITING, Limits
 from slow_silo.serve import lanes_of, serve
 from slow_silo.silo import Setup, Silo
 
 TENANTS = ["red", "blue", "reddish", "r"]
 NAMES = ["a", "a", "a", "b", "a/b:c", '"\\', "n" * 128]
-ODD_METHODS = ["fly", "", "get", "add\u0000", "GET", "save"]
+ODD_METHODS = ["fly", "", "get", "add\u0000", "GET", "save", "rest", "stay", "rest "]
 STRANGE_GRAINS = ["counter/blue:a", "counter/reddish:a", "counter/r:a", "clock/red:a", "sheet/red:a", "relay/blue:a"]
 ACTIVATIONS = ["1", "2", "3", "4", "10000"]
 MAILBOXES = ["1", "1", "2", "4", "1000"]
 AGES = ["1", "5", "100", "900000"]
+AGES_OF_KINDS = ["counter=1", "counter=3,sheet=1", "sheet=5,relay=2,counter=10", "clock=1", "counter=86400000",
+                 "relay=1,counter=200", "a=1,sheet=2,z-9=3", ",".join(f"k{number}=7" for number in range(63)) + ",sheet=4"]
+ODD_AGES = ["", "counter", "counter=0", "counter=86400001", "counter=01", "counter=+1", "counter=-1", "counter=1,", ",",
+            "counter=1,counter=1", "sheet=1,counter=2,sheet=3", "Counter=1", "counter:1", "counter=1;sheet=2", "counter=1 ",
+            "counter=1, sheet=2", "=1", "counter==1", "counter=99999999999999999999", "k" * 33 + "=1", "réd=1",
+            ",".join(f"k{number}=7" for number in range(65))]
+# how long a grain stays, and what stay refuses
+STAYS = [1, 1, 2, 5, 50, 100, 86_400_000]
+ODD_STAYS = [0, -1, 86_400_001, 2**63 - 1, -(2**63), "5", None, True]
 LENGTHS = [1, 3, 12, 40, 120, 120]
 ODD_WORDS = [
     ["steps", "--age", "0", "red:2:4"], ["steps", "--age", "86400001", "red:2:4"], ["steps", "--age", "x", "red:2:4"],
@@ -34,7 +43,10 @@ ODD_WORDS = [
     ["steps", "red:02:4", "x"], ["steps", "red:0:4"], ["steps", "red:10001:4"], ["steps", "red:2:1001"],
     ["steps", "red:2"], ["steps", "red:2:4:8"], ["steps", "Red:2:4"], ["steps", "red:+2:4"], ["steps", "red:2:"],
     ["steps", ""], ["steps", "r" * 33 + ":2:4"], ["steps", "red:99999999999999999999:4"], ["steps", "réd:2:4"],
-    ["steps", "red:1:1", "blue:1:1", "x", "red:1:1"],
+    ["steps", "red:1:1", "blue:1:1", "x", "red:1:1"], ["steps", "--ages", "counter=1", "red:0:4"],
+    ["steps", "--ages", "", "x"], ["steps", "--ages", "counter=0", "--age", "0", "red:2:4"], ["steps", "red:2:4", "--ages"],
+    ["steps", "--ages", "counter=1", "--ages", "counter=1", "red:2:4"], ["steps", "red:2:4", "--ages=sheet=5,counter=1"],
+    *(["steps", "--ages", ages, "red:2:4"] for ages in ODD_AGES),
 ]
 
 
@@ -68,7 +80,7 @@ class World:
         held = [grain.text() for grain in self.silo.machine(tenant).entries]
         if held and self.random.random() < self.again:
             return self.random.choice(held)
-        kind = self.random.choice(sorted(METHODS))
+        kind = self.random.choice(sorted(RESTING_METHODS))
         return f"{kind}/{tenant}:{self.random.choice(self.names)}"
 
     def any_grain(self) -> str:
@@ -80,10 +92,10 @@ class World:
     def method_and_argument(self, kind: str) -> tuple[str, str]:
         """A method of the kind as a rule, with an argument that fits it as a rule."""
         random = self.random
-        known = sorted(METHODS.get(kind, ["get"]))
-        own = [method for method in known if method not in STORING]
+        known = sorted(RESTING_METHODS.get(kind, ["get"]))
+        own = [method for method in known if method not in STORING and method not in RESTING]
         chance = random.random()
-        method = random.choice(ODD_METHODS if chance < 0.15 else own if chance < 0.8 else known)
+        method = random.choice(ODD_METHODS if chance < 0.15 else own if chance < 0.75 else known)
         if random.random() < 0.12:
             return method, random.choice([random.choice(ODD_ARGUMENTS), odd_argument(random)])
         return method, dumped(self.fitting(kind, method))
@@ -96,12 +108,15 @@ class World:
             return {"name": random.choice(["k", "l", "", "é"]), "value": some_value(random)}
         if method == "drop" or method == "get" and kind == "sheet":
             return {"name": random.choice(["k", "l", "", "é"])}
+        if method == "stay":
+            return {"for": random.choice(STAYS if random.random() < 0.8 else ODD_STAYS)}
         if method in ("join", "leave"):
             joined = [f"counter/{self.tenant()}:{name}" for name in "abcde"]
             return {"grain": random.choice([*joined, self.any_grain(), "counter/blue:x", "x"])}
         if method == "send":
             to, sent = random.choice([("counter", "get"), ("counter", "add"), ("sheet", "put"), ("relay", "join"),
-                                      ("relay", "leave"), ("counter", "save"), ("counter", "fly")])
+                                      ("relay", "leave"), ("counter", "save"), ("counter", "fly"), ("sheet", "rest"),
+                                      ("counter", "stay")])
             return {"args": self.fitting(to, sent), "method": sent}
         return None
 
@@ -255,15 +270,20 @@ def tenant_words(random: Random, tenants: list[str]) -> list[str]:
     return [f"{tenant}:{random.choice(ACTIVATIONS)}:{random.choice(MAILBOXES)}" for tenant in tenants]
 
 
+def age_words(random: Random) -> list[str]:
+    """The options for the ages: the one of all kinds, and now and then those of some kinds."""
+    ages = ["--ages", random.choice(AGES_OF_KINDS)] if random.random() < 0.4 else []
+    return ["--age", random.choice(AGES), *ages]
+
+
 def steps_input(random: Random) -> Input:
     """An input of `steps`."""
     tenants = TENANTS[: random.choice([1, 1, 2, 2, 3, 4])]
     if random.random() < 0.05:
         return Input(random.choice(ODD_WORDS), b"")
     crowded = random.random() < 0.3
-    words = tenant_words(random, tenants)
-    age = random.choice(AGES)
-    silo = Silo(Setup(program.tenants_of(words), int(age)))
+    words = ["steps", *age_words(random), *tenant_words(random, tenants)]
+    silo = Silo(program.setup_of_words(words))
     world = World(random, tenants, silo, crowded)
     made = []
     for _ in range(random.choice(LENGTHS)):
@@ -272,7 +292,7 @@ def steps_input(random: Random) -> Input:
             lines.answer(silo, line)
     ending = random.choice([b"\n", b"\n", b"\n", b"\r\n"])
     data = ending.join(made) + (ending if made and random.random() < 0.8 else b"")
-    return Input(["steps", "--age", age, *words], data)
+    return Input(words, data)
 
 
 def serve_input(random: Random) -> Input:
@@ -300,31 +320,40 @@ def serve_input(random: Random) -> Input:
 def set_up_input(random: Random) -> tuple[Input, Setup]:
     """An input of `steps` whose words are taken, and what they set up."""
     made = steps_input(random)
-    while len(made.words) < 4 or made.words[1] != "--age" or made.words in ODD_WORDS:
+    while made.words in ODD_WORDS:
         made = steps_input(random)
-    return made, Setup(program.tenants_of(made.words[3:]), int(made.words[2]))
+    return made, program.setup_of_words(made.words)
 
 
-def steps_journal(random: Random) -> bytes:
+def as_written_before(setup: Setup) -> Setup:
+    """What a silo was set up with whose journal has the first form."""
+    return setup._replace(logic=KINDS, ages=())
+
+
+def text_in_form(silo: Silo, form: int) -> bytes:
+    return journal_text(journal_of(silo)._replace(form=form))
+
+
+def steps_journal(random: Random, form: int = 2) -> bytes:
     """The journal of a silo that took the lines of an input of `steps`."""
     made, setup = set_up_input(random)
-    silo = Silo(setup)
+    silo = Silo(as_written_before(setup) if form == 1 else setup)
     for line in made.data.split(b"\n"):
         lines.answer(silo, line)
-    return journal_text(journal_of(silo))
+    return text_in_form(silo, form)
 
 
-def served_journal(random: Random) -> bytes:
+def served_journal(random: Random, form: int = 2) -> bytes:
     """The journal of a silo that served the lanes of an input of `steps`, each step at any time that it may come."""
     made, setup = set_up_input(random)
     read = [lines.read_line(line) for line in lines.lines_of([made.data])]
     _refused, steps = program.sort_lines(read)
-    return journal_text(journal_of(serve(setup, lanes_of(steps), random)))
+    return text_in_form(serve(as_written_before(setup) if form == 1 else setup, lanes_of(steps), random), form)
 
 
 def audit_input(random: Random) -> Input:
     """A journal of a silo, as it is or with something changed."""
-    text = steps_journal(random)
+    text = steps_journal(random, random.choice([1, 2, 2]))
     kind = random.random()
     if kind < 0.3:
         text = damaged(random, text)

@@ -29,7 +29,8 @@ RESTING = [
         FIRST_CALL + call(2, SHEET, "list") + up(A) + up(SHEET) + run(A, 1) + run(SHEET, 2) + tick(10) + SWEEP + status(3)
         + tick(19) + SWEEP + status(4) + tick(20) + SWEEP + status(5),
         ok(1, 3) + ok(2, []) + seen(3, 1, 10, 2) + seen(4, 1, 19, 2) + seen(5, 0, 20, 2)),
-    Row("each kind has its own age, and it is every tenant's", ["steps", "--ages", "sheet=3,relay=2,counter=1", "red:2:4", "blue:2:4"],
+    Row("each kind has its own age, and it is every tenant's",
+        ["steps", "--ages", "sheet=3,relay=2,counter=1", "red:2:4", "blue:2:4"],
         FIRST_CALL + call(1, BLUE_A, "get", None, BLUE) + call(2, RELAY, "leave", {"grain": A})
         + sum((up(grain) for grain in (A, BLUE_A, RELAY)), []) + run(A, 1) + run(BLUE_A, 1) + run(RELAY, 2)
         + tick(1) + SWEEP + status(3) + status(2, BLUE) + tick(2) + SWEEP + status(4),
@@ -106,7 +107,8 @@ RESTING = [
         ok(1, None) + ok(4, "1") + no(2, 54, f"stored state of {A} has changed") + ok(3, 7) + seen(5, 0, 1, 3)),
     Row("what an entry that rests sent goes out when it is gone", ["steps", "red:2:8"],
         call(1, RELAY, "join", {"grain": A}) + call(2, RELAY, "rest")
-        + call(3, RELAY, "send", {"args": {"by": 2}, "method": "add"}) + up(RELAY) + run(RELAY, 1) + run(RELAY, 2) + run(RELAY, 3) + status(4) + at("deliver", RELAY) + up(A)
+        + call(3, RELAY, "send", {"args": {"by": 2}, "method": "add"}) + up(RELAY)
+        + run(RELAY, 1) + run(RELAY, 2) + run(RELAY, 3) + status(4) + at("deliver", RELAY) + up(A)
         + run(A, 4) + call(5, A, "get") + run(A, 5),
         ok(1, True) + ok(2, None) + ok(3, 1) + seen(4, 0, 0, 3) + ok(5, 2)),
     Row("a relay sends its member to rest", ["steps", "red:2:8"],
