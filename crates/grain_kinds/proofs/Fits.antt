@@ -36,6 +36,7 @@ mutual
   formed_ascends (tree.text s) h = tt
   formed_ascends (tree.list vs) h = members_ascend vs h
   formed_ascends (tree.map fs) h = fields_ascend fs h
+  formed_ascends (tree.bytes b) h = tt
 
   pub members_ascend : (vs : Members) → AreFormed vs → MembersAscend vs
   members_ascend no_members h = tt

@@ -32,6 +32,7 @@ number_fits (tree.truth b) formed = zero_fits
 number_fits (tree.text s) formed = zero_fits
 number_fits (tree.list vs) formed = zero_fits
 number_fits (tree.map fs) formed = zero_fits
+number_fits (tree.bytes b) formed = zero_fits
 
 add_obeys : (state : Tree) (call : Call) (sum : ℤ) → ObeysLaws state call (add_to state sum)
 add_obeys state call sum =

@@ -132,6 +132,7 @@ member_value (tree.truth b) g e formed = absurd cc
 member_value (tree.integer i) g e formed = absurd cc
 member_value (tree.list vs) g e formed = absurd cc
 member_value (tree.map fs) g e formed = absurd cc
+member_value (tree.bytes b) g e formed = absurd cc
 
 name_length : (name : List ℕ) → is_name name ≡ true → length name ≤ 128
 unfolding is_name
@@ -195,6 +196,7 @@ members_fit (tree.truth b) formed = none_fit
 members_fit (tree.integer i) formed = none_fit
 members_fit (tree.text s) formed = none_fit
 members_fit (tree.map fs) formed = none_fit
+members_fit (tree.bytes b) formed = none_fit
 
 -- ---- the state of members
 

@@ -115,6 +115,7 @@ fields_fit (tree.truth b) h = no_fields_fit
 fields_fit (tree.integer i) h = no_fields_fit
 fields_fit (tree.text s) h = no_fields_fit
 fields_fit (tree.list vs) h = no_fields_fit
+fields_fit (tree.bytes b) h = no_fields_fit
 
 -- ---- put
 

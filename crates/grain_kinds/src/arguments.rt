@@ -18,6 +18,7 @@ pub fn is_null(argument: Node<'_>) -> bool
         Node::Text(_) => false,
         Node::List(_) => false,
         Node::Map(_) => false,
+        Node::Bytes(_) => false,
     }
 }
 
@@ -32,6 +33,7 @@ pub fn integer_value(value: Node<'_>) -> Option<i64>
         Node::Text(_) => None,
         Node::List(_) => None,
         Node::Map(_) => None,
+        Node::Bytes(_) => None,
     }
 }
 
@@ -46,6 +48,7 @@ pub fn text_value<'a>(value: Node<'a>) -> Option<&'a str>
         Node::Int(_) => None,
         Node::List(_) => None,
         Node::Map(_) => None,
+        Node::Bytes(_) => None,
     }
 }
 

@@ -64,5 +64,6 @@ fn number_of(state: Node<'_>) -> i64
         Node::Text(_) => 0,
         Node::List(_) => 0,
         Node::Map(_) => 0,
+        Node::Bytes(_) => 0,
     }
 }

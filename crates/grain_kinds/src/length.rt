@@ -29,6 +29,7 @@ fn after_node(node: Node<'_>, room: usize) -> Option<usize>
         Node::Text(text) => room.checked_sub(5)?.checked_sub(text.len()),
         Node::List(nodes) => after_nodes(nodes, room.checked_sub(5)?),
         Node::Map(fields) => after_fields(fields, room.checked_sub(5)?),
+        Node::Bytes(bytes) => room.checked_sub(5)?.checked_sub(bytes.len()),
     }
 }
 

@@ -80,6 +80,7 @@ fn fields_of<'a>(state: Node<'a>) -> &'a [Field<'a>]
         Node::Int(_) => &[],
         Node::Text(_) => &[],
         Node::List(_) => &[],
+        Node::Bytes(_) => &[],
     }
 }
 

@@ -39,10 +39,7 @@ fn message_of(alloc: Global, method: &str, argument: Node<'_>) -> Result<Message
     match encode_call(alloc, method, argument) {
         Ok(message) => Ok(message),
         Err(CodecFault::Memory) => Err(AllocError),
-        Err(CodecFault::TooDeep) => unreachable!(),
-        Err(CodecFault::TooLong) => unreachable!(),
-        Err(CodecFault::NotWhole) => unreachable!(),
-        Err(CodecFault::NotAMessage) => unreachable!(),
+        Err(_) => unreachable!(),
     }
 }
 

@@ -3,6 +3,7 @@ use Rattle.std.specs.Prelude.{◌≡◌, ℕ, zero, suc, true, false, List, [], 
 use Rattle.std.proofs.Common.{sym, ap, ◌∙◌}
 use base.Stored.{Gv, gnil, gnum, gcons, Coded}
 use Rattle.request_codec.specs.Tree.{Tree, null, truth, integer, text, list, map, Members, no_members, member, Fields, no_fields, field}
+use Rattle.request_codec.specs.Tree as tree
 
 abbrev pub bytes_code : List ℕ → Gv
 bytes_code [] = gnil
@@ -17,7 +18,8 @@ abbrev mutual
   tree_code (integer (negsuc n)) = gcons (gnum 1) (gnum n)
   tree_code (text s) = gcons (gnum 2) (bytes_code s)
   tree_code (list vs) = gcons (gnum 3) (members_code vs)
-  tree_code (map fs) = gcons (gnum 4) (fields_code fs)
+  tree_code (map fs) = gcons (gnum 5) (fields_code fs)
+  tree_code (tree.bytes b) = gcons (gnum 4) (bytes_code b)
 
   pub members_code : Members → Gv
   members_code no_members = gnil
@@ -53,7 +55,8 @@ node_back (gnum zero) g vs fs = integer (pos (number_back g))
 node_back (gnum (suc zero)) g vs fs = integer (negsuc (number_back g))
 node_back (gnum (suc (suc zero))) g vs fs = text (bytes_back g)
 node_back (gnum (suc (suc (suc zero)))) g vs fs = list vs
-node_back (gnum (suc (suc (suc (suc n))))) g vs fs = map fs
+node_back (gnum (suc (suc (suc (suc zero))))) g vs fs = tree.bytes (bytes_back g)
+node_back (gnum (suc (suc (suc (suc (suc n)))))) g vs fs = map fs
 node_back (gcons a b) g vs fs = null
 
 -- read in each of the ways in which a code may stand: as a value, as members, as fields, and as a value in front of fields
@@ -77,6 +80,7 @@ mutual
   tree_again (text s) = ap text (bytes_again s)
   tree_again (list vs) = ap list (members_again vs)
   tree_again (map fs) = ap map (fields_again fs)
+  tree_again (tree.bytes b) = ap tree.bytes (bytes_again b)
 
   members_again : (vs : Members) → (back (members_code vs)).1 ≡ vs
   members_again no_members = refl

@@ -3,9 +3,11 @@ use Rattle.std.specs.Prelude.{ℕ, ◌<◌, ◌≤◌, ◌^◌, Bool, true, fals
 use Rattle.std.specs.Int.{w64}
 use Rattle.request_codec.specs.Tree.{Tree, null, truth, integer, text, list, map, Members, no_members, member, Fields, no_fields, field}
 use Rattle.request_codec.specs.Tree.{members_count, fields_count, depth, members_depth, fields_depth}
+use Rattle.request_codec.specs.Tree as tree
+use Rattle.hex.specs.Hex.{IsBytes}
 use Rattle.request_codec.specs.Spelling.{IsBelowFirst}
 
--- each number is one of i64, each text and name is UTF-8, and names ascend
+-- each number is one of i64, each text and name is UTF-8, each byte is from 0 to 255, and names ascend
 abbrev mutual
   pub IsFormed : Tree → Type 0
   IsFormed null = Unit {0}
@@ -14,6 +16,7 @@ abbrev mutual
   IsFormed (text s) = IsUtf8 s
   IsFormed (list vs) = AreFormed vs
   IsFormed (map fs) = FieldsFormed fs
+  IsFormed (tree.bytes b) = IsBytes b
 
   pub AreFormed : Members → Type 0
   AreFormed no_members = Unit {0}
@@ -23,7 +26,7 @@ abbrev mutual
   FieldsFormed no_fields = Unit {0}
   FieldsFormed (field n v fs) = IsUtf8 n × IsFormed v × IsBelowFirst n fs × FieldsFormed fs
 
--- each text and name is shorter than 2^32 bytes, and each count fits a u32
+-- each text, each name and all bytes are shorter than 2^32 bytes, and each count fits a u32
 abbrev mutual
   pub IsSized : Tree → Type 0
   IsSized null = Unit {0}
@@ -32,6 +35,7 @@ abbrev mutual
   IsSized (text s) = length s < 2 ^ 32
   IsSized (list vs) = (members_count vs < 2 ^ 32) × AreSized vs
   IsSized (map fs) = (fields_count fs < 2 ^ 32) × FieldsSized fs
+  IsSized (tree.bytes b) = length b < 2 ^ 32
 
   pub AreSized : Members → Type 0
   AreSized no_members = Unit {0}

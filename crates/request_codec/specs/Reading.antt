@@ -5,6 +5,7 @@ use Rattle.std.specs.Str.{is_utf8}
 use Rattle.std.specs.Cmp.Lexicographic.{slice_cmp}
 use Rattle.std.specs.Ordering.{nat_cmp, is_lt}
 use Rattle.request_codec.specs.Tree.{Tree, null, truth, integer, text, list, map, Members, no_members, member, Fields, no_fields, field}
+use Rattle.request_codec.specs.Tree as tree
 
 abbrev pub Parse : Type 0 → Type 0
 Parse A = List ℕ → Option (A × List ℕ)
@@ -18,14 +19,21 @@ unfoldable pub number_at : Width → Parse ℕ
 number_at w bytes = if nat_lt (length bytes) (byte_len w) then None
     else Some (from_be_bytes w (take (byte_len w) bytes), drop (byte_len w) bytes)
 
--- that many bytes, which have to be UTF-8
-abbrev pub characters_at : ℕ → Parse (List ℕ)
-characters_at n bytes = if nat_lt (length bytes) n then None else if is_utf8 (take n bytes) then Some (take n bytes, drop n bytes) else None
+-- that many bytes
+abbrev pub octets_at : ℕ → Parse (List ℕ)
+octets_at n bytes = if nat_lt (length bytes) n then None else Some (take n bytes, drop n bytes)
 
+-- bytes behind their count
+unfoldable pub bytes_at : Parse (List ℕ)
+bytes_at bytes = do
+  n ← number_at w32 bytes
+  octets_at n.0 n.1
+
+-- bytes behind their count, which have to be UTF-8
 unfoldable pub text_at : Parse (List ℕ)
 text_at bytes = do
-  n ← number_at w32 bytes
-  characters_at n.0 n.1
+  found ← bytes_at bytes
+  if is_utf8 found.0 then Some found else None
 
 -- that many values, one after another
 unfoldable pub members_at : Parse Tree → ℕ → Parse Members
@@ -68,7 +76,10 @@ node_at read (suc (suc (suc (suc (suc (suc zero)))))) rest = do
   n ← number_at w32 rest
   fs ← fields_at read n.0 None n.1
   Some (map fs.0, fs.1)
-node_at read (suc (suc (suc (suc (suc (suc (suc b))))))) rest = None
+node_at read (suc (suc (suc (suc (suc (suc (suc zero))))))) rest = do
+  b ← bytes_at rest
+  Some (tree.bytes b.0, b.1)
+node_at read (suc (suc (suc (suc (suc (suc (suc (suc b)))))))) rest = None
 
 -- one value, no deeper than the number
 unfoldable pub value_at : ℕ → Parse Tree

@@ -17,6 +17,7 @@ seen_step (Datum-F.Int i) = tree.integer i
 seen_step (Datum-F.Text s) = tree.text (string_bytes s)
 seen_step (Datum-F.List v) = tree.list (members_of v.items)
 seen_step (Datum-F.Map m) = tree.map (fields_of (map named m.entries))
+seen_step (Datum-F.Bytes v) = tree.bytes v.items
 
 abbrev pub value_of : Datum → Tree
 value_of = fold-Datum Tree seen_step

@@ -6,6 +6,8 @@ use Rattle.std.specs.Ordering.{nat_cmp, is_lt}
 use Rattle.request_codec.specs.Limits.{message_version, depth_limit, message_limit, state_limit}
 use Rattle.request_codec.specs.Tree.{Tree, null, truth, integer, text, list, map, Members, no_members, member, Fields, no_fields, field}
 use Rattle.request_codec.specs.Tree.{members_count, fields_count, depth}
+use Rattle.request_codec.specs.Tree as tree
+use Rattle.hex.specs.Hex.{IsBytes}
 
 -- A text: its length as four bytes, high first, and then its bytes, which are UTF-8.
 abbrev pub SpellsText : List ℕ → List ℕ → Type 0
@@ -28,6 +30,7 @@ abbrev mutual
       × (bytes ≡ 5 ∷ (to_be_bytes w32 (members_count vs) ++ rest))
   Spells (map fs) bytes = (rest : List ℕ) × (fields_count fs < 2 ^ 32) × SpellFields fs rest
       × (bytes ≡ 6 ∷ (to_be_bytes w32 (fields_count fs) ++ rest))
+  Spells (tree.bytes b) bytes = (length b < 2 ^ 32) × IsBytes b × (bytes ≡ 7 ∷ (to_be_bytes w32 (length b) ++ b))
 
   -- one after another, with nothing between
   pub SpellEach : Members → List ℕ → Type 0

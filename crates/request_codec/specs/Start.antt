@@ -2,7 +2,8 @@
 use Rattle.std.specs.Prelude.{ℕ, zero, suc, true, false, List, [], ◌∷◌, length, Option, Some, None, nat_lt, if◌then◌else◌}
 use Rattle.std.specs.Int.{w32, w64, cast_signed}
 use Rattle.request_codec.specs.Tree.{Tree, null, truth, integer, text, list, map}
-use Rattle.request_codec.specs.Reading.{Parse, ◌>>=◌, number_at, text_at, members_at, fields_at}
+use Rattle.request_codec.specs.Tree as tree
+use Rattle.request_codec.specs.Reading.{Parse, ◌>>=◌, number_at, bytes_at, text_at, members_at, fields_at}
 use Rattle.request_codec.specs.declared.bytes.start.Start.{Start}
 use Rattle.request_codec.specs.declared.bytes.start.Start.TheVariants as starts
 
@@ -19,6 +20,7 @@ begun (starts.Int i) = leaf (integer i)
 begun (starts.Text s) = leaf (text s.now)
 begun (starts.List n) = list_of n
 begun (starts.Map n) = map_of n
+begun (starts.Bytes b) = leaf (tree.bytes b.now)
 
 -- a count of members, if as many bytes are left, since each member takes one at least
 abbrev pub if_enough : ℕ → List ℕ → Option (ℕ × List ℕ)
@@ -46,7 +48,10 @@ start_at (suc (suc (suc (suc (suc zero)))) ∷ rest) = do
 start_at (suc (suc (suc (suc (suc (suc zero))))) ∷ rest) = do
   n ← count_at rest
   Some (map_of n.0, n.1)
-start_at (suc (suc (suc (suc (suc (suc (suc b)))))) ∷ rest) = None
+start_at (suc (suc (suc (suc (suc (suc (suc zero)))))) ∷ rest) = do
+  b ← bytes_at rest
+  Some (leaf (tree.bytes b.0), b.1)
+start_at (suc (suc (suc (suc (suc (suc (suc (suc b))))))) ∷ rest) = None
 
 -- the value whose start was read; its members are read by `read`
 unfoldable pub value_behind : Parse Tree → Begun → Parse Tree

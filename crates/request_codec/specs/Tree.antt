@@ -1,6 +1,6 @@
--- Values: finite trees of null, truth values, whole numbers, texts, lists, and maps from text.
+-- Values: finite trees of null, truth values, whole numbers, texts, bytes, lists, and maps from text.
 -- A text is the list of its UTF-8 bytes.
-use Rattle.std.specs.Prelude.{ℕ, suc, max, Bool, List, [], ◌∷◌, ℤ}
+use Rattle.std.specs.Prelude.{ℕ, suc, max, Bool, true, false, ◌||◌, List, [], ◌∷◌, ℤ}
 
 mutual
   pub data Tree : Type 0 where
@@ -10,6 +10,7 @@ mutual
     text : List ℕ → Tree
     list : Members → Tree
     map : Fields → Tree
+    bytes : List ℕ → Tree
 
   -- the members of a list, in order
   pub data Members : Type 0 where
@@ -38,6 +39,7 @@ abbrev mutual
   depth (text s) = 1
   depth (list vs) = suc (members_depth vs)
   depth (map fs) = suc (fields_depth fs)
+  depth (bytes b) = 1
 
   pub members_depth : Members → ℕ
   members_depth no_members = 0
@@ -46,6 +48,25 @@ abbrev mutual
   pub fields_depth : Fields → ℕ
   fields_depth no_fields = 0
   fields_depth (field n v fs) = max (depth v) (fields_depth fs)
+
+-- whether bytes stand in it anywhere
+abbrev mutual
+  pub holds_bytes : Tree → Bool
+  holds_bytes null = false
+  holds_bytes (truth b) = false
+  holds_bytes (integer i) = false
+  holds_bytes (text s) = false
+  holds_bytes (list vs) = members_hold_bytes vs
+  holds_bytes (map fs) = fields_hold_bytes fs
+  holds_bytes (bytes b) = true
+
+  pub members_hold_bytes : Members → Bool
+  members_hold_bytes no_members = false
+  members_hold_bytes (member v vs) = holds_bytes v || members_hold_bytes vs
+
+  pub fields_hold_bytes : Fields → Bool
+  fields_hold_bytes no_fields = false
+  fields_hold_bytes (field n v fs) = holds_bytes v || fields_hold_bytes fs
 
 -- several values as the members of a list
 abbrev pub members_of : List Tree → Members

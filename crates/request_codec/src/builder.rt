@@ -37,6 +37,9 @@ pub trait Builder {
     fn text(&self, text: &str) -> Result<Self::Made, AllocError>
         ensures { IfOk result (λ v. made v ≡ tree.text text.now) };
 
+    fn bytes(&self, bytes: &[u8]) -> Result<Self::Made, AllocError>
+        ensures { IfOk result (λ v. made v ≡ tree.bytes bytes.now) };
+
     fn no_items(&self) -> Self::Items
         ensures { listed result ≡ [] };
 

@@ -1,9 +1,13 @@
 //! The parts of the message form, which every reader and writer of it stands on.
 
 mod draft;
+mod hex;
 mod start;
 
 pub use crate::value_end::value_end;
 pub use crate::value_writer::{message_bytes, put_value, state_bytes};
+pub(crate) use draft::put_counted;
 pub use draft::{counted, put, put_start, put_text};
-pub use start::{Start, may_follow, start_of, text_of, u32_of};
+pub(crate) use hex::{are_digits, decode_digits, put_digits};
+pub use hex::push_digits;
+pub use start::{Start, bytes_of, may_follow, start_of, text_of, u32_of};

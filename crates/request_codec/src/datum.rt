@@ -11,4 +11,5 @@ pub enum Datum {
     Text(String),
     List(Vec<Datum>),
     Map(BTreeMap<String, Datum>),
+    Bytes(Vec<u8>),
 }

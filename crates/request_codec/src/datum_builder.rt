@@ -43,6 +43,10 @@ impl Builder for DatumBuilder {
         Ok(Datum::Text(String::from_str(self.alloc, text)?))
     }
 
+    fn bytes(&self, bytes: &[u8]) -> Result<Datum, AllocError> {
+        Ok(Datum::Bytes(Vec::from_slice(self.alloc, bytes)?))
+    }
+
     fn no_items(&self) -> Vec<Datum> {
         Vec::new(self.alloc)
     }

@@ -39,6 +39,7 @@ impl<'a> Shown for &'a Datum {
             Datum::Text(text) => Level::Text(text.as_str()),
             Datum::List(items) => Level::List(items.len(), items.iter()),
             Datum::Map(fields) => Level::Map(fields.len(), fields.iter()),
+            Datum::Bytes(bytes) => Level::Bytes(bytes.as_slice()),
         }
     }
 

@@ -2,6 +2,7 @@
 
 ghost use Rattle.std.specs.Prelude.{IsTrue, IsUtf8, FitsSigned};
 ghost use Rattle.std.specs.Int.{w64};
+ghost use Rattle.hex.specs.Hex.{IsBytes};
 ghost use Rattle.request_codec.specs.Tree.{members_of, fields_of};
 ghost use Rattle.request_codec.specs.Formed.{TestsDepth, TestDepths, TestFieldDepths};
 ghost use Rattle.request_codec.specs.inside.Level.{AreKept};
@@ -24,6 +25,14 @@ fn is_text(_text: &str) -> bool
     true
 }
 
+/// Always: each `&[u8]` is bytes that a spelling is there for.
+fn is_bytes(_bytes: &[u8]) -> bool
+    ensures always { IsTrue result }
+    ensures formed { IsBytes _bytes.now }
+{
+    true
+}
+
 /// Whether the value is no deeper than the limit. It looks no deeper than that.
 #[cycle(depth)]
 pub fn is_within<V: Shown>(value: V, limit: u8) -> bool
@@ -40,6 +49,8 @@ pub fn is_within<V: Shown>(value: V, limit: u8) -> bool
         Level::Text(text) => is_text(text),
         Level::List(_, items) => are_within::<V>(items, limit - 1),
         Level::Map(_, fields) => fields_within::<V>(fields, limit - 1),
+        Level::Bytes(bytes) => is_bytes(bytes),
+        Level::Hex(_) => true,
     }
 }
 

@@ -18,6 +18,10 @@ pub enum CodecFault {
     /// Some number of the JSON isn't a whole number of 64 bits.
     #[error("a number isn't a whole number of 64 bits")]
     NotWhole,
+    /// Bytes of the JSON aren't well formed: beside `$hex` there is no even number of lower case
+    /// hexadecimal digits.
+    #[error("bytes are not well formed")]
+    NotHex,
     /// Nothing spells the bytes.
     #[error("nothing spells the bytes")]
     NotAMessage,

@@ -11,7 +11,7 @@ use serde_json::Value;
 use std::alloc::Global;
 
 /// The message of a method and the value of JSON: what `encode` makes of what `from_json` gives.
-/// `TooDeep` comes before `NotWhole`, and that before `TooLong`.
+/// `TooDeep` comes before `NotWhole`, that before `NotHex`, and that before `TooLong`.
 pub fn encode_json(alloc: Global, method: &str, argument: &Value) -> Result<Message, CodecFault>
     ensures { WritesJson result method.now (view argument.now) }
 {
@@ -20,6 +20,7 @@ pub fn encode_json(alloc: Global, method: &str, argument: &Value) -> Result<Mess
             let bytes = message_bytes(alloc, method, argument)?;
             Ok(Message::from_spelling(bytes)?)
         }
+        JsonTest::NotHex => Err(CodecFault::NotHex),
         JsonTest::NotWhole => Err(CodecFault::NotWhole),
         JsonTest::TooDeep => Err(CodecFault::TooDeep),
     }

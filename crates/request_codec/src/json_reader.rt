@@ -9,11 +9,13 @@ ghost use Rattle.request_codec.specs.inside.Converted.{Gives};
 
 use crate::datum::Datum;
 use crate::fault::CodecFault;
+use crate::json_hex::{bytes_of_json, hex_in};
 use serde_json::{Map, Value};
 use std::alloc::Global;
 use std::collections::BTreeMap;
 
-/// The value of the JSON: `NotWhole` where some number isn't a whole number of 64 bits.
+/// The value of the JSON: `NotWhole` or `NotHex` where some number isn't a whole number of 64 bits, or bytes aren't
+/// well formed.
 #[cycle(json_reading)]
 pub fn datum_of_json(alloc: Global, value: &Value) -> Result<Datum, CodecFault>
     ensures { Gives value_of result (value_of_json (view value.now)) }
@@ -27,7 +29,10 @@ pub fn datum_of_json(alloc: Global, value: &Value) -> Result<Datum, CodecFault>
         },
         Value::String(text) => Ok(Datum::Text(String::from_str(alloc, text.as_str())?)),
         Value::Array(items) => Ok(Datum::List(items_of_json(alloc, items.as_slice())?)),
-        Value::Object(members) => Ok(Datum::Map(map_of_json(alloc, members)?)),
+        Value::Object(members) => match hex_in(members) {
+            Some(beside) => Ok(Datum::Bytes(bytes_of_json(alloc, beside)?)),
+            None => Ok(Datum::Map(map_of_json(alloc, members)?)),
+        },
     }
 }
 

@@ -1,4 +1,5 @@
-//! The value that JSON shows, level by level. A number that isn't a whole number of 64 bits is shown as null.
+//! The value that JSON shows, level by level. A number that isn't a whole number of 64 bits is shown as null, and so are
+//! bytes that aren't well formed.
 
 ghost use Rattle.std.specs.Prelude.{map, ⊤, string_cmp};
 ghost use Rattle.std.specs.List.Sorted.{IsStrictlySortedBy};
@@ -6,6 +7,7 @@ ghost use Rattle.std.specs.Map.{keys_of};
 ghost use Rattle.std.specs.Slice.Iter.{iter_rest};
 ghost use Rattle.request_codec.specs.Lenient.{json_value, json_entry};
 
+use crate::json_hex::{digits_in, hex_in};
 use crate::shown::{Level, Shown};
 use serde_json::Value;
 use std::collections::btree_map;
@@ -41,7 +43,13 @@ impl<'a> Shown for &'a Value {
             },
             Value::String(text) => Level::Text(text.as_str()),
             Value::Array(items) => Level::List(items.len(), items.iter()),
-            Value::Object(members) => Level::Map(members.len(), members.iter()),
+            Value::Object(members) => match hex_in(members) {
+                Some(beside) => match digits_in(beside) {
+                    Some(digits) => Level::Hex(digits),
+                    None => Level::Null,
+                },
+                None => Level::Map(members.len(), members.iter()),
+            },
         }
     }
 

@@ -7,6 +7,7 @@ ghost use Rattle.request_codec.specs.Seen.{value_of, entry_of};
 ghost use Rattle.request_codec.specs.Json.{json_of, items_of, json_members_of};
 
 use crate::datum::Datum;
+use crate::json_hex::hex_to_json;
 use serde_json::{Map, Value};
 use std::alloc::{AllocError, Global};
 use std::collections::BTreeMap;
@@ -23,6 +24,7 @@ pub fn json_of_datum(alloc: Global, datum: &Datum) -> Result<Value, AllocError>
         Datum::Text(text) => Value::try_from_str(alloc, text.as_str()),
         Datum::List(items) => Ok(Value::Array(items_to_json(alloc, items.as_slice())?)),
         Datum::Map(fields) => Ok(Value::Object(fields_to_json(alloc, fields)?)),
+        Datum::Bytes(bytes) => Ok(Value::Object(hex_to_json(alloc, bytes.as_slice())?)),
     }
 }
 

@@ -1,7 +1,10 @@
-//! The version of messages, the limits of messages and states, and the room that is made for a short one.
+//! The versions of messages, the limits of messages and states, and the room that is made for a short one.
 
 /// The first byte of a message: the version of its form.
-pub const MESSAGE_VERSION: u8 = 1;
+pub const MESSAGE_VERSION: u8 = 2;
+
+/// The first byte of a message of the form before, which had no bytes among its values.
+pub const OLD_VERSION: u8 = 1;
 
 /// Bytes of a message.
 pub const MAX_MESSAGE_BYTES: usize = 65_536;

@@ -1,7 +1,7 @@
 //! Reading the value that bytes spell.
 
 ghost use Rattle.std.specs.Prelude.{◌≡◌, ℕ, List, Err, IfOk, string_bytes};
-ghost use Rattle.request_codec.specs.Limits.{depth_limit};
+ghost use Rattle.request_codec.specs.Limits.{message_version, depth_limit};
 ghost use Rattle.request_codec.specs.Tree.{Tree};
 ghost use Rattle.request_codec.specs.Spelling.{SpellsMessage};
 ghost use Rattle.request_codec.specs.Reading.{value_at, if_ended};
@@ -44,7 +44,7 @@ pub fn state_datum(alloc: Global, bytes: &[u8]) -> Result<Datum, CodecFault>
 
 /// The method and the argument behind the first byte of a message.
 fn call_in(alloc: Global, bytes: &[u8]) -> Result<(String, Datum), CodecFault>
-    ensures { Reads (λ found. asks (string_bytes found.0) (value_of found.1)) result (behind_version bytes.now) }
+    ensures { Reads (λ found. asks (string_bytes found.0) (value_of found.1)) result (behind_version message_version bytes.now) }
 {
     let [MESSAGE_VERSION, behind @ ..] = bytes else {
         return Err(CodecFault::NotAMessage);
@@ -57,7 +57,7 @@ fn call_in(alloc: Global, bytes: &[u8]) -> Result<(String, Datum), CodecFault>
 }
 
 /// The method and the argument that a message's bytes spell.
-#[tactic(auto, unfolding(crate::specs::Call::message_call))]
+#[tactic(auto, unfolding(crate::specs::Call::versioned_call))]
 pub fn decode(alloc: Global, bytes: &[u8]) -> Result<(String, Datum), CodecFault>
     ensures reads { Reads (λ found. asks (string_bytes found.0) (value_of found.1)) result (message_call bytes.now) }
     ensures spelled { IfOk result (λ found. SpellsMessage (string_bytes found.0) (value_of found.1) bytes.now) }

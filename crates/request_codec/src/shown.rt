@@ -14,6 +14,9 @@ pub enum Level<'a, I, F> {
     Text(&'a str),
     List(usize, I),
     Map(usize, F),
+    Bytes(&'a [u8]),
+    /// Bytes by their digits: an even number of lower case hexadecimal ones.
+    Hex(&'a str),
 }
 
 /// Shows a value, and the members of a list and the fields of a map in their order.

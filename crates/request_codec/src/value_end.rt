@@ -1,7 +1,7 @@
 //! Whether bytes spell something, which takes no memory.
 
 ghost use Rattle.std.specs.Prelude.{◌≡◌, None, option_map, is_some};
-ghost use Rattle.request_codec.specs.Limits.{depth_limit};
+ghost use Rattle.request_codec.specs.Limits.{message_version, depth_limit};
 ghost use Rattle.request_codec.specs.Reading.{value_at, members_at, fields_at, if_ended};
 ghost use Rattle.request_codec.specs.Call.{message_call, state_value, behind_version};
 ghost use Rattle.request_codec.specs.inside.Ends.{end_of};
@@ -27,6 +27,7 @@ pub fn value_end(bytes: &[u8], limit: u8) -> Option<&[u8]>
         Start::Text(_) => Some(rest),
         Start::List(count) => members_end(rest, count, limit - 1),
         Start::Map(count) => fields_end(rest, count, limit - 1),
+        Start::Bytes(_) => Some(rest),
     }
 }
 
@@ -90,7 +91,7 @@ pub fn is_state(bytes: &[u8]) -> bool
 
 /// Whether the first byte is a message's, and those behind it are a method and one value.
 fn is_call(bytes: &[u8]) -> bool
-    ensures { result ≡ is_some (behind_version bytes.now) }
+    ensures { result ≡ is_some (behind_version message_version bytes.now) }
 {
     let [MESSAGE_VERSION, behind @ ..] = bytes else {
         return false;
@@ -102,7 +103,7 @@ fn is_call(bytes: &[u8]) -> bool
 }
 
 /// Whether the bytes are a message's.
-#[tactic(auto, unfolding(crate::specs::Call::message_call))]
+#[tactic(auto, unfolding(crate::specs::Call::versioned_call))]
 pub fn is_message(bytes: &[u8]) -> bool
     ensures { result ≡ is_some (message_call bytes.now) }
 {

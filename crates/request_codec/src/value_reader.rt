@@ -38,6 +38,7 @@ pub fn read_value<'b, B: Builder>(
             let (fields, rest) = read_fields(builder, rest, count, limit - 1)?;
             Ok((builder.map(fields), rest))
         }
+        Start::Bytes(bytes) => Ok((builder.bytes(bytes)?, rest)),
     }
 }
 

@@ -6,7 +6,7 @@ ghost use Rattle.request_codec.specs.Limits.{message_limit, state_limit};
 ghost use Rattle.request_codec.specs.Tree.{members_of, fields_of};
 ghost use Rattle.request_codec.specs.Written.{Puts, WritesAll, spelling, members_spelling, fields_spelling, message_spelling};
 
-use crate::bytes::{Start, counted, put, put_start, put_text};
+use crate::bytes::{Start, counted, put, put_digits, put_start, put_text};
 use crate::fault::CodecFault;
 use crate::limits::{MAX_MESSAGE_BYTES, MAX_STATE_BYTES, MESSAGE_ROOM, MESSAGE_VERSION};
 use crate::shown::{Level, Shown};
@@ -35,6 +35,8 @@ pub fn put_value<V: Shown>(out: &mut Vec<u8>, limit: usize, value: V) -> Result<
             put_start(out, limit, Start::Map(count))?;
             put_fields::<V>(out, limit, fields)
         }
+        Level::Bytes(bytes) => put_start(out, limit, Start::Bytes(bytes)),
+        Level::Hex(digits) => put_digits(out, limit, digits),
     }
 }
 

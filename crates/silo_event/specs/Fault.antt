@@ -2,7 +2,7 @@
 use Rattle.std.specs.Prelude.{ℕ, List, ◌++◌, codes}
 use Rattle.grain_id.specs.Names.{grain_text}
 use Rattle.silo_event.specs.declared.fault.Fault.{Fault}
-use Rattle.silo_event.specs.declared.fault.Fault.TheVariants.{NotARequest, TooLong, TooDeep, NotWhole, NotWellFormed, UnknownTenant}
+use Rattle.silo_event.specs.declared.fault.Fault.TheVariants.{NotARequest, TooLong, TooDeep, NotWhole, NotHex, NotWellFormed, UnknownTenant}
 use Rattle.silo_event.specs.declared.fault.Fault.TheVariants.{UnknownKind, AcrossTenants, NoActivation, MailboxFull, NoNumber}
 use Rattle.silo_event.specs.declared.fault.Fault.TheVariants.{StorageFailed, StateChanged, VersionsSpent, UnknownMethod, Misfit}
 use Rattle.silo_event.specs.declared.fault.Fault.TheVariants.{OutOfRange, TooLarge, NoMemory}
@@ -14,6 +14,7 @@ fault_code NotARequest = 10
 fault_code TooLong = 11
 fault_code TooDeep = 12
 fault_code NotWhole = 13
+fault_code NotHex = 14
 fault_code NotWellFormed = 20
 fault_code (UnknownTenant tenant) = 21
 fault_code (UnknownKind kind) = 22
@@ -35,6 +36,7 @@ fault_text NotARequest = codes "line is not a request"
 fault_text TooLong = codes "line is too long"
 fault_text TooDeep = codes "arguments are too deep"
 fault_text NotWhole = codes "number is not a whole number of 64 bits"
+fault_text NotHex = codes "bytes are not well formed"
 fault_text NotWellFormed = codes "grain name is not well formed"
 fault_text (UnknownTenant tenant) = codes "tenant " ++ tenant ++ codes " is unknown"
 fault_text (UnknownKind kind) = codes "kind " ++ kind ++ codes " is unknown"
@@ -56,5 +58,6 @@ abbrev pub refusal_fault : Refusal → Fault
 refusal_fault refusal.TooLong = TooLong
 refusal_fault refusal.TooDeep = TooDeep
 refusal_fault refusal.NotWhole = NotWhole
+refusal_fault refusal.NotHex = NotHex
 refusal_fault refusal.NotWellFormed = NotWellFormed
 refusal_fault refusal.TooLarge = TooLarge

@@ -14,6 +14,8 @@ pub enum Refusal {
     TooDeep,
     /// A number in them isn't a whole number of 64 bits.
     NotWhole,
+    /// Bytes in them aren't well formed.
+    NotHex,
     /// The text is no grain's name.
     NotWellFormed,
     /// The state would be too large.
@@ -29,6 +31,7 @@ impl Refusal {
             Refusal::TooLong => Fault::TooLong,
             Refusal::TooDeep => Fault::TooDeep,
             Refusal::NotWhole => Fault::NotWhole,
+            Refusal::NotHex => Fault::NotHex,
             Refusal::NotWellFormed => Fault::NotWellFormed,
             Refusal::TooLarge => Fault::TooLarge,
         }

@@ -21,6 +21,7 @@ abbrev mutual
   MapsAscend (tree.text s) = Unit {0}
   MapsAscend (tree.list vs) = MembersAscend vs
   MapsAscend (tree.map fs) = FieldsAscend fs
+  MapsAscend (tree.bytes b) = Unit {0}
 
   pub MembersAscend : Members → Type 0
   MembersAscend no_members = Unit {0}

@@ -14,6 +14,7 @@ node_value_step (Node-F.Int i) = tree.integer i
 node_value_step (Node-F.Text s) = tree.text s.now
 node_value_step (Node-F.List ns) = tree.list (members_of ns.now)
 node_value_step (Node-F.Map fs) = tree.map (fields_of fs.now)
+node_value_step (Node-F.Bytes b) = tree.bytes b.now
 
 abbrev pub field_step : Field-F Tree (List ℕ × Tree) → List ℕ × Tree
 field_step f = (f.name.now, f.node)

@@ -1,4 +1,4 @@
-//! Reading bytes that are known to be a state's or a message's: nothing of that is tested again, and texts are lent.
+//! Reading bytes that are known to be a state's or a message's: nothing of that is tested again, and texts and bytes are lent.
 
 ghost use Rattle.std.specs.Prelude.{◌≡◌, Some, None, IsSome, IfOk, option_map};
 ghost use Rattle.request_codec.specs.Call.{message_call, state_value, asks};
@@ -9,7 +9,7 @@ ghost use Rattle.turn_arena.specs.NodeValue.{node_value, node_values, field_valu
 use crate::node::{Field, Node};
 use bumpalo::Bump;
 use bumpalo::collections::into_bump_slice;
-use request_codec::bytes::{Start, start_of, u32_of};
+use request_codec::bytes::{Start, bytes_of, start_of};
 use request_codec::limits::MAX_DEPTH;
 use std::alloc::AllocError;
 use std::str;
@@ -21,12 +21,7 @@ pub(crate) fn known_text(bytes: &[u8]) -> Option<(&str, &[u8])>
     requires { IsSome (text_at bytes.now) }
     ensures { option_map (λ x. (x.0.now, x.1.now)) result ≡ text_at bytes.now }
 {
-    let (count, rest) = u32_of(bytes)?;
-    let count = count as usize;
-    if rest.len() < count {
-        return None;
-    }
-    let (front, rest) = rest.split_at(count);
+    let (front, rest) = bytes_of(bytes)?;
     Some((unsafe { str::from_utf8_unchecked(front) }, rest))
 }
 
@@ -76,6 +71,7 @@ fn formed_node<'a>(
             let (fields, rest) = formed_fields(bump, rest, count, limit - 1)?;
             Ok((Node::Map(fields), rest))
         }
+        Start::Bytes(bytes) => Ok((Node::Bytes(bytes), rest)),
     }
 }
 
@@ -122,7 +118,7 @@ fn formed_fields<'a>(
     Ok((into_bump_slice(fields), rest))
 }
 
-/// The value of bytes that are known to be a state's. Its texts and names are lent from the bytes, and its
+/// The value of bytes that are known to be a state's. Its texts, bytes and names are lent from the bytes, and its
 /// lists and maps lie in the arena. The only error: the arena can't grow.
 pub fn formed_in<'a>(bump: &'a Bump, bytes: &'a [u8]) -> Result<Node<'a>, AllocError>
     requires { IsSome (state_value bytes.now) }
@@ -132,7 +128,7 @@ pub fn formed_in<'a>(bump: &'a Bump, bytes: &'a [u8]) -> Result<Node<'a>, AllocE
     Ok(node)
 }
 
-/// The method and the argument of bytes that are known to be a message's. The method, texts and names are lent from
+/// The method and the argument of bytes that are known to be a message's. The method, texts, bytes and names are lent from
 /// the bytes, and lists and maps lie in the arena. The only error: the arena can't grow.
 pub fn formed_call_in<'a>(
     bump: &'a Bump,

@@ -24,5 +24,5 @@ pub use formed::{formed_call_in, formed_in};
 pub use node::{Field, Node};
 pub use reading::{decode_in, node_in};
 pub use setting::put_spelled;
-pub use trees::{list_in, map_in, text_in};
+pub use trees::{bytes_in, list_in, map_in, text_in};
 pub use writing::{encode_call, encode_formed, encode_node};

@@ -8,7 +8,7 @@ pub struct Field<'a> {
     pub node: Node<'a>,
 }
 
-/// A value whose texts, members and fields are borrowed from an arena. It is copied without them.
+/// A value whose texts, members, fields and bytes are borrowed from an arena. It is copied without them.
 #[derive(Clone, Copy)]
 #[cycle(tree)]
 pub enum Node<'a> {
@@ -19,4 +19,5 @@ pub enum Node<'a> {
     List(&'a [Node<'a>]),
     /// The fields by name; what the arena's functions give has its names ascending strictly by bytes.
     Map(&'a [Field<'a>]),
+    Bytes(&'a [u8]),
 }

@@ -44,6 +44,10 @@ impl<'a> Builder for NodeBuilder<'a> {
         Ok(Node::Text(self.bump.try_alloc_str(text)?))
     }
 
+    fn bytes(&self, bytes: &[u8]) -> Result<Node<'a>, AllocError> {
+        Ok(Node::Bytes(self.bump.try_alloc_slice_copy(bytes)?))
+    }
+
     fn no_items(&self) -> Vec<Node<'a>, &'a Bump> {
         Vec::new(self.bump)
     }

@@ -38,6 +38,7 @@ impl<'a> Shown for Node<'a> {
             Node::Text(text) => Level::Text(text),
             Node::List(nodes) => Level::List(nodes.len(), nodes.iter()),
             Node::Map(fields) => Level::Map(fields.len(), fields.iter()),
+            Node::Bytes(bytes) => Level::Bytes(bytes),
         }
     }
 

@@ -1,7 +1,7 @@
 //! Reading the value that bytes spell into an arena.
 
 ghost use Rattle.std.specs.Prelude.{◌≡◌, ℕ, List, Err, IfOk};
-ghost use Rattle.request_codec.specs.Limits.{depth_limit};
+ghost use Rattle.request_codec.specs.Limits.{message_version, depth_limit};
 ghost use Rattle.request_codec.specs.Tree.{Tree};
 ghost use Rattle.request_codec.specs.Spelling.{SpellsMessage, SpellsState};
 ghost use Rattle.request_codec.specs.Reading.{value_at, if_ended};
@@ -31,7 +31,7 @@ fn whole_node<'a>(bump: &'a Bump, bytes: &[u8]) -> Result<Node<'a>, ArenaFault>
 
 /// The method and the argument behind the first byte of a message.
 fn call_in<'a>(bump: &'a Bump, bytes: &[u8]) -> Result<(&'a str, Node<'a>), ArenaFault>
-    ensures { ReadsIn (λ found. asks found.0.now (node_value found.1)) result (behind_version bytes.now) }
+    ensures { ReadsIn (λ found. asks found.0.now (node_value found.1)) result (behind_version message_version bytes.now) }
 {
     let [MESSAGE_VERSION, behind @ ..] = bytes else {
         return Err(ArenaFault::NotAMessage);
@@ -46,7 +46,7 @@ fn call_in<'a>(bump: &'a Bump, bytes: &[u8]) -> Result<(&'a str, Node<'a>), Aren
 /// The method and the argument that a message's bytes spell, copied into the arena. A message has at most
 /// 65,536 bytes, and its argument is no deeper than 32. `NotAMessage` where the bytes spell no message,
 /// `Memory` where the arena can't grow.
-#[tactic(auto, unfolding(request_codec::specs::Call::message_call))]
+#[tactic(auto, unfolding(request_codec::specs::Call::versioned_call))]
 pub fn decode_in<'a>(bump: &'a Bump, bytes: &[u8]) -> Result<(&'a str, Node<'a>), ArenaFault>
     ensures reads { ReadsIn (λ found. asks found.0.now (node_value found.1)) result (message_call bytes.now) }
     ensures spelled { IfOk result (λ found. SpellsMessage found.0.now (node_value found.1) bytes.now) }

@@ -142,8 +142,6 @@ pub fn put_spelled(
         Ok(bytes) => Ok(Some(StateBytes::from_spelling(bytes)?)),
         Err(CodecFault::TooLong) => Ok(None),
         Err(CodecFault::Memory) => Err(AllocError),
-        Err(CodecFault::TooDeep) => unreachable!(),
-        Err(CodecFault::NotWhole) => unreachable!(),
-        Err(CodecFault::NotAMessage) => unreachable!(),
+        Err(_) => unreachable!(),
     }
 }

@@ -1,4 +1,4 @@
-//! Texts, lists and maps made in an arena. An `Err` says that memory was refused.
+//! Texts, bytes, lists and maps made in an arena. An `Err` says that memory was refused.
 
 ghost use Rattle.std.specs.Prelude.{◌≡◌, IfOk};
 ghost use Rattle.request_codec.specs.Tree as tree;
@@ -15,6 +15,13 @@ pub fn text_in<'a>(bump: &'a Bump, content: &str) -> Result<Node<'a>, AllocError
     ensures { IfOk result (λ n. node_value n ≡ tree.text content.now) }
 {
     Ok(Node::Text(bump.try_alloc_str(content)?))
+}
+
+/// Bytes, which are copied into the arena.
+pub fn bytes_in<'a>(bump: &'a Bump, content: &[u8]) -> Result<Node<'a>, AllocError>
+    ensures { IfOk result (λ n. node_value n ≡ tree.bytes content.now) }
+{
+    Ok(Node::Bytes(bump.try_alloc_slice_copy(content)?))
 }
 
 /// A list of the nodes. What they hold is shared.

@@ -40,6 +40,7 @@ two_fields first second (tree.truth b) x y e = none_two x y _ e
 two_fields first second (tree.integer i) x y e = none_two x y _ e
 two_fields first second (tree.text s) x y e = none_two x y _ e
 two_fields first second (tree.list vs) x y e = none_two x y _ e
+two_fields first second (tree.bytes b) x y e = none_two x y _ e
 
 -- the text that a value is
 pub text_is : (v : Tree) (s : List ℕ) → text_value v ≡ Some s → v ≡ tree.text s
@@ -49,6 +50,7 @@ text_is (tree.truth b) s e = absurd cc
 text_is (tree.integer i) s e = absurd cc
 text_is (tree.list vs) s e = absurd cc
 text_is (tree.map fs) s e = absurd cc
+text_is (tree.bytes b) s e = absurd cc
 
 -- what two fields hold keeps limits of its own, where the call keeps those of a message
 pub record TwoFit (method : List ℕ) (v w : Tree) : Type 0 where
@@ -87,6 +89,7 @@ field_formed name (tree.truth b) x e h = absurd cc
 field_formed name (tree.integer i) x e h = absurd cc
 field_formed name (tree.text s) x e h = absurd cc
 field_formed name (tree.list vs) x e h = absurd cc
+field_formed name (tree.bytes b) x e h = absurd cc
 
 text_of : (o : Option Tree) (s : List ℕ) → option_and_then text_value o ≡ Some s → o ≡ Some (tree.text s)
 text_of None s e = absurd cc
@@ -107,6 +110,7 @@ text_first (tree.truth b) w s x e = absurd cc
 text_first (tree.integer i) w s x e = absurd cc
 text_first (tree.list vs) w s x e = absurd cc
 text_first (tree.map fs) w s x e = absurd cc
+text_first (tree.bytes b) w s x e = absurd cc
 
 pub text_second : (v w : Tree) (s : List ℕ) (x : Tree)
     → ◌≡◌ {A = Option (Tree × List ℕ)} (option_map {U = Tree × List ℕ} (λ t. (v, t)) (text_value w)) (Some (x, s))
@@ -117,3 +121,4 @@ text_second v (tree.truth b) s x e = absurd cc
 text_second v (tree.integer i) s x e = absurd cc
 text_second v (tree.list vs) s x e = absurd cc
 text_second v (tree.map fs) s x e = absurd cc
+text_second v (tree.bytes b) s x e = absurd cc

@@ -2,7 +2,7 @@
 
 ghost use Rattle.std.specs.Prelude.{◌≡◌, ◌<◌, ◌≤◌, ◌^◌, ◌∷◌, length, MatchResult, OnErr};
 ghost use Rattle.std.specs.Int.{w32, to_be_bytes};
-ghost use Rattle.request_codec.specs.Tree.{integer, text};
+ghost use Rattle.request_codec.specs.Tree.{integer};
 ghost use Rattle.request_codec.specs.Written.{Puts, text_spelling, spelling, start_spelling};
 ghost use Rattle.request_codec.specs.Start.{begun};
 ghost use Rattle.request_codec.specs.declared.fault.CodecFault.TheVariants as faults;
@@ -50,7 +50,12 @@ pub fn put_text(out: &mut Vec<u8>, limit: usize, text: &str) -> Result<(), Codec
 
 /// Puts the first byte of a value and a count at the end, in one go.
 #[inline(always)]
-fn put_counted(out: &mut Vec<u8>, limit: usize, first: u8, count: u32) -> Result<(), CodecFault>
+pub(crate) fn put_counted(
+    out: &mut Vec<u8>,
+    limit: usize,
+    first: u8,
+    count: u32,
+) -> Result<(), CodecFault>
     requires { length out.old.items ≤ limit }
     ensures { Puts limit out.old.items out.new.items result (first ∷ to_be_bytes w32 count) }
 {
@@ -71,17 +76,21 @@ fn put_number(out: &mut Vec<u8>, limit: usize, number: i64) -> Result<(), CodecF
     put(out, limit, &bytes)
 }
 
-/// Puts a text that is a value at the end.
-#[tactic(auto, unfolding(crate::specs::Written::spelling))]
+/// Puts the first byte of a value, and what it holds behind its length, at the end.
 #[inline(always)]
-fn put_text_value(out: &mut Vec<u8>, limit: usize, content: &str) -> Result<(), CodecFault>
+fn put_content(
+    out: &mut Vec<u8>,
+    limit: usize,
+    first: u8,
+    content: &[u8],
+) -> Result<(), CodecFault>
     requires room { length out.old.items ≤ limit }
     requires small { limit < 2 ^ 32 }
-    ensures { Puts limit out.old.items out.new.items result (spelling (text content.now)) }
+    ensures { Puts limit out.old.items out.new.items result (first ∷ text_spelling content.now) }
 {
     let count = counted(content.len(), limit)?;
-    put_counted(out, limit, 4, count)?;
-    put(out, limit, content.as_bytes())
+    put_counted(out, limit, first, count)?;
+    put(out, limit, content)
 }
 
 /// Puts the start of a value at the end. After a fault a part of it may stand there.
@@ -97,8 +106,9 @@ pub fn put_start(out: &mut Vec<u8>, limit: usize, start: Start<'_>) -> Result<()
         Start::Bool(false) => put(out, limit, &[1]),
         Start::Bool(true) => put(out, limit, &[2]),
         Start::Int(number) => put_number(out, limit, number),
-        Start::Text(text) => put_text_value(out, limit, text),
+        Start::Text(text) => put_content(out, limit, 4, text.as_bytes()),
         Start::List(count) => put_counted(out, limit, 5, count),
         Start::Map(count) => put_counted(out, limit, 6, count),
+        Start::Bytes(bytes) => put_content(out, limit, 7, bytes),
     }
 }

@@ -2,7 +2,7 @@
 
 ghost use Rattle.std.specs.Prelude.{◌≡◌, option_map};
 ghost use Rattle.std.specs.Int.{w32, w64};
-ghost use Rattle.request_codec.specs.Reading.{number_at, text_at, is_above};
+ghost use Rattle.request_codec.specs.Reading.{number_at, bytes_at, text_at, is_above};
 ghost use Rattle.request_codec.specs.Start.{begun, count_at, start_at};
 
 use std::str;
@@ -16,6 +16,7 @@ pub enum Start<'a> {
     Text(&'a str),
     List(u32),
     Map(u32),
+    Bytes(&'a [u8]),
 }
 
 /// The number of four bytes at the front, high first, and the bytes after it.
@@ -61,18 +62,28 @@ fn count_of(bytes: &[u8]) -> Option<(u32, &[u8])>
     Some((count, rest))
 }
 
+/// The bytes behind their count at the front, and the bytes after them.
+#[tactic(auto, unfolding(crate::specs::Reading::bytes_at))]
+#[inline(always)]
+pub fn bytes_of(bytes: &[u8]) -> Option<(&[u8], &[u8])>
+    ensures { option_map (λ x. (x.0.now, x.1.now)) result ≡ bytes_at bytes.now }
+{
+    let (count, rest) = u32_of(bytes)?;
+    let count = count as usize;
+    if rest.len() < count {
+        return None;
+    }
+    let (front, rest) = rest.split_at(count);
+    Some((front, rest))
+}
+
 /// The text at the front, and the bytes after it.
 #[tactic(auto, using(crate::proofs::Characters::utf8_tests), unfolding(crate::specs::Reading::text_at))]
 #[inline(always)]
 pub fn text_of(bytes: &[u8]) -> Option<(&str, &[u8])>
     ensures { option_map (λ x. (x.0.now, x.1.now)) result ≡ text_at bytes.now }
 {
-    let (len, rest) = u32_of(bytes)?;
-    let len = len as usize;
-    if rest.len() < len {
-        return None;
-    }
-    let (front, rest) = rest.split_at(len);
+    let (front, rest) = bytes_of(bytes)?;
     match str::from_utf8(front) {
         Ok(text) => Some((text, rest)),
         Err(_) => None,
@@ -116,6 +127,10 @@ pub fn start_of(bytes: &[u8]) -> Option<(Start<'_>, &[u8])>
         [6, rest @ ..] => {
             let (count, rest) = count_of(rest)?;
             Some((Start::Map(count), rest))
+        }
+        [7, rest @ ..] => {
+            let (bytes, rest) = bytes_of(rest)?;
+            Some((Start::Bytes(bytes), rest))
         }
         [_, ..] => None,
     }

@@ -1,0 +1,94 @@
+//! Bytes as digits: two lower case hexadecimal ones for each byte.
+
+ghost use Rattle.std.specs.Prelude.{◌≡◌, ◌++◌, ◌<◌, ◌≤◌, ◌^◌, length, is_some, string_bytes, IsSome, OnOk};
+ghost use Rattle.std.specs.List.{list_all};
+ghost use Rattle.request_codec.specs.Hex.{digits_of, is_digit, bytes_of_digits};
+ghost use Rattle.request_codec.specs.Lenient.{bytes_or_null};
+ghost use Rattle.request_codec.specs.Written.{Puts, spelling};
+ghost use Rattle.request_codec.specs.inside.Converted.{Gives};
+
+use crate::bytes::draft::{counted, put_counted};
+use crate::fault::CodecFault;
+use hex::FromHexError;
+use std::alloc::{AllocError, Global};
+
+fn is_digit(byte: u8) -> bool
+    ensures { result ≡ is_digit byte }
+{
+    matches!(byte, b'0'..=b'9' | b'a'..=b'f')
+}
+
+fn all_digits(text: &[u8]) -> bool
+    ensures { result ≡ list_all is_digit text.now }
+{
+    text.iter().all(|byte| is_digit(*byte))
+}
+
+/// Whether these are the digits of bytes: an even number of lower case hexadecimal ones.
+pub(crate) fn are_digits(text: &str) -> bool
+    ensures { result ≡ is_some (bytes_of_digits text.now) }
+{
+    if text.len() % 2 == 1 {
+        return false;
+    }
+    all_digits(text.as_bytes())
+}
+
+/// The bytes of the digits: `NotHex` if they are those of none.
+pub(crate) fn decode_digits(alloc: Global, text: &str) -> Result<Vec<u8>, CodecFault>
+    ensures { Gives (λ v. v.items) result (bytes_of_digits text.now) }
+{
+    if !all_digits(text.as_bytes()) {
+        return Err(CodecFault::NotHex);
+    }
+    match hex::decode(alloc, text.as_bytes()) {
+        Ok(bytes) => Ok(bytes),
+        Err(FromHexError::OutOfMemory) => Err(CodecFault::Memory),
+        Err(_) => Err(CodecFault::NotHex),
+    }
+}
+
+/// Puts the bytes of the digits at the end, if they fit below the limit.
+fn put_decoded(out: &mut Vec<u8>, limit: usize, digits: &str) -> Result<(), CodecFault>
+    requires room { length out.old.items ≤ limit }
+    requires hex { IsSome (bytes_of_digits digits.now) }
+    ensures { Puts limit out.old.items out.new.items result (unwrap_or (bytes_of_digits digits.now) []) }
+{
+    let count = digits.len() / 2;
+    let begin = out.len();
+    if count > limit - begin {
+        return Err(CodecFault::TooLong);
+    }
+    out.resize(begin + count, 0)?;
+    match hex::decode_to_slice(digits.as_bytes(), &mut out[begin..]) {
+        Ok(()) => Ok(()),
+        Err(_) => unreachable!(),
+    }
+}
+
+/// Puts the bytes of the digits as a value at the end. After a fault a part of it may stand there.
+pub(crate) fn put_digits(out: &mut Vec<u8>, limit: usize, digits: &str) -> Result<(), CodecFault>
+    requires room { length out.old.items ≤ limit }
+    requires small { limit < 2 ^ 32 }
+    requires hex { IsSome (bytes_of_digits digits.now) }
+    ensures { Puts limit out.old.items out.new.items result (spelling (bytes_or_null (bytes_of_digits digits.now))) }
+{
+    let count = counted(digits.len() / 2, limit)?;
+    put_counted(out, limit, 7, count)?;
+    put_decoded(out, limit, digits)
+}
+
+/// Adds the digits of the bytes at the end of the text.
+///
+/// # Errors
+///
+/// `AllocError` if memory is refused. A part of the digits may stand there then.
+pub fn push_digits(text: &mut String, bytes: &[u8]) -> Result<(), AllocError>
+    ensures { OnOk result (string_bytes text.new ≡ string_bytes text.old ++ digits_of bytes.now) }
+{
+    'bytes: for byte in bytes {
+        text.push(char::from(digit(byte / 16)))?;
+        text.push(char::from(digit(byte % 16)))?;
+    }
+    Ok(())
+}
