@@ -94,21 +94,6 @@ used_loading e o found is = used-phase e loading refl (ap (λ (x : Entry). x.pha
 due_used : (age : ℕ) (e : Entry) → is_idle e ≡ false → due_at age (Some e) ≡ None
 due_used age e used = ap (λ b. cond b (Some (due_moment age e)) None) used
 
--- one that has a moment is idle, and one that has none isn't
-pub due-idle : (age : ℕ) (e : Entry) (moment : ℕ) → due_at age (Some e) ≡ Some moment → is_idle e ≡ true
-due-idle age e moment due = by (is_idle e) due
-  where
-    by : (idle : Bool) → cond idle (Some (due_moment age e)) None ≡ Some moment → idle ≡ true
-    by true is = refl
-    by false is = absurd cc
-
-pub due-used : (age : ℕ) (e : Entry) → due_at age (Some e) ≡ None → is_idle e ≡ false
-due-used age e due = by (is_idle e) due
-  where
-    by : (idle : Bool) → cond idle (Some (due_moment age e)) None ≡ None → idle ≡ false
-    by true is = absurd cc
-    by false is = refl
-
 -- at an idle entry no request waits
 due-none_waits : (age : ℕ) (e : Entry) (moment : ℕ) → due_at age (Some e) ≡ Some moment → none_waits e ≡ true
 due-none_waits age e moment due = by (is_ready e.phase) (none_waits e) (map.len e.turns == 0) due

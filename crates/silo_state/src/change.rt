@@ -1,6 +1,6 @@
 //! What becomes of one activation.
 
-ghost use Rattle.std.specs.Prelude.{◌≡◌, false, IfOk, OnOk, OnErr, Some};
+ghost use Rattle.std.specs.Prelude.{◌≡◌, ◌&&◌, false, IfOk, OnOk, OnErr, Some};
 ghost use Rattle.activation_directory.specs.declared.activation.Phase.TheVariants.{Ready};
 ghost use Rattle.grain_kinds.specs.Laws.{IsKeep};
 ghost use Rattle.grain_kinds.specs.Planned.{keep_of};
@@ -183,6 +183,13 @@ pub fn is_idle(activation: &Activation) -> bool
         Phase::Ready { .. } => activation.mailbox.is_idle(),
         _ => false,
     }
+}
+
+/// Whether it goes once its turn is closed: it rests, and is idle.
+pub fn goes(activation: &Activation) -> bool
+    ensures { result ≡ ((entry_of activation.now).resting && is_idle (entry_of activation.now)) }
+{
+    activation.resting && is_idle(activation)
 }
 
 /// The moment from which the grain's activation is due, if it is idle: the age of its kind after it was

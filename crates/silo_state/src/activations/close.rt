@@ -84,14 +84,13 @@ impl<L: GrainLogic> Activations<L> {
         let Some(sender) = change::close(activation, turn, phase, keep, last) else {
             return None;
         };
-        let resting = activation.resting;
-        let Some(moment) = change::due_at(grain, activation, &self.ages, self.age) else {
-            return Some(sender);
-        };
-        if resting {
+        if change::goes(activation) {
             drop(self.directory.remove(grain));
             return Some(sender);
         }
+        let Some(moment) = change::due_at(grain, activation, &self.ages, self.age) else {
+            return Some(sender);
+        };
         self.collector.note_expected(moment);
         Some(sender)
     }
