@@ -92,9 +92,9 @@ def ages_text(ages: Optional[Mapping[str, int]]) -> Optional[str]:
 class Silo:
     """A silo that runs `silo answer` over these tenants, each as `TENANT:ACT:MAIL`.
 
-    `age` is in milliseconds, `ages` are those of kinds that have their own, such as `{"counter": 1000}`, `sends` how many deliveries follow a line at most; `journal` is where the journal goes. What
-    the silo tells grains, such as the answers to what they sent, is handed to `on_told(grain, value or SiloError)`, in the
-    thread that reads.
+    `age` is in milliseconds, `ages` are those of kinds that have their own, such as `{"counter": 1000}`, `sends` how many
+    deliveries follow a line at most; `journal` is where the journal goes. What the silo tells grains, such as
+    the answers to what they sent, is handed to `on_told(grain, value or SiloError)`, in the thread that reads.
     """
 
     def __init__(
