@@ -47,6 +47,11 @@ def is_settled(silo: Silo, asked: Counter) -> bool:
     return told == asked and len(set(numbers)) == len(numbers)
 
 
+def none_rests_idle(silo: Silo) -> bool:
+    """An entry that rests went in the step that left it idle."""
+    return not any(entry.resting and entry.is_idle() for entry in silo.entries().values())
+
+
 def first_broken(setup: Setup, steps: Iterable[Step]) -> Optional[str]:
     """The first law that doesn't hold after some step."""
     silo, turns, asked = Silo(setup), {}, Counter()
@@ -62,4 +67,6 @@ def first_broken(setup: Setup, steps: Iterable[Step]) -> Optional[str]:
             return f"step {place}: another turn is open beside one that writes"
         if not is_settled(silo, asked):
             return f"step {place}: a request isn't settled"
+        if not none_rests_idle(silo):
+            return f"step {place}: an idle entry rests"
     return None

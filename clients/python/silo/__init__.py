@@ -26,7 +26,7 @@ import re
 import subprocess
 import tempfile
 import threading
-from typing import Any, Callable, Optional, Union
+from typing import Any, Callable, Mapping, Optional, Union
 
 MOST_BYTES = 65_536
 MOST_LEVELS = 100
@@ -84,24 +84,30 @@ def line_of(op: str, **members: Any) -> bytes:
     return line + b"\n"
 
 
+def ages_text(ages: Optional[Mapping[str, int]]) -> Optional[str]:
+    """The text of `--ages`; with no kinds the option is left out."""
+    return ",".join(f"{kind}={age}" for kind, age in ages.items()) if ages else None
+
+
 class Silo:
     """A silo that runs `silo answer` over these tenants, each as `TENANT:ACT:MAIL`.
 
-    `age` is in milliseconds, `sends` how many deliveries follow a line at most; `journal` is where the journal goes. What
-    the silo tells grains, such as the answers to what they sent, is handed to `on_told(grain, value or SiloError)`, in the
-    thread that reads.
+    `age` is in milliseconds, `ages` are those of kinds that have their own, such as `{"counter": 1000}`, `sends` how many
+    deliveries follow a line at most; `journal` is where the journal goes. What the silo tells grains, such as
+    the answers to what they sent, is handed to `on_told(grain, value or SiloError)`, in the thread that reads.
     """
 
     def __init__(
         self,
         *tenants: str,
         age: Optional[int] = None,
+        ages: Optional[Mapping[str, int]] = None,
         sends: Optional[int] = None,
         journal: Union[str, os.PathLike[str], None] = None,
         program: Union[str, os.PathLike[str]] = "silo",
         on_told: Optional[Callable[[str, Any], None]] = None,
     ) -> None:
-        given = (("--age", age), ("--sends", sends), ("--journal", journal))
+        given = (("--age", age), ("--ages", ages_text(ages)), ("--sends", sends), ("--journal", journal))
         words = [os.fspath(program), "answer", *(str(it) for option in given if option[1] is not None for it in option), *tenants]
         self._told = tempfile.TemporaryFile()
         pipes = {"stdin": subprocess.PIPE, "stdout": subprocess.PIPE, "stderr": self._told}
@@ -156,7 +162,7 @@ class Silo:
         return self._in_order(line_of("tick", now=now))
 
     def sweep(self) -> None:
-        """Lets activations go that are idle for the age."""
+        """Lets activations go that are idle for the age of their kind."""
         self._in_order(line_of("sweep"))
 
     def client(self, caller: str) -> Client:

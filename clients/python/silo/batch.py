@@ -6,7 +6,7 @@ import json
 import os
 import pathlib
 import subprocess
-from typing import Any, Optional, Union
+from typing import Any, Mapping, Optional, Union
 
 import silo
 
@@ -41,13 +41,14 @@ def serve_file(
     workers: int = 4,
     journal: Union[str, os.PathLike[str], None] = None,
     age: Optional[int] = None,
+    ages: Optional[Mapping[str, int]] = None,
     program: Union[str, os.PathLike[str]] = "silo",
 ) -> dict[tuple[str, int], Any]:
     """Has `silo serve` answer a file of requests: what each client was answered under each number, a value or a SiloError."""
     check_lines(path)
     if journal is not None and not pathlib.Path(journal).resolve().parent.is_dir():
         raise FileNotFoundError(f"the journal's folder isn't there: {journal}")
-    given = (("--workers", workers), ("--age", age), ("--journal", journal))
+    given = (("--workers", workers), ("--age", age), ("--ages", silo.ages_text(ages)), ("--journal", journal))
     words = [os.fspath(program), "serve", *(str(it) for option in given if option[1] is not None for it in option), *tenants]
     with open(path, "rb") as lines:
         ran = subprocess.run(words, stdin=lines, stdout=subprocess.PIPE, stderr=subprocess.PIPE, check=False)

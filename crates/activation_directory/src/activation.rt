@@ -25,4 +25,8 @@ pub struct Activation {
     pub mailbox: Mailbox,
     /// When a request last came or a turn last ended.
     pub last: Moment,
+    /// If it's idle, it isn't due before this moment.
+    pub until: u64,
+    /// Whether it goes as soon as it's idle.
+    pub resting: bool,
 }

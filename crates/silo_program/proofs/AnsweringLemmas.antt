@@ -6,15 +6,15 @@ use Rattle.std.proofs.lemmas.List.{nil_from_length}
 use Rattle.grain_id.specs.Names.{grain_cmp}
 use Rattle.grain_storage.specs.declared.row.Row.{Row}
 use Rattle.tenant_gate.specs.Table.{Table}
+use Rattle.idle_collector.specs.Ages.{Ages}
 use Rattle.line_service.specs.Serving.{setup_of}
 use Rattle.std.specs.Io.KnownBytes.{Keeps}
 use Rattle.std.proofs.KnownBytes.{Appends-kept, Keeps-refl, Keeps-trans}
 use Rattle.grain_kinds.specs.Logic.{Logic}
-use Rattle.grain_kinds.specs.Kinds.{kinds}
+use Rattle.grain_kinds.specs.Resting.{resting_kinds}
 use Rattle.silo_model.specs.Opening.{Setup, opening}
 use Rattle.silo_core.specs.History.{History}
 use Rattle.journal_text.specs.Text.{journal_text}
-use Rattle.tenant_audit.specs.SiloJournal.{journal_of}
 use Rattle.line_parser.specs.Meaning.{meaning_of}
 use Rattle.line_protocol.specs.Lines.{lines_of}
 use Rattle.line_protocol.specs.LineRuns.{WrittenInPart}
@@ -26,6 +26,7 @@ use Rattle.line_protocol.proofs.LinesOfBytes.{left_of-fresh}
 use Rattle.line_answer.specs.Runs.{AnswersAll, AnswersBefore, AnswersLine, AnswersLines, KeepsSetup, StopsBy, WritesOn}
 use Rattle.line_answer.proofs.Asked.{Hears, hears_more, hears_own}
 use Rattle.silo_program.specs.Files.{FileClaims, claims}
+use Rattle.silo_program.specs.Journals.{silo_journal}
 use Rattle.silo_program.specs.Serving.{HoldsJournal, IsKeepingCause, KeepsJournal, MayFailAt, WritesAtMost}
 use Rattle.silo_program.specs.Answering.{AnsweringFailsBy, AnswersFirst, AnswersInput, AnswersToEnd, AnswersUpTo, AnswersLanes, EndsBy, KeepsSecond, MayFailAgain, WritesJournalsAtMost, empty_journal, opened}
 use Rattle.silo_program.specs.declared.failure.Cause.{Cause}
@@ -41,8 +42,8 @@ opens setup silo s o f = λ i. record { setup = s i; whole = o.0 i; journal = o.
 entries-empty : entries (empty {X = Row} {R = grain_cmp}) ≡ []
 entries-empty = nil_from_length _ (sym (len-entries (empty {X = Row} {R = grain_cmp})) ∙ len-empty grain_cmp Row)
 
-pub no_rows : (setup : Setup) (tenants : Table) (age : ℕ) → setup ≡ setup_of tenants age → entries setup.rows ≡ []
-no_rows setup tenants age is = ap (λ (s : Setup). entries s.rows) is ∙ entries-empty
+pub no_rows : (setup : Setup) (tenants : Table) (age : ℕ) (ages : Ages) → setup ≡ setup_of tenants age ages → entries setup.rows ≡ []
+no_rows setup tenants age ages is = ap (λ (s : Setup). entries s.rows) is ∙ entries-empty
 
 -- and none later, unless memory was refused
 pub rows_kept : (why : LineFault) (old new : History) → entries old.setup.rows ≡ [] → KeepsSetup why old new → why ≢ line.Memory → entries new.setup.rows ≡ []
@@ -71,43 +72,43 @@ module _ (logic : Logic) (n : ℕ) (input : List ℕ) (old new : History) (befor
 
 module _ (sends : ℕ) (fresh : Reading) (from left : Option (List ℕ)) (old new : History) (before : Option (List ℕ)) (none : IsFresh fresh) where
   -- of an input of which nothing is read ahead
-  pub all_read : (count : ℕ) (after : Option (List ℕ)) → IfSome (left_of fresh from) (λ input. AnswersAll kinds sends input count old new left before after)
-      → IfSome from (λ input. (count : ℕ) × AnswersAll kinds sends input count old new left before after)
+  pub all_read : (count : ℕ) (after : Option (List ℕ)) → IfSome (left_of fresh from) (λ input. AnswersAll resting_kinds sends input count old new left before after)
+      → IfSome from (λ input. (count : ℕ) × AnswersAll resting_kinds sends input count old new left before after)
   all_read count after h =
-      go from (subst (λ (o : Option (List ℕ)). IfSome o (λ input. AnswersAll kinds sends input count old new left before after)) (left_of-fresh fresh from none) h)
+      go from (subst (λ (o : Option (List ℕ)). IfSome o (λ input. AnswersAll resting_kinds sends input count old new left before after)) (left_of-fresh fresh from none) h)
     where
-      go : (o : Option (List ℕ)) → IfSome o (λ input. AnswersAll kinds sends input count old new left before after) → IfSome o (λ input. (count : ℕ) × AnswersAll kinds sends input count old new left before after)
+      go : (o : Option (List ℕ)) → IfSome o (λ input. AnswersAll resting_kinds sends input count old new left before after) → IfSome o (λ input. (count : ℕ) × AnswersAll resting_kinds sends input count old new left before after)
       go None all = tt
       go (Some input) all = (count, all)
 
   pub stops_out : (why : LineFault) (reading : Reading) (writing : WriterCalls) (during after : Option (List ℕ)) → Keeps during after
-      → IfSome (left_of fresh from) (λ input. StopsBy kinds sends input reading left writing old new before during why)
-      → IfSome from (λ input. StopsBy kinds sends input reading left writing old new before after why)
+      → IfSome (left_of fresh from) (λ input. StopsBy resting_kinds sends input reading left writing old new before during why)
+      → IfSome from (λ input. StopsBy resting_kinds sends input reading left writing old new before after why)
   stops_out why reading writing during after kept h =
-      go from (subst (λ (o : Option (List ℕ)). IfSome o (λ input. StopsBy kinds sends input reading left writing old new before during why)) (left_of-fresh fresh from none) h)
+      go from (subst (λ (o : Option (List ℕ)). IfSome o (λ input. StopsBy resting_kinds sends input reading left writing old new before during why)) (left_of-fresh fresh from none) h)
     where
-      go : (o : Option (List ℕ)) → IfSome o (λ input. StopsBy kinds sends input reading left writing old new before during why) → IfSome o (λ input. StopsBy kinds sends input reading left writing old new before after why)
+      go : (o : Option (List ℕ)) → IfSome o (λ input. StopsBy resting_kinds sends input reading left writing old new before during why) → IfSome o (λ input. StopsBy resting_kinds sends input reading left writing old new before after why)
       go None stops = tt
-      go (Some input) stops = stops_kept kinds sends input old new before during after kept why reading left writing stops
+      go (Some input) stops = stops_kept resting_kinds sends input old new before during after kept why reading left writing stops
 
 -- ---- which silo the lines led to
 
 module _ (setup : Setup) (sends : ℕ) where
-  all_first : (input : List ℕ) (count : ℕ) (silo : History) (left before after : Option (List ℕ)) → AnswersAll kinds sends input count (opened setup) silo left before after → AnswersFirst setup sends input silo
+  all_first : (input : List ℕ) (count : ℕ) (silo : History) (left before after : Option (List ℕ)) → AnswersAll resting_kinds sends input count (opened setup) silo left before after → AnswersFirst setup sends input silo
   all_first input count silo left before after h = record { done = lines_of input; rest = []; parts = sym (append-nil (lines_of input)); text = h.text; answers = h.answers }
 
-  before_first : (input : List ℕ) (silo : History) (before after : Option (List ℕ)) → AnswersBefore kinds sends (lines_of input) (opened setup) silo before after → AnswersFirst setup sends input silo
+  before_first : (input : List ℕ) (silo : History) (before after : Option (List ℕ)) → AnswersBefore resting_kinds sends (lines_of input) (opened setup) silo before after → AnswersFirst setup sends input silo
   before_first input silo before after h = record { done = h.done; rest = h.rest; parts = h.parts; text = h.text; answers = h.answers }
 
   -- one line more
-  one_more : (mid silo : History) (done : List (List ℕ)) (l text last : List ℕ) → AnswersLines kinds sends (opened setup) done mid text → AnswersLine kinds sends mid (meaning_of l) silo last
-      → AnswersLines kinds sends (opened setup) (done ++ l ∷ []) silo (text ++ last)
+  one_more : (mid silo : History) (done : List (List ℕ)) (l text last : List ℕ) → AnswersLines resting_kinds sends (opened setup) done mid text → AnswersLine resting_kinds sends mid (meaning_of l) silo last
+      → AnswersLines resting_kinds sends (opened setup) (done ++ l ∷ []) silo (text ++ last)
   one_more mid silo done l text last p answers =
-      let heard : Hears kinds sends (opened setup) done mid text = record { heard = p.heard; said = p.said; tries = p.tries; text_is = p.text_is; rests = p.rests } in
-      hears_own kinds sends (opened setup) silo (done ++ l ∷ []) (text ++ last) refl (hears_more kinds sends (opened setup) mid silo done l text last heard answers)
+      let heard : Hears resting_kinds sends (opened setup) done mid text = record { heard = p.heard; said = p.said; tries = p.tries; text_is = p.text_is; rests = p.rests } in
+      hears_own resting_kinds sends (opened setup) silo (done ++ l ∷ []) (text ++ last) refl (hears_more resting_kinds sends (opened setup) mid silo done l text last heard answers)
 
-  writing_first : (input : List ℕ) (mid silo : History) (before during after : Option (List ℕ)) (p : AnswersBefore kinds sends (lines_of input) (opened setup) mid before during)
-      → WritesOn kinds sends p.rest mid silo during after → AnswersFirst setup sends input silo
+  writing_first : (input : List ℕ) (mid silo : History) (before during after : Option (List ℕ)) (p : AnswersBefore resting_kinds sends (lines_of input) (opened setup) mid before during)
+      → WritesOn resting_kinds sends p.rest mid silo during after → AnswersFirst setup sends input silo
   writing_first input mid silo before during after p (inl h) = subst (λ (s : History). AnswersFirst setup sends input s) (sym h.0) (before_first input mid before during p)
   writing_first input mid silo before during after p (inr h) = record {
     done = p.done ++ h.0 ∷ [];
@@ -118,7 +119,7 @@ module _ (setup : Setup) (sends : ℕ) where
   }
 
   stop_first : (why : LineFault) (input : List ℕ) (silo : History) (reading : Reading) (left : Option (List ℕ)) (writing : WriterCalls) (before after : Option (List ℕ)) → why ≢ line.Memory
-      → StopsBy kinds sends input reading left writing (opened setup) silo before after why → AnswersFirst setup sends input silo
+      → StopsBy resting_kinds sends input reading left writing (opened setup) silo before after why → AnswersFirst setup sends input silo
   stop_first line.Read input silo reading left writing before after other h = before_first input silo before after h.0
   stop_first line.TooMuch input silo reading left writing before after other h = before_first input silo before after h.0
   stop_first line.Write input silo reading left writing before after other h = writing_first input h.0 silo before h.1 after h.2 h.3
@@ -135,12 +136,12 @@ module _ (setup : Setup) (sends : ℕ) where
 
   -- what is said of the silo that was opened
   module _ (first silo : History) (is : first ≡ opened setup) (from left before after : Option (List ℕ)) where
-    pub to_end : IfSome from (λ input. (count : ℕ) × AnswersAll kinds sends input count first silo left before after) → AnswersToEnd setup sends silo from left before after
-    to_end h = subst (λ (s : History). IfSome from (λ input. (count : ℕ) × AnswersAll kinds sends input count s silo left before after)) is h
+    pub to_end : IfSome from (λ input. (count : ℕ) × AnswersAll resting_kinds sends input count first silo left before after) → AnswersToEnd setup sends silo from left before after
+    to_end h = subst (λ (s : History). IfSome from (λ input. (count : ℕ) × AnswersAll resting_kinds sends input count s silo left before after)) is h
 
-    pub up_to : (why : LineFault) (reading : Reading) (writing : WriterCalls) → IfSome from (λ input. StopsBy kinds sends input reading left writing first silo before after why)
+    pub up_to : (why : LineFault) (reading : Reading) (writing : WriterCalls) → IfSome from (λ input. StopsBy resting_kinds sends input reading left writing first silo before after why)
         → AnswersUpTo setup sends why silo from left reading before after writing
-    up_to why reading writing h = subst (λ (s : History). IfSome from (λ input. StopsBy kinds sends input reading left writing s silo before after why)) is h
+    up_to why reading writing h = subst (λ (s : History). IfSome from (λ input. StopsBy resting_kinds sends input reading left writing s silo before after why)) is h
 
 -- ---- two writes to one path
 
@@ -152,11 +153,11 @@ module _ {F : Type 0} (may_hold : F → List ℕ → List ℕ → Type 0) (may_f
   pub first_written : (old new : F) (first : History) → first ≡ opened setup → (journal from : Option (List ℕ)) → WritesAtMost (of old new) journal first → WritesJournalsAtMost setup sends (of old new) journal from
   first_written old new first is None from same = same
   first_written old new first is (Some path) from alone =
-      ⊎_elim (λ same. inl same) (λ written. inr (inl (subst (λ (s : History). may_leave old path (journal_text (journal_of s)) new) is written))) alone
+      ⊎_elim (λ same. inl same) (λ written. inr (inl (subst (λ (s : History). may_leave old path (journal_text (silo_journal s)) new) is written))) alone
 
   module _ (old mid new : F) (first silo : History) (is : first ≡ opened setup) where
     empty_written : (path : List ℕ) → HoldsJournal (of old mid) path first → may_leave old path (empty_journal setup) mid
-    empty_written path h = subst (λ (s : History). may_leave old path (journal_text (journal_of s)) mid) is h.written
+    empty_written path h = subst (λ (s : History). may_leave old path (journal_text (silo_journal s)) mid) is h.written
 
     -- both
     kept_both : (journal : Option (List ℕ)) → KeepsJournal (of old mid) journal first → KeepsJournal (of mid new) journal silo → KeepsSecond setup (of old new) journal silo

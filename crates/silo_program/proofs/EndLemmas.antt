@@ -4,7 +4,7 @@ use Rattle.std.specs.Prelude.{OnErr}
 use Rattle.std.specs.Io.KnownBytes.{Keeps}
 use Rattle.std.proofs.KnownBytes.{Appends-kept, Appends-nil}
 use Rattle.silo_event.specs.declared.step.Answer.{Answer}
-use Rattle.grain_kinds.specs.Kinds.{kinds}
+use Rattle.grain_kinds.specs.Resting.{resting_kinds}
 use Rattle.silo_model.specs.Opening.{Setup, opening}
 use Rattle.silo_model.specs.Whole.{Whole, shown_to}
 use Rattle.silo_model.specs.Machine.{Machine}
@@ -27,56 +27,56 @@ use Rattle.silo_program.specs.Steps.{IsTextOf, AnswersSteps, StopsBetween, Stops
 -- ---- the text of lines
 
 module _ (setup : Setup) (old : History) (opens : old.whole ≡ opening setup) where
-  text_of_lines : (lines : List (List ℕ)) (given : List Answer) (new : History) (text : List ℕ) → AnswersLines kinds old lines given new text → failed_in given ≡ 0 → IsTextOf setup lines text
+  text_of_lines : (lines : List (List ℕ)) (given : List Answer) (new : History) (text : List ℕ) → AnswersLines resting_kinds old lines given new text → failed_in given ≡ 0 → IsTextOf setup lines text
   text_of_lines lines given new text p zero =
       let saids = said_lines lines in
       let each = p.all.silo.each_answered in
       let same = unmarked saids given each zero in
       record {
-        whole = p.all.text_is ∙ ap (lines_text (whole_stepper kinds) old.whole) same ∙ ap (λ (w : Whole). lines_text (whole_stepper kinds) w saids) opens;
+        whole = p.all.text_is ∙ ap (lines_text (whole_stepper resting_kinds) old.whole) same ∙ ap (λ (w : Whole). lines_text (whole_stepper resting_kinds) w saids) opens;
         own = λ tenant.
-            ap (λ (w : Whole). texts_to tenant saids (line_texts (whole_stepper kinds) w saids)) (sym opens)
-            ∙ ap (λ (taken : List Line). texts_to tenant saids (line_texts (whole_stepper kinds) old.whole taken)) (sym same)
+            ap (λ (w : Whole). texts_to tenant saids (line_texts (whole_stepper resting_kinds) w saids)) (sym opens)
+            ∙ ap (λ (taken : List Line). texts_to tenant saids (line_texts (whole_stepper resting_kinds) old.whole taken)) (sym same)
             ∙ (p.own tenant).texts
-            ∙ ap (line_texts (machine_stepper kinds) (shown_to tenant old.whole)) (own_unmarked tenant saids given each zero)
-            ∙ ap (λ (m : Machine). line_texts (machine_stepper kinds) m (lines_to tenant saids)) (ap (shown_to tenant) opens ∙ opening_shown setup tenant);
+            ∙ ap (line_texts (machine_stepper resting_kinds) (shown_to tenant old.whole)) (own_unmarked tenant saids given each zero)
+            ∙ ap (λ (m : Machine). line_texts (machine_stepper resting_kinds) m (lines_to tenant saids)) (ap (shown_to tenant) opens ∙ opening_shown setup tenant);
       }
 
-  all_text : (n : ℕ) (new : History) (from left before after : Option (List ℕ)) → new.failures.now ≡ 0 → IfSome from (λ input. AnswersAll kinds input n old new left before after)
+  all_text : (n : ℕ) (new : History) (from left before after : Option (List ℕ)) → new.failures.now ≡ 0 → IfSome from (λ input. AnswersAll resting_kinds input n old new left before after)
       → IfSome from (λ input. AnswersSteps setup input left before after)
   all_text n new None left before after zero h = tt
   all_text n new (Some input) left before after zero h = record {
     read = h.read;
     text = h.text;
-    answers = text_of_lines (lines_of input) h.given new h.text h.answers (none_failed kinds old new (steps_said (said_lines (lines_of input))) h.given h.answers.all.silo zero);
+    answers = text_of_lines (lines_of input) h.given new h.text h.answers (none_failed resting_kinds old new (steps_said (said_lines (lines_of input))) h.given h.answers.all.silo zero);
     written = h.written;
   }
 
   -- of an input of which nothing is read ahead
-  pub steps_answered : (n : ℕ) (new : History) (fresh : Reading) (from left before after : Option (List ℕ)) → IsFresh fresh → new.failures.now ≡ 0 → IfSome (left_of fresh from) (λ input. AnswersAll kinds input n old new left before after)
+  pub steps_answered : (n : ℕ) (new : History) (fresh : Reading) (from left before after : Option (List ℕ)) → IsFresh fresh → new.failures.now ≡ 0 → IfSome (left_of fresh from) (λ input. AnswersAll resting_kinds input n old new left before after)
       → IfSome from (λ input. AnswersSteps setup input left before after)
   steps_answered n new fresh from left before after none zero h =
       subst (λ (o : Option (List ℕ)). IfSome o (λ input. AnswersSteps setup input left before after)) (left_of-fresh fresh from none) (all_text n new (left_of fresh from) left before after zero h)
 
-  before_text : (input : List ℕ) (new : History) (before after : Option (List ℕ)) → new.failures.now ≡ 0 → StopsBefore kinds (lines_of input) old new before after → StopsBetween setup (lines_of input) before after
+  before_text : (input : List ℕ) (new : History) (before after : Option (List ℕ)) → new.failures.now ≡ 0 → StopsBefore resting_kinds (lines_of input) old new before after → StopsBetween setup (lines_of input) before after
   before_text input new before after zero h = record {
     done = h.done;
     rest = h.rest;
     parts = h.parts;
     text = h.text;
-    answers = text_of_lines h.done h.given new h.text h.answers (none_failed kinds old new (steps_said (said_lines h.done)) h.given h.answers.all.silo zero);
+    answers = text_of_lines h.done h.given new h.text h.answers (none_failed resting_kinds old new (steps_said (said_lines h.done)) h.given h.answers.all.silo zero);
     written = h.written;
   }
 
-  next_unfailed : (done rest : List (List ℕ)) (given : List Answer) (new : History) (text : List ℕ) → new.failures.now ≡ 0 → AnswersNext kinds old done rest given new text → failed_in given ≡ 0
+  next_unfailed : (done rest : List (List ℕ)) (given : List Answer) (new : History) (text : List ℕ) → new.failures.now ≡ 0 → AnswersNext resting_kinds old done rest given new text → failed_in given ≡ 0
   next_unfailed done [] given new text zero h = absurd h
   next_unfailed done (l ∷ rest) given new text zero h =
-      none_failed_before given h.0 (none_failed kinds old new (steps_said (said_lines (done ++ l ∷ []))) (given ++ h.0) h.2.all.silo zero)
+      none_failed_before given h.0 (none_failed resting_kinds old new (steps_said (said_lines (done ++ l ∷ []))) (given ++ h.0) h.2.all.silo zero)
 
-  at_text : (input : List ℕ) (new : History) (before after : Option (List ℕ)) → new.failures.now ≡ 0 → StopsAt kinds (lines_of input) old new before after → StopsBetween setup (lines_of input) before after
+  at_text : (input : List ℕ) (new : History) (before after : Option (List ℕ)) → new.failures.now ≡ 0 → StopsAt resting_kinds (lines_of input) old new before after → StopsBetween setup (lines_of input) before after
   at_text input new before after zero h =
       let none : failed_in h.given ≡ 0 =
-      ⊎_elim (λ same. none_failed kinds old h.mid (steps_said (said_lines h.done)) h.given h.answers.all.silo (ap (λ (k : History). k.failures.now) (sym same) ∙ zero))
+      ⊎_elim (λ same. none_failed resting_kinds old h.mid (steps_said (said_lines h.done)) h.given h.answers.all.silo (ap (λ (k : History). k.failures.now) (sym same) ∙ zero))
       (λ more. next_unfailed h.done h.rest h.given new h.text zero more) h.next in
       record {
         done = h.done;
@@ -87,9 +87,9 @@ module _ (setup : Setup) (old : History) (opens : old.whole ≡ opening setup) w
         written = h.written;
       }
 
-  after_text : (input : List ℕ) (new : History) (before after : Option (List ℕ)) → new.failures.now ≡ 0 → StopsAfter kinds (lines_of input) old new before after → StopsInside setup (lines_of input) before after
+  after_text : (input : List ℕ) (new : History) (before after : Option (List ℕ)) → new.failures.now ≡ 0 → StopsAfter resting_kinds (lines_of input) old new before after → StopsInside setup (lines_of input) before after
   after_text input new before after zero h =
-      let none = none_failed kinds old new (steps_said (said_lines (h.done ++ h.last))) (h.given ++ h.more) h.answers.all.silo zero in
+      let none = none_failed resting_kinds old new (steps_said (said_lines (h.done ++ h.last))) (h.given ++ h.more) h.answers.all.silo zero in
       record {
         done = h.done;
         last = h.last;
@@ -106,7 +106,7 @@ module _ (setup : Setup) (old : History) (opens : old.whole ≡ opening setup) w
       }
 
   by_fault : (why : LineFault) (reading : Reading) (left : Option (List ℕ)) (writing : WriterCalls) (input : List ℕ) (new : History) (before after : Option (List ℕ)) → new.failures.now ≡ 0
-      → StopsBy kinds input reading left writing old new before after why → StopsSteps setup why input left reading before after writing
+      → StopsBy resting_kinds input reading left writing old new before after why → StopsSteps setup why input left reading before after writing
   unfolding before_text at_text
   by_fault line.Read reading left writing input new before after zero h = (before_text input new before after zero h.0, h.1, h.2)
   by_fault line.TooMuch reading left writing input new before after zero h = (before_text input new before after zero h.0, h.1)
@@ -114,12 +114,12 @@ module _ (setup : Setup) (old : History) (opens : old.whole ≡ opening setup) w
   by_fault line.Write reading left writing input new before after zero h = (after_text input new before after zero h.0, h.1)
 
   fault_text : (why : LineFault) (reading : Reading) (left : Option (List ℕ)) (writing : WriterCalls) (new : History) (from before after : Option (List ℕ)) → new.failures.now ≡ 0
-      → IfSome from (λ input. StopsBy kinds input reading left writing old new before after why) → IfSome from (λ input. StopsSteps setup why input left reading before after writing)
+      → IfSome from (λ input. StopsBy resting_kinds input reading left writing old new before after why) → IfSome from (λ input. StopsSteps setup why input left reading before after writing)
   fault_text why reading left writing new None before after zero h = tt
   fault_text why reading left writing new (Some input) before after zero h = by_fault why reading left writing input new before after zero h
 
   pub steps_stopped : (why : LineFault) (fresh reading : Reading) (left : Option (List ℕ)) (writing : WriterCalls) (new : History) (from before after : Option (List ℕ)) → IsFresh fresh → new.failures.now ≡ 0
-      → IfSome (left_of fresh from) (λ input. StopsBy kinds input reading left writing old new before after why) → IfSome from (λ input. StopsSteps setup why input left reading before after writing)
+      → IfSome (left_of fresh from) (λ input. StopsBy resting_kinds input reading left writing old new before after why) → IfSome from (λ input. StopsSteps setup why input left reading before after writing)
   steps_stopped why fresh reading left writing new from before after none zero h =
       subst (λ (o : Option (List ℕ)). IfSome o (λ input. StopsSteps setup why input left reading before after writing)) (left_of-fresh fresh from none)
       (fault_text why reading left writing new (left_of fresh from) before after zero h)

@@ -12,21 +12,25 @@ use Rattle.line_protocol.specs.declared.written.WriterCalls.{WriterCalls}
 use Rattle.line_service.specs.ServedText.{StopsWriting}
 use Rattle.line_service.specs.declared.fault.ServiceFault.{ServiceFault}
 use Rattle.line_service.specs.declared.fault.ServiceFault.TheVariants as service
-use Rattle.silo_words.specs.Words.{AskForAnswering, AskForServing}
-use Rattle.silo_program.specs.Status.{IsTenantsFault, cause_of}
+use Rattle.silo_words.specs.Ages.{IsWhyNoAges, NamesAges}
 use Rattle.silo_words.specs.Tenants.{IsReason, NameTenants}
+use Rattle.silo_words.specs.Words.{AskForAnswering, AskForServing, AskForSteps}
+use Rattle.silo_program.specs.Status.{IsAgesFault, IsTenantsFault, cause_of}
 use Rattle.tenant_gate.specs.Table.{Table}
+use Rattle.idle_collector.specs.Ages.{Ages}
 use Rattle.line_service.specs.Serving.{StopsServing, setup_of}
 use Rattle.silo_program.specs.Files.{FileClaims}
 use Rattle.silo_program.specs.Serving.{IsKeepingCause, KeepsJournal, LeavesOutcome, Outcome, ServingFailsBy, WritesAtMost, WritesJournalAtMost, outcome_text, service_cause}
 use Rattle.silo_program.specs.Answering.{WritesJournalsAtMost}
-use Rattle.silo_program.specs.Ends.{AskForJournal, EndsAs, IsAnsweringFault, IsFaultOf, IsServingFault, IsStreamFault, LeavesFiles, ShowsText, WritesAnswered, WritesJournal}
+use Rattle.silo_program.specs.Ends.{AskForJournal, EndsAs, HaveArguments, IsAnsweringFault, IsFaultOf, IsNamingFault, IsServingFault, IsStreamFault, LeavesFiles, NameNoAges, ShowsText, WritesAnswered, WritesJournal}
 use Rattle.silo_program.specs.declared.failure.Cause.{Cause}
 use Rattle.silo_program.specs.declared.failure.Cause.TheVariants as cause
 use Rattle.silo_program.specs.declared.failure.End.{End}
 use Rattle.silo_program.specs.declared.failure.End.TheVariants as end
 use Rattle.silo_program.specs.declared.failure.ProgramFault.{ProgramFault}
 use Rattle.silo_program.specs.declared.failure.ProgramFault.TheVariants as fault
+use Rattle.silo_words.specs.declared.ages.AgesFault.{AgesFault}
+use Rattle.silo_words.specs.declared.ages.AgesFault.TheVariants as ages
 use Rattle.silo_words.specs.declared.tenants.TenantsFault.{TenantsFault}
 use Rattle.silo_words.specs.declared.tenants.TenantsFault.TheVariants as tenants
 
@@ -79,32 +83,72 @@ module _ (setup : Setup) (files : FileClaims) (from left : Option (List ℕ)) wh
   journal_written None outcome served same = same
   journal_written (Some path) outcome served is = ⊎_elim (λ same. inl same) (λ written. inr (record { outcome = outcome; served = served; written = written })) is
 
-module _ (words : List Text) (files : FileClaims) (from left : Option (List ℕ)) (workers age : ℕ) (tenants : Table) (arguments : List Text) where
+module _ (words : List Text) (files : FileClaims) (from left : Option (List ℕ)) (workers age : ℕ) (given : Option Text) (tenants : Table) (ages : Ages) (arguments : List Text) where
   -- of what the words ask for
-  pub files_left : (journal : Option Text) → AskForServing words workers age journal arguments → NameTenants arguments tenants → WritesJournalAtMost (setup_of tenants age) files journal from left → LeavesFiles words files from left
+  pub files_left : (journal : Option Text) → AskForServing words workers age given journal arguments → NameTenants arguments tenants × NamesAges given ages → WritesJournalAtMost (setup_of tenants age ages) files journal from left
+      → LeavesFiles words files from left
   files_left None asked named same = inl same
   files_left (Some path) asked named is =
       ⊎_elim (λ same. inl same)
-      (λ written. inr (inl (record { workers = workers; tenants = tenants; age = age; path = path; asked = record { arguments = arguments; asked = asked; named = named }; served = written }))) is
+      (λ written. inr (inl (record {
+        workers = workers;
+        tenants = tenants;
+        age = age;
+        ages = ages;
+        path = path;
+        asked = record { given = given; arguments = arguments; asked = asked; named = named.0; aged = named.1 };
+        served = written;
+      }))) is
 
 -- no journal is asked for
 pub untouched : (words : List Text) (files : FileClaims) (from left : Option (List ℕ)) → LeavesFiles words files from left → ((path : Text) → ¬ AskForJournal words path) → files.same
 untouched words files from left leaves never =
     ⊎_elim (λ same. same)
-    (λ written. ⊎_elim (λ (w : WritesJournal words files from left). absurd (never w.path (inl (w.workers, w.age, w.asked.arguments, w.asked.asked))))
-    (λ (w : WritesAnswered words files from). absurd (never w.path (inr (w.age, w.sends, w.asked.arguments, w.asked.asked)))) written) leaves
+    (λ written. ⊎_elim (λ (w : WritesJournal words files from left). absurd (never w.path (inl (w.workers, w.age, w.asked.given, w.asked.arguments, w.asked.asked))))
+    (λ (w : WritesAnswered words files from). absurd (never w.path (inr (w.age, w.asked.given, w.sends, w.asked.arguments, w.asked.asked)))) written) leaves
 
--- ---- the tenant arguments are refused
+-- ---- tenants and ages aren't named
 
-module _ (words : List Text) (files : FileClaims) (from : Option (List ℕ)) (reading : Reading) (before : Option (List ℕ)) (writing : WriterCalls) (same : files.same) where
-  module _ (workers age : ℕ) (journal : Option Text) (arguments : List Text) (asked : AskForServing words workers age journal arguments) where
-    pub tenants_refused : (why : TenantsFault) (told : ProgramFault) → IsReason arguments why → IsTenantsFault why told → IsServingFault words files told from from reading before before writing
-    tenants_refused tenants.Memory told reason is = subst (λ (f : ProgramFault). IsServingFault words files f from from reading before before writing) (sym is) (inl (Keeps-refl from, Keeps-refl before))
-    tenants_refused (tenants.Refused number) (fault.Failed why) reason is =
+-- by the tenant arguments
+pub tenants_not_named : (given : Option Text) (arguments : List Text) (why : TenantsFault) (told : ProgramFault) → IsReason arguments why → IsTenantsFault why told → IsNamingFault given arguments told
+tenants_not_named given arguments tenants.Memory told reason is = subst (λ (f : ProgramFault). IsNamingFault given arguments f) (sym is) refl
+tenants_not_named given arguments (tenants.Refused number) (fault.Failed why) reason is = is
+tenants_not_named given arguments (tenants.Refused number) (fault.Refused text) reason is = inl (number, reason, is)
+tenants_not_named given arguments (tenants.Refused number) (fault.NoJournal text) reason is = absurd is
+
+-- by the text of ages, where the arguments name tenants
+pub ages_not_named : (given : Option Text) (arguments : List Text) (tenants : Table) → NameTenants arguments tenants → (why : AgesFault) (told : ProgramFault) → IsWhyNoAges given why → IsAgesFault why told
+    → IsNamingFault given arguments told
+ages_not_named given arguments tenants named ages.Memory told refused is = subst (λ (f : ProgramFault). IsNamingFault given arguments f) (sym is) refl
+ages_not_named given arguments tenants named ages.Refused (fault.Failed why) refused is = is
+ages_not_named given arguments tenants named ages.Refused (fault.Refused text) refused is = inr (record { tenants = tenants; named = named; refused = refused }, is)
+ages_not_named given arguments tenants named ages.Refused (fault.NoJournal text) refused is = absurd is
+
+module _ (words : List Text) (from : Option (List ℕ)) (reading : Reading) (before : Option (List ℕ)) (writing : WriterCalls) (given : Option Text) (arguments : List Text) where
+  -- and so steps aren't taken
+  pub steps_refused : (age : ℕ) → AskForSteps words age given arguments → (told : ProgramFault) → IsNamingFault given arguments told → IsStreamFault words told from from reading before before writing
+  steps_refused age asked (fault.Failed why) is = subst (λ (c : Cause). IsStreamFault words (fault.Failed c) from from reading before before writing) (sym is) (inl (Keeps-refl from, Keeps-refl before))
+  steps_refused age asked (fault.Refused text) is = (inr (record { given = given; arguments = arguments; asked = inl (age, asked); why = is }), Keeps-refl from, Keeps-refl before)
+  steps_refused age asked (fault.NoJournal text) is = absurd is
+
+  module _ (files : FileClaims) (same : files.same) where
+    -- nor lines served
+    pub serving_refused : (workers age : ℕ) (journal : Option Text) → AskForServing words workers age given journal arguments → (told : ProgramFault) → IsNamingFault given arguments told
+        → IsServingFault words files told from from reading before before writing
+    serving_refused workers age journal asked (fault.Failed why) is =
         subst (λ (c : Cause). IsServingFault words files (fault.Failed c) from from reading before before writing) (sym is) (inl (Keeps-refl from, Keeps-refl before))
-    tenants_refused (tenants.Refused number) (fault.Refused text) reason is =
-        (inr (number, record { arguments = arguments; asked = inr (inl (workers, age, journal, asked)); first = reason }, is), Keeps-refl from, Keeps-refl before, same)
-    tenants_refused (tenants.Refused number) (fault.NoJournal text) reason is = absurd is
+    serving_refused workers age journal asked (fault.Refused text) is =
+        (inr (record { given = given; arguments = arguments; asked = inr (inl (workers, age, journal, asked)); why = is }), Keeps-refl from, Keeps-refl before, same)
+    serving_refused workers age journal asked (fault.NoJournal text) is = absurd is
+
+    -- nor answered at once
+    pub answering_refused : (age sends : ℕ) (journal : Option Text) → AskForAnswering words age given sends journal arguments → (told : ProgramFault) → IsNamingFault given arguments told
+        → IsAnsweringFault words files told from from reading before before writing
+    answering_refused age sends journal asked (fault.Failed why) is =
+        subst (λ (c : Cause). IsAnsweringFault words files (fault.Failed c) from from reading before before writing) (sym is) (inl (Keeps-refl from, Keeps-refl before))
+    answering_refused age sends journal asked (fault.Refused text) is =
+        (inr (record { given = given; arguments = arguments; asked = inr (inr (age, sends, journal, asked)); why = is }), Keeps-refl from, Keeps-refl before, same)
+    answering_refused age sends journal asked (fault.NoJournal text) is = absurd is
 
 -- ---- a text was asked for
 
@@ -126,20 +170,19 @@ module _ (words : List Text) (files : FileClaims) (from left : Option (List ℕ)
 
 -- ---- lines are answered at once
 
-module _ (words : List Text) (files : FileClaims) (from left : Option (List ℕ)) (age sends : ℕ) (tenants : Table) (arguments : List Text) where
+module _ (words : List Text) (files : FileClaims) (from left : Option (List ℕ)) (age : ℕ) (given : Option Text) (sends : ℕ) (tenants : Table) (ages : Ages) (arguments : List Text) where
   -- of what the words ask for
-  pub answered_left : (journal : Option Text) → AskForAnswering words age sends journal arguments → NameTenants arguments tenants → WritesJournalsAtMost (setup_of tenants age) sends files journal from → LeavesFiles words files from left
+  pub answered_left : (journal : Option Text) → AskForAnswering words age given sends journal arguments → NameTenants arguments tenants × NamesAges given ages → WritesJournalsAtMost (setup_of tenants age ages) sends files journal from
+      → LeavesFiles words files from left
   answered_left None asked named same = inl same
   answered_left (Some path) asked named is =
       ⊎_elim (λ same. inl same)
-      (λ written. inr (inr (record { tenants = tenants; age = age; sends = sends; path = path; asked = record { arguments = arguments; asked = asked; named = named }; written = written }))) is
-
-module _ (words : List Text) (files : FileClaims) (from : Option (List ℕ)) (reading : Reading) (before : Option (List ℕ)) (writing : WriterCalls) (same : files.same) where
-  module _ (age sends : ℕ) (journal : Option Text) (arguments : List Text) (asked : AskForAnswering words age sends journal arguments) where
-    pub answering_refused : (why : TenantsFault) (told : ProgramFault) → IsReason arguments why → IsTenantsFault why told → IsAnsweringFault words files told from from reading before before writing
-    answering_refused tenants.Memory told reason is = subst (λ (f : ProgramFault). IsAnsweringFault words files f from from reading before before writing) (sym is) (inl (Keeps-refl from, Keeps-refl before))
-    answering_refused (tenants.Refused number) (fault.Failed why) reason is =
-        subst (λ (c : Cause). IsAnsweringFault words files (fault.Failed c) from from reading before before writing) (sym is) (inl (Keeps-refl from, Keeps-refl before))
-    answering_refused (tenants.Refused number) (fault.Refused text) reason is =
-        (inr (number, record { arguments = arguments; asked = inr (inr (age, sends, journal, asked)); first = reason }, is), Keeps-refl from, Keeps-refl before, same)
-    answering_refused (tenants.Refused number) (fault.NoJournal text) reason is = absurd is
+      (λ written. inr (inr (record {
+        tenants = tenants;
+        age = age;
+        ages = ages;
+        sends = sends;
+        path = path;
+        asked = record { given = given; arguments = arguments; asked = asked; named = named.0; aged = named.1 };
+        written = written;
+      }))) is

@@ -1,7 +1,7 @@
 -- What `silo answer` does with the lines of an input.
 use Rattle.std.specs.Prelude.{◌≡◌, ◌⊎◌, ◌++◌, ⊤, ℕ, List, [], Option, None, Some, IfSome}
 use Rattle.std.specs.Io.KnownBytes.{Keeps}
-use Rattle.grain_kinds.specs.Kinds.{kinds}
+use Rattle.grain_kinds.specs.Resting.{resting_kinds}
 use Rattle.silo_model.specs.Opening.{Setup, opening}
 use Rattle.silo_core.specs.History.{History}
 use Rattle.line_protocol.specs.Lines.{lines_of}
@@ -11,9 +11,9 @@ use Rattle.line_protocol.specs.declared.fault.LineFault.{LineFault}
 use Rattle.line_protocol.specs.declared.fault.LineFault.TheVariants as line
 use Rattle.line_answer.specs.Runs.{AnswersAll, AnswersLines, StopsBy}
 use Rattle.journal_text.specs.Text.{journal_text}
-use Rattle.tenant_audit.specs.SiloJournal.{journal_of}
 use Rattle.silo_program.specs.Files.{FileClaims}
-use Rattle.silo_program.specs.Serving.{HasNoDifference, MayFailAt}
+use Rattle.silo_program.specs.Journals.{HasNoDifference, silo_journal}
+use Rattle.silo_program.specs.Serving.{MayFailAt}
 use Rattle.silo_program.specs.declared.failure.Cause.{Cause}
 use Rattle.silo_program.specs.declared.failure.Cause.TheVariants as cause
 
@@ -27,13 +27,13 @@ opened setup = record { setup = setup; whole = opening setup; journal = []; fail
 -- text and nothing else. Of an input that isn't known nothing is said.
 abbrev pub AnswersToEnd : Setup → ℕ → History → Option (List ℕ) → Option (List ℕ) → Option (List ℕ) → Option (List ℕ) → Type 0
 AnswersToEnd setup sends silo from left before after =
-    IfSome from (λ input. (count : ℕ) × AnswersAll kinds sends input count (opened setup) silo left before after)
+    IfSome from (λ input. (count : ℕ) × AnswersAll resting_kinds sends input count (opened setup) silo left before after)
 
 -- The same up to this fault.
 abbrev pub AnswersUpTo : Setup → ℕ → LineFault → History → Option (List ℕ) → Option (List ℕ) → Reading → Option (List ℕ)
     → Option (List ℕ) → WriterCalls → Type 0
 AnswersUpTo setup sends why silo from left reading before after writing =
-    IfSome from (λ input. StopsBy kinds sends input reading left writing (opened setup) silo before after why)
+    IfSome from (λ input. StopsBy resting_kinds sends input reading left writing (opened setup) silo before after why)
 
 -- The same up to this fault, if there is one.
 abbrev pub AnswersInput : Setup → ℕ → Option LineFault → History → Option (List ℕ) → Option (List ℕ) → Reading → Option (List ℕ)
@@ -48,19 +48,19 @@ pub record AnswersFirst (setup : Setup) (sends : ℕ) (input : List ℕ) (silo :
   pub rest : List (List ℕ)
   pub parts : lines_of input ≡ done ++ rest
   pub text : List ℕ
-  pub answers : AnswersLines kinds sends (opened setup) done silo text
+  pub answers : AnswersLines resting_kinds sends (opened setup) done silo text
 
 -- ---- the journal
 
 -- the journal of no step
 abbrev pub empty_journal : Setup → List ℕ
-empty_journal setup = journal_text (journal_of (opened setup))
+empty_journal setup = journal_text (silo_journal (opened setup))
 
 -- The journal of no step was written to the path, then that of the silo, and nothing else. The file at the path may have the
 -- second, and in it no tenant differs from its machine.
 pub record HoldsSecond (setup : Setup) (files : FileClaims) (path : List ℕ) (silo : History) : Type 0 where
-  pub written : files.written_again path (empty_journal setup) (journal_text (journal_of silo))
-  pub held : files.may_hold path (journal_text (journal_of silo))
+  pub written : files.written_again path (empty_journal setup) (journal_text (silo_journal silo))
+  pub held : files.may_hold path (journal_text (silo_journal silo))
   pub no_difference : HasNoDifference silo
 
 -- the same, if a path is given
@@ -75,7 +75,7 @@ MayFailAgain setup files journal = MayFailAt (λ path. files.may_fail_again path
 pub record WritesSecond (setup : Setup) (sends : ℕ) (files : FileClaims) (path : List ℕ) (from : Option (List ℕ)) : Type 0 where
   pub silo : History
   pub led : IfSome from (λ input. AnswersFirst setup sends input silo)
-  pub written : files.written_again path (empty_journal setup) (journal_text (journal_of silo))
+  pub written : files.written_again path (empty_journal setup) (journal_text (silo_journal silo))
 
 -- One journal was written, or both.
 abbrev pub WritesJournals : Setup → ℕ → FileClaims → List ℕ → Option (List ℕ) → Type 0

@@ -3,11 +3,11 @@ use Rattle.std.specs.Prelude.{◌≡◌, ◌⊎◌, ℕ, Bool, true, false, List
 use Rattle.std.specs.List.{list_any}
 use Rattle.std.specs.Option.{is_some}
 use Rattle.std.specs.Io.KnownBytes.{Appends, Keeps}
-use Rattle.grain_kinds.specs.Kinds.{kinds}
 use Rattle.line_protocol.specs.declared.written.WriterCalls.{WriterCalls}
 use Rattle.journal_text.specs.FirstFault.{IsFirstFault}
 use Rattle.journal_text.specs.JournalAnswers.{IsJournalText}
 use Rattle.journal_text.specs.Text.{History}
+use Rattle.audit_model.specs.Logics.{logic_of}
 use Rattle.audit_model.specs.Report.{IsReport, TenantReport}
 use Rattle.tenant_audit.specs.ReportText.{report_line}
 use Rattle.silo_program.specs.Status.{no_journal_text}
@@ -44,11 +44,11 @@ pub record MayHoldJournal (may_hold : List ℕ → Type 0) (journal : History) :
   pub held : may_hold bytes
   pub is : IsJournalText bytes journal
 
--- The file may have a journal, on which the audit reports this of each tenant.
+-- The file may have a journal, on which the audit under the logic that it names reports this of each tenant.
 pub record AreReportsOf (may_hold : List ℕ → Type 0) (reports : List TenantReport) : Type 0 where
   pub journal : History
   pub held : MayHoldJournal may_hold journal
-  pub reported : IsReport kinds journal reports
+  pub reported : IsReport (logic_of journal.kinds) journal reports
 
 -- The file may have bytes that are no journal's, and the line of this number is the first at fault.
 pub record MayHoldNoJournal (may_hold : List ℕ → Type 0) (number : ℕ) : Type 0 where

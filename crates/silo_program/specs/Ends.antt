@@ -3,14 +3,16 @@ use Rattle.std.specs.Prelude.{◌≡◌, ◌⊎◌, ℕ, List, Option, Some, str
 use Rattle.std.specs.Io.KnownBytes.{Appends, Keeps}
 use Rattle.clap.specs.Words.{Text}
 use Rattle.tenant_gate.specs.Table.{Table}
+use Rattle.idle_collector.specs.Ages.{Ages}
 use Rattle.line_protocol.specs.Reading.{Reading}
 use Rattle.line_protocol.specs.declared.written.WriterCalls.{WriterCalls}
 use Rattle.line_protocol.specs.declared.fault.LineFault.{LineFault}
 use Rattle.line_service.specs.Serving.{setup_of}
 use Rattle.silo_words.specs.Words.{AreRefused, AskForAnswering, AskForAudit, AskForHelp, AskForNothing, AskForServing}
 use Rattle.silo_words.specs.Words.{AskForSteps, AskForVersion, EndsWithExample}
-use Rattle.silo_program.specs.Status.{cause_of, refused_text, version_text}
+use Rattle.silo_program.specs.Status.{cause_of, no_ages_text, refused_text, version_text}
 use Rattle.silo_program.specs.Streams.{BreaksOff}
+use Rattle.silo_words.specs.Ages.{NamesAges}
 use Rattle.silo_words.specs.Tenants.{IsFirstRefused, NameTenants}
 use Rattle.silo_program.specs.Steps.{AnswersFrom, StopsFrom}
 use Rattle.silo_program.specs.Files.{FileClaims}
@@ -30,49 +32,71 @@ use Rattle.silo_program.specs.declared.failure.ProgramFault.TheVariants as fault
 abbrev pub AskForText : List Text → Text → Type 0
 AskForText words text = (AskForHelp words × EndsWithExample words text) ⊎ (AskForVersion words × (text ≡ version_text))
 
--- The words ask to take steps for these tenants, each within its limits, under this age.
-pub record AskForTenants (words : List Text) (tenants : Table) (age : ℕ) : Type 0 where
+-- The words ask to take steps for these tenants, each within its limits, under this age and these ages of kinds.
+pub record AskForTenants (words : List Text) (tenants : Table) (age : ℕ) (ages : Ages) : Type 0 where
+  pub given : Option Text
   pub arguments : List Text
-  pub asked : AskForSteps words age arguments
+  pub asked : AskForSteps words age given arguments
   pub named : NameTenants arguments tenants
+  pub aged : NamesAges given ages
 
--- The words ask to serve the lines of an input by so many threads, for these tenants under this age, and for the journal at this path.
-pub record AskForThreads (words : List Text) (workers : ℕ) (tenants : Table) (age : ℕ) (journal : Option Text) : Type 0 where
+-- The words ask to serve the lines of an input by so many threads, for these tenants under this age and these ages of kinds, and for the
+-- journal at this path.
+pub record AskForThreads (words : List Text) (workers : ℕ) (tenants : Table) (age : ℕ) (ages : Ages) (journal : Option Text) : Type 0 where
+  pub given : Option Text
   pub arguments : List Text
-  pub asked : AskForServing words workers age journal arguments
+  pub asked : AskForServing words workers age given journal arguments
   pub named : NameTenants arguments tenants
+  pub aged : NamesAges given ages
 
--- The words ask to answer the lines of an input at once, for these tenants under this age, with so many deliveries behind each
--- line, and for the journal at this path.
-pub record AskForAnswers (words : List Text) (tenants : Table) (age sends : ℕ) (journal : Option Text) : Type 0 where
+-- The words ask to answer the lines of an input at once, for these tenants under this age and these ages of kinds, with so many
+-- deliveries behind each line, and for the journal at this path.
+pub record AskForAnswers (words : List Text) (tenants : Table) (age : ℕ) (ages : Ages) (sends : ℕ) (journal : Option Text) : Type 0 where
+  pub given : Option Text
   pub arguments : List Text
-  pub asked : AskForAnswering words age sends journal arguments
+  pub asked : AskForAnswering words age given sends journal arguments
   pub named : NameTenants arguments tenants
+  pub aged : NamesAges given ages
 
 -- The words ask for the journal at the path, of lines that are served or answered at once.
 abbrev pub AskForJournal : List Text → Text → Type 0
 AskForJournal words path =
-    ((workers : ℕ) × (age : ℕ) × (arguments : List Text) × AskForServing words workers age (Some path) arguments)
-    ⊎ ((age : ℕ) × (sends : ℕ) × (arguments : List Text) × AskForAnswering words age sends (Some path) arguments)
+    ((workers : ℕ) × (age : ℕ) × (given : Option Text) × (arguments : List Text)
+    × AskForServing words workers age given (Some path) arguments)
+    ⊎ ((age : ℕ) × (given : Option Text) × (sends : ℕ) × (arguments : List Text)
+    × AskForAnswering words age given sends (Some path) arguments)
 
--- The words have these tenant arguments, whether they ask to take steps, to serve, or to answer at once.
-abbrev pub HaveArguments : List Text → List Text → Type 0
-HaveArguments words arguments =
-    ((age : ℕ) × AskForSteps words age arguments)
-    ⊎ (((workers : ℕ) × (age : ℕ) × (journal : Option Text) × AskForServing words workers age journal arguments)
-    ⊎ ((age : ℕ) × (sends : ℕ) × (journal : Option Text) × AskForAnswering words age sends journal arguments))
+-- The words have this text of the kinds' ages and these tenant arguments, whether they ask to take steps, to serve, or to answer at once.
+abbrev pub HaveArguments : List Text → Option Text → List Text → Type 0
+HaveArguments words given arguments =
+    ((age : ℕ) × AskForSteps words age given arguments)
+    ⊎ (((workers : ℕ) × (age : ℕ) × (journal : Option Text) × AskForServing words workers age given journal arguments)
+    ⊎ ((age : ℕ) × (sends : ℕ) × (journal : Option Text) × AskForAnswering words age given sends journal arguments))
 
--- Of the words' tenant arguments the one of this number is the first that is refused.
-pub record NameNoTenant (words : List Text) (number : ℕ) : Type 0 where
+-- The arguments name tenants, but the text of ages names no table.
+pub record NameNoAges (given : Option Text) (arguments : List Text) : Type 0 where
+  pub tenants : Table
+  pub named : NameTenants arguments tenants
+  pub refused : (ages : Ages) → ¬ NamesAges given ages
+
+-- What is said where a text of ages and tenant arguments aren't taken: which tenant argument is the first that is refused; or, where the
+-- arguments name tenants, that the ages are refused.
+abbrev pub AreNotTakenBy : Option Text → List Text → Text → Type 0
+AreNotTakenBy given arguments text =
+    ((number : ℕ) × IsFirstRefused arguments number × (text ≡ refused_text number))
+    ⊎ (NameNoAges given arguments × (text ≡ no_ages_text))
+
+-- The words have tenant arguments, and perhaps a text of ages, that aren't taken, and this is said of it.
+pub record HaveWrongArguments (words : List Text) (text : Text) : Type 0 where
+  pub given : Option Text
   pub arguments : List Text
-  pub asked : HaveArguments words arguments
-  pub first : IsFirstRefused arguments number
+  pub asked : HaveArguments words given arguments
+  pub why : AreNotTakenBy given arguments text
 
--- What is said of words that are refused: clap's text, or that a number is out of its range, or which tenant argument is refused.
+-- What is said of words that are refused: clap's text, or that a number is out of its range, or what isn't taken of their tenant arguments
+-- and their text of ages.
 abbrev pub AreRefusedBy : List Text → Text → Type 0
-AreRefusedBy words text =
-    (AreRefused words ⊎ AskForNothing words)
-    ⊎ ((number : ℕ) × NameNoTenant words number × (text ≡ refused_text number))
+AreRefusedBy words text = (AreRefused words ⊎ AskForNothing words) ⊎ HaveWrongArguments words text
 
 -- ---- a text is shown
 
@@ -105,18 +129,20 @@ FailsEarly words cause.Strayed from left before after writing = ⊥
 pub record ServesSteps (words : List Text) (from left before after : Option (List ℕ)) : Type 0 where
   pub tenants : Table
   pub age : ℕ
-  pub asked : AskForTenants words tenants age
-  pub answered : AnswersFrom (setup_of tenants age) from left before after
+  pub ages : Ages
+  pub asked : AskForTenants words tenants age ages
+  pub answered : AnswersFrom (setup_of tenants age ages) from left before after
 
 -- The words name tenants, and the steps of the input were answered for them up to this fault.
 pub record FailsInSteps (words : List Text) (why : Cause) (from left : Option (List ℕ)) (reading : Reading)
     (before after : Option (List ℕ)) (writing : WriterCalls) : Type 0 where
   pub tenants : Table
   pub age : ℕ
-  pub asked : AskForTenants words tenants age
+  pub ages : Ages
+  pub asked : AskForTenants words tenants age ages
   pub fault : LineFault
   pub is : why ≡ cause_of fault
-  pub stopped : StopsFrom (setup_of tenants age) fault from left reading before after writing
+  pub stopped : StopsFrom (setup_of tenants age ages) fault from left reading before after writing
 
 -- ---- lines are served
 
@@ -125,9 +151,10 @@ pub record ServesInput (words : List Text) (files : FileClaims) (from left befor
   pub workers : ℕ
   pub tenants : Table
   pub age : ℕ
+  pub ages : Ages
   pub journal : Option Text
-  pub asked : AskForThreads words workers tenants age journal
-  pub served : ServesLanes (setup_of tenants age) files journal from left before after
+  pub asked : AskForThreads words workers tenants age ages journal
+  pub served : ServesLanes (setup_of tenants age ages) files journal from left before after
 
 -- The words name tenants, and serving the lines of the input for them failed.
 pub record FailsInServing (words : List Text) (files : FileClaims) (why : Cause) (from left : Option (List ℕ)) (reading : Reading)
@@ -135,9 +162,10 @@ pub record FailsInServing (words : List Text) (files : FileClaims) (why : Cause)
   pub workers : ℕ
   pub tenants : Table
   pub age : ℕ
+  pub ages : Ages
   pub journal : Option Text
-  pub asked : AskForThreads words workers tenants age journal
-  pub failed : ServingFailsBy (setup_of tenants age) files journal why from left reading.calls before after writing
+  pub asked : AskForThreads words workers tenants age ages journal
+  pub failed : ServingFailsBy (setup_of tenants age ages) files journal why from left reading.calls before after writing
 
 -- The words name tenants and a path, the lines of the input were served for them, and their journal was written to this
 -- path, once and nothing else.
@@ -145,9 +173,10 @@ pub record WritesJournal (words : List Text) (files : FileClaims) (from left : O
   pub workers : ℕ
   pub tenants : Table
   pub age : ℕ
+  pub ages : Ages
   pub path : Text
-  pub asked : AskForThreads words workers tenants age (Some path)
-  pub served : WritesJournalTo (setup_of tenants age) files path from left
+  pub asked : AskForThreads words workers tenants age ages (Some path)
+  pub served : WritesJournalTo (setup_of tenants age ages) files path from left
 
 -- ---- lines are answered at once
 
@@ -155,30 +184,33 @@ pub record WritesJournal (words : List Text) (files : FileClaims) (from left : O
 pub record AnswersAtOnce (words : List Text) (files : FileClaims) (from left before after : Option (List ℕ)) : Type 0 where
   pub tenants : Table
   pub age : ℕ
+  pub ages : Ages
   pub sends : ℕ
   pub journal : Option Text
-  pub asked : AskForAnswers words tenants age sends journal
-  pub answered : AnswersLanes (setup_of tenants age) sends files journal from left before after
+  pub asked : AskForAnswers words tenants age ages sends journal
+  pub answered : AnswersLanes (setup_of tenants age ages) sends files journal from left before after
 
 -- The words name tenants, and answering the lines of the input at once for them failed.
 pub record FailsInAnswering (words : List Text) (files : FileClaims) (why : Cause) (from left : Option (List ℕ)) (reading : Reading)
     (before after : Option (List ℕ)) (writing : WriterCalls) : Type 0 where
   pub tenants : Table
   pub age : ℕ
+  pub ages : Ages
   pub sends : ℕ
   pub journal : Option Text
-  pub asked : AskForAnswers words tenants age sends journal
-  pub failed : AnsweringFailsBy (setup_of tenants age) sends files journal why from left reading before after writing
+  pub asked : AskForAnswers words tenants age ages sends journal
+  pub failed : AnsweringFailsBy (setup_of tenants age ages) sends files journal why from left reading before after writing
 
 -- The words name tenants and a path. To this path the journal of no step was written, or this and then the journal of what was
 -- answered, and nothing else.
 pub record WritesAnswered (words : List Text) (files : FileClaims) (from : Option (List ℕ)) : Type 0 where
   pub tenants : Table
   pub age : ℕ
+  pub ages : Ages
   pub sends : ℕ
   pub path : Text
-  pub asked : AskForAnswers words tenants age sends (Some path)
-  pub written : WritesJournals (setup_of tenants age) sends files path from
+  pub asked : AskForAnswers words tenants age ages sends (Some path)
+  pub written : WritesJournals (setup_of tenants age ages) sends files path from
 
 -- No file was written, or the journal that the words ask for was.
 abbrev pub LeavesFiles : List Text → FileClaims → Option (List ℕ) → Option (List ℕ) → Type 0
@@ -243,6 +275,12 @@ IsStreamFault words (fault.Failed why) from left reading before after writing =
 IsStreamFault words (fault.Refused text) from left reading before after writing =
     AreRefusedBy words (string_bytes text) × Keeps from left × Keeps before after
 IsStreamFault words (fault.NoJournal text) from left reading before after writing = ⊥
+
+-- Why tenants and ages aren't named: the arguments or the ages aren't taken, or memory was refused.
+abbrev pub IsNamingFault : Option Text → List Text → ProgramFault → Type 0
+IsNamingFault given arguments (fault.Failed why) = why ≡ cause.Memory
+IsNamingFault given arguments (fault.Refused text) = AreNotTakenBy given arguments (string_bytes text)
+IsNamingFault given arguments (fault.NoJournal text) = ⊥
 
 -- Why lines aren't served.
 abbrev pub IsServingFault : List Text → FileClaims → ProgramFault → Option (List ℕ) → Option (List ℕ) → Reading → Option (List ℕ)

@@ -2,6 +2,7 @@ pub mod Status
 pub mod Streams
 pub mod Files
 pub mod Steps
+pub mod Journals
 pub mod Serving
 pub mod Answering
 pub mod Auditing

@@ -2,7 +2,7 @@
 use Rattle.std.specs.Prelude.{◌≡◌, ◌≢◌, ◌⊎◌, ℕ, List, Option, None, Some, IfSome, true}
 use Rattle.std.specs.Io.KnownBytes.{Appends, Keeps}
 use Rattle.silo_event.specs.declared.reply.Reply.{Reply}
-use Rattle.grain_kinds.specs.Kinds.{kinds}
+use Rattle.grain_kinds.specs.Resting.{resting_kinds}
 use Rattle.silo_model.specs.Opening.{Setup}
 use Rattle.silo_core.specs.History.{History}
 use Rattle.line_parser.specs.declared.line.LineRefusal.{LineRefusal}
@@ -11,13 +11,12 @@ use Rattle.line_protocol.specs.Gathered.{HasTooMany}
 use Rattle.line_protocol.specs.declared.calls.ReaderCalls.{ReaderCalls}
 use Rattle.line_protocol.specs.declared.written.WriterCalls.{WriterCalls}
 use Rattle.journal_text.specs.Text.{journal_text}
-use Rattle.audit_model.specs.Report.{IsFirstDifference}
-use Rattle.tenant_audit.specs.SiloJournal.{journal_of}
 use Rattle.line_service.specs.Serving.{IsServed}
 use Rattle.line_service.specs.ServedText.{served_text}
 use Rattle.line_service.specs.declared.fault.ServiceFault.{ServiceFault}
 use Rattle.line_service.specs.declared.fault.ServiceFault.TheVariants as service
 use Rattle.silo_program.specs.Files.{FileClaims}
+use Rattle.silo_program.specs.Journals.{HasNoDifference, silo_journal}
 use Rattle.silo_program.specs.Status.{cause_of}
 use Rattle.silo_program.specs.Streams.{BreaksOff}
 use Rattle.silo_program.specs.declared.failure.Cause.{Cause}
@@ -31,21 +30,18 @@ pub record Outcome : Type 0 where
 
 -- All of the input was read, and serving it left this. Of an input that isn't known nothing is said.
 abbrev pub LeavesOutcome : Setup → Option (List ℕ) → Option (List ℕ) → Outcome → Type 0
-LeavesOutcome setup from left outcome = IfSome from (λ input. IsServed setup input left outcome.refusals outcome.silo outcome.answers)
+LeavesOutcome setup from left outcome =
+    IfSome from (λ input. IsServed resting_kinds setup input left outcome.refusals outcome.silo outcome.answers)
 
 -- what is written of it
 abbrev pub outcome_text : Outcome → List ℕ
 outcome_text outcome = served_text outcome.refusals outcome.answers outcome.silo.whole.replies
 
--- In the journal of the silo no tenant differs from its machine.
-abbrev pub HasNoDifference : History → Type 0
-HasNoDifference silo = (tenant : List ℕ) → IsFirstDifference kinds (journal_of silo) tenant None
-
 -- The journal of the silo was written to the path, once and nothing else. The file at the path may have it, and in it no
 -- tenant differs from its machine.
 pub record HoldsJournal (files : FileClaims) (path : List ℕ) (silo : History) : Type 0 where
-  pub written : files.written path (journal_text (journal_of silo))
-  pub held : files.may_hold path (journal_text (journal_of silo))
+  pub written : files.written path (journal_text (silo_journal silo))
+  pub held : files.may_hold path (journal_text (silo_journal silo))
   pub no_difference : HasNoDifference silo
 
 -- the same, if a path is given
@@ -55,13 +51,13 @@ KeepsJournal files journal silo = IfSome journal (λ path. HoldsJournal files pa
 -- No file was written, or the journal of the silo was, once, to the path that is given.
 abbrev pub WritesAtMost : FileClaims → Option (List ℕ) → History → Type 0
 WritesAtMost files None silo = files.same
-WritesAtMost files (Some path) silo = files.same ⊎ files.written path (journal_text (journal_of silo))
+WritesAtMost files (Some path) silo = files.same ⊎ files.written path (journal_text (silo_journal silo))
 
 -- The lines of the input were served, and their journal was written to the path, once and nothing else.
 pub record WritesJournalTo (setup : Setup) (files : FileClaims) (path : List ℕ) (from left : Option (List ℕ)) : Type 0 where
   pub outcome : Outcome
   pub served : LeavesOutcome setup from left outcome
-  pub written : files.written path (journal_text (journal_of outcome.silo))
+  pub written : files.written path (journal_text (silo_journal outcome.silo))
 
 -- No file was written, or, if a path is given, the journal of what was served was, once, to this path.
 abbrev pub WritesJournalAtMost : Setup → FileClaims → Option (List ℕ) → Option (List ℕ) → Option (List ℕ) → Type 0

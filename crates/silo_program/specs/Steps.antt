@@ -1,7 +1,7 @@
 -- What `silo steps` answers to the lines of an input.
 use Rattle.std.specs.Prelude.{◌≡◌, ◌≤◌, ◌⊎◌, ◌++◌, ℕ, List, [], length, Option, Some, IfSome, true}
 use Rattle.std.specs.Io.KnownBytes.{Appends}
-use Rattle.grain_kinds.specs.Kinds.{kinds}
+use Rattle.grain_kinds.specs.Resting.{resting_kinds}
 use Rattle.silo_model.specs.Opening.{Setup, opening, start_of}
 use Rattle.line_protocol.specs.Limits.{calls_limit}
 use Rattle.line_protocol.specs.Lines.{lines_of}
@@ -15,9 +15,10 @@ use Rattle.line_protocol.specs.declared.fault.LineFault.TheVariants as line
 -- The text is what a silo answers to the lines from its opening, and nothing else. For every tenant, the texts of the lines
 -- that concern it are what the tenant's own machine answers to these lines alone, from its start.
 pub record IsTextOf (setup : Setup) (lines : List (List ℕ)) (text : List ℕ) : Type 0 where
-  pub whole : text ≡ lines_text (whole_stepper kinds) (opening setup) (said_lines lines)
-  pub own : (tenant : List ℕ) → texts_to tenant (said_lines lines) (line_texts (whole_stepper kinds) (opening setup) (said_lines lines))
-      ≡ line_texts (machine_stepper kinds) (start_of setup tenant) (lines_to tenant (said_lines lines))
+  pub whole : text ≡ lines_text (whole_stepper resting_kinds) (opening setup) (said_lines lines)
+  pub own : (tenant : List ℕ)
+      → texts_to tenant (said_lines lines) (line_texts (whole_stepper resting_kinds) (opening setup) (said_lines lines))
+      ≡ line_texts (machine_stepper resting_kinds) (start_of setup tenant) (lines_to tenant (said_lines lines))
 
 -- All of the input was read, and its text was written, and nothing else.
 pub record AnswersSteps (setup : Setup) (input : List ℕ) (left before after : Option (List ℕ)) : Type 0 where

@@ -2,7 +2,7 @@
 
 ghost use Rattle.std.specs.Prelude.{◌≡◌, ◌≢◌, ◌⊎◌, [], false, ℕ, IfOk, IfErr, IfSome, OnOk, option_map};
 ghost use Rattle.std.specs.FinMap.{entries};
-ghost use Rattle.grain_kinds.specs.Kinds.{kinds};
+ghost use Rattle.grain_kinds.specs.Resting.{resting_kinds};
 ghost use Rattle.silo_model.specs.Opening.{opening};
 ghost use Rattle.line_protocol.specs.Reading.{IsFresh};
 ghost use Rattle.line_answer.specs.Runs.{AnswersAll, KeepsSetup, StopsBy};
@@ -14,8 +14,9 @@ ghost use Rattle.silo_program.specs.Answering.{AnsweringFailsBy, AnswersLanes, E
 use crate::failure::{Cause, cause_of};
 use crate::files::WholeFiles;
 use crate::journals::keep_journal;
-use grain_kinds::Kinds;
+use grain_kinds::RestingKinds;
 use grain_storage::MemoryStorage;
+use idle_collector::AgeTable;
 use line_answer::{AnsweringSilo, answer_lines};
 use line_protocol::{Input, LineFault, Output};
 use silo_core::{Setup, Silo};
@@ -24,14 +25,15 @@ use std::io::{Read, Write};
 use std::mem;
 use tenant_gate::{Age, TenantTable};
 
-/// A silo of the kinds `counter`, `sheet` and `relay`, over no rows.
+/// A silo of the kinds `counter`, `sheet` and `relay`, whose grains rest and stay, over no rows.
 fn new_silo(
     alloc: Global,
     tenants: TenantTable,
     age: Age,
-) -> Result<AnsweringSilo<MemoryStorage, Kinds>, AllocError>
-    ensures setup { IfOk result (λ s. s.history.setup ≡ setup_of tenants age) }
-    ensures opening { IfOk result (λ s. (s.history.whole ≡ opening (setup_of tenants age)) × (s.history.journal ≡ [])) }
+    ages: AgeTable,
+) -> Result<AnsweringSilo<MemoryStorage, RestingKinds>, AllocError>
+    ensures setup { IfOk result (λ s. s.history.setup ≡ setup_of tenants age ages) }
+    ensures opening { IfOk result (λ s. (s.history.whole ≡ opening (setup_of tenants age ages)) × (s.history.journal ≡ [])) }
     ensures failures { IfOk result (λ s. s.history.failures ≡ record { at_opening = 0; now = 0 }) }
     ensures ready { IfOk result (λ s. s.stopped ≡ false) }
 {
@@ -40,8 +42,9 @@ fn new_silo(
         Setup {
             tenants,
             age,
+            ages,
             storage: MemoryStorage::new(alloc),
-            logic: Kinds,
+            logic: RestingKinds,
         },
     )
 }
@@ -50,7 +53,7 @@ fn new_silo(
 /// out, also what was written before a fault.
 fn answer_reader<R: Read, W: Write>(
     alloc: Global,
-    silo: &mut AnsweringSilo<MemoryStorage, Kinds>,
+    silo: &mut AnsweringSilo<MemoryStorage, RestingKinds>,
     sends: u64,
     input: &mut Input<R>,
     output: &mut Output<W>,
@@ -58,10 +61,10 @@ fn answer_reader<R: Read, W: Write>(
     requires ready { silo.old.stopped ≡ false }
     requires fresh { IsFresh input.old.lines }
     ensures answered { OnOk result (IfSome (R.remaining input.old.reader) (λ bytes. (count : ℕ)
-        × AnswersAll kinds sends bytes count silo.old.history silo.new.history (R.remaining input.new.reader)
+        × AnswersAll resting_kinds sends bytes count silo.old.history silo.new.history (R.remaining input.new.reader)
         (W.contents output.old.writer) (W.contents output.new.writer))) }
     ensures stopped { IfErr result (λ why. IfSome (R.remaining input.old.reader) (λ bytes.
-        StopsBy kinds sends bytes input.new.lines (R.remaining input.new.reader) output.new.calls silo.old.history silo.new.history
+        StopsBy resting_kinds sends bytes input.new.lines (R.remaining input.new.reader) output.new.calls silo.old.history silo.new.history
         (W.contents output.old.writer) (W.contents output.new.writer) why)) }
     ensures setup { OnOk result (silo.new.history.setup ≡ silo.old.history.setup) }
     ensures kept { IfErr result (λ why. KeepsSetup why silo.old.history silo.new.history) }
@@ -85,7 +88,7 @@ fn keep_after<F: WholeFiles>(
     alloc: Global,
     files: &mut F,
     journal: Option<&str>,
-    silo: &Silo<MemoryStorage, Kinds>,
+    silo: &Silo<MemoryStorage, RestingKinds>,
     why: LineFault,
 ) -> Cause
     requires { why ≢ LineFault.Memory → entries silo.now.setup.rows ≡ [] }
@@ -118,6 +121,7 @@ pub fn answer_input<F: WholeFiles, R: Read, W: Write>(
     alloc: Global,
     tenants: TenantTable,
     age: Age,
+    ages: AgeTable,
     sends: u64,
     journal: Option<&str>,
     files: &mut F,
@@ -125,21 +129,21 @@ pub fn answer_input<F: WholeFiles, R: Read, W: Write>(
     output: &mut Output<W>,
 ) -> Result<(), Cause>
     requires fresh { IsFresh input.old.lines }
-    ensures answered { OnOk result (AnswersLanes (setup_of tenants age) sends
+    ensures answered { OnOk result (AnswersLanes (setup_of tenants age ages) sends
         (claims F.may_hold F.may_fail F.may_leave files.old files.new) (option_map (λ path. path.now) journal.entry)
         (R.remaining input.old.reader) (R.remaining input.new.reader) (W.contents output.old.writer) (W.contents output.new.writer)) }
     ensures unfailed { OnOk result (output.new.calls.failed ≡ output.old.calls.failed) }
-    ensures fault { IfErr result (λ why. AnsweringFailsBy (setup_of tenants age) sends
+    ensures fault { IfErr result (λ why. AnsweringFailsBy (setup_of tenants age ages) sends
         (claims F.may_hold F.may_fail F.may_leave files.old files.new) (option_map (λ path. path.now) journal.entry) why
         (R.remaining input.old.reader) (R.remaining input.new.reader) input.new.lines
         (W.contents output.old.writer) (W.contents output.new.writer) output.new.calls) }
 
     // In every outcome.
-    ensures journal { WritesJournalsAtMost (setup_of tenants age) sends
+    ensures journal { WritesJournalsAtMost (setup_of tenants age ages) sends
         (claims F.may_hold F.may_fail F.may_leave files.old files.new) (option_map (λ path. path.now) journal.entry)
         (R.remaining input.old.reader) }
 {
-    let Ok(mut silo) = new_silo(alloc, tenants, age) else {
+    let Ok(mut silo) = new_silo(alloc, tenants, age, ages) else {
         return Err(Cause::Memory);
     };
     let first = keep_journal(alloc, files, journal, silo.silo());

@@ -2,9 +2,9 @@
 
 ghost use Rattle.std.specs.Prelude.{◌≡◌, ℕ, List, Option, IfOk, IfErr, OnOk};
 ghost use Rattle.std.specs.Io.KnownBytes.{Appends};
-ghost use Rattle.grain_kinds.specs.Kinds.{kinds};
 ghost use Rattle.line_protocol.specs.declared.written.WriterCalls.{WriterCalls};
 ghost use Rattle.journal_text.specs.JournalAnswers.{IsJournalText};
+ghost use Rattle.audit_model.specs.Logics.{logic_of};
 ghost use Rattle.audit_model.specs.Report.{IsReport};
 ghost use Rattle.silo_program.specs.Auditing.{AuditsFile, IsAuditCause, IsAuditFault, IsEndOf, IsReadingFault, IsRefusalOf};
 ghost use Rattle.silo_program.specs.Auditing.{IsWritingCause, MayHoldJournal, file_cause, reports_text};
@@ -67,13 +67,13 @@ fn journal_at<F: WholeFiles>(alloc: Global, files: &F, path: &str) -> Result<Jou
     }
 }
 
-/// What the audit reports of each tenant of the journal.
+/// What the audit reports of each tenant of the journal, under the logic that the journal names.
 fn reports_on<H: AllocGlobal + Threads + Wait + Sync, A: AuditGate + Sync>(
     rt: &H,
     journal: &Journal,
     gate: &A,
 ) -> Result<Report, Cause>
-    ensures reports { IfOk result (λ reports. IsReport kinds journal.now reports) }
+    ensures reports { IfOk result (λ reports. IsReport (logic_of journal.now.kinds) journal.now reports) }
     ensures fault { IfErr result (λ cause. IsAuditCause cause) }
 {
     match audit_with(rt, rt.alloc(), journal, AUDIT_WORKERS, gate) {
@@ -115,7 +115,8 @@ fn write_reports<W: Write>(
     Err(Cause::Write)
 }
 
-/// Audits the journal that the file at the path has by 4 threads, and writes a line for each tenant.
+/// Audits the journal that the file at the path has by 4 threads, under the logic that it names, and writes a line for each
+/// tenant.
 ///
 /// # Errors
 ///

@@ -7,7 +7,7 @@ ghost use Rattle.silo_program.specs.Serving.{IsKeepingCause, KeepsJournal, Write
 
 use crate::failure::Cause;
 use crate::files::{FileFault, WholeFiles};
-use grain_kinds::Kinds;
+use grain_kinds::RestingKinds;
 use grain_storage::MemoryStorage;
 use silo_core::Silo;
 use std::alloc::Global;
@@ -18,7 +18,7 @@ pub fn keep_journal<F: WholeFiles>(
     alloc: Global,
     files: &mut F,
     journal: Option<&str>,
-    silo: &Silo<MemoryStorage, Kinds>,
+    silo: &Silo<MemoryStorage, RestingKinds>,
 ) -> Result<(), Cause>
     requires { entries silo.now.setup.rows ≡ [] }
     ensures kept { OnOk result (KeepsJournal (claims F.may_hold F.may_fail F.may_leave files.old files.new)

@@ -4,12 +4,15 @@ ghost use Rattle.std.specs.Prelude.{◌≡◌, ◌≤◌, ◌⊎◌, List, ℕ, 
 ghost use Rattle.std.specs.Io.KnownBytes.{Appends, Keeps};
 ghost use Rattle.clap.specs.Words.{Text};
 ghost use Rattle.line_protocol.specs.Reading.{IsFresh, Reading};
+ghost use Rattle.silo_words.specs.Ages.{NamesAges};
+ghost use Rattle.silo_words.specs.Tenants.{NameTenants};
 ghost use Rattle.silo_words.specs.Words.{AskForAnswering, AskForServing, AskForSteps, IsWhy, texts_of};
-ghost use Rattle.silo_program.specs.Status.{IsTenantsFault, failure_text};
+ghost use Rattle.silo_program.specs.Status.{IsAgesFault, IsTenantsFault, failure_text};
 ghost use Rattle.silo_program.specs.Streams.{BreaksOff, Tells};
 ghost use Rattle.silo_program.specs.Files.{claims};
 ghost use Rattle.silo_program.specs.Ends.{AnswersAtOnce, AreRefusedBy, AskForJournal, EndsAs, FailsBy, IsAnsweringFault, IsFaultOf};
-ghost use Rattle.silo_program.specs.Ends.{IsServingFault, IsStreamFault, LeavesFiles, RefusesJournal, ServesInput, ServesSteps, ShowsText};
+ghost use Rattle.silo_program.specs.Ends.{IsNamingFault, IsServingFault, IsStreamFault, LeavesFiles, RefusesJournal, ServesInput};
+ghost use Rattle.silo_program.specs.Ends.{ServesSteps, ShowsText};
 
 use crate::answering::answer_input;
 use crate::auditing::audit_file;
@@ -17,14 +20,15 @@ use crate::failure::{Cause, End, ProgramFault, cause_of, say, status_of_end, tel
 use crate::files::WholeFiles;
 use crate::serving::serve_lines;
 use crate::stepping::answer_steps;
+use idle_collector::AgeTable;
 use line_protocol::{Input, Output};
-use silo_words::{Task, TenantsFault, WordsFault, read_tenants, read_words};
+use silo_words::{AgesFault, Task, TenantsFault, WordsFault, read_ages, read_tenants, read_words};
 use std::alloc::Global;
 use std::io::{Read, Write};
 use std::sync::Wait;
 use std::thread::Threads;
 use tenant_audit::{AuditGate, FreeAuditGate};
-use tenant_gate::Age;
+use tenant_gate::{Age, TenantTable};
 use worker_host::{FreeGate, TurnGate};
 
 /// What `--version` shows.
@@ -75,30 +79,69 @@ fn explain_tenants(alloc: Global, fault: TenantsFault) -> ProgramFault
     }
 }
 
-/// Takes the steps of the input for the tenants of the arguments.
-fn take_steps<R: Read, W: Write>(
-    alloc: Global,
-    age: Age,
-    arguments: &[&str],
-    input: &mut Input<R>,
-    output: &mut Output<W>,
-) -> Result<End, ProgramFault>
-    requires fresh { IsFresh input.old.lines }
-    ensures ended { (words : List Text) → AskForSteps words age (map (λ text. text.now) arguments.now)
-        → IfOk result (λ end. (end ≡ End.Well) × ServesSteps words
-        (R.remaining input.old.reader) (R.remaining input.new.reader)
-        (W.contents output.old.writer) (W.contents output.new.writer)) }
-    ensures unfailed { OnOk result (output.new.calls.failed ≡ output.old.calls.failed) }
-    ensures fault { (words : List Text) → AskForSteps words age (map (λ text. text.now) arguments.now)
-        → IfErr result (λ why. IsStreamFault words why
-        (R.remaining input.old.reader) (R.remaining input.new.reader) input.new.lines
-        (W.contents output.old.writer) (W.contents output.new.writer) output.new.calls) }
+fn explain_ages(alloc: Global, fault: AgesFault) -> ProgramFault
+    ensures { IsAgesFault fault result }
+{
+    match fault {
+        AgesFault::Memory => ProgramFault::Failed(Cause::Memory),
+        AgesFault::Refused => match String::from_str(alloc, "silo: ages are refused\n") {
+            Ok(text) => ProgramFault::Refused(text),
+            Err(_) => ProgramFault::Failed(Cause::Memory),
+        },
+    }
+}
+
+/// The tenants that arguments name, and the ages of kinds that a text names.
+#[derive(Drop)]
+struct Named {
+    tenants: TenantTable,
+    ages: AgeTable,
+}
+
+/// Reads the tenant arguments, and then the text of ages.
+fn read_named(alloc: Global, arguments: &[&str], ages: Option<&str>) -> Result<Named, ProgramFault>
+    ensures named { IfOk result (λ named. NameTenants (map (λ text. text.now) arguments.now) named.tenants
+        × NamesAges (option_map (λ text. text.now) ages.entry) named.ages) }
+    ensures fault { IfErr result (λ why. IsNamingFault (option_map (λ text. text.now) ages.entry)
+        (map (λ text. text.now) arguments.now) why) }
 {
     let tenants = match read_tenants(alloc, arguments) {
         Ok(tenants) => tenants,
         Err(fault) => return Err(explain_tenants(alloc, fault)),
     };
-    match answer_steps(alloc, tenants, age, input, output) {
+    match read_ages(alloc, ages) {
+        Ok(ages) => Ok(Named { tenants, ages }),
+        Err(fault) => {
+            drop(tenants);
+            Err(explain_ages(alloc, fault))
+        }
+    }
+}
+
+/// Takes the steps of the input for the tenants of the arguments.
+fn take_steps<R: Read, W: Write>(
+    alloc: Global,
+    age: Age,
+    ages: Option<&str>,
+    arguments: &[&str],
+    input: &mut Input<R>,
+    output: &mut Output<W>,
+) -> Result<End, ProgramFault>
+    requires fresh { IsFresh input.old.lines }
+    ensures ended { (words : List Text) → AskForSteps words age (option_map (λ text. text.now) ages.entry)
+        (map (λ text. text.now) arguments.now)
+        → IfOk result (λ end. (end ≡ End.Well) × ServesSteps words
+        (R.remaining input.old.reader) (R.remaining input.new.reader)
+        (W.contents output.old.writer) (W.contents output.new.writer)) }
+    ensures unfailed { OnOk result (output.new.calls.failed ≡ output.old.calls.failed) }
+    ensures fault { (words : List Text) → AskForSteps words age (option_map (λ text. text.now) ages.entry)
+        (map (λ text. text.now) arguments.now)
+        → IfErr result (λ why. IsStreamFault words why
+        (R.remaining input.old.reader) (R.remaining input.new.reader) input.new.lines
+        (W.contents output.old.writer) (W.contents output.new.writer) output.new.calls) }
+{
+    let named = read_named(alloc, arguments, ages)?;
+    match answer_steps(alloc, named.tenants, age, named.ages, input, output) {
         Ok(()) => Ok(End::Well),
         Err(why) => Err(ProgramFault::Failed(cause_of(why))),
     }
@@ -108,6 +151,7 @@ fn take_steps<R: Read, W: Write>(
 fn answer_tenants<F: WholeFiles, R: Read, W: Write>(
     alloc: Global,
     age: Age,
+    ages: Option<&str>,
     sends: u64,
     journal: Option<&str>,
     arguments: &[&str],
@@ -116,26 +160,33 @@ fn answer_tenants<F: WholeFiles, R: Read, W: Write>(
     output: &mut Output<W>,
 ) -> Result<End, ProgramFault>
     requires fresh { IsFresh input.old.lines }
-    ensures ended { (words : List Text) → AskForAnswering words age sends (option_map (λ path. path.now) journal.entry)
-        (map (λ text. text.now) arguments.now)
+    ensures ended { (words : List Text) → AskForAnswering words age (option_map (λ text. text.now) ages.entry) sends
+        (option_map (λ path. path.now) journal.entry) (map (λ text. text.now) arguments.now)
         → IfOk result (λ end. (end ≡ End.Well) × AnswersAtOnce words (claims F.may_hold F.may_fail F.may_leave files.old files.new)
         (R.remaining input.old.reader) (R.remaining input.new.reader) (W.contents output.old.writer) (W.contents output.new.writer)) }
     ensures unfailed { OnOk result (output.new.calls.failed ≡ output.old.calls.failed) }
-    ensures fault { (words : List Text) → AskForAnswering words age sends (option_map (λ path. path.now) journal.entry)
-        (map (λ text. text.now) arguments.now)
+    ensures fault { (words : List Text) → AskForAnswering words age (option_map (λ text. text.now) ages.entry) sends
+        (option_map (λ path. path.now) journal.entry) (map (λ text. text.now) arguments.now)
         → IfErr result (λ why. IsAnsweringFault words (claims F.may_hold F.may_fail F.may_leave files.old files.new) why
         (R.remaining input.old.reader) (R.remaining input.new.reader) input.new.lines
         (W.contents output.old.writer) (W.contents output.new.writer) output.new.calls) }
-    ensures journal { (words : List Text) → AskForAnswering words age sends (option_map (λ path. path.now) journal.entry)
-        (map (λ text. text.now) arguments.now)
+    ensures journal { (words : List Text) → AskForAnswering words age (option_map (λ text. text.now) ages.entry) sends
+        (option_map (λ path. path.now) journal.entry) (map (λ text. text.now) arguments.now)
         → LeavesFiles words (claims F.may_hold F.may_fail F.may_leave files.old files.new)
         (R.remaining input.old.reader) (R.remaining input.new.reader) }
 {
-    let tenants = match read_tenants(alloc, arguments) {
-        Ok(tenants) => tenants,
-        Err(reason) => return Err(explain_tenants(alloc, reason)),
-    };
-    match answer_input(alloc, tenants, age, sends, journal, files, input, output) {
+    let named = read_named(alloc, arguments, ages)?;
+    match answer_input(
+        alloc,
+        named.tenants,
+        age,
+        named.ages,
+        sends,
+        journal,
+        files,
+        input,
+        output,
+    ) {
         Ok(()) => Ok(End::Well),
         Err(why) => Err(ProgramFault::Failed(why)),
     }
@@ -152,6 +203,7 @@ fn serve_tenants<
     rt: &H,
     workers: usize,
     age: Age,
+    ages: Option<&str>,
     journal: Option<&str>,
     arguments: &[&str],
     files: &mut F,
@@ -161,28 +213,33 @@ fn serve_tenants<
 ) -> Result<End, ProgramFault>
     requires workers { (1 ≤ workers) × (workers ≤ 64) }
     requires fresh { IsFresh input.old.lines }
-    ensures ended { (words : List Text) → AskForServing words workers age (option_map (λ path. path.now) journal.entry)
-        (map (λ text. text.now) arguments.now)
+    ensures ended { (words : List Text) → AskForServing words workers age (option_map (λ text. text.now) ages.entry)
+        (option_map (λ path. path.now) journal.entry) (map (λ text. text.now) arguments.now)
         → IfOk result (λ end. (end ≡ End.Well) × ServesInput words (claims F.may_hold F.may_fail F.may_leave files.old files.new)
         (R.remaining input.old.reader) (R.remaining input.new.reader) (W.contents output.old.writer) (W.contents output.new.writer)) }
     ensures unfailed { OnOk result (output.new.calls.failed ≡ output.old.calls.failed) }
-    ensures fault { (words : List Text) → AskForServing words workers age (option_map (λ path. path.now) journal.entry)
-        (map (λ text. text.now) arguments.now)
+    ensures fault { (words : List Text) → AskForServing words workers age (option_map (λ text. text.now) ages.entry)
+        (option_map (λ path. path.now) journal.entry) (map (λ text. text.now) arguments.now)
         → IfErr result (λ why. IsServingFault words (claims F.may_hold F.may_fail F.may_leave files.old files.new) why
         (R.remaining input.old.reader) (R.remaining input.new.reader) input.new.lines
         (W.contents output.old.writer) (W.contents output.new.writer) output.new.calls) }
-    ensures journal { (words : List Text) → AskForServing words workers age (option_map (λ path. path.now) journal.entry)
-        (map (λ text. text.now) arguments.now)
+    ensures journal { (words : List Text) → AskForServing words workers age (option_map (λ text. text.now) ages.entry)
+        (option_map (λ path. path.now) journal.entry) (map (λ text. text.now) arguments.now)
         → LeavesFiles words (claims F.may_hold F.may_fail F.may_leave files.old files.new)
         (R.remaining input.old.reader) (R.remaining input.new.reader) }
 {
-    let alloc = rt.alloc();
-    let tenants = match read_tenants(alloc, arguments) {
-        Ok(tenants) => tenants,
-        Err(why) => return Err(explain_tenants(alloc, why)),
-    };
+    let named = read_named(rt.alloc(), arguments, ages)?;
     match serve_lines(
-        rt, workers, tenants, age, journal, files, input, output, gate,
+        rt,
+        workers,
+        named.tenants,
+        age,
+        named.ages,
+        journal,
+        files,
+        input,
+        output,
+        gate,
     ) {
         Ok(()) => Ok(End::Well),
         Err(why) => Err(ProgramFault::Failed(why)),
@@ -228,17 +285,19 @@ pub fn answer<
         Err(fault) => return explain_words(fault, output),
     };
     match &task {
-        Task::Steps { age, tenants } => {
-            take_steps(alloc, *age, tenants.as_slice(), input, output)
+        Task::Steps { age, ages, tenants } => {
+            take_steps(alloc, *age, *ages, tenants.as_slice(), input, output)
         }
         Task::Answer {
             age,
+            ages,
             sends,
             journal,
             tenants,
         } => answer_tenants(
             alloc,
             *age,
+            *ages,
             *sends,
             *journal,
             tenants.as_slice(),
@@ -249,12 +308,14 @@ pub fn answer<
         Task::Serve {
             workers,
             age,
+            ages,
             journal,
             tenants,
         } => serve_tenants(
             rt,
             *workers,
             *age,
+            *ages,
             *journal,
             tenants.as_slice(),
             files,

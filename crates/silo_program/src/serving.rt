@@ -2,6 +2,7 @@
 
 ghost use Rattle.std.specs.Prelude.{◌≡◌, ◌≤◌, [], IfOk, IfErr, IfSome, OnOk, map as map_list, option_map};
 ghost use Rattle.std.specs.FinMap.{entries};
+ghost use Rattle.grain_kinds.specs.Resting.{resting_kinds};
 ghost use Rattle.line_protocol.specs.Reading.{IsFresh};
 ghost use Rattle.line_service.specs.Serving.{IsServed, StopsServing, setup_of};
 ghost use Rattle.silo_program.specs.Files.{claims};
@@ -10,6 +11,8 @@ ghost use Rattle.silo_program.specs.Serving.{ServesLanes, ServingFailsBy, Writes
 use crate::failure::{Cause, cause_of};
 use crate::files::WholeFiles;
 use crate::journals::keep_journal;
+use grain_kinds::RestingKinds;
+use idle_collector::AgeTable;
 use line_protocol::{Input, Output};
 use line_service::{ServedInput, ServiceFault, serve_input, write_served};
 use std::io::{Read, Write};
@@ -36,18 +39,19 @@ fn serve_reader<H: AllocGlobal + Threads + Wait + Sync, R: Read, G: TurnGate + S
     workers: usize,
     tenants: TenantTable,
     age: Age,
+    ages: AgeTable,
     input: &mut Input<R>,
     gate: &G,
-) -> Result<ServedInput, ServiceFault>
+) -> Result<ServedInput<RestingKinds>, ServiceFault>
     requires workers { (1 ≤ workers) × (workers ≤ 64) }
     requires fresh { IsFresh input.old.lines }
     ensures served { IfOk result (λ served. IfSome (R.remaining input.old.reader) (λ bytes.
-        IsServed (setup_of tenants age) bytes (R.remaining input.new.reader) served.refusals.items served.report.silo
+        IsServed resting_kinds (setup_of tenants age ages) bytes (R.remaining input.new.reader) served.refusals.items served.report.silo
         (map_list (λ v. v.items) served.report.answers.items))) }
     ensures no_rows { IfOk result (λ served. entries served.report.silo.setup.rows ≡ []) }
     ensures fault { IfErr result (λ why. StopsServing why (R.remaining input.old.reader) input.new.lines.calls) }
 {
-    serve_input(rt, workers, tenants, age, input, gate)
+    serve_input(rt, workers, tenants, age, ages, RestingKinds, input, gate)
 }
 
 /// Reads all lines of the input and serves them by so many threads, 1 to 64, over no rows; writes the
@@ -70,6 +74,7 @@ pub fn serve_lines<
     workers: usize,
     tenants: TenantTable,
     age: Age,
+    ages: AgeTable,
     journal: Option<&str>,
     files: &mut F,
     input: &mut Input<R>,
@@ -78,22 +83,22 @@ pub fn serve_lines<
 ) -> Result<(), Cause>
     requires workers { (1 ≤ workers) × (workers ≤ 64) }
     requires fresh { IsFresh input.old.lines }
-    ensures served { OnOk result (ServesLanes (setup_of tenants age) (claims F.may_hold F.may_fail F.may_leave files.old files.new)
+    ensures served { OnOk result (ServesLanes (setup_of tenants age ages) (claims F.may_hold F.may_fail F.may_leave files.old files.new)
         (option_map (λ path. path.now) journal.entry)
         (R.remaining input.old.reader) (R.remaining input.new.reader) (W.contents output.old.writer) (W.contents output.new.writer)) }
     ensures unfailed { OnOk result (output.new.calls.failed ≡ output.old.calls.failed) }
-    ensures fault { IfErr result (λ why. ServingFailsBy (setup_of tenants age)
+    ensures fault { IfErr result (λ why. ServingFailsBy (setup_of tenants age ages)
         (claims F.may_hold F.may_fail F.may_leave files.old files.new) (option_map (λ path. path.now) journal.entry) why
         (R.remaining input.old.reader) (R.remaining input.new.reader) input.new.lines.calls
         (W.contents output.old.writer) (W.contents output.new.writer) output.new.calls) }
 
     // In every outcome.
-    ensures journal { WritesJournalAtMost (setup_of tenants age) (claims F.may_hold F.may_fail F.may_leave files.old files.new)
+    ensures journal { WritesJournalAtMost (setup_of tenants age ages) (claims F.may_hold F.may_fail F.may_leave files.old files.new)
         (option_map (λ path. path.now) journal.entry)
         (R.remaining input.old.reader) (R.remaining input.new.reader) }
 {
     let alloc = rt.alloc();
-    let served = match serve_reader(rt, workers, tenants, age, input, gate) {
+    let served = match serve_reader(rt, workers, tenants, age, ages, input, gate) {
         Ok(served) => served,
         Err(fault) => return Err(cause_of_service(fault)),
     };

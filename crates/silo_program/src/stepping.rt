@@ -6,8 +6,9 @@ ghost use Rattle.line_protocol.specs.Reading.{IsFresh};
 ghost use Rattle.line_service.specs.Serving.{setup_of};
 ghost use Rattle.silo_program.specs.Steps.{AnswersFrom, StopsFrom};
 
-use grain_kinds::Kinds;
+use grain_kinds::RestingKinds;
 use grain_storage::MemoryStorage;
+use idle_collector::AgeTable;
 use line_protocol::{Input, LineFault, Output, run_lines};
 use silo_core::{Setup, Silo};
 use std::alloc::{AllocError, Global};
@@ -15,22 +16,24 @@ use std::io::{Read, Write};
 use std::mem;
 use tenant_gate::{Age, TenantTable};
 
-/// A silo of the kinds `counter`, `sheet` and `relay`, over no rows.
+/// A silo of the kinds `counter`, `sheet` and `relay`, whose grains rest and stay, over no rows.
 fn new_silo(
     alloc: Global,
     tenants: TenantTable,
     age: Age,
-) -> Result<Silo<MemoryStorage, Kinds>, AllocError>
-    ensures setup { IfOk result (λ s. s.setup ≡ setup_of tenants age) }
-    ensures opening { IfOk result (λ s. s.whole ≡ opening (setup_of tenants age)) }
+    ages: AgeTable,
+) -> Result<Silo<MemoryStorage, RestingKinds>, AllocError>
+    ensures setup { IfOk result (λ s. s.setup ≡ setup_of tenants age ages) }
+    ensures opening { IfOk result (λ s. s.whole ≡ opening (setup_of tenants age ages)) }
 {
     Silo::new(
         alloc,
         Setup {
             tenants,
             age,
+            ages,
             storage: MemoryStorage::new(alloc),
-            logic: Kinds,
+            logic: RestingKinds,
         },
     )
 }
@@ -40,19 +43,20 @@ fn answer_lines<R: Read, W: Write>(
     alloc: Global,
     tenants: TenantTable,
     age: Age,
+    ages: AgeTable,
     input: &mut Input<R>,
     output: &mut Output<W>,
 ) -> Result<(), LineFault>
     requires fresh { IsFresh input.old.lines }
-    ensures answered { OnOk result (AnswersFrom (setup_of tenants age)
+    ensures answered { OnOk result (AnswersFrom (setup_of tenants age ages)
         (R.remaining input.old.reader) (R.remaining input.new.reader)
         (W.contents output.old.writer) (W.contents output.new.writer)) }
     ensures unfailed { OnOk result (output.new.calls.failed ≡ output.old.calls.failed) }
-    ensures stopped { IfErr result (λ why. StopsFrom (setup_of tenants age) why
+    ensures stopped { IfErr result (λ why. StopsFrom (setup_of tenants age ages) why
         (R.remaining input.old.reader) (R.remaining input.new.reader) input.new.lines
         (W.contents output.old.writer) (W.contents output.new.writer) output.new.calls) }
 {
-    let Ok(mut silo) = new_silo(alloc, tenants, age) else {
+    let Ok(mut silo) = new_silo(alloc, tenants, age, ages) else {
         return Err(LineFault::Memory);
     };
     let done = run_lines(alloc, input, output, &mut silo);
@@ -72,19 +76,20 @@ pub fn answer_steps<R: Read, W: Write>(
     alloc: Global,
     tenants: TenantTable,
     age: Age,
+    ages: AgeTable,
     input: &mut Input<R>,
     output: &mut Output<W>,
 ) -> Result<(), LineFault>
     requires fresh { IsFresh input.old.lines }
-    ensures answered { OnOk result (AnswersFrom (setup_of tenants age)
+    ensures answered { OnOk result (AnswersFrom (setup_of tenants age ages)
         (R.remaining input.old.reader) (R.remaining input.new.reader)
         (W.contents output.old.writer) (W.contents output.new.writer)) }
     ensures unfailed { OnOk result (output.new.calls.failed ≡ output.old.calls.failed) }
-    ensures stopped { IfErr result (λ why. StopsFrom (setup_of tenants age) why
+    ensures stopped { IfErr result (λ why. StopsFrom (setup_of tenants age ages) why
         (R.remaining input.old.reader) (R.remaining input.new.reader) input.new.lines
         (W.contents output.old.writer) (W.contents output.new.writer) output.new.calls) }
 {
-    match answer_lines(alloc, tenants, age, input, output) {
+    match answer_lines(alloc, tenants, age, ages, input, output) {
         Ok(()) => output.flush(),
         Err(why) => {
             let _ = output.writer.flush();

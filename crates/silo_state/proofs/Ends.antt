@@ -5,7 +5,7 @@ use Rattle.std.specs.FinMap as map
 use Rattle.std.specs.FinMap.{FinMap}
 use Rattle.std.proofs.lemmas.Option.{same_Some}
 use Rattle.grain_id.specs.Names.{Grain, text_cmp}
-use Rattle.grain_kinds.specs.Logic.{Logic, Outgoing, StorageCall, asks_nothing, reads_row, writes_row, clears_row}
+use Rattle.grain_kinds.specs.Logic.{Logic, Keep, Outgoing, StorageCall, asks_nothing, reads_row, writes_row, clears_row}
 use Rattle.grain_kinds.specs.Finished.{turn_plan}
 use Rattle.grain_kinds.specs.declared.turn.OpenedTurn.{OpenedTurn}
 use Rattle.silo_event.specs.declared.reply.Party.{Party}
@@ -26,6 +26,7 @@ use Rattle.silo_state.specs.Sends.{with_more}
 use Rattle.silo_state.specs.Entries.{ClosesEntry}
 use Rattle.silo_state.specs.Closings.{ClosesTold}
 use Rattle.silo_state.specs.Finds.{open_in, IsOwn, asks}
+use Rattle.silo_state.proofs.Steps.{ages_of}
 
 -- what a turn sends comes to the account in one way
 pub more_sent : (g : Grain) (account : Option Account) (outgoing : List Outgoing) → with_sends g account outgoing ≡ with_more account (sent_by g outgoing)
@@ -71,7 +72,7 @@ module _ (logic : Logic) (h : Held) (g : Grain) (turn : ℕ) (version : Option �
   nothing_asked clears_row e = absurd cc
 
   -- the entry and the request that are closed are those that were found
-  module _ (phase : Option Phase) (last : ℕ) (sender : Party) (new : Entries) (d : ClosesEntry h.whole.entries g turn phase last sender new) where
+  module _ (phase : Option Phase) (said : Keep) (last : ℕ) (sender : Party) (new : Entries) (d : ClosesEntry h.whole.entries g turn phase said last sender new) where
     pub same_entry : d.before ≡ own.entry
     same_entry = same_Some d.before own.entry (sym d.found ∙ own.is_open.found_is)
 
@@ -85,19 +86,20 @@ module _ (logic : Logic) (h : Held) (g : Grain) (turn : ℕ) (version : Option �
     same_plan = ap (plan_of logic g own.state) same_request ∙ planned
 
   -- the plan's state stands, its sends go out, and its outcome is the reply
-  pub end_moves : (accounts : FinMap text_cmp Account) (new : Activations) (replies : List Reply) → asks (turn_plan logic input).storage ≡ false → new.age ≡ h.whole.age
-      → ClosesTold h.whole.entries h.whole.replies g turn (Some (ready (turn_plan logic input).state version)) h.whole.clock (outcome_of (turn_plan logic input).outcome) new.entries replies
+  pub end_moves : (accounts : FinMap text_cmp Account) (new : Activations) (replies : List Reply) → asks (turn_plan logic input).storage ≡ false → new.ages ≡ ages_of h
+      → ClosesTold h.whole.entries h.whole.replies g turn (Some (ready (turn_plan logic input).state version)) (turn_plan logic input).keep h.whole.clock (outcome_of (turn_plan logic input).outcome) new.entries replies
       → accounts ≡ change_at h.whole.accounts g.tenant (with_more (map.get h.whole.accounts g.tenant) (sent_by g (turn_plan logic input).sends))
-      → Moves logic h (End g turn) (Ok Done) (record h { whole = record h.whole { accounts = accounts; age = new.age; entries = new.entries; replies = replies } })
+      → Moves logic h (End g turn) (Ok Done) (record h { whole = record h.whole { accounts = accounts; age = new.ages.age; ages = new.ages.ages; entries = new.entries; replies = replies } })
   end_moves accounts new replies silent aged t sent =
       let plan = turn_plan logic input in
       let phase = Some (ready plan.state version) in
       let d = t.closes in (
-        end_turn logic h.whole g turn d.before d.found d.request d.open_turn own.state version (same_phase phase h.whole.clock t.sender new.entries d) plan (same_plan phase h.whole.clock t.sender new.entries d) (nothing_asked plan.storage silent)
+        end_turn logic h.whole g turn d.before d.found d.request d.open_turn own.state version (same_phase phase plan.keep h.whole.clock t.sender new.entries d) plan (same_plan phase plan.keep h.whole.clock t.sender new.entries d) (nothing_asked plan.storage silent)
             ∙ (λ i. Some (record h.whole {
               accounts = sym (sent ∙ ap (change_at h.whole.accounts g.tenant) (sym (more_sent g (map.get h.whole.accounts g.tenant) plan.sends))) i;
-              age = sym aged i;
-              entries = sym d.put i;
+              age = (sym aged i).age;
+              ages = (sym aged i).ages;
+              entries = sym d.left i;
               replies = sym (t.told_is ∙ ap (λ s. h.whole.replies ++ reply_to s (outcome_of plan.outcome)) d.sender_is) i;
             })),
         refl,

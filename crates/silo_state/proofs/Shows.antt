@@ -9,7 +9,7 @@ use Rattle.std.proofs.lemmas.Option.{same_Some}
 use Rattle.grain_id.specs.Names.{Grain, grain_cmp}
 use Rattle.grain_id.proofs.Order.{grain_cmp_total, grain_cmp_exact}
 use Rattle.grain_id.proofs.ByGrain.{insert-again}
-use Rattle.grain_kinds.specs.Logic.{Logic}
+use Rattle.grain_kinds.specs.Logic.{Logic, Keep}
 use Rattle.grain_kinds.specs.declared.turn.OpenedTurn.{OpenedTurn}
 use Rattle.silo_event.specs.declared.step.Answer.{Answer}
 use Rattle.silo_event.specs.declared.step.Answer.TheVariants.{Done, Failed, NotNow}
@@ -17,13 +17,16 @@ use Rattle.request_codec.specs.Tree.{Tree}
 use Rattle.silo_event.specs.declared.reply.Party.{Party}
 use Rattle.turn_mailbox.specs.declared.request.Request.{Request}
 use Rattle.turn_mailbox.specs.Contents.{Contents, begun, may_begin, is_idle as mail_is_idle}
+use Rattle.finite_maps.proofs.Maps.{remove-insert}
 use Rattle.finite_maps.proofs.Mapped.{get-mapped, mapped-insert, mapped-remove, len-mapped}
 use Rattle.activation_directory.specs.declared.activation.Activation.{Activation}
 use Rattle.activation_directory.specs.declared.activation.Phase.{Phase}
 use Rattle.activation_directory.specs.declared.activation.Phase.TheVariants.{Waiting, Loading, Ready}
-use Rattle.silo_model.specs.Machine.{Entry, Entries}
+use Rattle.silo_model.specs.Machine.{Entry, Entries, ready}
+use Rattle.silo_model.specs.Effect.{change_at, drop, put}
 use Rattle.silo_state.specs.Reads.{is_quiet}
 use Rattle.silo_model.specs.Turns as model
+use Rattle.silo_model.specs.Turns.{until_by, resting_by, stays_or_goes}
 use Rattle.silo_state.specs.Shown.{request_of, phase_of, entry_of, entries_of}
 use Rattle.silo_model.specs.Idle.{is_idle}
 use Rattle.silo_state.specs.inside.Notes.{none_waits}
@@ -118,46 +121,57 @@ pub idle_mail : (a : Activation) (state : Tree) (version : Option ℕ) → a.pha
 idle_mail a state version is =
     λ i. is_ready (phase_of (sym is i)) && (sym (length-map a.mailbox.waiting request_of) i == 0) && (sym (len-mapped nat_cmp_total nat_cmp-IsAntisymmetric request_of a.mailbox.opened) i == 0)
 
-module _ (logic : Logic) (m : FinMap grain_cmp Activation) (g : Grain) (a after : Activation) (found : map.get m g ≡ Some a) (all : AllMarked logic m) (turn : ℕ) (phase : Option Phase) (last : ℕ) where
-  module _ (sender : Party) (d : ClosesTurn a turn phase last sender after) where
-    closed_is : entry_of after ≡ closed_entry (entry_of a) (request_of d.request) (option_map phase_of phase) last
+module _ (logic : Logic) (m : FinMap grain_cmp Activation) (g : Grain) (a after : Activation) (found : map.get m g ≡ Some a) (all : AllMarked logic m) (turn : ℕ) (phase : Option Phase) (said : Keep) (last : ℕ) where
+  module _ (sender : Party) (d : ClosesTurn a turn phase said last sender after) where
+    closed_is : entry_of after ≡ closed_entry (entry_of a) (request_of d.request) (option_map phase_of phase) said last
     closed_is = ap entry_of d.left ∙ (λ i. record {
       phase = phase_put phase a.phase i;
       queue = (entry_of a).queue;
       turns = (mapped-remove nat_cmp_total nat_cmp-IsAntisymmetric request_of a.mailbox.opened turn ∙ ap (map.remove (entry_of a).turns) (sym ((all g a found).numbered turn d.request d.open_turn))) i;
       last = last;
+      until = until_by last said a.until;
+      resting = resting_by said a.resting;
     })
 
-    close_shows : ClosesEntry (entries_of m) g turn (option_map phase_of phase) last sender (entries_of (map.insert m g after))
-    close_shows = record {
+    -- what is left by whether it goes
+    pub close_shows : (new : Entries) → new ≡ change_at (entries_of m) g (stays_or_goes (entry_of after))
+        → ClosesEntry (entries_of m) g turn (option_map phase_of phase) said last sender new
+    close_shows new left = record {
       before = entry_of a;
       request = request_of d.request;
       found = get-entries m g (Some a) found;
       open_turn = get-mapped nat_cmp_total nat_cmp-IsAntisymmetric request_of a.mailbox.opened turn ∙ ap (option_map request_of) d.open_turn;
       sender_is = d.sender_is;
-      put = entries-put m g after ∙ ap (map.insert (entries_of m) g) closed_is;
+      left = left ∙ ap (λ (e : Entry). change_at (entries_of m) g (stays_or_goes e)) closed_is;
     }
 
     close_marked : AllMarked logic (map.insert m g after)
     close_marked = marked-put logic m g after all (subst (λ (x : Activation). AreMarked logic g x.mailbox) (sym d.left) (marked-closed logic g a.mailbox turn (all g a found)))
 
-  close_not : (map.get a.mailbox.opened turn ≡ None) × (after ≡ a) → Closes (entries_of m) g turn (option_map phase_of phase) last None (entries_of (map.insert m g after))
+  pub close_not : (map.get a.mailbox.opened turn ≡ None) × (after ≡ a) → Closes (entries_of m) g turn (option_map phase_of phase) said last None (entries_of (map.insert m g after))
   close_not d = (
     ap (option_and_then (λ e. map.get e.turns turn)) (get-entries m g (Some a) found) ∙ get-mapped nat_cmp_total nat_cmp-IsAntisymmetric request_of a.mailbox.opened turn ∙ ap (option_map request_of) d.0,
     unmoved logic m g a after found d.1,
   )
 
-  pub closes : (closed : Option Party) → EndsTurn a turn phase last closed after → Closes (entries_of m) g turn (option_map phase_of phase) last closed (entries_of (map.insert m g after))
-  closes None d = close_not d
-  closes (Some sender) d = close_shows sender d
-
-  pub closes_marked : (closed : Option Party) → EndsTurn a turn phase last closed after → AllMarked logic (map.insert m g after)
+  pub closes_marked : (closed : Option Party) → EndsTurn a turn phase said last closed after → AllMarked logic (map.insert m g after)
   closes_marked None d = same_mail logic m g a after found all (ap (λ (x : Activation). x.mailbox) d.1)
   closes_marked (Some sender) d = close_marked sender d
 
+-- what is left where the entry stays, and where it goes
+module _ (m : FinMap grain_cmp Activation) (g : Grain) (after : Activation) where
+  pub stays_at : stays_or_goes (entry_of after) ≡ put (entry_of after) → entries_of (map.insert m g after) ≡ change_at (entries_of m) g (stays_or_goes (entry_of after))
+  stays_at stays = entries-put m g after ∙ ap (change_at (entries_of m) g) (sym stays)
+
+  pub goes_from : entries_of (map.remove (map.insert m g after) g) ≡ map.remove (entries_of m) g
+  goes_from = ap entries_of (remove-insert grain_cmp_total grain_cmp_exact m g after) ∙ mapped-remove grain_cmp_total grain_cmp_exact entry_of m g
+
+  pub goes_at : stays_or_goes (entry_of after) ≡ drop → entries_of (map.remove (map.insert m g after) g) ≡ change_at (entries_of m) g (stays_or_goes (entry_of after))
+  goes_at goes = goes_from ∙ ap (change_at (entries_of m) g) (sym goes)
+
 -- its waiting requests stay
-pub closed_queue : (a after : Activation) (turn : ℕ) (phase : Option Phase) (last : ℕ) (sender : Party) → ClosesTurn a turn phase last sender after → none_waits (entry_of after) ≡ none_waits (entry_of a)
-closed_queue a after turn phase last sender d = ap (λ (x : Activation). none_waits (entry_of x)) d.left
+pub closed_queue : (a after : Activation) (turn : ℕ) (phase : Option Phase) (said : Keep) (last : ℕ) (sender : Party) → ClosesTurn a turn phase said last sender after → none_waits (entry_of after) ≡ none_waits (entry_of a)
+closed_queue a after turn phase said last sender d = ap (λ (x : Activation). none_waits (entry_of x)) d.left
 
 -- a turn of an activation is one of its entry
 pub turn_shown : (entries : Entries) (g : Grain) (a : Activation) (turn : ℕ) (found : Option Request) → map.get entries g ≡ Some (entry_of a) → map.get a.mailbox.opened turn ≡ found
@@ -171,10 +185,13 @@ get-turns a turn found at = get-mapped nat_cmp_total nat_cmp-IsAntisymmetric req
 pub quiet_mail : (a : Activation) → mail_is_idle a.mailbox ≡ is_quiet (entry_of a)
 quiet_mail a = λ i. (sym (length-map a.mailbox.waiting request_of) i == 0) && (sym (len-mapped nat_cmp_total nat_cmp-IsAntisymmetric request_of a.mailbox.opened) i == 0)
 
--- ---- another phase
+-- ---- ready, as it comes to be by a load
 
-module _ (logic : Logic) (m : FinMap grain_cmp Activation) (g : Grain) (a : Activation) (found : map.get m g ≡ Some a) (phase : Phase) where
-  pub phase_shows : (e : Entry) → map.get (entries_of m) g ≡ Some e → entries_of (map.insert m g (record a { phase = phase })) ≡ map.insert (entries_of m) g (record e { phase = phase_of phase })
-  phase_shows e is =
-      let same : entry_of a ≡ e = same_Some (entry_of a) e (sym (get-entries m g (Some a) found) ∙ is) in
-      entries-put m g (record a { phase = phase }) ∙ ap (λ (x : Entry). map.insert (entries_of m) g (record x { phase = phase_of phase })) same
+module _ (m : FinMap grain_cmp Activation) (g : Grain) (a after : Activation) (found : map.get m g ≡ Some a) (state : Tree) (version : Option ℕ) where
+  pub ready_shows : after ≡ record a { phase = Ready state version; until = 0; resting = false } → (e : Entry) → map.get (entries_of m) g ≡ Some e
+      → entries_of (map.insert m g after) ≡ map.insert (entries_of m) g (record e { phase = ready state version; until = 0; resting = false })
+  ready_shows is e there =
+      let same : entry_of a ≡ e = same_Some (entry_of a) e (sym (get-entries m g (Some a) found) ∙ there) in
+      entries-put m g after
+      ∙ ap (λ x. map.insert (entries_of m) g (entry_of x)) is
+      ∙ ap (λ (x : Entry). map.insert (entries_of m) g (record x { phase = ready state version; until = 0; resting = false })) same

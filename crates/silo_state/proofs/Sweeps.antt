@@ -39,11 +39,11 @@ kept_is clock age (Some e) = by (is_idle e) (nat_le (due_moment age e) clock) re
     by true false is = (λ i. cond (is i) None (Some e)) ∙ sym (λ i. cond (not (is i)) (Some e) None)
     by false come is = refl
 
-module _ (age : ℕ) (entries : Entries) (notes : Notes) (noted : AreNoted age entries notes) (clock : ℕ) where
-  pub due_go : without entries (due notes clock) ≡ kept_entries clock age entries
+module _ (age_of : List ℕ → ℕ) (entries : Entries) (notes : Notes) (noted : AreNoted age_of entries notes) (clock : ℕ) where
+  pub due_go : without entries (due notes clock) ≡ kept_entries clock age_of entries
   unfolding kept_entries
   due_go = alike _ _ (λ q.
       get-without entries (due notes clock) q
       ∙ ap (λ b. cond b None (map.get entries q)) (due-there notes clock q ∙ ap (is_due clock) (noted q))
-      ∙ kept_is clock age (map.get entries q)
-      ∙ sym (get-part entries (λ grain. is_kept clock age (map.get entries grain)) q))
+      ∙ kept_is clock (age_of q.kind) (map.get entries q)
+      ∙ sym (get-part entries (λ grain. is_kept clock (age_of grain.kind) (map.get entries grain)) q))

@@ -3,6 +3,7 @@ use Rattle.std.specs.Prelude.{◌≡◌, ℕ, Bool, List, ◌++◌, Option, Some
 use Rattle.std.specs.FinMap as map
 use Rattle.grain_id.specs.Names.{Grain}
 use Rattle.request_codec.specs.Tree.{Tree}
+use Rattle.grain_kinds.specs.Logic.{Keep, same}
 use Rattle.grain_storage.specs.declared.fault.StoreFault.{StoreFault}
 use Rattle.grain_storage.specs.declared.fault.StoreFault.TheVariants as storage
 use Rattle.silo_event.specs.declared.fault.Fault.{Fault}
@@ -18,11 +19,11 @@ use Rattle.silo_model.specs.Calls.{reply_to}
 use Rattle.silo_state.specs.Entries.{ClosesEntry}
 use Rattle.silo_state.specs.declared.storing.StorageAnswer.{StorageAnswer}
 
--- The turn is closed, and its sender is told.
-pub record ClosesTold (old : Entries) (replies : List Reply) (grain : Grain) (turn : ℕ) (phase : Option Phase) (last : ℕ)
+-- The turn is closed, its entry goes if it rests and is idle then, and the turn's sender is told.
+pub record ClosesTold (old : Entries) (replies : List Reply) (grain : Grain) (turn : ℕ) (phase : Option Phase) (said : Keep) (last : ℕ)
     (outcome : Result Tree Fault) (new : Entries) (told : List Reply) : Type 0 where
   pub sender : Party
-  pub closes : ClosesEntry old grain turn phase last sender new
+  pub closes : ClosesEntry old grain turn phase said last sender new
   pub told_is : told ≡ replies ++ reply_to sender outcome
 
 -- The activation ends: its turn is closed, it waits again, or goes if nothing waits, and the turn's sender is told.
@@ -30,7 +31,7 @@ pub record EndsTold (old : Entries) (replies : List Reply) (grain : Grain) (turn
     (outcome : Result Tree Fault) (new : Entries) (told : List Reply) : Type 0 where
   pub sender : Party
   pub between : Entries
-  pub closes : ClosesEntry old grain turn (Some waiting) last sender between
+  pub closes : ClosesEntry old grain turn (Some waiting) same last sender between
   pub left : new ≡ (if idle_after then map.remove between grain else between)
   pub told_is : told ≡ replies ++ reply_to sender outcome
 
@@ -44,12 +45,12 @@ answer_failed failed = if failed then answer.Done else answer.Failed
 abbrev pub ClosesBy : Entries → List Reply → Grain → ℕ → Bool → ℕ → ℕ → Bool → Result StorageAnswer StoreFault
     → Result Answer StepFault → Entries → List Reply → Type 0
 ClosesBy old replies grain turn idle_after now last failed (Ok s) result new told =
-    (result ≡ Ok answer.Done) × ClosesTold old replies grain turn (Some (ready s.state s.version)) now (Ok s.told) new told
+    (result ≡ Ok answer.Done) × ClosesTold old replies grain turn (Some (ready s.state s.version)) same now (Ok s.told) new told
 ClosesBy old replies grain turn idle_after now last failed (Err storage.Failed) result new told =
-    (result ≡ Ok (answer_failed failed)) × ClosesTold old replies grain turn None now (Err StorageFailed) new told
+    (result ≡ Ok (answer_failed failed)) × ClosesTold old replies grain turn None same now (Err StorageFailed) new told
 ClosesBy old replies grain turn idle_after now last failed (Err (storage.Stale found)) result new told =
     (result ≡ Ok answer.Done) × EndsTold old replies grain turn idle_after last (Err (StateChanged grain)) new told
 ClosesBy old replies grain turn idle_after now last failed (Err storage.Spent) result new told =
-    (result ≡ Ok answer.Done) × ClosesTold old replies grain turn None now (Err (VersionsSpent grain)) new told
+    (result ≡ Ok answer.Done) × ClosesTold old replies grain turn None same now (Err (VersionsSpent grain)) new told
 ClosesBy old replies grain turn idle_after now last failed (Err storage.Memory) result new told =
     (result ≡ Err faults.Memory) × (new ≡ old) × (told ≡ replies)

@@ -3,15 +3,15 @@ use Rattle.std.specs.Prelude.{◌≡◌, ℕ, Bool, true, false, unwrap_or, List
 use Rattle.std.specs.FinMap as map
 use Rattle.grain_id.specs.Names.{Grain}
 use Rattle.request_codec.specs.Tree.{Tree}
-use Rattle.grain_kinds.specs.Logic.{Logic}
+use Rattle.grain_kinds.specs.Logic.{Logic, Keep}
 use Rattle.grain_kinds.specs.declared.turn.OpenedTurn.{OpenedTurn}
 use Rattle.silo_event.specs.declared.reply.Party.{Party}
 use Rattle.silo_event.specs.declared.step.Answer.{Answer}
 use Rattle.silo_event.specs.declared.step.Answer.TheVariants.{Done, Failed, NotNow}
 use Rattle.silo_model.specs.Machine.{Entry, Entries, Request, Phase, waiting, loading, ready}
 use Rattle.silo_model.specs.Idle.{is_idle}
-use Rattle.silo_model.specs.Effect.{on_entry}
-use Rattle.silo_model.specs.Turns.{activated, reads, may_open, opened_if_ready}
+use Rattle.silo_model.specs.Effect.{on_entry, change_at}
+use Rattle.silo_model.specs.Turns.{activated, reads, may_open, opened_if_ready, until_by, resting_by, stays_or_goes}
 
 -- ---- activating
 
@@ -63,21 +63,27 @@ Begins logic old grain true new = Opens logic old grain new
 
 -- ---- closing a turn
 
--- the entry without the turn of the request: in this phase, if one is given, and last used then
-abbrev pub closed_entry : Entry → Request → Option Phase → ℕ → Entry
-closed_entry e request phase last = record e { phase = unwrap_or phase e.phase; turns = map.remove e.turns request.number; last = last }
+-- the entry without the turn of the request: in this phase, if one is given, last used then, and as the turn said of it
+abbrev pub closed_entry : Entry → Request → Option Phase → Keep → ℕ → Entry
+closed_entry e request phase said last = record e {
+  phase = unwrap_or phase e.phase;
+  turns = map.remove e.turns request.number;
+  last = last;
+  until = until_by last said e.until;
+  resting = resting_by said e.resting;
+}
 
--- A turn of a request was open, under its number, and is closed; the sender asked for it.
-pub record ClosesEntry (old : Entries) (grain : Grain) (turn : ℕ) (phase : Option Phase) (last : ℕ) (sender : Party)
+-- A turn of a request was open, under its number, and is closed; the sender asked for it. The entry goes if it rests and is idle then.
+pub record ClosesEntry (old : Entries) (grain : Grain) (turn : ℕ) (phase : Option Phase) (said : Keep) (last : ℕ) (sender : Party)
     (new : Entries) : Type 0 where
   pub before : Entry
   pub request : Request
   pub found : map.get old grain ≡ Some before
   pub open_turn : map.get before.turns turn ≡ Some request
   pub sender_is : sender ≡ request.sender
-  pub put : new ≡ map.insert old grain (closed_entry before request phase last)
+  pub left : new ≡ change_at old grain (stays_or_goes (closed_entry before request phase said last))
 
 -- A turn is closed; or that turn isn't open, and nothing changed.
-abbrev pub Closes : Entries → Grain → ℕ → Option Phase → ℕ → Option Party → Entries → Type 0
-Closes old grain turn phase last None new = (option_and_then (λ e. map.get e.turns turn) (map.get old grain) ≡ None) × (new ≡ old)
-Closes old grain turn phase last (Some sender) new = ClosesEntry old grain turn phase last sender new
+abbrev pub Closes : Entries → Grain → ℕ → Option Phase → Keep → ℕ → Option Party → Entries → Type 0
+Closes old grain turn phase said last None new = (option_and_then (λ e. map.get e.turns turn) (map.get old grain) ≡ None) × (new ≡ old)
+Closes old grain turn phase said last (Some sender) new = ClosesEntry old grain turn phase said last sender new

@@ -26,6 +26,8 @@ entry_of a = record {
   queue = map_list request_of a.mailbox.waiting;
   turns = map_values request_of a.mailbox.opened;
   last = a.last;
+  until = a.until;
+  resting = a.resting;
 }
 
 -- all activations, as entries

@@ -12,7 +12,7 @@ use crate::change;
 use activation_directory::{Activation, Directory};
 use grain_id::GrainId;
 use grain_kinds::{GrainLogic, OpenedTurn};
-use idle_collector::Collector;
+use idle_collector::{AgeTable, Collector};
 use silo_event::Answer;
 use std::alloc::{AllocError, Global};
 use std::marker::{Model, PhantomData};
@@ -28,6 +28,7 @@ mod walk;
 #[derive(Drop)]
 pub struct Activations<L: GrainLogic> {
     age: Age,
+    ages: AgeTable,
     directory: Directory,
     collector: Collector,
     of: PhantomData<L>,
@@ -37,6 +38,7 @@ impl<L: GrainLogic> Model for Activations<L> {
     ghost use Rattle.std.specs.Coded.{codes};
     ghost use Rattle.request_codec.specs.Code.{coded_tree};
     ghost use Rattle.grain_id.specs.Names.{coded_grain};
+    ghost use Rattle.idle_collector.specs.Ages.{kind_age};
     ghost use Rattle.silo_model.specs.Codes.{by_grain_code, by_number_code};
     ghost use Rattle.silo_state.specs.inside.Activations.{Activations, shown};
     ghost use Rattle.silo_state.specs.Shown.{entries_of};
@@ -47,23 +49,39 @@ impl<L: GrainLogic> Model for Activations<L> {
 
     ghost coded = { Prim.hlevel (codes, coded_grain, by_grain_code, by_number_code, coded_tree) };
 
-    ghost view = { λ a. shown a.age a.directory.activations a.collector };
+    ghost view = { λ a. shown a.age a.ages a.directory.activations a.collector };
 
     ghost invariant = { λ a. AllMarked L.logic a.directory.activations
-        × AreNoted a.age (entries_of a.directory.activations) a.collector.notes };
+        × AreNoted (kind_age a.ages a.age) (entries_of a.directory.activations) a.collector.notes };
 }
 
 impl<L: GrainLogic> Activations<L> {
-    /// No grain has an activation. An idle one is due the age after it was last used.
-    pub fn new(alloc: Global, age: Age) -> Activations<L>
-        ensures { result ≡ record { age = age; entries = map.empty; expected = None } }
+    /// No grain has an activation. An idle one is due the age of its kind after it was last used, or
+    /// later if it stays longer: the age that the table has of the kind, or else the one beside it.
+    pub fn new(alloc: Global, age: Age, ages: AgeTable) -> Activations<L>
+        ensures { result ≡ record { ages = record { age = age; ages = ages }; entries = map.empty; expected = None } }
     {
         Activations {
             age,
+            ages,
             directory: Directory::new(alloc),
             collector: Collector::new(alloc),
             of: PhantomData,
         }
+    }
+
+    /// The age of the kinds that have none of their own.
+    pub fn age(&self) -> Age
+        ensures { result ≡ self.now.ages.age }
+    {
+        self.age
+    }
+
+    /// The ages of the kinds that have one of their own.
+    pub fn ages(&self) -> &AgeTable
+        ensures { result.now ≡ self.now.ages.ages }
+    {
+        &self.ages
     }
 
     /// The grain's activation.
@@ -85,7 +103,7 @@ impl<L: GrainLogic> Activations<L> {
     /// The grain's activation begins to load, if it waits.
     pub fn activate(&mut self, grain: &GrainId) -> Answer
         ensures activates { Activates self.old.entries grain.now result self.new.entries }
-        ensures age { self.new.age ≡ self.old.age }
+        ensures ages { self.new.ages ≡ self.old.ages }
     {
         let Some(activation) = self.directory.get_mut(grain) else {
             return Answer::NotNow;
@@ -102,7 +120,7 @@ impl<L: GrainLogic> Activations<L> {
         ensures begins { IfOk result (λ turn. Begins L.logic self.old.entries grain.now (is_some turn) self.new.entries) }
         ensures turn { IfOk result (λ turn. turn ≡ opened_turn L.logic grain.now (map.get self.old.entries grain.now)) }
         ensures unchanged { OnErr result (self.new.entries ≡ self.old.entries) }
-        ensures age { self.new.age ≡ self.old.age }
+        ensures ages { self.new.ages ≡ self.old.ages }
     {
         let Some(activation) = self.directory.get_mut(grain) else {
             return Ok(None);
@@ -118,7 +136,7 @@ impl<L: GrainLogic> Activations<L> {
     pub fn open(&mut self, grain: &GrainId) -> Result<bool, AllocError>
         ensures begins { IfOk result (λ opened. Begins L.logic self.old.entries grain.now opened self.new.entries) }
         ensures unchanged { OnErr result (self.new.entries ≡ self.old.entries) }
-        ensures age { self.new.age ≡ self.old.age }
+        ensures ages { self.new.ages ≡ self.old.ages }
     {
         let Some(activation) = self.directory.get_mut(grain) else {
             return Ok(false);

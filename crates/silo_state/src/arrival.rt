@@ -41,5 +41,7 @@ pub fn first(alloc: Global, request: Request, clock: Moment) -> Result<Activatio
         phase: Phase::Waiting,
         mailbox,
         last: clock,
+        until: 0,
+        resting: false,
     })
 }

@@ -1,6 +1,11 @@
 //! What becomes of one activation.
 
-ghost use Rattle.std.specs.Prelude.{◌≡◌, IfOk, OnOk, OnErr, Some};
+ghost use Rattle.std.specs.Prelude.{◌≡◌, ◌&&◌, false, IfOk, OnOk, OnErr, Some};
+ghost use Rattle.activation_directory.specs.declared.activation.Phase.TheVariants.{Ready};
+ghost use Rattle.grain_kinds.specs.Laws.{IsKeep};
+ghost use Rattle.grain_kinds.specs.Planned.{keep_of};
+ghost use Rattle.idle_collector.specs.Ages.{kind_age};
+ghost use Rattle.silo_model.specs.Turns.{until_by, resting_by};
 ghost use Rattle.silo_state.specs.inside.Changes.{Starts, turn_at, opens_at, mail_begun, EndsTurn};
 ghost use Rattle.silo_state.specs.Shown.{phase_of, entry_of};
 ghost use Rattle.silo_model.specs.Idle.{is_idle, due_moment};
@@ -10,7 +15,9 @@ ghost use Rattle.silo_state.specs.Work.{step_at, work_at};
 
 use activation_directory::{Activation, Phase};
 use grain_id::GrainId;
-use grain_kinds::OpenedTurn;
+use grain_kinds::{Keep, OpenedTurn};
+use idle_collector::AgeTable;
+use request_codec::StateBytes;
 use silo_event::{Answer, Moment, Party, Step};
 use std::alloc::AllocError;
 use tenant_gate::Age;
@@ -104,16 +111,50 @@ pub fn open(activation: &mut Activation) -> Result<bool, AllocError>
     }
 }
 
+/// It is ready with this state, which stands on this version. It neither rests nor stays.
+pub fn make_ready(activation: &mut Activation, state: StateBytes, version: Option<u64>)
+    ensures { activation.new ≡ record activation.old { phase = Ready state version; until = 0; resting = false } }
+{
+    activation.phase = Phase::Ready { state, version };
+    activation.until = 0;
+    activation.resting = false;
+}
+
+/// Until when an activation stays after a turn that closed at this moment and said this of it.
+fn until_by(keep: Keep, clock: Moment, until: u64) -> u64
+    requires { IsKeep (keep_of keep) }
+    ensures { result ≡ until_by clock (keep_of keep) until }
+{
+    match keep {
+        Keep::Same => until,
+        Keep::Rest => 0,
+        Keep::Stay(time) => clock.get() + time,
+    }
+}
+
+/// Whether an activation rests after a turn that said this of it.
+fn resting_by(keep: Keep, resting: bool) -> bool
+    ensures { result ≡ resting_by (keep_of keep) resting }
+{
+    match keep {
+        Keep::Same => resting,
+        Keep::Rest => true,
+        Keep::Stay(_) => false,
+    }
+}
+
 /// Closes its turn of that number: who asked for it, if it is open. The activation is then in this
-/// phase, if one is given, and was last used at this moment.
+/// phase, if one is given, was last used at this moment, and rests or stays as the turn said.
 #[inline(always)]
 pub fn close(
     activation: &mut Activation,
     turn: u64,
     phase: Option<Phase>,
+    keep: Keep,
     last: Moment,
 ) -> Option<Party>
-    ensures { EndsTurn activation.old turn phase last result activation.new }
+    requires { IsKeep (keep_of keep) }
+    ensures { EndsTurn activation.old turn phase (keep_of keep) last result activation.new }
 {
     let Ok(request) = activation.mailbox.finish(turn) else {
         return None;
@@ -122,6 +163,8 @@ pub fn close(
         activation.phase = phase;
     }
     activation.last = last;
+    activation.until = until_by(keep, last, activation.until);
+    activation.resting = resting_by(keep, activation.resting);
     Some(request.sender)
 }
 
@@ -142,19 +185,28 @@ pub fn is_idle(activation: &Activation) -> bool
     }
 }
 
-/// The moment from which it is due, if it is idle: the age after it was last used.
-pub fn due_moment(activation: &Activation, age: Age) -> u64
-    ensures { result ≡ due_moment age (entry_of activation.now) }
+/// Whether it goes once its turn is closed: it rests, and is idle.
+pub fn goes(activation: &Activation) -> bool
+    ensures { result ≡ ((entry_of activation.now).resting && is_idle (entry_of activation.now)) }
 {
-    activation.last.get() + age.millis()
+    activation.resting && is_idle(activation)
+}
+
+/// The moment from which the grain's activation is due, if it is idle: the age of its kind after it was
+/// last used, and not before the moment until which it stays.
+pub fn due_moment(grain: &GrainId, activation: &Activation, ages: &AgeTable, age: Age) -> u64
+    ensures { result ≡ due_moment (kind_age ages.now age grain.now.kind) (entry_of activation.now) }
+{
+    let aged = activation.last.get() + ages.age_of(grain.kind(), age);
+    aged.max(activation.until)
 }
 
 /// The moment from which it is due, if it is ready, no request waits and no turn is open.
-pub fn due_at(activation: &Activation, age: Age) -> Option<u64>
-    ensures { result ≡ due_at age (Some (entry_of activation.now)) }
+pub fn due_at(grain: &GrainId, activation: &Activation, ages: &AgeTable, age: Age) -> Option<u64>
+    ensures { result ≡ due_at (kind_age ages.now age grain.now.kind) (Some (entry_of activation.now)) }
 {
     if is_idle(activation) {
-        return Some(due_moment(activation, age));
+        return Some(due_moment(grain, activation, ages, age));
     }
     None
 }

@@ -3,6 +3,8 @@
 ghost use Rattle.std.specs.Prelude.{◌≡◌, ◌<◌, IsSome, Err, if◌then◌else◌, vec_len, vec_capacity};
 ghost use Rattle.std.specs.Option.{option_map, option_and_then};
 ghost use Rattle.std.specs.FinMap as map;
+ghost use Rattle.grain_kinds.specs.Laws.{IsKeep};
+ghost use Rattle.grain_kinds.specs.Planned.{keep_of};
 ghost use Rattle.silo_state.specs.Shown.{phase_of};
 ghost use Rattle.silo_state.specs.inside.Activations.{HasRoom};
 ghost use Rattle.silo_state.specs.Closings.{ClosesTold, EndsTold, ClosesBy, answer_failed};
@@ -12,7 +14,7 @@ use crate::storing::StorageAnswer;
 use crate::telling::tell;
 use activation_directory::Phase;
 use grain_id::GrainId;
-use grain_kinds::GrainLogic;
+use grain_kinds::{GrainLogic, Keep};
 use grain_storage::StoreFault;
 use request_codec::StateBytes;
 use silo_event::{Answer, Fault, Moment, Reply, StepFault};
@@ -25,24 +27,27 @@ pub struct ClosedTurn<'a> {
     pub idle_after: bool,
 }
 
-/// Closes an open turn, and tells its sender. Takes no memory.
+/// Closes an open turn, and tells its sender. The activation rests or stays as the turn said, and goes
+/// if it rests and is idle then. Takes no memory.
 pub fn close_turn<L: GrainLogic>(
     activations: &mut Activations<L>,
     replies: &mut Vec<Reply>,
     closing: ClosedTurn<'_>,
     now: Moment,
     phase: Option<Phase>,
+    keep: Keep,
     outcome: Result<StateBytes, Fault>,
 )
+    requires in_range { IsKeep (keep_of keep) }
     requires is_open { IsSome (option_and_then (λ e. map.get e.turns closing.turn) (map.get activations.old.entries closing.grain.now)) }
     requires expected { HasRoom activations.old closing.grain.now }
     requires room { vec_len replies.old < vec_capacity replies.old }
     ensures closes { ClosesTold activations.old.entries replies.old.items closing.entry.grain.now closing.entry.turn
-        (option_map phase_of phase)
+        (option_map phase_of phase) (keep_of keep)
         now outcome activations.new.entries replies.new.items }
-    ensures age { activations.new.age ≡ activations.old.age }
+    ensures ages { activations.new.ages ≡ activations.old.ages }
 {
-    let Some(sender) = activations.close(closing.grain, closing.turn, phase, now) else {
+    let Some(sender) = activations.close(closing.grain, closing.turn, phase, keep, now) else {
         unreachable!()
     };
     tell(replies, sender, outcome);
@@ -63,9 +68,10 @@ fn end_activation<L: GrainLogic>(
     ensures ends { EndsTold activations.old.entries replies.old.items closing.entry.grain.now closing.entry.turn closing.entry.idle_after
         last
         (Err why) activations.new.entries replies.new.items }
-    ensures age { activations.new.age ≡ activations.old.age }
+    ensures ages { activations.new.ages ≡ activations.old.ages }
 {
-    let Some(sender) = activations.close(closing.grain, closing.turn, Some(Phase::Waiting), last)
+    let phase = Some(Phase::Waiting);
+    let Some(sender) = activations.close(closing.grain, closing.turn, phase, Keep::Same, last)
     else {
         unreachable!()
     };
@@ -77,7 +83,7 @@ fn end_activation<L: GrainLogic>(
 fn drop_if<L: GrainLogic>(activations: &mut Activations<L>, grain: &GrainId, idle_after: bool)
     ensures left { activations.new.entries ≡ (if idle_after then map.remove activations.old.entries grain.now
         else activations.old.entries) }
-    ensures age { activations.new.age ≡ activations.old.age }
+    ensures ages { activations.new.ages ≡ activations.old.ages }
 {
     if idle_after {
         drop(activations.remove(grain));
@@ -106,7 +112,7 @@ pub fn close_by<L: GrainLogic>(
     requires named { named ≡ closing.grain.now }
     ensures closes { ClosesBy activations.old.entries replies.old.items closing.entry.grain.now closing.entry.turn closing.entry.idle_after
         now last failed stored result activations.new.entries replies.new.items }
-    ensures age { activations.new.age ≡ activations.old.age }
+    ensures ages { activations.new.ages ≡ activations.old.ages }
 {
     let stored = match stored {
         Ok(stored) => stored,
@@ -131,6 +137,7 @@ pub fn close_by<L: GrainLogic>(
         closing,
         now,
         Some(phase),
+        Keep::Same,
         Ok(stored.told),
     );
     Ok(Answer::Done)
@@ -153,17 +160,17 @@ fn close_refused<L: GrainLogic>(
     requires named { named ≡ closing.grain.now }
     ensures closes { ClosesBy activations.old.entries replies.old.items closing.entry.grain.now closing.entry.turn closing.entry.idle_after
         now last failed (Err fault) result activations.new.entries replies.new.items }
-    ensures age { activations.new.age ≡ activations.old.age }
+    ensures ages { activations.new.ages ≡ activations.old.ages }
 {
     match fault {
         StoreFault::Failed => {
             let why = Err(Fault::StorageFailed);
-            close_turn(activations, replies, closing, now, None, why);
+            close_turn(activations, replies, closing, now, None, Keep::Same, why);
             Ok(answer_failed(failed))
         }
         StoreFault::Spent => {
             let why = Err(Fault::VersionsSpent(named));
-            close_turn(activations, replies, closing, now, None, why);
+            close_turn(activations, replies, closing, now, None, Keep::Same, why);
             Ok(Answer::Done)
         }
         StoreFault::Stale(_) => {

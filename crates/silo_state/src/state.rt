@@ -8,6 +8,7 @@ use crate::activations::Activations;
 use grain_id::Tenant;
 use grain_kinds::GrainLogic;
 use grain_storage::GrainStorage;
+use idle_collector::AgeTable;
 use silo_event::{Moment, Reply};
 use std::alloc::{AllocError, Global};
 use std::marker::Model;
@@ -60,7 +61,8 @@ fn beginning() -> Moment
 
 impl<S: GrainStorage + Drop, L: GrainLogic + Drop> SiloState<S, L> {
     /// Nothing is asked yet, and nothing answered. These tenants are known, with these limits; of a tenant
-    /// that stands twice the first are its own. The rows are those of the storage.
+    /// that stands twice the first are its own. A grain of a kind that has no age in the table has the age
+    /// beside it. The rows are those of the storage.
     ///
     /// # Errors
     ///
@@ -69,18 +71,19 @@ impl<S: GrainStorage + Drop, L: GrainLogic + Drop> SiloState<S, L> {
         alloc: Global,
         tenants: &[(Tenant, Limits)],
         age: Age,
+        ages: AgeTable,
         storage: S,
         logic: L,
     ) -> Result<SiloState<S, L>, AllocError>
         ensures { IfOk result (λ b. b ≡ record {
-          whole = opening (record { tenants = tenants.now; age = age; rows = S.rows storage });
+          whole = opening (record { tenants = tenants.now; age = age; ages = ages; rows = S.rows storage });
           failures = S.failed storage;
         }) }
     {
         Ok(SiloState {
             accounts: Accounts::new(alloc, tenants)?,
             clock: beginning(),
-            activations: Activations::new(alloc, age),
+            activations: Activations::new(alloc, age, ages),
             storage,
             logic,
             replies: Vec::new(alloc),
@@ -94,6 +97,20 @@ impl<S: GrainStorage, L: GrainLogic> SiloState<S, L> {
         ensures { result.now ≡ self.now.whole.replies }
     {
         self.replies.as_slice()
+    }
+
+    /// The age of the kinds that have none of their own.
+    pub fn age(&self) -> Age
+        ensures { result ≡ self.now.whole.age }
+    {
+        self.activations.age()
+    }
+
+    /// The ages of the kinds that have one of their own.
+    pub fn ages(&self) -> &AgeTable
+        ensures { result.now ≡ self.now.whole.ages }
+    {
+        self.activations.ages()
     }
 
     /// Where the rows are kept.

@@ -1,3 +1,4 @@
 pub mod WordLemmas
-pub mod TenantLemmas
+pub mod PartLemmas
 pub mod TableLemmas
+pub mod AgeLemmas

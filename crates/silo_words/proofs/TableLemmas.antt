@@ -12,7 +12,8 @@ use Rattle.tenant_gate.specs.declared.limits.Limits.{Limits}
 use Rattle.tenant_gate.specs.declared.fault.TableFault.{TableFault}
 use Rattle.tenant_gate.specs.declared.fault.TableFault.TheVariants as faults
 use Rattle.tenant_gate.proofs.Faults.{fault_empty, fault_later}
-use Rattle.silo_words.specs.Tenants.{IsWithin, AreLimits, IsTenantText, WriteTenants, WriteDistinct, MayFollow, is_named, IsRefusedBehind, IsRefusedAt, IsFirstRefused}
+use Rattle.silo_words.specs.Parts.{IsWithin}
+use Rattle.silo_words.specs.Tenants.{AreLimits, IsTenantText, WriteTenants, WriteDistinct, MayFollow, is_named, IsRefusedBehind, IsRefusedAt, IsFirstRefused}
 
 -- ---- names
 

@@ -1,2 +1,4 @@
 pub mod Words
+pub mod Parts
+pub mod Ages
 pub mod Tenants

@@ -1,16 +1,13 @@
 -- The tenant arguments of the program.
-use Rattle.std.specs.Prelude.{◌≡◌, ◌≢◌, ◌≤◌, ◌<◌, ◌⊎◌, ℕ, suc, Bool, true, false, List, [], ◌∷◌, ◌++◌, length, None, All, IsTrue, decimal}
+use Rattle.std.specs.Prelude.{◌≡◌, ◌≤◌, ◌<◌, ◌⊎◌, ℕ, suc, Bool, true, false, List, [], ◌∷◌, ◌++◌, length, None, IsTrue, decimal}
 use Rattle.std.specs.List.{list_any}
 use Rattle.grain_id.specs.Names.{same_text}
 use Rattle.grain_id.specs.Words.{is_word}
 use Rattle.tenant_gate.specs.Table.{Table, names_of, most_tenants, first_repeat, table_fault}
 use Rattle.tenant_gate.specs.declared.limits.Limits.{Limits}
+use Rattle.silo_words.specs.Parts.{IsWithin}
 use Rattle.silo_words.specs.declared.tenants.TenantsFault.{TenantsFault}
 use Rattle.silo_words.specs.declared.tenants.TenantsFault.TheVariants.{Memory, Refused}
-
--- a number from 1 to `most`
-abbrev pub IsWithin : ℕ → ℕ → Type 0
-IsWithin most number = (1 ≤ number) × (number ≤ most)
 
 -- 1 to 10,000 activations, and 1 to 1,000 places of a mailbox
 abbrev pub AreLimits : Limits → Type 0
@@ -23,10 +20,6 @@ limits_text limits = decimal limits.activations ++ 58 ∷ decimal limits.mailbox
 -- `TENANT:ACT:MAIL`
 abbrev pub tenant_text : List ℕ → Limits → List ℕ
 tenant_text tenant limits = tenant ++ 58 ∷ limits_text limits
-
--- The text writes a number from 1 to `most`.
-abbrev pub IsLimitText : ℕ → List ℕ → ℕ → Type 0
-IsLimitText most text limit = IsWithin most limit × (text ≡ decimal limit)
 
 -- The text writes limits within their ranges.
 abbrev pub IsLimitsText : List ℕ → Limits → Type 0
@@ -94,7 +87,3 @@ IsFirstRefused (first ∷ others) number =
 abbrev pub IsReason : List (List ℕ) → TenantsFault → Type 0
 IsReason texts Memory = Unit {0}
 IsReason texts (Refused number) = IsFirstRefused texts number
-
--- the text holds no `:`
-abbrev pub HasNoColon : List ℕ → Type 0
-HasNoColon text = All (λ b. b ≢ 58) text

@@ -23,6 +23,10 @@ use Rattle.silo_words.specs.declared.task.Task.TheVariants as task
 abbrev pub age_rule : Rule
 age_rule = record (new_rule (codes "age")) { long = Some (codes "age"); value_names = 1; parser = Some (Unsigned 1 86400000) }
 
+-- `--ages KIND=MS,..`, a text
+abbrev pub ages_rule : Rule
+ages_rule = record (new_rule (codes "ages")) { long = Some (codes "ages"); value_names = 1 }
+
 -- `--workers N`, a number from 1 to 64
 abbrev pub workers_rule : Rule
 workers_rule = record (new_rule (codes "workers")) { long = Some (codes "workers"); value_names = 1; parser = Some (Unsigned 1 64) }
@@ -48,17 +52,19 @@ tenants_rule = record (new_rule (codes "tenants")) {
 abbrev pub path_rule : Rule
 path_rule = record (new_rule (codes "path")) { value_names = 1; required = true }
 
--- `steps`, with the option for the age and the tenant arguments
+-- `steps`, with the options for the ages and the tenant arguments
 abbrev pub steps_app : App
-steps_app = with_rule (with_rule (new_app (codes "steps")) age_rule) tenants_rule
+steps_app = with_rule (with_rule (with_rule (new_app (codes "steps")) age_rule) ages_rule) tenants_rule
 
 -- `answer`, with these and two options more
 abbrev pub answer_app : App
-answer_app = with_rule (with_rule (with_rule (with_rule (new_app (codes "answer")) age_rule) sends_rule) journal_rule) tenants_rule
+answer_app = with_rule (with_rule (with_rule (with_rule (with_rule (new_app (codes "answer")) age_rule) ages_rule) sends_rule) journal_rule)
+    tenants_rule
 
 -- `serve`, with those of `steps` and two options more
 abbrev pub serve_app : App
-serve_app = with_rule (with_rule (with_rule (with_rule (new_app (codes "serve")) workers_rule) age_rule) journal_rule) tenants_rule
+serve_app = with_rule (with_rule (with_rule (with_rule (with_rule (new_app (codes "serve")) workers_rule) age_rule) ages_rule) journal_rule)
+    tenants_rule
 
 -- `audit`, with a path
 abbrev pub audit_app : App
@@ -150,25 +156,29 @@ IsNoSends rows = (sends : ℕ) → ¬ IsSends rows sends
 abbrev pub tenants_in : List Row → List Text
 tenants_in rows = unwrap_or (all_of (codes "tenants") rows) []
 
--- `steps`, with the age and the tenant arguments that were found
-pub record FindSteps (name : Text) (rows : List Row) (age : ℕ) (tenants : List Text) : Type 0 where
+-- `steps`, with the age, the text of the kinds' ages and the tenant arguments that were found
+pub record FindSteps (name : Text) (rows : List Row) (age : ℕ) (ages : Option Text) (tenants : List Text) : Type 0 where
   pub command : name ≡ codes "steps"
   pub within : IsAge (one_of (codes "age") rows) age
+  pub aged : ages ≡ first_of (codes "ages") rows
   pub named : tenants ≡ tenants_in rows
 
--- `answer`, with the age, the deliveries, the journal's path and the tenant arguments that were found
-pub record FindAnswering (name : Text) (rows : List Row) (age sends : ℕ) (journal : Option Text) (tenants : List Text) : Type 0 where
+-- `answer`, with the age, the text of the kinds' ages, the deliveries, the journal's path and the tenant arguments that were found
+pub record FindAnswering (name : Text) (rows : List Row) (age : ℕ) (ages : Option Text) (sends : ℕ) (journal : Option Text)
+    (tenants : List Text) : Type 0 where
   pub command : name ≡ codes "answer"
   pub within : IsAge (one_of (codes "age") rows) age
+  pub aged : ages ≡ first_of (codes "ages") rows
   pub behind : IsSends rows sends
   pub kept : journal ≡ first_of (codes "journal") rows
   pub named : tenants ≡ tenants_in rows
 
--- `serve`, with the workers, the age, the journal's path and the tenant arguments that were found
-pub record FindServing (name : Text) (rows : List Row) (workers age : ℕ) (journal : Option Text) (tenants : List Text) : Type 0 where
+-- `serve`, with the workers, the age, the text of the kinds' ages, the journal's path and the tenant arguments that were found
+pub record FindServing (name : Text) (rows : List Row) (workers age : ℕ) (ages journal : Option Text) (tenants : List Text) : Type 0 where
   pub command : name ≡ codes "serve"
   pub shared : IsWorkers (one_of (codes "workers") rows) workers
   pub within : IsAge (one_of (codes "age") rows) age
+  pub aged : ages ≡ first_of (codes "ages") rows
   pub kept : journal ≡ first_of (codes "journal") rows
   pub named : tenants ≡ tenants_in rows
 
@@ -183,30 +193,32 @@ pub record FindAudit (name : Text) (rows : List Row) (path : Text) : Type 0 wher
 abbrev pub found_in : List Text → Option (Text × List Row)
 found_in words = subcommand_of silo_app words
 
--- The words ask to take steps under this age, for these tenant arguments.
-pub record AskForSteps (words : List Text) (age : ℕ) (tenants : List Text) : Type 0 where
+-- The words ask to take steps under this age and with this text of the kinds' ages, for these tenant arguments.
+pub record AskForSteps (words : List Text) (age : ℕ) (ages : Option Text) (tenants : List Text) : Type 0 where
   pub taken : AreTaken words
   pub name : Text
   pub rows : List Row
   pub is : found_in words ≡ Some (name, rows)
-  pub found : FindSteps name rows age tenants
+  pub found : FindSteps name rows age ages tenants
 
--- The words ask to answer lines at once under this age, with so many deliveries behind each, for these tenant arguments, and to keep the
+-- The words ask to answer lines at once under this age and with this text of the kinds' ages, with so many deliveries behind each, for
+-- these tenant arguments, and to keep the journal at a path if there is one.
+pub record AskForAnswering (words : List Text) (age : ℕ) (ages : Option Text) (sends : ℕ) (journal : Option Text) (tenants : List Text)
+    : Type 0 where
+  pub taken : AreTaken words
+  pub name : Text
+  pub rows : List Row
+  pub is : found_in words ≡ Some (name, rows)
+  pub found : FindAnswering name rows age ages sends journal tenants
+
+-- The words ask so many workers to serve under this age and with this text of the kinds' ages, for these tenant arguments, and to keep the
 -- journal at a path if there is one.
-pub record AskForAnswering (words : List Text) (age sends : ℕ) (journal : Option Text) (tenants : List Text) : Type 0 where
+pub record AskForServing (words : List Text) (workers age : ℕ) (ages journal : Option Text) (tenants : List Text) : Type 0 where
   pub taken : AreTaken words
   pub name : Text
   pub rows : List Row
   pub is : found_in words ≡ Some (name, rows)
-  pub found : FindAnswering name rows age sends journal tenants
-
--- The words ask so many workers to serve under this age, for these tenant arguments, and to keep the journal at a path if there is one.
-pub record AskForServing (words : List Text) (workers age : ℕ) (journal : Option Text) (tenants : List Text) : Type 0 where
-  pub taken : AreTaken words
-  pub name : Text
-  pub rows : List Row
-  pub is : found_in words ≡ Some (name, rows)
-  pub found : FindServing name rows workers age journal tenants
+  pub found : FindServing name rows workers age ages journal tenants
 
 -- The words ask to audit the journal at the path.
 pub record AskForAudit (words : List Text) (path : Text) : Type 0 where
@@ -218,9 +230,11 @@ pub record AskForAudit (words : List Text) (path : Text) : Type 0 where
 
 -- what was found makes no task
 pub record MakesNoTask (name : Text) (rows : List Row) : Type 0 where
-  pub steps : (age : ℕ) (tenants : List Text) → ¬ FindSteps name rows age tenants
-  pub answering : (age sends : ℕ) (journal : Option Text) (tenants : List Text) → ¬ FindAnswering name rows age sends journal tenants
-  pub serving : (workers age : ℕ) (journal : Option Text) (tenants : List Text) → ¬ FindServing name rows workers age journal tenants
+  pub steps : (age : ℕ) (ages : Option Text) (tenants : List Text) → ¬ FindSteps name rows age ages tenants
+  pub answering : (age : ℕ) (ages : Option Text) (sends : ℕ) (journal : Option Text) (tenants : List Text)
+      → ¬ FindAnswering name rows age ages sends journal tenants
+  pub serving : (workers age : ℕ) (ages journal : Option Text) (tenants : List Text)
+      → ¬ FindServing name rows workers age ages journal tenants
   pub audit : (path : Text) → ¬ FindAudit name rows path
 
 -- What was found in the words makes no task: a number is out of its range, or something that a task wants is not there.
@@ -238,11 +252,12 @@ AskForNothing words = AreTaken words × IsOutOfRange words
 
 -- the task has what was found
 abbrev pub IsTaskOf : Text → List Row → Task → Type 0
-IsTaskOf name rows (task.Steps age tenants) = FindSteps name rows age (map (λ t. t.now) tenants.items)
-IsTaskOf name rows (task.Answer age sends journal tenants) = FindAnswering name rows age sends (option_map (λ path. path.now) journal)
+IsTaskOf name rows (task.Steps age ages tenants) = FindSteps name rows age (option_map (λ text. text.now) ages)
     (map (λ t. t.now) tenants.items)
-IsTaskOf name rows (task.Serve workers age journal tenants) = FindServing name rows workers age (option_map (λ path. path.now) journal)
-    (map (λ t. t.now) tenants.items)
+IsTaskOf name rows (task.Answer age ages sends journal tenants) = FindAnswering name rows age (option_map (λ text. text.now) ages) sends
+    (option_map (λ path. path.now) journal) (map (λ t. t.now) tenants.items)
+IsTaskOf name rows (task.Serve workers age ages journal tenants) = FindServing name rows workers age (option_map (λ text. text.now) ages)
+    (option_map (λ path. path.now) journal) (map (λ t. t.now) tenants.items)
 IsTaskOf name rows (task.Audit path) = FindAudit name rows path.now
 
 -- why what was found is no task
@@ -254,11 +269,12 @@ IsNoTaskFor name rows (fault.Wrong text) = MakesNoTask name rows
 
 -- the words ask for the task
 abbrev pub AskFor : List Text → Task → Type 0
-AskFor words (task.Steps age tenants) = AskForSteps words age (map (λ t. t.now) tenants.items)
-AskFor words (task.Answer age sends journal tenants) = AskForAnswering words age sends (option_map (λ path. path.now) journal)
+AskFor words (task.Steps age ages tenants) = AskForSteps words age (option_map (λ text. text.now) ages)
     (map (λ t. t.now) tenants.items)
-AskFor words (task.Serve workers age journal tenants) = AskForServing words workers age (option_map (λ path. path.now) journal)
-    (map (λ t. t.now) tenants.items)
+AskFor words (task.Answer age ages sends journal tenants) = AskForAnswering words age (option_map (λ text. text.now) ages) sends
+    (option_map (λ path. path.now) journal) (map (λ t. t.now) tenants.items)
+AskFor words (task.Serve workers age ages journal tenants) = AskForServing words workers age (option_map (λ text. text.now) ages)
+    (option_map (λ path. path.now) journal) (map (λ t. t.now) tenants.items)
 AskFor words (task.Audit path) = AskForAudit words path.now
 
 -- the word of that number, the program's name being the first, or nothing
@@ -304,14 +320,17 @@ after_silo words = codes "silo" ∷ words
 -- The account tells words apart: each subcommand with and without its options, help, the version, no words, numbers out of their range,
 -- and a word too few.
 pub record TellsWordsApart : Type 0 where
-  pub steps : AskForSteps (after_silo (codes "steps" ∷ codes "red:2:4" ∷ [])) 900000 (codes "red:2:4" ∷ [])
-  pub aged : AskForSteps (after_silo (codes "steps" ∷ codes "--age" ∷ codes "5" ∷ codes "red:2:4" ∷ [])) 5 (codes "red:2:4" ∷ [])
-  pub answering : AskForAnswering (after_silo (codes "answer" ∷ codes "red:2:4" ∷ [])) 900000 1000 None (codes "red:2:4" ∷ [])
+  pub steps : AskForSteps (after_silo (codes "steps" ∷ codes "red:2:4" ∷ [])) 900000 None (codes "red:2:4" ∷ [])
+  pub aged : AskForSteps (after_silo (codes "steps" ∷ codes "--age" ∷ codes "5" ∷ codes "--ages" ∷ codes "sheet=9"
+      ∷ codes "red:2:4" ∷ [])) 5 (Some (codes "sheet=9")) (codes "red:2:4" ∷ [])
+  pub answering : AskForAnswering (after_silo (codes "answer" ∷ codes "red:2:4" ∷ [])) 900000 None 1000 None (codes "red:2:4" ∷ [])
   pub undelivered : AskForAnswering (after_silo (codes "answer" ∷ codes "--sends" ∷ codes "0" ∷ codes "--journal" ∷ codes "day"
-      ∷ codes "red:2:4" ∷ [])) 900000 0 (Some (codes "day")) (codes "red:2:4" ∷ [])
-  pub serving : AskForServing (after_silo (codes "serve" ∷ codes "red:2:4" ∷ [])) 4 900000 None (codes "red:2:4" ∷ [])
+      ∷ codes "--ages" ∷ codes "sheet=9" ∷ codes "red:2:4" ∷ [])) 900000 (Some (codes "sheet=9")) 0 (Some (codes "day"))
+      (codes "red:2:4" ∷ [])
+  pub serving : AskForServing (after_silo (codes "serve" ∷ codes "red:2:4" ∷ [])) 4 900000 None None (codes "red:2:4" ∷ [])
   pub journaled : AskForServing (after_silo (codes "serve" ∷ codes "--workers" ∷ codes "8" ∷ codes "--age" ∷ codes "5"
-      ∷ codes "--journal" ∷ codes "day" ∷ codes "red:2:4" ∷ [])) 8 5 (Some (codes "day")) (codes "red:2:4" ∷ [])
+      ∷ codes "--ages" ∷ codes "sheet=9" ∷ codes "--journal" ∷ codes "day" ∷ codes "red:2:4" ∷ [])) 8 5 (Some (codes "sheet=9"))
+      (Some (codes "day")) (codes "red:2:4" ∷ [])
   pub audit : AskForAudit (after_silo (codes "audit" ∷ codes "day" ∷ [])) (codes "day")
   pub help : AskForHelp (after_silo (codes "--help" ∷ []))
   pub help_of_steps : AskForHelp (after_silo (codes "steps" ∷ codes "-h" ∷ []))
@@ -320,6 +339,8 @@ pub record TellsWordsApart : Type 0 where
   pub version : AskForVersion (after_silo (codes "--version" ∷ []))
   pub nothing : AreRefused (after_silo [])
   pub no_age : AreRefused (after_silo (codes "steps" ∷ codes "--age" ∷ codes "0" ∷ codes "red:2:4" ∷ []))
+  pub ages_twice : AreRefused (after_silo (codes "steps" ∷ codes "--ages" ∷ codes "sheet=9" ∷ codes "--ages" ∷ codes "sheet=9"
+      ∷ codes "red:2:4" ∷ []))
   pub no_tenant : AreRefused (after_silo (codes "steps" ∷ []))
   pub no_worker : AreRefused (after_silo (codes "serve" ∷ codes "--workers" ∷ codes "0" ∷ codes "red:2:4" ∷ []))
   pub too_many_workers : AreRefused (after_silo (codes "serve" ∷ codes "--workers" ∷ codes "65" ∷ codes "red:2:4" ∷ []))

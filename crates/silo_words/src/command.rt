@@ -1,10 +1,10 @@
 //! The subcommands with their options and arguments, as `clap` is told of them.
 
 ghost use Rattle.std.specs.Prelude.{◌≡◌, IfOk, false, true};
-ghost use Rattle.clap.specs.Words.{app_of, rule_of};
+ghost use Rattle.clap.specs.Words.{app_of, rule_of, with_rule};
 ghost use Rattle.clap.specs.declared.builder.command.Command.TheViews.{out-Command as fields_of};
-ghost use Rattle.silo_words.specs.Words.{age_rule, answer_app, answering_app, audit_app, journal_rule, path_rule, sends_rule, serve_app};
-ghost use Rattle.silo_words.specs.Words.{serving_app, silo_app, stepping_app, steps_app, tenants_rule, workers_rule};
+ghost use Rattle.silo_words.specs.Words.{age_rule, ages_rule, answer_app, answering_app, audit_app, journal_rule, path_rule, sends_rule};
+ghost use Rattle.silo_words.specs.Words.{serve_app, serving_app, silo_app, stepping_app, steps_app, tenants_rule, workers_rule};
 
 use clap::{Arg, ArgAction, Command, value_parser};
 use std::alloc::{AllocError, Global};
@@ -24,6 +24,16 @@ fn age_option<'a>(alloc: Global) -> Arg<'a>
         .value_name("MS")
         .help("Milliseconds after which an idle activation goes, 1 to 86400000 [default: 900000]")
         .value_parser(value_parser!(u64).range(1..=86_400_000))
+}
+
+fn ages_option<'a>(alloc: Global) -> Arg<'a>
+    ensures rule { rule_of result ≡ ages_rule }
+    ensures local { result.global ≡ false }
+{
+    Arg::new(alloc, "ages")
+        .long("ages")
+        .value_name("KIND=MS,..")
+        .help("Ages of their own for up to 64 kinds, each as `--age`")
 }
 
 fn workers_option<'a>(alloc: Global) -> Arg<'a>
@@ -82,23 +92,30 @@ fn path_argument<'a>(alloc: Global) -> Arg<'a>
         .required(true)
 }
 
+/// The command with the options for ages.
+fn with_ages<'a>(alloc: Global, command: Command<'a>) -> Result<Command<'a>, AllocError>
+    ensures app { IfOk result (λ c. app_of c ≡ with_rule (with_rule (app_of command.entry) age_rule) ages_rule) }
+    ensures local { (fields_of command.entry).has_globals ≡ false → IfOk result (λ c. (fields_of c).has_globals ≡ false) }
+{
+    command.arg(age_option(alloc))?.arg(ages_option(alloc))
+}
+
 fn steps_command<'a>(alloc: Global) -> Result<Command<'a>, AllocError>
     ensures app { IfOk result (λ c. app_of c ≡ steps_app) }
     ensures local { IfOk result (λ c. (fields_of c).has_globals ≡ false) }
 {
-    Command::new(alloc, "steps")
-        .about("Reads every step from standard input")
-        .arg(age_option(alloc))?
-        .arg(tenant_arguments(alloc))
+    let command = Command::new(alloc, "steps").about("Reads every step from standard input");
+    with_ages(alloc, command)?.arg(tenant_arguments(alloc))
 }
 
 fn answer_command<'a>(alloc: Global) -> Result<Command<'a>, AllocError>
     ensures app { IfOk result (λ c. app_of c ≡ answer_app) }
     ensures local { IfOk result (λ c. (fields_of c).has_globals ≡ false) }
 {
-    Command::new(alloc, "answer")
-        .about("Answers each line on standard input before the next is read")
-        .arg(age_option(alloc))?
+    let command = Command::new(alloc, "answer").about(
+        "Answers each line on standard input before the next is read",
+    );
+    with_ages(alloc, command)?
         .arg(sends_option(alloc))?
         .arg(journal_option(alloc))?
         .arg(tenant_arguments(alloc))
@@ -108,10 +125,10 @@ fn serve_command<'a>(alloc: Global) -> Result<Command<'a>, AllocError>
     ensures app { IfOk result (λ c. app_of c ≡ serve_app) }
     ensures local { IfOk result (λ c. (fields_of c).has_globals ≡ false) }
 {
-    Command::new(alloc, "serve")
+    let command = Command::new(alloc, "serve")
         .about("Serves the clients on standard input by workers")
-        .arg(workers_option(alloc))?
-        .arg(age_option(alloc))?
+        .arg(workers_option(alloc))?;
+    with_ages(alloc, command)?
         .arg(journal_option(alloc))?
         .arg(tenant_arguments(alloc))
 }

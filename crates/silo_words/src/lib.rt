@@ -2,19 +2,23 @@
 //!
 //! A layer above may rely on this: `read_words` gives a task exactly as the words ask for it, and
 //! otherwise tells why they ask for none; `read_tenants` gives the table that a task's tenant arguments
-//! name, or the number of the first that is refused. `clap` is known here alone. Its own account of what
-//! it makes of words says what they ask for, in `specs/Words.antt`; what a tenant argument is stands in
-//! `specs/Tenants.antt`. `command` has what `clap` is told of the subcommands, `task` reads what it found,
-//! `fault` what it says instead, and `tenants` the tenant arguments.
+//! name, or the number of the first that is refused; `read_ages` gives the ages that its text of ages
+//! names. `clap` is known here alone. Its own account of what it makes of words says what they ask for, in
+//! `specs/Words.antt`; what a tenant argument is stands in `specs/Tenants.antt`, and what the text of ages is in
+//! `specs/Ages.antt`. `command` has what `clap` is told of the subcommands, `task` reads what it found, `fault`
+//! what it says instead, `tenants` the tenant arguments, `ages` the ages, and `parts` what both are made of.
 #![tactic(auto)]
 
+mod ages;
 mod command;
 mod fault;
 mod laws;
+mod parts;
 mod reading;
 mod task;
 mod tenants;
 
+pub use ages::{AgesFault, read_ages};
 pub use fault::{
     ANSWER_EXAMPLE, AUDIT_EXAMPLE, SERVE_EXAMPLE, SILO_EXAMPLE, STEPS_EXAMPLE, WordsFault,
 };

@@ -25,12 +25,13 @@ const DEFAULT_SENDS: u64 = 1_000;
 /// The most deliveries that may be asked for.
 const MAX_SENDS: u64 = 1_000_000;
 
-/// What the words ask for. Tenant arguments and paths are as they are written.
+/// What the words ask for. Tenant arguments, ages of kinds and paths are as they are written.
 #[derive(Drop)]
 pub enum Task<'a> {
     /// Read every step from standard input.
     Steps {
         age: Age,
+        ages: Option<&'a str>,
         tenants: Vec<&'a str>,
     },
 
@@ -38,6 +39,7 @@ pub enum Task<'a> {
     /// write the journal if it has a path.
     Answer {
         age: Age,
+        ages: Option<&'a str>,
         sends: u64,
         journal: Option<&'a str>,
         tenants: Vec<&'a str>,
@@ -47,6 +49,7 @@ pub enum Task<'a> {
     Serve {
         workers: usize,
         age: Age,
+        ages: Option<&'a str>,
         journal: Option<&'a str>,
         tenants: Vec<&'a str>,
     },
@@ -151,7 +154,11 @@ fn steps_task<'a>(alloc: Global, found: &ArgMatches<'a>) -> Result<Task<'a>, Wor
         return Err(no_task(alloc));
     };
     match tenants_of(alloc, found) {
-        Ok(tenants) => Ok(Task::Steps { age, tenants }),
+        Ok(tenants) => Ok(Task::Steps {
+            age,
+            ages: text_of(found, "ages"),
+            tenants,
+        }),
         Err(_) => Err(WordsFault::Memory),
     }
 }
@@ -169,9 +176,11 @@ fn answer_task<'a>(alloc: Global, found: &ArgMatches<'a>) -> Result<Task<'a>, Wo
     let Ok(tenants) = tenants_of(alloc, found) else {
         return Err(WordsFault::Memory);
     };
+    let ages = text_of(found, "ages");
     let journal = text_of(found, "journal");
     Ok(Task::Answer {
         age,
+        ages,
         sends,
         journal,
         tenants,
@@ -194,6 +203,7 @@ fn serve_task<'a>(alloc: Global, found: &ArgMatches<'a>) -> Result<Task<'a>, Wor
     Ok(Task::Serve {
         workers: workers as usize,
         age,
+        ages: text_of(found, "ages"),
         journal: text_of(found, "journal"),
         tenants,
     })

@@ -1,13 +1,14 @@
 //! The tenant arguments.
 
-ghost use Rattle.std.specs.Prelude.{◌≡◌, ◌≤◌, ◌↔◌, ◌++◌, ◌∷◌, [], ℕ, List, false, map, slice_index, IsTrue, IfSome, IfNone, IsSomeAnd};
+ghost use Rattle.std.specs.Prelude.{◌≡◌, ◌++◌, ◌∷◌, [], false, map, IsTrue, IfSome, IfNone};
 ghost use Rattle.std.specs.Prelude.{IfOk, IfErr, OnOk};
 ghost use Rattle.grain_id.specs.Names.{same_text};
 ghost use Rattle.grain_id.specs.Words.{is_word};
 ghost use Rattle.tenant_gate.specs.declared.limits.Limits.{Limits};
-ghost use Rattle.silo_words.specs.Tenants.{is_named, HasNoColon, IsLimitText, IsLimitsText, IsTenantText, IsNoTenantText};
-ghost use Rattle.silo_words.specs.Tenants.{IsRefusedBehind, MayFollow, NameTenants, IsReason};
+ghost use Rattle.silo_words.specs.Tenants.{is_named, IsLimitsText, IsTenantText, IsNoTenantText, IsRefusedBehind, MayFollow};
+ghost use Rattle.silo_words.specs.Tenants.{NameTenants, IsReason};
 
+use crate::parts::{cut, read_number};
 use grain_id::{IdFault, Tenant};
 use std::alloc::{AllocError, Global};
 use tenant_gate::{Limits, MAX_ACTIVATIONS, MAX_MAILBOX, MAX_TENANTS, TableFault, TenantTable};
@@ -40,45 +41,15 @@ impl From<AllocError> for TenantsFault {
     }
 }
 
-/// Whether the text begins with a digit above 0.
-fn begins_above_zero(text: &str) -> bool
-    ensures { IsTrue result ↔ ((49 ≤ slice_index text.now 0) × (slice_index text.now 0 ≤ 57)) }
-{
-    matches!(text.as_bytes(), [b'1'..=b'9', ..])
-}
-
-/// The number from 1 to `most` that the text writes, if it writes one.
-fn read_limit(text: &str, most: u32) -> Option<u32>
-    ensures some { IfSome result (λ limit. IsLimitText most text.now limit) }
-    ensures none { IfNone result ((limit : ℕ) → ¬ IsLimitText most text.now limit) }
-{
-    if !begins_above_zero(text) {
-        return None;
-    }
-    match text.parse::<u32>() {
-        Ok(limit) if limit <= most => Some(limit),
-        _ => None,
-    }
-}
-
-/// What stands before the first `:`, and what stands after it.
-fn cut(text: &str) -> Option<(&str, &str)>
-    ensures parts { IfSome result (λ parts. text.now ≡ parts.0.now ++ 58 ∷ parts.1.now) }
-    ensures first { (before after : List ℕ) → HasNoColon before → text.now ≡ before ++ 58 ∷ after
-        → IsSomeAnd result (λ parts. (parts.0.now ≡ before) × (parts.1.now ≡ after)) }
-{
-    text.split_once(':')
-}
-
 /// The limits that `ACT:MAIL` writes, if it writes some.
 fn read_limits(text: &str) -> Option<Limits>
     ensures some { IfSome result (λ limits. IsLimitsText text.now limits) }
     ensures none { IfNone result ((limits : Limits) → ¬ IsLimitsText text.now limits) }
 {
-    let (activations, mailbox) = cut(text)?;
+    let (activations, mailbox) = cut(text, ':')?;
     Some(Limits {
-        activations: read_limit(activations, MAX_ACTIVATIONS)?,
-        mailbox: read_limit(mailbox, MAX_MAILBOX)?,
+        activations: read_number(activations, MAX_ACTIVATIONS)?,
+        mailbox: read_number(mailbox, MAX_MAILBOX)?,
     })
 }
 
@@ -99,7 +70,7 @@ fn read_tenant(alloc: Global, text: &str) -> Result<Option<TenantLimits>, AllocE
     ensures some { IfOk result (λ read. IfSome read (λ t. IsTenantText text.now t.tenant t.limits)) }
     ensures none { IfOk result (λ read. IfNone read (IsNoTenantText text.now)) }
 {
-    let Some((name, limits)) = cut(text) else {
+    let Some((name, limits)) = cut(text, ':') else {
         return Ok(None);
     };
     let Some(limits) = read_limits(limits) else {

@@ -13,20 +13,38 @@ const CALL: &str =
 /// What it answers.
 const ANSWER: &str = "{\"from\":\"red/c1\",\"id\":1,\"ok\":3}\n";
 
-/// The journal of this one call.
+/// It is asked to rest.
+const REST: &str =
+    "{\"from\":\"red/c1\",\"id\":1,\"op\":\"call\",\"grain\":\"counter/red:a\",\"method\":\"rest\"}\n";
+
+/// What it answers.
+const RESTS: &str = "{\"from\":\"red/c1\",\"id\":1,\"ok\":null}\n";
+
+/// The journal of the call to add.
 const JOURNAL: &str =
-    "silo-journal 1\nage 900000\ntenant red 2 4\ncall red/c1 1 counter/red:a 01000000036164640600000001000000026279030000000000000003\nactivate counter/red:a\nload counter/red:a ok\nbegin counter/red:a\nend counter/red:a 1\nreply red/c1 1 ok 030000000000000003\nclose 5\n";
+    "silo-journal 2\nkinds 2\nage 900000\ntenant red 2 4\ncall red/c1 1 counter/red:a 01000000036164640600000001000000026279030000000000000003\nactivate counter/red:a\nload counter/red:a ok\nbegin counter/red:a\nend counter/red:a 1\nreply red/c1 1 ok 030000000000000003\nclose 5\n";
 
 /// The same with another digit at the end of the reply.
 const CHANGED: &str =
-    "silo-journal 1\nage 900000\ntenant red 2 4\ncall red/c1 1 counter/red:a 01000000036164640600000001000000026279030000000000000003\nactivate counter/red:a\nload counter/red:a ok\nbegin counter/red:a\nend counter/red:a 1\nreply red/c1 1 ok 030000000000000004\nclose 5\n";
+    "silo-journal 2\nkinds 2\nage 900000\ntenant red 2 4\ncall red/c1 1 counter/red:a 01000000036164640600000001000000026279030000000000000003\nactivate counter/red:a\nload counter/red:a ok\nbegin counter/red:a\nend counter/red:a 1\nreply red/c1 1 ok 030000000000000004\nclose 5\n";
 
 /// The same without its last line.
 const CUT: &str =
-    "silo-journal 1\nage 900000\ntenant red 2 4\ncall red/c1 1 counter/red:a 01000000036164640600000001000000026279030000000000000003\nactivate counter/red:a\nload counter/red:a ok\nbegin counter/red:a\nend counter/red:a 1\nreply red/c1 1 ok 030000000000000003\n";
+    "silo-journal 2\nkinds 2\nage 900000\ntenant red 2 4\ncall red/c1 1 counter/red:a 01000000036164640600000001000000026279030000000000000003\nactivate counter/red:a\nload counter/red:a ok\nbegin counter/red:a\nend counter/red:a 1\nreply red/c1 1 ok 030000000000000003\n";
+
+/// The journal of the call to add, in the first form.
+const OLD: &str =
+    "silo-journal 1\nage 900000\ntenant red 2 4\ncall red/c1 1 counter/red:a 01000000036164640600000001000000026279030000000000000003\nactivate counter/red:a\nload counter/red:a ok\nbegin counter/red:a\nend counter/red:a 1\nreply red/c1 1 ok 030000000000000003\nclose 5\n";
 
 /// The journal of no call.
-const EMPTY: &str = "silo-journal 1\nage 900000\ntenant red 2 4\nclose 0\n";
+const EMPTY: &str = "silo-journal 2\nkinds 2\nage 900000\ntenant red 2 4\nclose 0\n";
+
+/// The same where a kind has an age of its own.
+const AGED: &str = "silo-journal 2\nkinds 2\nage 900000\nkind sheet 9\ntenant red 2 4\nclose 0\n";
+
+/// The journal of a counter that is asked to rest, and that goes then.
+const RESTED: &str =
+    "silo-journal 2\nkinds 2\nage 900000\ntenant red 2 4\ncall red/c1 1 counter/red:a 01000000047265737400\nactivate counter/red:a\nload counter/red:a ok\nbegin counter/red:a\nend counter/red:a 1\nreply red/c1 1 ok 00\nclose 5\n";
 
 /// A run of the program: its words, with the program's name first; the input; and what the file at `j` has before it.
 /// Then its status, and what the file, the output and the errors have after it.
@@ -40,7 +58,7 @@ type Run = (
     &'static str,
 );
 
-static RUNS: [Run; 13] = [
+static RUNS: [Run; 21] = [
     (
         &[
             "silo",
@@ -131,11 +149,115 @@ static RUNS: [Run; 13] = [
         "silo: tenant argument 1 is refused\n",
     ),
     (
+        &["silo", "answer", "--journal", "j", "red:2:4"],
+        REST,
+        "old",
+        0,
+        RESTED,
+        RESTS,
+        "",
+    ),
+    (
+        &[
+            "silo",
+            "answer",
+            "--ages",
+            "sheet=9",
+            "--journal",
+            "j",
+            "red:2:4",
+        ],
+        "",
+        "old",
+        0,
+        AGED,
+        "",
+        "",
+    ),
+    (
+        &[
+            "silo",
+            "answer",
+            "--ages",
+            "sheet=09",
+            "--journal",
+            "j",
+            "red:2:4",
+        ],
+        CALL,
+        "old",
+        2,
+        "old",
+        "",
+        "silo: ages are refused\n",
+    ),
+    (
+        &[
+            "silo",
+            "serve",
+            "--ages",
+            "sheet=9,sheet=8",
+            "--journal",
+            "j",
+            "red:2:4",
+        ],
+        CALL,
+        "old",
+        2,
+        "old",
+        "",
+        "silo: ages are refused\n",
+    ),
+    (
+        &[
+            "silo",
+            "serve",
+            "--ages",
+            "sheet=0",
+            "--journal",
+            "j",
+            "red:0:4",
+        ],
+        CALL,
+        "old",
+        2,
+        "old",
+        "",
+        "silo: tenant argument 1 is refused\n",
+    ),
+    (
+        &["silo", "steps", "--ages", "", "red:2:4"],
+        CALL,
+        "old",
+        2,
+        "old",
+        "",
+        "silo: ages are refused\n",
+    ),
+    (
         &["silo", "audit", "j"],
         "",
         JOURNAL,
         0,
         JOURNAL,
+        "tenant red: 5 steps, 1 replies, 0 rows\n",
+        "",
+    ),
+    (
+        &["silo", "audit", "j"],
+        "",
+        OLD,
+        0,
+        OLD,
+        "tenant red: 5 steps, 1 replies, 0 rows\n",
+        "",
+    ),
+    (
+        &["silo", "audit", "j"],
+        "",
+        RESTED,
+        0,
+        RESTED,
         "tenant red: 5 steps, 1 replies, 0 rows\n",
         "",
     ),
@@ -155,7 +277,7 @@ static RUNS: [Run; 13] = [
         4,
         CUT,
         "",
-        "silo: journal line 10 is refused\n",
+        "silo: journal line 11 is refused\n",
     ),
     (
         &["silo", "audit", "k"],

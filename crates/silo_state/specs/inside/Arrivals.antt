@@ -1,5 +1,5 @@
 -- What becomes of an activation where a request comes.
-use Rattle.std.specs.Prelude.{◌≡◌, ℕ, [], ◌∷◌, ◌++◌}
+use Rattle.std.specs.Prelude.{◌≡◌, ℕ, false, [], ◌∷◌, ◌++◌}
 use Rattle.std.specs.FinMap as map
 use Rattle.grain_id.specs.Names.{Grain}
 use Rattle.turn_mailbox.specs.declared.request.Request.{Request}
@@ -21,6 +21,8 @@ IsFirst request clock a =
       phase = Waiting;
       mailbox = record { waiting = request ∷ []; opened = map.empty; capacity = a.mailbox.capacity };
       last = clock;
+      until = 0;
+      resting = false;
     }
 
 -- the request waits last at the grain, from this moment on

@@ -2,6 +2,7 @@
 use Rattle.std.specs.Prelude.{◌≡◌, ℕ, Bool, false, Option, Some, None, if◌then◌else◌, unwrap_or}
 use Rattle.std.specs.FinMap as map
 use Rattle.grain_id.specs.Names.{Grain}
+use Rattle.grain_kinds.specs.Logic.{Keep}
 use Rattle.grain_kinds.specs.declared.turn.OpenedTurn.{OpenedTurn}
 use Rattle.turn_mailbox.specs.declared.request.Request.{Request}
 use Rattle.turn_mailbox.specs.Contents.{Contents, may_begin, begun, turn_of}
@@ -12,7 +13,7 @@ use Rattle.silo_event.specs.declared.reply.Party.{Party}
 use Rattle.silo_event.specs.declared.step.Answer.{Answer}
 use Rattle.silo_event.specs.declared.step.Answer.TheVariants.{Done, Failed, NotNow}
 use Rattle.silo_model.specs.Machine.{waiting}
-use Rattle.silo_model.specs.Turns.{activated}
+use Rattle.silo_model.specs.Turns.{activated, until_by, resting_by}
 use Rattle.silo_state.specs.Shown.{phase_of, entry_of}
 
 -- It waited, and loads now; or it doesn't wait, and nothing changed.
@@ -41,8 +42,9 @@ mail_begun mail (Ready state version) = if may_begin mail then begun mail mail.w
 
 -- ---- closing a turn
 
--- A turn was open and is closed: the activation is in this phase, if one is given, and was last used then.
-pub record ClosesTurn (old : Activation) (turn : ℕ) (phase : Option Phase) (last : ℕ) (sender : Party) (new : Activation) : Type 0 where
+-- A turn was open and is closed: the activation is in this phase, if one is given, was last used then, and is as the turn said.
+pub record ClosesTurn (old : Activation) (turn : ℕ) (phase : Option Phase) (said : Keep) (last : ℕ) (sender : Party)
+    (new : Activation) : Type 0 where
   pub request : Request
   pub open_turn : map.get old.mailbox.opened turn ≡ Some request
   pub sender_is : sender ≡ request.sender
@@ -52,9 +54,11 @@ pub record ClosesTurn (old : Activation) (turn : ℕ) (phase : Option Phase) (la
       opened = map.remove old.mailbox.opened turn;
     };
     last = last;
+    until = until_by last said old.until;
+    resting = resting_by said old.resting;
   }
 
 -- Who asked for the turn that is closed; or that turn isn't open, and nothing changed.
-abbrev pub EndsTurn : Activation → ℕ → Option Phase → ℕ → Option Party → Activation → Type 0
-EndsTurn old turn phase last None new = (map.get old.mailbox.opened turn ≡ None) × (new ≡ old)
-EndsTurn old turn phase last (Some sender) new = ClosesTurn old turn phase last sender new
+abbrev pub EndsTurn : Activation → ℕ → Option Phase → Keep → ℕ → Option Party → Activation → Type 0
+EndsTurn old turn phase said last None new = (map.get old.mailbox.opened turn ≡ None) × (new ≡ old)
+EndsTurn old turn phase said last (Some sender) new = ClosesTurn old turn phase said last sender new

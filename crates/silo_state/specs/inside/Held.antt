@@ -16,6 +16,14 @@ pub record Held : Type 0 where
 -- what these parts hold
 abbrev pub held_of : FinMap text_cmp Account → Activations → ℕ → Rows → List Reply → ℕ → Held
 held_of accounts c clock rows replies failures = record {
-  whole = record { accounts = accounts; age = c.age; clock = clock; entries = c.entries; rows = rows; replies = replies };
+  whole = record {
+    accounts = accounts;
+    age = c.ages.age;
+    ages = c.ages.ages;
+    clock = clock;
+    entries = c.entries;
+    rows = rows;
+    replies = replies;
+  };
   failures = failures;
 }

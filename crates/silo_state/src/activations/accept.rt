@@ -44,7 +44,7 @@ impl<L: GrainLogic> Activations<L> {
         requires marked { IsMarked L.logic grain.now request }
         ensures waits { OnOk result (self.new.entries ≡ with_waiting self.old.entries grain.now (request_of request) clock) }
         ensures unchanged { OnErr result (self.new.entries ≡ self.old.entries) }
-        ensures age { self.new.age ≡ self.old.age }
+        ensures ages { self.new.ages ≡ self.old.ages }
     {
         enter::<L>(alloc, &mut self.directory, grain, request, clock)?;
         self.collector.forget(grain);

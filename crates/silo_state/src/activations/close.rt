@@ -1,8 +1,11 @@
 //! How an activation comes to be ready or idle, and how it goes.
 
-ghost use Rattle.std.specs.Prelude.{◌≡◌, Some, OnOk, OnErr};
+ghost use Rattle.std.specs.Prelude.{◌≡◌, false, Some, OnOk, OnErr};
 ghost use Rattle.std.specs.Option.{option_map};
 ghost use Rattle.std.specs.FinMap as map;
+ghost use Rattle.grain_kinds.specs.Laws.{IsKeep};
+ghost use Rattle.grain_kinds.specs.Planned.{keep_of};
+ghost use Rattle.idle_collector.specs.Ages.{kind_age};
 ghost use Rattle.silo_model.specs.Machine.{Entry, ready};
 ghost use Rattle.silo_model.specs.Idle.{kept_entries};
 ghost use Rattle.silo_state.specs.Shown.{phase_of, entry_of};
@@ -15,7 +18,7 @@ use crate::activations::Activations;
 use crate::change;
 use activation_directory::{Activation, Phase};
 use grain_id::GrainId;
-use grain_kinds::GrainLogic;
+use grain_kinds::{GrainLogic, Keep};
 use request_codec::StateBytes;
 use silo_event::{Moment, Party};
 use std::alloc::{AllocError, Global};
@@ -30,7 +33,7 @@ impl<L: GrainLogic> Activations<L> {
         requires { (e : Entry) → map.get self.old.entries grain.now ≡ Some e → idle_after ≡ none_waits e }
         ensures room { OnOk result (HasRoom self.new grain.now) }
         ensures entries { self.new.entries ≡ self.old.entries }
-        ensures age { self.new.age ≡ self.old.age }
+        ensures ages { self.new.ages ≡ self.old.ages }
     {
         if !idle_after {
             return Ok(());
@@ -39,45 +42,53 @@ impl<L: GrainLogic> Activations<L> {
         Ok(())
     }
 
-    /// The grain's activation, which loads, is ready with this state, which stands on this version.
-    /// Takes no memory.
+    /// The grain's activation, which loads, is ready with this state, which stands on this version. It
+    /// neither rests nor stays. Takes no memory.
     pub fn make_ready(&mut self, grain: &GrainId, state: StateBytes, version: Option<u64>)
         requires loading { IsLoading (map.get self.old.entries grain.now) }
         requires room { HasRoom self.old grain.now }
         ensures put { (e : Entry) → map.get self.old.entries grain.now ≡ Some e
-            → self.new.entries ≡ map.insert self.old.entries grain.now (record e { phase = ready state version }) }
-        ensures age { self.new.age ≡ self.old.age }
+            → self.new.entries ≡ map.insert self.old.entries grain.now
+            (record e { phase = ready state version; until = 0; resting = false }) }
+        ensures ages { self.new.ages ≡ self.old.ages }
     {
         let Some(activation) = self.directory.get_mut(grain) else {
             unreachable!()
         };
-        activation.phase = Phase::Ready { state, version };
-        let Some(moment) = change::due_at(activation, self.age) else {
+        change::make_ready(activation, state, version);
+        let Some(moment) = change::due_at(grain, activation, &self.ages, self.age) else {
             return;
         };
         self.collector.note_expected(moment);
     }
 
     /// Closes the grain's turn of that number: who asked for it. Its activation is then in this phase,
-    /// if one is given, and was last used at this moment. Takes no memory.
+    /// if one is given, was last used at this moment, and rests or stays as the turn said. If it rests
+    /// and is idle then, it goes. Takes no memory.
     pub fn close(
         &mut self,
         grain: &GrainId,
         turn: u64,
         phase: Option<Phase>,
+        keep: Keep,
         last: Moment,
     ) -> Option<Party>
-        requires { HasRoom self.old grain.now }
-        ensures closes { Closes self.old.entries grain.now turn (option_map phase_of phase) last result self.new.entries }
-        ensures age { self.new.age ≡ self.old.age }
+        requires room { HasRoom self.old grain.now }
+        requires in_range { IsKeep (keep_of keep) }
+        ensures closes { Closes self.old.entries grain.now turn (option_map phase_of phase) (keep_of keep) last result self.new.entries }
+        ensures ages { self.new.ages ≡ self.old.ages }
     {
         let Some(activation) = self.directory.get_mut(grain) else {
             return None;
         };
-        let Some(sender) = change::close(activation, turn, phase, last) else {
+        let Some(sender) = change::close(activation, turn, phase, keep, last) else {
             return None;
         };
-        let Some(moment) = change::due_at(activation, self.age) else {
+        if change::goes(activation) {
+            drop(self.directory.remove(grain));
+            return Some(sender);
+        }
+        let Some(moment) = change::due_at(grain, activation, &self.ages, self.age) else {
             return Some(sender);
         };
         self.collector.note_expected(moment);
@@ -88,7 +99,7 @@ impl<L: GrainLogic> Activations<L> {
     pub fn remove(&mut self, grain: &GrainId) -> Option<Activation>
         ensures found { option_map entry_of result ≡ map.get self.old.entries grain.now }
         ensures removed { self.new.entries ≡ map.remove self.old.entries grain.now }
-        ensures age { self.new.age ≡ self.old.age }
+        ensures ages { self.new.ages ≡ self.old.ages }
     {
         self.collector.forget(grain);
         self.directory.remove(grain)
@@ -97,7 +108,7 @@ impl<L: GrainLogic> Activations<L> {
     /// Takes the activations of these grains out. Takes no memory.
     fn remove_all(&mut self, grains: &[GrainId])
         ensures gone { self.new.entries ≡ without self.old.entries grains.now }
-        ensures age { self.new.age ≡ self.old.age }
+        ensures ages { self.new.ages ≡ self.old.ages }
     {
         for grain in grains {
             drop(self.remove(grain));
@@ -110,9 +121,10 @@ impl<L: GrainLogic> Activations<L> {
     ///
     /// Out of memory: nothing changed.
     pub fn sweep(&mut self, alloc: Global, clock: u64) -> Result<(), AllocError>
-        ensures swept { OnOk result (self.new.entries ≡ kept_entries clock self.old.age self.old.entries) }
+        ensures swept { OnOk result (self.new.entries
+            ≡ kept_entries clock (kind_age self.old.ages.ages self.old.ages.age) self.old.entries) }
         ensures unchanged { OnErr result (self.new ≡ self.old) }
-        ensures age { self.new.age ≡ self.old.age }
+        ensures ages { self.new.ages ≡ self.old.ages }
     {
         let due = self.collector.due(alloc, clock)?;
         self.remove_all(due.as_slice());

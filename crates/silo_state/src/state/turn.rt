@@ -15,7 +15,7 @@ use crate::telling::{copied, told};
 use crate::{account, change, finding};
 use activation_directory::Phase;
 use grain_id::GrainId;
-use grain_kinds::{FinishedTurn, GrainLogic, OpenedTurn};
+use grain_kinds::{FinishedTurn, GrainLogic, Keep, OpenedTurn};
 use grain_storage::GrainStorage;
 use silo_event::{Answer, Fault, StepFault};
 use std::alloc::{AllocError, Global};
@@ -46,7 +46,8 @@ impl<S: GrainStorage, L: GrainLogic> SiloState<S, L> {
     }
 
     /// An open turn that doesn't ask for the storage is closed by its plan: the plan's state stands,
-    /// its sends go out, and its outcome is the reply.
+    /// its sends go out, its outcome is the reply, and the activation rests or stays as it says. One that
+    /// rests goes once it is idle.
     ///
     /// # Errors
     ///
@@ -107,6 +108,7 @@ impl<S: GrainStorage, L: GrainLogic> SiloState<S, L> {
             closing,
             now,
             Some(phase),
+            finished.keep(),
             told(outcome),
         );
         Ok(Answer::Done)
@@ -141,6 +143,7 @@ impl<S: GrainStorage, L: GrainLogic> SiloState<S, L> {
             closing,
             now,
             None,
+            Keep::Same,
             Err(Fault::NoMemory),
         );
         Ok(Answer::Done)

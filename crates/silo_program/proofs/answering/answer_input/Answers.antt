@@ -7,21 +7,21 @@ use Rattle.silo_program.proofs.answering.answer_input.Goals as goal
 
 pub keep_journal-first-requires : goal.keep_journal-first-requires
 keep_journal-first-requires g c =
-    ap (λ (h : History). entries h.setup.rows) c.silo.ensures ∙ no_rows c.in-Ok.silo.history.setup c.args.tenants c.args.age c.in-Ok.ensures.setup
+    ap (λ (h : History). entries h.setup.rows) c.silo.ensures ∙ no_rows c.in-Ok.silo.history.setup c.args.tenants c.args.age c.args.ages c.in-Ok.ensures.setup
 
 pub keep_journal-kept-requires : goal.keep_journal-kept-requires
 keep_journal-kept-requires g c =
     ap (λ (h : History). entries h.setup.rows) c.silo-in-Ok-answer_reader.ensures
-    ∙ no_rows c.answer_reader.new.silo.history.setup c.args.tenants c.args.age (c.in-Ok-answer_reader.ensures.setup ∙ c.in-Ok.ensures.setup)
+    ∙ no_rows c.answer_reader.new.silo.history.setup c.args.tenants c.args.age c.args.ages (c.in-Ok-answer_reader.ensures.setup ∙ c.in-Ok.ensures.setup)
 
 pub keep_after-cause-requires : goal.keep_after-cause-requires
 keep_after-cause-requires g c other =
     ap (λ (h : History). entries h.setup.rows) c.silo-in-Err-answer_reader.ensures
-    ∙ rows_kept c.in-Err-answer_reader.why c.in-Ok.silo.history c.answer_reader.new.silo.history (no_rows c.in-Ok.silo.history.setup c.args.tenants c.args.age c.in-Ok.ensures.setup) c.in-Err-answer_reader.ensures.kept other
+    ∙ rows_kept c.in-Err-answer_reader.why c.in-Ok.silo.history c.answer_reader.new.silo.history (no_rows c.in-Ok.silo.history.setup c.args.tenants c.args.age c.args.ages c.in-Ok.ensures.setup) c.in-Err-answer_reader.ensures.kept other
 
 pub returns-in-Ok-answer_reader-clause-answered : goal.returns-in-Ok-answer_reader-clause-answered
 returns-in-Ok-answer_reader-clause-answered g c =
-    let setup = setup_of c.args.tenants c.args.age in
+    let setup = setup_of c.args.tenants c.args.age c.args.ages in
     let is = opens setup c.in-Ok.silo.history c.in-Ok.ensures.setup c.in-Ok.ensures.opening c.in-Ok.ensures.failures in
     let silo = c.answer_reader.new.silo.history in
     let from = g.R.Read.remaining c.args.input.now.reader in
@@ -36,7 +36,7 @@ returns-in-Ok-answer_reader-clause-answered g c =
 
 pub returns-in-Ok-answer_reader-clause-fault : goal.returns-in-Ok-answer_reader-clause-fault
 returns-in-Ok-answer_reader-clause-fault g c =
-    let setup = setup_of c.args.tenants c.args.age in
+    let setup = setup_of c.args.tenants c.args.age c.args.ages in
     let is = opens setup c.in-Ok.silo.history c.in-Ok.ensures.setup c.in-Ok.ensures.opening c.in-Ok.ensures.failures in
     let silo = c.answer_reader.new.silo.history in
     let from = g.R.Read.remaining c.args.input.now.reader in
@@ -52,7 +52,7 @@ returns-in-Ok-answer_reader-clause-fault g c =
 
 pub returns-in-Ok-answer_reader-clause-journal : goal.returns-in-Ok-answer_reader-clause-journal
 returns-in-Ok-answer_reader-clause-journal g c =
-    let setup = setup_of c.args.tenants c.args.age in
+    let setup = setup_of c.args.tenants c.args.age c.args.ages in
     let is = opens setup c.in-Ok.silo.history c.in-Ok.ensures.setup c.in-Ok.ensures.opening c.in-Ok.ensures.failures in
     let silo = c.answer_reader.new.silo.history in
     let from = g.R.Read.remaining c.args.input.now.reader in
@@ -67,7 +67,7 @@ returns-in-Ok-answer_reader-clause-journal g c =
 
 pub returns-in-Err-answer_reader-clause-fault : goal.returns-in-Err-answer_reader-clause-fault
 returns-in-Err-answer_reader-clause-fault g c =
-    let setup = setup_of c.args.tenants c.args.age in
+    let setup = setup_of c.args.tenants c.args.age c.args.ages in
     let is = opens setup c.in-Ok.silo.history c.in-Ok.ensures.setup c.in-Ok.ensures.opening c.in-Ok.ensures.failures in
     let silo = c.answer_reader.new.silo.history in
     let from = g.R.Read.remaining c.args.input.now.reader in
@@ -85,7 +85,7 @@ returns-in-Err-answer_reader-clause-fault g c =
 
 pub returns-in-Err-answer_reader-clause-journal : goal.returns-in-Err-answer_reader-clause-journal
 returns-in-Err-answer_reader-clause-journal g c =
-    let setup = setup_of c.args.tenants c.args.age in
+    let setup = setup_of c.args.tenants c.args.age c.args.ages in
     let is = opens setup c.in-Ok.silo.history c.in-Ok.ensures.setup c.in-Ok.ensures.opening c.in-Ok.ensures.failures in
     let silo = c.answer_reader.new.silo.history in
     let from = g.R.Read.remaining c.args.input.now.reader in

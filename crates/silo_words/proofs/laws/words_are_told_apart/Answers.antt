@@ -2,7 +2,7 @@ use Rattle.std.proofs.Common.{◌≡◌, ◌∷◌, [], List, Option, Some, None
 use Rattle.std.specs.Option.{option_map_or}
 use Rattle.clap.specs.Words.{IsAmong, Row, Text, all_of, fault_of, first_of, one_of}
 use Rattle.clap.specs.declared.error.kind.ErrorKind.{ErrorKind}
-use Rattle.clap.specs.declared.error.kind.ErrorKind.TheVariants.{DisplayHelp, DisplayVersion, MissingSubcommand, MissingRequiredArgument, ValueValidation}
+use Rattle.clap.specs.declared.error.kind.ErrorKind.TheVariants.{ArgumentConflict, DisplayHelp, DisplayVersion, MissingSubcommand, MissingRequiredArgument, ValueValidation}
 use Rattle.clap.proofs.OnLiterals.{clap_on_literals}
 use Rattle.std.specs.Prelude.{unwrap_or}
 use Rattle.silo_words.specs.Words.{FindAnswering, IsAge, IsNumber, IsPlain, IsSends, IsWorkers, MakesNoTask, after_silo, found_in, silo_app}
@@ -17,7 +17,7 @@ abbrev steps_words : List Text
 steps_words = after_silo (codes "steps" ∷ codes "red:2:4" ∷ [])
 
 abbrev aged_words : List Text
-aged_words = after_silo (codes "steps" ∷ codes "--age" ∷ codes "5" ∷ codes "red:2:4" ∷ [])
+aged_words = after_silo (codes "steps" ∷ codes "--age" ∷ codes "5" ∷ codes "--ages" ∷ codes "sheet=9" ∷ codes "red:2:4" ∷ [])
 
 steps_taken : fault_of silo_app steps_words ≡ []
 unfolding clap_on_literals
@@ -30,6 +30,10 @@ steps_is = refl
 steps_age : one_of (codes "age") (rows_in steps_words) ≡ None
 unfolding clap_on_literals
 steps_age = refl
+
+steps_ages : first_of (codes "ages") (rows_in steps_words) ≡ None
+unfolding clap_on_literals
+steps_ages = refl
 
 steps_named : all_of (codes "tenants") (rows_in steps_words) ≡ Some (codes "red:2:4" ∷ [])
 unfolding clap_on_literals
@@ -47,6 +51,10 @@ aged_age : one_of (codes "age") (rows_in aged_words) ≡ Some (codes "5")
 unfolding clap_on_literals
 aged_age = refl
 
+aged_ages : first_of (codes "ages") (rows_in aged_words) ≡ Some (codes "sheet=9")
+unfolding clap_on_literals
+aged_ages = refl
+
 aged_named : all_of (codes "tenants") (rows_in aged_words) ≡ Some (codes "red:2:4" ∷ [])
 unfolding clap_on_literals
 aged_named = refl
@@ -60,7 +68,7 @@ abbrev answering_words : List Text
 answering_words = after_silo (codes "answer" ∷ codes "red:2:4" ∷ [])
 
 abbrev undelivered_words : List Text
-undelivered_words = after_silo (codes "answer" ∷ codes "--sends" ∷ codes "0" ∷ codes "--journal" ∷ codes "day" ∷ codes "red:2:4" ∷ [])
+undelivered_words = after_silo (codes "answer" ∷ codes "--sends" ∷ codes "0" ∷ codes "--journal" ∷ codes "day" ∷ codes "--ages" ∷ codes "sheet=9" ∷ codes "red:2:4" ∷ [])
 
 answering_taken : fault_of silo_app answering_words ≡ []
 unfolding clap_on_literals
@@ -85,6 +93,10 @@ answering_written = refl
 answering_journal : first_of (codes "journal") (rows_in answering_words) ≡ None
 unfolding clap_on_literals
 answering_journal = refl
+
+answering_ages : first_of (codes "ages") (rows_in answering_words) ≡ None
+unfolding clap_on_literals
+answering_ages = refl
 
 answering_named : all_of (codes "tenants") (rows_in answering_words) ≡ Some (codes "red:2:4" ∷ [])
 unfolding clap_on_literals
@@ -114,6 +126,10 @@ undelivered_journal : first_of (codes "journal") (rows_in undelivered_words) ≡
 unfolding clap_on_literals
 undelivered_journal = refl
 
+undelivered_ages : first_of (codes "ages") (rows_in undelivered_words) ≡ Some (codes "sheet=9")
+unfolding clap_on_literals
+undelivered_ages = refl
+
 undelivered_named : all_of (codes "tenants") (rows_in undelivered_words) ≡ Some (codes "red:2:4" ∷ [])
 unfolding clap_on_literals
 undelivered_named = refl
@@ -127,7 +143,7 @@ abbrev serving_words : List Text
 serving_words = after_silo (codes "serve" ∷ codes "red:2:4" ∷ [])
 
 abbrev journaled_words : List Text
-journaled_words = after_silo (codes "serve" ∷ codes "--workers" ∷ codes "8" ∷ codes "--age" ∷ codes "5" ∷ codes "--journal" ∷ codes "day" ∷ codes "red:2:4" ∷ [])
+journaled_words = after_silo (codes "serve" ∷ codes "--workers" ∷ codes "8" ∷ codes "--age" ∷ codes "5" ∷ codes "--ages" ∷ codes "sheet=9" ∷ codes "--journal" ∷ codes "day" ∷ codes "red:2:4" ∷ [])
 
 serving_taken : fault_of silo_app serving_words ≡ []
 unfolding clap_on_literals
@@ -148,6 +164,10 @@ serving_age = refl
 serving_journal : first_of (codes "journal") (rows_in serving_words) ≡ None
 unfolding clap_on_literals
 serving_journal = refl
+
+serving_ages : first_of (codes "ages") (rows_in serving_words) ≡ None
+unfolding clap_on_literals
+serving_ages = refl
 
 serving_named : all_of (codes "tenants") (rows_in serving_words) ≡ Some (codes "red:2:4" ∷ [])
 unfolding clap_on_literals
@@ -172,6 +192,10 @@ journaled_age = refl
 journaled_journal : first_of (codes "journal") (rows_in journaled_words) ≡ Some (codes "day")
 unfolding clap_on_literals
 journaled_journal = refl
+
+journaled_ages : first_of (codes "ages") (rows_in journaled_words) ≡ Some (codes "sheet=9")
+unfolding clap_on_literals
+journaled_ages = refl
 
 journaled_named : all_of (codes "tenants") (rows_in journaled_words) ≡ Some (codes "red:2:4" ∷ [])
 unfolding clap_on_literals
@@ -226,6 +250,10 @@ nothing_given = refl
 age_of_0 : fault_of silo_app (after_silo (codes "steps" ∷ codes "--age" ∷ codes "0" ∷ codes "red:2:4" ∷ [])) ≡ ValueValidation ∷ []
 unfolding clap_on_literals
 age_of_0 = refl
+
+ages_given_twice : fault_of silo_app (after_silo (codes "steps" ∷ codes "--ages" ∷ codes "sheet=9" ∷ codes "--ages" ∷ codes "sheet=9" ∷ codes "red:2:4" ∷ [])) ≡ ArgumentConflict ∷ []
+unfolding clap_on_literals
+ages_given_twice = refl
 
 no_tenant_given : fault_of silo_app (after_silo (codes "steps" ∷ [])) ≡ MissingRequiredArgument ∷ []
 unfolding clap_on_literals
@@ -297,9 +325,9 @@ padded_not_plain (inr h) = omega (arith, h.0)
 
 not_plain : (rows : List Row) (text : Text) → first_of (codes "sends") rows ≡ Some text → (IsPlain (Some text) → ⊥) → MakesNoTask (codes "answer") rows
 not_plain rows text written never = record {
-  steps = λ age tenants found. absurd (cc (found.command));
-  answering = λ age sends journal tenants (found : FindAnswering (codes "answer") rows age sends journal tenants). never (subst IsPlain written found.behind.1);
-  serving = λ workers age journal tenants found. absurd (cc (found.command));
+  steps = λ age ages tenants found. absurd (cc (found.command));
+  answering = λ age ages sends journal tenants (found : FindAnswering (codes "answer") rows age ages sends journal tenants). never (subst IsPlain written found.behind.1);
+  serving = λ workers age ages journal tenants found. absurd (cc (found.command));
   audit = λ path found. absurd (cc (found.command));
 }
 
@@ -316,6 +344,7 @@ returns c = record {
     found = record {
       command = refl;
       within = subst (λ (o : Option Text). IsAge o 900000) (sym steps_age) refl;
+      aged = sym steps_ages;
       named = sym (ap (λ o. unwrap_or o []) steps_named);
     };
   };
@@ -327,6 +356,7 @@ returns c = record {
     found = record {
       command = refl;
       within = subst (λ (o : Option Text). IsAge o 5) (sym aged_age) five;
+      aged = sym aged_ages;
       named = sym (ap (λ o. unwrap_or o []) aged_named);
     };
   };
@@ -338,6 +368,7 @@ returns c = record {
     found = record {
       command = refl;
       within = subst (λ (o : Option Text). IsAge o 900000) (sym answering_age) refl;
+      aged = sym answering_ages;
       behind = (subst (λ (o : Option Text). IsNumber 1000 0 1000000 o 1000) (sym answering_sends) refl, subst IsPlain (sym answering_written) tt);
       kept = sym answering_journal;
       named = sym (ap (λ o. unwrap_or o []) answering_named);
@@ -351,6 +382,7 @@ returns c = record {
     found = record {
       command = refl;
       within = subst (λ (o : Option Text). IsAge o 900000) (sym undelivered_age) refl;
+      aged = sym undelivered_ages;
       behind = (subst (λ (o : Option Text). IsNumber 1000 0 1000000 o 0) (sym undelivered_sends) zero, subst IsPlain (sym undelivered_written) (inl refl));
       kept = sym undelivered_journal;
       named = sym (ap (λ o. unwrap_or o []) undelivered_named);
@@ -365,6 +397,7 @@ returns c = record {
       command = refl;
       shared = subst (λ (o : Option Text). IsWorkers o 4) (sym serving_workers) refl;
       within = subst (λ (o : Option Text). IsAge o 900000) (sym serving_age) refl;
+      aged = sym serving_ages;
       kept = sym serving_journal;
       named = sym (ap (λ o. unwrap_or o []) serving_named);
     };
@@ -378,6 +411,7 @@ returns c = record {
       command = refl;
       shared = subst (λ (o : Option Text). IsWorkers o 8) (sym journaled_workers) eight;
       within = subst (λ (o : Option Text). IsAge o 5) (sym journaled_age) five;
+      aged = sym journaled_ages;
       kept = sym journaled_journal;
       named = sym (ap (λ o. unwrap_or o []) journaled_named);
     };
@@ -396,6 +430,7 @@ returns c = record {
   version = only DisplayVersion _ version_asked;
   nothing = (MissingSubcommand, (λ e. absurd cc), (λ e. absurd cc), only MissingSubcommand _ nothing_given);
   no_age = (ValueValidation, (λ e. absurd cc), (λ e. absurd cc), only ValueValidation _ age_of_0);
+  ages_twice = (ArgumentConflict, (λ e. absurd cc), (λ e. absurd cc), only ArgumentConflict _ ages_given_twice);
   no_tenant = (MissingRequiredArgument, (λ e. absurd cc), (λ e. absurd cc), only MissingRequiredArgument _ no_tenant_given);
   no_worker = (ValueValidation, (λ e. absurd cc), (λ e. absurd cc), only ValueValidation _ workers_of_0);
   too_many_workers = (ValueValidation, (λ e. absurd cc), (λ e. absurd cc), only ValueValidation _ workers_of_65);

@@ -2,6 +2,7 @@ use Rattle.std.proofs.Common.{◌≡◌, false, None, is_some, refl, ap, sym, �
 use Rattle.std.specs.Prelude.{IfOk, option_and_then}
 use Rattle.std.specs.FinMap as map
 use Rattle.std.proofs.lemmas.Result.{on_err_weaker}
+use Rattle.idle_collector.specs.Ages.{kind_age}
 use Rattle.silo_model.specs.Turns.{opened_if_ready}
 use Rattle.silo_state.specs.inside.Activations.{Activations}
 use Rattle.silo_state.specs.Shown.{entries_of}
@@ -52,6 +53,6 @@ invariant_of-self-2 g c =
     let after = c.begin.new.activation in
     let found = sym c.in-Some.ensures.value in (
       begin_marked logic m grain a after found c.self.invariant.0 c.begin.result c.begin.ensures.begun c.begin.ensures.unchanged,
-      begins_noted inside.age (entries_of m) inside.collector.notes c.self.invariant.1 grain logic is_some c.begin.result (entries_of (map.insert m grain after))
+      begins_noted (kind_age inside.ages inside.age) (entries_of m) inside.collector.notes c.self.invariant.1 grain logic is_some c.begin.result (entries_of (map.insert m grain after))
           (begin_shows logic m grain a after found c.self.invariant.0 c.begin.result c.begin.ensures.turn c.begin.ensures.begun) (on_err_weaker c.begin.result (unmoved logic m grain a after found) c.begin.ensures.unchanged),
     )

@@ -1,13 +1,14 @@
-use Rattle.std.proofs.Common.{◌≡◌, None, Some, refl, ap, sym, ◌∙◌, subst, true≢false}
+use Rattle.std.proofs.Common.{◌≡◌, false, None, Some, refl, ap, sym, ◌∙◌, subst, true≢false}
 use Rattle.std.specs.Prelude.{IsSome}
 use Rattle.std.specs.FinMap as map
 use Rattle.activation_directory.specs.declared.activation.Activation.{Activation}
-use Rattle.activation_directory.specs.declared.activation.Phase.TheVariants.{Ready}
+use Rattle.idle_collector.specs.Ages.{kind_age}
 use Rattle.silo_model.specs.Machine.{ready}
 use Rattle.silo_state.specs.inside.Activations.{Activations, HasRoom, IsLoading}
+use Rattle.silo_state.specs.inside.Notes.{none_waits}
 use Rattle.silo_state.specs.Shown.{entry_of, entries_of}
 use Rattle.silo_state.proofs.Idle.{becomes_used, becomes_idle, expected_apart, used_loading}
-use Rattle.silo_state.proofs.Shows.{get-entries, entries-put, same_mail, phase_shows}
+use Rattle.silo_state.proofs.Shows.{get-entries, entries-put, same_mail, ready_shows}
 use Rattle.silo_state.proofs.activations.Activations.make_ready.Goals as goal
 
 pub unreachable-requires : goal.unreachable-requires
@@ -24,8 +25,8 @@ note_expected-requires g c =
     let found = get-entries m grain (Some a) (sym c.in-Some.ensures.value) in
     let loading = subst (λ (k : Activations). IsLoading (map.get k.entries grain)) (sym c.self.view_is) c.requires.loading in
     let room = subst (λ (k : Activations). HasRoom k grain) (sym c.self.view_is) c.requires.room (entry_of a) found in
-    let after : Activation = record a { phase = Ready c.args.state c.args.version } in
-    expected_apart inside.age (entries_of m) inside.collector c.self.invariant.1 grain (entry_of a) (entry_of after) found (used_loading (entry_of a) (map.get (entries_of m) grain) found loading) room refl c.in-Some-due_at.moment c.in-Some-due_at.ensures
+    let after = c.make_ready.new.activation in
+    expected_apart (kind_age inside.ages inside.age) (entries_of m) inside.collector c.self.invariant.1 grain (entry_of a) (entry_of after) found (used_loading (entry_of a) (map.get (entries_of m) grain) found loading) room (ap (λ (x : Activation). none_waits (entry_of x)) c.make_ready.ensures) c.in-Some-due_at.moment c.in-Some-due_at.ensures
 
 pub invariant_of-self : goal.invariant_of-self
 invariant_of-self g c =
@@ -35,9 +36,9 @@ invariant_of-self g c =
     let a = c.in-Some.activation.now in
     let found = get-entries m grain (Some a) (sym c.in-Some.ensures.value) in
     let loading = subst (λ (k : Activations). IsLoading (map.get k.entries grain)) (sym c.self.view_is) c.requires.loading in
-    let after : Activation = record a { phase = Ready c.args.state c.args.version } in (
-      same_mail g.L.GrainLogic.logic m grain a after (sym c.in-Some.ensures.value) c.self.invariant.0 refl,
-      becomes_used inside.age (entries_of m) inside.collector c.self.invariant.1 grain (entry_of a) (entry_of after) found (used_loading (entry_of a) (map.get (entries_of m) grain) found loading) c.in_default-due_at.ensures (entries_of (map.insert m grain after)) (entries-put m grain after),
+    let after = c.make_ready.new.activation in (
+      same_mail g.L.GrainLogic.logic m grain a after (sym c.in-Some.ensures.value) c.self.invariant.0 (ap (λ (x : Activation). x.mailbox) c.make_ready.ensures),
+      becomes_used (kind_age inside.ages inside.age) (entries_of m) inside.collector c.self.invariant.1 grain (entry_of a) (entry_of after) found (used_loading (entry_of a) (map.get (entries_of m) grain) found loading) c.in_default-due_at.ensures (entries_of (map.insert m grain after)) (entries-put m grain after),
     )
 
 pub invariant_of-self-2 : goal.invariant_of-self-2
@@ -49,9 +50,9 @@ invariant_of-self-2 g c =
     let found = get-entries m grain (Some a) (sym c.in-Some.ensures.value) in
     let loading = subst (λ (k : Activations). IsLoading (map.get k.entries grain)) (sym c.self.view_is) c.requires.loading in
     let room = subst (λ (k : Activations). HasRoom k grain) (sym c.self.view_is) c.requires.room (entry_of a) found in
-    let after : Activation = record a { phase = Ready c.args.state c.args.version } in (
-      same_mail g.L.GrainLogic.logic m grain a after (sym c.in-Some.ensures.value) c.self.invariant.0 refl,
-      becomes_idle inside.age (entries_of m) inside.collector c.self.invariant.1 grain (entry_of a) (entry_of after) found (used_loading (entry_of a) (map.get (entries_of m) grain) found loading) room refl c.in-Some-due_at.moment c.in-Some-due_at.ensures
+    let after = c.make_ready.new.activation in (
+      same_mail g.L.GrainLogic.logic m grain a after (sym c.in-Some.ensures.value) c.self.invariant.0 (ap (λ (x : Activation). x.mailbox) c.make_ready.ensures),
+      becomes_idle (kind_age inside.ages inside.age) (entries_of m) inside.collector c.self.invariant.1 grain (entry_of a) (entry_of after) found (used_loading (entry_of a) (map.get (entries_of m) grain) found loading) room (ap (λ (x : Activation). none_waits (entry_of x)) c.make_ready.ensures) c.in-Some-due_at.moment c.in-Some-due_at.ensures
           (entries_of (map.insert m grain after)) (entries-put m grain after) c.note_expected.new.self c.note_expected.ensures,
     )
 
@@ -59,14 +60,12 @@ pub returns-in_default-due_at-clause-put : goal.returns-in_default-due_at-clause
 returns-in_default-due_at-clause-put g c e is =
     let m = c.self.inside.directory.activations in
     let grain = c.args.grain.now in
-    let phase = Ready c.args.state c.args.version in
-    let put = λ (k : Activations). map.insert k.entries grain (record e { phase = ready c.args.state c.args.version }) in
-    phase_shows g.L.GrainLogic.logic m grain c.in-Some.activation.now (sym c.in-Some.ensures.value) phase e (subst (λ (k : Activations). map.get k.entries grain ≡ Some e) (sym c.self.view_is) is) ∙ ap put c.self.view_is
+    let put = λ (k : Activations). map.insert k.entries grain (record e { phase = ready c.args.state c.args.version; until = 0; resting = false }) in
+    ready_shows m grain c.in-Some.activation.now c.make_ready.new.activation (sym c.in-Some.ensures.value) c.args.state c.args.version c.make_ready.ensures e (subst (λ (k : Activations). map.get k.entries grain ≡ Some e) (sym c.self.view_is) is) ∙ ap put c.self.view_is
 
 pub returns-clause-put : goal.returns-clause-put
 returns-clause-put g c e is =
     let m = c.self.inside.directory.activations in
     let grain = c.args.grain.now in
-    let phase = Ready c.args.state c.args.version in
-    let put = λ (k : Activations). map.insert k.entries grain (record e { phase = ready c.args.state c.args.version }) in
-    phase_shows g.L.GrainLogic.logic m grain c.in-Some.activation.now (sym c.in-Some.ensures.value) phase e (subst (λ (k : Activations). map.get k.entries grain ≡ Some e) (sym c.self.view_is) is) ∙ ap put c.self.view_is
+    let put = λ (k : Activations). map.insert k.entries grain (record e { phase = ready c.args.state c.args.version; until = 0; resting = false }) in
+    ready_shows m grain c.in-Some.activation.now c.make_ready.new.activation (sym c.in-Some.ensures.value) c.args.state c.args.version c.make_ready.ensures e (subst (λ (k : Activations). map.get k.entries grain ≡ Some e) (sym c.self.view_is) is) ∙ ap put c.self.view_is

@@ -2,6 +2,7 @@ use Rattle.std.proofs.Common.{ap, sym, ◌∙◌, subst}
 use Rattle.grain_id.proofs.Order.{grain_cmp_total, grain_cmp_exact}
 use Rattle.finite_maps.proofs.Mapped.{mapped-empty}
 use Rattle.activation_directory.specs.Register.{Register}
+use Rattle.idle_collector.specs.Ages.{kind_age}
 use Rattle.idle_collector.specs.Notes.{Collection}
 use Rattle.silo_model.specs.Machine.{Entries}
 use Rattle.silo_state.specs.Shown.{entry_of, entries_of}
@@ -15,10 +16,10 @@ pub invariant_of-result : goal.invariant_of-result
 invariant_of-result g c =
     let entries = ap (λ (d : Register). entries_of d.activations) c.new.ensures ∙ mapped-empty grain_cmp_total grain_cmp_exact entry_of in (
       subst (λ (d : Register). AllMarked g.L.GrainLogic.logic d.activations) (sym c.new.ensures) (none_marked g.L.GrainLogic.logic),
-      subst (λ (p : Entries × Collection). AreNoted c.args.age p.0 p.1.notes) (λ i. (sym entries i, sym c.new-2.ensures i)) (none_noted c.args.age),
+      subst (λ (p : Entries × Collection). AreNoted (kind_age c.args.ages c.args.age) p.0 p.1.notes) (λ i. (sym entries i, sym c.new-2.ensures i)) (none_noted (kind_age c.args.ages c.args.age)),
     )
 
 pub returns : goal.returns
 returns g c =
     let entries = ap (λ (d : Register). entries_of d.activations) c.new.ensures ∙ mapped-empty grain_cmp_total grain_cmp_exact entry_of in
-    λ i. record { age = c.args.age; entries = entries i; expected = (c.new-2.ensures i).expected }
+    λ i. record { ages = record { age = c.args.age; ages = c.args.ages }; entries = entries i; expected = (c.new-2.ensures i).expected }

@@ -2,6 +2,7 @@ use Rattle.std.proofs.Common.{false, None, refl, ap, sym, ◌∙◌, subst}
 use Rattle.std.specs.Prelude.{IfOk, option_and_then}
 use Rattle.std.specs.FinMap as map
 use Rattle.std.proofs.lemmas.Result.{on_err_weaker}
+use Rattle.idle_collector.specs.Ages.{kind_age}
 use Rattle.silo_model.specs.Turns.{opened_if_ready}
 use Rattle.silo_state.specs.inside.Activations.{Activations}
 use Rattle.silo_state.specs.Shown.{entries_of}
@@ -39,6 +40,6 @@ invariant_of-self-2 g c =
     let after = c.open.new.activation in
     let found = sym c.in-Some.ensures.value in (
       begin_marked logic m grain a after found c.self.invariant.0 c.open.result c.open.ensures.begun c.open.ensures.unchanged,
-      begins_noted inside.age (entries_of m) inside.collector.notes c.self.invariant.1 grain logic (λ opened. opened) c.open.result (entries_of (map.insert m grain after))
+      begins_noted (kind_age inside.ages inside.age) (entries_of m) inside.collector.notes c.self.invariant.1 grain logic (λ opened. opened) c.open.result (entries_of (map.insert m grain after))
           (open_shows logic m grain a after found c.self.invariant.0 c.open.result c.open.ensures.opened c.open.ensures.begun) (on_err_weaker c.open.result (unmoved logic m grain a after found) c.open.ensures.unchanged),
     )

@@ -4,6 +4,7 @@ use Rattle.std.specs.FinMap.{FinMap}
 use Rattle.grain_id.specs.Names.{grain_cmp}
 use Rattle.grain_id.proofs.Order.{grain_cmp_total, grain_cmp_exact}
 use Rattle.finite_maps.proofs.Mapped.{mapped-remove}
+use Rattle.idle_collector.specs.Ages.{kind_age}
 use Rattle.activation_directory.specs.declared.activation.Activation.{Activation}
 use Rattle.idle_collector.specs.Notes.{Collection}
 use Rattle.silo_state.specs.inside.Activations.{Activations}
@@ -21,7 +22,7 @@ invariant_of-self g c =
     let grain = c.args.grain.now in
     let removed = ap entries_of c.remove.ensures.removed ∙ mapped-remove grain_cmp_total grain_cmp_exact entry_of m grain in (
       subst (λ (m : FinMap grain_cmp Activation). AllMarked g.L.GrainLogic.logic m) (sym c.remove.ensures.removed) (marked-removed g.L.GrainLogic.logic m grain c.self.invariant.0),
-      gone_noted inside.age (entries_of m) inside.collector.notes c.self.invariant.1 grain _ _ removed (ap (λ (k : Collection). k.notes) c.forget.ensures),
+      gone_noted (kind_age inside.ages inside.age) (entries_of m) inside.collector.notes c.self.invariant.1 grain _ _ removed (ap (λ (k : Collection). k.notes) c.forget.ensures),
     )
 
 pub returns-clause-found : goal.returns-clause-found

@@ -6,5 +6,5 @@ use Rattle.silo_state.proofs.activations.Activations.remove_all.Given as goal
 abbrev pub invariant-loop-grain : goal.invariant-loop-grain
 invariant-loop-grain g l = record {
   gone : without l.self.entries (drop l.grain-index l.grains) ≡ without l.fn.self.entries l.grains;
-  age : l.self.age ≡ l.fn.self.age;
+  ages : l.self.ages ≡ l.fn.self.ages;
 }

@@ -1,4 +1,5 @@
 use Rattle.std.proofs.Common.{ap, ◌∙◌, sym}
+use Rattle.idle_collector.specs.Ages.{kind_age}
 use Rattle.silo_model.specs.Idle.{kept_entries}
 use Rattle.silo_state.specs.inside.Activations.{Activations}
 use Rattle.silo_state.specs.Shown.{entries_of}
@@ -13,5 +14,5 @@ returns-clause-swept g c =
     c.remove_all.ensures.gone
     ∙ ap (λ (k : Activations). without k.entries c.as_slice.result.now) (sym c.self.view_is)
     ∙ ap (without entries) (c.as_slice.ensures.value ∙ c.in_ok-due.ensures)
-    ∙ due_go inside.age entries inside.collector.notes c.self.invariant.1 c.args.clock
-    ∙ ap (λ (k : Activations). kept_entries c.args.clock k.age k.entries) c.self.view_is
+    ∙ due_go (kind_age inside.ages inside.age) entries inside.collector.notes c.self.invariant.1 c.args.clock
+    ∙ ap (λ (k : Activations). kept_entries c.args.clock (kind_age k.ages.ages k.ages.age) k.entries) c.self.view_is

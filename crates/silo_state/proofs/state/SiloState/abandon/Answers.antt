@@ -2,6 +2,7 @@ use Rattle.std.proofs.Common.{List, None, Some, refl, ap, sym, ◌∙◌, subst}
 use Rattle.std.specs.Prelude.{Err, IsSome, option_and_then}
 use Rattle.std.specs.FinMap as map
 use Rattle.std.proofs.lemmas.Option.{same_Some}
+use Rattle.grain_kinds.specs.Logic.{same}
 use Rattle.silo_event.specs.declared.fault.Fault.TheVariants.{NoMemory}
 use Rattle.silo_event.specs.declared.reply.Reply.{Reply}
 use Rattle.silo_model.specs.Machine.{Entries}
@@ -34,6 +35,6 @@ close_turn-requires-clause-is_open g c =
 pub returns : goal.returns
 returns g c =
     let new = c.close_turn.new.activations in
-    let closed = subst (λ (p : Entries × List Reply). ClosesTold p.0 p.1 c.args.grain.now c.args.turn None c.self.inside.clock (Err NoMemory) new.entries c.close_turn.new.replies.items)
+    let closed = subst (λ (p : Entries × List Reply). ClosesTold p.0 p.1 c.args.grain.now c.args.turn None same c.self.inside.clock (Err NoMemory) new.entries c.close_turn.new.replies.items)
     (λ i. (c.expect.ensures.entries i, c.in_ok-reserve.ensures.items i)) c.close_turn.ensures.closes in
-    rw (← c.self.view_is) (abandon_moves g.L.GrainLogic.logic _ c.args.grain.now c.args.turn new c.close_turn.new.replies.items (c.close_turn.ensures.age ∙ c.expect.ensures.age) closed)
+    rw (← c.self.view_is) (abandon_moves g.L.GrainLogic.logic _ c.args.grain.now c.args.turn new c.close_turn.new.replies.items (c.close_turn.ensures.ages ∙ c.expect.ensures.ages) closed)

@@ -10,4 +10,4 @@ returns g c =
     let b = c.self.inside in
     let old = held_of b.accounts b.activations b.clock (g.S.GrainStorage.rows b.storage) b.replies.items (g.S.GrainStorage.failed b.storage) in
     subst (λ (h : Held). Moves g.L.GrainLogic.logic h (step.Activate c.args.grain.now) (Ok c.activate.result) (with_activations old c.activate.new.self)) c.self.view_is
-    (activate_moves g.L.GrainLogic.logic old c.args.grain.now c.activate.new.self c.activate.ensures.age c.activate.result c.activate.ensures.activates)
+    (activate_moves g.L.GrainLogic.logic old c.args.grain.now c.activate.new.self c.activate.ensures.ages c.activate.result c.activate.ensures.activates)

@@ -2,6 +2,7 @@ use Rattle.std.proofs.Common.{List, Some, refl, ap, sym, ◌∙◌, subst}
 use Rattle.std.specs.Prelude.{Result}
 use Rattle.std.specs.FinMap as map
 use Rattle.request_codec.specs.Tree.{Tree}
+use Rattle.grain_kinds.specs.Logic.{Keep}
 use Rattle.silo_event.specs.declared.fault.Fault.{Fault}
 use Rattle.silo_event.specs.declared.reply.Reply.{Reply}
 use Rattle.silo_model.specs.Machine.{Entries, ready}
@@ -35,11 +36,11 @@ returns g c =
     let own = subst (λ (h : Held). IsOwn grain (map.get h.whole.entries grain) turn version idle_after input) (sym c.self.view_is) c.requires in
     let state = c.in_ok-state.ensures.cases ∙ c.state.ensures in
     let outcome = c.told.ensures ∙ ap outcome_of (c.in_ok-outcome.ensures ∙ c.outcome.ensures) in
-    let closed = subst (λ (p : (Entries × List Reply) × (Tree × Result Tree Fault)).
-    ClosesTold p.0.0 p.0.1 grain turn (Some (ready p.1.0 version)) b.clock p.1.1 new.entries c.close_turn.new.replies.items)
-    (λ i. ((c.expect.ensures.entries i, c.in_ok-reserve.ensures.items i), (state i, outcome i))) c.close_turn.ensures.closes in
+    let closed = subst (λ (p : (Entries × List Reply) × (Tree × (Keep × Result Tree Fault))).
+    ClosesTold p.0.0 p.0.1 grain turn (Some (ready p.1.0 version)) p.1.1.0 b.clock p.1.1.1 new.entries c.close_turn.new.replies.items)
+    (λ i. ((c.expect.ensures.entries i, c.in_ok-reserve.ensures.items i), (state i, (c.keep.ensures.same i, outcome i)))) c.close_turn.ensures.closes in
     let sends = c.in_ok-sent.ensures ∙ ap (sent_by grain) c.sends.ensures in
     let sent = c.in_ok-send.ensures.done ∙ (λ i. change_at b.accounts (c.tenant.ensures i) (with_more (map.get b.accounts (c.tenant.ensures i)) (sends i))) in
     rw (← c.self.view_is)
     (end_moves g.L.GrainLogic.logic _ grain turn version idle_after input own c.send.new.self new c.close_turn.new.replies.items
-    (ap asks (sym c.store_call.ensures) ∙ sym c.if-asks_storage.ensures) (c.close_turn.ensures.age ∙ c.expect.ensures.age) closed sent)
+    (ap asks (sym c.store_call.ensures) ∙ sym c.if-asks_storage.ensures) (c.close_turn.ensures.ages ∙ c.expect.ensures.ages) closed sent)

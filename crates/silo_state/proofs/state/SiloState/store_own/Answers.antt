@@ -47,5 +47,5 @@ returns g c =
     (λ i. (c.expect.ensures.entries i, c.in_ok-reserve.ensures.items i)) c.close_by.ensures.closes in
     let old = held_of b.accounts b.activations b.clock (rows b.storage) b.replies.items (failed b.storage) in
     subst (λ (h : Held). Moves logic h (step.Store grain turn c.args.failed) c.close_by.result (left logic old grain turn version idle_after input own new (rows after) c.close_by.new.replies.items (failed after))) c.self.view_is
-    (stored_moves logic old grain turn version idle_after input own call (sym c.store_call-call.ensures) (sym c.if-not-asks_storage.ensures) new (c.close_by.ensures.age ∙ c.expect.ensures.age) last still
+    (stored_moves logic old grain turn version idle_after input own call (sym c.store_call-call.ensures) (sym c.if-not-asks_storage.ensures) new (c.close_by.ensures.ages ∙ c.expect.ensures.ages) last still
     c.args.failed c.ask-stored.result (rows after) (failed after) gives c.close_by.result c.close_by.new.replies.items closes)

@@ -1,5 +1,5 @@
--- What the texts of numbers and of tenants are made of, and so where a tenant argument is cut.
-use Rattle.std.proofs.Common.{◌≡◌, ◌≢◌, ◌≤◌, ◌<◌, ◌^◌, ℕ, zero, suc, true, true≢false, List, length, get_or, Result, Ok, Err, ap, sym, ◌∙◌, arith}
+-- What the texts of numbers and of words are made of, and so where an argument is cut.
+use Rattle.std.proofs.Common.{◌≡◌, ◌≢◌, ◌≤◌, ◌<◌, ◌^◌, ℕ, zero, suc, true, false, true≢false, List, length, get_or, Result, Ok, Err, ap, sym, ◌∙◌, arith}
 use Rattle.std.specs.Prelude.{IsTrue, decimal}
 use Rattle.std.specs.List.{list_all}
 use Rattle.std.specs.Cmp.{second_so}
@@ -10,20 +10,22 @@ use Rattle.std.proofs.lemmas.Fmt.{digits_decimal, decimal-digits_value, first_de
 use Rattle.std.proofs.lemmas.List.Elements.{All-from_get_or}
 use Rattle.std.proofs.lemmas.List.Sums.{AllPass-from_list_all}
 use Rattle.grain_id.specs.Words.{is_word, is_word_byte}
-use Rattle.silo_words.specs.Tenants.{IsLimitText, HasNoColon}
+use Rattle.silo_words.specs.Parts.{IsNumberText, HasNone}
 
 digits : IsNumeralModel (AllDigits 10) (digits_value 10)
 digits = numerals_by_value (AllDigits 10) tells_digits
 
-pub HasNoColon-decimal : (n : ℕ) → n < 2 ^ 64 → HasNoColon (decimal n)
-HasNoColon-decimal n small = All-from_get_or (λ b. b ≢ 58) (decimal n) 0 (not_in_digits digits (decimal n) 58 (digits_decimal digits n small) (λ within. omega (arith, within)))
+-- no digit is a mark that is none
+pub HasNone-decimal : (mark n : ℕ) → 57 < mark → n < 2 ^ 64 → HasNone mark (decimal n)
+HasNone-decimal mark n above small = All-from_get_or (λ b. b ≢ mark) (decimal n) 0 (not_in_digits digits (decimal n) mark (digits_decimal digits n small) (λ within. omega (arith, within, above)))
 
-word_byte-colon : (b : ℕ) → is_word_byte b ≡ true → b ≢ 58
-word_byte-colon b inside e = absurd (true≢false (sym inside ∙ ap is_word_byte e))
+word_byte-other : (b mark : ℕ) → is_word_byte mark ≡ false → is_word_byte b ≡ true → b ≢ mark
+word_byte-other b mark outside inside e = absurd (true≢false (sym inside ∙ ap is_word_byte e ∙ outside))
 
-pub HasNoColon-word : (text : List ℕ) → IsTrue (is_word text) → HasNoColon text
+-- a word has no byte that a word may not have
+pub HasNone-word : (mark : ℕ) (text : List ℕ) → is_word_byte mark ≡ false → IsTrue (is_word text) → HasNone mark text
 unfolding is_word
-HasNoColon-word text word = λ k d below. word_byte-colon _ (AllPass-from_list_all is_word_byte text (second_so _ (list_all is_word_byte text) word) k d below)
+HasNone-word mark text outside word = λ k d below. word_byte-other _ mark outside (AllPass-from_list_all is_word_byte text (second_so _ (list_all is_word_byte text) word) k d below)
 
 -- the text of a number above 0 begins with a digit above 0
 pub first_digit : (n : ℕ) → 1 ≤ n → n < 2 ^ 64 → (49 ≤ get_or (decimal n) 0 0) × (get_or (decimal n) 0 0 ≤ 57) × (0 < length (decimal n))
@@ -45,18 +47,18 @@ limit_in text limit (Ok x) h is low =
     same_decimal text limit h.0 value low
 limit_in text limit (Err e) h is low = absurd cc
 
-pub IsLimitText-parsed : {E : Type 0} (text : List ℕ) (most limit : ℕ) (parsed : Result ℕ E) → 49 ≤ get_or text 0 0 → ParsesUnsigned 32 10 text parsed → parsed ≡ Ok limit → limit ≤ most → IsLimitText most text limit
-IsLimitText-parsed text most limit parsed low parses is below =
+pub IsNumberText-parsed : {E : Type 0} (text : List ℕ) (most limit : ℕ) (parsed : Result ℕ E) → 49 ≤ get_or text 0 0 → ParsesUnsigned 32 10 text parsed → parsed ≡ Ok limit → limit ≤ most → IsNumberText most text limit
+IsNumberText-parsed text most limit parsed low parses is below =
     let written = limit_in text limit parsed (parse_plain digits 32 text parsed parses (λ plus. absurd (omega (arith, low, plus)))) is low in
     ((above_zero text limit written low, below), written)
 
-pub parsed-IsLimitText : {E : Type 0} (text : List ℕ) (most limit : ℕ) (parsed : Result ℕ E) → most < 2 ^ 32 → ParsesUnsigned 32 10 text parsed → IsLimitText most text limit → parsed ≡ Ok limit
-parsed-IsLimitText text most limit parsed small parses is =
+pub parsed-IsNumberText : {E : Type 0} (text : List ℕ) (most limit : ℕ) (parsed : Result ℕ E) → most < 2 ^ 32 → ParsesUnsigned 32 10 text parsed → IsNumberText most text limit → parsed ≡ Ok limit
+parsed-IsNumberText text most limit parsed small parses is =
     parse-decimal 32 limit text parsed (omega (arith, small, is.0)) (omega (arith, small, is.0)) is.1 parses
 
--- the text of a limit begins with a digit above 0
-pub first_of_limit : (text : List ℕ) (most limit : ℕ) → most < 2 ^ 32 → IsLimitText most text limit → (49 ≤ get_or text 0 0) × (get_or text 0 0 ≤ 57)
-first_of_limit text most limit small is =
+-- the text of a number begins with a digit above 0
+pub first_of_number : (text : List ℕ) (most limit : ℕ) → most < 2 ^ 32 → IsNumberText most text limit → (49 ≤ get_or text 0 0) × (get_or text 0 0 ≤ 57)
+first_of_number text most limit small is =
     let first = first_digit limit is.0.0 (omega (arith, small, is.0)) in
     let same = ap (λ t. get_or t 0 0) is.1 in
     (omega (arith, first, same), omega (arith, first, same))
