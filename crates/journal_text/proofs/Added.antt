@@ -29,14 +29,19 @@ use Rattle.journal_text.specs.inside.Candidates.{only_if}
 use Rattle.journal_text.specs.inside.Draft.{lines_so_far, IsDraft, is_empty, has_tenant, kind_after, are_kinds_ascending, last_kind, last_grain, kind_fits, tenant_fits, step_fits, reply_fits, row_fits, added}
 use Rattle.journal_text.proofs.Drafts.{empty, length-push, names_of-push, has_tenant-names}
 
+-- the first lines of a form that tells the logic
+told_are : (form : Form) (kinds age : ℕ) → IsTrue (tells_kinds form) → IsKinds kinds → IsAge age → All (IsLine form) (line.Head ∷ line.Kinds kinds ∷ line.Age age ∷ [])
+told_are form kinds age tells are is =
+    All-cons (IsLine form) line.Head (line.Kinds kinds ∷ line.Age age ∷ []) tt
+    (All-cons (IsLine form) (line.Kinds kinds) (line.Age age ∷ []) (tells, are)
+    (All-cons (IsLine form) (line.Age age) [] is (All-nil (IsLine form))))
+
 -- the first lines may stand in a journal of the form
 pub start_are : (form : Form) (kinds age : ℕ) → IsKinds kinds → IsAge age → All (IsLine form) (start_lines form kinds age)
 start_are forms.First kinds age are is =
     All-cons (IsLine forms.First) line.Head (line.Age age ∷ []) tt (All-cons (IsLine forms.First) (line.Age age) [] is (All-nil (IsLine forms.First)))
-start_are forms.Second kinds age are is =
-    All-cons (IsLine forms.Second) line.Head (line.Kinds kinds ∷ line.Age age ∷ []) tt
-    (All-cons (IsLine forms.Second) (line.Kinds kinds) (line.Age age ∷ []) (refl, are)
-    (All-cons (IsLine forms.Second) (line.Age age) [] is (All-nil (IsLine forms.Second))))
+start_are forms.Second kinds age are is = told_are forms.Second kinds age refl are is
+start_are forms.Third kinds age are is = told_are forms.Third kinds age refl are is
 
 -- a draft of the first lines alone
 pub empty_is_draft : (form : Form) (kinds age : ℕ) → AreKinds form kinds → IsAge age → IsDraft form (empty kinds age)

@@ -1,5 +1,5 @@
 -- Which line is the first at fault.
-use Rattle.std.proofs.Common.{◌≡◌, ℕ, ◌+◌, ◌<◌, ◌≤◌, ◌^◌, inl, inr, Bool, true, false, true≢false, not, ◌&&◌, ◌==◌, eq-eqb, eqb-true, List, [], ◌∷◌, ◌++◌, length, map, take, drop, get_or, All, Option, Some, None, refl, ap, sym, subst, ◌∙◌, lit<, lit≤, arith}
+use Rattle.std.proofs.Common.{◌≡◌, ℕ, ◌+◌, ◌<◌, ◌≤◌, ◌^◌, inl, inr, Bool, true, false, true≢false, not, ◌&&◌, if◌then◌else◌, ◌==◌, eq-eqb, eqb-true, List, [], ◌∷◌, ◌++◌, length, map, take, drop, get_or, All, Option, Some, None, refl, ap, sym, subst, ◌∙◌, lit<, lit≤, arith}
 use Rattle.std.specs.Prelude.{option_and_then}
 use Rattle.std.specs.Cmp.{first_so, second_so}
 use Rattle.std.proofs.lemmas.Bool.{cases_lt}
@@ -76,21 +76,27 @@ same_first l m ls ms e = (cc, cc)
 named : (f g : Form) (xs ys : List ℕ) → line_text f line.Head ++ 10 ∷ xs ≡ line_text g line.Head ++ 10 ∷ ys → get_or (line_text f line.Head ++ 10 ∷ xs) 13 0 ≡ get_or (line_text g line.Head ++ 10 ∷ ys) 13 0
 named f g xs ys same = ap (λ t. get_or t 13 0) same
 
-first_byte : (xs : List ℕ) → get_or (line_text forms.First line.Head ++ 10 ∷ xs) 13 0 ≡ 49
-first_byte xs = refl
+byte_of : Form → ℕ
+byte_of forms.First = 49
+byte_of forms.Second = 50
+byte_of forms.Third = 51
 
-second_byte : (xs : List ℕ) → get_or (line_text forms.Second line.Head ++ 10 ∷ xs) 13 0 ≡ 50
-second_byte xs = refl
+form_byte : (form : Form) (xs : List ℕ) → get_or (line_text form line.Head ++ 10 ∷ xs) 13 0 ≡ byte_of form
+form_byte forms.First xs = refl
+form_byte forms.Second xs = refl
+form_byte forms.Third xs = refl
 
-apart : (n : ℕ) → n ≡ 49 → n ≡ 50 → ⊥
-apart n one two = omega (arith, one, two)
+form_of : ℕ → Form
+form_of byte = if byte == 49 then forms.First else if byte == 50 then forms.Second else forms.Third
+
+form_again : (form : Form) → form ≡ form_of (byte_of form)
+form_again forms.First = refl
+form_again forms.Second = refl
+form_again forms.Third = refl
 
 -- no two forms have the same head
 one_form : (f g : Form) (xs ys : List ℕ) → line_text f line.Head ++ 10 ∷ xs ≡ line_text g line.Head ++ 10 ∷ ys → f ≡ g
-one_form forms.First forms.First xs ys same = refl
-one_form forms.First forms.Second xs ys same = absurd (apart _ (first_byte xs) (named forms.First forms.Second xs ys same ∙ second_byte ys))
-one_form forms.Second forms.First xs ys same = absurd (apart _ (first_byte ys) (sym (named forms.Second forms.First xs ys same) ∙ second_byte xs))
-one_form forms.Second forms.Second xs ys same = refl
+one_form f g xs ys same = form_again f ∙ ap form_of (sym (form_byte f xs) ∙ named f g xs ys same ∙ form_byte g ys) ∙ sym (form_again g)
 
 -- The bytes begin with the head of the form.
 pub record HasHead (form : Form) (bytes : List ℕ) : Type 0 where
@@ -158,6 +164,7 @@ record SameStart (m n a b : ℕ) (xs ys : List Line) : Type 0 where
 same_start : (form : Form) (m n a b : ℕ) (xs ys : List Line) → (tells_kinds form ≡ false → m ≡ n) → start_lines form m a ++ xs ≡ start_lines form n b ++ ys → SameStart m n a b xs ys
 same_start forms.First m n a b xs ys untold e = record { kinds = untold refl; age = cc; behind = cc }
 same_start forms.Second m n a b xs ys untold e = record { kinds = cc; age = cc; behind = cc }
+same_start forms.Third m n a b xs ys untold e = record { kinds = cc; age = cc; behind = cc }
 
 -- the lines of a journal that stand behind a draft's complete the draft to the journal
 pub journal_completed : (form : Form) (j d : History) (lines : List Line) → KeepsRulesIn form j → IsDraft form d → journal_lines form j ≡ lines_so_far form d ++ lines → completed d lines ≡ Some j

@@ -20,7 +20,8 @@ use Rattle.tenant_gate.specs.Age.{IsAge}
 use Rattle.journal_text.specs.declared.form.Form.{Form}
 use Rattle.journal_text.specs.Form.{HasMessage, HasState, message_in, state_in, state_bytes}
 use Rattle.journal_text.specs.RecordedFault.{is_text_byte}
-use Rattle.journal_text.specs.inside.Candidates.{◌>>=◌, ◌⊗◌, if_ok, wide_of, number_of, mark_of, refusal_of, client_of, grain_of, message_of, state_of, age_of, version_of, word_of, content_of}
+use Rattle.journal_text.specs.Rules.{is_refusal}
+use Rattle.journal_text.specs.inside.Candidates.{◌>>=◌, ◌⊗◌, only_if, if_ok, wide_of, number_of, mark_of, refusal_of, client_of, grain_of, message_of, state_of, age_of, version_of, word_of, content_of}
 use Rattle.journal_text.specs.Text.{◌␣◌, mark_text, refusal_text, message_text, state_text, content_text}
 use Rattle.journal_text.proofs.Words.{differ}
 use Rattle.journal_text.proofs.Numbers.{wide_of-decimal}
@@ -147,13 +148,14 @@ pub mark : (failed : Bool) → FieldBack mark_of (mark_text failed) failed
 mark true = record { whole = refl; is = refl }
 mark false = record { whole = refl; is = refl }
 
-pub refusal : (r : Refusal) → FieldBack refusal_of (refusal_text r) r
+pub refusal : (form : Form) (r : Refusal) → IsTrue (is_refusal form r) → FieldBack (refusal_of form) (refusal_text r) r
 unfolding digits
-refusal refusals.TooLong = record { whole = refl; is = refl }
-refusal refusals.TooDeep = record { whole = refl; is = refl }
-refusal refusals.NotWhole = record { whole = refl; is = refl }
-refusal refusals.NotWellFormed = record { whole = refl; is = refl }
-refusal refusals.TooLarge = record { whole = refl; is = refl }
+refusal form refusals.TooLong is = record { whole = refl; is = refl }
+refusal form refusals.TooDeep is = record { whole = refl; is = refl }
+refusal form refusals.NotWhole is = record { whole = refl; is = refl }
+refusal form refusals.NotHex is = record { whole = refl; is = ap (λ b. only_if b refusals.NotHex) is }
+refusal form refusals.NotWellFormed is = record { whole = refl; is = refl }
+refusal form refusals.TooLarge is = record { whole = refl; is = refl }
 
 digit_byte : (b : ℕ) → is_hex_digit b ≡ true → is_name_byte b ≡ true
 digit_byte b is = grind (arith, is)

@@ -32,6 +32,7 @@ pub record Read (form : Form) (kinds age : ℕ) (all : List ℕ) (draft : Histor
 one_line_more : (form : Form) (kinds : ℕ) → length (kinds_lines form kinds) ≤ 1
 one_line_more forms.First kinds = omega arith
 one_line_more forms.Second kinds = omega arith
+one_line_more forms.Third kinds = omega arith
 
 pub nothing_read : (form : Form) (kinds age : ℕ) (all : List ℕ) (number : ℕ) → AreKinds form kinds → IsAge age → number ≡ length (kinds_lines form kinds) + 3 → Read form kinds age all (empty kinds age) all number
 nothing_read form kinds age all number are is counted =

@@ -34,6 +34,7 @@ use Rattle.journal_text.proofs.StepsBack.{line_of, step_back}
 code_small : (form : Form) (n : ℕ) → is_code form n ≡ true → n < 2 ^ 64
 code_small forms.First n is = grind (arith, is)
 code_small forms.Second n is = grind (arith, is)
+code_small forms.Third n is = grind (arith, is)
 
 fault_back : (form : Form) (t : CodeAndText) → IsTrue (is_recorded_fault form t) → Back (recorded_fault_of form) (decimal t.code ␣ t.text) t
 unfolding is_recorded_fault
@@ -99,6 +100,7 @@ kind_back form k n tells well is =
 head_back : (form : Form) → Back (head_of form) (form_text form) line.Head
 head_back forms.First = record { plain = refl; is = refl }
 head_back forms.Second = record { plain = refl; is = refl }
+head_back forms.Third = record { plain = refl; is = refl }
 
 pub line_back : (form : Form) (l : Line) → IsLine form l → Back (candidate_of form) (line_text form l) l
 line_back form line.Head is = line_of form (codes "silo-journal") _ _ refl refl (head_back form)

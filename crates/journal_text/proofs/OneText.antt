@@ -6,8 +6,9 @@ use Rattle.std.proofs.lemmas.Option.{same_Some}
 use Rattle.journal_text.specs.declared.form.Form.{Form}
 use Rattle.journal_text.specs.declared.line.Line.{Line}
 use Rattle.journal_text.specs.declared.line.Line.TheVariants as line
-use Rattle.journal_text.specs.Text.{History, body, kinds_lines, start_lines, journal_lines, text_in}
-use Rattle.journal_text.specs.JournalAnswers.{IsJournalText}
+use Rattle.journal_text.specs.Form.{written}
+use Rattle.journal_text.specs.Text.{History, body, kinds_lines, start_lines, journal_lines, text_in, journal_text}
+use Rattle.journal_text.specs.JournalAnswers.{IsJournalText, IsMigrated}
 use Rattle.tenant_gate.specs.Age.{IsAge}
 use Rattle.journal_text.specs.Rules.{IsLine, KeepsRulesIn}
 use Rattle.journal_text.specs.inside.Draft.{lines_so_far}
@@ -16,6 +17,7 @@ use Rattle.journal_text.proofs.Drafts.{empty, completed}
 use Rattle.journal_text.proofs.Added.{empty_is_draft}
 use Rattle.journal_text.proofs.DraftJournals.{All-front, All-back, closed_lines}
 use Rattle.journal_text.proofs.Faults.{journal_completed, same_form, text_head}
+use Rattle.journal_text.proofs.Forms.{keeps_newest}
 
 -- the age's line, in each form
 age_is : (form : Form) (kinds age : ℕ) → All (IsLine form) (start_lines form kinds age) → IsAge age
@@ -51,3 +53,21 @@ one_text_of bytes j k one other =
     let keeps : KeepsRulesIn one.form k = subst (λ (form : Form). KeepsRulesIn form k) (sym same) other.keeps in
     let text : bytes ≡ text_in one.form k = subst (λ (form : Form). bytes ≡ text_in form k) (sym same) other.text in
     one_journal one.form j k one.keeps keeps (sym one.text ∙ text)
+
+-- ---- what is migrated
+
+-- what a journal is migrated to is its text in the form in which journals are written
+pub migrated_text : (bytes text : List ℕ) (j : History) → IsMigrated bytes text → IsJournalText bytes j → IsJournalText text j
+migrated_text bytes text j moved read = record {
+  form = written;
+  keeps = keeps_newest read.form j read.keeps;
+  text = moved.rewritten ∙ ap journal_text (one_text_of bytes moved.journal j moved.read read);
+}
+
+pub migrated_form : (bytes text : List ℕ) (j : History) → IsMigrated bytes text → (read : IsJournalText text j) → read.form ≡ written
+migrated_form bytes text j moved read = one_form_of text j moved.journal read (migrated_text bytes text moved.journal moved moved.read)
+
+-- what has that form already stays
+pub written_text : (bytes text : List ℕ) (j : History) → IsMigrated bytes text → (read : IsJournalText bytes j) → read.form ≡ written → text ≡ bytes
+written_text bytes text j moved read is =
+    moved.rewritten ∙ ap journal_text (one_text_of bytes moved.journal j moved.read read) ∙ sym (read.text ∙ ap (λ (form : Form). text_in form j) is)

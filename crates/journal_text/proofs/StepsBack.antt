@@ -26,7 +26,7 @@ stepped b make = made (made b make) line.Step
 
 pub step_back : (form : Form) (s : Step) → IsStep form s → Back (candidate_of form) (step_text form s) (line.Step s)
 unfolding candidate_of
-step_back form (step.Refuse c n r) is = line_of form (codes "refuse") _ _ refl refl (stepped (more (client c is.0) (two (number n is.1) (refusal r))) (λ f. step.Refuse f.0 f.1.0 f.1.1))
+step_back form (step.Refuse c n r) is = line_of form (codes "refuse") _ _ refl refl (stepped (more (client c is.0) (two (number n is.1) (refusal form r is.2))) (λ f. step.Refuse f.0 f.1.0 f.1.1))
 step_back form (step.Call c n g m) is = line_of form (codes "call") _ _ refl refl (stepped (more (client c is.0) (more (number n is.1) (two (grain g is.2) (message form m is.3)))) (λ f. step.Call f.0 f.1.0 f.1.1.0 f.1.1.1))
 step_back form (step.Poke failed c n g v) is = line_of form (codes "poke") _ _ refl refl (stepped (more (client c is.0) (more (number n is.1) (more (grain g is.2) (two (mark failed) (state form v is.3))))) (λ f. step.Poke f.1.1.1.0 f.0 f.1.0 f.1.1.0 f.1.1.1.1))
 step_back form (step.Status c n) is = line_of form (codes "status") _ _ refl refl (stepped (two (client c is.0) (number n is.1)) (λ f. step.Status f.0 f.1))

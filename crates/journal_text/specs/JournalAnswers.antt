@@ -1,9 +1,10 @@
--- What reading a journal answers.
-use Rattle.std.specs.Prelude.{◌≡◌, ℕ, List, Result, Ok, Err}
+-- What reading a journal answers, and what migrating one does.
+use Rattle.std.specs.Prelude.{◌≡◌, ℕ, List, Result, Ok, Err, Vec}
+use Rattle.std.specs.declared.alloc.Global.{Global}
 use Rattle.journal_text.specs.declared.fault.JournalFault.{JournalFault}
 use Rattle.journal_text.specs.declared.fault.JournalFault.TheVariants as faults
 use Rattle.journal_text.specs.declared.form.Form.{Form}
-use Rattle.journal_text.specs.Text.{History, text_in}
+use Rattle.journal_text.specs.Text.{History, text_in, journal_text}
 use Rattle.journal_text.specs.Rules.{KeepsRulesIn}
 use Rattle.journal_text.specs.FirstFault.{IsFirstFault}
 
@@ -19,3 +20,14 @@ abbrev pub ReadsJournal : List ℕ → Result History JournalFault → Type 0
 ReadsJournal bytes (Ok j) = IsJournalText bytes j
 ReadsJournal bytes (Err (faults.At number)) = IsFirstFault bytes number
 ReadsJournal bytes (Err faults.Memory) = Unit {0}
+
+-- The text is of the journal whose text the bytes are, in the form in which journals are written.
+pub record IsMigrated (bytes text : List ℕ) : Type 0 where
+  pub journal : History
+  pub read : IsJournalText bytes journal
+  pub rewritten : text ≡ journal_text journal
+
+-- The text of the same journal is answered; else what reading the bytes answers.
+abbrev pub MigratesJournal : List ℕ → Result (Vec ℕ Global) JournalFault → Type 0
+MigratesJournal bytes (Ok text) = IsMigrated bytes text.items
+MigratesJournal bytes (Err fault) = ReadsJournal bytes (Err fault)

@@ -8,13 +8,15 @@ use Rattle.tenant_gate.specs.Age.{IsAge}
 use Rattle.tenant_gate.specs.Table.{Table, table_fault, are_in_range}
 use Rattle.grain_storage.specs.declared.row.Row.{Row}
 use Rattle.idle_collector.specs.Ages.{IsTable as AreAges}
+use Rattle.silo_event.specs.Fault.{fault_code, refusal_fault}
+use Rattle.silo_event.specs.declared.refusal.Refusal.{Refusal}
 use Rattle.silo_event.specs.declared.reply.Party.{Party}
 use Rattle.silo_event.specs.declared.reply.Party.TheVariants as party
 use Rattle.silo_event.specs.declared.step.Step.{Step}
 use Rattle.silo_event.specs.declared.step.Step.TheVariants.{Refuse, Call as Calling, Poke, Status, Deliver, Activate}
 use Rattle.silo_event.specs.declared.step.Step.TheVariants.{Load, Begin, Store, End, Abandon, Tick, Sweep}
 use Rattle.request_codec.specs.Tree.{Tree}
-use Rattle.journal_text.specs.Form.{HasMessage, HasState, tells_kinds, written}
+use Rattle.journal_text.specs.Form.{HasMessage, HasState, is_code, tells_kinds, written}
 use Rattle.journal_text.specs.declared.form.Form.{Form}
 use Rattle.journal_text.specs.RecordedFault.{CodeAndText, is_recorded_fault}
 use Rattle.journal_text.specs.Text.{History, journal_lines}
@@ -40,9 +42,14 @@ IsOutcome form (Err fault) = IsTrue (is_recorded_fault form fault)
 abbrev pub IsRow : Form → Row → Type 0
 IsRow form row = (1 ≤ row.version) × (row.version < 2 ^ 64) × IfSome row.content (HasState form)
 
--- The step's names are well formed, its numbers in their ranges, and its message or its state has bytes.
+-- its code is one of the form's
+abbrev pub is_refusal : Form → Refusal → Bool
+is_refusal form refusal = is_code form (fault_code (refusal_fault refusal))
+
+-- The step's names are well formed, its numbers in their ranges, its code one of the form's, and its message or its state has
+-- bytes.
 abbrev pub IsStep : Form → Step → Type 0
-IsStep form (Refuse caller id code) = IsTrue (is_client caller) × IsNumber id
+IsStep form (Refuse caller id code) = IsTrue (is_client caller) × IsNumber id × IsTrue (is_refusal form code)
 IsStep form (Calling caller id grain message) = IsTrue (is_client caller) × IsNumber id × IsTrue (is_grain grain) × HasMessage form message
 IsStep form (Poke failed caller id grain state) = IsTrue (is_client caller) × IsNumber id × IsTrue (is_grain grain) × HasState form state
 IsStep form (Status caller id) = IsTrue (is_client caller) × IsNumber id

@@ -2,3 +2,4 @@
 pub mod Candidates
 pub mod Draft
 pub mod Answers
+pub mod Sides

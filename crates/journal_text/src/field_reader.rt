@@ -4,16 +4,19 @@ ghost use Rattle.std.specs.Prelude.{◌≡◌, ◌↔◌, ◌≤◌, ◌<◌, �
 ghost use Rattle.grain_id.specs.Names.{is_client, is_grain};
 ghost use Rattle.grain_id.specs.Reading.{cut_at};
 ghost use Rattle.hex.specs.Hex.{IsBytes};
-ghost use Rattle.journal_text.specs.Form.{HasMessage, HasState, message_bytes, message_in, state_bytes, state_in};
+ghost use Rattle.request_codec.specs.Answers.{Reads as Decodes};
+ghost use Rattle.silo_event.specs.declared.refusal.Refusal.TheVariants as refusals;
+ghost use Rattle.journal_text.specs.Form.{HasMessage, HasState, is_code, message_bytes, message_in, state_bytes, state_in};
 ghost use Rattle.journal_text.specs.inside.Answers.{Reads};
-ghost use Rattle.journal_text.specs.inside.Candidates.{wide_of, number_of, bytes_of, mark_of};
+ghost use Rattle.journal_text.specs.Rules.{is_refusal};
+ghost use Rattle.journal_text.specs.inside.Candidates.{only_if, wide_of, number_of, bytes_of, mark_of};
 ghost use Rattle.journal_text.specs.inside.Candidates.{client_of, grain_of, message_of, state_of, refusal_of};
 
 use crate::fault::LineFault;
 use crate::form::Form;
 use grain_id::{Caller, GrainId, IdFault, NameCache};
 use hex::FromHexError;
-use request_codec::{CodecFault, Message, StateBytes};
+use request_codec::{CodecFault, Message, StateBytes, migrate_message, read_old_state};
 use silo_event::Refusal;
 use std::alloc::Global;
 
@@ -45,14 +48,27 @@ pub(crate) fn parse_mark(field: &str) -> Result<bool, LineFault>
     }
 }
 
+/// Why a line was refused, where the code is 14.
+fn bad_bytes(form: Form) -> Result<Refusal, LineFault>
+    ensures gives { Reads (λ read. read) result (only_if (is_code form 14) refusals.NotHex) }
+    ensures is_refusal { IfOk result (λ refusal. IsTrue (is_refusal form refusal)) }
+{
+    match form {
+        Form::First | Form::Second => Err(LineFault::NoForm),
+        Form::Third => Ok(Refusal::NotHex),
+    }
+}
+
 /// Why a line was refused.
-pub(crate) fn parse_refusal(field: &str) -> Result<Refusal, LineFault>
-    ensures { Reads (λ read. read) result (refusal_of field.now) }
+pub(crate) fn parse_refusal(form: Form, field: &str) -> Result<Refusal, LineFault>
+    ensures gives { Reads (λ read. read) result (refusal_of form field.now) }
+    ensures is_refusal { IfOk result (λ refusal. IsTrue (is_refusal form refusal)) }
 {
     match field {
         "11" => Ok(Refusal::TooLong),
         "12" => Ok(Refusal::TooDeep),
         "13" => Ok(Refusal::NotWhole),
+        "14" => bad_bytes(form),
         "20" => Ok(Refusal::NotWellFormed),
         "63" => Ok(Refusal::TooLarge),
         _ => Err(LineFault::NoForm),
@@ -146,17 +162,26 @@ fn parse_bytes(alloc: Global, field: &str) -> Result<Vec<u8>, LineFault>
     }
 }
 
+/// The message whose bytes these are in that form, with the first byte of the form of now.
+fn decode_message(alloc: Global, form: Form, bytes: &[u8]) -> Result<Message, CodecFault>
+    ensures gives { Decodes (λ read. read) result (message_in form bytes.now) }
+    ensures exact { IfOk result (λ read. message_bytes form read ≡ bytes.now) }
+{
+    match form {
+        Form::First | Form::Second => migrate_message(alloc, bytes),
+        Form::Third => Message::read(alloc, bytes),
+    }
+}
+
 /// The message whose bytes these are in that form.
 fn read_message(alloc: Global, form: Form, bytes: &[u8]) -> Result<Message, LineFault>
     ensures gives { Reads (λ read. read) result (message_in form bytes.now) }
     ensures exact { IfOk result (λ read. message_bytes form read ≡ bytes.now) }
 {
-    match form {
-        Form::First | Form::Second => match Message::read(alloc, bytes) {
-            Ok(message) => Ok(message),
-            Err(CodecFault::Memory) => Err(LineFault::Memory),
-            Err(_) => Err(LineFault::NoForm),
-        },
+    match decode_message(alloc, form, bytes) {
+        Ok(message) => Ok(message),
+        Err(CodecFault::Memory) => Err(LineFault::Memory),
+        Err(_) => Err(LineFault::NoForm),
     }
 }
 
@@ -170,17 +195,26 @@ pub(crate) fn parse_message(alloc: Global, form: Form, field: &str) -> Result<Me
     Ok(message)
 }
 
+/// The state whose bytes these are, in whose value bytes may stand if the form lets them.
+fn decode_state(alloc: Global, form: Form, bytes: &[u8]) -> Result<StateBytes, CodecFault>
+    ensures gives { Decodes (λ read. read) result (state_in form bytes.now) }
+    ensures exact { IfOk result (λ read. state_bytes read ≡ bytes.now) }
+{
+    match form {
+        Form::First | Form::Second => read_old_state(alloc, bytes),
+        Form::Third => StateBytes::read(alloc, bytes),
+    }
+}
+
 /// The state whose bytes these are in that form.
 fn read_state(alloc: Global, form: Form, bytes: &[u8]) -> Result<StateBytes, LineFault>
     ensures gives { Reads (λ read. read) result (state_in form bytes.now) }
     ensures exact { IfOk result (λ read. state_bytes read ≡ bytes.now) }
 {
-    match form {
-        Form::First | Form::Second => match StateBytes::read(alloc, bytes) {
-            Ok(state) => Ok(state),
-            Err(CodecFault::Memory) => Err(LineFault::Memory),
-            Err(_) => Err(LineFault::NoForm),
-        },
+    match decode_state(alloc, form, bytes) {
+        Ok(state) => Ok(state),
+        Err(CodecFault::Memory) => Err(LineFault::Memory),
+        Err(_) => Err(LineFault::NoForm),
     }
 }
 

@@ -1,8 +1,9 @@
 //! The forms of a journal's text.
 
-ghost use Rattle.std.specs.Prelude.{◌≡◌, ◌≤◌, ℕ, ◌+◌, IfSome, None, length};
+ghost use Rattle.std.specs.Prelude.{◌≡◌, ◌≤◌, ℕ, ◌+◌, ◌∷◌, [], IfSome, None, length};
+ghost use Rattle.hex.specs.Hex.{encode_lower};
 ghost use Rattle.journal_text.specs.declared.form.Form.{Form};
-ghost use Rattle.journal_text.specs.Form.{written, form_text, tells_kinds};
+ghost use Rattle.journal_text.specs.Form.{written, form_text, tells_kinds, first_byte, is_code};
 ghost use Rattle.journal_text.specs.Text.{line_text, kinds_lines};
 ghost use Rattle.journal_text.specs.declared.line.Line.TheVariants as line;
 
@@ -13,6 +14,8 @@ pub enum Form {
     First,
     /// `silo-journal 2`: it tells which logic the kinds have, and their ages.
     Second,
+    /// `silo-journal 3`: messages have the form of now, and bytes may stand among values.
+    Third,
 }
 
 impl Form {
@@ -20,7 +23,7 @@ impl Form {
     pub(crate) fn written() -> Form
         ensures { result ≡ written }
     {
-        Form::Second
+        Form::Third
     }
 
     /// The form's number.
@@ -30,6 +33,7 @@ impl Form {
         match self {
             Form::First => "1",
             Form::Second => "2",
+            Form::Third => "3",
         }
     }
 
@@ -39,7 +43,7 @@ impl Form {
     {
         match self {
             Form::First => false,
-            Form::Second => true,
+            Form::Second | Form::Third => true,
         }
     }
 
@@ -50,7 +54,34 @@ impl Form {
     {
         match self {
             Form::First => 2,
-            Form::Second => 3,
+            Form::Second | Form::Third => 3,
+        }
+    }
+
+    /// The digits of a message's first byte.
+    #[tactic(auto, unfolding(hex::specs::Hex::encode_with))]
+    pub(crate) fn first_digits(self) -> &'static str
+        ensures { result.now ≡ encode_lower (first_byte self ∷ []) }
+    {
+        match self {
+            Form::First | Form::Second => "01",
+            Form::Third => "02",
+        }
+    }
+
+    /// Whether the number is a fault's code.
+    pub(crate) fn is_code(self, number: u64) -> bool
+        ensures { result ≡ is_code self number }
+    {
+        match self {
+            Form::First | Form::Second => matches!(
+                number,
+                10..=13 | 20..=22 | 40..=43 | 53 | 54 | 56 | 60..=63 | 70
+            ),
+            Form::Third => matches!(
+                number,
+                10..=14 | 20..=22 | 40..=43 | 53 | 54 | 56 | 60..=63 | 70
+            ),
         }
     }
 
@@ -62,6 +93,7 @@ impl Form {
         match text {
             "silo-journal 1" => Some(Form::First),
             "silo-journal 2" => Some(Form::Second),
+            "silo-journal 3" => Some(Form::Third),
             _ => None,
         }
     }

@@ -6,12 +6,15 @@ ghost use Rattle.journal_text.specs.Form.{written};
 ghost use Rattle.journal_text.specs.RecordedReply.{recorded_of};
 ghost use Rattle.journal_text.specs.Text.{line_text, lines_text, kind_line, kinds_lines, tenant_line, row_line};
 ghost use Rattle.journal_text.specs.Text.{history_of, journal_text};
+ghost use Rattle.journal_text.specs.inside.Sides.{lines_before, lines_behind};
 
 use crate::form::Form;
+use crate::journal::Journal;
 use crate::line_writer::{
-    push_age, push_close, push_fault, push_head, push_kind, push_kinds, push_row, push_step,
-    push_tenant, push_value,
+    push_age, push_close, push_fault, push_head, push_kind, push_kinds, push_recorded, push_row,
+    push_step, push_tenant, push_value,
 };
+use crate::recorded::RecordedReply;
 use grain_id::{GrainId, Kind, Tenant};
 use grain_storage::Row;
 use silo_event::{Reply, Step};
@@ -103,6 +106,56 @@ fn push_rows(alloc: Global, text: &mut String, rows: &[(GrainId, Row)]) -> Resul
     Ok(())
 }
 
+/// Adds the line of each recorded reply.
+fn push_all_recorded(
+    alloc: Global,
+    text: &mut String,
+    replies: &[RecordedReply],
+) -> Result<(), AllocError>
+    ensures { OnOk result (string_bytes text.new ≡ string_bytes text.old ++ lines_text written (map line.Reply replies.now)) }
+{
+    'replies: for reply in replies {
+        push_recorded(alloc, text, reply)?;
+    }
+    Ok(())
+}
+
+/// Adds the lines that stand before the replies to a text that has none.
+fn push_before(
+    alloc: Global,
+    text: &mut String,
+    kinds: u8,
+    age: u64,
+    ages: &[(Kind, u64)],
+    tenants: &[(Tenant, Limits)],
+    steps: &[Step],
+) -> Result<(), AllocError>
+    requires { string_bytes text.now ≡ [] }
+    ensures { OnOk result (string_bytes text.new
+        ≡ lines_text written (lines_before kinds age ages.now tenants.now steps.now)) }
+{
+    let form = Form::written();
+    push_head(form, text)?;
+    push_logic(form, text, kinds)?;
+    push_age(text, age)?;
+    push_ages(text, ages)?;
+    push_tenants(text, tenants)?;
+    push_steps(alloc, text, steps)
+}
+
+/// Adds the lines that stand behind the replies, the last with the number of steps.
+fn push_behind(
+    alloc: Global,
+    text: &mut String,
+    rows: &[(GrainId, Row)],
+    steps: usize,
+) -> Result<(), AllocError>
+    ensures { OnOk result (string_bytes text.new ≡ string_bytes text.old ++ lines_text written (lines_behind rows.now steps)) }
+{
+    push_rows(alloc, text, rows)?;
+    push_close(text, steps as u64)
+}
+
 /// Adds all lines of a journal that has these parts to a text that has none.
 fn push_parts(alloc: Global, text: &mut String, parts: JournalParts<'_>) -> Result<(), AllocError>
     requires { string_bytes text.now ≡ [] }
@@ -110,16 +163,17 @@ fn push_parts(alloc: Global, text: &mut String, parts: JournalParts<'_>) -> Resu
         parts.entry.ages.now parts.entry.tenants.now parts.entry.steps.now (map recorded_of parts.entry.replies.now)
         parts.entry.rows.now)) }
 {
-    let form = Form::written();
-    push_head(form, text)?;
-    push_logic(form, text, parts.kinds)?;
-    push_age(text, parts.age)?;
-    push_ages(text, parts.ages)?;
-    push_tenants(text, parts.tenants)?;
-    push_steps(alloc, text, parts.steps)?;
+    push_before(
+        alloc,
+        text,
+        parts.kinds,
+        parts.age,
+        parts.ages,
+        parts.tenants,
+        parts.steps,
+    )?;
     push_replies(alloc, text, parts.replies)?;
-    push_rows(alloc, text, parts.rows)?;
-    push_close(text, parts.steps.len() as u64)
+    push_behind(alloc, text, parts.rows, parts.steps.len())
 }
 
 /// The text of the journal that has these parts.
@@ -134,5 +188,32 @@ pub fn journal_of_parts(alloc: Global, parts: JournalParts<'_>) -> Result<Vec<u8
 {
     let mut text = String::new(alloc);
     push_parts(alloc, &mut text, parts)?;
+    Ok(text.into_bytes())
+}
+
+/// Adds all lines of a journal to a text that has none.
+fn push_journal(alloc: Global, text: &mut String, journal: &Journal) -> Result<(), AllocError>
+    requires { string_bytes text.now ≡ [] }
+    ensures { OnOk result (string_bytes text.new ≡ journal_text journal.now) }
+{
+    push_before(
+        alloc,
+        text,
+        journal.kinds(),
+        journal.age().millis(),
+        journal.ages().list(),
+        journal.tenants(),
+        journal.steps(),
+    )?;
+    push_all_recorded(alloc, text, journal.replies())?;
+    push_behind(alloc, text, journal.rows(), journal.steps().len())
+}
+
+/// The text of a journal.
+pub(crate) fn text_of(alloc: Global, journal: &Journal) -> Result<Vec<u8>, AllocError>
+    ensures { IfOk result (λ text. text.items ≡ journal_text journal.now) }
+{
+    let mut text = String::new(alloc);
+    push_journal(alloc, &mut text, journal)?;
     Ok(text.into_bytes())
 }

@@ -2,7 +2,7 @@
 //!
 //! A layer above may rely on this: a journal is seen as which logic its kinds have, its age, the ages of
 //! kinds, its tenants with their limits, its steps, its recorded replies and its recorded rows, and it
-//! keeps the rules of a journal's text, which has two forms. The text of a journal is in
+//! keeps the rules of a journal's text, which has three forms. The text of a journal is in
 //! `specs/Text.antt`, the rules in `specs/Rules.antt`, and which line of other bytes is at fault in
 //! `specs/FirstFault.antt`.
 #![tactic(auto)]
@@ -18,6 +18,7 @@ pub mod laws;
 mod line;
 mod line_reader;
 mod line_writer;
+mod migration;
 mod recorded;
 mod step_reader;
 
@@ -25,4 +26,5 @@ pub use fault::JournalFault;
 pub use journal::Journal;
 pub use journal_reader::read_journal;
 pub use journal_writer::{JournalParts, journal_of_parts};
+pub use migration::migrate_journal;
 pub use recorded::{RecordedFault, RecordedReply};

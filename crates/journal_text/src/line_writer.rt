@@ -4,7 +4,8 @@ ghost use Rattle.std.specs.Prelude.{◌≡◌, ◌++◌, ◌∷◌, [], List, co
 ghost use Rattle.grain_id.specs.Names.{client_text, grain_text};
 ghost use Rattle.silo_event.specs.declared.step.Step.TheVariants as step;
 ghost use Rattle.journal_text.specs.declared.line.Line.TheVariants as line;
-ghost use Rattle.journal_text.specs.Form.{newest, message_bytes};
+ghost use Rattle.journal_text.specs.declared.form.Form.{Form};
+ghost use Rattle.journal_text.specs.Form.{newest, first_byte, message_bytes};
 ghost use Rattle.journal_text.specs.RecordedFault.{code_and_text};
 ghost use Rattle.journal_text.specs.Text.{◌␣◌, mark_text, state_text, recipient_text, outcome_text, step_text, line_text};
 
@@ -36,12 +37,13 @@ fn push_refuse(text: &mut String, caller: &Caller, id: u64, code: Refusal) -> Re
     write!(text, "refuse {caller} {id} {code}\n")
 }
 
-/// The bytes of a message in that form.
-fn message_bytes(form: Form, message: &Message) -> &[u8]
-    ensures { result.now ≡ message_bytes form message.now }
+/// The bytes of a message behind the first one, which are the same in each form.
+fn behind_first(message: &Message) -> &[u8]
+    ensures { (form : Form) → message_bytes form message.now ≡ first_byte form ∷ result.now }
 {
-    match form {
-        Form::First | Form::Second => message.bytes(),
+    match message.bytes() {
+        [_, behind @ ..] => behind,
+        [] => unreachable!(),
     }
 }
 
@@ -59,8 +61,9 @@ fn push_call(
 {
     let caller = caller.text();
     let grain = grain.text();
-    let message = hex::encode(alloc, message_bytes(form, message))?;
-    write!(text, "call {caller} {id} {grain} {message}\n")
+    let first = form.first_digits();
+    let behind = hex::encode(alloc, behind_first(message))?;
+    write!(text, "call {caller} {id} {grain} {first}{behind}\n")
 }
 
 fn push_poke(
@@ -293,7 +296,11 @@ pub(crate) fn push_close(text: &mut String, steps: u64) -> Result<(), AllocError
 }
 
 /// Adds the line of a recorded reply.
-fn push_recorded(alloc: Global, text: &mut String, reply: &RecordedReply) -> Result<(), AllocError>
+pub(crate) fn push_recorded(
+    alloc: Global,
+    text: &mut String,
+    reply: &RecordedReply,
+) -> Result<(), AllocError>
     ensures { OnOk result (string_bytes text.new ≡ string_bytes text.old ++ (line_text newest (line.Reply reply.now) ++ 10 ∷ [])) }
 {
     match &reply.outcome {

@@ -2,7 +2,7 @@
 
 ghost use Rattle.std.specs.Prelude.{◌≡◌, IfOk, IsTrue};
 ghost use Rattle.std.specs.List.{list_all};
-ghost use Rattle.journal_text.specs.Form.{is_code, newest};
+ghost use Rattle.journal_text.specs.Form.{newest};
 ghost use Rattle.journal_text.specs.RecordedFault.{is_recorded_fault, is_text_byte};
 ghost use Rattle.journal_text.specs.inside.Answers.{Reads};
 ghost use Rattle.journal_text.specs.inside.Candidates.{recorded_fault_of};
@@ -61,18 +61,6 @@ pub struct RecordedReply {
     pub outcome: Result<StateBytes, RecordedFault>,
 }
 
-/// Whether the number is a fault's code in that form.
-fn is_code(form: Form, number: u64) -> bool
-    ensures { result ≡ is_code form number }
-{
-    match form {
-        Form::First | Form::Second => matches!(
-            number,
-            10..=13 | 20..=22 | 40..=43 | 53 | 54 | 56 | 60..=63 | 70
-        ),
-    }
-}
-
 /// Whether the bytes are visible ASCII and spaces.
 fn are_text_bytes(bytes: &[u8]) -> bool
     ensures { result ≡ list_all is_text_byte bytes.now }
@@ -92,7 +80,7 @@ pub(crate) fn parse_recorded_fault(
 {
     let (code, text) = cut(fields)?;
     let number = parse_u64(code)?;
-    if !is_code(form, number) || text.is_empty() || !are_text_bytes(text.as_bytes()) {
+    if !form.is_code(number) || text.is_empty() || !are_text_bytes(text.as_bytes()) {
         return Err(LineFault::NoForm);
     }
     let code = number as u8;

@@ -20,15 +20,20 @@ use silo_event::{Moment, Step};
 use std::alloc::Global;
 
 /// What stands behind `refuse`.
-fn parse_refuse(alloc: Global, names: &mut NameCache, fields: &str) -> Result<Step, LineFault>
-    ensures gives { Reads (λ read. read) result (refuse_of fields.now) }
-    ensures is_step { (form : Form) → IfOk result (IsStep form) }
+fn parse_refuse(
+    alloc: Global,
+    form: Form,
+    names: &mut NameCache,
+    fields: &str,
+) -> Result<Step, LineFault>
+    ensures gives { Reads (λ read. read) result (refuse_of form fields.now) }
+    ensures is_step { IfOk result (IsStep form) }
 {
     let (caller, fields) = cut(fields)?;
     let caller = parse_caller(alloc, names, caller)?;
     let (id, code) = cut(fields)?;
     let id = parse_number(id)?;
-    let code = parse_refusal(code)?;
+    let code = parse_refusal(form, code)?;
     Ok(Step::Refuse { caller, id, code })
 }
 
@@ -163,7 +168,7 @@ pub(crate) fn parse_step(
     ensures is_step { IfOk result (IsStep form) }
 {
     match word {
-        "refuse" => parse_refuse(alloc, names, fields),
+        "refuse" => parse_refuse(alloc, form, names, fields),
         "call" => parse_call(alloc, form, names, fields),
         "poke" => parse_poke(alloc, form, names, fields),
         "status" => parse_status(alloc, names, fields),

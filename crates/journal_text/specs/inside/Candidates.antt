@@ -16,7 +16,7 @@ use Rattle.tenant_gate.specs.Table.{are_in_range}
 use Rattle.grain_storage.specs.declared.row.Row.{Row}
 use Rattle.silo_event.specs.declared.reply.Party.{Party}
 use Rattle.silo_event.specs.declared.reply.Party.TheVariants as party
-use Rattle.journal_text.specs.Form.{form_text, tells_kinds, message_in, state_in}
+use Rattle.journal_text.specs.Form.{form_text, tells_kinds, message_in, state_in, is_code}
 use Rattle.journal_text.specs.declared.form.Form.{Form}
 use Rattle.journal_text.specs.RecordedFault.{CodeAndText, code_and_text, is_recorded_fault}
 use Rattle.journal_text.specs.declared.recorded.RecordedReply.{RecordedReply}
@@ -63,11 +63,13 @@ number_of field = do
 abbrev pub mark_of : List ℕ → Option Bool
 mark_of field = if same_text field (codes "ok") then Some false else if same_text field (codes "failed") then Some true else None
 
-abbrev pub refusal_of : List ℕ → Option Refusal
-refusal_of field =
+-- 14 is told in a form that has the code
+abbrev pub refusal_of : Form → List ℕ → Option Refusal
+refusal_of form field =
     if same_text field (codes "11") then Some refusal.TooLong
     else if same_text field (codes "12") then Some refusal.TooDeep
     else if same_text field (codes "13") then Some refusal.NotWhole
+    else if same_text field (codes "14") then only_if (is_code form 14) refusal.NotHex
     else if same_text field (codes "20") then Some refusal.NotWellFormed
     else if same_text field (codes "63") then Some refusal.TooLarge
     else None
@@ -140,8 +142,8 @@ outcome_of form fields = do
 
 -- ---- steps, by the fields behind the word that a line begins with
 
-abbrev pub refuse_of : List ℕ → Option Step
-refuse_of fields = (client_of ⊗ number_of ⊗ refusal_of) fields >>= λ f. Some (step.Refuse f.0 f.1.0 f.1.1)
+abbrev pub refuse_of : Form → List ℕ → Option Step
+refuse_of form fields = (client_of ⊗ number_of ⊗ refusal_of form) fields >>= λ f. Some (step.Refuse f.0 f.1.0 f.1.1)
 
 abbrev pub call_of : Form → List ℕ → Option Step
 call_of form fields = (client_of ⊗ number_of ⊗ grain_of ⊗ message_of form) fields >>= λ f. Some (step.Call f.0 f.1.0 f.1.1.0 f.1.1.1)
@@ -172,7 +174,7 @@ tick_of field = number_of field >>= λ now. Some (step.Tick now)
 -- a step that has fields
 abbrev pub step_of : Form → List ℕ → List ℕ → Option Step
 step_of form word fields =
-    if same_text word (codes "refuse") then refuse_of fields
+    if same_text word (codes "refuse") then refuse_of form fields
     else if same_text word (codes "call") then call_of form fields
     else if same_text word (codes "poke") then poke_of form fields
     else if same_text word (codes "status") then status_of fields

@@ -1,0 +1,8 @@
+use Rattle.std.proofs.Common.{◌≡◌, ◌++◌, map, drop, string_bytes}
+use Rattle.journal_text.specs.declared.line.Line.TheVariants as line
+use Rattle.journal_text.specs.Form.{written}
+use Rattle.journal_text.specs.Text.{lines_text}
+use Rattle.journal_text.proofs.journal_writer.push_all_recorded.Given as goal
+
+abbrev pub invariant-replies : goal.invariant-replies
+invariant-replies l = string_bytes l.text ++ lines_text written (map line.Reply (drop l.reply-index l.replies)) ≡ string_bytes l.initial.text ++ lines_text written (map line.Reply l.replies)
