@@ -1,10 +1,12 @@
 //! Laws of journals and of their audit, over the definitions alone. No code runs: a law is the contract
 //! of a function that does nothing.
 
-ghost use Rattle.std.specs.Prelude.{◌≡◌};
+ghost use Rattle.std.specs.Prelude.{◌≡◌, ℕ, List};
 ghost use Rattle.journal_text.specs.Rules.{KeepsRules};
 ghost use Rattle.journal_text.specs.Text.{History, journal_text};
-ghost use Rattle.audit_model.specs.Report.{NoDifference};
+ghost use Rattle.journal_text.specs.JournalAnswers.{IsJournalText, IsMigrated};
+ghost use Rattle.audit_model.specs.Logics.{logic_of};
+ghost use Rattle.audit_model.specs.Report.{NoDifference, IsReport, TenantReport};
 
 /// No two journals that keep the rules have the same text.
 pub fn one_text()
@@ -18,4 +20,15 @@ pub fn no_difference()
     ensures { NoDifference }
 {
     audit_model::laws::no_difference();
+}
+
+/// The report of a journal, of each tenant, is that of what the journal is migrated to.
+pub fn same_report()
+    ensures { (bytes text : List ℕ) (j k : History) (reports others : List TenantReport)
+        → IsMigrated bytes text → IsJournalText bytes j → IsJournalText text k
+        → IsReport (logic_of j.kinds) j reports → IsReport (logic_of k.kinds) k others → reports ≡ others }
+{
+    journal_text::laws::migrated_is_same();
+    journal_text::laws::one_journal();
+    audit_model::laws::one_report();
 }

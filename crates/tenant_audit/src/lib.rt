@@ -26,7 +26,7 @@ mod threads;
 pub use difference::Difference;
 pub use gate::{AuditGate, FreeAuditGate};
 pub use journal_kinds::JournalKinds;
-pub use journal_text::{Journal, JournalFault, read_journal};
+pub use journal_text::{Journal, JournalFault, migrate_journal, read_journal};
 pub use plain_audit::audit_under;
 pub use report::{Report, TenantReport};
 pub use report_lines::{has_difference, report_text};
