@@ -14,6 +14,7 @@ use Rattle.request_codec.specs.Call.{Call, versioned_call, state_value}
 use Rattle.request_codec.specs.Reading.{◌>>=◌}
 use Rattle.request_codec.specs.Tree.{Tree, holds_bytes}
 use Rattle.request_codec.specs.Written.{text_spelling, spelling}
+use Rattle.silo_event.specs.Fault.{fault_code, refusal_fault}
 use Rattle.silo_event.specs.declared.step.Step.{Step}
 use Rattle.silo_event.specs.declared.step.Step.TheVariants as step
 use Rattle.journal_text.specs.declared.form.Form.{Form}
@@ -92,7 +93,7 @@ content_newest form None is = tt
 content_newest form (Some v) is = state_newest form v is
 
 step_newest : (form : Form) (s : Step) → IsStep form s → IsStep newest s
-step_newest form (step.Refuse caller id code) is = (is.0, is.1, code_newest form _ is.2)
+step_newest form (step.Refuse caller id code) is = (is.0, is.1, code_newest form (fault_code (refusal_fault code)) is.2)
 step_newest form (step.Call caller id grain message) is = (is.0, is.1, is.2, message_newest form message is.3)
 step_newest form (step.Poke failed caller id grain state) is = (is.0, is.1, is.2, state_newest form state is.3)
 step_newest form (step.Status caller id) is = is
@@ -114,7 +115,7 @@ line_newest form (line.Kind kind age) is = (refl, is.1, is.2)
 line_newest form (line.Tenant tenant limits) is = is
 line_newest form (line.Step s) is = step_newest form s is
 line_newest form (line.Reply reply) is = (is.0, outcome_newest form reply.outcome is.1)
-line_newest form (line.Row grain row) is = (is.0, is.1.0, is.1.1, content_newest form row.content is.1.2)
+line_newest form (line.Row grain row) is = (is.0, (is.1.0, is.1.1, content_newest form row.content is.1.2))
 line_newest form (line.Close steps) is = is
 
 -- ---- journals

@@ -65,7 +65,12 @@ migrated_text bytes text j moved read = record {
 }
 
 pub migrated_form : (bytes text : List ℕ) (j : History) → IsMigrated bytes text → (read : IsJournalText text j) → read.form ≡ written
-migrated_form bytes text j moved read = one_form_of text j moved.journal read (migrated_text bytes text moved.journal moved moved.read)
+migrated_form bytes text j moved read =
+    one_form_of text j moved.journal read (record {
+      form = written;
+      keeps = keeps_newest moved.read.form moved.journal moved.read.keeps;
+      text = moved.rewritten;
+    })
 
 -- what has that form already stays
 pub written_text : (bytes text : List ℕ) (j : History) → IsMigrated bytes text → (read : IsJournalText bytes j) → read.form ≡ written → text ≡ bytes

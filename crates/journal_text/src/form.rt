@@ -1,9 +1,8 @@
 //! The forms of a journal's text.
 
-ghost use Rattle.std.specs.Prelude.{◌≡◌, ◌≤◌, ℕ, ◌+◌, ◌∷◌, [], IfSome, None, length};
-ghost use Rattle.hex.specs.Hex.{encode_lower};
+ghost use Rattle.std.specs.Prelude.{◌≡◌, ◌≤◌, ℕ, ◌+◌, IfSome, None, length};
 ghost use Rattle.journal_text.specs.declared.form.Form.{Form};
-ghost use Rattle.journal_text.specs.Form.{written, form_text, tells_kinds, first_byte, is_code};
+ghost use Rattle.journal_text.specs.Form.{written, form_text, tells_kinds, is_code};
 ghost use Rattle.journal_text.specs.Text.{line_text, kinds_lines};
 ghost use Rattle.journal_text.specs.declared.line.Line.TheVariants as line;
 
@@ -55,17 +54,6 @@ impl Form {
         match self {
             Form::First => 2,
             Form::Second | Form::Third => 3,
-        }
-    }
-
-    /// The digits of a message's first byte.
-    #[tactic(auto, unfolding(hex::specs::Hex::encode_with))]
-    pub(crate) fn first_digits(self) -> &'static str
-        ensures { result.now ≡ encode_lower (first_byte self ∷ []) }
-    {
-        match self {
-            Form::First | Form::Second => "01",
-            Form::Third => "02",
         }
     }
 

@@ -196,6 +196,7 @@ fn push_journal(alloc: Global, text: &mut String, journal: &Journal) -> Result<(
     requires { string_bytes text.now ≡ [] }
     ensures { OnOk result (string_bytes text.new ≡ journal_text journal.now) }
 {
+    let steps = journal.steps();
     push_before(
         alloc,
         text,
@@ -203,10 +204,10 @@ fn push_journal(alloc: Global, text: &mut String, journal: &Journal) -> Result<(
         journal.age().millis(),
         journal.ages().list(),
         journal.tenants(),
-        journal.steps(),
+        steps,
     )?;
     push_all_recorded(alloc, text, journal.replies())?;
-    push_behind(alloc, text, journal.rows(), journal.steps().len())
+    push_behind(alloc, text, journal.rows(), steps.len())
 }
 
 /// The text of a journal.

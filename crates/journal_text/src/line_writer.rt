@@ -1,19 +1,21 @@
 //! The lines of a journal, put at the end of a text.
 
-ghost use Rattle.std.specs.Prelude.{◌≡◌, ◌++◌, ◌∷◌, [], List, codes, decimal, Ok, Err, OnOk, string_bytes};
+ghost use Rattle.std.specs.Prelude.{◌≡◌, ◌++◌, ◌∷◌, [], List, codes, decimal, Ok, Err, IfOk, OnOk, string_bytes};
 ghost use Rattle.grain_id.specs.Names.{client_text, grain_text};
 ghost use Rattle.silo_event.specs.declared.step.Step.TheVariants as step;
 ghost use Rattle.journal_text.specs.declared.line.Line.TheVariants as line;
-ghost use Rattle.journal_text.specs.declared.form.Form.{Form};
-ghost use Rattle.journal_text.specs.Form.{newest, first_byte, message_bytes};
+ghost use Rattle.journal_text.specs.Form.{newest};
+ghost use Rattle.hex.specs.Hex.{encode_lower};
+ghost use Rattle.request_codec.specs.Written.{old_spelling};
 ghost use Rattle.journal_text.specs.RecordedFault.{code_and_text};
-ghost use Rattle.journal_text.specs.Text.{◌␣◌, mark_text, state_text, recipient_text, outcome_text, step_text, line_text};
+ghost use Rattle.journal_text.specs.Text.{◌␣◌, mark_text, message_text, state_text, recipient_text, outcome_text, step_text, line_text};
 
 use crate::form::Form;
 use crate::line::Line;
 use crate::recorded::RecordedReply;
 use grain_id::{Caller, GrainId, Kind, Tenant};
 use grain_storage::Row;
+use request_codec::limits::OLD_VERSION;
 use request_codec::{Message, StateBytes};
 use silo_event::{Party, Refusal, Step};
 use std::alloc::{AllocError, Global};
@@ -37,13 +39,23 @@ fn push_refuse(text: &mut String, caller: &Caller, id: u64, code: Refusal) -> Re
     write!(text, "refuse {caller} {id} {code}\n")
 }
 
-/// The bytes of a message behind the first one, which are the same in each form.
-fn behind_first(message: &Message) -> &[u8]
-    ensures { (form : Form) → message_bytes form message.now ≡ first_byte form ∷ result.now }
+/// The digits of a message's bytes as they were in the form before, which has another first byte.
+fn old_digits(alloc: Global, message: &Message) -> Result<String, AllocError>
+    ensures { IfOk result (λ digits. string_bytes digits ≡ encode_lower (old_spelling message.now)) }
 {
-    match message.bytes() {
-        [_, behind @ ..] => behind,
-        [] => unreachable!(),
+    let mut bytes = Vec::from_slice(alloc, message.bytes())?;
+    bytes[0] = OLD_VERSION;
+    let digits = hex::encode(alloc, bytes.as_slice())?;
+    Ok(digits)
+}
+
+/// The digits of a message's bytes in that form.
+fn message_digits(alloc: Global, form: Form, message: &Message) -> Result<String, AllocError>
+    ensures { IfOk result (λ digits. string_bytes digits ≡ message_text form message.now) }
+{
+    match form {
+        Form::First | Form::Second => old_digits(alloc, message),
+        Form::Third => hex::encode(alloc, message.bytes()),
     }
 }
 
@@ -61,9 +73,8 @@ fn push_call(
 {
     let caller = caller.text();
     let grain = grain.text();
-    let first = form.first_digits();
-    let behind = hex::encode(alloc, behind_first(message))?;
-    write!(text, "call {caller} {id} {grain} {first}{behind}\n")
+    let message = message_digits(alloc, form, message)?;
+    write!(text, "call {caller} {id} {grain} {message}\n")
 }
 
 fn push_poke(
