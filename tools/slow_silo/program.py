@@ -136,20 +136,24 @@ def run_steps(given: dict, words: list[str], data: bytes, written: list[bytes]) 
         raise Ended(BROKEN, "silo: too much input") from error
 
 
-def run_answer(given: dict, words: list[str], data: Union[bytes, Iterable[bytes]], files: dict, written: list[bytes]) -> None:
-    pieces = [data] if isinstance(data, bytes) else data
+def run_answer(given: dict, words: list[str], data: bytes, files: dict, written: list[bytes]) -> None:
     if not words:
         raise Ended(BAD_WORDS)
     silo = Silo(Setup(tenants_of(words), int(given.get("--age", DEFAULT_AGE))))
     if "--journal" in given:
         files[given["--journal"]] = journal_text(journal_of(silo))
     try:
-        answer_lines(silo, pieces, int(given.get("--sends", DEFAULT_SENDS)), written.append)
+        answer_lines(silo, pieces_of(data), int(given.get("--sends", DEFAULT_SENDS)), written.append)
     except lines.TooMuchInput as error:
         raise Ended(BROKEN, "silo: too much input") from error
     finally:
         if "--journal" in given:
             files[given["--journal"]] = journal_text(journal_of(silo))
+
+
+def pieces_of(data: Union[bytes, Iterable[bytes]]) -> Iterable[bytes]:
+    """An input that is there whole, or that comes in pieces."""
+    return [data] if isinstance(data, bytes) else data
 
 
 def written_lines(texts: Iterable[str]) -> bytes:
