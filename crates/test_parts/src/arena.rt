@@ -9,7 +9,7 @@ use request_codec::StateBytes;
 use std::alloc::{AllocError, Global};
 use std::test::Fail;
 use turn_arena::{
-    ArenaFault, Node, decode_in, encode_node, list_in, map_in, node_in, put_in, text_in,
+    ArenaFault, Node, bytes_in, decode_in, encode_node, list_in, map_in, node_in, put_in, text_in,
 };
 
 fn wanted(is_read: bool) -> Option<ArenaFault> {
@@ -73,11 +73,12 @@ fn written(alloc: Global, bump: &Bump, bytes: &[u8]) -> Result<StateBytes, Fail>
     Ok(encode_node(alloc, node)?)
 }
 
-/// The states of `EACH_FORM_JSON`, of `[1,"x"]` and of `{"a":null}`.
-static WRITTEN: [&[u8]; 3] = [
+/// The states of `EACH_FORM_JSON`, of `[1,"x"]`, of `{"a":null}` and of two bytes.
+static WRITTEN: [&[u8]; 4] = [
     EACH_FORM,
     b"\x05\0\0\0\x02\x03\0\0\0\0\0\0\0\x01\x04\0\0\0\x01x",
     b"\x06\0\0\0\x01\0\0\0\x01a\0",
+    b"\x07\0\0\0\x02\0\xff",
 ];
 
 /// The bytes are written as they were read.
@@ -134,4 +135,23 @@ fn is_list(node: Node<'_>) -> bool {
 fn nodes_are_made(rt: HostRuntime) -> Result<(), Fail> {
     let bump = Bump::new(rt.alloc());
     same(is_list(list_of(&bump)?), true)
+}
+
+/// Two bytes.
+fn two_bytes<'a>(bump: &'a Bump) -> Result<Node<'a>, AllocError> {
+    bytes_in(bump, b"\0\xff")
+}
+
+/// Whether a node is those bytes.
+fn are_two_bytes(node: Node<'_>) -> bool {
+    match node {
+        Node::Bytes(bytes) => bytes == b"\0\xff",
+        _ => false,
+    }
+}
+
+#[test]
+fn bytes_are_nodes(rt: HostRuntime) -> Result<(), Fail> {
+    let bump = Bump::new(rt.alloc());
+    same(are_two_bytes(two_bytes(&bump)?), true)
 }

@@ -5,7 +5,7 @@ use crate::spelled::{ADD, EACH_FORM, EACH_FORM_JSON, MESSAGES, STATES, joined};
 use crate::values::{message, parsed, read_state, state};
 use request_codec::{
     CodecFault, Datum, Message, SharedState, StateBytes, decode, decode_message, decode_state,
-    encode, encode_json, from_json, to_json,
+    encode, encode_json, from_json, migrate_message, read_old_state, to_json,
 };
 use serde_json::Value;
 use std::alloc::Global;
@@ -98,18 +98,23 @@ fn a_message_has_65_536_bytes_at_most(rt: HostRuntime) -> Result<(), Fail> {
 /// Bytes of a message, its method and its argument.
 type Call = (&'static [u8], &'static str, &'static str);
 
-static CALLS: [Call; 4] = [
-    (b"\x01\0\0\0\x03get\0", "get", "null"),
+static CALLS: [Call; 5] = [
+    (b"\x02\0\0\0\x03get\0", "get", "null"),
     (ADD, "add", "{\"by\":3}"),
     (
-        b"\x01\0\0\0\x01a\x06\0\0\0\x02\0\0\0\x01a\0\0\0\0\x01b\0",
+        b"\x02\0\0\0\x01a\x06\0\0\0\x02\0\0\0\x01a\0\0\0\0\x01b\0",
         "a",
         "{\"a\":null,\"b\":null}",
     ),
     (
-        b"\x01\0\0\0\x03add\x06\0\0\0\x02\0\0\0\x01a\x05\0\0\0\x05\0\x02\x01\x03\xff\xff\xff\xff\xff\xff\xff\xfe\x04\0\0\0\x02hi\0\0\0\x01b\x06\0\0\0\0",
+        b"\x02\0\0\0\x03add\x06\0\0\0\x02\0\0\0\x01a\x05\0\0\0\x05\0\x02\x01\x03\xff\xff\xff\xff\xff\xff\xff\xfe\x04\0\0\0\x02hi\0\0\0\x01b\x06\0\0\0\0",
         "add",
         EACH_FORM_JSON,
+    ),
+    (
+        b"\x02\0\0\0\x01a\x07\0\0\0\x02\0\xff",
+        "a",
+        "{\"$hex\":\"00ff\"}",
     ),
 ];
 
@@ -248,8 +253,32 @@ fn numbers_are_states(rt: HostRuntime) -> Result<(), Fail> {
 
 const NOT_WHOLE: Option<CodecFault> = Some(CodecFault::NotWhole);
 
+const NOT_HEX: Option<CodecFault> = Some(CodecFault::NotHex);
+
 /// JSON, and its fault.
-static JSON_FAULTS: [(&str, Option<CodecFault>); 11] = [
+static JSON_FAULTS: [(&str, Option<CodecFault>); 23] = [
+    ("{\"$hex\":\"0F\"}", NOT_HEX),
+    ("{\"$hex\":\"0\"}", NOT_HEX),
+    ("{\"$hex\":null}", NOT_HEX),
+    // Nothing in it is looked at.
+    ("{\"$hex\":1.5}", NOT_HEX),
+    ("{\"$hex\":{\"$hex\":\"00\"}}", NOT_HEX),
+    // A number comes first, wherever it stands.
+    ("[{\"$hex\":\"0F\"},1.5]", NOT_WHOLE),
+    ("[1.5,{\"$hex\":\"0F\"}]", NOT_WHOLE),
+    // Beside another member it is a name as any other.
+    ("{\"$hex\":\"0F\",\"x\":1}", None),
+    ("{\"$hex\":1.5,\"x\":1}", NOT_WHOLE),
+    ("{\"$hex\":\"\"}", None),
+    // At level 32, and at level 33.
+    (
+        "[[[[[[[[[[[[[[[[[[[[[[[[[[[[[[[{\"$hex\":[[\"00\"]]}]]]]]]]]]]]]]]]]]]]]]]]]]]]]]]]",
+        NOT_HEX,
+    ),
+    (
+        "[[[[[[[[[[[[[[[[[[[[[[[[[[[[[[[[{\"$hex\":\"00\"}]]]]]]]]]]]]]]]]]]]]]]]]]]]]]]]]",
+        Some(CodecFault::TooDeep),
+    ),
     ("1.5", NOT_WHOLE),
     ("-0", NOT_WHOLE),
     ("9223372036854775808", NOT_WHOLE),
@@ -290,6 +319,81 @@ fn whole_numbers_of_32_levels_are_converted_alone(rt: HostRuntime) -> Result<(),
         let found = has_fault(rt.alloc(), &json, *fault);
         drop(json);
         found?;
+    }
+    Ok(())
+}
+
+/// Bytes of a message of the form before, and those of now.
+static MIGRATED: [(&[u8], &[u8]); 3] = [
+    (b"\x01\0\0\0\x03get\0", b"\x02\0\0\0\x03get\0"),
+    (
+        b"\x01\0\0\0\x01a\x05\0\0\0\x01\x04\0\0\0\x01x",
+        b"\x02\0\0\0\x01a\x05\0\0\0\x01\x04\0\0\0\x01x",
+    ),
+    // A map whose one name is the name of bytes in JSON stays a map.
+    (
+        b"\x01\0\0\0\x01a\x06\0\0\0\x01\0\0\0\x04$hex\x04\0\0\0\x0200",
+        b"\x02\0\0\0\x01a\x06\0\0\0\x01\0\0\0\x04$hex\x04\0\0\0\x0200",
+    ),
+];
+
+/// Bytes that are no message of the form before.
+static NOT_OLD: [&[u8]; 6] = [
+    b"",
+    b"\x01\0\0\0\x03get",
+    b"\x01\0\0\0\x03get\0\0",
+    b"\x02\0\0\0\x03get\0",
+    b"\x01\0\0\0\x01a\x07\0\0\0\0",
+    b"\x01\0\0\0\x01a\x05\0\0\0\x02\0\x07\0\0\0\x01x",
+];
+
+fn migrated(alloc: Global, old: &[u8]) -> Result<Message, Fail> {
+    Ok(migrate_message(alloc, old)?)
+}
+
+fn migrating_fault(alloc: Global, bytes: &[u8]) -> Option<CodecFault> {
+    migrate_message(alloc, bytes).err()
+}
+
+/// The old bytes are the message of the new ones.
+fn is_migrated(alloc: Global, old: &[u8], new: &[u8]) -> Result<(), Fail> {
+    let message = migrated(alloc, old)?;
+    let found = same(message.bytes(), new);
+    drop(message);
+    found
+}
+
+#[test]
+fn messages_of_the_form_before_are_migrated(rt: HostRuntime) -> Result<(), Fail> {
+    for (old, new) in &MIGRATED {
+        is_migrated(rt.alloc(), *old, *new)?;
+    }
+    for bytes in &NOT_OLD {
+        same(migrating_fault(rt.alloc(), *bytes), wanted(false))?;
+    }
+    Ok(())
+}
+
+/// Bytes, and whether they are a state in which no bytes stand.
+static OLD_STATES: [(&[u8], bool); 5] = [
+    (EACH_FORM, true),
+    (b"\x02", true),
+    (b"\x08", false),
+    (b"\x07\0\0\0\0", false),
+    (
+        b"\x06\0\0\0\x01\0\0\0\x01a\x05\0\0\0\x01\x07\0\0\0\x01x",
+        false,
+    ),
+];
+
+fn old_state_fault(alloc: Global, bytes: &[u8]) -> Option<CodecFault> {
+    read_old_state(alloc, bytes).err()
+}
+
+#[test]
+fn states_of_before_hold_no_bytes(rt: HostRuntime) -> Result<(), Fail> {
+    for (bytes, is_read) in &OLD_STATES {
+        same(old_state_fault(rt.alloc(), *bytes), wanted(*is_read))?;
     }
     Ok(())
 }

@@ -14,11 +14,12 @@ use std::test::Fail;
 const RED_A: &str = "counter/red:a";
 
 /// Codes, and what the fault of each says.
-static FAULTS: [(u8, &str); 19] = [
+static FAULTS: [(u8, &str); 20] = [
     (10, "line is not a request"),
     (11, "line is too long"),
     (12, "arguments are too deep"),
     (13, "number is not a whole number of 64 bits"),
+    (14, "bytes are not well formed"),
     (20, "grain name is not well formed"),
     (21, "tenant red is unknown"),
     (22, "kind clock is unknown"),
@@ -78,6 +79,7 @@ fn fault(alloc: Global, code: u8) -> Result<Fault, Fail> {
         11 => Ok(Fault::TooLong),
         12 => Ok(Fault::TooDeep),
         13 => Ok(Fault::NotWhole),
+        14 => Ok(Fault::NotHex),
         20 => Ok(Fault::NotWellFormed),
         53 => Ok(Fault::StorageFailed),
         60 => Ok(Fault::UnknownMethod),
@@ -146,10 +148,11 @@ fn moment(now: u64) -> Option<u64> {
     }
 }
 
-static REFUSALS: [(Refusal, u8); 5] = [
+static REFUSALS: [(Refusal, u8); 6] = [
     (Refusal::TooLong, 11),
     (Refusal::TooDeep, 12),
     (Refusal::NotWhole, 13),
+    (Refusal::NotHex, 14),
     (Refusal::NotWellFormed, 20),
     (Refusal::TooLarge, 63),
 ];

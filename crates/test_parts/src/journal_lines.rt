@@ -26,7 +26,13 @@ const NEXT_KIND: Place = ("silo-journal 2\nkinds 1\nage 1\nkind sheet 5\n", 4);
 /// Among the steps, the replies or the rows.
 const BODY: Place = ("silo-journal 1\nage 1\ntenant red 1 1\n", 3);
 
-static LINES: [(Place, &str); 39] = [
+/// The same in the second form.
+const SECOND: Place = ("silo-journal 2\nkinds 2\nage 1\ntenant red 1 1\n", 4);
+
+/// The same in the third form.
+const THIRD: Place = ("silo-journal 3\nkinds 2\nage 1\ntenant red 1 1\n", 4);
+
+static LINES: [(Place, &str); 50] = [
     (HEAD, "silo-journal 1"),
     (HEAD, "silo-journal 2"),
     (KINDS, "kinds 1"),
@@ -72,9 +78,28 @@ static LINES: [(Place, &str); 39] = [
     (BODY, "row counter/red:a 18446744073709551615 -"),
     (BODY, "tenant blue 1 1"),
     (BODY, "tick 9223372036854775807"),
+    (HEAD, "silo-journal 3"),
+    (BODY, "call red/c1 1 counter/red:a 01000000016100"),
+    (SECOND, "call red/c1 1 counter/red:a 01000000016100"),
+    (THIRD, "call red/c1 1 counter/red:a 02000000016100"),
+    // A map whose one name is the name of bytes in JSON.
+    (
+        SECOND,
+        "row counter/red:a 1 0600000001000000042468657804000000023030",
+    ),
+    // What the third form has alone: 14, and bytes among values.
+    (THIRD, "refuse red/c1 1 14"),
+    (THIRD, "reply red/c1 1 no 14 bytes are not well formed"),
+    (
+        THIRD,
+        "call red/c1 1 counter/red:a 020000000161070000000200ff",
+    ),
+    (THIRD, "poke red/c1 1 sheet/red:s ok 0700000000"),
+    (THIRD, "reply red/c1 1 ok 070000000200ff"),
+    (THIRD, "row counter/red:a 1 05000000010700000000"),
 ];
 
-static REFUSED: [(Place, &str); 52] = [
+static REFUSED: [(Place, &str); 72] = [
     (HEAD, ""),
     (HEAD, "silo-journal 4"),
     (HEAD, "silo-journal 0"),
@@ -136,6 +161,28 @@ static REFUSED: [(Place, &str); 52] = [
     (BODY, "row counter/red:a 18446744073709551616 00"),
     (BODY, "row counter/red:a 1 "),
     (BODY, "close"),
+    (HEAD, "silo-journal 03"),
+    // A message of another form.
+    (BODY, "call red/c1 1 counter/red:a 02000000016100"),
+    (SECOND, "call red/c1 1 counter/red:a 02000000016100"),
+    (THIRD, "call red/c1 1 counter/red:a 01000000016100"),
+    (THIRD, "call red/c1 1 counter/red:a 03000000016100"),
+    // What the third form has alone.
+    (BODY, "refuse red/c1 1 14"),
+    (SECOND, "refuse red/c1 1 14"),
+    (BODY, "reply red/c1 1 no 14 bytes are not well formed"),
+    (SECOND, "reply red/c1 1 no 14 bytes are not well formed"),
+    (BODY, "call red/c1 1 counter/red:a 0100000001610700000000"),
+    (SECOND, "call red/c1 1 counter/red:a 0100000001610700000000"),
+    (BODY, "poke red/c1 1 sheet/red:s ok 0700000000"),
+    (SECOND, "poke red/c1 1 sheet/red:s ok 05000000010700000000"),
+    (BODY, "reply red/c1 1 ok 070000000200ff"),
+    (SECOND, "reply red/c1 1 ok 070000000200ff"),
+    (BODY, "row counter/red:a 1 05000000010700000000"),
+    (SECOND, "row counter/red:a 1 0700000000"),
+    (THIRD, "refuse red/c1 1 15"),
+    (THIRD, "reply red/c1 1 no 15 x"),
+    (THIRD, "row counter/red:a 1 0700000001"),
 ];
 
 /// A journal that has this line at its place and ends behind it.

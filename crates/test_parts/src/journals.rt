@@ -10,23 +10,23 @@ use std::alloc::{AllocError, Global};
 use std::test::Fail;
 
 /// The journal of one tenant whose counter is asked to add 3.
-const WORKED: &str =
+pub const WORKED: &str =
     "silo-journal 1\nage 900000\ntenant red 2 4\ncall red/c1 1 counter/red:a 01000000036164640600000001000000026279030000000000000003\nactivate counter/red:a\nload counter/red:a ok\nbegin counter/red:a\nend counter/red:a 1\nreply red/c1 1 ok 030000000000000003\nclose 5\n";
 
-/// The same in the second form, as a silo writes it whose grains may rest and stay.
+/// The same in the third form, as a silo writes it whose grains may rest and stay.
 const SERVED: &str =
-    "silo-journal 2\nkinds 2\nage 900000\ntenant red 2 4\ncall red/c1 1 counter/red:a 01000000036164640600000001000000026279030000000000000003\nactivate counter/red:a\nload counter/red:a ok\nbegin counter/red:a\nend counter/red:a 1\nreply red/c1 1 ok 030000000000000003\nclose 5\n";
+    "silo-journal 3\nkinds 2\nage 900000\ntenant red 2 4\ncall red/c1 1 counter/red:a 02000000036164640600000001000000026279030000000000000003\nactivate counter/red:a\nload counter/red:a ok\nbegin counter/red:a\nend counter/red:a 1\nreply red/c1 1 ok 030000000000000003\nclose 5\n";
 
 /// A journal whose one reply tells a fault.
 const FAULT: &str =
     "silo-journal 1\nage 1\ntenant red 1 1\nstatus blue/c1 1\nreply blue/c1 1 no 21 tenant blue is unknown\nrow counter/red:a 7 -\nclose 1\n";
 
 /// A journal with a line of each kind.
-const EACH_KIND: &str =
+pub const EACH_KIND: &str =
     "silo-journal 1\nage 86400000\ntenant red 2 4\ntenant blue-2 10000 1000\nrefuse red/c1 0 13\ncall red/c1 1 counter/red:a 01000000036164640600000001000000026279030000000000000003\npoke red/c1 2 sheet/red:s ok 0600000000\nstatus green/c 3\nactivate counter/red:a\nload counter/red:a failed\nbegin counter/red:a\nstore counter/red:a 1 ok\nend counter/red:a 1\nabandon counter/red:a 2\ndeliver relay/red:r\ntick 9223372036854775807\nsweep\nreply red/c1 1 ok 030000000000000003\nreply green/c 3 no 21 tenant green is unknown\nreply relay/red:r - no 22 kind x is unknown\nrow counter/red:a 18446744073709551615 00\nrow sheet/red:s 1 -\nclose 13\n";
 
 /// A journal of the second form, in which two kinds have an age of their own.
-const SECOND: &str =
+pub const SECOND: &str =
     "silo-journal 2\nkinds 2\nage 900000\nkind counter 10\nkind sheet 86400000\ntenant red 2 4\ntick 7\nclose 1\n";
 
 /// The line at fault in bytes, or 0 for a journal.
@@ -102,12 +102,14 @@ fn list_of(alloc: Global, reply: Reply) -> Result<Vec<Reply>, Fail> {
     Ok(replies)
 }
 
-/// The text of the second form of a journal of the first one.
-fn in_second_form(alloc: Global, text: &str) -> Result<String, Fail> {
-    Ok(text.replace(alloc, "silo-journal 1\n", "silo-journal 2\nkinds 1\n")?)
+/// The text of the third form of a journal of an older one, in which each message is the last field of its line.
+pub fn in_third_form(alloc: Global, text: &str) -> Result<String, Fail> {
+    let first = text.replace(alloc, "silo-journal 1\n", "silo-journal 3\nkinds 1\n")?;
+    let second = first.replace(alloc, "silo-journal 2\n", "silo-journal 3\n")?;
+    Ok(second.replace(alloc, " 01000000", " 02000000")?)
 }
 
-/// The last reply of a text's journal tells this, and the journal is written in the second form, if that reply is given
+/// The last reply of a text's journal tells this, and the journal is written in the third form, if that reply is given
 /// again.
 fn is_written(
     alloc: Global,
@@ -116,7 +118,7 @@ fn is_written(
     told: (&str, (usize, &str)),
 ) -> Result<(), Fail> {
     let replies = list_of(alloc, reply)?;
-    let wanted = in_second_form(alloc, text)?;
+    let wanted = in_third_form(alloc, text)?;
     is_text(alloc, &journal(alloc, text)?, &replies, &wanted, told)
 }
 
@@ -168,7 +170,7 @@ fn a_cut_is_at_the_first_line_that_is_not_whole(rt: HostRuntime) -> Result<(), F
 }
 
 /// A part of the worked journal, what stands in its place, and the line at fault.
-static CHANGES: [(&str, &str, usize); 18] = [
+static CHANGES: [(&str, &str, usize); 20] = [
     ("tenant red 2 4", "tenant red 02 4", 3),
     ("030000000000000003\na", "03000000000000000A\na", 4),
     (
@@ -178,6 +180,8 @@ static CHANGES: [(&str, &str, usize); 18] = [
     ),
     ("close 5", "close 6", 10),
     ("silo-journal 1", "silo-journal 2", 2),
+    ("silo-journal 1\n", "silo-journal 3\nkinds 1\n", 5),
+    (" 01000000", " 02000000", 4),
     ("silo-journal 1", "silo-journal 4", 1),
     ("age 900000", "age 0", 2),
     ("tenant red 2 4\n", "", 3),
@@ -250,7 +254,8 @@ fn a_journal_of_the_second_form_tells_its_kinds(rt: HostRuntime) -> Result<(), F
     )?;
     same(read.tenants().len(), 1)?;
     let again = written(rt.alloc(), &read, &[])?;
-    same(again.as_slice() == SECOND.as_bytes(), true)?;
+    let wanted = in_third_form(rt.alloc(), SECOND)?;
+    same(again.as_slice() == wanted.as_bytes(), true)?;
     let first = journal(rt.alloc(), WORKED)?;
     same((first.kinds(), first.ages().list().len()), (1, 0))?;
     for (old, new, line) in &SECOND_CHANGES {

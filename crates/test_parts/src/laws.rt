@@ -13,4 +13,6 @@ fn the_laws_are_stated() {
     journal_text::laws::one_text();
     journal_text::laws::one_journal();
     journal_text::laws::one_first_fault();
+    journal_text::laws::migrated_is_same();
+    journal_text::laws::written_stays();
 }

@@ -33,6 +33,8 @@ mod laws;
 #[cfg(test)]
 mod mailbox;
 #[cfg(test)]
+mod migrated_journals;
+#[cfg(test)]
 mod names;
 #[cfg(test)]
 mod resting;

@@ -7,7 +7,7 @@ use std::test::Fail;
 pub type Parts = &'static [(&'static [u8], u32)];
 
 /// The version, and the method `a`.
-const A: &[u8] = b"\x01\0\0\0\x01a";
+const A: &[u8] = b"\x02\0\0\0\x01a";
 
 /// The start of a list of one value.
 const LIST: &[u8] = b"\x05\0\0\0\x01";
@@ -15,7 +15,7 @@ const LIST: &[u8] = b"\x05\0\0\0\x01";
 const EMPTY_LIST: &[u8] = b"\x05\0\0\0\0";
 
 /// The message of `add` with `{"by":3}`.
-pub const ADD: &[u8] = b"\x01\0\0\0\x03add\x06\0\0\0\x01\0\0\0\x02by\x03\0\0\0\0\0\0\0\x03";
+pub const ADD: &[u8] = b"\x02\0\0\0\x03add\x06\0\0\0\x01\0\0\0\x02by\x03\0\0\0\0\0\0\0\x03";
 
 /// The state of `EACH_FORM_JSON`.
 pub const EACH_FORM: &[u8] =
@@ -25,22 +25,23 @@ pub const EACH_FORM: &[u8] =
 pub const EACH_FORM_JSON: &str = "{\"a\":[null,true,false,-2,\"hi\"],\"b\":{}}";
 
 /// A count of values above what is left.
-pub const MANY_VALUES: &[u8] = b"\x01\0\0\0\x01a\x05\xff\xff\xff\xff";
+pub const MANY_VALUES: &[u8] = b"\x02\0\0\0\x01a\x05\xff\xff\xff\xff";
 
 /// A count of fields above what is left.
 pub const MANY_FIELDS: &[u8] = b"\x06\xff\xff\xff\xff";
 
 /// Bytes, and whether they are a message.
-pub static MESSAGES: [(Parts, bool); 17] = [
+pub static MESSAGES: [(Parts, bool); 26] = [
     (&[(ADD, 1)], true),
-    (&[(b"\x01\0\0\0\x03add", 1), (EACH_FORM, 1)], true),
+    (&[(b"\x02\0\0\0\x03add", 1), (EACH_FORM, 1)], true),
     // A part of a message, and one byte more.
     (&[], false),
-    (&[(b"\x01\0\0\0\x03add", 1)], false),
+    (&[(b"\x02\0\0\0\x03add", 1)], false),
     (&[(ADD, 1), (b"\0", 1)], false),
     // Another version.
     (&[(b"\0\0\0\0\x01a\0", 1)], false),
-    (&[(b"\x02\0\0\0\x01a\0", 1)], false),
+    (&[(b"\x01\0\0\0\x01a\0", 1)], false),
+    (&[(b"\x03\0\0\0\x01a\0", 1)], false),
     // Names out of order.
     (
         &[(A, 1), (b"\x06\0\0\0\x02\0\0\0\x01b\0\0\0\0\x01a\0", 1)],
@@ -66,10 +67,21 @@ pub static MESSAGES: [(Parts, bool); 17] = [
     // 65,536 bytes, and one more.
     (&[(A, 1), (b"\x04\0\0\xff\xf5", 1), (b"x", 65_525)], true),
     (&[(A, 1), (b"\x04\0\0\xff\xf6", 1), (b"x", 65_526)], false),
+    // Bytes, no bytes, a count above what is left, and no value.
+    (&[(A, 1), (b"\x07\0\0\0\x02\0\xff", 1)], true),
+    (&[(A, 1), (b"\x07\0\0\0\0", 1)], true),
+    (&[(A, 1), (b"\x07\0\0\0\x02\0", 1)], false),
+    (&[(A, 1), (b"\x08\0\0\0\0", 1)], false),
+    // Bytes at level 32, and at level 33.
+    (&[(A, 1), (LIST, 31), (b"\x07\0\0\0\0", 1)], true),
+    (&[(A, 1), (LIST, 32), (b"\x07\0\0\0\0", 1)], false),
+    // 65,536 bytes, and one more.
+    (&[(A, 1), (b"\x07\0\0\xff\xf5", 1), (b"x", 65_525)], true),
+    (&[(A, 1), (b"\x07\0\0\xff\xf6", 1), (b"x", 65_526)], false),
 ];
 
 /// Bytes, and whether they are a state.
-pub static STATES: [(Parts, bool); 14] = [
+pub static STATES: [(Parts, bool); 19] = [
     (&[(EACH_FORM, 1)], true),
     (&[(b"\x02", 1)], true),
     // Many values, which an arena takes in several pieces.
@@ -88,6 +100,13 @@ pub static STATES: [(Parts, bool); 14] = [
     // 262,144 bytes, and one more.
     (&[(b"\x04\0\x03\xff\xfb", 1), (b"x", 262_139)], true),
     (&[(b"\x04\0\x03\xff\xfc", 1), (b"x", 262_140)], false),
+    // Bytes that are no text, a count above what is left, and no value.
+    (&[(b"\x07\0\0\0\x02\xc0\x80", 1)], true),
+    (&[(b"\x07\0\0\0\x01", 1)], false),
+    (&[(b"\x08\0\0\0\0", 1)], false),
+    // 262,144 bytes, and one more.
+    (&[(b"\x07\0\x03\xff\xfb", 1), (b"x", 262_139)], true),
+    (&[(b"\x07\0\x03\xff\xfc", 1), (b"x", 262_140)], false),
 ];
 
 /// The parts, one after another.
