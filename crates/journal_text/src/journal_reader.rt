@@ -251,7 +251,8 @@ fn read_parts(
     }
 }
 
-/// The journal whose text these bytes are. Takes time that grows with the number of the bytes.
+/// The journal whose text these bytes are, in any form; messages of the form before become messages of now.
+/// Takes time that grows with the number of the bytes.
 ///
 /// # Errors
 ///

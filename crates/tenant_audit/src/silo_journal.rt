@@ -13,9 +13,9 @@ use journal_text::{JournalParts, journal_of_parts};
 use silo_core::Silo;
 use std::alloc::{AllocError, Global};
 
-/// The text of the journal of a silo that opened with no rows: the number of its grains' logic, its age,
-/// the ages that kinds have of their own, its tenants with their limits, the steps that it took, its
-/// replies, and the rows that it holds.
+/// The text, in the newest form, of the journal of a silo that opened with no rows: the number of its
+/// grains' logic, its age, the ages that kinds have of their own, its tenants with their limits, the steps
+/// that it took, its replies, and the rows that it holds.
 ///
 /// # Errors
 ///
