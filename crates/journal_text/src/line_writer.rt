@@ -6,7 +6,7 @@ ghost use Rattle.silo_event.specs.declared.step.Step.TheVariants as step;
 ghost use Rattle.journal_text.specs.declared.line.Line.TheVariants as line;
 ghost use Rattle.journal_text.specs.Form.{newest};
 ghost use Rattle.hex.specs.Hex.{encode_lower};
-ghost use Rattle.request_codec.specs.Written.{old_spelling};
+ghost use Rattle.request_codec.specs.Written.{old_spelling, text_spelling, spelling};
 ghost use Rattle.journal_text.specs.RecordedFault.{code_and_text};
 ghost use Rattle.journal_text.specs.Text.{◌␣◌, mark_text, message_text, state_text, recipient_text, outcome_text, step_text, line_text};
 
@@ -39,14 +39,24 @@ fn push_refuse(text: &mut String, caller: &Caller, id: u64, code: Refusal) -> Re
     write!(text, "refuse {caller} {id} {code}\n")
 }
 
+/// The bytes of a message behind the first one, which are the same in each form.
+fn behind_first(message: &Message) -> &[u8]
+    ensures { result.now ≡ text_spelling message.now.method ++ spelling message.now.argument }
+{
+    match message.bytes().split_first() {
+        Some((_, behind)) => behind,
+        None => unreachable!(),
+    }
+}
+
 /// The digits of a message's bytes as they were in the form before, which has another first byte.
 fn old_digits(alloc: Global, message: &Message) -> Result<String, AllocError>
     ensures { IfOk result (λ digits. string_bytes digits ≡ encode_lower (old_spelling message.now)) }
 {
-    let mut bytes = Vec::from_slice(alloc, message.bytes())?;
-    bytes[0] = OLD_VERSION;
-    let digits = hex::encode(alloc, bytes.as_slice())?;
-    Ok(digits)
+    let mut bytes = Vec::new(alloc);
+    bytes.push(OLD_VERSION)?;
+    bytes.extend_from_slice(behind_first(message))?;
+    hex::encode(alloc, bytes.as_slice())
 }
 
 /// The digits of a message's bytes in that form.
