@@ -3,7 +3,7 @@
 from __future__ import annotations
 
 from random import Random
-from typing import Iterable, NamedTuple, Optional
+from typing import Iterable, NamedTuple, Optional, Union
 
 from . import codes, lines
 from .answer import DEFAULT_SENDS, MAX_SENDS, answer_lines, is_asked
@@ -166,12 +166,17 @@ def run_answer(given: dict, words: list[str], data: bytes, files: dict, written:
     if "--journal" in given:
         files[given["--journal"]] = journal_text(journal_of(silo))
     try:
-        answer_lines(silo, [data], int(given.get("--sends", DEFAULT_SENDS)), written.append)
+        answer_lines(silo, pieces_of(data), int(given.get("--sends", DEFAULT_SENDS)), written.append)
     except lines.TooMuchInput as error:
         raise Ended(BROKEN, "silo: too much input") from error
     finally:
         if "--journal" in given:
             files[given["--journal"]] = journal_text(journal_of(silo))
+
+
+def pieces_of(data: Union[bytes, Iterable[bytes]]) -> Iterable[bytes]:
+    """An input that is there whole, or that comes in pieces."""
+    return [data] if isinstance(data, bytes) else data
 
 
 def written_lines(texts: Iterable[str]) -> bytes:
@@ -222,18 +227,19 @@ def run_audit(words: list[str], files: dict) -> tuple[bytes, int]:
 
 # ---- one run
 
-def run_program(words: list[str], data: bytes = b"", files: Optional[dict] = None,
-                chance: Optional[Random] = None) -> Run:
+def run_program(words: list[str], data: Union[bytes, Iterable[bytes]] = b"", files: Optional[dict] = None,
+                chance: Optional[Random] = None, written: Optional[list[bytes]] = None) -> Run:
     """A run on this standard input; `files` are the contents of the files that there are, by their paths.
 
-    With a chance, `serve` does its steps in any order.
+    With a chance, `serve` does its steps in any order. The input of `answer` may come in pieces, and what is written goes
+    to `written`, if it is given, as each line is answered.
     """
     files = dict(files or {})
     if asks_for_help(words):
         return Run(None, b"", FINE, files)
     if words in [["--version"], ["-V"]]:
         return Run(VERSION, b"", FINE, files)
-    written: list[bytes] = []
+    written = [] if written is None else written
     status, errors = FINE, b""
     try:
         if not words or words[0] not in OPTIONS:

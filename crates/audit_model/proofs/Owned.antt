@@ -95,5 +95,6 @@ pub starts_as_recorded : StartsAsRecorded
 unfolding start_of
 starts_as_recorded = record {
   age = λ journal tenant. refl;
+  ages = λ journal tenant. refl;
   limits = λ journal tenant. refl;
 }

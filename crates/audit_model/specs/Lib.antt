@@ -1,3 +1,4 @@
+pub mod Logics
 pub mod Parts
 pub mod Difference
 pub mod Report

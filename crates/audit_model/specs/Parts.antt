@@ -17,9 +17,9 @@ use Rattle.journal_text.specs.declared.recorded.RecordedReply.{RecordedReply}
 
 -- ---- the silo of a journal
 
--- the journal's table and age, and no rows: a journal is of a silo that opened with none
+-- the journal's table and ages, and no rows: a journal is of a silo that opened with none
 abbrev pub setup_of : History → Setup
-setup_of journal = record { tenants = journal.tenants; age = journal.age; rows = map.empty }
+setup_of journal = record { tenants = journal.tenants; age = journal.age; ages = journal.ages; rows = map.empty }
 
 -- replies as a journal records them
 abbrev pub all_recorded : List Reply → List RecordedReply

@@ -88,8 +88,10 @@ pub record OwnersReported : Type 0 where
       → own_steps tenant journal ≡ [] → replies_for tenant journal ≡ [] → rows_for tenant journal ≡ []
       → is_listed (tenants_in journal) tenant ≡ false
 
--- A tenant's machine starts with the journal's age, and with the limits that the journal's table has of the tenant.
+-- A tenant's machine starts with the journal's age, with the ages that kinds have of their own there, and with the limits that
+-- the journal's table has of the tenant.
 pub record StartsAsRecorded : Type 0 where
   pub age : (journal : History) (tenant : List ℕ) → (start_of (setup_of journal) tenant).age ≡ journal.age
+  pub ages : (journal : History) (tenant : List ℕ) → (start_of (setup_of journal) tenant).ages ≡ journal.ages
   pub limits : (journal : History) (tenant : List ℕ)
       → (start_of (setup_of journal) tenant).account ≡ option_map fresh_account (limits_of journal.tenants tenant)

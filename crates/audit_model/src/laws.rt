@@ -37,8 +37,8 @@ pub fn owners_reported()
     ensures { OwnersReported }
 {}
 
-/// A tenant's machine starts with the journal's age, and with the limits that its table has of the
-/// tenant.
+/// A tenant's machine starts with the journal's age, with the ages that kinds have of their own there,
+/// and with the limits that its table has of the tenant.
 pub fn starts_as_recorded()
     ensures { StartsAsRecorded }
 {}

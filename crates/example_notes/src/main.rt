@@ -5,6 +5,7 @@ use bumpalo::Bump;
 use grain_id::{Caller, GrainId, Tenant};
 use grain_kinds::{GrainLogic, MethodFault, Plan, StoreCall, run_turn, state_of};
 use grain_storage::{GrainStorage, Row, StoreFault};
+use idle_collector::AgeTable;
 use request_codec::{Datum, StateBytes, decode_state, encode, to_json};
 use serde_json::Value;
 use silo_core::{Setup, Silo};
@@ -109,6 +110,7 @@ fn new_silo(alloc: Global) -> Result<NoteSilo, Fail> {
     let setup = Setup {
         tenants: TenantTable::new(alloc, known)?,
         age: Age::new(900_000).ok_or("no age")?,
+        ages: AgeTable::none(alloc),
         storage: FullDisk { failures: 0 },
         logic: Notes,
     };

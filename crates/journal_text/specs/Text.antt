@@ -40,10 +40,6 @@ abbrev pub history_of : ℕ → ℕ → Ages → Table → List Step → List Re
 history_of kinds age ages tenants steps replies rows =
     record { kinds = kinds; age = age; ages = ages; tenants = tenants; steps = steps; replies = replies; rows = rows }
 
--- the history of the first logic, in which no kind has an age of its own
-abbrev pub history : Table → ℕ → List Step → List RecordedReply → List (Grain × Row) → History
-history tenants age steps replies rows = history_of 1 age [] tenants steps replies rows
-
 -- one field, a space, and the fields after it
 infixr 4 ◌␣◌
 abbrev pub ◌␣◌ : List ℕ → List ℕ → List ℕ

@@ -1,6 +1,7 @@
 //! Journals as far as they are read.
 
-ghost use Rattle.std.specs.Prelude.{◌≡◌, [], None};
+ghost use Rattle.std.specs.Prelude.{◌≡◌, [], None, IfOk};
+ghost use Rattle.idle_collector.specs.Ages.{IsTable as AreAges};
 ghost use Rattle.journal_text.specs.declared.line.Line.TheVariants as line;
 ghost use Rattle.journal_text.specs.Form.{newest};
 ghost use Rattle.journal_text.specs.Rules.{KeepsRulesIn, comes_after};
@@ -13,7 +14,7 @@ use crate::line::Line;
 use crate::recorded::RecordedReply;
 use grain_id::{GrainId, Kind, Tenant};
 use grain_storage::Row;
-use idle_collector::MAX_AGES;
+use idle_collector::{AgeFault, AgeTable, MAX_AGES};
 use silo_event::Step;
 use std::alloc::{AllocError, Global};
 use std::marker::Model;
@@ -210,18 +211,33 @@ impl Draft {
     }
 
     /// The journal, if its close may stand behind what is read.
-    pub(crate) fn finish(self) -> Journal
+    pub(crate) fn finish(self, alloc: Global) -> Result<Journal, AllocError>
         requires { KeepsRulesIn newest self }
-        ensures { result ≡ self }
+        ensures { IfOk result (λ journal. journal ≡ self) }
     {
-        Journal {
+        let ages = table_of(alloc, self.ages)?;
+        Ok(Journal {
             kinds: self.kinds,
             age: self.age,
-            kind_ages: self.ages,
+            ages,
             tenants: self.tenants,
             steps: self.steps,
             replies: self.replies,
             rows: self.rows,
-        }
+        })
+    }
+}
+
+/// The table of ages that is in order already.
+fn table_of(alloc: Global, ages: Vec<(Kind, u64)>) -> Result<AgeTable, AllocError>
+    requires { AreAges ages.items }
+    ensures { IfOk result (λ table. table ≡ ages.items) }
+{
+    match AgeTable::new(alloc, ages) {
+        Ok(table) => Ok(table),
+        Err(AgeFault::Memory) => Err(AllocError),
+        Err(AgeFault::TooMany) => unreachable!(),
+        Err(AgeFault::Twice(_)) => unreachable!(),
+        Err(AgeFault::Range(_)) => unreachable!(),
     }
 }

@@ -20,7 +20,7 @@ impl Form {
     pub(crate) fn written() -> Form
         ensures { result ≡ written }
     {
-        Form::First
+        Form::Second
     }
 
     /// The form's number.

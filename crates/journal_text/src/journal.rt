@@ -1,13 +1,13 @@
 //! Journals.
 
 ghost use Rattle.std.specs.Prelude.{◌≡◌, IsTrue, None};
-ghost use Rattle.idle_collector.specs.Ages.{IsTable as AreAges};
 ghost use Rattle.journal_text.specs.Rules.{IsKinds, IsTable, are_ascending};
 ghost use Rattle.tenant_gate.specs.Age.{IsAge};
 
 use crate::recorded::RecordedReply;
-use grain_id::{GrainId, Kind, Tenant};
+use grain_id::{GrainId, Tenant};
 use grain_storage::Row;
+use idle_collector::AgeTable;
 use silo_event::Step;
 use std::marker::Model;
 use tenant_gate::{Age, Limits};
@@ -17,7 +17,7 @@ use tenant_gate::{Age, Limits};
 pub struct Journal {
     pub(crate) kinds: u8,
     pub(crate) age: Age,
-    pub(crate) kind_ages: Vec<(Kind, u64)>,
+    pub(crate) ages: AgeTable,
     pub(crate) tenants: Vec<(Tenant, Limits)>,
     pub(crate) steps: Vec<Step>,
     pub(crate) replies: Vec<RecordedReply>,
@@ -35,10 +35,10 @@ impl Model for Journal {
 
     ghost coded = { Prim.hlevel (codes, coded_tree) };
 
-    ghost view = { λ j. history_of j.kinds j.age j.kind_ages.items j.tenants.items j.steps.items j.replies.items j.rows.items };
+    ghost view = { λ j. history_of j.kinds j.age j.ages j.tenants.items j.steps.items j.replies.items j.rows.items };
 
     ghost invariant = { λ j. KeepsRulesIn newest
-        (history_of j.kinds j.age j.kind_ages.items j.tenants.items j.steps.items j.replies.items j.rows.items) };
+        (history_of j.kinds j.age j.ages j.tenants.items j.steps.items j.replies.items j.rows.items) };
 }
 
 impl Journal {
@@ -67,13 +67,11 @@ impl Journal {
         self.age
     }
 
-    /// The kinds that had an age of their own, each with it, 1 to 86,400,000 milliseconds: at most 64,
-    /// ascending.
-    pub fn ages(&self) -> &[(Kind, u64)]
-        ensures ages { result.now ≡ self.now.ages }
-        ensures are_ages { AreAges self.now.ages }
+    /// The ages of the kinds that had one of their own.
+    pub fn ages(&self) -> &AgeTable
+        ensures { result.now ≡ self.now.ages }
     {
-        self.kind_ages.as_slice()
+        &self.ages
     }
 
     /// The steps that the silo took, in order.

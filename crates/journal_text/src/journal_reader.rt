@@ -196,6 +196,7 @@ fn read_start<'a>(
 /// The journal of a draft, if its last line, which has that number, may stand there and nothing
 /// stands behind it.
 fn closed(
+    alloc: Global,
     form: Form,
     draft: Draft,
     steps: u64,
@@ -214,7 +215,7 @@ fn closed(
     if !behind.is_empty() {
         return Err(JournalFault::At { line: number + 1 });
     }
-    Ok(draft.finish())
+    Ok(draft.finish(alloc)?)
 }
 
 /// The journal whose lines behind the first ones these are.
@@ -238,7 +239,7 @@ fn read_parts(
             return Err(JournalFault::At { line: number });
         };
         match line {
-            Line::Close(steps) => return closed(form, draft, steps, behind, number),
+            Line::Close(steps) => return closed(alloc, form, draft, steps, behind, number),
             line => {
                 if !draft.add(line)? {
                     return Err(JournalFault::At { line: number });

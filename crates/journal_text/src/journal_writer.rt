@@ -4,17 +4,53 @@ ghost use Rattle.std.specs.Prelude.{◌≡◌, ◌++◌, ◌<◌, ◌^◌, ◌�
 ghost use Rattle.journal_text.specs.declared.line.Line.TheVariants as line;
 ghost use Rattle.journal_text.specs.Form.{written};
 ghost use Rattle.journal_text.specs.RecordedReply.{recorded_of};
-ghost use Rattle.journal_text.specs.Text.{line_text, lines_text, tenant_line, row_line, history, journal_text};
+ghost use Rattle.journal_text.specs.Text.{line_text, lines_text, kind_line, kinds_lines, tenant_line, row_line};
+ghost use Rattle.journal_text.specs.Text.{history_of, journal_text};
 
 use crate::form::Form;
 use crate::line_writer::{
-    push_age, push_close, push_fault, push_head, push_row, push_step, push_tenant, push_value,
+    push_age, push_close, push_fault, push_head, push_kind, push_kinds, push_row, push_step,
+    push_tenant, push_value,
 };
-use grain_id::{GrainId, Tenant};
+use grain_id::{GrainId, Kind, Tenant};
 use grain_storage::Row;
 use silo_event::{Reply, Step};
 use std::alloc::{AllocError, Global};
 use tenant_gate::Limits;
+
+/// What a journal is of: which logic its kinds have, 1 or 2; its age; the kinds that have an age of their
+/// own, each with it, ascending; both ages in milliseconds; its tenants with their limits, in order; the
+/// steps; the replies; and the rows, grains ascending.
+#[derive(Clone, Copy)]
+pub struct JournalParts<'a> {
+    pub kinds: u8,
+    pub age: u64,
+    pub ages: &'a [(Kind, u64)],
+    pub tenants: &'a [(Tenant, Limits)],
+    pub steps: &'a [Step],
+    pub replies: &'a [Reply],
+    pub rows: &'a [(GrainId, Row)],
+}
+
+/// Adds the line that tells which logic the kinds have, if the form has such a line.
+fn push_logic(form: Form, text: &mut String, kinds: u8) -> Result<(), AllocError>
+    ensures { OnOk result (string_bytes text.new ≡ string_bytes text.old ++ lines_text form (kinds_lines form kinds)) }
+{
+    if form.tells_kinds() {
+        push_kinds(text, kinds)
+    } else {
+        Ok(())
+    }
+}
+
+fn push_ages(text: &mut String, ages: &[(Kind, u64)]) -> Result<(), AllocError>
+    ensures { OnOk result (string_bytes text.new ≡ string_bytes text.old ++ lines_text written (map kind_line ages.now)) }
+{
+    'ages: for (kind, age) in ages {
+        push_kind(text, kind, *age)?;
+    }
+    Ok(())
+}
 
 fn push_tenants(text: &mut String, tenants: &[(Tenant, Limits)]) -> Result<(), AllocError>
     ensures { OnOk result (string_bytes text.new ≡ string_bytes text.old ++ lines_text written (map tenant_line tenants.now)) }
@@ -68,40 +104,35 @@ fn push_rows(alloc: Global, text: &mut String, rows: &[(GrainId, Row)]) -> Resul
 }
 
 /// Adds all lines of a journal that has these parts to a text that has none.
-fn push_parts(
-    alloc: Global,
-    text: &mut String,
-    tenants: &[(Tenant, Limits)],
-    age: u64,
-    steps: &[Step],
-    replies: &[Reply],
-    rows: &[(GrainId, Row)],
-) -> Result<(), AllocError>
+fn push_parts(alloc: Global, text: &mut String, parts: JournalParts<'_>) -> Result<(), AllocError>
     requires { string_bytes text.now ≡ [] }
-    ensures { OnOk result (string_bytes text.new
-        ≡ journal_text (history tenants.now age steps.now (map recorded_of replies.now) rows.now)) }
+    ensures { OnOk result (string_bytes text.new ≡ journal_text (history_of parts.entry.kinds parts.entry.age
+        parts.entry.ages.now parts.entry.tenants.now parts.entry.steps.now (map recorded_of parts.entry.replies.now)
+        parts.entry.rows.now)) }
 {
-    push_head(Form::written(), text)?;
-    push_age(text, age)?;
-    push_tenants(text, tenants)?;
-    push_steps(alloc, text, steps)?;
-    push_replies(alloc, text, replies)?;
-    push_rows(alloc, text, rows)?;
-    push_close(text, steps.len() as u64)
+    let form = Form::written();
+    push_head(form, text)?;
+    push_logic(form, text, parts.kinds)?;
+    push_age(text, parts.age)?;
+    push_ages(text, parts.ages)?;
+    push_tenants(text, parts.tenants)?;
+    push_steps(alloc, text, parts.steps)?;
+    push_replies(alloc, text, parts.replies)?;
+    push_rows(alloc, text, parts.rows)?;
+    push_close(text, parts.steps.len() as u64)
 }
 
 /// The text of the journal that has these parts.
-pub fn journal_of_parts(
-    alloc: Global,
-    tenants: &[(Tenant, Limits)],
-    age: u64,
-    steps: &[Step],
-    replies: &[Reply],
-    rows: &[(GrainId, Row)],
-) -> Result<Vec<u8>, AllocError>
-    ensures { IfOk result (λ text. text.items ≡ journal_text (history tenants.now age steps.now (map recorded_of replies.now) rows.now)) }
+///
+/// # Errors
+///
+/// Out of memory.
+pub fn journal_of_parts(alloc: Global, parts: JournalParts<'_>) -> Result<Vec<u8>, AllocError>
+    ensures { IfOk result (λ text. text.items ≡ journal_text (history_of parts.entry.kinds parts.entry.age
+        parts.entry.ages.now parts.entry.tenants.now parts.entry.steps.now (map recorded_of parts.entry.replies.now)
+        parts.entry.rows.now)) }
 {
     let mut text = String::new(alloc);
-    push_parts(alloc, &mut text, tenants, age, steps, replies, rows)?;
+    push_parts(alloc, &mut text, parts)?;
     Ok(text.into_bytes())
 }

@@ -24,5 +24,5 @@ mod step_reader;
 pub use fault::JournalFault;
 pub use journal::Journal;
 pub use journal_reader::read_journal;
-pub use journal_writer::journal_of_parts;
+pub use journal_writer::{JournalParts, journal_of_parts};
 pub use recorded::{RecordedFault, RecordedReply};

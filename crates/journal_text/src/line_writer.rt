@@ -180,14 +180,14 @@ pub(crate) fn push_head(form: Form, text: &mut String) -> Result<(), AllocError>
 }
 
 /// Adds the line of the logic of that number.
-fn push_kinds(text: &mut String, kinds: u8) -> Result<(), AllocError>
+pub(crate) fn push_kinds(text: &mut String, kinds: u8) -> Result<(), AllocError>
     ensures { OnOk result (string_bytes text.new ≡ string_bytes text.old ++ (line_text newest (line.Kinds kinds) ++ 10 ∷ [])) }
 {
     push_number(text, "kinds", u64::from(kinds))
 }
 
 /// Adds the line of a kind with an age of so many milliseconds.
-fn push_kind(text: &mut String, kind: &Kind, age: u64) -> Result<(), AllocError>
+pub(crate) fn push_kind(text: &mut String, kind: &Kind, age: u64) -> Result<(), AllocError>
     ensures { OnOk result (string_bytes text.new ≡ string_bytes text.old ++ (line_text newest (line.Kind kind.now age) ++ 10 ∷ [])) }
 {
     let kind = kind.text();

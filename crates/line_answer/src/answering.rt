@@ -51,6 +51,7 @@ impl<S: GrainStorage + Drop, L: GrainLogic + Drop> AnsweringSilo<S, L> {
         ensures setup { IfOk result (λ a. a.history.setup ≡ record {
           tenants = setup.tenants;
           age = setup.age;
+          ages = setup.ages;
           rows = S.rows setup.storage;
         }) }
         ensures opening { IfOk result (λ a. (a.history.whole ≡ opening a.history.setup) × (a.history.journal ≡ [])) }

@@ -2,8 +2,9 @@
 use Rattle.std.specs.Prelude.{◌≡◌, ℕ, List, Option}
 use Rattle.std.specs.FinMap.{empty}
 use Rattle.tenant_gate.specs.Table.{Table}
+use Rattle.idle_collector.specs.Ages.{Ages}
 use Rattle.silo_event.specs.declared.reply.Reply.{Reply}
-use Rattle.grain_kinds.specs.Kinds.{kinds}
+use Rattle.grain_kinds.specs.Logic.{Logic}
 use Rattle.silo_model.specs.Opening.{Setup, start_of}
 use Rattle.silo_model.specs.Run.{machine_run, restricted_to}
 use Rattle.silo_model.specs.Whole.{shown_to}
@@ -22,26 +23,26 @@ use Rattle.worker_host.specs.declared.report.ServeFault.TheVariants as serve
 use Rattle.line_service.specs.declared.fault.ServiceFault.{ServiceFault}
 use Rattle.line_service.specs.declared.fault.ServiceFault.TheVariants as service
 
--- the tenants that were named, this age, and no rows
-abbrev pub setup_of : Table → ℕ → Setup
-setup_of tenants age = record { tenants = tenants; age = age; rows = empty }
+-- the tenants that were named, this age and these ages, and no rows
+abbrev pub setup_of : Table → ℕ → Ages → Setup
+setup_of tenants age ages = record { tenants = tenants; age = age; ages = ages; rows = empty }
 
 -- The lanes were served: the silo was opened with this setup, each lane stands in its journal and has its answers, no step
 -- failed, each client was told as often as its lane asks, and each tenant's part is the run of its own machine.
-pub record LeavesServed (setup : Setup) (lanes : List Lane) (silo : History) (answers : List (List Reply)) : Type 0 where
+pub record LeavesServed (logic : Logic) (setup : Setup) (lanes : List Lane) (silo : History) (answers : List (List Reply)) : Type 0 where
   pub opened : silo.setup ≡ setup
-  pub served : AreServed kinds silo.setup lanes silo.journal silo.whole 0 0 answers
+  pub served : AreServed logic silo.setup lanes silo.journal silo.whole 0 0 answers
   pub told : AreAnswered lanes silo.whole.replies
-  pub parts : (tenant : List ℕ) → shown_to tenant silo.whole ≡ machine_run kinds (start_of silo.setup tenant)
+  pub parts : (tenant : List ℕ) → shown_to tenant silo.whole ≡ machine_run logic (start_of silo.setup tenant)
       (restricted_to tenant silo.journal)
 
 -- All of the input was read; the lines of no lane were refused, and the lanes of the others were served.
-pub record IsServed (setup : Setup) (input : List ℕ) (left : Option (List ℕ)) (refusals : List LineRefusal) (silo : History)
-    (answers : List (List Reply)) : Type 0 where
+pub record IsServed (logic : Logic) (setup : Setup) (input : List ℕ) (left : Option (List ℕ)) (refusals : List LineRefusal)
+    (silo : History) (answers : List (List Reply)) : Type 0 where
   pub lines : List Line
   pub read : ReadsAll input lines left
   pub refused : refusals ≡ refusals_of lines
-  pub lanes : LeavesServed setup (lanes_of lines) silo answers
+  pub lanes : LeavesServed logic setup (lanes_of lines) silo answers
 
 -- what becomes of a fault of serving lanes that were read
 abbrev pub serving_fault : ServeFault → ServiceFault

@@ -9,8 +9,9 @@ ghost use Rattle.line_service.specs.Serving.{IsServed, LeavesServed, StopsServin
 use crate::asked::asked_by;
 use crate::fault::ServiceFault;
 use client_lanes::Lane;
-use grain_kinds::Kinds;
+use grain_kinds::GrainLogic;
 use grain_storage::MemoryStorage;
+use idle_collector::AgeTable;
 use line_parser::LineRefusal;
 use line_protocol::{Input, LineFault, read_all};
 use silo_core::Setup;
@@ -23,9 +24,9 @@ use worker_host::{ServeFault, ServeReport, TurnGate, serve};
 
 /// What became of an input: the silo, each lane's answers, and the refusals of lines of no lane.
 #[derive(Drop)]
-pub struct ServedInput {
+pub struct ServedInput<L: GrainLogic> {
     pub refusals: Vec<LineRefusal>,
-    pub report: ServeReport<MemoryStorage, Kinds>,
+    pub report: ServeReport<MemoryStorage, L>,
 }
 
 /// What becomes of a fault of serving.
@@ -40,25 +41,32 @@ fn fault_of_serving(fault: ServeFault) -> ServiceFault
 }
 
 /// Serves lanes over no rows.
-fn serve_lanes<H: AllocGlobal + Threads + Wait + Sync, G: TurnGate + Sync>(
+fn serve_lanes<
+    H: AllocGlobal + Threads + Wait + Sync,
+    L: GrainLogic + Copy + Send,
+    G: TurnGate + Sync,
+>(
     rt: &H,
     workers: usize,
     tenants: TenantTable,
     age: Age,
+    ages: AgeTable,
+    logic: L,
     lanes: &[Lane],
     gate: &G,
-) -> Result<ServeReport<MemoryStorage, Kinds>, ServeFault>
+) -> Result<ServeReport<MemoryStorage, L>, ServeFault>
     requires workers { (1 ≤ workers) × (workers ≤ 64) }
     requires distinct { AreDistinct lanes.now }
-    ensures { IfOk result (λ report. LeavesServed (setup_of tenants age) lanes.now report.silo
+    ensures { IfOk result (λ report. LeavesServed L.logic (setup_of tenants age ages) lanes.now report.silo
         (map_list (λ v. v.items) report.answers.items)) }
 {
     let alloc = rt.alloc();
     let setup = Setup {
         tenants,
         age,
+        ages,
         storage: MemoryStorage::new(alloc),
-        logic: Kinds,
+        logic,
     };
     let report = serve(rt, alloc, setup, lanes, workers, gate)?;
     // For the proof: a storage in memory never fails.
@@ -75,21 +83,28 @@ fn serve_lanes<H: AllocGlobal + Threads + Wait + Sync, G: TurnGate + Sync>(
 ///
 /// Reading comes first, with the faults of `read_all`; then `Memory`, `NoWorker` and `Strayed` as of
 /// `worker_host::serve`. No part of the input has then been answered.
-pub fn serve_input<H: AllocGlobal + Threads + Wait + Sync, R: Read, G: TurnGate + Sync>(
+pub fn serve_input<
+    H: AllocGlobal + Threads + Wait + Sync,
+    L: GrainLogic + Copy + Send,
+    R: Read,
+    G: TurnGate + Sync,
+>(
     rt: &H,
     workers: usize,
     tenants: TenantTable,
     age: Age,
+    ages: AgeTable,
+    logic: L,
     input: &mut Input<R>,
     gate: &G,
-) -> Result<ServedInput, ServiceFault>
+) -> Result<ServedInput<L>, ServiceFault>
     requires workers { (1 ≤ workers) × (workers ≤ 64) }
     ensures served { IfOk result (λ served. IfSome (left_of input.old.lines (R.remaining input.old.reader)) (λ bytes.
-        IsServed (setup_of tenants age) bytes (R.remaining input.new.reader) served.refusals.items served.report.silo
+        IsServed L.logic (setup_of tenants age ages) bytes (R.remaining input.new.reader) served.refusals.items served.report.silo
         (map_list (λ v. v.items) served.report.answers.items))) }
 
-    // The silo was opened with these tenants and this age, and no rows.
-    ensures setup { IfOk result (λ served. served.report.silo.setup ≡ setup_of tenants age) }
+    // The silo was opened with these tenants, this age and these ages, and no rows.
+    ensures setup { IfOk result (λ served. served.report.silo.setup ≡ setup_of tenants age ages) }
     ensures no_rows { IfOk result (λ served. entries served.report.silo.setup.rows ≡ []) }
 
     // Nothing was written yet.
@@ -99,7 +114,8 @@ pub fn serve_input<H: AllocGlobal + Threads + Wait + Sync, R: Read, G: TurnGate 
     let Ok(asked) = asked_by(rt.alloc(), said) else {
         return Err(ServiceFault::Failed(LineFault::Memory));
     };
-    match serve_lanes(rt, workers, tenants, age, asked.lanes.as_slice(), gate) {
+    let lanes = asked.lanes.as_slice();
+    match serve_lanes(rt, workers, tenants, age, ages, logic, lanes, gate) {
         Ok(report) => Ok(ServedInput {
             refusals: asked.refusals,
             report,

@@ -8,6 +8,7 @@ ghost use Rattle.line_service.specs.ServedText.{StopsWriting, refusals_text, ser
 
 use crate::serving::ServedInput;
 use crate::told::push_told;
+use grain_kinds::GrainLogic;
 use line_parser::LineRefusal;
 use line_protocol::{LineFault, Output, push_refusal, push_replies};
 use silo_event::Reply;
@@ -41,7 +42,7 @@ fn push_answers(alloc: Global, text: &mut String, answers: &[Vec<Reply>]) -> Res
 }
 
 /// The text of what was served.
-fn text_of(alloc: Global, served: &ServedInput) -> Result<String, AllocError>
+fn text_of<L: GrainLogic>(alloc: Global, served: &ServedInput<L>) -> Result<String, AllocError>
     ensures { IfOk result (λ text. string_bytes text ≡ served_text served.now.refusals.items
         (map_list (λ v. v.items) served.now.report.answers.items) served.now.report.silo.whole.replies) }
 {
@@ -60,9 +61,9 @@ fn text_of(alloc: Global, served: &ServedInput) -> Result<String, AllocError>
 ///
 /// `Memory`, and nothing was written; `Write` if a call of the writer failed, and a part of the text was
 /// written, or all of it. The output notes that a call failed, so pass one that notes none.
-pub fn write_served<W: Write>(
+pub fn write_served<L: GrainLogic, W: Write>(
     alloc: Global,
-    served: &ServedInput,
+    served: &ServedInput<L>,
     output: &mut Output<W>,
 ) -> Result<(), LineFault>
     ensures written { OnOk result (Appends (W.contents output.old.writer) (W.contents output.new.writer)

@@ -16,6 +16,7 @@ use crate::{replies, rows};
 use grain_id::{GrainId, Tenant};
 use grain_kinds::GrainLogic;
 use grain_storage::{GrainStorage, Row};
+use idle_collector::AgeTable;
 use silo_event::{Answer, Reply, Step};
 use silo_state::SiloState;
 use std::alloc::{AllocError, Global};
@@ -35,6 +36,7 @@ pub use run::RunReport;
 pub struct Silo<S: GrainStorage, L: GrainLogic> {
     tenants: TenantTable,
     age: Age,
+    ages: AgeTable,
     opening: Vec<(GrainId, Row)>,
     opening_failures: u64,
     state: SiloState<S, L>,
@@ -55,13 +57,13 @@ impl<S: GrainStorage, L: GrainLogic> Model for Silo<S, L> {
     ghost coded = { Prim.hlevel (codes, by_grain_code, by_text_code, by_number_code, coded_tree, state_bytes.the_row.coded) };
 
     ghost view = { λ s. record {
-      setup = setup_of s.tenants s.age s.opening.items;
+      setup = setup_of s.tenants s.age s.ages s.opening.items;
       whole = s.state.whole;
       journal = s.journal.items;
       failures = record { at_opening = s.opening_failures; now = s.state.failures };
     } };
 
-    ghost invariant = { λ s. LeadsTo L.logic (setup_of s.tenants s.age s.opening.items) s.journal.items s.state.whole
+    ghost invariant = { λ s. LeadsTo L.logic (setup_of s.tenants s.age s.ages s.opening.items) s.journal.items s.state.whole
         × AreListed s.opening.items };
 }
 
@@ -72,7 +74,8 @@ impl<S: GrainStorage + Drop, L: GrainLogic + Drop> Silo<S, L> {
     ///
     /// Out of memory.
     pub fn new(alloc: Global, setup: Setup<S, L>) -> Result<Silo<S, L>, AllocError>
-        ensures setup { IfOk result (λ s. s.setup ≡ record { tenants = setup.tenants; age = setup.age; rows = S.rows setup.storage }) }
+        ensures setup { IfOk result (λ s. s.setup
+            ≡ record { tenants = setup.tenants; age = setup.age; ages = setup.ages; rows = S.rows setup.storage }) }
         ensures opening { IfOk result (λ s. (s.whole ≡ opening s.setup) × (s.journal ≡ [])) }
         ensures failures { IfOk result (λ s. s.failures ≡ record { at_opening = S.failed setup.storage; now = S.failed setup.storage }) }
         ensures parts { IfOk result (λ s. (tenant : List ℕ) → shown_to tenant s.whole ≡ start_of s.setup tenant) }
@@ -80,15 +83,17 @@ impl<S: GrainStorage + Drop, L: GrainLogic + Drop> Silo<S, L> {
         let Setup {
             tenants,
             age,
+            ages,
             storage,
             logic,
         } = setup;
         let opening = storage.list(alloc)?;
         let opening_failures = storage.failures();
-        let state = SiloState::new(alloc, tenants.list(), age, storage, logic)?;
+        let state = SiloState::new(alloc, tenants.list(), age, ages.clone()?, storage, logic)?;
         Ok(Silo {
             tenants,
             age,
+            ages,
             opening,
             opening_failures,
             state,
@@ -105,12 +110,19 @@ impl<S: GrainStorage, L: GrainLogic> Silo<S, L> {
         &self.tenants
     }
 
-    /// The milliseconds after which an idle activation may go, 1 to 86,400,000.
+    /// The milliseconds after which an idle activation may go, 1 to 86,400,000, where its kind has no age of its own.
     pub fn age(&self) -> u64
         ensures age { result ≡ self.now.setup.age }
         ensures in_range { IsAge self.now.setup.age }
     {
         self.age.millis()
+    }
+
+    /// The ages of the kinds that have one of their own.
+    pub fn ages(&self) -> &AgeTable
+        ensures { result.now ≡ self.now.setup.ages }
+    {
+        &self.ages
     }
 
     /// The rows that were stored as the silo opened, grains ascending.

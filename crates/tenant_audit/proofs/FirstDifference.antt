@@ -19,9 +19,9 @@ use Rattle.tenant_audit.specs.inside.Comparison.{Stops, AreApart}
 use Rattle.tenant_machine.specs.Machines.{start_with}
 use Rattle.tenant_audit.proofs.Starts.{start_alone}
 
--- the tenant's machine starts with the limits that the journal's table has
-pub starts : (journal : History) (tenant : List ℕ) (limits : Option Limits) (start : Machine) → start ≡ start_with tenant limits journal.age → limits ≡ limits_of journal.tenants tenant → start ≡ start_of (setup_of journal) tenant
-starts journal tenant limits start started listed = started ∙ sym (start_alone journal.tenants tenant limits journal.age (sym listed))
+-- the tenant's machine starts with the journal's ages, and the limits that its table has
+pub starts : (journal : History) (tenant : List ℕ) (limits : Option Limits) (start : Machine) → start ≡ start_with tenant limits journal.age journal.ages → limits ≡ limits_of journal.tenants tenant → start ≡ start_of (setup_of journal) tenant
+starts journal tenant limits start started listed = started ∙ sym (start_alone journal.tenants tenant limits journal.age journal.ages (sym listed))
 
 pub starts_as : (journal : History) (tenant : List ℕ) (start : Machine) → start ≡ start_of (setup_of journal) tenant → start.tenant ≡ tenant
 unfolding start_of

@@ -5,7 +5,7 @@ use Rattle.std.specs.declared.alloc.Global.{Global}
 use Rattle.std.specs.declared.collections.VecDeque.{VecDeque}
 use Rattle.std.proofs.lemmas.List.Elements.{All-head, All-tail}
 use Rattle.journal_text.specs.Text.{History}
-use Rattle.grain_kinds.specs.Kinds.{kinds}
+use Rattle.audit_model.specs.Logics.{logic_of}
 use Rattle.audit_model.specs.Report.{IsTenantReport}
 use Rattle.tenant_audit.specs.ReportView.{tenant_report_of}
 use Rattle.tenant_audit.specs.declared.report.TenantReport.{TenantReport}
@@ -26,13 +26,13 @@ module _ (journal : History) (tenants : List (List ℕ)) (w k i : ℕ) (d : List
       pub taken_tenant : r.tenant ≡ get_or tenants i d
       taken_tenant = let e = both in cc
 
-      pub taken_report : IsTenantReport kinds journal (tenant_report_of r)
-      taken_report = All-head (λ s. IsTenantReport kinds journal (tenant_report_of s)) r new (subst (AreReports journal) taken part.each)
+      pub taken_report : IsTenantReport (logic_of journal.kinds) journal (tenant_report_of r)
+      taken_report = All-head (λ s. IsTenantReport (logic_of journal.kinds) journal (tenant_report_of s)) r new (subst (AreReports journal) taken part.each)
 
       taken_rest : IsPart journal (drop (i + 1) tenants) w k (i + 1) new
       taken_rest = record {
         named = let e = both in cc;
-        each = All-tail (λ s. IsTenantReport kinds journal (tenant_report_of s)) r new (subst (AreReports journal) taken part.each);
+        each = All-tail (λ s. IsTenantReport (logic_of journal.kinds) journal (tenant_report_of s)) r new (subst (AreReports journal) taken part.each);
       }
 
     pub part_moves : (b : Bool) → (i % w == k) ≡ b → old ≡ (if b then r ∷ [] else []) ++ new → IsPart journal (drop (i + 1) tenants) w k (i + 1) new
@@ -69,7 +69,7 @@ module _ (journal : History) (tenants : List (List ℕ)) (i : ℕ) (within : i <
     pub next_tenant : r.tenant ≡ get_or tenants i []
     next_tenant = taken_tenant journal tenants (length old) place i [] within r (slice_index_or old place d).items (slice_index_or new place d).items (its_part d) (same_place place) taken_here
 
-    pub next_report : IsTenantReport kinds journal (tenant_report_of r)
+    pub next_report : IsTenantReport (logic_of journal.kinds) journal (tenant_report_of r)
     next_report = taken_report journal tenants (length old) place i [] within r (slice_index_or old place d).items (slice_index_or new place d).items (its_part d) (same_place place) taken_here
 
   pub parts_left : (r : TenantReport) (new : List (VecDeque TenantReport Global)) → TakesFirst old place r new → length new ≡ length old → AreParts journal tenants (i + 1) new

@@ -5,9 +5,9 @@ use Rattle.std.specs.Option.{is_some, option_map}
 use mathlib.Core.List.{map-map}
 use Rattle.std.proofs.lemmas.List.{map-append}
 use Rattle.std.proofs.lemmas.List.Elements.{All-push, All-map}
-use Rattle.grain_kinds.specs.Kinds.{kinds}
 use Rattle.grain_kinds.specs.Logic.{Logic}
 use Rattle.journal_text.specs.Text.{History}
+use Rattle.audit_model.specs.Logics.{logic_of}
 use Rattle.audit_model.specs.Parts.{tenants_in}
 use Rattle.audit_model.specs.Report.{TenantReport, IsTenantReport, IsReport}
 use Rattle.tenant_audit.specs.inside.Parts.{AreReports}
@@ -31,8 +31,8 @@ module _ (reports more : List Reported) (r : Reported) (pushed : more ≡ report
       subst (All (IsTenantReport logic journal)) (sym seen_more) (All-push (IsTenantReport logic journal) (map tenant_report_of reports) (tenant_report_of r) each one)
 
 -- reports of a journal's tenants, in order, are the report of the journal
-pub report_of_each : (journal : History) (reports : List Reported) → map (λ (r : Reported). r.tenant) reports ≡ tenants_in journal → AreReports journal reports → IsReport kinds journal (map tenant_report_of reports)
-report_of_each journal reports names each = record { tenants = map-map (λ (s : TenantReport). s.tenant) tenant_report_of reports ∙ names; each = All-map (IsTenantReport kinds journal) tenant_report_of reports each }
+pub report_of_each : (journal : History) (reports : List Reported) → map (λ (r : Reported). r.tenant) reports ≡ tenants_in journal → AreReports journal reports → IsReport (logic_of journal.kinds) journal (map tenant_report_of reports)
+report_of_each journal reports names each = record { tenants = map-map (λ (s : TenantReport). s.tenant) tenant_report_of reports ∙ names; each = All-map (IsTenantReport (logic_of journal.kinds) journal) tenant_report_of reports each }
 
 seen_or_not : (found : Option Difference) → is_some (option_map difference_of found) ≡ is_some found
 seen_or_not None = refl

@@ -7,6 +7,7 @@ use Rattle.grain_id.proofs.ByGrain.{alike, get-part}
 use Rattle.tenant_gate.specs.declared.limits.Limits.{Limits}
 use Rattle.tenant_gate.specs.Table.{Table, limits_of}
 use Rattle.grain_storage.specs.declared.row.Row.{Row}
+use Rattle.idle_collector.specs.Ages.{Ages}
 use Rattle.silo_model.specs.Opening.{Setup, fresh_account, start_of}
 use Rattle.silo_model.specs.Whole.{is_of}
 use Rattle.tenant_machine.specs.Machines.{start_with}
@@ -18,16 +19,17 @@ either_none false o e = sym e
 no_row_of : (t : List ℕ) → map.retain_keys (map.empty {X = Row} {R = grain_cmp}) (is_of t) ≡ map.empty
 no_row_of t = alike _ _ (λ q. get-part (map.empty {X = Row} {R = grain_cmp}) (is_of t) q ∙ either_none (is_of t q) _ (map.get-empty grain_cmp q))
 
-abbrev pub bare : Table → ℕ → Setup
-bare table age = record { tenants = table; age = age; rows = map.empty }
+abbrev pub bare : Table → ℕ → Ages → Setup
+bare table age ages = record { tenants = table; age = age; ages = ages; rows = map.empty }
 
 -- a silo of no rows starts the tenant's machine with the limits that its table has
-pub start_alone : (table : Table) (tenant : List ℕ) (limits : Option Limits) (age : ℕ) → limits_of table tenant ≡ limits → start_of (bare table age) tenant ≡ start_with tenant limits age
+pub start_alone : (table : Table) (tenant : List ℕ) (limits : Option Limits) (age : ℕ) (ages : Ages) → limits_of table tenant ≡ limits → start_of (bare table age ages) tenant ≡ start_with tenant limits age ages
 unfolding start_of
-start_alone table tenant limits age e = λ i. record {
+start_alone table tenant limits age ages e = λ i. record {
   tenant = tenant;
   account = option_map fresh_account (e i);
   age = age;
+  ages = ages;
   clock = 0;
   entries = map.empty;
   rows = no_row_of tenant i;

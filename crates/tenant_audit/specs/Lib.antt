@@ -1,3 +1,4 @@
+pub mod LogicNumbers
 pub mod SiloJournal
 pub mod ReportView
 pub mod ReportText

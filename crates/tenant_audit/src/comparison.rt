@@ -33,7 +33,7 @@ fn limits_in(table: &[(Tenant, Limits)], tenant: &Tenant) -> Option<Limits>
     None
 }
 
-/// The tenant's machine before any step, with the journal's limits and age.
+/// The tenant's machine before any step, with the journal's limits and ages.
 fn machine_for<L: GrainLogic + Drop>(
     alloc: Global,
     journal: &Journal,
@@ -43,7 +43,8 @@ fn machine_for<L: GrainLogic + Drop>(
     ensures { IfOk result (λ m. m ≡ start_of (setup_of journal.now) tenant.now) }
 {
     let limits = limits_in(journal.tenants(), tenant);
-    TenantMachine::new(alloc, tenant.clone()?, limits, journal.age(), logic)
+    let ages = journal.ages().clone()?;
+    TenantMachine::new(alloc, tenant.clone()?, limits, journal.age(), ages, logic)
 }
 
 /// The least grain of the tenant whose recorded row isn't the machine's.

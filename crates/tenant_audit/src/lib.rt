@@ -2,13 +2,14 @@
 //! machine of the tenant's own, and what was recorded is compared with what the machine shows.
 //!
 //! A layer above may rely on this: a [`TenantMachine`] is seen as the machine of `silo_model`, the
-//! [`Report`] of [`audit`] is the one report that `audit_model` defines, and the journal of a silo that
-//! opened with no rows has no difference.
+//! [`Report`] of [`audit`] is the one report that `audit_model` defines under the logic that the journal
+//! names, and the journal of a silo that opened with no rows has no difference.
 #![tactic(auto)]
 
 mod comparison;
 mod difference;
 mod gate;
+mod journal_kinds;
 pub mod laws;
 mod parted_journal;
 mod parts;
@@ -24,6 +25,7 @@ mod threads;
 
 pub use difference::Difference;
 pub use gate::{AuditGate, FreeAuditGate};
+pub use journal_kinds::JournalKinds;
 pub use journal_text::{Journal, JournalFault, read_journal};
 pub use plain_audit::audit_under;
 pub use report::{Report, TenantReport};

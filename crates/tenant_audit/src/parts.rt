@@ -8,9 +8,8 @@ ghost use Rattle.tenant_audit.specs.declared.report.TenantReport.{TenantReport a
 
 use crate::gate::AuditGate;
 use crate::parted_journal::PartedJournal;
-use crate::report::{TenantReport, report_on};
+use crate::report::{TenantReport, report_as_named};
 use grain_id::Tenant;
-use grain_kinds::Kinds;
 use journal_text::Journal;
 use std::alloc::{AllocError, Global};
 use std::collections::VecDeque;
@@ -41,7 +40,7 @@ fn keep<G: AuditGate>(
     if index % share.stride == share.place {
         let tenant = &tenants[index];
         gate.entered(tenant);
-        reports.push_back(report_on(alloc, journal, tenant.clone()?, Kinds)?)?;
+        reports.push_back(report_as_named(alloc, journal, tenant.clone()?)?)?;
     }
     Ok(())
 }

@@ -14,7 +14,8 @@ use std::alloc::{AllocError, Global};
 /// Audits a journal under a logic by the thread that calls: takes every tenant's steps again, each
 /// tenant's by a machine of its own, and compares what was recorded with what the machine shows. The
 /// report is of the table's tenants in its order, and then of the others of whom the journal has
-/// something, ascending. Under `Kinds` it is the report of [`audit`](crate::audit).
+/// something, ascending. Under the logic that the journal names it is the
+/// report of [`audit`](crate::audit).
 ///
 /// # Errors
 ///

@@ -1,6 +1,7 @@
 //! What an audit reports of one tenant.
 
 ghost use Rattle.std.specs.Prelude.{◌≡◌, IfOk, map};
+ghost use Rattle.audit_model.specs.Logics.{logic_of};
 ghost use Rattle.audit_model.specs.Report.{IsTenantReport};
 ghost use Rattle.tenant_audit.specs.ReportView.{tenant_report_of};
 
@@ -8,7 +9,7 @@ use crate::comparison::first_difference;
 use crate::difference::Difference;
 use crate::parted_journal::PartedJournal;
 use grain_id::Tenant;
-use grain_kinds::GrainLogic;
+use grain_kinds::{GrainLogic, Kinds, RestingKinds};
 use std::alloc::{AllocError, Global};
 use std::marker::Model;
 
@@ -56,6 +57,22 @@ impl Report {
         ensures { map tenant_report_of result.now ≡ self.now }
     {
         self.tenants.as_slice()
+    }
+}
+
+/// What is reported of one tenant, under the logic that the journal names.
+pub fn report_as_named(
+    alloc: Global,
+    journal: &PartedJournal<'_>,
+    tenant: Tenant,
+) -> Result<TenantReport, AllocError>
+    ensures report { IfOk result (λ report. IsTenantReport (logic_of journal.now.kinds) journal.now (tenant_report_of report)) }
+    ensures tenant { IfOk result (λ report. report.tenant ≡ tenant) }
+{
+    if journal.journal().kinds() == 1 {
+        report_on(alloc, journal, tenant, Kinds)
+    } else {
+        report_on(alloc, journal, tenant, RestingKinds)
     }
 }
 

@@ -3,39 +3,44 @@
 ghost use Rattle.std.specs.Prelude.{◌≡◌, ℕ, List, [], None, IfOk};
 ghost use Rattle.std.specs.FinMap.{entries};
 ghost use Rattle.journal_text.specs.Text.{journal_text};
+ghost use Rattle.audit_model.specs.Logics.{logic_of};
 ghost use Rattle.audit_model.specs.Report.{IsFirstDifference};
 ghost use Rattle.tenant_audit.specs.SiloJournal.{journal_of};
 
-use grain_kinds::GrainLogic;
+use crate::journal_kinds::JournalKinds;
 use grain_storage::GrainStorage;
-use journal_text::journal_of_parts;
+use journal_text::{JournalParts, journal_of_parts};
 use silo_core::Silo;
 use std::alloc::{AllocError, Global};
 
-/// The text of the journal of a silo that opened with no rows: its tenants with their limits, its age,
-/// the steps that it took, its replies, and the rows that it holds.
+/// The text of the journal of a silo that opened with no rows: the number of its grains' logic, its age,
+/// the ages that kinds have of their own, its tenants with their limits, the steps that it took, its
+/// replies, and the rows that it holds.
 ///
 /// # Errors
 ///
 /// Out of memory.
-pub fn write_journal<S: GrainStorage, L: GrainLogic>(
+pub fn write_journal<S: GrainStorage, L: JournalKinds>(
     alloc: Global,
     silo: &Silo<S, L>,
 ) -> Result<Vec<u8>, AllocError>
     requires { entries silo.now.setup.rows ≡ [] }
-    ensures text { IfOk result (λ text. text.items ≡ journal_text (journal_of silo.now)) }
+    ensures text { IfOk result (λ text. text.items ≡ journal_text (journal_of L.number silo.now)) }
 
-    // What is recorded of each tenant is what the tenant's machine does.
-    ensures no_difference { (tenant : List ℕ) → IsFirstDifference L.logic (journal_of silo.now) tenant None }
+    // What is recorded of each tenant is what the tenant's machine does, under the logic that is named.
+    ensures no_difference { (tenant : List ℕ)
+        → IsFirstDifference (logic_of L.number) (journal_of L.number silo.now) tenant None }
 {
     let steps = silo.journal();
     let rows = silo.rows(alloc)?;
-    journal_of_parts(
-        alloc,
-        silo.tenants().list(),
-        silo.age(),
+    let parts = JournalParts {
+        kinds: L::kinds(),
+        age: silo.age(),
+        ages: silo.ages().list(),
+        tenants: silo.tenants().list(),
         steps,
-        silo.replies(),
-        rows.as_slice(),
-    )
+        replies: silo.replies(),
+        rows: rows.as_slice(),
+    };
+    journal_of_parts(alloc, parts)
 }

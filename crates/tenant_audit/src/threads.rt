@@ -2,7 +2,7 @@
 
 ghost use Rattle.std.specs.Prelude.{◌≡◌, ◌<◌, ◌≤◌, ℕ, true, false, Ok as ok, map, IfOk, IfErr, IfSome, is_err, length, slice_index_or};
 ghost use Rattle.std.specs.List.{list_any};
-ghost use Rattle.grain_kinds.specs.Kinds.{kinds};
+ghost use Rattle.audit_model.specs.Logics.{logic_of};
 ghost use Rattle.audit_model.specs.Report.{IsReport};
 ghost use Rattle.tenant_audit.specs.inside.Parts.{AreParts, IsPart, IsShareOf, fault_of_start};
 ghost use Rattle.tenant_audit.specs.declared.threads.AuditFault.TheVariants as faults;
@@ -184,8 +184,8 @@ fn run_parts<'s, E, R: Threads, G: AuditGate + Sync>(
     joined_parts(alloc, results, all_started)
 }
 
-/// Audits a journal under `Kinds` by several threads: as many as there are workers, and no more than
-/// there are tenants to report. The tenant at each place of the report, counted from 0, goes to the
+/// Audits a journal, under the logic that it names, by several threads: as many as there are workers, and no
+/// more than there are tenants to report. The tenant at each place of the report, counted from 0, goes to the
 /// thread of the place's rest by the number of threads. The gate is told of each tenant before its
 /// machine starts. The report is the same for every number of workers, 1 to 64.
 ///
@@ -201,7 +201,7 @@ pub fn audit_with<R: Threads + Wait + Sync, G: AuditGate + Sync>(
     gate: &G,
 ) -> Result<Report, AuditFault>
     requires { (1 ≤ workers) × (workers ≤ 64) }
-    ensures { IfOk result (λ report. IsReport kinds journal.now report) }
+    ensures { IfOk result (λ report. IsReport (logic_of journal.now.kinds) journal.now report) }
 {
     let named = tenants_of(alloc, journal)?;
     let tenants = named.as_slice();
@@ -221,8 +221,8 @@ pub fn audit_with<R: Threads + Wait + Sync, G: AuditGate + Sync>(
     Ok(Report::new(merge(alloc, journal, tenants, parts)?))
 }
 
-/// Audits a journal under `Kinds` by so many workers, 1 to 64: takes every tenant's steps again, each
-/// tenant's by a machine of its own, and compares what was recorded with what the machine shows. This
+/// Audits a journal by so many workers, 1 to 64: takes every tenant's steps again, each tenant's by a
+/// machine of its own, under the logic that the journal names, and compares what was recorded with what the machine shows. This
 /// is [`audit_with`] and a gate that does nothing.
 ///
 /// # Errors
@@ -235,7 +235,7 @@ pub fn audit<R: Threads + Wait + Sync>(
     workers: usize,
 ) -> Result<Report, AuditFault>
     requires { (1 ≤ workers) × (workers ≤ 64) }
-    ensures { IfOk result (λ report. IsReport kinds journal.now report) }
+    ensures { IfOk result (λ report. IsReport (logic_of journal.now.kinds) journal.now report) }
 {
     audit_with(rt, alloc, journal, workers, &FreeAuditGate)
 }

@@ -14,6 +14,7 @@ use Rattle.silo_event.specs.declared.step.Step.TheVariants.{Refuse, Status, Poke
 use Rattle.grain_kinds.specs.Logic.{Logic}
 use Rattle.silo_model.specs.Machine.{Machine, Account}
 use Rattle.silo_model.specs.Effect.{applied, context_at}
+use Rattle.idle_collector.specs.Ages.{kind_age}
 use Rattle.silo_model.specs.Idle.{kept_entries}
 use Rattle.silo_model.specs.Calls.{told}
 use Rattle.silo_model.specs.Asks.{poked, poke_settled, status_told, row_told}
@@ -35,7 +36,7 @@ module _ (logic : Logic) (m : Machine) where
   unfolding machine_step
   tick_back now back = ap (λ b. if b then Some (record m { clock = now }) else None) back
 
-  pub sweep_is : machine_step logic m Sweep ≡ Some (record m { entries = kept_entries m.clock m.age m.entries })
+  pub sweep_is : machine_step logic m Sweep ≡ Some (record m { entries = kept_entries m.clock (kind_age m.ages m.age) m.entries })
   unfolding machine_step
   sweep_is = refl
 

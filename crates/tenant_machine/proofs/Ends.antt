@@ -5,7 +5,8 @@ use Rattle.std.specs.FinMap as map
 use Rattle.std.proofs.lemmas.Option.{same_Some}
 use Rattle.silo_state.proofs.Ends.{more_sent}
 use Rattle.grain_id.specs.Names.{Grain}
-use Rattle.grain_kinds.specs.Logic.{Logic, Plan, Outgoing, StorageCall, asks_nothing, reads_row, writes_row, clears_row}
+use Rattle.grain_kinds.specs.Logic as say
+use Rattle.grain_kinds.specs.Logic.{Logic, Plan, Outgoing, Keep, StorageCall, asks_nothing, reads_row, writes_row, clears_row}
 use Rattle.grain_kinds.specs.Finished.{turn_plan}
 use Rattle.grain_kinds.specs.declared.turn.OpenedTurn.{OpenedTurn}
 use Rattle.silo_event.specs.declared.fault.Fault.TheVariants.{NoMemory}
@@ -13,10 +14,10 @@ use Rattle.silo_event.specs.declared.reply.Party.{Party}
 use Rattle.silo_event.specs.declared.reply.Reply.{Reply}
 use Rattle.silo_event.specs.declared.step.Step.TheVariants.{End, Abandon}
 use Rattle.silo_model.specs.Machine.{Machine, Account, Entry, Entries, Request, Phase, waiting, loading, ready}
-use Rattle.silo_model.specs.Effect.{Effect, applied, context_at, change_option}
+use Rattle.silo_model.specs.Effect.{Effect, applied, context_at, change_option, change_at}
 use Rattle.silo_model.specs.Calls.{reply_to}
 use Rattle.silo_model.specs.Step.{machine_step, effect_of, at_turn}
-use Rattle.silo_model.specs.Turns.{plan_of, sent_by, with_sends, outcome_of, ended, ended_by, abandoned}
+use Rattle.silo_model.specs.Turns.{plan_of, sent_by, with_sends, outcome_of, ended, ended_by, abandoned, stays_or_goes}
 use Rattle.silo_state.specs.Entries.{closed_entry, ClosesEntry}
 use Rattle.silo_state.specs.Finds.{open_in, IsOwn, asks}
 use Rattle.silo_state.specs.Sends.{with_more}
@@ -61,11 +62,11 @@ module _ (logic : Logic) (m : Machine) (g : Grain) (turn : ℕ) where
   unfolding machine_step effect_of context_at
   abandon_not none = ap (option_map (applied m (Some g))) (no_turn m g turn (λ e r. Some (abandoned (seen_at m g) e r)) none)
 
-  pub abandon_done : (new : Entries) (replies : List Reply) → ClosesTold m.entries m.replies g turn None m.clock (Err NoMemory) new replies → machine_step logic m (Abandon g turn) ≡ Some (record m { entries = new; replies = replies })
+  pub abandon_done : (new : Entries) (replies : List Reply) → ClosesTold m.entries m.replies g turn None say.same m.clock (Err NoMemory) new replies → machine_step logic m (Abandon g turn) ≡ Some (record m { entries = new; replies = replies })
   unfolding machine_step effect_of context_at applied
   abandon_done new replies t =
       ap (option_map (applied m (Some g))) (turn_at m g turn (λ e r. Some (abandoned (seen_at m g) e r)) t.closes.before t.closes.found t.closes.request t.closes.open_turn)
-      ∙ (λ i. Some (record m { entries = sym t.closes.put i; replies = sym (t.told_is ∙ ap (λ s. m.replies ++ reply_to s (Err NoMemory)) t.closes.sender_is) i }))
+      ∙ (λ i. Some (record m { entries = sym t.closes.left i; replies = sym (t.told_is ∙ ap (λ s. m.replies ++ reply_to s (Err NoMemory)) t.closes.sender_is) i }))
 
   pub end_not : option_and_then (λ e. open_in e turn e.phase) (map.get m.entries g) ≡ None → machine_step logic m (End g turn) ≡ None
   unfolding machine_step effect_of context_at
@@ -81,15 +82,15 @@ module _ (logic : Logic) (m : Machine) (g : Grain) (turn : ℕ) (version : Optio
   planned = λ i. logic.plan (sym own.is_of.kind_is i) (sym own.is_of.message_is i).method (sym own.is_of.state_is i) (sym own.is_of.message_is i).argument
 
   -- the entry and the request that are closed are those that were found
-  module _ (phase : Option Phase) (last : ℕ) (sender : Party) (new : Entries) (d : ClosesEntry m.entries g turn phase last sender new) where
+  module _ (phase : Option Phase) (said : Keep) (last : ℕ) (sender : Party) (new : Entries) (d : ClosesEntry m.entries g turn phase said last sender new) where
     pub same_entry : d.before ≡ own.entry
     same_entry = same_Some d.before own.entry (sym d.found ∙ own.is_open.found_is)
 
     pub same_request : d.request ≡ own.request
     same_request = same_Some d.request own.request (sym d.open_turn ∙ ap (λ (e : Entry). map.get e.turns turn) same_entry ∙ own.is_open.open_turn)
 
-    pub put_own : new ≡ map.insert m.entries g (closed_entry own.entry own.request phase last)
-    put_own = d.put ∙ (λ i. map.insert m.entries g (closed_entry (same_entry i) (same_request i) phase last))
+    pub left_own : new ≡ change_at m.entries g (stays_or_goes (closed_entry own.entry own.request phase said last))
+    left_own = d.left ∙ (λ i. change_at m.entries g (stays_or_goes (closed_entry (same_entry i) (same_request i) phase said last)))
 
     pub sent_own : sender ≡ own.request.sender
     sent_own = d.sender_is ∙ ap (λ (r : Request). r.sender) same_request
@@ -119,7 +120,7 @@ module _ (logic : Logic) (m : Machine) (g : Grain) (turn : ℕ) (version : Optio
   nothing_asked clears_row e = absurd cc
 
   -- the plan's state stands, its sends go out, and its outcome is the reply
-  pub end_done : (account : Option Account) (new : Entries) (replies : List Reply) → asks plan.storage ≡ false → ClosesTold m.entries m.replies g turn (Some (ready plan.state version)) m.clock (outcome_of plan.outcome) new replies
+  pub end_done : (account : Option Account) (new : Entries) (replies : List Reply) → asks plan.storage ≡ false → ClosesTold m.entries m.replies g turn (Some (ready plan.state version)) plan.keep m.clock (outcome_of plan.outcome) new replies
       → account ≡ change_option m.account (with_more m.account (sent_by g plan.sends)) → machine_step logic m (End g turn) ≡ Some (record m { account = account; entries = new; replies = replies })
   unfolding machine_step effect_of context_at applied
   end_done account new replies silent t sent =
@@ -127,6 +128,6 @@ module _ (logic : Logic) (m : Machine) (g : Grain) (turn : ℕ) (version : Optio
       ap (option_map (applied m (Some g))) (ended_is ∙ ap (ended_by (seen_at m g) g own.entry own.request version plan) (nothing_asked plan.storage silent))
       ∙ (λ i. Some (record m {
         account = sym (sent ∙ ap (change_option m.account) (sym (more_sent g m.account plan.sends))) i;
-        entries = sym (put_own phase m.clock t.sender new t.closes) i;
-        replies = sym (t.told_is ∙ ap (λ s. m.replies ++ reply_to s (outcome_of plan.outcome)) (sent_own phase m.clock t.sender new t.closes)) i;
+        entries = sym (left_own phase plan.keep m.clock t.sender new t.closes) i;
+        replies = sym (t.told_is ∙ ap (λ s. m.replies ++ reply_to s (outcome_of plan.outcome)) (sent_own phase plan.keep m.clock t.sender new t.closes)) i;
       }))

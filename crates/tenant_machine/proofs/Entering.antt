@@ -87,12 +87,12 @@ module _ (logic : Logic) (m : Machine) (g : Grain) where
         loads_as b mark = load_at (Some e) found ∙ (λ i. option_map (applied m (Some g)) (loaded logic (seen_at m g) g (mark i) e (is i)))
 
         -- it is ready, with what its row gives
-        pub load_done : failed ≡ false → (state : Tree) (version : Option ℕ) (rows : Rows) → new ≡ map.insert m.entries g (record e { phase = ready state version })
+        pub load_done : failed ≡ false → (state : Tree) (version : Option ℕ) (rows : Rows) → new ≡ map.insert m.entries g (record e { phase = ready state version; until = 0; resting = false })
             → state ≡ content_or (logic.empty g.kind) (map.get m.rows g) → version ≡ version_of (map.get m.rows g) → rows ≡ m.rows → machine_step logic m (Load g failed) ≡ Some (record m { entries = new; rows = rows })
         load_done mark state version rows put s v r =
             loads_as false mark
-            ∙ ap Some (entry_put (record e { phase = ready (content_or (logic.empty g.kind) (map.get m.rows g)) (version_of (map.get m.rows g)) }))
-            ∙ (λ i. Some (record m { entries = sym (put ∙ (λ j. map.insert m.entries g (record e { phase = ready (s j) (v j) }))) i; rows = sym r i }))
+            ∙ ap Some (entry_put (record e { phase = ready (content_or (logic.empty g.kind) (map.get m.rows g)) (version_of (map.get m.rows g)); until = 0; resting = false }))
+            ∙ (λ i. Some (record m { entries = sym (put ∙ (λ j. map.insert m.entries g (record e { phase = ready (s j) (v j); until = 0; resting = false }))) i; rows = sym r i }))
 
         -- the storage failed
         pub load_failed : failed ≡ true → (replies : List Reply) → new ≡ map.remove m.entries g → replies ≡ m.replies ++ flat_map (λ q. reply_to q.sender (Err StorageFailed)) e.queue

@@ -11,6 +11,7 @@ use Rattle.grain_storage.specs.declared.row.Row.{Row}
 use Rattle.grain_storage.specs.declared.fault.StoreFault.{StoreFault}
 use Rattle.grain_storage.specs.declared.fault.StoreFault.TheVariants as storage
 use Rattle.grain_storage.specs.Rows.{Rows, RowFault, stale, spent, written, cleared}
+use Rattle.grain_kinds.specs.Logic as say
 use Rattle.grain_kinds.specs.Logic.{Logic, Plan, StorageCall, asks_nothing, reads_row, writes_row, clears_row}
 use Rattle.grain_kinds.specs.declared.turn.OpenedTurn.{OpenedTurn}
 use Rattle.silo_event.specs.declared.fault.Fault.{Fault}
@@ -24,7 +25,8 @@ use Rattle.silo_model.specs.Effect.{Effect, Change, keep, applied, context_at, c
 use Rattle.silo_model.specs.Calls.{reply_to}
 use Rattle.silo_model.specs.Step.{machine_step, effect_of}
 use Rattle.silo_model.specs.Stores.{row_written, row_cleared, at_row, version_value}
-use Rattle.silo_model.specs.Turns.{closed, ends_activation, row_changed, stored, stored_by}
+use Rattle.silo_model.specs.Turns.{closed, ends_activation, row_changed, stored, stored_by, stays_or_goes}
+use Rattle.silo_model.proofs.Leaving.{busy_stays}
 use Rattle.silo_model.proofs.Stored.{stores_at_one_row}
 use Rattle.silo_state.specs.Entries.{closed_entry, ClosesEntry}
 use Rattle.silo_state.specs.Finds.{open_in, IsOwn, asks}
@@ -36,7 +38,7 @@ use Rattle.silo_state.specs.Closings.{ClosesTold}
 use Rattle.tenant_machine.specs.inside.Closings.{ClosesBy}
 use Rattle.tenant_machine.specs.Machines.{StepAnswers}
 use Rattle.tenant_machine.specs.inside.Requests.{seen_at}
-use Rattle.tenant_machine.proofs.Ends.{plan, turn_at, not_open, planned, put_own, sent_own}
+use Rattle.tenant_machine.proofs.Ends.{plan, turn_at, not_open, planned, left_own, sent_own}
 
 -- no such turn is open
 pub store_not : (logic : Logic) (m : Machine) (g : Grain) (turn : ℕ) (failed : Bool) → option_and_then (λ e. open_in e turn e.phase) (map.get m.entries g) ≡ None → machine_step logic m (Store g turn failed) ≡ None
@@ -53,7 +55,7 @@ module _ (logic : Logic) (m : Machine) (g : Grain) (turn : ℕ) (version : Optio
 
   -- that the storage failed
   abbrev failing : Effect
-  failing = closed (seen_at m g) own.entry own.request own.state version keep (Err StorageFailed)
+  failing = closed (seen_at m g) own.entry own.request own.state version say.same keep (Err StorageFailed)
 
   store_is : (failed : Bool) → machine_step logic m (Store g turn failed) ≡ option_map (applied m (Some g)) (option_map (λ answer. if failed then failing else answer) (stored_as asked))
   unfolding machine_step effect_of context_at
@@ -79,10 +81,10 @@ module _ (logic : Logic) (m : Machine) (g : Grain) (turn : ℕ) (version : Optio
 
   -- the entries with the turn closed
   abbrev without_it : Option Phase → Entries
-  without_it phase = map.insert m.entries g (closed_entry own.entry own.request phase m.clock)
+  without_it phase = change_at m.entries g (stays_or_goes (closed_entry own.entry own.request phase say.same m.clock))
 
-  kept_ready : map.insert m.entries g (closed_entry own.entry own.request (Some (ready own.state version)) m.clock) ≡ without_it None
-  kept_ready = ap (λ p. map.insert m.entries g (closed_entry own.entry own.request (Some p) m.clock)) (sym own.is_open.phase_is)
+  kept_ready : without_it (Some (ready own.state version)) ≡ without_it None
+  kept_ready = ap (λ p. without_it (Some p)) (sym own.is_open.phase_is)
 
   failing_is : applied m (Some g) failing ≡ told_machine (without_it None) m.rows (Err StorageFailed)
   unfolding applied
@@ -135,7 +137,7 @@ module _ (logic : Logic) (m : Machine) (g : Grain) (turn : ℕ) (version : Optio
   steps_to new = machine_step logic m (Store g turn false) ≡ Some new
 
   read_is : (state : Tree) (at : Option ℕ) (rows : Rows) → read_again logic m.rows g ≡ ((state, at), rows)
-      → applied m (Some g) (closed (seen_at m g) own.entry own.request (read_again logic m.rows g).0.0 (read_again logic m.rows g).0.1 keep (Ok (version_value (read_again logic m.rows g).0.1)))
+      → applied m (Some g) (closed (seen_at m g) own.entry own.request (read_again logic m.rows g).0.0 (read_again logic m.rows g).0.1 say.same keep (Ok (version_value (read_again logic m.rows g).0.1)))
       ≡ told_machine (without_it (Some (ready state at))) rows (Ok (version_value at))
   unfolding applied
   read_is state at rows parts = λ i. told_machine (without_it (Some (ready (parts i).0.0 (parts i).0.1))) (parts i).1 (Ok (version_value (parts i).0.1))
@@ -176,9 +178,9 @@ module _ (logic : Logic) (m : Machine) (g : Grain) (turn : ℕ) (version : Optio
   -- ---- the entries, by how the turn was closed
 
   -- the activation ends: it goes if nothing waits, and otherwise waits
-  module _ (last : ℕ) (still : last ≡ own.entry.last) (sender : Party) (between : Entries) (d : ClosesEntry m.entries g turn (Some waiting) last sender between) where
+  module _ (last : ℕ) (still : last ≡ own.entry.last) (sender : Party) (between : Entries) (d : ClosesEntry m.entries g turn (Some waiting) say.same last sender between) where
     abbrev ended_entry : Entry
-    ended_entry = closed_entry own.entry own.request (Some waiting) own.entry.last
+    ended_entry = closed_entry own.entry own.request (Some waiting) say.same own.entry.last
 
     ends_by : (queue : List Request) → change_at m.entries g (ends_activation own.entry own.request queue)
         ≡ (if length queue == 0 then map.remove (map.insert m.entries g ended_entry) g else map.insert m.entries g ended_entry)
@@ -187,7 +189,10 @@ module _ (logic : Logic) (m : Machine) (g : Grain) (turn : ℕ) (version : Optio
         ap (λ b. if b then map.remove (map.insert m.entries g ended_entry) g else map.insert m.entries g ended_entry) (sym (some_waits (suc (length others)) (omega arith)))
 
     between_is : between ≡ map.insert m.entries g ended_entry
-    between_is = put_own logic m g turn version idle_after input own (Some waiting) last sender between d ∙ ap (λ n. map.insert m.entries g (closed_entry own.entry own.request (Some waiting) n)) still
+    between_is =
+        left_own logic m g turn version idle_after input own (Some waiting) say.same last sender between d
+        ∙ ap (λ n. change_at m.entries g (stays_or_goes (closed_entry own.entry own.request (Some waiting) say.same n))) still
+        ∙ ap (change_at m.entries g) (busy_stays ended_entry refl)
 
     ends_is : change_at m.entries g (ends_activation own.entry own.request own.entry.queue) ≡ (if idle_after then map.remove between g else between)
     ends_is = ends_by own.entry.queue ∙ (λ i. if sym own.idle_after_is i then map.remove (sym between_is i) g else sym between_is i)
@@ -198,11 +203,11 @@ module _ (logic : Logic) (m : Machine) (g : Grain) (turn : ℕ) (version : Optio
   abbrev pub left : Entries → Rows → List Reply → Machine
   left entries rows replies = record m { entries = entries; rows = rows; replies = replies }
 
-  closed_left : (phase : Option Phase) (rows at : Rows) (outcome : Result Tree Fault) (new : Entries) (replies : List Reply) → ClosesTold m.entries m.replies g turn phase m.clock outcome new replies → at ≡ rows
+  closed_left : (phase : Option Phase) (rows at : Rows) (outcome : Result Tree Fault) (new : Entries) (replies : List Reply) → ClosesTold m.entries m.replies g turn phase say.same m.clock outcome new replies → at ≡ rows
       → told_machine (without_it phase) rows outcome ≡ left new at replies
   closed_left phase rows at outcome new replies t are = λ i. left
-      (sym (put_own logic m g turn version idle_after input own phase m.clock t.sender new t.closes) i) (sym are i)
-      (sym (t.told_is ∙ ap (λ s. m.replies ++ reply_to s outcome) (sent_own logic m g turn version idle_after input own phase m.clock t.sender new t.closes)) i)
+      (sym (left_own logic m g turn version idle_after input own phase say.same m.clock t.sender new t.closes) i) (sym are i)
+      (sym (t.told_is ∙ ap (λ s. m.replies ++ reply_to s outcome) (sent_own logic m g turn version idle_after input own phase say.same m.clock t.sender new t.closes)) i)
 
   module _ {E : Type 0} (c : StorageCall) (is : asked ≡ c) (asking : asks c ≡ true) (last : ℕ) (still : last ≡ own.entry.last) where
     abbrev Answers : Bool → Result Bool E → Entries → Rows → List Reply → Type 0
@@ -226,7 +231,7 @@ module _ (logic : Logic) (m : Machine) (g : Grain) (turn : ℕ) (version : Optio
         subst (λ x. Answers false x new rows replies) (sym d.0)
         (stale_step c is asking found (sym (own_given c) ∙ gives.0)
         ∙ (λ i. Some (left ((ends_is last still d.1.sender d.1.between d.1.closes ∙ sym d.1.left) i) (sym gives.1 i)
-        (sym (d.1.told_is ∙ ap (λ s. m.replies ++ reply_to s (Err (StateChanged g))) (sent_own logic m g turn version idle_after input own (Some waiting) last d.1.sender d.1.between d.1.closes)) i))))
+        (sym (d.1.told_is ∙ ap (λ s. m.replies ++ reply_to s (Err (StateChanged g))) (sent_own logic m g turn version idle_after input own (Some waiting) say.same last d.1.sender d.1.between d.1.closes)) i))))
     plain_answers (Err storage.Spent) rows count gives none result new replies d =
         subst (λ x. Answers false x new rows replies) (sym d.0)
         (spent_step c is asking (sym (own_given c) ∙ gives.0) ∙ ap Some (closed_left None m.rows rows (Err (VersionsSpent g)) new replies d.1 gives.1))

@@ -1,5 +1,5 @@
 -- What a sweep leaves of the entries, and that the marks stay.
-use Rattle.std.proofs.Common.{◌≡◌, ℕ, Bool, true, false, not, cond, Option, Some, None, refl, ap, sym, ◌∙◌}
+use Rattle.std.proofs.Common.{◌≡◌, ℕ, Bool, true, false, not, cond, List, Option, Some, None, refl, ap, sym, ◌∙◌}
 use Rattle.std.specs.Prelude.{option_map, if◌then◌else◌}
 use Rattle.std.specs.FinMap as map
 use Rattle.std.specs.FinMap.{FinMap}
@@ -31,18 +31,18 @@ was_there clock age (Some b) a is = by (is_due clock age (entry_of b)) is
     by true e = absurd cc
     by false e = e
 
-module _ (m n : FinMap grain_cmp Activation) (clock age : ℕ) (left : (g : Grain) → map.get n g ≡ left_of clock age (map.get m g)) where
+module _ (m n : FinMap grain_cmp Activation) (clock : ℕ) (age_of : List ℕ → ℕ) (left : (g : Grain) → map.get n g ≡ left_of clock (age_of g.kind) (map.get m g)) where
   seen : (x : FinMap grain_cmp Activation) (g : Grain) → map.get (entries_of x) g ≡ option_map entry_of (map.get x g)
   seen x g = get-mapped grain_cmp_total grain_cmp_exact entry_of x g
 
-  pub swept_shows : entries_of n ≡ kept_entries clock age (entries_of m)
+  pub swept_shows : entries_of n ≡ kept_entries clock age_of (entries_of m)
   unfolding kept_entries
   swept_shows = alike _ _ (λ g.
       seen n g
       ∙ ap (option_map entry_of) (left g)
-      ∙ left_entry clock age (map.get m g)
-      ∙ (λ i. cond (is_kept clock age (sym (seen m g) i)) (sym (seen m g) i) None)
-      ∙ sym (get-part (entries_of m) (λ grain. is_kept clock age (map.get (entries_of m) grain)) g))
+      ∙ left_entry clock (age_of g.kind) (map.get m g)
+      ∙ (λ i. cond (is_kept clock (age_of g.kind) (sym (seen m g) i)) (sym (seen m g) i) None)
+      ∙ sym (get-part (entries_of m) (λ grain. is_kept clock (age_of grain.kind) (map.get (entries_of m) grain)) g))
 
   pub swept_marked : (logic : Logic) → AllMarked logic m → AllMarked logic n
-  swept_marked logic all g a found = all g a (was_there clock age (map.get m g) a (sym (left g) ∙ found))
+  swept_marked logic all g a found = all g a (was_there clock (age_of g.kind) (map.get m g) a (sym (left g) ∙ found))

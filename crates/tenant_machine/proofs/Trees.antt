@@ -1,5 +1,5 @@
 -- An ordered map of activations, seen as a finite map.
-use Rattle.std.proofs.Common.{◌≡◌, ℕ, Bool, true, false, not, ◌&&◌, cond, List, [], ◌∷◌, length, Option, Some, None, refl, ap, sym, ◌∙◌, subst}
+use Rattle.std.proofs.Common.{◌≡◌, ℕ, Bool, true, false, not, ◌&&◌, cond, List, [], ◌∷◌, length, Option, Some, None, refl, ap, sym, ◌∙◌, subst, true≢false}
 use Rattle.std.specs.Prelude.{T, filter, if◌then◌else◌}
 use Rattle.std.specs.declared.cmp.Ordering.TheVariants.{Less}
 use Rattle.std.specs.Ordering.{eq_by_cmp, is_eq, is_lt}
@@ -16,7 +16,7 @@ use Rattle.std.proofs.lemmas.Map.Entries.{lookup-filter-values, option_filter}
 use Rattle.std.proofs.lemmas.Map.Keys.{IsDistinct-from_sorted}
 use Rattle.finite_maps.proofs.Ascending.{len-ascending}
 use Rattle.finite_maps.proofs.Entries.{from_entries-insert, from_entries-remove, get-lookup}
-use Rattle.finite_maps.proofs.Keys.{keys_by_order}
+use Rattle.finite_maps.proofs.Keys.{keys_by_order, eq_by_cmp-Decides}
 use Rattle.finite_maps.specs.Keys.{AreKeys}
 use Rattle.grain_id.specs.Names.{Grain, grain_cmp}
 use Rattle.grain_id.proofs.Order.{grain_cmp_total, grain_cmp_exact}
@@ -61,10 +61,32 @@ left_is clock age (Some a) = by (is_due clock age (entry_of a))
     by true = refl
     by false = refl
 
-pub left-shown : (m n : Tree) (clock age : ℕ) → IsOrdered grain_cmp m → n.entries ≡ filter (λ e. not (is_due clock age (entry_of e.1))) m.entries → (q : Grain) → map.get (shown n) q ≡ left_of clock age (map.get (shown m) q)
-left-shown m n clock age ordered is q =
+-- what a filter leaves at a grain, by what it says of that grain
+module _ (p : Grain × Activation → Bool) (q : Grain) where
+  abbrev there : Grain → Bool
+  there = eq_by_cmp grain_cmp q
+
+  either : (tied b c : Bool) (e : Grain × Activation) (fs gs : List (Grain × Activation)) → there e.0 ≡ tied → (tied ≡ true → b ≡ c) → lookup there fs ≡ lookup there gs
+      → lookup there (cond b (e ∷ fs) fs) ≡ lookup there (cond c (e ∷ gs) gs)
+  either tied true true e fs gs is agree rest = ap (cond (there e.0) (Some e.1)) rest
+  either tied false false e fs gs is agree rest = rest
+  either true true false e fs gs is agree rest = absurd (true≢false (agree refl))
+  either true false true e fs gs is agree rest = absurd (true≢false (sym (agree refl)))
+  either false true false e fs gs is agree rest = ap (λ b. cond b (Some e.1) (lookup there fs)) is ∙ rest
+  either false false true e fs gs is agree rest = rest ∙ sym (ap (λ b. cond b (Some e.1) (lookup there gs)) is)
+
+  by_value : (es : List (Grain × Activation)) → lookup there (filter p es) ≡ lookup there (filter (λ e. p (q, e.1)) es)
+  by_value [] = refl
+  by_value (e ∷ es) =
+      either (there e.0) (p e) (p (q, e.1)) e (filter p es) (filter (λ x. p (q, x.1)) es) refl
+      (λ tied. ap (λ k. p (k, e.1)) (sym ((eq_by_cmp-Decides grain_cmp_total grain_cmp_exact q e.0).0 tied)))
+      (by_value es)
+
+pub left-shown : (m n : Tree) (clock : ℕ) (age_of : List ℕ → ℕ) → IsOrdered grain_cmp m → n.entries ≡ filter (λ e. not (is_due clock (age_of e.0.kind) (entry_of e.1))) m.entries → (q : Grain) → map.get (shown n) q ≡ left_of clock (age_of q.kind) (map.get (shown m) q)
+left-shown m n clock age_of ordered is q =
     get-shown n q
     ∙ ap (lookup (eq_by_cmp grain_cmp q)) is
-    ∙ lookup-filter-values (eq_by_cmp_equiv grain_cmp_total) (λ a. not (is_due clock age (entry_of a))) q m.entries (IsDistinct-from_sorted grain_cmp (keys_of m.entries) ordered)
-    ∙ left_is clock age (lookup (eq_by_cmp grain_cmp q) m.entries)
-    ∙ ap (left_of clock age) (sym (get-shown m q))
+    ∙ by_value (λ e. not (is_due clock (age_of e.0.kind) (entry_of e.1))) q m.entries
+    ∙ lookup-filter-values (eq_by_cmp_equiv grain_cmp_total) (λ a. not (is_due clock (age_of q.kind) (entry_of a))) q m.entries (IsDistinct-from_sorted grain_cmp (keys_of m.entries) ordered)
+    ∙ left_is clock (age_of q.kind) (lookup (eq_by_cmp grain_cmp q) m.entries)
+    ∙ ap (left_of clock (age_of q.kind)) (sym (get-shown m q))

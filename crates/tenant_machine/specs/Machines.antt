@@ -3,17 +3,19 @@ use Rattle.std.specs.Prelude.{◌≡◌, ℕ, true, false, List, [], Option, Som
 use Rattle.std.specs.FinMap as map
 use Rattle.tenant_gate.specs.declared.limits.Limits.{Limits}
 use Rattle.silo_event.specs.declared.step.Step.{Step}
+use Rattle.idle_collector.specs.Ages.{Ages}
 use Rattle.grain_kinds.specs.Logic.{Logic}
 use Rattle.silo_model.specs.Machine.{Machine}
 use Rattle.silo_model.specs.Opening.{fresh_account}
 use Rattle.silo_model.specs.Step.{machine_step}
 
 -- the machine of a tenant before any step, over no rows: the tenant has these limits, or isn't known
-abbrev pub start_with : List ℕ → Option Limits → ℕ → Machine
-start_with tenant limits age = record {
+abbrev pub start_with : List ℕ → Option Limits → ℕ → Ages → Machine
+start_with tenant limits age ages = record {
   tenant = tenant;
   account = option_map fresh_account limits;
   age = age;
+  ages = ages;
   clock = 0;
   entries = map.empty;
   rows = map.empty;

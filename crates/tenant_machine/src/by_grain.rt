@@ -1,16 +1,18 @@
 //! Which activation a grain has, in one ordered map.
 
-ghost use Rattle.std.specs.Prelude.{◌≡◌, ◌<◌, ◌^◌, OnOk, OnErr};
+ghost use Rattle.std.specs.Prelude.{◌≡◌, ◌<◌, ◌^◌, not, OnOk, OnErr};
 ghost use Rattle.std.specs.Option.{option_copied, option_copied_mut};
 ghost use Rattle.std.specs.Borrow.{sem};
 ghost use Rattle.std.specs.FinMap as map;
 ghost use Rattle.grain_id.specs.Names.{Grain};
+ghost use Rattle.idle_collector.specs.Ages.{kind_age};
 ghost use Rattle.silo_model.specs.Idle.{is_due};
 ghost use Rattle.silo_state.specs.Shown.{entry_of};
 ghost use Rattle.tenant_machine.specs.inside.Sweeps.{left_of};
 
 use activation_directory::Activation;
 use grain_id::GrainId;
+use idle_collector::AgeTable;
 use silo_event::Moment;
 use silo_state::change;
 use std::alloc::{AllocError, Global};
@@ -103,19 +105,21 @@ impl ByGrain {
         self.activations.remove(grain)
     }
 
-    /// The activations that are due go. Takes no memory.
-    pub fn sweep(&mut self, clock: Moment, age: Age)
-        ensures { (grain : Grain) → map.get self.new grain ≡ left_of clock age (map.get self.old grain) }
+    /// The activations that are due go, each by the age of its kind. Takes no memory.
+    pub fn sweep(&mut self, clock: Moment, age: Age, ages: &AgeTable)
+        ensures { (grain : Grain) → map.get self.new grain
+            ≡ left_of clock (kind_age ages.now age grain.kind) (map.get self.old grain) }
     {
-        self.activations
-            .retain(|_, activation| !is_due(activation, clock, age));
+        self.activations.retain(|grain, activation| stays(grain, activation, clock, age, ages));
     }
 }
 
-/// Whether it is idle, and due by this moment.
-fn is_due(activation: &Activation, clock: Moment, age: Age) -> bool
-    ensures { result ≡ is_due clock age (entry_of activation.now) }
+/// Whether the grain's activation isn't idle, or isn't due by this moment.
+fn stays(grain: &GrainId, activation: &Activation, clock: Moment, age: Age, ages: &AgeTable) -> bool
+    ensures { result ≡ not (is_due clock (kind_age ages.now age grain.now.kind) (entry_of activation.now)) }
 {
-    let idle = change::is_idle(activation);
-    idle && change::due_moment(activation, age) <= clock.get()
+    if !change::is_idle(activation) {
+        return true;
+    }
+    clock.get() < change::due_moment(grain, activation, ages, age)
 }

@@ -3,6 +3,8 @@
 ghost use Rattle.std.specs.Prelude.{◌≡◌, ◌≤◌, ◌+◌, ◌<◌, ◌++◌, Some, IsSome, Err, flat_map, length, if◌then◌else◌, vec_len, vec_capacity};
 ghost use Rattle.std.specs.Option.{option_map, option_and_then};
 ghost use Rattle.std.specs.FinMap as map;
+ghost use Rattle.grain_kinds.specs.Laws.{IsKeep};
+ghost use Rattle.grain_kinds.specs.Planned.{keep_of};
 ghost use Rattle.silo_event.specs.declared.fault.Fault.TheVariants.{StorageFailed};
 ghost use Rattle.silo_model.specs.Calls.{reply_to};
 ghost use Rattle.silo_model.specs.Machine.{Entry};
@@ -13,7 +15,7 @@ ghost use Rattle.tenant_machine.specs.inside.Closings.{ClosesBy};
 use crate::entries::Entries;
 use activation_directory::Phase;
 use grain_id::GrainId;
-use grain_kinds::GrainLogic;
+use grain_kinds::{GrainLogic, Keep};
 use grain_storage::StoreFault;
 use request_codec::StateBytes;
 use silo_event::{Fault, Moment, Reply};
@@ -29,21 +31,24 @@ pub struct ClosedTurn<'a> {
     pub idle_after: bool,
 }
 
-/// Closes an open turn, and tells its sender. Takes no memory.
+/// Closes an open turn, which said this of its activation, and tells its sender. The activation goes if it
+/// rests and is idle then. Takes no memory.
 pub fn close_turn<L: GrainLogic>(
     entries: &mut Entries<L>,
     replies: &mut Vec<Reply>,
     closing: ClosedTurn<'_>,
     now: Moment,
     phase: Option<Phase>,
+    keep: Keep,
     outcome: Result<StateBytes, Fault>,
 )
+    requires in_range { IsKeep (keep_of keep) }
     requires is_open { IsSome (option_and_then (λ e. map.get e.turns closing.turn) (map.get entries.old closing.grain.now)) }
     requires room { vec_len replies.old < vec_capacity replies.old }
     ensures { ClosesTold entries.old replies.old.items closing.entry.grain.now closing.entry.turn
-        (option_map phase_of phase) now outcome entries.new replies.new.items }
+        (option_map phase_of phase) (keep_of keep) now outcome entries.new replies.new.items }
 {
-    let Some(sender) = entries.close(closing.grain, closing.turn, phase, now) else {
+    let Some(sender) = entries.close(closing.grain, closing.turn, phase, keep, now) else {
         unreachable!()
     };
     tell(replies, sender, outcome);
@@ -63,7 +68,8 @@ fn end_activation<L: GrainLogic>(
     ensures { EndsTold entries.old replies.old.items closing.entry.grain.now closing.entry.turn closing.entry.idle_after last
         (Err why) entries.new replies.new.items }
 {
-    let Some(sender) = entries.close(closing.grain, closing.turn, Some(Phase::Waiting), last) else {
+    let phase = Some(Phase::Waiting);
+    let Some(sender) = entries.close(closing.grain, closing.turn, phase, Keep::Same, last) else {
         unreachable!()
     };
     drop_if(entries, closing.grain, closing.idle_after);
@@ -108,7 +114,16 @@ pub fn close_by<L: GrainLogic>(
         state: stored.state,
         version: stored.version,
     };
-    close_turn(entries, replies, closing, now, Some(phase), Ok(stored.told));
+    let told = Ok(stored.told);
+    close_turn(
+        entries,
+        replies,
+        closing,
+        now,
+        Some(phase),
+        Keep::Same,
+        told,
+    );
     Ok(true)
 }
 
@@ -131,12 +146,12 @@ fn close_refused<L: GrainLogic>(
     match fault {
         StoreFault::Failed => {
             let why = Err(Fault::StorageFailed);
-            close_turn(entries, replies, closing, now, None, why);
+            close_turn(entries, replies, closing, now, None, Keep::Same, why);
             Ok(true)
         }
         StoreFault::Spent => {
             let why = Err(Fault::VersionsSpent(named));
-            close_turn(entries, replies, closing, now, None, why);
+            close_turn(entries, replies, closing, now, None, Keep::Same, why);
             Ok(true)
         }
         StoreFault::Stale(_) => {

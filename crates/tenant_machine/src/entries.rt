@@ -1,11 +1,14 @@
 //! The activations of a tenant's grains, as entries.
 
-ghost use Rattle.std.specs.Prelude.{◌≡◌, ◌<◌, ◌^◌, true, IfOk, OnOk, OnErr, IfSome, Some};
+ghost use Rattle.std.specs.Prelude.{◌≡◌, ◌<◌, ◌^◌, ◌&&◌, true, false, IfOk, OnOk, OnErr, IfSome, Some};
 ghost use Rattle.std.specs.Option.{option_copied, option_map};
 ghost use Rattle.std.specs.FinMap as map;
+ghost use Rattle.grain_kinds.specs.Laws.{IsKeep};
+ghost use Rattle.grain_kinds.specs.Planned.{keep_of};
+ghost use Rattle.idle_collector.specs.Ages.{kind_age};
 ghost use Rattle.silo_model.specs.Calls.{with_request};
-ghost use Rattle.silo_model.specs.Idle.{kept_entries};
-ghost use Rattle.silo_model.specs.Machine.{Entry};
+ghost use Rattle.silo_model.specs.Idle.{is_idle, kept_entries};
+ghost use Rattle.silo_model.specs.Machine.{Entry, ready};
 ghost use Rattle.silo_state.specs.Entries.{Activates, Begins, Closes};
 ghost use Rattle.silo_state.specs.Marks.{AreMarked, IsMarked};
 ghost use Rattle.silo_state.specs.Shown.{entry_of, phase_of, request_of};
@@ -13,7 +16,9 @@ ghost use Rattle.silo_state.specs.Shown.{entry_of, phase_of, request_of};
 use crate::by_grain::ByGrain;
 use activation_directory::{Activation, Phase};
 use grain_id::GrainId;
-use grain_kinds::GrainLogic;
+use grain_kinds::{GrainLogic, Keep};
+use idle_collector::AgeTable;
+use request_codec::StateBytes;
 use silo_event::{Answer, Moment, Party};
 use silo_state::{arrival, change};
 use std::alloc::{AllocError, Global};
@@ -111,15 +116,16 @@ impl<L: GrainLogic> Entries<L> {
         change::start(activation)
     }
 
-    /// The grain's activation is in another phase. Takes no memory.
-    pub fn set_phase(&mut self, grain: &GrainId, phase: Phase)
-        ensures { (e : Entry) → map.get self.old grain.now ≡ Some e
-            → self.new ≡ map.insert self.old grain.now (record e { phase = phase_of phase }) }
+    /// The grain's activation is ready in this state, which stands on this version, and neither rests nor
+    /// stays. Takes no memory.
+    pub fn make_ready(&mut self, grain: &GrainId, state: StateBytes, version: Option<u64>)
+        ensures { (e : Entry) → map.get self.old grain.now ≡ Some e → self.new
+            ≡ map.insert self.old grain.now (record e { phase = ready state version; until = 0; resting = false }) }
     {
         let Some(activation) = self.by_grain.get_mut(grain) else {
             return;
         };
-        activation.phase = phase;
+        change::make_ready(activation, state, version);
     }
 
     /// The grain's first waiting request becomes an open turn, if it may: whether it did.
@@ -137,21 +143,31 @@ impl<L: GrainLogic> Entries<L> {
         change::open(activation)
     }
 
-    /// Closes the grain's turn of that number: who asked for it. The activation is then in this
-    /// phase, if one is given, and was last used at this moment. Takes no memory.
+    /// Closes the grain's turn of that number: who asked for it. The activation is then in this phase, if
+    /// one is given, was last used at this moment, and is as the turn said of it; it goes if it rests and is
+    /// idle. Takes no memory.
     pub fn close(
         &mut self,
         grain: &GrainId,
         turn: u64,
         phase: Option<Phase>,
+        keep: Keep,
         last: Moment,
     ) -> Option<Party>
-        ensures { Closes self.old grain.now turn (option_map phase_of phase) last result self.new }
+        requires { IsKeep (keep_of keep) }
+        ensures { Closes self.old grain.now turn (option_map phase_of phase) (keep_of keep) last result self.new }
     {
         let Some(activation) = self.by_grain.get_mut(grain) else {
             return None;
         };
-        change::close(activation, turn, phase, last)
+        let Some(sender) = change::close(activation, turn, phase, keep, last) else {
+            return None;
+        };
+        if goes(activation) {
+            drop(self.by_grain.remove(grain));
+            return Some(sender);
+        }
+        Some(sender)
     }
 
     /// Takes the grain's activation out. Takes no memory.
@@ -162,10 +178,17 @@ impl<L: GrainLogic> Entries<L> {
         self.by_grain.remove(grain)
     }
 
-    /// The activations that are due go. Takes no memory.
-    pub fn sweep(&mut self, clock: Moment, age: Age)
-        ensures { self.new ≡ kept_entries clock age self.old }
+    /// The activations that are due go, each by the age of its kind. Takes no memory.
+    pub fn sweep(&mut self, clock: Moment, age: Age, ages: &AgeTable)
+        ensures { self.new ≡ kept_entries clock (kind_age ages.now age) self.old }
     {
-        self.by_grain.sweep(clock, age);
+        self.by_grain.sweep(clock, age, ages);
     }
+}
+
+/// Whether it rests and is idle.
+fn goes(activation: &Activation) -> bool
+    ensures { result ≡ ((entry_of activation.now).resting && is_idle (entry_of activation.now)) }
+{
+    activation.resting && change::is_idle(activation)
 }

@@ -12,6 +12,7 @@ use crate::entries::Entries;
 use grain_id::{GrainId, Tenant};
 use grain_kinds::GrainLogic;
 use grain_storage::{GrainStorage, MemoryStorage, Row};
+use idle_collector::AgeTable;
 use silo_event::{Moment, Reply, Step};
 use std::alloc::{AllocError, Global};
 use std::marker::Model;
@@ -33,6 +34,7 @@ pub struct TenantMachine<L: GrainLogic> {
     tenant: Tenant,
     account: Option<Account>,
     age: Age,
+    ages: AgeTable,
     clock: Moment,
     entries: Entries<L>,
     storage: MemoryStorage,
@@ -55,6 +57,7 @@ impl<L: GrainLogic> Model for TenantMachine<L> {
       tenant = m.tenant;
       account = m.account;
       age = m.age;
+      ages = m.ages;
       clock = m.clock;
       entries = m.entries;
       rows = m.storage;
@@ -84,7 +87,7 @@ fn opened(alloc: Global, limits: Option<Limits>) -> Option<Account>
 
 impl<L: GrainLogic + Drop> TenantMachine<L> {
     /// The tenant's machine before any step, over no rows: with these limits, or, if there are none, of
-    /// a tenant that isn't known.
+    /// a tenant that isn't known. A kind that has no age of its own in the table has the age before it.
     ///
     /// # Errors
     ///
@@ -94,15 +97,17 @@ impl<L: GrainLogic + Drop> TenantMachine<L> {
         tenant: Tenant,
         limits: Option<Limits>,
         age: Age,
+        ages: AgeTable,
         logic: L,
     ) -> Result<TenantMachine<L>, AllocError>
         requires { IfSome limits (λ l. IsTrue (are_in_range l)) }
-        ensures { IfOk result (λ m. m ≡ start_with tenant limits age) }
+        ensures { IfOk result (λ m. m ≡ start_with tenant limits age ages) }
     {
         Ok(TenantMachine {
             tenant,
             account: opened(alloc, limits),
             age,
+            ages,
             clock: beginning(),
             entries: Entries::new(alloc),
             storage: MemoryStorage::new(alloc),

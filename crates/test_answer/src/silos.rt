@@ -4,6 +4,7 @@
 use grain_id::Tenant;
 use grain_kinds::Kinds;
 use grain_storage::{FusedStorage, MemoryStorage};
+use idle_collector::AgeTable;
 use line_answer::{AnsweringSilo, Input, LineFault, Output, answer_lines};
 use silo_core::{Setup, Silo};
 use silo_event::{Moment, Reply, Step};
@@ -37,6 +38,7 @@ pub fn new_silo(alloc: Global, fails_at: u64) -> Result<TestedSilo, Fail> {
     let setup = Setup {
         tenants: tenants(alloc)?,
         age,
+        ages: AgeTable::none(alloc),
         storage: FusedStorage::new(MemoryStorage::new(alloc), fails_at),
         logic: Kinds,
     };

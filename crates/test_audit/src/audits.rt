@@ -3,8 +3,9 @@
 ghost use Rattle.std.specs.Prelude.{◌≤◌};
 
 use grain_id::Tenant;
-use grain_kinds::Kinds;
+use grain_kinds::{Kinds, RestingKinds};
 use grain_storage::MemoryStorage;
+use idle_collector::AgeTable;
 use silo_core::{Setup, Silo};
 use silo_event::{Moment, Step};
 use std::alloc::Global;
@@ -14,8 +15,8 @@ use std::test::Fail;
 use std::thread;
 use std::thread::Threads;
 use tenant_audit::{
-    AuditFault, AuditGate, JournalFault, Report, TenantMachine, audit, audit_under, audit_with,
-    has_difference, laws, read_journal, report_text, write_journal,
+    AuditFault, AuditGate, JournalFault, JournalKinds, Report, TenantMachine, audit, audit_under,
+    audit_with, has_difference, laws, read_journal, report_text, write_journal,
 };
 use tenant_gate::{Age, Limits, TenantTable};
 
@@ -174,7 +175,10 @@ fn a_changed_reply_is_told(rt: HostRuntime) -> Result<(), Fail> {
 }
 
 /// A silo of red alone, over no rows.
-fn new_silo(alloc: Global) -> Result<Silo<MemoryStorage, Kinds>, Fail> {
+fn new_silo<L: JournalKinds + Copy + Drop>(
+    alloc: Global,
+    logic: L,
+) -> Result<Silo<MemoryStorage, L>, Fail> {
     let limits = Limits {
         activations: 2,
         mailbox: 4,
@@ -183,14 +187,18 @@ fn new_silo(alloc: Global) -> Result<Silo<MemoryStorage, Kinds>, Fail> {
     let setup = Setup {
         tenants: TenantTable::new(alloc, vec![in alloc; (red, limits)]?)?,
         age: Age::new(900_000).ok_or("no age")?,
+        ages: AgeTable::none(alloc),
         storage: MemoryStorage::new(alloc),
-        logic: Kinds,
+        logic,
     };
     Ok(Silo::new(alloc, setup)?)
 }
 
 /// The journal of the silo after the worked journal's steps.
-fn written(alloc: Global, silo: &mut Silo<MemoryStorage, Kinds>) -> Result<Vec<u8>, Fail> {
+fn written<L: JournalKinds + Copy + Drop>(
+    alloc: Global,
+    silo: &mut Silo<MemoryStorage, L>,
+) -> Result<Vec<u8>, Fail> {
     let journal = read_journal(alloc, WORKED.as_bytes())?;
     for step in journal.steps() {
         drop(silo.apply(alloc, step.clone()?)?);
@@ -202,8 +210,8 @@ fn written(alloc: Global, silo: &mut Silo<MemoryStorage, Kinds>) -> Result<Vec<u
 }
 
 /// The same of a new silo.
-fn written_anew(alloc: Global) -> Result<Vec<u8>, Fail> {
-    let mut silo = new_silo(alloc)?;
+fn written_anew<L: JournalKinds + Copy + Drop>(alloc: Global, logic: L) -> Result<Vec<u8>, Fail> {
+    let mut silo = new_silo(alloc, logic)?;
     let text = written(alloc, &mut silo);
     drop(silo);
     text
@@ -212,9 +220,14 @@ fn written_anew(alloc: Global) -> Result<Vec<u8>, Fail> {
 #[test]
 fn a_silo_writes_the_worked_journal(rt: HostRuntime) -> Result<(), Fail> {
     let alloc = rt.alloc();
-    let text = written_anew(alloc)?;
-    assert!(rt; text.as_slice() == WORKED.as_bytes());
-    let report = audit_under(alloc, &read_journal(alloc, text.as_slice())?, Kinds)?;
+    let text = written_anew(alloc, Kinds)?;
+    let first = WORKED.replace(alloc, "silo-journal 1\n", "silo-journal 2\nkinds 1\n")?;
+    assert!(rt; text.as_slice() == first.as_bytes());
+    let text = written_anew(alloc, RestingKinds)?;
+    let second = WORKED.replace(alloc, "silo-journal 1\n", "silo-journal 2\nkinds 2\n")?;
+    assert!(rt; text.as_slice() == second.as_bytes());
+    let journal = read_journal(alloc, text.as_slice())?;
+    let report = audit_under(alloc, &journal, RestingKinds)?;
     assert!(rt; !has_difference(&report));
     Ok(())
 }
@@ -249,7 +262,8 @@ fn machine_of_red(alloc: Global) -> Result<TenantMachine<Kinds>, Fail> {
     };
     let red = Tenant::read(alloc, "red")?;
     let age = Age::new(900_000).ok_or("no age")?;
-    Ok(TenantMachine::new(alloc, red, Some(limits), age, Kinds)?)
+    let ages = AgeTable::none(alloc);
+    Ok(TenantMachine::new(alloc, red, Some(limits), age, ages, Kinds)?)
 }
 
 /// Whether the machine takes this moment.

@@ -8,4 +8,6 @@ mod audits;
 #[cfg(test)]
 mod lanes;
 #[cfg(test)]
+mod resting;
+#[cfg(test)]
 mod served;

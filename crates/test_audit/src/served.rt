@@ -3,6 +3,7 @@
 use grain_id::{Caller, GrainId, Tenant};
 use grain_kinds::Kinds;
 use grain_storage::MemoryStorage;
+use idle_collector::AgeTable;
 use request_codec::{Datum, encode};
 use silo_core::{Setup, Silo};
 use silo_event::Step;
@@ -39,6 +40,7 @@ fn setup(alloc: Global, other: &str) -> Result<Setup<MemoryStorage, Kinds>, Fail
     Ok(Setup {
         tenants: TenantTable::new(alloc, tenants)?,
         age: Age::new(900_000).ok_or("no age")?,
+        ages: AgeTable::none(alloc),
         storage: MemoryStorage::new(alloc),
         logic: Kinds,
     })

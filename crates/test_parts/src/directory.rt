@@ -41,6 +41,8 @@ fn activation(alloc: Global, last: Moment) -> Result<Activation, Fail> {
         phase: Phase::Waiting,
         mailbox: Mailbox::new(alloc, 2)?,
         last,
+        until: 0,
+        resting: false,
     })
 }
 

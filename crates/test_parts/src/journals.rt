@@ -2,7 +2,9 @@
 
 use crate::compare::{same, same_at};
 use crate::values::{caller, read_state, tenant};
-use journal_text::{Journal, JournalFault, RecordedReply, journal_of_parts, read_journal};
+use journal_text::{
+    Journal, JournalFault, JournalParts, RecordedReply, journal_of_parts, read_journal,
+};
 use silo_event::{Fault, Party, Reply};
 use std::alloc::{AllocError, Global};
 use std::test::Fail;
@@ -10,6 +12,10 @@ use std::test::Fail;
 /// The journal of one tenant whose counter is asked to add 3.
 const WORKED: &str =
     "silo-journal 1\nage 900000\ntenant red 2 4\ncall red/c1 1 counter/red:a 01000000036164640600000001000000026279030000000000000003\nactivate counter/red:a\nload counter/red:a ok\nbegin counter/red:a\nend counter/red:a 1\nreply red/c1 1 ok 030000000000000003\nclose 5\n";
+
+/// The same in the second form, as a silo writes it whose grains may rest and stay.
+const SERVED: &str =
+    "silo-journal 2\nkinds 2\nage 900000\ntenant red 2 4\ncall red/c1 1 counter/red:a 01000000036164640600000001000000026279030000000000000003\nactivate counter/red:a\nload counter/red:a ok\nbegin counter/red:a\nend counter/red:a 1\nreply red/c1 1 ok 030000000000000003\nclose 5\n";
 
 /// A journal whose one reply tells a fault.
 const FAULT: &str =
@@ -60,14 +66,16 @@ fn last_told(journal: &Journal) -> (&str, (usize, &str)) {
 
 /// The journal with these replies in place of its own, written.
 fn written(alloc: Global, journal: &Journal, replies: &[Reply]) -> Result<Vec<u8>, Fail> {
-    Ok(journal_of_parts(
-        alloc,
-        journal.tenants(),
-        journal.age().millis(),
-        journal.steps(),
+    let parts = JournalParts {
+        kinds: journal.kinds(),
+        age: journal.age().millis(),
+        ages: journal.ages().list(),
+        tenants: journal.tenants(),
+        steps: journal.steps(),
         replies,
-        journal.rows(),
-    )?)
+        rows: journal.rows(),
+    };
+    Ok(journal_of_parts(alloc, parts)?)
 }
 
 /// The value 3, for `red/c1`.
@@ -94,7 +102,13 @@ fn list_of(alloc: Global, reply: Reply) -> Result<Vec<Reply>, Fail> {
     Ok(replies)
 }
 
-/// The last reply of a text's journal tells this, and the journal is written as the text, if that reply is given again.
+/// The text of the second form of a journal of the first one.
+fn in_second_form(alloc: Global, text: &str) -> Result<String, Fail> {
+    Ok(text.replace(alloc, "silo-journal 1\n", "silo-journal 2\nkinds 1\n")?)
+}
+
+/// The last reply of a text's journal tells this, and the journal is written in the second form, if that reply is given
+/// again.
 fn is_written(
     alloc: Global,
     text: &str,
@@ -102,7 +116,8 @@ fn is_written(
     told: (&str, (usize, &str)),
 ) -> Result<(), Fail> {
     let replies = list_of(alloc, reply)?;
-    is_text(alloc, &journal(alloc, text)?, &replies, text, told)
+    let wanted = in_second_form(alloc, text)?;
+    is_text(alloc, &journal(alloc, text)?, &replies, &wanted, told)
 }
 
 fn is_text(
@@ -123,6 +138,12 @@ fn journals_are_read_and_written(rt: HostRuntime) -> Result<(), Fail> {
     is_written(
         rt.alloc(),
         WORKED,
+        three(rt.alloc())?,
+        ("red", (9, "bytes")),
+    )?;
+    is_written(
+        rt.alloc(),
+        SERVED,
         three(rt.alloc())?,
         ("red", (9, "bytes")),
     )?;
@@ -190,6 +211,8 @@ fn a_wrong_line_is_named(rt: HostRuntime) -> Result<(), Fail> {
     for (old, new, line) in &CHANGES {
         same_at(*new, changed_verdict(rt.alloc(), *old, *new)?, *line)?;
     }
+    let open = SERVED.replace(rt.alloc(), "close 5\n", "")?;
+    is_verdict(rt.alloc(), open.as_bytes(), 11)?;
     is_verdict(rt.alloc(), EACH_KIND.as_bytes(), 0)?;
     is_verdict(rt.alloc(), b"\xFF\n", 1)
 }
@@ -209,7 +232,7 @@ static SECOND_CHANGES: [(&str, &str, usize); 8] = [
 /// The kinds of a journal that have an age of their own, each with it.
 fn ages_of_kinds(alloc: Global, journal: &Journal) -> Result<String, Fail> {
     let mut text = String::new(alloc);
-    for (kind, age) in journal.ages() {
+    for (kind, age) in journal.ages().list() {
         let kind = kind.text();
         write!(text, "{kind} {age}, ")?;
     }
@@ -226,8 +249,10 @@ fn a_journal_of_the_second_form_tells_its_kinds(rt: HostRuntime) -> Result<(), F
         "counter 10, sheet 86400000, ",
     )?;
     same(read.tenants().len(), 1)?;
+    let again = written(rt.alloc(), &read, &[])?;
+    same(again.as_slice() == SECOND.as_bytes(), true)?;
     let first = journal(rt.alloc(), WORKED)?;
-    same((first.kinds(), first.ages().len()), (1, 0))?;
+    same((first.kinds(), first.ages().list().len()), (1, 0))?;
     for (old, new, line) in &SECOND_CHANGES {
         let found = verdict(
             rt.alloc(),

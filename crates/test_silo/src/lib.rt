@@ -6,6 +6,8 @@
 #![tactic(auto)]
 
 #[cfg(test)]
+mod ages;
+#[cfg(test)]
 mod lines;
 #[cfg(test)]
 mod methods;

@@ -4,11 +4,14 @@
 use crate::lines::{shown, steps_behind, steps_of, stored, told};
 use crate::rows::{Worked, across, cleared, collected, first_call, overwritten};
 use crate::silos::{TestedSilo, new_silo, replies, rows, run};
+use grain_kinds::GrainLogic;
+use grain_storage::GrainStorage;
+use silo_core::Silo;
 use silo_event::{Answer, Step};
 use std::alloc::Global;
 use std::test::Fail;
 
-fn are_done(answers: &[Answer]) -> bool {
+pub fn are_done(answers: &[Answer]) -> bool {
     answers.iter().all(|answer| *answer == Answer::Done)
 }
 
@@ -53,7 +56,11 @@ fn is_at(alloc: Global, silo: &TestedSilo, row: &Worked, first: usize) -> Result
 }
 
 /// Whether the row is told and stored.
-fn is_shown(alloc: Global, silo: &TestedSilo, row: &Worked) -> Result<bool, Fail> {
+pub fn is_shown<S: GrainStorage, L: GrainLogic>(
+    alloc: Global,
+    silo: &Silo<S, L>,
+    row: &Worked,
+) -> Result<bool, Fail> {
     let said = told(alloc, replies(silo))?;
     let kept = stored(alloc, rows(alloc, silo)?.as_slice())?;
     Ok(said.as_str() == row.told && kept.as_str() == row.stored)

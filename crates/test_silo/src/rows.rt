@@ -1,7 +1,7 @@
 //! Worked rows: lines of steps, with what is told and stored after them. Each can be followed by hand.
 //!
-//! The tenants are red and blue, each with 2 activations of 4 waiting requests, and the age is 1,000. The texts come from
-//! functions, since a long text in a test's own body stands in all its goals.
+//! The tenants are red and blue, each with 2 activations of 4 waiting requests, and the age is 1,000 where a row says no
+//! other. The texts come from functions, since a long text in a test's own body stands in all its goals.
 
 /// Lines, the lines of their replies, and the grains with the versions of their rows.
 #[derive(Clone, Copy)]
@@ -387,5 +387,91 @@ pub fn too_large() -> Worked {
         told: r#"{"error":63,"from":"red/c1","id":1,"text":"state is too large"}
 "#,
         stored: "sheet/red:s 1\n",
+    }
+}
+
+/// A counter and a sheet are idle for 10, after which counters go, and sheets not yet.
+pub fn one_kind_goes() -> Worked {
+    Worked {
+        lines: r#"{"op":"tick","now":100}
+{"op":"call","from":"red/c1","id":1,"grain":"counter/red:a","method":"add","args":{"by":3}}
+{"op":"call","from":"red/c1","id":2,"grain":"sheet/red:s","method":"list","args":null}
+{"op":"activate","grain":"counter/red:a"}
+{"op":"load","grain":"counter/red:a"}
+{"op":"activate","grain":"sheet/red:s"}
+{"op":"load","grain":"sheet/red:s"}
+{"op":"begin","grain":"counter/red:a"}
+{"op":"end","grain":"counter/red:a","turn":1}
+{"op":"begin","grain":"sheet/red:s"}
+{"op":"end","grain":"sheet/red:s","turn":2}
+{"op":"tick","now":110}
+{"op":"sweep"}
+{"op":"status","from":"red/c1","id":3}
+"#,
+        told: r#"{"from":"red/c1","id":1,"ok":3}
+{"from":"red/c1","id":2,"ok":[]}
+{"from":"red/c1","id":3,"ok":{"activations":1,"clock":110,"requests":2}}
+"#,
+        stored: "",
+    }
+}
+
+/// A counter stays for 50, and grains go when they are idle for 10.
+pub fn stays() -> Worked {
+    Worked {
+        lines: r#"{"op":"tick","now":100}
+{"op":"call","from":"red/c1","id":1,"grain":"counter/red:a","method":"stay","args":{"for":50}}
+{"op":"activate","grain":"counter/red:a"}
+{"op":"load","grain":"counter/red:a"}
+{"op":"begin","grain":"counter/red:a"}
+{"op":"end","grain":"counter/red:a","turn":1}
+{"op":"tick","now":149}
+{"op":"sweep"}
+{"op":"status","from":"red/c1","id":2}
+{"op":"tick","now":150}
+{"op":"sweep"}
+{"op":"status","from":"red/c1","id":3}
+"#,
+        told: r#"{"from":"red/c1","id":1,"ok":null}
+{"from":"red/c1","id":2,"ok":{"activations":1,"clock":149,"requests":1}}
+{"from":"red/c1","id":3,"ok":{"activations":0,"clock":150,"requests":1}}
+"#,
+        stored: "",
+    }
+}
+
+/// A counter rests while a request waits, and goes when that is answered.
+pub fn rests() -> Worked {
+    Worked {
+        lines: r#"{"op":"call","from":"red/c1","id":1,"grain":"counter/red:a","method":"rest","args":null}
+{"op":"call","from":"red/c1","id":2,"grain":"counter/red:a","method":"add","args":{"by":3}}
+{"op":"activate","grain":"counter/red:a"}
+{"op":"load","grain":"counter/red:a"}
+{"op":"begin","grain":"counter/red:a"}
+{"op":"end","grain":"counter/red:a","turn":1}
+{"op":"status","from":"red/c1","id":3}
+{"op":"begin","grain":"counter/red:a"}
+{"op":"end","grain":"counter/red:a","turn":2}
+{"op":"status","from":"red/c1","id":4}
+"#,
+        told: r#"{"from":"red/c1","id":1,"ok":null}
+{"from":"red/c1","id":3,"ok":{"activations":1,"clock":0,"requests":2}}
+{"from":"red/c1","id":2,"ok":3}
+{"from":"red/c1","id":4,"ok":{"activations":0,"clock":0,"requests":2}}
+"#,
+        stored: "",
+    }
+}
+
+/// The lines of `rests`, where grains don't know how to.
+pub fn knows_no_rest() -> Worked {
+    Worked {
+        lines: rests().lines,
+        told: r#"{"error":60,"from":"red/c1","id":1,"text":"method is unknown"}
+{"from":"red/c1","id":3,"ok":{"activations":1,"clock":0,"requests":2}}
+{"from":"red/c1","id":2,"ok":3}
+{"from":"red/c1","id":4,"ok":{"activations":1,"clock":0,"requests":2}}
+"#,
+        stored: "",
     }
 }

@@ -1,9 +1,10 @@
 //! Silos, and calls of them, each in a function without clauses: the clauses of a call stand before all later goals of
 //! the body that makes it.
 
-use grain_id::{GrainId, Tenant};
+use grain_id::{GrainId, Kind, Tenant};
 use grain_kinds::{GrainLogic, Kinds};
 use grain_storage::{FusedStorage, GrainStorage, MemoryStorage, Row};
+use idle_collector::AgeTable;
 use silo_core::{RunReport, Setup, Silo};
 use silo_event::{Answer, Reply, Step, StepFault};
 use std::alloc::{AllocError, Global};
@@ -38,6 +39,7 @@ pub fn silo_over(alloc: Global, rows: MemoryStorage, fails_at: u64) -> Result<Te
     let setup = Setup {
         tenants: tenants(alloc)?,
         age,
+        ages: AgeTable::none(alloc),
         storage: FusedStorage::new(rows, fails_at),
         logic: Kinds,
     };
@@ -47,6 +49,33 @@ pub fn silo_over(alloc: Global, rows: MemoryStorage, fails_at: u64) -> Result<Te
 /// A silo over no rows.
 pub fn new_silo(alloc: Global) -> Result<TestedSilo, Fail> {
     silo_over(alloc, MemoryStorage::new(alloc), 0)
+}
+
+/// The ages of these kinds.
+fn ages_of(alloc: Global, list: &[(&str, u64)]) -> Result<AgeTable, Fail> {
+    let mut ages = Vec::new(alloc);
+    for (kind, age) in list {
+        ages.push((Kind::read(alloc, *kind)?, *age))?;
+    }
+    Ok(AgeTable::new(alloc, ages)?)
+}
+
+/// A silo of this logic over no rows, with this age, and the ages of these kinds.
+pub fn silo_of<L: GrainLogic + Drop>(
+    alloc: Global,
+    logic: L,
+    age: u64,
+    ages: &[(&str, u64)],
+) -> Result<Silo<MemoryStorage, L>, Fail> {
+    let age = Age::new(age).ok_or("no age")?;
+    let setup = Setup {
+        tenants: tenants(alloc)?,
+        age,
+        ages: ages_of(alloc, ages)?,
+        storage: MemoryStorage::new(alloc),
+        logic,
+    };
+    Ok(opened(alloc, setup)?)
 }
 
 /// Takes the steps in one run.
@@ -59,9 +88,9 @@ pub fn run<S: GrainStorage, L: GrainLogic>(
 }
 
 /// Takes the steps in one run that isn't stopped: what was answered.
-pub fn answers(
+pub fn answers<S: GrainStorage, L: GrainLogic>(
     alloc: Global,
-    silo: &mut TestedSilo,
+    silo: &mut Silo<S, L>,
     steps: Vec<Step>,
 ) -> Result<Vec<Answer>, Fail> {
     let report = run(alloc, silo, steps);
@@ -92,6 +121,10 @@ pub fn rows<S: GrainStorage, L: GrainLogic>(
     silo: &Silo<S, L>,
 ) -> Result<Vec<(GrainId, Row)>, AllocError> {
     silo.rows(alloc)
+}
+
+pub fn ages<S: GrainStorage, L: GrainLogic>(silo: &Silo<S, L>) -> &[(Kind, u64)] {
+    silo.ages().list()
 }
 
 pub fn opening<S: GrainStorage, L: GrainLogic>(silo: &Silo<S, L>) -> &[(GrainId, Row)] {

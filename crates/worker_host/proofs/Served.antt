@@ -17,17 +17,19 @@ use Rattle.lane_model.proofs.LaneAnswers.{lanes_answered}
 use Rattle.lane_model.proofs.PacedGrowth.{part_is_run}
 use Rattle.silo_core.specs.History.{History}
 use Rattle.tenant_gate.specs.Table.{Table}
+use Rattle.idle_collector.specs.Ages.{Ages}
 use Rattle.worker_host.specs.SetupCopy.{AreAnswered, AreCopies, IsOpenedSo}
 use Rattle.worker_host.specs.declared.report.SetupCopy.{SetupCopy}
 
 -- copies of what a silo was opened with, and of the setup: so the silo was opened with the setup
-module _ (opened : SetupCopy) (h : History) (tenants : Table) (age : ℕ) (rows : Rows) (failures : ℕ) (so : IsOpenedSo opened h) (copies : AreCopies opened tenants age rows failures) where
-  pub setup_is : h.setup ≡ record { tenants = tenants; age = age; rows = rows }
+module _ (opened : SetupCopy) (h : History) (tenants : Table) (age : ℕ) (ages : Ages) (rows : Rows) (failures : ℕ) (so : IsOpenedSo opened h) (copies : AreCopies opened tenants age ages rows failures) where
+  pub setup_is : h.setup ≡ record { tenants = tenants; age = age; ages = ages; rows = rows }
   setup_is =
       let same_tenants = sym so.tenants_are ∙ copies.tenants_are in
       let same_age = sym so.age_is ∙ copies.age_is in
+      let same_ages = sym so.ages_are ∙ copies.ages_are in
       let same_rows = map.same_entries_map h.setup.rows rows (sym so.rows_are ∙ copies.rows_are) in
-      λ i. record { tenants = same_tenants i; age = same_age i; rows = same_rows i }
+      λ i. record { tenants = same_tenants i; age = same_age i; ages = same_ages i; rows = same_rows i }
 
   pub failures_were : h.failures.at_opening ≡ failures
   failures_were = sym so.failures_are ∙ copies.failures_are

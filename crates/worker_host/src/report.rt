@@ -9,9 +9,10 @@ ghost use Rattle.worker_host.specs.SetupCopy.{AreAnswered, AreCopies, HasFailed,
 
 use crate::schedule::Schedule;
 use client_lanes::{Lane, answers, failed_in, lanes_stand};
-use grain_id::{GrainId, Tenant};
+use grain_id::{GrainId, Kind, Tenant};
 use grain_kinds::GrainLogic;
 use grain_storage::{GrainStorage, Row};
+use idle_collector::AgeTable;
 use silo_core::{Setup, Silo};
 use silo_event::Reply;
 use std::alloc::{AllocError, Global};
@@ -54,6 +55,7 @@ pub struct ServeReport<S: GrainStorage, L: GrainLogic> {
 pub struct SetupCopy {
     pub tenants: Vec<(Tenant, Limits)>,
     pub age: u64,
+    pub ages: AgeTable,
     pub rows: Vec<(GrainId, Row)>,
     pub failures: u64,
 }
@@ -69,7 +71,8 @@ impl SetupCopy {
         setup: &Setup<S, L>,
     ) -> Result<SetupCopy, AllocError>
         ensures { IfOk result
-            (λ opened. AreCopies opened setup.now.tenants setup.now.age (S.rows setup.now.storage) (S.failed setup.now.storage)) }
+            (λ opened. AreCopies opened setup.now.tenants setup.now.age setup.now.ages
+            (S.rows setup.now.storage) (S.failed setup.now.storage)) }
     {
         let mut tenants = Vec::new(alloc);
         let list = setup.tenants.list();
@@ -79,6 +82,7 @@ impl SetupCopy {
         Ok(SetupCopy {
             tenants,
             age: setup.age.millis(),
+            ages: setup.ages.clone()?,
             rows: setup.storage.list(alloc)?,
             failures: setup.storage.failures(),
         })
@@ -96,6 +100,25 @@ fn same_tenants(list: &[(Tenant, Limits)], others: &[(Tenant, Limits)]) -> bool
             return false;
         };
         if one.0 != other.0 || one.1 != other.1 {
+            return false;
+        }
+        rest = more;
+        left = fewer;
+    }
+    left.is_empty()
+}
+
+/// Whether two lists have the same kinds with the same ages.
+fn same_ages(ages: &[(Kind, u64)], others: &[(Kind, u64)]) -> bool
+    ensures { IsTrue result → ages.now ≡ others.now }
+{
+    let mut rest = ages;
+    let mut left = others;
+    'ages: while let Some((entry, more)) = rest.split_first() {
+        let Some((other, fewer)) = left.split_first() else {
+            return false;
+        };
+        if entry.0 != other.0 || entry.1 != other.1 {
             return false;
         }
         rest = more;
@@ -148,6 +171,9 @@ fn is_opened_so<S: GrainStorage, L: GrainLogic>(silo: &Silo<S, L>, opened: &Setu
         return false;
     }
     if !same_tenants(opened.tenants.as_slice(), silo.tenants().list()) {
+        return false;
+    }
+    if !same_ages(opened.ages.list(), silo.ages().list()) {
         return false;
     }
     same_rows(opened.rows.as_slice(), silo.opening())

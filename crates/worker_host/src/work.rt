@@ -230,9 +230,9 @@ pub fn serve<
     requires workers { (1 ≤ workers) × (workers ≤ 64) }
     requires distinct { AreDistinct lanes.now }
 
-    // The silo was opened with the setup's tenants, age and rows, as the storage was then.
+    // The silo was opened with the setup's tenants, age, ages and rows, as the storage was then.
     ensures setup { IfOk result (λ report. report.silo.setup
-        ≡ record { tenants = setup.tenants; age = setup.age; rows = S.rows setup.storage }) }
+        ≡ record { tenants = setup.tenants; age = setup.age; ages = setup.ages; rows = S.rows setup.storage }) }
     ensures failures { IfOk result (λ report. report.silo.failures.at_opening ≡ S.failed setup.storage) }
 
     // The lanes were served.

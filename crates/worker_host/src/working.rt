@@ -68,7 +68,8 @@ impl<S: GrainStorage + Drop, L: GrainLogic + Drop> WorkingSilo<S, L> {
     ///
     /// Out of memory.
     pub fn new(alloc: Global, setup: Setup<S, L>) -> Result<WorkingSilo<S, L>, AllocError>
-        ensures setup { IfOk result (λ w. w.setup ≡ record { tenants = setup.tenants; age = setup.age; rows = S.rows setup.storage }) }
+        ensures setup { IfOk result (λ w. w.setup
+            ≡ record { tenants = setup.tenants; age = setup.age; ages = setup.ages; rows = S.rows setup.storage }) }
         ensures opening { IfOk result (λ w. (w.whole ≡ opening w.setup) × (w.journal ≡ [])) }
         ensures failures { IfOk result (λ w. w.failures ≡ record { at_opening = S.failed setup.storage; now = S.failed setup.storage }) }
     {

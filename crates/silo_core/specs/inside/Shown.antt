@@ -5,6 +5,7 @@ use Rattle.grain_id.specs.Names.{Grain}
 use Rattle.tenant_gate.specs.Table.{Table}
 use Rattle.grain_storage.specs.declared.row.Row.{Row}
 use Rattle.grain_storage.specs.Rows.{Rows}
+use Rattle.idle_collector.specs.Ages.{Ages}
 use Rattle.silo_model.specs.Opening.{Setup}
 
 -- the rows of a list
@@ -15,5 +16,5 @@ rows_in list = from_entries list
 abbrev pub AreListed : List (Grain × Row) → Type 0
 AreListed list = entries (rows_in list) ≡ list
 
-abbrev pub setup_of : Table → ℕ → List (Grain × Row) → Setup
-setup_of tenants age list = record { tenants = tenants; age = age; rows = rows_in list }
+abbrev pub setup_of : Table → ℕ → Ages → List (Grain × Row) → Setup
+setup_of tenants age ages list = record { tenants = tenants; age = age; ages = ages; rows = rows_in list }

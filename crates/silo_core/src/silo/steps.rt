@@ -202,7 +202,8 @@ impl<S: GrainStorage, L: GrainLogic> Silo<S, L> {
         self.apply(alloc, Step::Tick { now })
     }
 
-    /// The activations that are due go: those that are idle, an age after they were last used.
+    /// The activations that are due go: those that are idle, the age of their kind after they were last used and not before the
+    /// moment until which they stay.
     pub fn sweep(&mut self, alloc: Global) -> Result<Answer, StepFault>
         ensures answered { Answered L.logic self.old step.Sweep result self.new }
         ensures parts { StepAnswersInParts L.logic self.old.whole step.Sweep result self.new.whole }

@@ -5,8 +5,8 @@ use Rattle.std.specs.List.{list_any}
 use Rattle.std.specs.declared.alloc.AllocError.{AllocError}
 use Rattle.std.specs.declared.alloc.Global.{Global}
 use Rattle.std.specs.declared.collections.VecDeque.{VecDeque}
-use Rattle.grain_kinds.specs.Kinds.{kinds}
 use Rattle.journal_text.specs.Text.{History}
+use Rattle.audit_model.specs.Logics.{logic_of}
 use Rattle.audit_model.specs.Report.{IsTenantReport}
 use Rattle.tenant_audit.specs.ReportView.{tenant_report_of}
 use Rattle.tenant_audit.specs.declared.report.TenantReport.{TenantReport}
@@ -27,9 +27,9 @@ if_shared w k place x = if place % w == k then x ∷ [] else []
 abbrev pub reported : List TenantReport → List (List ℕ)
 reported reports = map (λ (r : TenantReport). r.tenant) reports
 
--- Each is a report on its tenant.
+-- Each is a report on its tenant, under the logic that the journal names.
 abbrev pub AreReports : History → List TenantReport → Type 0
-AreReports journal reports = All (λ r. IsTenantReport kinds journal (tenant_report_of r)) reports
+AreReports journal reports = All (λ r. IsTenantReport (logic_of journal.kinds) journal (tenant_report_of r)) reports
 
 -- The tenants of the reports are those whose place, counted from the base, leaves k by w.
 pub record IsPart (journal : History) (tenants : List (List ℕ)) (w k base : ℕ) (reports : List TenantReport) : Type 0 where

@@ -3,6 +3,7 @@ use Rattle.std.specs.Prelude.{◌≡◌, ℕ, Bool, true, List, ◌++◌, Option
 use Rattle.std.specs.FinMap as map
 use Rattle.grain_id.specs.Names.{Grain}
 use Rattle.request_codec.specs.Tree.{Tree}
+use Rattle.grain_kinds.specs.Logic.{same}
 use Rattle.grain_storage.specs.declared.fault.StoreFault.{StoreFault}
 use Rattle.grain_storage.specs.declared.fault.StoreFault.TheVariants as storage
 use Rattle.silo_event.specs.declared.fault.Fault.{Fault}
@@ -20,12 +21,12 @@ use Rattle.silo_state.specs.Closings.{ClosesTold, EndsTold}
 abbrev pub ClosesBy : {E : Type 0} → Entries → List Reply → Grain → ℕ → Bool → ℕ → ℕ → Result StorageAnswer StoreFault → Result Bool E
     → Entries → List Reply → Type 0
 ClosesBy old replies grain turn idle_after now last (Ok s) result new told =
-    (result ≡ Ok true) × ClosesTold old replies grain turn (Some (ready s.state s.version)) now (Ok s.told) new told
+    (result ≡ Ok true) × ClosesTold old replies grain turn (Some (ready s.state s.version)) same now (Ok s.told) new told
 ClosesBy old replies grain turn idle_after now last (Err storage.Failed) result new told =
-    (result ≡ Ok true) × ClosesTold old replies grain turn None now (Err StorageFailed) new told
+    (result ≡ Ok true) × ClosesTold old replies grain turn None same now (Err StorageFailed) new told
 ClosesBy old replies grain turn idle_after now last (Err (storage.Stale found)) result new told =
     (result ≡ Ok true) × EndsTold old replies grain turn idle_after last (Err (StateChanged grain)) new told
 ClosesBy old replies grain turn idle_after now last (Err storage.Spent) result new told =
-    (result ≡ Ok true) × ClosesTold old replies grain turn None now (Err (VersionsSpent grain)) new told
+    (result ≡ Ok true) × ClosesTold old replies grain turn None same now (Err (VersionsSpent grain)) new told
 ClosesBy old replies grain turn idle_after now last (Err storage.Memory) result new told =
     IsErr result × (new ≡ old) × (told ≡ replies)

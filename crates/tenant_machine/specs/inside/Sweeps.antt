@@ -1,4 +1,4 @@
--- What a sweep leaves of an activation.
+-- What a sweep leaves of an activation, by the age of its grain's kind.
 use Rattle.std.specs.Prelude.{ℕ, Option, Some, None, if◌then◌else◌}
 use Rattle.activation_directory.specs.declared.activation.Activation.{Activation}
 use Rattle.silo_model.specs.Idle.{is_due}

@@ -19,11 +19,11 @@ impl<L: GrainLogic> TenantMachine<L> {
         true
     }
 
-    /// The activations that are due go.
+    /// The activations that are due go, each by the age of its kind.
     pub(super) fn sweep(&mut self) -> bool
         ensures { StepDoes L.logic self.old step.Sweep result self.new }
     {
-        self.entries.sweep(self.clock, self.age);
+        self.entries.sweep(self.clock, self.age, &self.ages);
         true
     }
 }

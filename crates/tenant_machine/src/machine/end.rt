@@ -21,7 +21,7 @@ use std::alloc::{AllocError, Global};
 
 impl<L: GrainLogic> TenantMachine<L> {
     /// An open turn that asks for nothing of the storage runs and is closed by its plan: the plan's
-    /// state stands, its sends go out, and its outcome is the reply.
+    /// state stands, its sends go out, what it says of the activation holds, and its outcome is the reply.
     ///
     /// # Errors
     ///
@@ -58,6 +58,7 @@ impl<L: GrainLogic> TenantMachine<L> {
             return Ok(false);
         }
         let now = self.clock;
+        let keep = finished.keep();
         self.replies.reserve(1)?;
         let sent = sent_by(alloc, grain, finished.sends())?;
         let outcome = copied(finished.outcome())?;
@@ -78,6 +79,7 @@ impl<L: GrainLogic> TenantMachine<L> {
             closing,
             now,
             Some(phase),
+            keep,
             told(outcome),
         );
         Ok(true)

@@ -5,7 +5,6 @@ ghost use Rattle.tenant_machine.specs.Machines.{StepAnswers, StepDoes};
 
 use crate::closing::unload;
 use crate::machine::TenantMachine;
-use activation_directory::Phase;
 use grain_id::GrainId;
 use grain_kinds::GrainLogic;
 use grain_storage::StoreFault;
@@ -26,8 +25,8 @@ impl<L: GrainLogic> TenantMachine<L> {
         }
     }
 
-    /// A loading grain gets its row's content, or its kind's empty state. If the storage failed, each
-    /// request that waits is told so, in order, and the grain's entry goes.
+    /// A loading grain gets its row's content, or its kind's empty state, and neither rests nor stays. If
+    /// the storage failed, each request that waits is told so, in order, and the grain's entry goes.
     ///
     /// # Errors
     ///
@@ -53,8 +52,7 @@ impl<L: GrainLogic> TenantMachine<L> {
         }
         match read_state(alloc, &mut self.storage, &self.logic, grain) {
             Ok((state, version)) => {
-                self.entries
-                    .set_phase(grain, Phase::Ready { state, version });
+                self.entries.make_ready(grain, state, version);
                 Ok(true)
             }
             Err(StoreFault::Memory) => Err(AllocError),

@@ -10,7 +10,7 @@ use crate::closing::{ClosedTurn, close_turn};
 use crate::machine::TenantMachine;
 use bumpalo::Bump;
 use grain_id::GrainId;
-use grain_kinds::{FinishedTurn, GrainLogic, run_turn};
+use grain_kinds::{FinishedTurn, GrainLogic, Keep, run_turn};
 use silo_event::Fault;
 use silo_state::finding;
 use silo_state::finding::GrainAtClose;
@@ -66,6 +66,7 @@ impl<L: GrainLogic> TenantMachine<L> {
             closing,
             now,
             None,
+            Keep::Same,
             Err(Fault::NoMemory),
         );
         Ok(true)

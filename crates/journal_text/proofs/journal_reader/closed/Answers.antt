@@ -44,4 +44,4 @@ returns c =
     let none = nothing c.args.behind.now (sym c.is_empty.ensures ∙ c.if-not-is_empty.false) in
     let text : lines_text c.args.form (lines_so_far c.args.form d) ++ (line_text c.args.form (line.Close c.args.steps) ++ 10 ∷ c.args.behind.now) ≡ text_in c.args.form d =
     close_text c.args.form d c.args.steps c.args.behind.now fits ∙ ap (λ b. text_in c.args.form d ++ b) none ∙ append-nil (text_in c.args.form d) in
-    (subst (KeepsRulesIn c.args.form) (sym c.finish.ensures) keeps, text ∙ ap (text_in c.args.form) (sym c.finish.ensures))
+    (subst (KeepsRulesIn c.args.form) (sym c.in_ok-finish.ensures) keeps, text ∙ ap (text_in c.args.form) (sym c.in_ok-finish.ensures))

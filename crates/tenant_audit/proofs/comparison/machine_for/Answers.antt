@@ -1,6 +1,7 @@
 use Rattle.std.proofs.Common.{◌≡◌, ℕ, List, IsTrue, ap, sym, ◌∙◌, subst}
 use Rattle.std.specs.Prelude.{IfSome}
 use Rattle.std.proofs.lemmas.Result.{IfOk-weaker}
+use Rattle.idle_collector.specs.Ages.{Ages}
 use Rattle.tenant_gate.specs.Table.{are_in_range}
 use Rattle.tenant_gate.proofs.Faults.{limits_of-in_range}
 use Rattle.tenant_machine.specs.Machines.{start_with}
@@ -20,6 +21,8 @@ returns g c =
     let tenant = c.args.tenant.now in
     let limits = c.limits_in-limits.result in
     let listed = limits_there tenant c.tenants.result.now j.tenants limits c.limits_in-limits.ensures c.tenants.ensures.tenants in
-    let started : start_with c.in_ok-clone.field-0 limits c.age.result ≡ start_with tenant limits j.age =
-    ap (λ (t : List ℕ). start_with t limits c.age.result) c.in_ok-clone.ensures.cases ∙ ap (λ (a : ℕ). start_with tenant limits a) c.age.ensures.age in
+    let named = c.in_ok-clone.ensures.cases in
+    let ages = c.in_ok-ages.ensures.cases ∙ c.ages.ensures in
+    let started : start_with c.in_ok-clone.field-0 limits c.age.result c.in_ok-ages.ages ≡ start_with tenant limits j.age j.ages =
+    λ i. start_with (named i) limits (c.age.ensures.age i) (ages i) in
     IfOk-weaker c.new.result _ _ (λ m h. starts j tenant limits m (h ∙ started) listed) c.new.ensures

@@ -1,7 +1,7 @@
 use Rattle.std.proofs.Common.{◌≡◌, ◌<◌, ◌++◌, ◌∷◌, [], length, take, ap, sym, ◌∙◌, subst, rules, arith}
 use Rattle.std.proofs.lemmas.List.{map-append, take_more}
 use Rattle.std.proofs.lemmas.List.Elements.{All-push}
-use Rattle.grain_kinds.specs.Kinds.{kinds}
+use Rattle.audit_model.specs.Logics.{logic_of}
 use Rattle.audit_model.specs.Report.{IsTenantReport}
 use Rattle.tenant_audit.specs.ReportView.{tenant_report_of}
 use Rattle.tenant_audit.specs.inside.Parts.{AreReports, reported}
@@ -37,7 +37,7 @@ places-preserved c =
           ∙ sym (take_more tenants i [] within);
       each =
           subst (AreReports journal) (sym pushed)
-          (All-push (λ s. IsTenantReport kinds journal (tenant_report_of s)) c.places.all.items r c.places.invariant.each (next_report journal tenants i within old some parts r new taken));
+          (All-push (λ s. IsTenantReport (logic_of journal.kinds) journal (tenant_report_of s)) c.places.all.items r c.places.invariant.each (next_report journal tenants i within old some parts r new taken));
       some = omega (arith, len, some);
       parts = parts_left journal tenants i within old some parts r new taken len;
     }

@@ -6,12 +6,12 @@ use Rattle.worker_host.proofs.work.serve.Goals as goal
 pub returns-clause-setup : goal.returns-clause-setup
 returns-clause-setup g c =
     let a = c.args.setup in
-    IfOk-weaker c.settle.result _ _ (λ report so. setup_is c.in_ok-opened.opened report.silo a.tenants a.age (g.S.GrainStorage.rows a.storage) (g.S.GrainStorage.failed a.storage) so c.in_ok-opened.ensures) c.settle.ensures.opened
+    IfOk-weaker c.settle.result _ _ (λ report so. setup_is c.in_ok-opened.opened report.silo a.tenants a.age a.ages (g.S.GrainStorage.rows a.storage) (g.S.GrainStorage.failed a.storage) so c.in_ok-opened.ensures) c.settle.ensures.opened
 
 pub returns-clause-failures : goal.returns-clause-failures
 returns-clause-failures g c =
     let a = c.args.setup in
-    IfOk-weaker c.settle.result _ _ (λ report so. failures_were c.in_ok-opened.opened report.silo a.tenants a.age (g.S.GrainStorage.rows a.storage) (g.S.GrainStorage.failed a.storage) so c.in_ok-opened.ensures) c.settle.ensures.opened
+    IfOk-weaker c.settle.result _ _ (λ report so. failures_were c.in_ok-opened.opened report.silo a.tenants a.age a.ages (g.S.GrainStorage.rows a.storage) (g.S.GrainStorage.failed a.storage) so c.in_ok-opened.ensures) c.settle.ensures.opened
 
 pub returns-clause-parts : goal.returns-clause-parts
 returns-clause-parts g c =

@@ -1,6 +1,7 @@
 use Rattle.std.proofs.Common.{List, None, Some, refl, ap, sym, subst}
 use Rattle.std.specs.Prelude.{Err, IsSome, option_and_then}
 use Rattle.std.specs.FinMap as map
+use Rattle.grain_kinds.specs.Logic.{same}
 use Rattle.silo_event.specs.declared.fault.Fault.TheVariants.{NoMemory}
 use Rattle.silo_event.specs.declared.reply.Reply.{Reply}
 use Rattle.silo_state.proofs.Shows.{turn_shown}
@@ -26,6 +27,6 @@ close_turn-requires-clause-is_open g c =
 pub returns : goal.returns
 returns g c =
     let b = c.self.inside in
-    let closed = subst (λ (replies : List Reply). ClosesTold b.entries replies c.args.grain.now c.args.turn None b.clock (Err NoMemory) c.close_turn.new.entries c.close_turn.new.replies.items)
+    let closed = subst (λ (replies : List Reply). ClosesTold b.entries replies c.args.grain.now c.args.turn None same b.clock (Err NoMemory) c.close_turn.new.entries c.close_turn.new.replies.items)
     c.in_ok-reserve.ensures.items c.close_turn.ensures in
     rw (← c.self.view_is) (abandon_done g.L.GrainLogic.logic _ c.args.grain.now c.args.turn c.close_turn.new.entries c.close_turn.new.replies.items closed)

@@ -2,6 +2,7 @@ use Rattle.std.proofs.Common.{◌≡◌, List, Some, refl, ap, sym, ◌∙◌, s
 use Rattle.std.specs.Prelude.{Result}
 use Rattle.std.specs.FinMap as map
 use Rattle.request_codec.specs.Tree.{Tree}
+use Rattle.grain_kinds.specs.Logic.{Keep}
 use Rattle.silo_event.specs.declared.fault.Fault.{Fault}
 use Rattle.silo_event.specs.declared.reply.Reply.{Reply}
 use Rattle.silo_event.specs.declared.step.Step.TheVariants as step
@@ -24,7 +25,7 @@ returns-then-asks_storage g c =
 pub returns : goal.returns
 returns g c =
     let b = c.self.inside in
-    let old = machine_of b.tenant b.account b.age b.clock b.entries b.storage b.replies.items in
+    let old = machine_of b.tenant b.account b.age b.ages b.clock b.entries b.storage b.replies.items in
     let grain = c.args.grain.now in
     let turn = c.args.turn in
     let at = c.args.at_close in
@@ -32,8 +33,8 @@ returns g c =
     let own : IsOwn grain (map.get old.entries grain) turn at.version at.idle_after input = subst (λ (m : Machine). IsOwn grain (map.get m.entries grain) turn at.version at.idle_after input) (sym c.self.view_is) c.requires in
     let state = c.in_ok-state.ensures.cases ∙ c.state.ensures in
     let outcome = c.told.ensures ∙ ap outcome_of (c.in_ok-outcome.ensures ∙ c.outcome.ensures) in
-    let closed = subst (λ (p : List Reply × (Tree × Result Tree Fault)). ClosesTold b.entries p.0 grain turn (Some (ready p.1.0 at.version)) b.clock p.1.1 c.close_turn.new.entries c.close_turn.new.replies.items)
-    (λ i. (c.in_ok-reserve.ensures.items i, (state i, outcome i))) c.close_turn.ensures in
+    let closed = subst (λ (p : List Reply × (Tree × (Keep × Result Tree Fault))). ClosesTold b.entries p.0 grain turn (Some (ready p.1.0 at.version)) p.1.1.0 b.clock p.1.1.1 c.close_turn.new.entries c.close_turn.new.replies.items)
+    (λ i. (c.in_ok-reserve.ensures.items i, (state i, (c.keep-keep.ensures.same i, outcome i)))) c.close_turn.ensures in
     let sends = c.in_ok-sent.ensures ∙ ap (sent_by grain) c.sends.ensures in
     let sent = c.in_ok-send.ensures.done ∙ ap (λ more. change_option b.account (with_more b.account more)) sends in
     subst (λ (m : Machine). machine_step g.L.GrainLogic.logic m (step.End grain turn) ≡ Some (record old { account = c.send.new.account; entries = c.close_turn.new.entries; replies = c.close_turn.new.replies.items })) c.self.view_is

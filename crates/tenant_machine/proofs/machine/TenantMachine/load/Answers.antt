@@ -27,5 +27,5 @@ returns-in-Ok g c =
     let e = entry_of c.in-Some.activation.now in
     let found = sym c.in-Some.ensures.entry in
     let is = loads e.phase (sym c.if-not-is_loading.ensures) in
-    rw (← c.self.view_is) (load_done g.L.GrainLogic.logic _ c.args.grain.now c.args.failed e found is c.set_phase.new.self c.if-failed.false c.in-Ok.state c.in-Ok.version c.read_state.new.storage
-    (c.set_phase.ensures e found) c.in-Ok.ensures.0 c.in-Ok.ensures.1 c.in-Ok.ensures.2)
+    rw (← c.self.view_is) (load_done g.L.GrainLogic.logic _ c.args.grain.now c.args.failed e found is c.make_ready.new.self c.if-failed.false c.in-Ok.state c.in-Ok.version c.read_state.new.storage
+    (c.make_ready.ensures e found) c.in-Ok.ensures.0 c.in-Ok.ensures.1 c.in-Ok.ensures.2)

@@ -32,7 +32,7 @@ pub returns : goal.returns
 returns g c =
     let logic = g.L.GrainLogic.logic in
     let b = c.self.inside in
-    let old = machine_of b.tenant b.account b.age b.clock b.entries b.storage b.replies.items in
+    let old = machine_of b.tenant b.account b.age b.ages b.clock b.entries b.storage b.replies.items in
     let caller = c.args.caller.now in
     let grain = c.args.grain.now in
     let outcome = c.in_ok-outcome.outcome in

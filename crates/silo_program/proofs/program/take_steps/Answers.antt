@@ -1,0 +1,8 @@
+use Rattle.std.proofs.lemmas.Result.{err_from_is_err_and}
+use Rattle.silo_program.proofs.ServingLemmas.{steps_refused}
+use Rattle.silo_program.proofs.program.take_steps.Goals as goal
+
+pub returns-in_err-named-clause-fault : goal.returns-in_err-named-clause-fault
+returns-in_err-named-clause-fault g c words asked =
+    let p = err_from_is_err_and c.from_residual.result c.from_residual.ensures.1 in
+    rw (p.1, p.2) (steps_refused words _ _ _ _ _ _ _ asked c.in_err-named.field-0.0 c.in_err-named.ensures.fault)

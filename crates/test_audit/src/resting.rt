@@ -1,0 +1,80 @@
+//! Audits of journals whose grains rest and stay, and of those in which they can't.
+
+use grain_kinds::{Kinds, RestingKinds};
+use std::alloc::Global;
+use std::sync::Wait;
+use std::test::Fail;
+use std::thread::Threads;
+use tenant_audit::{audit, audit_under, read_journal, report_text};
+
+/// A counter goes before a sheet does, since its kind has a shorter age.
+const AGES: &str =
+    "silo-journal 2\nkinds 2\nage 1000\nkind counter 10\ntenant red 4 4\ntick 100\ncall red/c1 1 counter/red:a 01000000036164640600000001000000026279030000000000000003\ncall red/c1 2 sheet/red:s 01000000046c69737400\nactivate counter/red:a\nload counter/red:a ok\nbegin counter/red:a\nend counter/red:a 1\nactivate sheet/red:s\nload sheet/red:s ok\nbegin sheet/red:s\nend sheet/red:s 2\ntick 110\nsweep\nstatus red/c1 3\nreply red/c1 1 ok 030000000000000003\nreply red/c1 2 ok 0500000000\nreply red/c1 3 ok 06000000030000000b61637469766174696f6e7303000000000000000100000005636c6f636b03000000000000006e000000087265717565737473030000000000000002\nclose 14\n";
+
+/// A grain stays for 50 milliseconds, and is swept then.
+const STAYS: &str =
+    "silo-journal 2\nkinds 2\nage 10\ntenant red 2 4\ntick 100\ncall red/c1 1 counter/red:a 010000000473746179060000000100000003666f72030000000000000032\nactivate counter/red:a\nload counter/red:a ok\nbegin counter/red:a\nend counter/red:a 1\ntick 149\nsweep\nstatus red/c1 2\ntick 150\nsweep\nstatus red/c1 3\nreply red/c1 1 ok 00\nreply red/c1 2 ok 06000000030000000b61637469766174696f6e7303000000000000000100000005636c6f636b030000000000000095000000087265717565737473030000000000000001\nreply red/c1 3 ok 06000000030000000b61637469766174696f6e7303000000000000000000000005636c6f636b030000000000000096000000087265717565737473030000000000000001\nclose 12\n";
+
+/// A grain that rests goes once the request that waits is answered, without a sweep.
+const RESTS: &str =
+    "silo-journal 2\nkinds 2\nage 900000\ntenant red 2 4\ncall red/c1 1 counter/red:a 01000000047265737400\ncall red/c1 2 counter/red:a 01000000036164640600000001000000026279030000000000000003\nactivate counter/red:a\nload counter/red:a ok\nbegin counter/red:a\nend counter/red:a 1\nstatus red/c1 3\nbegin counter/red:a\nend counter/red:a 2\nstatus red/c1 4\nreply red/c1 1 ok 00\nreply red/c1 3 ok 06000000030000000b61637469766174696f6e7303000000000000000100000005636c6f636b030000000000000000000000087265717565737473030000000000000002\nreply red/c1 2 ok 030000000000000003\nreply red/c1 4 ok 06000000030000000b61637469766174696f6e7303000000000000000000000005636c6f636b030000000000000000000000087265717565737473030000000000000002\nclose 10\n";
+
+/// A journal of the first form, in which a counter was asked to rest, and had no such method.
+const UNKNOWN: &str =
+    "silo-journal 1\nage 900000\ntenant red 2 4\ncall red/c1 1 counter/red:a 01000000047265737400\nactivate counter/red:a\nload counter/red:a ok\nbegin counter/red:a\nend counter/red:a 1\nreply red/c1 1 no 60 method is unknown\nclose 5\n";
+
+/// The report of the journal, under the logic that it names.
+fn audited<R: Threads + Wait + Sync>(rt: &R, alloc: Global, text: &str) -> Result<String, Fail> {
+    let journal = read_journal(alloc, text.as_bytes())?;
+    let report = audit(rt, alloc, &journal, 1)?;
+    Ok(report_text(alloc, &report)?)
+}
+
+#[test]
+fn resting_and_staying_are_audited(rt: HostRuntime) -> Result<(), Fail> {
+    let alloc = rt.alloc();
+    assert_eq!(rt;
+        audited(&rt, alloc, AGES)?.as_str(),
+        "tenant red: 14 steps, 3 replies, 0 rows\n"
+    );
+    assert_eq!(rt;
+        audited(&rt, alloc, STAYS)?.as_str(),
+        "tenant red: 12 steps, 3 replies, 0 rows\n"
+    );
+    assert_eq!(rt;
+        audited(&rt, alloc, RESTS)?.as_str(),
+        "tenant red: 10 steps, 4 replies, 0 rows\n"
+    );
+    Ok(())
+}
+
+/// In the first form grains neither rest nor stay, and the second form says whether they do.
+#[test]
+fn a_journal_is_audited_under_the_logic_that_it_names(rt: HostRuntime) -> Result<(), Fail> {
+    let alloc = rt.alloc();
+    let clean = "tenant red: 5 steps, 1 replies, 0 rows\n";
+    let differs = "tenant red: reply 1 differs\n";
+    assert_eq!(rt; audited(&rt, alloc, UNKNOWN)?.as_str(), clean);
+    let first = UNKNOWN.replace(alloc, "silo-journal 1\n", "silo-journal 2\nkinds 1\n")?;
+    assert_eq!(rt; audited(&rt, alloc, first.as_str())?.as_str(), clean);
+    let second = UNKNOWN.replace(alloc, "silo-journal 1\n", "silo-journal 2\nkinds 2\n")?;
+    assert_eq!(rt; audited(&rt, alloc, second.as_str())?.as_str(), differs);
+    Ok(())
+}
+
+#[test]
+fn any_logic_can_be_given_to_an_audit(rt: HostRuntime) -> Result<(), Fail> {
+    let alloc = rt.alloc();
+    let journal = read_journal(alloc, UNKNOWN.as_bytes())?;
+    let under_kinds = audit_under(alloc, &journal, Kinds)?;
+    assert_eq!(rt;
+        report_text(alloc, &under_kinds)?.as_str(),
+        "tenant red: 5 steps, 1 replies, 0 rows\n"
+    );
+    let under_resting = audit_under(alloc, &journal, RestingKinds)?;
+    assert_eq!(rt;
+        report_text(alloc, &under_resting)?.as_str(),
+        "tenant red: reply 1 differs\n"
+    );
+    Ok(())
+}
