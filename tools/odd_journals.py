@@ -71,7 +71,7 @@ def logics(form: int) -> list[bytes]:
     found += [aged(form, *(f"k{number} 1" for number in range(100, 100 + count))) for count in (64, 65)]
     found += [aged(form, f"{'k' * count} 1") for count in (0, 1, 32, 33)]
     for kinds in (["a", "a"], ["b", "a"], ["a", "a-"], ["a-", "a"], ["a-b", "a0"], ["a0", "a-b"], ["A"], ["a b"]):
-        found.append(aged(form, *(f"kind {kind} 1" for kind in kinds)))
+        found.append(aged(form, *(f"{kind} 1" for kind in kinds)))
     for lines in (head[:1], head[:-1], [head[0], AGE, TENANT], [*head[:-1], "kind a 1"], [*head, "kind a 1"],
                   [head[0], "kinds 1", "kind a 1", AGE, TENANT], [head[0], AGE, "kinds 1", TENANT],
                   [*head[:-1], *head[1:-1], TENANT], [head[0], *head[:-1], TENANT]):
