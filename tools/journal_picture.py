@@ -13,6 +13,7 @@ from journal_redone import Done, Redone
 from journal_words import shortened
 from slow_silo.audit import report
 from slow_silo.journal import Journal, step_fields
+from slow_silo.lines import object_of
 from slow_silo.machine import Request
 from slow_silo.names import Grain
 from slow_silo.steps import (Abandon, Activate, Begin, Call, Client, Deliver, End, Load, Poke, Reply, Step, Store, Sweep,
@@ -54,19 +55,23 @@ class Mark(NamedTuple):
     code: Optional[int] = None
 
 
+def dumped(value: object) -> str:
+    return json.dumps(value, default=object_of)
+
+
 def step_text(number: int, step: Step) -> str:
     """A step in words, with the message of a call as it was asked."""
     fields = step_fields(step)
     if isinstance(step, Call):
-        fields[-1:] = [json.dumps(step.method).strip('"'), json.dumps(step.args)]
+        fields[-1:] = [dumped(step.method).strip('"'), dumped(step.args)]
     if isinstance(step, Poke):
-        fields[-1] = json.dumps(step.state)
+        fields[-1] = dumped(step.state)
     return shortened(f"step {number}: " + " ".join(map(str, [type(step).__name__.lower(), *fields])))
 
 
 def reply_text(reply: Reply) -> str:
     to = f"{reply.to.caller.text()} {reply.to.id}" if isinstance(reply.to, Client) else reply.to.text()
-    said = json.dumps(reply.value) if reply.code is None else f"{reply.code}, {reply.text}"
+    said = dumped(reply.value) if reply.code is None else f"{reply.code}, {reply.text}"
     return shortened(f"reply to {to}: {said}")
 
 
@@ -115,9 +120,9 @@ class Picture:
         begin, place, request = found
         stores = request.method in ("save", "reload", "clear")
         kind = READS if self.machine.reads(grain, request) else STORES if stores else WRITES
-        method = json.dumps(request.method).strip('"')
+        method = dumped(request.method).strip('"')
         sender = request.sender.caller.text() if isinstance(request.sender, Client) else request.sender.text()
-        asked = f"{method} {json.dumps(request.args)} of {sender}"
+        asked = f"{method} {dumped(request.args)} of {sender}"
         text = f"turn {request.number} of {grain.text()}: {asked}, steps {begin} to {end}"
         self.bars.append(Bar(grain, place, begin, end, kind, method, shortened(text)))
 

@@ -8,6 +8,7 @@ from typing import Iterator, Optional
 from journal_redone import Done, Redone
 from slow_silo.audit import Report, report
 from slow_silo.journal import Journal
+from slow_silo.lines import object_of
 from slow_silo.machine import READY, Machine
 from slow_silo.steps import Client, Reply, Step, owner
 from slow_silo.storage import CLEARED, Row
@@ -21,7 +22,7 @@ def shortened(text: str) -> str:
 
 
 def shown(value: object) -> str:
-    return shortened(json.dumps(value, separators=(",", ":")))
+    return shortened(json.dumps(value, separators=(",", ":"), default=object_of))
 
 
 def message_words(method: str, args: object) -> str:

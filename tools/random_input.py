@@ -9,15 +9,17 @@ from __future__ import annotations
 from random import Random
 from typing import NamedTuple
 
-from random_lines import (BAD_CALLERS, BAD_GRAINS, NUMBERS, ODD_ARGUMENTS, OTHER_CALLERS, SPACES, TEXTS, VALUES,
+from random_lines import (BAD_CALLERS, BAD_GRAINS, HEXED, NUMBERS, ODD_ARGUMENTS, OTHER_CALLERS, SPACES, TEXTS, VALUES,
                           asked_line, damaged, dumped, grain_line, long_line, object_line, odd_argument, raw_line,
                           some_value, with_extra)
-from slow_silo import lines, program
-from slow_silo.journal import journal_of, journal_text
+from slow_silo import codes, lines, program
+from slow_silo.journal import LAST_FORM, journal_of, journal_text
 from slow_silo.kinds import KINDS, RESTING, RESTING_METHODS, STORING
 from slow_silo.machine import LOADING, WAITING, Limits
 from slow_silo.serve import lanes_of, serve
 from slow_silo.silo import Setup, Silo
+from slow_silo.steps import Call, Poke, Refuse, Step
+from slow_silo.values import holds_bytes
 
 TENANTS = ["red", "blue", "reddish", "r"]
 NAMES = ["a", "a", "a", "b", "a/b:c", '"\\', "n" * 128]
@@ -97,7 +99,7 @@ class World:
         chance = random.random()
         method = random.choice(ODD_METHODS if chance < 0.15 else own if chance < 0.75 else known)
         if random.random() < 0.12:
-            return method, random.choice([random.choice(ODD_ARGUMENTS), odd_argument(random)])
+            return method, random.choice([random.choice(ODD_ARGUMENTS), random.choice(HEXED), odd_argument(random)])
         return method, dumped(self.fitting(kind, method))
 
     def fitting(self, kind: str, method: str) -> object:
@@ -212,8 +214,8 @@ class World:
             members[random.choice(list(members))] = random.choice([
                 dumped(random.choice(BAD_GRAINS + STRANGE_GRAINS)),
                 dumped(random.choice(BAD_CALLERS + OTHER_CALLERS)),
-                random.choice(NUMBERS), random.choice(TEXTS), random.choice(VALUES), odd_argument(random),
-                odd_argument(random),
+                random.choice(NUMBERS), random.choice(TEXTS), random.choice(VALUES), random.choice(HEXED),
+                odd_argument(random), odd_argument(random),
             ])
         if random.random() < 0.2:
             members.pop(random.choice(list(members)))
@@ -330,36 +332,51 @@ def as_written_before(setup: Setup) -> Setup:
     return setup._replace(logic=KINDS, ages=())
 
 
+def has_form(step: Step, form: int) -> bool:
+    """A journal of the form may hold the step: bytes are in the last form alone, and their code too."""
+    if form == LAST_FORM:
+        return True
+    if isinstance(step, Refuse):
+        return step.code != codes.NOT_BYTES
+    return not holds_bytes(step.args if isinstance(step, Call) else step.state if isinstance(step, Poke) else None)
+
+
+def set_up_steps(random: Random, form: int) -> tuple[Setup, list[Step]]:
+    """What a silo whose journal has the form was set up with, and the steps of an input."""
+    made, setup = set_up_input(random)
+    read = [lines.read_line(line) for line in lines.lines_of([made.data])]
+    steps = [step for step in read if step is not None and not isinstance(step, int) and has_form(step, form)]
+    return as_written_before(setup) if form == 1 else setup, steps
+
+
 def text_in_form(silo: Silo, form: int) -> bytes:
     return journal_text(journal_of(silo)._replace(form=form))
 
 
-def steps_journal(random: Random, form: int = 2) -> bytes:
+def steps_journal(random: Random, form: int = LAST_FORM) -> bytes:
     """The journal of a silo that took the lines of an input of `steps`."""
-    made, setup = set_up_input(random)
-    silo = Silo(as_written_before(setup) if form == 1 else setup)
-    for line in made.data.split(b"\n"):
-        lines.answer(silo, line)
+    setup, steps = set_up_steps(random, form)
+    silo = Silo(setup)
+    silo.run(steps)
     return text_in_form(silo, form)
 
 
-def served_journal(random: Random, form: int = 2) -> bytes:
+def served_journal(random: Random, form: int = LAST_FORM) -> bytes:
     """The journal of a silo that served the lanes of an input of `steps`, each step at any time that it may come."""
-    made, setup = set_up_input(random)
-    read = [lines.read_line(line) for line in lines.lines_of([made.data])]
-    _refused, steps = program.sort_lines(read)
-    return text_in_form(serve(as_written_before(setup) if form == 1 else setup, lanes_of(steps), random), form)
+    setup, steps = set_up_steps(random, form)
+    _refused, asked = program.sort_lines(steps)
+    return text_in_form(serve(setup, lanes_of(asked), random), form)
 
 
-def audit_input(random: Random) -> Input:
-    """A journal of a silo, as it is or with something changed."""
-    text = steps_journal(random, random.choice([1, 2, 2]))
+def journal_input(random: Random) -> Input:
+    """A journal of a silo, as it is or with something changed, that is audited or migrated."""
+    text = steps_journal(random, random.choice([1, 2, 3, 3]))
     kind = random.random()
     if kind < 0.3:
         text = damaged(random, text)
     elif kind < 0.8:
         text = with_lines_changed(random, text)
-    return Input(["audit", "j"], b"", {"j": text})
+    return Input([random.choice(["audit", "audit", "migrate"]), "j"], b"", {"j": text})
 
 
 def with_lines_changed(random: Random, text: bytes) -> bytes:
@@ -382,10 +399,9 @@ def with_lines_changed(random: Random, text: bytes) -> bytes:
     return b"".join(changed)
 
 
-MAKERS = {"steps": steps_input, "serve": serve_input, "audit": audit_input}
+MAKERS = {"steps": steps_input, "serve": serve_input, "journal": journal_input}
 
 
 def make_input(random: Random) -> Input:
     """An input of one of the subcommands, most often of `steps`."""
-    command = random.choice(["steps"] * 8 + sorted(MAKERS))
-    return MAKERS[command](random)
+    return MAKERS[random.choice(["steps"] * 8 + sorted(MAKERS))](random)

@@ -6,7 +6,7 @@ import json
 from random import Random
 from typing import Iterable, Optional
 
-from slow_silo.lines import MAX_LINE
+from slow_silo.lines import MAX_LINE, object_of
 from slow_silo.values import MAX_MESSAGE, message_length
 
 BAD_GRAINS = [
@@ -37,9 +37,20 @@ ODD_ARGUMENTS = [
     '{"name":1}', '{"name":"k","value":1,"more":2}', '{"value":1}', '{"grain":1}', '{"grain":"x"}', '{"method":"get"}',
     '{"args":null,"method":1}', '{"name":""}',
 ]
+# objects that stand for bytes, or are near to it
+HEXED = [
+    '{"$hex":""}', '{"$hex":"00ff"}', '{"$hex":"6b"}', '{"$hex":"0F"}', '{"$hex":"0"}', '{"$hex":"000"}', '{"$hex":"0g"}',
+    '{"$hex":"00 "}', '{"$hex":"\\n00"}', '{"$hex":"é"}', '{"$hex":1.5}', '{"$hex":10}', '{"$hex":null}', '{"$hex":[]}',
+    '{"$hex":[1.5]}', '{"$hex":{}}', '{"$hex":{"$hex":"00"}}', '{"\\u0024hex":"\\u0030f"}', '{"$he\\u0078":"0"}',
+    '{"$hex":"00","$hex":"01"}', '{"$hex":"00","$hex":"0"}', '{"$hex":1.5,"$hex":"01"}', '{"$hex":"","x":1}',
+    '{"x":1.5,"$hex":"0"}', '{"a":{"$hex":"0"},"$hex":"00"}', '{"$HEX":"00"}', '{"$hex ":"00"}', '{"$he":"00"}', '{"hex":"00"}',
+    '{"$hex":1e999}', '{"$hex":"\\ud800"}', '{"$hex":"00"', '{"$hex"}', '[{"$hex":"0"},1.5]', '[1.5,{"$hex":"0"}]',
+    '[{"$hex":"00"},{"$hex":"0"}]', '{"name":{"$hex":"6b"}}', '{"name":"k","value":{"$hex":"00FF"}}', '{"by":{"$hex":"00"}}',
+    '{"name":"$hex","value":{"$hex":"00ff"}}', '{"args":{"$hex":"0"},"method":"get"}', '{"grain":{"$hex":"00"}}',
+]
 EXTRA_MEMBERS = [
     '"failed":true', '"failed":false', '"failed":null', '"failed":0', '"from":"red/c1"', '"id":1', '"turn":1', '"x":[]',
-    '"op":"begin"', '"grain":"counter/red:b"', '"method":"get"', '"args":null', '"state":1', '"now":1',
+    '"op":"begin"', '"grain":"counter/red:b"', '"method":"get"', '"args":null', '"state":1', '"now":1', '"$hex":"00"',
 ]
 LETTERS = b'{}[]":,0123456789eE+-.\\utrfalsn \t\r\x00\x7f\x80\xc3\xa9\xed\xa0\x80\xf0\xff'
 RAW_LINES = [
@@ -48,18 +59,19 @@ RAW_LINES = [
 
 
 def dumped(value: object) -> str:
-    return json.dumps(value, separators=(",", ":"), ensure_ascii=False)
+    return json.dumps(value, separators=(",", ":"), ensure_ascii=False, default=object_of)
 
 
 # ---- values
 
 def nested(random: Random) -> str:
-    """Lists or objects in one another, around the depths at which something changes."""
+    """Lists, objects, or what stands for bytes, in one another, around the depths at which something changes."""
     levels = random.choice([1, 2, 31, 32, 33, 64, 125, 126, 127, 128, 300])
-    inner = random.choice(["", "", "1", '"x"', "1.5", "1e999"])
+    inner = random.choice(["", "", "1", '"x"', "1.5", "1e999", '{"$hex":"0a"}', '{"$hex":"0"}', '{"$hex":[1.5]}'])
     if random.random() < 0.5:
         return "[" * levels + inner + "]" * levels
-    return '{"a":' * levels + (inner or "null") + "}" * levels
+    opening = random.choice(['{"a":', '{"a":', '{"$hex":'])
+    return opening * levels + (inner or "null") + "}" * levels
 
 
 def wide(random: Random) -> str:
@@ -67,7 +79,7 @@ def wide(random: Random) -> str:
     zeros = 7_270
     length = random.choice([MAX_MESSAGE - 1, MAX_MESSAGE, MAX_MESSAGE + 1])
     filler = length - message_length("get", [0] * zeros + [""])
-    return "[" + "0," * zeros + dumped("x" * filler) + "]"
+    return "[" + "0," * zeros + dumped(random.choice(["x", b"x"]) * filler) + "]"
 
 
 def odd_argument(random: Random) -> str:
@@ -80,13 +92,13 @@ def odd_argument(random: Random) -> str:
     if kind < 0.55:
         return random.choice(TEXTS)
     if kind < 0.75:
-        return random.choice(VALUES + ODD_ARGUMENTS)
+        return random.choice(VALUES + ODD_ARGUMENTS + HEXED)
     return nested(random) if kind < 0.97 else wide(random)
 
 
 def some_value(random: Random, levels: int = 3) -> object:
     """A value that may stand in a sheet."""
-    kind = random.randrange(8 if levels else 5)
+    kind = random.randrange(9 if levels else 6)
     if kind == 0:
         return None
     if kind == 1:
@@ -95,9 +107,11 @@ def some_value(random: Random, levels: int = 3) -> object:
         return random.choice([0, 1, -1, 2**63 - 1, -(2**63)])
     if kind in (3, 4):
         return random.choice(["", "x", "é😀", "\u0000\n\"\\", "\x7f\u0080", "k" * 40])
-    if kind in (5, 6):
+    if kind == 5:
+        return random.choice([b"", b"\x00\xff", b"k", bytes(range(40))])
+    if kind in (6, 7):
         return [some_value(random, levels - 1) for _ in range(random.randrange(3))]
-    names = [random.choice(["", "a", "b", "é", "aa", "\u0001"]) for _ in range(random.randrange(4))]
+    names = [random.choice(["", "a", "b", "é", "aa", "\u0001", "$hex"]) for _ in range(random.randrange(4))]
     return {name: some_value(random, levels - 1) for name in names}
 
 

@@ -24,7 +24,7 @@ def send(number: int, relay: str, method: str, args: object = None) -> list:
 ADD = {"by": 1}
 # a relay that sends what it is sent to its second, and that to a counter
 CHAIN = join(1, R, RB) + join(2, RB, A)
-FIRST = ["silo-journal 2", "kinds 2", "age 900000", "tenant red 2 4"]
+FIRST = ["silo-journal 3", "kinds 2", "age 900000", "tenant red 2 4"]
 CLOSED = text([*FIRST, "close 0"])
 
 ANSWERED = [
@@ -67,7 +67,7 @@ ANSWERED = [
     Row("a journal of no lines", ["answer", "--journal", "j", "red:2:4"], [], [], files_after={"j": CLOSED}),
     Row("the journal is that of the steps", ["answer", "--journal", "j", "red:2:4"], call(1, A, "get"), ok(1, 0),
         files_after={"j": text([
-            *FIRST, "call red/c1 1 counter/red:a 010000000367657400", "activate counter/red:a", "load counter/red:a ok",
+            *FIRST, "call red/c1 1 counter/red:a 020000000367657400", "activate counter/red:a", "load counter/red:a ok",
             "begin counter/red:a", "end counter/red:a 1", "reply red/c1 1 ok 030000000000000000", "close 5"])}),
     Row("the ages of kinds are written down", ["answer", "--journal", "j", "--ages", "sheet=5,relay=4", "red:2:4"], [], [],
         files_after={"j": text([*FIRST[:3], "kind relay 4", "kind sheet 5", FIRST[3], "close 0"])}),

@@ -9,9 +9,9 @@ from random import Random
 from typing import Callable, Iterable
 
 from .audit import audit
-from .journal import journal_of, journal_text, read_journal
+from .journal import journal_of, journal_text, migrate_journal, read_journal
 from .laws import first_broken
-from .lines import ReaderFailed, WriterFailed, read_line, run_lines
+from .lines import ReaderFailed, WriterFailed, compact, read_line, run_lines
 from .machine import Limits
 from .names import read_caller, read_grain
 from .program import run_program, setup_of_words
@@ -22,7 +22,8 @@ from .short_lines import A, BLUE, NOT_NOW, RED, at, begin, call, no, ok, run, sa
 from .silo import DONE, FAILED, Setup, Silo
 from .steps import End, Load, Poke, Step, Tick
 from .storage import CLEARED, LAST_VERSION, Row as StoredRow
-from .values import (MAX_MESSAGE, NotSpelled, message_length, read_message, read_state, spelled, spelled_message)
+from .values import (MAX_MESSAGE, NotSpelled, holds_bytes, message_length, migrate_message, read_message, read_old_state,
+                     read_state, spelled, spelled_message)
 
 ONE_TENANT = (("red", Limits(2, 4)),)
 COUNTER_A = read_grain(A)
@@ -45,20 +46,20 @@ def written(silo: Silo, lines: list) -> list:
 
 # ---- the message form
 
-ADD_3 = bytes.fromhex("01 00000003 616464 06 00000001 00000002 6279 03 0000000000000003")
+ADD_3 = bytes.fromhex("02 00000003 616464 06 00000001 00000002 6279 03 0000000000000003")
 
 
 def spelling_of_a_message() -> bool:
     """A message of 28 bytes, and one of 9."""
-    get = bytes.fromhex("01 00000003 676574 00")
+    get = bytes.fromhex("02 00000003 676574 00")
     return (spelled_message("add", {"by": 3}) == ADD_3 and read_message(ADD_3) == ("add", {"by": 3})
-            and len(ADD_3) == 28 and read_message(get) == ("get", None))
+            and len(ADD_3) == 28 and spelled_message("get", None) == get and read_message(get) == ("get", None))
 
 
 def names_of_a_map_ascend() -> bool:
     """A map whose names don't ascend, or stand twice, is spelled by nothing."""
-    out_of_order = bytes.fromhex("01 00000001 61 06 00000002 00000001 62 00 00000001 61 00")
-    twice = bytes.fromhex("01 00000001 61 06 00000002 00000001 61 00 00000001 61 00")
+    out_of_order = bytes.fromhex("02 00000001 61 06 00000002 00000001 62 00 00000001 61 00")
+    twice = bytes.fromhex("02 00000001 61 06 00000002 00000001 61 00 00000001 61 00")
     return is_refused(read_message, out_of_order) and is_refused(read_message, twice)
 
 
@@ -78,13 +79,13 @@ def no_message_within_a_message() -> bool:
 
 def a_count_above_what_is_there() -> bool:
     """A list that says to have four thousand million members, and has none."""
-    return is_refused(read_message, bytes.fromhex("01 00000001 61 05 FFFFFFFF"))
+    return is_refused(read_message, bytes.fromhex("02 00000001 61 05 FFFFFFFF"))
 
 
 def depth_of_a_message() -> bool:
     """32 levels are read, 33 aren't."""
     def nested(levels: int) -> bytes:
-        return bytes.fromhex("01 00000001 61" + "05 00000001" * (levels - 1) + "05 00000000")
+        return bytes.fromhex("02 00000001 61" + "05 00000001" * (levels - 1) + "05 00000000")
     return not is_refused(read_message, nested(32)) and is_refused(read_message, nested(33))
 
 
@@ -95,9 +96,64 @@ def length_of_a_message() -> bool:
             and is_refused(read_message, spelled_message("a", "x" * 65_526)))
 
 
+def spelling_of_bytes() -> bool:
+    """Bytes as a state, none of them too, and in a message; they count one level."""
+    put = bytes.fromhex("02 00000001 61 06 00000001 00000001 6b 07 00000002 00FF")
+    def nested(levels: int) -> bytes:
+        return bytes.fromhex("05 00000001" * (levels - 1) + "07 00000001 0A")
+    return (spelled(b"\x00\xff") == bytes.fromhex("07 00000002 00FF") and spelled(b"") == bytes.fromhex("07 00000000")
+            and read_state(spelled(b"\x00\xff")) == b"\x00\xff" and read_state(spelled(b"")) == b""
+            and spelled_message("a", {"k": b"\x00\xff"}) == put and read_message(put) == ("a", {"k": b"\x00\xff"})
+            and not is_refused(read_state, nested(32)) and is_refused(read_state, nested(33)))
+
+
+def bytes_have_their_length() -> bool:
+    """A length above what is left, one below it, a part of a length, and the byte of no node."""
+    odd = ["07 00000003 00FF", "07 00000001 00FF", "07 FFFFFFFF", "07 80000000 00", "07 000002", "07", "08", "08 00000001 00",
+           "05 00000001 07 00000001", "05 00000002 07 00000001 00"]
+    return (all(is_refused(read_state, bytes.fromhex(one)) for one in odd)
+            and all(is_refused(read_message, bytes.fromhex("02 00000001 61" + one)) for one in odd))
+
+
+def length_of_a_message_with_bytes() -> bool:
+    """A message of 65,536 bytes is read, one of a byte more isn't; so are states of 262,144 bytes."""
+    return (message_length("a", b"x" * 65_525) == MAX_MESSAGE
+            and not is_refused(read_message, spelled_message("a", b"x" * 65_525))
+            and is_refused(read_message, spelled_message("a", b"x" * 65_526))
+            and not is_refused(read_state, spelled(b"x" * 262_139)) and is_refused(read_state, spelled(b"x" * 262_140)))
+
+
+def a_map_is_no_bytes() -> bool:
+    """A map whose only name is that for bytes is a map: it is spelled, read and written as one."""
+    named = bytes.fromhex("06 00000001 00000004 24686578 04 00000002 3030")
+    return (spelled({"$hex": "00"}) == named and read_state(named) == {"$hex": "00"} and not holds_bytes({"$hex": "00"})
+            and compact({"a": {"$hex": "00"}, "b": b"\0"}) == '{"a":{"$hex":"00"},"b":{"$hex":"00"}}')
+
+
+def messages_of_the_first_form() -> bool:
+    """They are no messages any more, and become such ones of the same method and argument."""
+    old = b"\x01" + ADD_3[1:]
+    others = [ADD_3, b"\0" + old[1:], b"\x03" + old[1:], old[:-1], old + b"\0", b"",
+              bytes.fromhex("01 00000001 61 07 00000000"), bytes.fromhex("01 00000001 61 05 00000001 07 00000001 00"),
+              spelled_message("a", "x" * 65_526, b"\x01")]
+    return (is_refused(read_message, old) and migrate_message(old) == ADD_3
+            and migrate_message(spelled_message("a", {"$hex": "00"}, b"\x01")) == spelled_message("a", {"$hex": "00"})
+            and all(is_refused(migrate_message, data) for data in others))
+
+
+def no_bytes_in_states_of_before() -> bool:
+    """A state of an old journal holds no bytes at any depth, and is otherwise as it is now."""
+    old = [None, {"$hex": "00"}, ["x", {"a": [1]}]]
+    now = [b"", [b"x"], {"a": [{"b": b"\0"}]}]
+    return (all(read_old_state(spelled(value)) == value for value in old)
+            and all(is_refused(read_old_state, spelled(value)) and read_state(spelled(value)) == value for value in now))
+
+
 def texts_are_utf_8() -> bool:
-    """Bytes that no text is spelled by."""
-    return is_refused(read_state, bytes.fromhex("04 00000002 C080"))
+    """Bytes that no text is spelled by, nor a name, nor a method."""
+    return (is_refused(read_state, bytes.fromhex("04 00000002 C080"))
+            and is_refused(read_state, bytes.fromhex("06 00000001 00000002 C080 00"))
+            and is_refused(read_message, bytes.fromhex("02 00000002 C080 00")))
 
 
 # ---- storage
@@ -275,6 +331,19 @@ def every_journal_agrees() -> bool:
     return all(journal_agrees(row) for row in rows if len(row.lines) <= 10_000)
 
 
+def is_read(row: Row) -> bool:
+    return row.words == ["audit", "j"] and row.status in (0, 3)
+
+
+def a_migrated_journal_has_its_report() -> bool:
+    """So it is for each journal of the rows that is one; it is in the last form then, and stays as it is."""
+    def holds(text_of_it: bytes) -> bool:
+        migrated = migrate_journal(text_of_it)
+        return (audit(read_journal(migrated)) == audit(read_journal(text_of_it)) and migrate_journal(migrated) == migrated
+                and migrated.startswith(b"silo-journal 3\n"))
+    return all(holds(row.files["j"].encode()) for row in ROWS if is_read(row))
+
+
 # ---- laws
 
 def laws_hold_after_each_step_of_each_row() -> bool:
@@ -285,10 +354,13 @@ def laws_hold_after_each_step_of_each_row() -> bool:
 
 CALL_ROWS = [
     spelling_of_a_message, names_of_a_map_ascend, spelling_of_states, no_message_within_a_message,
-    a_count_above_what_is_there, depth_of_a_message, length_of_a_message, texts_are_utf_8, versions_are_spent,
+    a_count_above_what_is_there, depth_of_a_message, length_of_a_message, texts_are_utf_8, spelling_of_bytes,
+    bytes_have_their_length, length_of_a_message_with_bytes, a_map_is_no_bytes, messages_of_the_first_form,
+    no_bytes_in_states_of_before, versions_are_spent,
     a_stale_row_comes_before_spent_versions, an_odd_state_is_kept_by_what_keeps_the_state,
     a_load_whose_storage_fails, each_storage_call_fails_once, a_poke_is_one_storage_call, a_poke_whose_storage_fails,
     a_cleared_row_is_not_null, a_reader_that_fails, a_writer_that_fails, a_lane_has_its_own_steps,
     any_order_answers_the_lanes_alike, two_hundred_calls_of_two_clients, every_journal_agrees,
+    a_migrated_journal_has_its_report,
     laws_hold_after_each_step_of_each_row,
 ]

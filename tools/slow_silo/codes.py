@@ -4,6 +4,7 @@ NOT_A_REQUEST = 10
 TOO_LONG = 11
 TOO_DEEP = 12
 NOT_WHOLE = 13
+NOT_BYTES = 14
 BAD_GRAIN = 20
 UNKNOWN_TENANT = 21
 UNKNOWN_KIND = 22
@@ -26,6 +27,7 @@ TEXTS = {
     TOO_LONG: "line is too long",
     TOO_DEEP: "arguments are too deep",
     NOT_WHOLE: "number is not a whole number of 64 bits",
+    NOT_BYTES: "bytes are not well formed",
     BAD_GRAIN: "grain name is not well formed",
     UNKNOWN_TENANT: "tenant {} is unknown",
     UNKNOWN_KIND: "kind {} is unknown",
@@ -44,7 +46,7 @@ TEXTS = {
 }
 
 # The codes with which a line of a form may be refused: such a refusal is a step of its caller.
-LINE_REFUSALS = (TOO_LONG, TOO_DEEP, NOT_WHOLE, BAD_GRAIN, STATE_TOO_LARGE)
+LINE_REFUSALS = (TOO_LONG, TOO_DEEP, NOT_WHOLE, NOT_BYTES, BAD_GRAIN, STATE_TOO_LARGE)
 
 
 def text_of(code: int, *names: str) -> str:

@@ -1,13 +1,15 @@
 """A journal's text: what a silo was set up with, the steps that it did, what it replied, and its rows.
 
-There are two forms of it. The second also tells which logic the kinds have, by its number, and the kinds that have an
-age of their own; in the first they have the first logic, and none has an age of its own. A silo's journal is written in
-the second, and both are read.
+There are three forms of it. The second also tells which logic the kinds have, by its number, and the kinds that have an
+age of their own; in the first they have the first logic, and none has an age of its own. In these two messages have the
+first form, no value holds bytes, and no code says that bytes aren't well formed; the third is the second without that.
+A silo's journal is written in the third, and all three are read.
 """
 
 from __future__ import annotations
 
 import re
+from functools import partial
 from typing import NamedTuple, Optional
 
 from . import codes
@@ -17,8 +19,11 @@ from .silo import Silo
 from .steps import (MAX_NUMBER, Abandon, Activate, Begin, Call, Client, Deliver, End, Load, Poke, Refuse, Reply, Status,
                     Step, Store, Sweep, Tick)
 from .storage import CLEARED, LAST_VERSION, Row
-from .values import NotSpelled, read_message, read_state, spelled, spelled_message
+from .values import (OLD_MESSAGE_FORM, NotSpelled, read_message, read_old_message, read_old_state, read_state, spelled,
+                     spelled_message)
 
+FORMS = (1, 2, 3)
+LAST_FORM = 3
 MAX_AGE = 86_400_000
 MAX_AGES = 64
 MAX_TENANTS = 1_000
@@ -36,7 +41,7 @@ class Journal(NamedTuple):
     kinds: int = 2
     # the kinds that have an age of their own, ascending
     ages: tuple[tuple[str, int], ...] = ()
-    form: int = 2
+    form: int = LAST_FORM
 
 
 class RefusedAt(Exception):
@@ -59,10 +64,17 @@ def whether_failed(failed: bool) -> str:
     return "failed" if failed else "ok"
 
 
-def step_fields(step: Step) -> list:
+def message_in(form: int, step: Call) -> bytes:
+    """The bytes of a call's message in a journal of the form."""
+    if form == LAST_FORM:
+        return spelled_message(step.method, step.args)
+    return spelled_message(step.method, step.args, OLD_MESSAGE_FORM)
+
+
+def step_fields(step: Step, form: int = LAST_FORM) -> list:
     """The fields of a step's line behind its first word."""
     if isinstance(step, Call):
-        return [step.caller.text(), step.id, step.grain.text(), spelled_message(step.method, step.args).hex()]
+        return [step.caller.text(), step.id, step.grain.text(), message_in(form, step).hex()]
     if isinstance(step, Poke):
         return [step.caller.text(), step.id, step.grain.text(), whether_failed(step.failed), spelled(step.state).hex()]
     if isinstance(step, Load):
@@ -82,12 +94,12 @@ def row_fields(grain: Grain, row: Row) -> list:
 
 
 def journal_text(journal: Journal) -> bytes:
-    """The text, in the journal's form. In the first the kinds have the first logic, and no age of their own."""
-    assert journal.form == 2 or (journal.kinds, journal.ages) == (1, ())
-    lines = [["silo-journal", journal.form], *([["kinds", journal.kinds]] if journal.form == 2 else [])]
+    """The text, in the journal's form, if that has it: in the first the kinds have the first logic, and no age of their own."""
+    assert journal.form != 1 or (journal.kinds, journal.ages) == (1, ())
+    lines = [["silo-journal", journal.form], *([["kinds", journal.kinds]] if journal.form != 1 else [])]
     lines += [["age", journal.age], *(["kind", *entry] for entry in journal.ages)]
     lines += [["tenant", tenant, *limits] for tenant, limits in journal.tenants]
-    lines += [[type(step).__name__.lower(), *step_fields(step)] for step in journal.steps]
+    lines += [[type(step).__name__.lower(), *step_fields(step, journal.form)] for step in journal.steps]
     lines += [["reply", *reply_fields(reply)] for reply in journal.replies]
     lines += [["row", *row_fields(grain, row)] for grain, row in journal.rows]
     lines += [["close", len(journal.steps)]]
@@ -137,36 +149,50 @@ def spelled_as(read, field: str) -> object:
         raise Misfit from error
 
 
+def message(form: int, field: str) -> tuple[str, object]:
+    return spelled_as(read_message if form == LAST_FORM else read_old_message, field)
+
+
+def state(form: int, field: str) -> object:
+    return spelled_as(read_state if form == LAST_FORM else read_old_state, field)
+
+
+def code(form: int, among, field: str) -> int:
+    """One of these codes that the form has."""
+    fits(field in map(str, among))
+    fits(form == LAST_FORM or int(field) != codes.NOT_BYTES)
+    return int(field)
+
+
 # ---- reading lines
 
-def refuse_line(who: str, asked: str, code: str) -> Refuse:
-    fits(code in map(str, codes.LINE_REFUSALS))
-    return Refuse(caller(who), number(asked), int(code))
+def refuse_line(form: int, who: str, asked: str, why: str) -> Refuse:
+    return Refuse(caller(who), number(asked), code(form, codes.LINE_REFUSALS, why))
 
 
-def call_line(who: str, asked: str, target: str, message: str) -> Call:
-    return Call(caller(who), number(asked), grain(target), *spelled_as(read_message, message))
+def call_line(form: int, who: str, asked: str, target: str, said: str) -> Call:
+    return Call(caller(who), number(asked), grain(target), *message(form, said))
 
 
-def poke_line(who: str, asked: str, target: str, went: str, state: str) -> Poke:
-    return Poke(caller(who), number(asked), grain(target), spelled_as(read_state, state), failed(went))
+def poke_line(form: int, who: str, asked: str, target: str, went: str, held: str) -> Poke:
+    return Poke(caller(who), number(asked), grain(target), state(form, held), failed(went))
 
 
-# how many fields stand behind the first word, and what they read as
+# how many fields stand behind the first word, and what they read as in a journal of a form
 STEP_LINES = {
     "refuse": (3, refuse_line),
     "call": (4, call_line),
     "poke": (5, poke_line),
-    "status": (2, lambda who, asked: Status(caller(who), number(asked))),
-    "deliver": (1, lambda at: Deliver(grain(at))),
-    "activate": (1, lambda at: Activate(grain(at))),
-    "load": (2, lambda at, went: Load(grain(at), failed(went))),
-    "begin": (1, lambda at: Begin(grain(at))),
-    "store": (3, lambda at, turn, went: Store(grain(at), number(turn), failed(went))),
-    "end": (2, lambda at, turn: End(grain(at), number(turn))),
-    "abandon": (2, lambda at, turn: Abandon(grain(at), number(turn))),
-    "tick": (1, lambda now: Tick(number(now))),
-    "sweep": (0, Sweep),
+    "status": (2, lambda _form, who, asked: Status(caller(who), number(asked))),
+    "deliver": (1, lambda _form, at: Deliver(grain(at))),
+    "activate": (1, lambda _form, at: Activate(grain(at))),
+    "load": (2, lambda _form, at, went: Load(grain(at), failed(went))),
+    "begin": (1, lambda _form, at: Begin(grain(at))),
+    "store": (3, lambda _form, at, turn, went: Store(grain(at), number(turn), failed(went))),
+    "end": (2, lambda _form, at, turn: End(grain(at), number(turn))),
+    "abandon": (2, lambda _form, at, turn: Abandon(grain(at), number(turn))),
+    "tick": (1, lambda _form, now: Tick(number(now))),
+    "sweep": (0, lambda _form: Sweep()),
 }
 
 
@@ -176,30 +202,29 @@ def read_tenant(line: str, before: list) -> tuple[str, Limits]:
     return tenant, Limits(number(activations, 1, MAX_ACTIVATIONS), number(mailbox, 1, MAX_MAILBOX))
 
 
-def read_step(line: str, _before: list) -> Step:
+def read_step(line: str, _before: list, form: int = LAST_FORM) -> Step:
     word, *fields = line.split(" ")
     fits(word in STEP_LINES)
     count, read = STEP_LINES[word]
     fits(len(fields) == count)
-    return read(*fields)
+    return read(form, *fields)
 
 
-def read_reply(line: str, _before: list) -> Reply:
+def read_reply(line: str, _before: list, form: int) -> Reply:
     fields = line.split(" ", 5)
     fits(fields[0] == "reply" and len(fields) >= 5)
     to = grain(fields[1]) if fields[2] == "-" else Client(caller(fields[1]), number(fields[2]))
     if fields[3] == "ok":
         fits(len(fields) == 5)
-        return Reply(to, spelled_as(read_state, fields[4]))
-    fits(fields[3] == "no" and len(fields) == 6 and fields[4] in map(str, codes.TEXTS))
-    fits(re.fullmatch("[ -~]+", fields[5], re.ASCII))
-    return Reply(to, code=int(fields[4]), text=fields[5])
+        return Reply(to, state(form, fields[4]))
+    fits(fields[3] == "no" and len(fields) == 6 and re.fullmatch("[ -~]+", fields[5], re.ASCII))
+    return Reply(to, code=code(form, codes.TEXTS, fields[4]), text=fields[5])
 
 
-def read_row(line: str, before: list) -> tuple[Grain, Row]:
+def read_row(line: str, before: list, form: int) -> tuple[Grain, Row]:
     word, at, version, content = split(line, 4)
     fits(word == "row" and (not before or before[-1][0] < grain(at)))
-    held = CLEARED if content == "-" else spelled_as(read_state, content)
+    held = CLEARED if content == "-" else state(form, content)
     return grain(at), Row(number(version, 1, LAST_VERSION), held)
 
 
@@ -247,7 +272,7 @@ class Reader:
 
 def read_head(line: str, _before: list) -> int:
     word, form = split(line, 2)
-    fits(word == "silo-journal" and form in ("1", "2"))
+    fits(word == "silo-journal" and form in map(str, FORMS))
     return int(form)
 
 
@@ -279,10 +304,13 @@ def read_journal(text: bytes) -> Journal:
     tenants = reader.all_that(read_tenant)
     if not tenants:
         raise reader.refused()
-    steps = reader.all_that(read_step)
-    replies = reader.all_that(read_reply)
-    rows = reader.all_that(read_row)
+    steps, replies, rows = (reader.all_that(partial(read, form=form)) for read in (read_step, read_reply, read_row))
     reader.next(lambda line, _before: fits(line == f"close {len(steps)}"))
     if reader.place < len(reader.lines) or reader.rest:
         raise reader.refused()
     return Journal(tuple(tenants), age, tuple(steps), tuple(replies), tuple(rows), kinds, tuple(ages), form)
+
+
+def migrate_journal(text: bytes) -> bytes:
+    """The text of the same journal in the last form, or RefusedAt."""
+    return journal_text(read_journal(text)._replace(form=LAST_FORM))

@@ -3,6 +3,7 @@
 from __future__ import annotations
 
 import json
+import re
 from typing import Callable, Iterable, Optional, Union
 
 from . import codes, plain_json
@@ -10,14 +11,22 @@ from .names import read_caller, read_grain
 from .silo import NOT_NOW, Silo
 from .steps import (Abandon, Activate, Begin, Call, Client, Deliver, End, Load, Poke, Refuse, Reply, Status,
                     Step, Store, Sweep, Tick)
-from .values import (MAX_DEPTH, MAX_MESSAGE, MAX_STATE, depth, is_value, is_whole, message_length, spelled_length)
+from .values import (MAX_DEPTH, MAX_MESSAGE, MAX_STATE, depth, is_whole, leaves, message_length, spelled_length)
 
 MAX_LINE = 65_536
 MAX_LINES = 1_000_000
 
 
+# the only member of an object that stands for bytes
+HEX = "$hex"
+
+
 class NotARequest(Exception):
     """The line is refused with code 10."""
+
+
+class NotBytes:
+    """What an object that stands for bytes stands for if it has no digits of them."""
 
 
 # ---- what a line says
@@ -103,22 +112,47 @@ def asked_step(said: dict) -> Step:
     text = of_type(str, said["grain"])
     if said["op"] == "call":
         of_type(str, said["method"])
-    code = refusal(said)
+    value = with_bytes(said["args"] if said["op"] == "call" else said["state"])
+    code = refusal(said, value)
     if code is not None:
         return Refuse(caller, number, code)
     grain = read_grain(text)
     if said["op"] == "call":
-        return Call(caller, number, grain, said["method"], said["args"])
-    return Poke(caller, number, grain, said["state"])
+        return Call(caller, number, grain, said["method"], value)
+    return Poke(caller, number, grain, value)
 
 
-def refusal(said: dict) -> Optional[int]:
+def with_bytes(value: object) -> object:
+    """The value, with bytes where an object stands for them; nothing in such an object is looked at but its digits."""
+    if isinstance(value, list):
+        return [with_bytes(member) for member in value]
+    if not isinstance(value, dict):
+        return value
+    if set(value) == {HEX}:
+        return bytes_of(value[HEX])
+    return {name: with_bytes(member) for name, member in value.items()}
+
+
+def bytes_of(digits: object) -> Union[bytes, NotBytes]:
+    """Bytes, of two lower case digits each."""
+    if not isinstance(digits, str) or not re.fullmatch("([0-9a-f]{2})*", digits, re.ASCII):
+        return NotBytes()
+    return bytes.fromhex(digits)
+
+
+def is_number_not_whole(leaf: object) -> bool:
+    """The leaf is a Float, or a number that doesn't fit."""
+    return isinstance(leaf, plain_json.Float) or type(leaf) is int and not is_whole(leaf)
+
+
+def refusal(said: dict, value: object) -> Optional[int]:
     """The first of these that fits."""
-    value = said["args"] if said["op"] == "call" else said["state"]
     if depth(value) > MAX_DEPTH:
         return codes.TOO_DEEP
-    if not is_value(value):
+    if any(is_number_not_whole(leaf) for leaf in leaves(value)):
         return codes.NOT_WHOLE
+    if any(isinstance(leaf, NotBytes) for leaf in leaves(value)):
+        return codes.NOT_BYTES
     if said["op"] == "call" and message_length(said["method"], value) > MAX_MESSAGE:
         return codes.TOO_LONG
     if said["op"] == "poke" and spelled_length(value) > MAX_STATE:
@@ -140,8 +174,13 @@ def read_line(line: bytes) -> Union[Step, int, None]:
 
 # ---- what is written
 
+def object_of(data: bytes) -> dict:
+    """The object that stands for bytes."""
+    return {HEX: data.hex()}
+
+
 def compact(members: dict) -> str:
-    return json.dumps(members, ensure_ascii=False, separators=(",", ":"), sort_keys=True)
+    return json.dumps(members, ensure_ascii=False, separators=(",", ":"), sort_keys=True, default=object_of)
 
 
 def reply_text(reply: Reply) -> str:

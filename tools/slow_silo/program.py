@@ -3,13 +3,13 @@
 from __future__ import annotations
 
 from random import Random
-from typing import Iterable, NamedTuple, Optional, Union
+from typing import Callable, Iterable, NamedTuple, Optional, Union
 
 from . import codes, lines
 from .answer import DEFAULT_SENDS, MAX_SENDS, answer_lines, is_asked
 from .audit import audit
 from .journal import (MAX_ACTIVATIONS, MAX_AGE, MAX_AGES, MAX_MAILBOX, MAX_TENANTS, RefusedAt, journal_of,
-                      journal_text, read_journal)
+                      journal_text, migrate_journal, read_journal)
 from .machine import Limits
 from .names import is_word
 from .serve import answers_of, lanes_of, replies_to_grains, serve
@@ -106,6 +106,7 @@ OPTIONS = {
     "answer": dict([IS_AGE, IS_AGES, IS_SENDS, IS_PATH]),
     "serve": dict([IS_AGE, IS_AGES, IS_WORKERS, IS_PATH]),
     "audit": {},
+    "migrate": {},
 }
 
 
@@ -212,15 +213,20 @@ def sort_lines(read: list) -> tuple[list[int], list]:
     return refusals, steps
 
 
-def run_audit(words: list[str], files: dict) -> tuple[bytes, int]:
+def read_with(read: Callable, words: list[str], files: dict) -> object:
+    """What the journal at the one path reads as."""
     if len(words) != 1:
         raise Ended(BAD_WORDS)
     if words[0] not in files:
         raise Ended(BROKEN, "silo: reading failed")
     try:
-        reports = audit(read_journal(files[words[0]]))
+        return read(files[words[0]])
     except RefusedAt as refusal:
         raise Ended(BAD_JOURNAL, f"silo: journal line {refusal.line} is refused") from refusal
+
+
+def run_audit(words: list[str], files: dict) -> tuple[bytes, int]:
+    reports = audit(read_with(read_journal, words, files))
     differs = any(report.difference is not None for report in reports)
     return written_lines(report.text() for report in reports), DIFFERS if differs else FINE
 
@@ -251,6 +257,8 @@ def run_program(words: list[str], data: Union[bytes, Iterable[bytes]] = b"", fil
             run_answer(given, others, data, files, written)
         elif words[0] == "serve":
             written.append(run_serve(given, others, data, files, chance))
+        elif words[0] == "migrate":
+            written.append(read_with(migrate_journal, others, files))
         else:
             out, status = run_audit(others, files)
             written.append(out)

@@ -1,7 +1,6 @@
 """Values, and the bytes that spell them.
 
-A value is None, a bool, a whole number of 64 bits (int), a text (str), a list, or a map from text (dict). What stands
-for a number of another kind (`plain_json.Float`, or an int that is too large) is no value: `is_value` says so.
+A value is None, a bool, a whole number of 64 bits (int), a text (str), bytes, a list, or a map from text (dict).
 """
 
 from __future__ import annotations
@@ -10,8 +9,10 @@ MAX_DEPTH = 32
 MAX_MESSAGE = 65_536
 MAX_STATE = 262_144
 
-NULL, FALSE, TRUE, WHOLE, TEXT, LIST, MAP = range(7)
-MESSAGE_FORM = b"\x01"
+NULL, FALSE, TRUE, WHOLE, TEXT, LIST, MAP, BYTES = range(8)
+# the first byte of a message; messages of the first form had another, and bytes stood in none of them
+MESSAGE_FORM = b"\x02"
+OLD_MESSAGE_FORM = b"\x01"
 
 
 class NotSpelled(Exception):
@@ -31,11 +32,15 @@ def members(value: object) -> list:
     return value if isinstance(value, list) else []
 
 
-def is_value(value: object) -> bool:
-    """Every number in it is a whole number of 64 bits."""
+def leaves(value: object) -> list:
+    """What stands in it and is neither a list nor a map."""
     if isinstance(value, (list, dict)):
-        return all(is_value(member) for member in members(value))
-    return value is None or isinstance(value, (bool, str)) or is_whole(value)
+        return [leaf for member in members(value) for leaf in leaves(member)]
+    return [value]
+
+
+def holds_bytes(value: object) -> bool:
+    return any(isinstance(leaf, bytes) for leaf in leaves(value))
 
 
 def depth(value: object) -> int:
@@ -46,6 +51,8 @@ def spelled_length(value: object) -> int:
     """How many bytes spell it."""
     if isinstance(value, str):
         return 5 + len(value.encode())
+    if isinstance(value, bytes):
+        return 5 + len(value)
     if isinstance(value, list):
         return 5 + sum(spelled_length(member) for member in value)
     if isinstance(value, dict):
@@ -74,14 +81,16 @@ def spelled(value: object) -> bytes:
         return bytes([WHOLE]) + value.to_bytes(8, "big", signed=True)
     if isinstance(value, str):
         return bytes([TEXT]) + spelled_text(value)
+    if isinstance(value, bytes):
+        return bytes([BYTES]) + spelled_number(len(value)) + value
     if isinstance(value, list):
         return bytes([LIST]) + spelled_number(len(value)) + b"".join(spelled(member) for member in value)
     pairs = (spelled_text(name) + spelled(value[name]) for name in sorted(value))
     return bytes([MAP]) + spelled_number(len(value)) + b"".join(pairs)
 
 
-def spelled_message(method: str, args: object) -> bytes:
-    return MESSAGE_FORM + spelled_text(method) + spelled(args)
+def spelled_message(method: str, args: object, form: bytes = MESSAGE_FORM) -> bytes:
+    return form + spelled_text(method) + spelled(args)
 
 
 # ---- from bytes to their value
@@ -98,9 +107,13 @@ def number_at(data: bytes, place: int) -> tuple[int, int]:
     return int.from_bytes(found, "big"), place
 
 
-def text_at(data: bytes, place: int) -> tuple[str, int]:
+def bytes_at(data: bytes, place: int) -> tuple[bytes, int]:
     length, place = number_at(data, place)
-    found, place = taken(data, place, length)
+    return taken(data, place, length)
+
+
+def text_at(data: bytes, place: int) -> tuple[str, int]:
+    found, place = bytes_at(data, place)
     try:
         return found.decode("utf-8", "strict"), place
     except UnicodeDecodeError as error:
@@ -141,6 +154,8 @@ def value_at(data: bytes, place: int, levels: int) -> tuple[object, int]:
         return int.from_bytes(found, "big", signed=True), place
     if kind == TEXT:
         return text_at(data, place)
+    if kind == BYTES:
+        return bytes_at(data, place)
     if kind == LIST:
         return list_at(data, place, levels - 1)
     if kind == MAP:
@@ -162,12 +177,35 @@ def read_state(data: bytes) -> object:
     return whole_value(data, 0)
 
 
-def read_message(data: bytes) -> tuple[str, object]:
+def read_message(data: bytes, form: bytes = MESSAGE_FORM) -> tuple[str, object]:
     """The method and its argument."""
-    if len(data) > MAX_MESSAGE or data[:1] != MESSAGE_FORM:
+    if len(data) > MAX_MESSAGE or data[:1] != form:
         raise NotSpelled
     method, place = text_at(data, 1)
     return method, whole_value(data, place)
+
+
+# ---- the forms of before bytes were values
+
+def without_bytes(value: object) -> object:
+    if holds_bytes(value):
+        raise NotSpelled
+    return value
+
+
+def read_old_state(data: bytes) -> object:
+    return without_bytes(read_state(data))
+
+
+def read_old_message(data: bytes) -> tuple[str, object]:
+    """The method and the argument of a message of the first form."""
+    method, args = read_message(data, OLD_MESSAGE_FORM)
+    return method, without_bytes(args)
+
+
+def migrate_message(data: bytes) -> bytes:
+    """The message with the method and the argument of one of the first form."""
+    return spelled_message(*read_old_message(data))
 
 
 def same(one: object, other: object) -> bool:

@@ -6,7 +6,8 @@
         web = silo.client("red/web")
         print(web.grain("counter/red:a").add(by=3))
 
-`red:2:4` is the tenant `red` with at most 2 activations and 4 waiting requests at each grain. The silo lives as long as
+`red:2:4` is the tenant `red` with at most 2 activations and 4 waiting requests at each grain. A value is JSON, and `bytes` may
+stand in it: they are written as `{"$hex":"00ff"}`, and read back as `bytes`. The silo lives as long as
 the `with` block, and answers each request before it reads the next. Requests may be made from many threads.
 
     python -m silo red:2:4
@@ -30,6 +31,8 @@ from typing import Any, Callable, Mapping, Optional, Union
 
 MOST_BYTES = 65_536
 MOST_LEVELS = 100
+# the only member of an object that is bytes
+HEX = "$hex"
 CALLER = re.compile(r"[a-z][a-z0-9-]{0,31}/[a-z][a-z0-9-]{0,31}")
 
 
@@ -49,6 +52,18 @@ class SiloEnded(Exception):
         super().__init__(f"the silo ended with status {status}: {told.strip() or 'it told nothing'}")
         self.status = status
         self.told = told
+
+
+def object_of(value: Any) -> dict[str, str]:
+    """The object that bytes are written as."""
+    if isinstance(value, (bytes, bytearray)):
+        return {HEX: value.hex()}
+    raise TypeError(f"{value!r} is no value")
+
+
+def with_bytes(members: dict[str, Any]) -> Any:
+    """An object that was read, or the bytes that it is."""
+    return bytes.fromhex(members[HEX]) if set(members) == {HEX} else members
 
 
 def outcome_of(reply: dict[str, Any]) -> Union[Any, SiloError]:
@@ -78,7 +93,7 @@ def line_of(op: str, **members: Any) -> bytes:
         raise ValueError(f"{caller!r} is no caller: it has to be like red/web")
     if levels(members) > MOST_LEVELS:
         raise ValueError(f"a value has more than {MOST_LEVELS} levels")
-    line = json.dumps({"op": op, **members}, ensure_ascii=False, allow_nan=False, separators=(",", ":")).encode()
+    line = json.dumps({"op": op, **members}, ensure_ascii=False, allow_nan=False, separators=(",", ":"), default=object_of).encode()
     if len(line) > MOST_BYTES:
         raise ValueError(f"the line has {len(line)} bytes, and may have {MOST_BYTES}")
     return line + b"\n"
@@ -203,7 +218,7 @@ class Silo:
     def _read(self) -> None:
         """Hands out the replies, until the output ends."""
         for line in self._process.stdout:
-            reply = json.loads(line)
+            reply = json.loads(line, object_hook=with_bytes)
             if "id" in reply:
                 with self._lock:
                     answer = self._asked.pop((reply["from"], reply["id"]))

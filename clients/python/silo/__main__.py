@@ -7,7 +7,7 @@ import os
 import sys
 from typing import Any
 
-from silo import Silo, SiloEnded, SiloError
+from silo import Silo, SiloEnded, SiloError, object_of
 
 HELP = """GRAIN METHOD [NAME=VALUE..]   calls a method: counter/red:a add by=3
 GRAIN poke VALUE              writes the grain's row past the grain
@@ -51,7 +51,7 @@ def shell(tenants: list[str]) -> int:
             return silo.close()
         try:
             if words.strip():
-                print(json.dumps(obey(silo, words.split()), ensure_ascii=False), flush=True)
+                print(json.dumps(obey(silo, words.split()), ensure_ascii=False, default=object_of), flush=True)
         except (SiloError, ValueError) as fault:
             print(fault, flush=True)
         except SiloEnded as fault:

@@ -54,5 +54,5 @@ def serve_file(
         ran = subprocess.run(words, stdin=lines, stdout=subprocess.PIPE, stderr=subprocess.PIPE, check=False)
     if ran.returncode != 0:
         raise silo.SiloEnded(ran.returncode, ran.stderr.decode(errors="replace"))
-    replies = [json.loads(line) for line in ran.stdout.splitlines()]
+    replies = [json.loads(line, object_hook=silo.with_bytes) for line in ran.stdout.splitlines()]
     return {(it["from"], it["id"]): silo.outcome_of(it) for it in replies if "id" in it}
