@@ -1,11 +1,10 @@
 -- What is noted of a value while it is put.
-use Rattle.std.proofs.Common.{◌≡◌, ℕ, suc, max, ◌+◌, ◌-◌, ◌<◌, ◌≤◌, Bool, true, false, ◌||◌, List, [], Option, Some, None, refl, sym, ap, subst, ◌∙◌, arith, ltb-true, ltb-false}
+use Rattle.std.proofs.Common.{◌≡◌, ℕ, suc, max, ◌+◌, ◌-◌, ◌<◌, ◌≤◌, Bool, true, false, ◌||◌, List, [], Option, sym, ap, subst, ◌∙◌, arith, ltb-true, ltb-false}
 use Rattle.std.proofs.lemmas.Bool.Decides.{nat_tests}
 use Rattle.serde_json.specs.Data as json
 use Rattle.json.specs.Token.{Token}
 use Rattle.std.proofs.Math.Bool.{or-false, or_assoc}
 use Rattle.request_codec.specs.Formed.{IsFormed}
-use Rattle.request_codec.specs.Limits.{depth_limit}
 use Rattle.request_codec.specs.Written.{spelling}
 use Rattle.silo_event.specs.declared.refusal.Refusal.{Refusal}
 use Rattle.request_codec.specs.Tree.{list, map}
