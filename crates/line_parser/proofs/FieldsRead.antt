@@ -14,16 +14,17 @@ use Rattle.serde_json.specs.Data.{Data, Members, no_members, put}
 use Rattle.serde_json.specs.Read.{of_members, converted}
 use Rattle.std.proofs.Math.Bool.{or-false, or_assoc}
 use Rattle.request_codec.specs.Tree.{fields_count}
-use Rattle.request_codec.specs.Json.{json_depth, json_members_depth}
+use Rattle.request_codec.specs.Json.{hex_of, json_depth, json_members_depth, is_not_whole, fields_not_whole}
 use Rattle.request_codec.specs.Formed.{FieldsFormed}
-use Rattle.request_codec.specs.Lenient.{lenient_value, lenient_fields, is_not_whole, fields_not_whole}
+use Rattle.request_codec.specs.Lenient.{lenient_value, lenient_fields, fields_not_hex}
 use Rattle.request_codec.specs.Written.{text_spelling, spelling, fields_spelling}
 use Rattle.line_parser.specs.inside.Argument.{too_deep, is_deep, AddsFaults, PutsValue, PutsFields}
 use Rattle.line_parser.specs.inside.Fields.{PlacedField, placed_bytes, placed_spelling, members_of, HoldsFields, AreBehind, AreSorted, field_spelling}
 use Rattle.line_parser.specs.declared.fields.Fields.{Fields}
 use Rattle.line_parser.specs.declared.faults.Faults.{Faults}
 use Rattle.line_parser.proofs.Noted.{adds_both, adds_as, deep_max, nothing_added}
-use Rattle.line_parser.proofs.Ordered.{Collects, collects_none, collects_more, formed_put, put_in_order}
+use Rattle.line_parser.proofs.Ordered.{Collects, collects_none, collects_more, formed_put, plain_put, put_in_order}
+use Rattle.line_parser.proofs.NoBytes.{none_moved}
 use Rattle.line_parser.proofs.Places.{one_behind}
 use Rattle.line_parser.proofs.ItemsRead.{SetsCount, counted_bytes, longer}
 use Rattle.line_parser.proofs.GrammarLoops.{member_read, members_over}
@@ -88,6 +89,7 @@ pub record FieldsRead (depth : ℕ) (initial now : List Token) (before after : L
   pub placed : List PlacedField
   pub json : Members
   pub read : converted (λ ms. of_members ms no_members) (members (value depth) (length initial) initial) ≡ converted (λ ms. of_members ms json) (members (value depth) turns now)
+  pub plain : fields_not_hex json ≡ false
   pub formed : FieldsFormed (lenient_fields json)
   pub collects : Collects placed json
   pub noted : AddsFaults noted_before noted_after (any_too_deep depth placed) (any_not_whole placed)
@@ -103,6 +105,7 @@ fields_start depth ts before after fields f e h deep = record {
   placed = [];
   json = no_members;
   read = refl;
+  plain = refl;
   formed = tt;
   collects = collects_none;
   noted = nothing_added depth f deep;
@@ -140,6 +143,7 @@ fields_next depth initial ts s r before mid named after old fields first noted_o
       placed = f.placed ++ c ∷ [];
       json = put k v.json f.json;
       read = f.read ∙ member_read (value depth) f.json f.turns k ts s r v.json some_turn key v.read;
+      plain = plain_put k v.json f.json v.plain f.plain;
       formed = formed_put k v.json f.json valid v.formed f.formed;
       collects = collects_more f.placed f.json c f.collects;
       noted = adds_as first noted_new _ _ _ _ (adds_both first noted_old noted_new _ _ _ _ f.noted v.noted) (deep_more depth f.placed c) (not_whole_more f.placed c);
@@ -149,8 +153,8 @@ fields_next depth initial ts s r before mid named after old fields first noted_o
     }
 
 pub fields_stop : (depth : ℕ) (initial ts r : List Token) (before after sorted new : List ℕ) (fields : Fields) (first noted : Faults) (at count : ℕ) → (f : FieldsRead depth initial ts before after fields first noted) → read_key ts ≡ Some (None, r)
-    → AreSorted f.placed (begun before) sorted → at ≡ length before + 1 → count ≡ length f.placed → SetsCount at count sorted new → PutsFields depth initial r before new first noted
-fields_stop depth initial ts r before after sorted new fields first noted at count f over s is n set =
+    → AreSorted f.placed (begun before) sorted → at ≡ length before + 1 → count ≡ length f.placed → SetsCount at count sorted new → hex_of (members_of f.placed) ≡ None → PutsFields depth initial r before new first noted
+fields_stop depth initial ts r before after sorted new fields first noted at count f over s is n set none =
     let same : f.json ≡ members_of s.sorted = put_in_order f.placed s.sorted f.json f.collects f.formed s.same s.ascend in
     let spelled : placed_spelling s.sorted ≡ fields_spelling (lenient_fields f.json) = sym (spelled_is s.sorted) ∙ ap (λ ms. fields_spelling (lenient_fields ms)) (sym same) in
     let all : sorted ≡ before ++ (6 ∷ 0 ∷ 0 ∷ 0 ∷ 0 ∷ fields_spelling (lenient_fields f.json)) = s.bytes ∙ ap (λ l. begun before ++ l) spelled ∙ append_assoc before (6 ∷ 0 ∷ 0 ∷ 0 ∷ 0 ∷ []) _ in
@@ -159,6 +163,8 @@ fields_stop depth initial ts r before after sorted new fields first noted at cou
     let split = list_any-IsPermutation field_not_whole f.placed s.sorted s.same ∙ not_whole_is s.sorted ∙ ap fields_not_whole (sym same) in
     record {
       json = f.json;
+      no_bytes = ap hex_of same ∙ none_moved s.sorted f.placed s.same none;
+      plain = f.plain;
       read = f.read ∙ members_over (value depth) f.json f.turns ts r f.enough over;
       formed = f.formed;
       noted = adds_as first noted _ _ _ _ f.noted deep split;

@@ -8,10 +8,11 @@ use Rattle.json.proofs.Grammar.{read_key-shorter, after_end_array-shorter, value
 use Rattle.serde_json.specs.Data.{Data, Items, no_items, item, Members, no_members, put, object}
 use Rattle.serde_json.specs.Read.{of_json, of_items, of_members, converted}
 use Rattle.std.proofs.Math.Bool.{or-false, or_assoc}
+use Rattle.std.proofs.lemmas.Bool.{or_from}
 use Rattle.request_codec.specs.Tree.{members_count}
-use Rattle.request_codec.specs.Json.{json_depth, items_depth}
+use Rattle.request_codec.specs.Json.{json_depth, items_depth, is_not_whole, are_not_whole}
 use Rattle.request_codec.specs.Formed.{AreFormed}
-use Rattle.request_codec.specs.Lenient.{lenient_value, lenient_members, is_not_whole, are_not_whole}
+use Rattle.request_codec.specs.Lenient.{lenient_value, lenient_members, is_not_hex, are_not_hex}
 use Rattle.request_codec.specs.Written.{spelling, members_spelling}
 use Rattle.request_codec.proofs.Spelled.{length-spelling, some_length}
 use Rattle.line_parser.specs.inside.Argument.{too_deep, is_deep, AddsFaults, PutsValue, PutsItems}
@@ -30,6 +31,7 @@ pub record ItemsRead (depth : ℕ) (initial now : List Token) (before after : Li
   pub shorter : length now ≤ length initial
   pub json : Items → Items
   pub read : converted of_items (items (value depth) (length initial) initial) ≡ parse_map json (converted of_items (items (value depth) turns now))
+  pub plain : (ds : Items) → are_not_hex ds ≡ false → are_not_hex (json ds) ≡ false
   pub formed : (ds : Items) → AreFormed (lenient_members ds) → AreFormed (lenient_members (json ds))
   pub levels : ℕ
   pub deepest : (ds : Items) → items_depth (json ds) ≡ max levels (items_depth ds)
@@ -53,6 +55,7 @@ items_start depth ts before after f e deep = record {
   shorter = omega arith;
   json = λ ds. ds;
   read = id_map _;
+  plain = λ ds h. h;
   formed = λ ds h. h;
   levels = 0;
   deepest = λ ds. omega arith;
@@ -85,6 +88,7 @@ items_next depth initial ts r before mid after count first old new s going v =
       shorter = omega (arith, s.shorter, v.shorter);
       json = λ ds. s.json (item v.json ds);
       read = s.read ∙ ap (parse_map s.json) turn ∙ parse_map-twice s.json (item v.json) _;
+      plain = λ ds h. s.plain (item v.json ds) (or_from (is_not_hex v.json) (are_not_hex ds) v.plain h);
       formed = λ ds h. s.formed (item v.json ds) (v.formed, h);
       levels = max s.levels (json_depth v.json);
       deepest = λ ds. omega (arith, s.deepest (item v.json ds));
@@ -121,6 +125,7 @@ items_stop depth initial ts r before after new at count first noted s over is se
     record {
       json = s.json no_items;
       read = s.read ∙ ap (parse_map s.json) (items_over (value depth) s.turns ts r s.enough over);
+      plain = s.plain no_items refl;
       formed = s.formed no_items tt;
       noted = adds_as first noted _ _ _ _ s.noted (ap (is_deep depth) levels) (sym (s.numbers no_items ∙ or-false s.some_not_whole));
       bytes = counted_bytes 5 at count before after new s.done is s.bytes set ∙ ap₂ (λ k l. before ++ (5 ∷ (to_be_bytes w32 k ++ l))) n all;

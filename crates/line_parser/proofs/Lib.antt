@@ -9,6 +9,7 @@ pub mod Places
 pub mod FieldsRead
 pub mod Ordered
 pub mod Numbers
+pub mod NoBytes
 pub mod Counts
 pub mod Noted
 pub mod PutValues

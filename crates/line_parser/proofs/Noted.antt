@@ -1,18 +1,17 @@
 -- What is noted of a value while it is put.
-use Rattle.std.proofs.Common.{◌≡◌, ℕ, suc, max, ◌+◌, ◌-◌, ◌<◌, ◌≤◌, Bool, true, false, ◌||◌, cond, List, [], Option, Some, None, refl, sym, ap, subst, ◌∙◌, arith, ltb-true, ltb-false, le-leb}
-use Rattle.std.proofs.lemmas.Bool.{lt-leb}
+use Rattle.std.proofs.Common.{◌≡◌, ℕ, suc, max, ◌+◌, ◌-◌, ◌<◌, ◌≤◌, Bool, true, false, ◌||◌, List, [], Option, sym, ap, subst, ◌∙◌, arith, ltb-true, ltb-false}
 use Rattle.std.proofs.lemmas.Bool.Decides.{nat_tests}
 use Rattle.serde_json.specs.Data as json
 use Rattle.json.specs.Token.{Token}
 use Rattle.std.proofs.Math.Bool.{or-false, or_assoc}
 use Rattle.request_codec.specs.Formed.{IsFormed}
-use Rattle.request_codec.specs.Limits.{depth_limit}
 use Rattle.request_codec.specs.Written.{spelling}
 use Rattle.silo_event.specs.declared.refusal.Refusal.{Refusal}
 use Rattle.request_codec.specs.Tree.{list, map}
-use Rattle.request_codec.specs.Json.{value_of_json, json_depth}
-use Rattle.request_codec.specs.Lenient.{lenient_value, is_not_whole}
-use Rattle.request_codec.proofs.JsonShown.{value_unless}
+use Rattle.request_codec.specs.Json.{json_depth, is_not_whole}
+use Rattle.request_codec.specs.Lenient.{lenient_value, is_not_hex}
+use Rattle.request_codec.proofs.JsonShown.{read_deep, read_not_whole, read_whole}
+use Rattle.line_parser.specs.Form.{as_told}
 use Rattle.line_parser.specs.inside.Argument.{too_deep, is_deep, AddsFaults, PutsValue, why_by, why_of}
 use Rattle.line_parser.specs.inside.LineMembers.{IsAsked, TakesValue}
 use Rattle.line_parser.specs.declared.faults.Faults.{Faults}
@@ -45,19 +44,18 @@ nothing_added depth f h = record { depth = grind (arith, nat_tests); numbers = s
 
 -- ---- why a value is refused
 
-pub asked_by : (deep split : Bool) (d : json.Data) (l : List ℕ) → deep ≡ is_deep 126 (json_depth d) → split ≡ is_not_whole d → IsFormed (lenient_value d) → l ≡ spelling (lenient_value d) → IsAsked (why_by deep split) d l
-asked_by true split d l deep numbers formed bytes =
+pub asked_by : (deep split : Bool) (d : json.Data) (l : List ℕ) → deep ≡ is_deep 126 (json_depth d) → split ≡ is_not_whole d → is_not_hex d ≡ false → IsFormed (lenient_value d) → l ≡ spelling (lenient_value d) → IsAsked (why_by deep split) d l
+asked_by true split d l deep numbers plain formed bytes =
     let above : 126 < json_depth d + too_deep = ltb-true _ _ (sym deep) in
-    rw (lt-leb (json_depth d) depth_limit (omega (arith, above))) refl
-asked_by false true d l deep numbers formed bytes =
+    ap as_told (read_deep d (omega (arith, above)))
+asked_by false true d l deep numbers plain formed bytes =
     let within : json_depth d + too_deep ≤ 126 = ltb-false _ _ (sym deep) in
-    let none : value_of_json d ≡ None = value_unless d ∙ ap (λ b. cond b None (Some (lenient_value d))) (sym numbers) in
-    rw (le-leb (json_depth d) depth_limit (omega (arith, within)), none) refl
-asked_by false false d l deep numbers formed bytes =
+    ap as_told (read_not_whole d (omega (arith, within)) (sym numbers))
+asked_by false false d l deep numbers plain formed bytes =
     let within : json_depth d + too_deep ≤ 126 = ltb-false _ _ (sym deep) in
     record {
-      whole = (value_unless d ∙ ap (λ b. cond b None (Some (lenient_value d))) (sym numbers), formed);
-      deep = omega (arith, within);
+      read = read_whole d (omega (arith, within)) (sym numbers) plain;
+      formed = formed;
       spelled = bytes;
     }
 
@@ -68,6 +66,6 @@ value_asked_for ts rest l none noted why shallow whole v is =
     record {
       json = v.json;
       read = v.read;
-      asked = subst (λ w. IsAsked w v.json l) (sym is) (asked_by noted.too_deep noted.not_whole v.json l deep numbers v.formed v.bytes);
+      asked = subst (λ w. IsAsked w v.json l) (sym is) (asked_by noted.too_deep noted.not_whole v.json l deep numbers v.plain v.formed v.bytes);
       shorter = v.shorter;
     }

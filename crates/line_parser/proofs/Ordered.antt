@@ -1,10 +1,11 @@
 -- The members of a map: which it has once some were put, and that those in the order of their names are one list alone.
-use Rattle.std.proofs.Common.{◌≡◌, ℕ, List, [], ◌∷◌, ◌++◌, map, Option, Some, None, Ordering, Less, Equal, Greater, inl, inr, refl, sym, ap, subst, ◌∙◌}
+use Rattle.std.proofs.Common.{◌≡◌, ℕ, false, List, [], ◌∷◌, ◌++◌, map, Option, Some, None, Ordering, Less, Equal, Greater, inl, inr, refl, sym, ap, subst, ◌∙◌}
 use Rattle.std.specs.Prelude.{IsUtf8, ◌⊎◌}
 use Rattle.std.specs.Cmp.Lexicographic.{slice_cmp}
 use Rattle.std.specs.List.{All}
 use Rattle.std.specs.List.Sorted.{IsPermutation}
 use Rattle.std.specs.Ordering.{nat_cmp, is_lt, is_eq, ordering_reverse, match_ordering}
+use Rattle.std.proofs.lemmas.Bool.{or_parts, or_from}
 use Rattle.std.proofs.lemmas.Cmp.{nat_list_cmp_total, tied_itself}
 use Rattle.std.proofs.lemmas.List.Elements.{All-nil, All-cons, All-head, All-tail, All-weaker}
 use Rattle.std.proofs.lemmas.List.Sorted.{IsPermutation-sym, All-permutation}
@@ -14,7 +15,7 @@ use Rattle.serde_json.specs.Data.{Data, Members, no_members, member, put}
 use Rattle.finite_maps.proofs.Ascending.{less_from_is_lt}
 use Rattle.request_codec.specs.Spelling.{IsBelowFirst}
 use Rattle.request_codec.specs.Formed.{IsFormed, FieldsFormed}
-use Rattle.request_codec.specs.Lenient.{lenient_value, lenient_fields}
+use Rattle.request_codec.specs.Lenient.{lenient_value, lenient_fields, is_not_hex, fields_not_hex}
 use Rattle.line_parser.specs.inside.Fields.{PlacedField, members_of, place_of, Ascend}
 
 abbrev IsBelow : List ℕ → List ℕ → Type 0
@@ -63,6 +64,15 @@ pub formed_put : (k : List ℕ) (d : Data) (ms : Members) → IsUtf8 k → IsFor
 formed_put k d no_members valid w h = (valid, w, tt, tt)
 formed_put k d (member l e ms) valid w (u, v, b, h) =
     put_by (λ x. FieldsFormed (lenient_fields x)) k l d e ms (λ a. (valid, w, ap is_lt a, (u, v, b, h))) (λ a. (u, w, b, h)) (λ a. (u, v, still_below l k d ms a b, formed_put k d ms valid w h))
+
+pub plain_put : (k : List ℕ) (d : Data) (ms : Members) → is_not_hex d ≡ false → fields_not_hex ms ≡ false → fields_not_hex (put k d ms) ≡ false
+plain_put k d no_members p h = or_from (is_not_hex d) false p refl
+plain_put k d (member l e ms) p h =
+    let parts = or_parts (is_not_hex e) (fields_not_hex ms) h in
+    put_by (λ x. fields_not_hex x ≡ false) k l d e ms
+    (λ a. or_from (is_not_hex d) (fields_not_hex (member l e ms)) p h)
+    (λ a. or_from (is_not_hex d) (fields_not_hex ms) p parts.1)
+    (λ a. or_from (is_not_hex e) (fields_not_hex (put k d ms)) parts.0 (plain_put k d ms p parts.1))
 
 -- ---- which members there are
 

@@ -9,7 +9,7 @@ use Rattle.std.proofs.lemmas.List.Recursion.{is_sum_by}
 use Rattle.std.proofs.lemmas.List.Sorted.{IsPermutation-refl, IsPermutation-trans, IsPermutation-swap, IsPermutation-map, IsPermutation-keeps, IsPermutation-append_left, IsPermutation-append_right, IsPermutation-append_comm, All-permutation, sum_by-IsPermutation}
 use Rattle.std.proofs.Math.Seq.{take-append_seam, drop-append_seam}
 use Rattle.request_codec.specs.Reading.{is_above}
-use Rattle.line_parser.specs.inside.Fields.{PlacedField, placed_bytes, placed_spelling, Place, place_of, place_kept, Ascend, LieWithin, bytes_at, HoldsFields, Stands, AreBehind, Moved, PutsSorted, AreSorted}
+use Rattle.line_parser.specs.inside.Fields.{PlacedField, placed_bytes, placed_spelling, Place, place_of, place_kept, Ascend, LieWithin, bytes_at, HoldsFields, Stands, AreBehind, Moved, PutsSorted, AreSorted, last_name}
 use Rattle.line_parser.specs.declared.fields.Fields.{Fields}
 use Rattle.line_parser.specs.declared.fields.Known.{Known}
 
@@ -171,6 +171,10 @@ grown_table : (old new : Fields) (k : Known) → Grows old new k → IsPermutati
 grown_table old new k (inl (few, more)) = subst (IsPermutation ((old.few.items ++ old.more.items) ++ k ∷ [])) (sym (ap₂ (λ x y. x ++ y) few more)) (in_front old.few.items old.more.items k)
 grown_table old new k (inr (few, more)) = subst (IsPermutation ((old.few.items ++ old.more.items) ++ k ∷ [])) (append_assoc old.few.items old.more.items (k ∷ []) ∙ sym (ap₂ (λ x y. x ++ y) few more)) (IsPermutation-refl _)
 
+last_name-more : (last : Option (List ℕ)) (cs : List PlacedField) (c : PlacedField) → last_name last (cs ++ c ∷ []) ≡ Some c.name
+last_name-more last [] c = refl
+last_name-more last (d ∷ ds) c = last_name-more (Some d.name) ds c
+
 -- the table with one more
 pub one_held : (placed : List PlacedField) (c : PlacedField) (old new : Fields) (k : Known) → HoldsFields placed old → Grows old new k → place_kept k ≡ place_of c
     → (new.ascend ≡ true → (old.ascend ≡ true) × (is_above (option_map (λ t. t.now) old.last) c.name ≡ true)) → option_map (λ t. t.now) new.last ≡ Some c.name → HoldsFields (placed ++ c ∷ []) new
@@ -179,4 +183,5 @@ one_held placed c old new k h grows is goes last = record {
   ascend = λ now more up.
       let (so_far, above) = goes now in
       subst (Ascend None) (sym (ap (λ l. l ++ more) (map-append place_of placed (c ∷ [])) ∙ append_assoc (map place_of placed) (place_of c ∷ []) more)) (h.ascend so_far (place_of c ∷ more) (above, subst (λ o. Ascend o more) last up));
+  last_is = last ∙ sym (last_name-more None placed c);
 }

@@ -1,5 +1,5 @@
 -- One value of an argument.
-use Rattle.std.proofs.Common.{◌≡◌, ℕ, ◌-◌, ◌<◌, Bool, true, false, ℤ, List, ◌∷◌, ◌++◌, length, Some, refl, sym, ap, subst, ◌∙◌, arith}
+use Rattle.std.proofs.Common.{◌≡◌, ℕ, suc, ◌-◌, ◌<◌, Bool, true, false, ℤ, List, ◌∷◌, ◌++◌, length, Some, refl, sym, ap, subst, ◌∙◌, arith}
 use Rattle.std.specs.Prelude.{IsUtf8, option_map, is_none}
 use Rattle.json.specs.Token.{Token}
 use Rattle.json.specs.Json.{value, items, members, parse_map}
@@ -10,7 +10,7 @@ use Rattle.serde_json.specs.Find.{of_integer, as_i64}
 use Rattle.serde_json.specs.Read.{of_json, converted, number_of}
 use Rattle.std.proofs.Math.Bool.{or-false}
 use Rattle.request_codec.specs.Formed.{IsFormed}
-use Rattle.request_codec.specs.Json.{items_depth, json_members_depth}
+use Rattle.request_codec.specs.Json.{json_depth, items_depth, json_members_depth}
 use Rattle.request_codec.specs.Tree as tree
 use Rattle.request_codec.specs.Tree.{list, map}
 use Rattle.request_codec.specs.Lenient.{lenient_value, lenient_members, lenient_fields, integer_or_null}
@@ -19,6 +19,7 @@ use Rattle.line_parser.specs.inside.Number.{IsWhole, IsNotWhole}
 use Rattle.line_parser.specs.inside.Argument.{is_deep, AddsFaults, PutsValue, PutsItems, PutsFields}
 use Rattle.line_parser.specs.declared.faults.Faults.{Faults}
 use Rattle.line_parser.proofs.Noted.{adds_both, adds_as, deep_outer}
+use Rattle.line_parser.proofs.NoBytes.{object_shown, object_levels, object_numbers, object_plain}
 use Rattle.line_parser.proofs.GrammarLoops.{converted-array, converted-object}
 use Rattle.line_parser.proofs.Numbers.{as_i64-of_integer}
 
@@ -31,6 +32,7 @@ read_at depth old new t e = ap (value depth) e
 pub put_null : (depth : ℕ) (old new : List Token) (before after : List ℕ) (first last : Faults) → AddsFaults first last (is_deep depth 1) false → old ≡ Token.null ∷ new → after ≡ before ++ spelling tree.null → PutsValue depth old new before after first last
 put_null depth old new before after first last noted e b = record {
   json = json.null;
+  plain = refl;
   read = ap (converted of_json) (read_at depth old new Token.null e ∙ value_is depth (Token.null ∷ new));
   formed = tt;
   noted = noted;
@@ -41,6 +43,7 @@ put_null depth old new before after first last noted e b = record {
 pub put_bool : (depth : ℕ) (old new : List Token) (before after : List ℕ) (first last : Faults) (x : Bool) → AddsFaults first last (is_deep depth 1) false → old ≡ Token.boolean x ∷ new → after ≡ before ++ spelling (tree.truth x) → PutsValue depth old new before after first last
 put_bool depth old new before after first last x noted e b = record {
   json = json.boolean x;
+  plain = refl;
   read = ap (converted of_json) (read_at depth old new (Token.boolean x) e ∙ value_is depth (Token.boolean x ∷ new));
   formed = tt;
   noted = noted;
@@ -51,6 +54,7 @@ put_bool depth old new before after first last x noted e b = record {
 pub put_string : (depth : ℕ) (old new : List Token) (before after : List ℕ) (first last : Faults) (s : List ℕ) → AddsFaults first last (is_deep depth 1) false → old ≡ Token.string s ∷ new → IsUtf8 s → after ≡ before ++ spelling (tree.text s) → PutsValue depth old new before after first last
 put_string depth old new before after first last s noted e valid b = record {
   json = json.string s;
+  plain = refl;
   read = ap (converted of_json) (read_at depth old new (Token.string s) e ∙ value_is depth (Token.string s ∷ new));
   formed = valid;
   noted = noted;
@@ -64,6 +68,7 @@ put_number depth old new before after s first last i noted e w b =
     let seen : lenient_value (json.number (of_integer i)) ≡ tree.integer i = ap integer_or_null is in
     record {
       json = json.number (of_integer i);
+      plain = refl;
       read = ap (converted of_json) (read_at depth old new (Token.number s) e ∙ value_is depth (Token.number s ∷ new)) ∙ ap (λ o. option_map {U = Data × List Token} (λ d. (d, new)) (option_map json.number o)) w.read;
       formed = subst IsFormed (sym seen) w.fits;
       noted = adds_as first last _ _ _ _ noted refl (sym (ap is_none is));
@@ -78,6 +83,7 @@ put_other_number depth old new before after s first mid last deep e (n, is, othe
     let seen : lenient_value (json.number n) ≡ tree.null = ap integer_or_null other in
     record {
       json = json.number n;
+      plain = refl;
       read = ap (converted of_json) (read_at depth old new (Token.number s) e ∙ value_is depth (Token.number s ∷ new)) ∙ ap (λ o. option_map {U = Data × List Token} (λ d. (d, new)) (option_map json.number o)) is;
       formed = subst IsFormed (sym seen) tt;
       noted = adds_as first last _ _ _ _ (adds_both first mid last _ _ _ _ deep more) (or-false (is_deep depth 1)) (sym (ap is_none other));
@@ -92,6 +98,7 @@ list_spelled depth ts r before after mid last p = p.bytes
 pub put_list : (depth : ℕ) (old ts r : List Token) (before after : List ℕ) (first mid last : Faults) → 0 < depth → AddsFaults first mid (is_deep depth 1) false → old ≡ Token.begin_array ∷ ts → PutsItems (depth - 1) ts r before after mid last → PutsValue depth old r before after first last
 put_list depth old ts r before after first mid last some deep e p = record {
   json = array p.json;
+  plain = p.plain;
   read = ap (converted of_json) (read_at depth old ts Token.begin_array e ∙ value-begin_array depth ts some) ∙ converted-array (items (value (depth - 1)) (length ts) ts) ∙ ap (parse_map array) p.read;
   formed = p.formed;
   noted = adds_as first last _ _ _ _ (adds_both first mid last _ _ _ _ deep p.noted) (deep_outer depth (items_depth p.json) some) refl;
@@ -104,11 +111,15 @@ unfolding spelling
 map_spelled depth ts r before after mid last p = p.bytes
 
 pub put_map : (depth : ℕ) (old ts r : List Token) (before after : List ℕ) (first mid last : Faults) → 0 < depth → AddsFaults first mid (is_deep depth 1) false → old ≡ Token.begin_object ∷ ts → PutsFields (depth - 1) ts r before after mid last → PutsValue depth old r before after first last
-put_map depth old ts r before after first mid last some deep e p = record {
-  json = object p.json;
-  read = ap (converted of_json) (read_at depth old ts Token.begin_object e ∙ value-begin_object depth ts some) ∙ converted-object (members (value (depth - 1)) (length ts) ts) ∙ ap (parse_map object) p.read;
-  formed = p.formed;
-  noted = adds_as first last _ _ _ _ (adds_both first mid last _ _ _ _ deep p.noted) (deep_outer depth (json_members_depth p.json) some) refl;
-  bytes = map_spelled (depth - 1) ts r before after mid last p;
-  shorter = omega (arith, p.shorter, one_less ts Token.begin_object old e);
-}
+put_map depth old ts r before after first mid last some deep e p =
+    let shown = object_shown p.json p.no_bytes in
+    let levels : is_deep depth (suc (json_members_depth p.json)) ≡ is_deep depth (json_depth (object p.json)) = ap (is_deep depth) (sym (object_levels p.json p.no_bytes)) in
+    record {
+      json = object p.json;
+      plain = object_plain p.json p.no_bytes p.plain;
+      read = ap (converted of_json) (read_at depth old ts Token.begin_object e ∙ value-begin_object depth ts some) ∙ converted-object (members (value (depth - 1)) (length ts) ts) ∙ ap (parse_map object) p.read;
+      formed = subst IsFormed (sym shown) p.formed;
+      noted = adds_as first last _ _ _ _ (adds_both first mid last _ _ _ _ deep p.noted) (deep_outer depth (json_members_depth p.json) some ∙ levels) (sym (object_numbers p.json p.no_bytes));
+      bytes = map_spelled (depth - 1) ts r before after mid last p ∙ ap (λ v. before ++ spelling v) (sym shown);
+      shorter = omega (arith, p.shorter, one_less ts Token.begin_object old e);
+    }

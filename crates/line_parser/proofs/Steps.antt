@@ -13,12 +13,13 @@ use Rattle.request_codec.specs.Lenient.{lenient_value}
 use Rattle.request_codec.specs.Written.{text_spelling, spelling, message_spelling}
 use Rattle.request_codec.proofs.Encoded.{encoded_message, same_found}
 use Rattle.request_codec.proofs.JsonDepths.{within_depth}
+use Rattle.request_codec.proofs.JsonShown.{read_whole}
 use Rattle.request_codec.proofs.Spelled.{length-message, length-spelling, state_spelled}
 use Rattle.request_codec.proofs.Whole.{state_again}
 use Rattle.request_codec.specs.Spelling.{SpellsState}
 use Rattle.silo_event.specs.declared.refusal.Refusal.{Refusal}
 use Rattle.silo_event.specs.declared.refusal.Refusal.TheVariants as refusal
-use Rattle.line_parser.specs.Form.{natural, where_so, text_at, natural_at, truth_at, has_members, argument_at, unless_refused, within_or, value_asked, message_asked, state_asked, form_of}
+use Rattle.line_parser.specs.Form.{natural, where_so, text_at, natural_at, truth_at, has_members, argument_at, unless_refused, within_or, as_told, value_asked, message_asked, state_asked, form_of}
 use Rattle.line_parser.specs.inside.Step.{form_text, of_form, said_by, IsValue, IsValueOf, AreMembersOf, FindsIn, Finds}
 use Rattle.silo_event.specs.declared.step.Step.{Step}
 use Rattle.line_parser.specs.declared.line_members.LineMembers.{LineMembers}
@@ -103,7 +104,7 @@ argument_in d json not_five six is = rw (not_five, six) is
 
 pub null_argument : IsArgument null (0 ∷ [])
 unfolding spelling
-null_argument = record { whole = (refl, tt); deep = omega arith; spelled = refl }
+null_argument = record { read = read_whole null (omega arith) refl refl; formed = tt; spelled = refl }
 
 -- ---- the message and the state
 
@@ -113,12 +114,28 @@ not_refused why json l is none = subst (λ w. IsAsked w json l) none is
 refused_as : (why : Option Refusal) (code : Refusal) (json : Data) (l : List ℕ) → IsAsked why json l → why ≡ Some code → value_asked json ≡ Err code
 refused_as why code json l is some = subst (λ w. IsAsked w json l) some is
 
+message_by : (method : List ℕ) (json : Data) (asked : Result Tree Refusal) → value_asked json ≡ asked
+    → message_asked method json ≡ unless_refused asked (λ v. within_or refusal.TooLong (message_length method v) message_limit (asks method v))
+message_by method json asked is = ap (λ r. unless_refused r (λ v. within_or refusal.TooLong (message_length method v) message_limit (asks method v))) is
+
+state_by : (json : Data) (asked : Result Tree Refusal) → value_asked json ≡ asked → state_asked json ≡ unless_refused asked (λ v. within_or refusal.TooLarge (spelled_length v) state_limit v)
+state_by json asked is = ap (λ r. unless_refused r (λ v. within_or refusal.TooLarge (spelled_length v) state_limit v)) is
+
 pub message_refused : (why : Option Refusal) (code : Refusal) (method argument : List ℕ) (json : Data) → IsAsked why json argument → why ≡ Some code → message_asked method json ≡ Err code
-message_refused why code method argument json is some =
-    ap (λ asked. unless_refused asked (λ v. within_or refusal.TooLong (message_length method v) message_limit (asks method v))) (refused_as why code json argument is some)
+message_refused why code method argument json is some = message_by method json (Err code) (refused_as why code json argument is some)
 
 pub state_refused : (why : Option Refusal) (code : Refusal) (l : List ℕ) (json : Data) → IsAsked why json l → why ≡ Some code → state_asked json ≡ Err code
-state_refused why code l json is some = ap (λ asked. unless_refused asked (λ v. within_or refusal.TooLarge (spelled_length v) state_limit v)) (refused_as why code json l is some)
+state_refused why code l json is some = state_by json (Err code) (refused_as why code json l is some)
+
+value_found : (json : Data) (l : List ℕ) → IsArgument json l → value_asked json ≡ Ok (lenient_value json)
+value_found json l is = ap as_told is.read
+
+-- a limit that is kept, and one that is not
+within_limit : {A : Type 0} (why : Refusal) (n limit : ℕ) (x : A) → n ≤ limit → within_or why n limit x ≡ Ok x
+within_limit why n limit x le = rw (le-leb _ _ le) refl
+
+above_limit : {A : Type 0} (why : Refusal) (n limit : ℕ) (x : A) → limit < n → within_or why n limit x ≡ Err why
+above_limit why n limit x lt = rw (lt-leb _ _ lt) refl
 
 short_message : (method argument : List ℕ) (json : Data) → IsArgument json argument → 5 + length method + length argument ≤ message_limit → message_length method (lenient_value json) ≤ message_limit
 short_message method argument json is short = omega (arith, short, ap length is.spelled, length-spelling (lenient_value json))
@@ -129,36 +146,37 @@ message_of items method argument json valid is put short =
     let v = lenient_value json in
     let bytes : items ≡ message_spelling (asks method v) = put ∙ ap (λ (a : List ℕ). message_version ∷ (text_spelling method ++ a)) is.spelled in
     let fits : length (message_spelling (asks method v)) ≤ message_limit = omega (arith, short_message method argument json is short, length-message method v) in
-    encoded_message items method v valid (within_depth json v is.deep is.whole.0, is.whole.1) (bytes, fits)
+    encoded_message items method v valid (within_depth json v is.read, is.formed) (bytes, fits)
 
 pub message_fits : (method argument : List ℕ) (json : Data) → IsArgument json argument → 5 + length method + length argument ≤ message_limit → message_asked method json ≡ Ok (asks method (lenient_value json))
-message_fits method argument json is short = rw (le-leb _ _ is.deep, is.whole.0, le-leb _ _ (short_message method argument json is short)) refl
+message_fits method argument json is short =
+    let v = lenient_value json in
+    message_by method json (Ok v) (value_found json argument is) ∙ within_limit refusal.TooLong (message_length method v) message_limit (asks method v) (short_message method argument json is short)
 
 pub state_spells : (l : List ℕ) (json : Data) → IsArgument json l → length l ≤ state_limit → SpellsState (lenient_value json) l
 state_spells l json is short =
     let v = lenient_value json in
     let fits : spelled_length v ≤ state_limit = omega (arith, short, ap length is.spelled, length-spelling v) in
-    subst (SpellsState v) (sym is.spelled) (state_spelled v is.whole.1 (within_depth json v is.deep is.whole.0) fits)
+    subst (SpellsState v) (sym is.spelled) (state_spelled v is.formed (within_depth json v is.read) fits)
 
 pub state_fits : (l : List ℕ) (state : Tree) (json : Data) → IsArgument json l → length l ≤ state_limit → state_value l ≡ Some state → state_asked json ≡ Ok state
 state_fits l state json is short read =
     let v = lenient_value json in
     let fits : spelled_length v ≤ state_limit = omega (arith, short, ap length is.spelled, length-spelling v) in
     let same : state ≡ v = same_found (state_value l) state v read (state_again l v (state_spells l json is short)) in
-    let asked : state_asked json ≡ Ok v = rw (le-leb _ _ is.deep, is.whole.0, le-leb _ _ fits) refl in
-    asked ∙ ap (λ x. Ok x) (sym same)
+    state_by json (Ok v) (value_found json l is) ∙ within_limit refusal.TooLarge (spelled_length v) state_limit v fits ∙ ap (λ x. Ok x) (sym same)
 
 pub message_too_long : (method argument : List ℕ) (json : Data) → IsArgument json argument → message_limit < 5 + length method + length argument → message_asked method json ≡ Err refusal.TooLong
 message_too_long method argument json is long =
     let v = lenient_value json in
     let above : message_limit < message_length method v = omega (arith, long, ap length is.spelled, length-spelling v) in
-    rw (le-leb _ _ is.deep, is.whole.0, lt-leb _ _ above) refl
+    message_by method json (Ok v) (value_found json argument is) ∙ above_limit refusal.TooLong (message_length method v) message_limit (asks method v) above
 
 pub state_too_large : (l : List ℕ) (json : Data) → IsArgument json l → state_limit < length l → state_asked json ≡ Err refusal.TooLarge
 state_too_large l json is large =
     let v = lenient_value json in
     let above : state_limit < spelled_length v = omega (arith, large, ap length is.spelled, length-spelling v) in
-    rw (le-leb _ _ is.deep, is.whole.0, lt-leb _ _ above) refl
+    state_by json (Ok v) (value_found json l is) ∙ above_limit refusal.TooLarge (spelled_length v) state_limit v above
 
 -- ---- by the text of `op`
 

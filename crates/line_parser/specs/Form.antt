@@ -1,17 +1,18 @@
 -- The step that JSON asks for: an object with exactly the members of one form, each of its type (docs/formats.md).
 use Rattle.std.specs.Prelude.{ℕ, suc, ℤ, pos, negsuc, List, Bool, false, ◌==◌, nat_le, if◌then◌else◌, Option, Some, None, Result, Ok}
-use Rattle.std.specs.Prelude.{Err, option_map, option_and_then, ok_or, codes, bytes_eq}
+use Rattle.std.specs.Prelude.{Err, option_map, option_and_then, codes, bytes_eq}
 use Rattle.serde_json.specs.Data.{Data, Members, null}
 use Rattle.serde_json.specs.Events.{members_len}
 use Rattle.serde_json.specs.Find.{get, as_bool, as_str, as_number, as_i64, as_object}
 use Rattle.grain_id.specs.Names.{Grain, Client}
 use Rattle.grain_id.specs.Reading.{grain_read, caller_read}
-use Rattle.request_codec.specs.Limits.{depth_limit, message_limit, state_limit}
+use Rattle.request_codec.specs.Limits.{message_limit, state_limit}
 use Rattle.request_codec.specs.Tree.{Tree}
 use Rattle.request_codec.specs.Call as codec
 use Rattle.request_codec.specs.Call.{asks}
-use Rattle.request_codec.specs.Json.{value_of_json, json_depth}
-use Rattle.request_codec.specs.Answers.{message_length, spelled_length}
+use Rattle.request_codec.specs.Answers.{read_json, message_length, spelled_length}
+use Rattle.request_codec.specs.declared.fault.CodecFault.{CodecFault}
+use Rattle.request_codec.specs.declared.fault.CodecFault.TheVariants as faults
 use Rattle.silo_event.specs.declared.refusal.Refusal.{Refusal}
 use Rattle.silo_event.specs.declared.refusal.Refusal.TheVariants as refusal
 use Rattle.silo_event.specs.declared.step.Step.{Step}
@@ -77,9 +78,16 @@ unless_refused (Err why) f = Err why
 abbrev pub within_or : {A : Type 0} → Refusal → ℕ → ℕ → A → Result A Refusal
 within_or why n limit x = if nat_le n limit then Ok x else Err why
 
--- the value of JSON: its depth is asked for before its numbers
+-- a value, or why JSON has none, as a client is told it; JSON has none for these three reasons alone
+abbrev pub as_told : Result Tree CodecFault → Result Tree Refusal
+as_told (Ok v) = Ok v
+as_told (Err faults.TooDeep) = Err refusal.TooDeep
+as_told (Err faults.NotWhole) = Err refusal.NotWhole
+as_told (Err _) = Err refusal.NotHex
+
+-- the value of JSON: its depth is asked for before its numbers, and these before the bytes that stand beside `$hex` (`read_json`)
 abbrev pub value_asked : Data → Result Tree Refusal
-value_asked d = if nat_le (json_depth d) depth_limit then ok_or (value_of_json d) refusal.NotWhole else Err refusal.TooDeep
+value_asked d = as_told (read_json d)
 
 abbrev pub message_asked : List ℕ → Data → Result codec.Call Refusal
 message_asked method d = unless_refused (value_asked d) (λ v. within_or refusal.TooLong (message_length method v) message_limit

@@ -1,5 +1,5 @@
 //! An argument, written from the tokens of a line as the bytes that spell it. If it is too deep or a number of it isn't
-//! whole, that is noted, and null stands for the number.
+//! whole, that is noted, and null stands for the number. A line in which a map's only name is `$hex` is left.
 
 ghost use Rattle.std.specs.Prelude.{◌≡◌, ◌<◌, ◌≤◌, ◌^◌, ◌+◌, ◌++◌, ◌∷◌, [], ℕ, List, length, OnOk, IsTrue, IsUtf8, true, false};
 ghost use Rattle.std.specs.Int.{w32, to_be_bytes};
@@ -134,7 +134,7 @@ fn put_items(
     Ok(())
 }
 
-/// Puts the map whose bracket was read.
+/// Puts the map whose bracket was read. One that stands for bytes is left.
 #[cycle(argument)]
 #[inline(never)]
 fn put_fields(
@@ -161,6 +161,9 @@ fn put_fields(
         fields.add(name, from, count)?;
     }
     let count = fields.count();
+    if fields.is_hex() {
+        return Err(QuickFault::LeftToTree);
+    }
     fields.sort(out, start)?;
     set_count(out, start - 4, count as u32);
     Ok(())

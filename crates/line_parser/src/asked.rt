@@ -29,6 +29,7 @@ pub(crate) fn message_of_json(
         Ok(message) => Ok(Ok(message)),
         Err(CodecFault::TooDeep) => Ok(Err(Refusal::TooDeep)),
         Err(CodecFault::NotWhole) => Ok(Err(Refusal::NotWhole)),
+        Err(CodecFault::NotHex) => Ok(Err(Refusal::NotHex)),
         Err(CodecFault::TooLong) => Ok(Err(Refusal::TooLong)),
         Err(CodecFault::Memory) => Err(AllocError),
         Err(CodecFault::NotAMessage) => unreachable!(),
@@ -46,7 +47,7 @@ fn write_state(alloc: Global, value: &Datum) -> Result<Result<StateBytes, Refusa
         Err(CodecFault::TooLong) => Ok(Err(Refusal::TooLarge)),
         Err(CodecFault::Memory) => Err(AllocError),
         Err(CodecFault::TooDeep) => unreachable!(),
-        Err(CodecFault::NotWhole | CodecFault::NotAMessage) => unreachable!(),
+        Err(CodecFault::NotWhole | CodecFault::NotHex | CodecFault::NotAMessage) => unreachable!(),
     }
 }
 
@@ -61,6 +62,7 @@ pub(crate) fn state_of_json(
         Ok(datum) => write_state(alloc, &datum),
         Err(CodecFault::TooDeep) => Ok(Err(Refusal::TooDeep)),
         Err(CodecFault::NotWhole) => Ok(Err(Refusal::NotWhole)),
+        Err(CodecFault::NotHex) => Ok(Err(Refusal::NotHex)),
         Err(CodecFault::Memory) => Err(AllocError),
         Err(CodecFault::TooLong | CodecFault::NotAMessage) => unreachable!(),
     }

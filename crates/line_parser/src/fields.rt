@@ -1,9 +1,11 @@
 //! The fields of a map: they are put in the order in which they come, and at the end of the map in that of their names.
 
 ghost use Rattle.std.specs.Prelude.{◌≡◌, ◌<◌, ◌≤◌, ◌^◌, ◌+◌, ◌++◌, ◌∷◌, [], ℕ, List, length, map, None, OnOk, slice_range};
+ghost use Rattle.std.specs.Prelude.{is_some, bytes_eq};
 ghost use Rattle.serde_json.specs.Data.{Data};
+ghost use Rattle.request_codec.specs.Json.{hex_name, hex_of};
 ghost use Rattle.line_parser.specs.inside.Fields.{PlacedField, HoldsFields, AreBehind, PutsSorted, AreSorted, Ascend, LieWithin, bytes_at};
-ghost use Rattle.line_parser.specs.inside.Fields.{place_kept, field_spelling};
+ghost use Rattle.line_parser.specs.inside.Fields.{place_kept, field_spelling, members_of};
 
 use crate::quick_fault::QuickFault;
 use arrayvec::ArrayVec;
@@ -29,6 +31,14 @@ pub(crate) struct Fields<'a> {
     more: Vec<Known<'a>>,
     last: Option<&'a str>,
     ascend: bool,
+}
+
+/// Whether it is the name that bytes stand beside.
+#[inline(always)]
+fn is_hex_name(name: &str) -> bool
+    ensures { result ≡ bytes_eq name.now hex_name }
+{
+    name == "$hex"
 }
 
 /// Puts a part of these bytes behind others.
@@ -77,6 +87,20 @@ impl<'a> Fields<'a> {
         ensures { (placed : List PlacedField) → HoldsFields placed self.now → result ≡ length placed }
     {
         self.few.len() + self.more.len()
+    }
+
+    /// Whether there is one alone and its name is `$hex`, so that the map stands for bytes.
+    #[inline(always)]
+    pub(crate) fn is_hex(&self) -> bool
+        ensures { (placed : List PlacedField) → HoldsFields placed self.now → result ≡ is_some (hex_of (members_of placed)) }
+    {
+        if self.count() != 1 {
+            return false;
+        }
+        let Some(name) = self.last else {
+            return false;
+        };
+        is_hex_name(name)
     }
 
     /// Takes in the field that was put last.

@@ -98,7 +98,8 @@ fn state_of_bytes(
         Ok(state) => Ok(Ok(state)),
         Err(CodecFault::Memory) => Err(AllocError),
         Err(CodecFault::NotAMessage) => unreachable!(),
-        Err(CodecFault::TooDeep | CodecFault::NotWhole | CodecFault::TooLong) => unreachable!(),
+        Err(CodecFault::TooDeep | CodecFault::TooLong) => unreachable!(),
+        Err(CodecFault::NotWhole | CodecFault::NotHex) => unreachable!(),
     }
 }
 

@@ -184,6 +184,7 @@ none-whole faults.Memory part whole none h = tt
 none-whole faults.TooDeep part whole none h = absurd h
 none-whole faults.TooLong part whole none h = absurd h
 none-whole faults.NotWhole part whole none h = absurd h
+none-whole faults.NotHex part whole none h = absurd h
 
 -- there is a value, so there is no fault but of memory
 pub no_fault : {A : Type 0} (e : CodecFault) (found : Option A) (x : A) → found ≡ Some x → AddsNone e found → e ≡ faults.Memory
@@ -192,6 +193,7 @@ no_fault faults.Memory found x is h = refl
 no_fault faults.TooDeep found x is h = absurd h
 no_fault faults.TooLong found x is h = absurd h
 no_fault faults.NotWhole found x is h = absurd h
+no_fault faults.NotHex found x is h = absurd h
 
 -- all of a state was added
 pub state_added : (bytes rest before after : List ℕ) (v : Tree) → state_value bytes ≡ Some v → AddsValue (value_at depth_limit bytes) rest before after → (rest ≡ []) × (after ≡ before ++ text_of v)

@@ -3,6 +3,8 @@ use Rattle.std.specs.Prelude.{ℕ, List, ◌++◌, true, false, codes, decimal, 
 use Rattle.std.specs.Fmt.{signed_decimal}
 use Rattle.json.specs.Print.{quoted}
 use Rattle.grain_id.specs.Names.{grain_text, client_text}
+use Rattle.request_codec.specs.Hex.{digits_of}
+use Rattle.request_codec.specs.Tree as tree
 use Rattle.request_codec.specs.Tree.{Tree, null, truth, integer, text, list, map, Members, no_members, member, Fields, no_fields, field}
 use Rattle.silo_event.specs.Fault.{fault_code, fault_text}
 use Rattle.silo_event.specs.declared.fault.Fault.{Fault}
@@ -13,7 +15,8 @@ use Rattle.silo_event.specs.declared.reply.Party.TheVariants as party
 use Rattle.line_parser.specs.declared.line.LineRefusal.{LineRefusal}
 use Rattle.line_parser.specs.declared.line.LineRefusal.TheVariants as refusal
 
--- a value as compact JSON; `more_` has a comma before what is left, and ends with the bracket
+-- a value as compact JSON, bytes as an object of their digits beside `$hex`; `more_` has a comma before what is left, and
+-- ends with the bracket
 abbrev mutual
   pub text_of : Tree → List ℕ
   text_of null = codes "null"
@@ -25,6 +28,7 @@ abbrev mutual
   text_of (list (member v vs)) = codes "[" ++ (text_of v ++ more_members vs)
   text_of (map no_fields) = codes "{}"
   text_of (map (field n v fs)) = codes "{" ++ (quoted n ++ (codes ":" ++ (text_of v ++ more_fields fs)))
+  text_of (tree.bytes b) = codes "{\"$hex\":\"" ++ (digits_of b ++ codes "\"}")
 
   pub more_members : Members → List ℕ
   more_members no_members = codes "]"

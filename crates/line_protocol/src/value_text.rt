@@ -1,13 +1,14 @@
 //! A value as JSON, straight from the bytes that spell it.
 
 ghost use Rattle.std.specs.Prelude.{◌≡◌, ◌++◌, None, IfOk, IfErr, OnOk, string_bytes};
+ghost use Rattle.request_codec.specs.Tree as tree;
 ghost use Rattle.request_codec.specs.Tree.{truth};
 ghost use Rattle.request_codec.specs.Reading.{value_at, members_at, fields_at};
 ghost use Rattle.line_protocol.specs.Text.{text_of};
 ghost use Rattle.line_protocol.specs.inside.ValueText.{AddsValue, AddsMembers, AddsFields, AddsNone};
 
 use crate::text::{push, push_quoted, push_whole};
-use request_codec::bytes::{Start, may_follow, start_of, text_of};
+use request_codec::bytes::{Start, may_follow, push_digits, start_of, text_of};
 use request_codec::limits::MAX_DEPTH;
 use request_codec::{CodecFault, StateBytes};
 use std::alloc::{AllocError, Global};
@@ -21,6 +22,15 @@ fn push_truth(text: &mut String, b: bool) -> Result<(), AllocError>
     } else {
         push(text, "false")
     }
+}
+
+/// Adds bytes: an object of their digits. They need no quoting.
+fn push_bytes(text: &mut String, bytes: &[u8]) -> Result<(), AllocError>
+    ensures { OnOk result (string_bytes text.new ≡ string_bytes text.old ++ text_of (tree.bytes bytes.now)) }
+{
+    push(text, "{\"$hex\":\"")?;
+    push_digits(text, bytes)?;
+    push(text, "\"}")
 }
 
 /// Adds the value at the front, no deeper than the limit, and gives the bytes after it.
@@ -45,6 +55,7 @@ fn push_value<'b>(
         Start::Bool(b) => push_truth(text, b)?,
         Start::Int(n) => push_whole(text, n)?,
         Start::Text(part) => push_quoted(alloc, text, part)?,
+        Start::Bytes(part) => push_bytes(text, part)?,
         Start::List(count) => {
             let rest = push_members(alloc, text, rest, count, limit - 1)?;
             return Ok(rest);
@@ -132,6 +143,7 @@ pub(crate) fn push_state(
         },
         Err(CodecFault::Memory) => Err(AllocError),
         Err(CodecFault::NotAMessage) => unreachable!(),
-        Err(CodecFault::TooDeep | CodecFault::TooLong | CodecFault::NotWhole) => unreachable!(),
+        Err(CodecFault::TooDeep | CodecFault::TooLong) => unreachable!(),
+        Err(CodecFault::NotWhole | CodecFault::NotHex) => unreachable!(),
     }
 }

@@ -25,6 +25,7 @@ pub fn state_of(alloc: Global, value: &Datum) -> Result<StateBytes, AllocError>
         Err(CodecFault::TooDeep) => unreachable!(),
         Err(CodecFault::TooLong) => unreachable!(),
         Err(CodecFault::NotWhole) => unreachable!(),
+        Err(CodecFault::NotHex) => unreachable!(),
         Err(CodecFault::NotAMessage) => unreachable!(),
     }
 }

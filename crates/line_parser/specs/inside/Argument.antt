@@ -6,11 +6,11 @@ use Rattle.json.specs.Json.{value, items, members}
 use Rattle.serde_json.specs.Data.{Data, Items, Members, no_members}
 use Rattle.serde_json.specs.Read.{of_json, of_items, of_members, converted}
 use Rattle.request_codec.specs.Tree.{members_count, fields_count}
-use Rattle.request_codec.specs.Json.{json_depth, items_depth, json_members_depth}
+use Rattle.request_codec.specs.Json.{hex_of, json_depth, items_depth, json_members_depth, is_not_whole, are_not_whole, fields_not_whole}
 use Rattle.request_codec.specs.Formed.{IsFormed, AreFormed, FieldsFormed}
 use Rattle.silo_event.specs.declared.refusal.Refusal.{Refusal}
 use Rattle.silo_event.specs.declared.refusal.Refusal.TheVariants as refusal
-use Rattle.request_codec.specs.Lenient.{lenient_value, lenient_members, lenient_fields, is_not_whole, are_not_whole, fields_not_whole}
+use Rattle.request_codec.specs.Lenient.{lenient_value, lenient_members, lenient_fields, is_not_hex, are_not_hex, fields_not_hex}
 use Rattle.line_parser.specs.declared.faults.Faults.{Faults}
 use Rattle.request_codec.specs.Written.{spelling, members_spelling, fields_spelling}
 
@@ -38,8 +38,10 @@ abbrev pub why_of : Faults → Option Refusal
 why_of f = why_by f.too_deep f.not_whole
 
 -- Of the tokens `old` a value was read, `new` is left, the value's bytes were put at the end, and its faults were noted.
+-- Nothing of it is bytes that aren't well formed.
 pub record PutsValue (depth : ℕ) (old new : List Token) (before after : List ℕ) (noted_before noted_after : Faults) : Type 0 where
   pub json : Data
+  pub plain : is_not_hex json ≡ false
   pub read : converted of_json (value depth old) ≡ Some (json, new)
   pub formed : IsFormed (lenient_value json)
   pub noted : AddsFaults noted_before noted_after (is_deep depth (json_depth json)) (is_not_whole json)
@@ -49,15 +51,18 @@ pub record PutsValue (depth : ℕ) (old new : List Token) (before after : List �
 -- The same of a list's items, and of its count; the depth is that of an item.
 pub record PutsItems (depth : ℕ) (old new : List Token) (before after : List ℕ) (noted_before noted_after : Faults) : Type 0 where
   pub json : Items
+  pub plain : are_not_hex json ≡ false
   pub read : converted of_items (items (value depth) (length old) old) ≡ Some (json, new)
   pub formed : AreFormed (lenient_members json)
   pub noted : AddsFaults noted_before noted_after (is_deep depth (items_depth json)) (are_not_whole json)
   pub bytes : after ≡ before ++ (5 ∷ (to_be_bytes w32 (members_count (lenient_members json)) ++ members_spelling (lenient_members json)))
   pub shorter : length new ≤ length old
 
--- The same of a map's fields.
+-- The same of a map's fields. The map isn't one that stands for bytes: such a line is left.
 pub record PutsFields (depth : ℕ) (old new : List Token) (before after : List ℕ) (noted_before noted_after : Faults) : Type 0 where
   pub json : Members
+  pub no_bytes : hex_of json ≡ None
+  pub plain : fields_not_hex json ≡ false
   pub read : converted (λ ms. of_members ms no_members) (members (value depth) (length old) old) ≡ Some (json, new)
   pub formed : FieldsFormed (lenient_fields json)
   pub noted : AddsFaults noted_before noted_after (is_deep depth (json_members_depth json)) (fields_not_whole json)

@@ -58,12 +58,18 @@ abbrev pub LieWithin : ℕ → List Place → Type 0
 LieWithin n [] = Unit {0}
 LieWithin n (p ∷ ps) = (p.start + p.count ≤ n) × LieWithin n ps
 
--- These fields came, in this order, and the table keeps each of them. If it says that their names ascend, they do, and
--- still do with more places whose names ascend from the last one on.
+-- the name of the last of these fields, or else this one
+abbrev pub last_name : Option (List ℕ) → List PlacedField → Option (List ℕ)
+last_name last [] = last
+last_name last (c ∷ cs) = last_name (Some c.name) cs
+
+-- These fields came, in this order, and the table keeps each of them, and the name of the last. If it says that their
+-- names ascend, they do, and still do with more places whose names ascend from the last one on.
 pub record HoldsFields (placed : List PlacedField) (fields : Fields) : Type 0 where
   pub kept : IsPermutation (map place_of placed) (map place_kept (fields.few.items ++ fields.more.items))
   pub ascend : fields.ascend ≡ true → (more : List Place) → Ascend (option_map (λ t. t.now) fields.last) more
       → Ascend None (map place_of placed ++ more)
+  pub last_is : option_map (λ t. t.now) fields.last ≡ last_name None placed
 
 -- the bytes of a field stand at its place
 pub record Stands (out : List ℕ) (c : PlacedField) : Type 0 where

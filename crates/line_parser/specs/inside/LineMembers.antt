@@ -1,5 +1,5 @@
 -- What is known of the members of a line: an object as serde_json reads it, and where each of its members went.
-use Rattle.std.specs.Prelude.{◌≡◌, ℕ, ◌<◌, ◌≤◌, ◌^◌, Bool, true, false, List, ◌∷◌, length, Option, Some, None, Err, option_map}
+use Rattle.std.specs.Prelude.{◌≡◌, ℕ, ◌<◌, ◌^◌, Bool, true, false, List, ◌∷◌, length, Option, Some, None, Ok, Err, option_map}
 use Rattle.std.specs.Prelude.{option_and_then, if◌then◌else◌, bytes_eq, codes}
 use Rattle.json.specs.Token.{Token, begin_object, number as number_token}
 use Rattle.json.specs.Json.{value, if_last, read_key}
@@ -7,12 +7,12 @@ use Rattle.serde_json.specs.Data.{Data, object, string, number, boolean, unsigne
 use Rattle.serde_json.specs.Events.{members_len}
 use Rattle.serde_json.specs.Find.{get_member}
 use Rattle.serde_json.specs.Read.{of_json, converted, number_of}
-use Rattle.request_codec.specs.Limits.{depth_limit}
-use Rattle.request_codec.specs.Json.{json_depth}
+use Rattle.request_codec.specs.Answers.{read_json}
+use Rattle.request_codec.specs.Formed.{IsFormed}
 use Rattle.silo_event.specs.declared.refusal.Refusal.{Refusal}
 use Rattle.silo_event.specs.declared.step.Step.{Step}
 use Rattle.line_parser.specs.Form.{value_asked, step_of_json}
-use Rattle.request_codec.specs.Lenient.{lenient_value, HasValue}
+use Rattle.request_codec.specs.Lenient.{lenient_value}
 use Rattle.request_codec.specs.Written.{spelling}
 use Rattle.line_parser.specs.declared.line_members.Name.{Name}
 use Rattle.line_parser.specs.declared.line_members.Name.TheVariants.{Op, From, Id, Grain, Method, Turn, Now, Failed, Args, State}
@@ -62,10 +62,10 @@ pub record IsNatural (old : List Token) (n : ℕ) (new : List Token) : Type 0 wh
   pub read : number_of text ≡ Some (unsigned n)
   pub fits : n < 2 ^ 63
 
--- The bytes are those of the JSON's value, which is no deeper than a value may be and has whole numbers alone.
+-- The bytes are those of the JSON's value: nothing of it is refused.
 pub record IsArgument (json : Data) (bytes : List ℕ) : Type 0 where
-  pub whole : HasValue json
-  pub deep : json_depth json ≤ depth_limit
+  pub read : read_json json ≡ Ok (lenient_value json)
+  pub formed : IsFormed (lenient_value json)
   pub spelled : bytes ≡ spelling (lenient_value json)
 
 -- what is known of the JSON of a value: its bytes, or why it is refused

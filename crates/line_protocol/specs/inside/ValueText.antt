@@ -29,4 +29,5 @@ AddsNone faults.NotAMessage found = found ≡ None
 AddsNone faults.TooDeep found = ⊥
 AddsNone faults.TooLong found = ⊥
 AddsNone faults.NotWhole found = ⊥
+AddsNone faults.NotHex found = ⊥
 AddsNone faults.Memory found = Unit {0}

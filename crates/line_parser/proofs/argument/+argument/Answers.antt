@@ -4,9 +4,11 @@ use Rattle.json.specs.Json.{after_end_array, read_key}
 use Rattle.json.specs.Reads.{token_of}
 use Rattle.request_codec.specs.Written.{text_spelling, spelling}
 use Rattle.request_codec.specs.Tree as tree
+use Rattle.request_codec.specs.Json.{hex_of}
 use Rattle.line_parser.specs.inside.Argument.{PutsValue}
-use Rattle.line_parser.specs.inside.Fields.{field_spelling, AreBehind}
+use Rattle.line_parser.specs.inside.Fields.{field_spelling, AreBehind, members_of}
 use Rattle.line_parser.proofs.ItemsRead.{items_start, items_next, items_stop}
+use Rattle.line_parser.proofs.NoBytes.{none_told}
 use Rattle.line_parser.proofs.FieldsRead.{begun, last_bytes, last_count, fields_start, fields_next, fields_stop}
 use Rattle.line_parser.proofs.PutValues.{put_null, put_bool, put_string, put_number, put_other_number, put_list, put_map}
 use Rattle.line_parser.proofs.Results.{on_ok, on_ok₃}
@@ -87,7 +89,8 @@ put_fields-returns-clause-value t c =
     let l = c.fields in
     let f = l.invariant.so_far in
     let sorted = c.in_ok-sort.ensures.sorted f.placed (begun c.args.out.now.items) f.holds (subst (λ n. AreBehind f.placed n (begun c.args.out.now.items) l.out.items) (sym l.invariant.place) f.put) in
-    fields_stop c.args.depth c.args.reader.now l.reader c.next_key.new.self c.args.out.now.items l.out.items c.sort.new.out.items c.set_count.new.out.items l.fields c.args.faults.now l.faults (c.len-start.result - 4) c.count-count.result f (grind arith) sorted (omega (arith, l.invariant.place)) (c.count-count.ensures f.placed f.holds) c.set_count.ensures.bytes
+    let none = none_told (hex_of (members_of f.placed)) (c.is_hex.ensures f.placed f.holds) c.if-is_hex.false in
+    fields_stop c.args.depth c.args.reader.now l.reader c.next_key.new.self c.args.out.now.items l.out.items c.sort.new.out.items c.set_count.new.out.items l.fields c.args.faults.now l.faults (c.len-start.result - 4) c.count-count.result f (grind arith) sorted (omega (arith, l.invariant.place)) (c.count-count.ensures f.placed f.holds) c.set_count.ensures.bytes none
 
 pub put_value-returns-in_ok-put_start-in-Null-clause-value : goal.put_value-returns-in_ok-put_start-in-Null-clause-value
 put_value-returns-in_ok-put_start-in-Null-clause-value t c =

@@ -2,6 +2,7 @@ use Rattle.std.proofs.Common.{◌-◌, ◌<◌, string_bytes, ◌++◌, ◌∙�
 use Rattle.std.specs.Fmt.{signed_decimal}
 use Rattle.std.proofs.lemmas.Result.{err_from_is_err_and}
 use Rattle.std.proofs.lemmas.Int.{to_z-of_z}
+use Rattle.request_codec.specs.Tree as tree
 use Rattle.request_codec.specs.Tree.{null, truth, integer, text, list, map}
 use Rattle.request_codec.specs.Reading.{value_at, members_at, fields_at}
 use Rattle.request_codec.specs.Start.{begun}
@@ -9,7 +10,7 @@ use Rattle.request_codec.proofs.Levels.{value_at-zero, value_at-unstarted, start
 use Rattle.request_codec.proofs.MemberLoops.{members-end, fields-unnamed, fields-misplaced, fields-end}
 use Rattle.line_protocol.proofs.ValueTexts.{leaf_added, members_start, members_next, members_stop, fields_start, fields_next, fields_stop, none-whole}
 use Rattle.line_protocol.proofs.value_text.+printing.Goals as goal
-use Rattle.line_protocol.proofs.value_text.+printing.Goals.{push_value-in-Null+in_ok-push-in-Null, push_value-in-Bool+in_ok-push_truth-in-Bool, push_value-in-Int+in_ok-push_whole-in-Int, push_value-in-Text+in_ok-push_quoted-in-Text}
+use Rattle.line_protocol.proofs.value_text.+printing.Goals.{push_value-in-Null+in_ok-push-in-Null, push_value-in-Bool+in_ok-push_truth-in-Bool, push_value-in-Int+in_ok-push_whole-in-Int, push_value-in-Text+in_ok-push_quoted-in-Text, push_value-in-Bytes+in_ok-push_bytes-in-Bytes}
 
 -- ---- one value
 
@@ -59,6 +60,7 @@ push_value-returns-clause-ok t c =
       | push_value-in-Bool+in_ok-push_truth-in-Bool w ↦ added (truth w.in-Bool.b) rest old new some (started c.in-Some.ensures (ap begun w.in-Bool.is)) (ap string_bytes w.text-is ∙ w.in_ok-push_truth-in-Bool.ensures)
       | push_value-in-Int+in_ok-push_whole-in-Int w ↦ added (integer w.in-Int.n) rest old new some (started c.in-Some.ensures (ap begun w.in-Int.is)) (ap string_bytes w.text-is ∙ w.in_ok-push_whole-in-Int.ensures ∙ ap (λ (i : ℤ). old ++ signed_decimal i) (grind (arith, to_z-of_z)))
       | push_value-in-Text+in_ok-push_quoted-in-Text w ↦ added (text w.in-Text.part.now) rest old new some (started c.in-Some.ensures (ap begun w.in-Text.is)) (ap string_bytes w.text-is ∙ w.in_ok-push_quoted-in-Text.ensures)
+      | push_value-in-Bytes+in_ok-push_bytes-in-Bytes w ↦ added (tree.bytes w.in-Bytes.part.now) rest old new some (started c.in-Some.ensures (ap begun w.in-Bytes.is)) (ap string_bytes w.text-is ∙ w.in_ok-push_bytes-in-Bytes.ensures)
     ]
 
 -- ---- the members of a list
