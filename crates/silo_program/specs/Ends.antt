@@ -17,7 +17,7 @@ use Rattle.silo_words.specs.Tenants.{IsFirstRefused, NameTenants}
 use Rattle.silo_program.specs.Steps.{AnswersFrom, StopsFrom}
 use Rattle.silo_program.specs.Files.{FileClaims}
 use Rattle.silo_program.specs.Answering.{AnsweringFailsBy, AnswersLanes, WritesJournals}
-use Rattle.silo_program.specs.Serving.{ServesLanes, ServingFailsBy, WritesJournalTo}
+use Rattle.silo_program.specs.Serving.{ServesLanes, ServingFailsBy, WritesServed}
 use Rattle.silo_program.specs.Auditing.{AuditFailsBy, AuditsFile, RefusesFile}
 use Rattle.silo_program.specs.declared.failure.Cause.{Cause}
 use Rattle.silo_program.specs.declared.failure.Cause.TheVariants as cause
@@ -167,8 +167,8 @@ pub record FailsInServing (words : List Text) (files : FileClaims) (why : Cause)
   pub asked : AskForThreads words workers tenants age ages journal
   pub failed : ServingFailsBy (setup_of tenants age ages) files journal why from left reading.calls before after writing
 
--- The words name tenants and a path, the lines of the input were served for them, and their journal was written to this
--- path, once and nothing else.
+-- The words name tenants and a path. To this path the journal of no step was written, or this and then the journal of what was
+-- served, and nothing else.
 pub record WritesJournal (words : List Text) (files : FileClaims) (from left : Option (List ℕ)) : Type 0 where
   pub workers : ℕ
   pub tenants : Table
@@ -176,7 +176,7 @@ pub record WritesJournal (words : List Text) (files : FileClaims) (from left : O
   pub ages : Ages
   pub path : Text
   pub asked : AskForThreads words workers tenants age ages (Some path)
-  pub served : WritesJournalTo (setup_of tenants age ages) files path from left
+  pub written : WritesServed (setup_of tenants age ages) files path from left
 
 -- ---- lines are answered at once
 
@@ -212,7 +212,7 @@ pub record WritesAnswered (words : List Text) (files : FileClaims) (from : Optio
   pub asked : AskForAnswers words tenants age ages sends (Some path)
   pub written : WritesJournals (setup_of tenants age ages) sends files path from
 
--- No file was written, or the journal that the words ask for was.
+-- No file was written, or the journals that the words ask for were.
 abbrev pub LeavesFiles : List Text → FileClaims → Option (List ℕ) → Option (List ℕ) → Type 0
 LeavesFiles words files from left =
     files.same ⊎ (WritesJournal words files from left ⊎ WritesAnswered words files from)

@@ -3,6 +3,7 @@ pub mod Streams
 pub mod Files
 pub mod Steps
 pub mod Journals
+pub mod Kept
 pub mod Serving
 pub mod Answering
 pub mod Auditing

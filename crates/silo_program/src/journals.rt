@@ -3,7 +3,7 @@
 ghost use Rattle.std.specs.Prelude.{◌≡◌, [], IfErr, OnOk, option_map};
 ghost use Rattle.std.specs.FinMap.{entries};
 ghost use Rattle.silo_program.specs.Files.{claims};
-ghost use Rattle.silo_program.specs.Serving.{IsKeepingCause, KeepsJournal, WritesAtMost};
+ghost use Rattle.silo_program.specs.Kept.{IsKeepingCause, KeepsJournal, WritesAtMost};
 
 use crate::failure::Cause;
 use crate::files::{FileFault, WholeFiles};

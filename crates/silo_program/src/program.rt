@@ -354,8 +354,8 @@ pub fn run_program<
     ensures differs { result ≡ 3 → EndsAs End.Differs (texts_of words.now) (claims F.may_hold F.may_fail F.may_leave files.old files.new)
         (R.remaining input.old.reader) (R.remaining input.new.reader) (W.contents output.old.writer) (W.contents output.new.writer) }
 
-    // In every outcome no file was written, or the journal of what was served was: once, and to the path that was asked for.
-    // Of lines that are answered at once it is that of no step, and then perhaps that of what was answered.
+    // In every outcome no file was written, or to the path that was asked for the journal of no step was, and then perhaps that
+    // of what was served or answered.
     ensures journal { LeavesFiles (texts_of words.now) (claims F.may_hold F.may_fail F.may_leave files.old files.new)
         (R.remaining input.old.reader) (R.remaining input.new.reader) }
     ensures files { ((path : Text) → ¬ AskForJournal (texts_of words.now) path) → files.new ≡ files.old }
