@@ -1,5 +1,5 @@
 -- Why a file has no journal.
-use Rattle.std.proofs.Common.{◌≡◌, ℕ, List, Option, Result, IfErr, refl, sym, subst, ⊎_elim}
+use Rattle.std.proofs.Common.{◌≡◌, ◌≢◌, ℕ, List, Option, Result, IfErr, sym, subst, ⊎_elim}
 use Rattle.std.proofs.KnownBytes.{Keeps-refl}
 use Rattle.std.proofs.lemmas.Result.{IfErr-weaker}
 use Rattle.journal_text.specs.FirstFault.{IsFirstFault}
@@ -26,6 +26,7 @@ module _ (may_hold : List ℕ → Type 0) (may_fail : Type 0) (bytes : List ℕ)
   none_read read is = IfErr-weaker read (λ why. IsReadingFault bytes why) (λ why. IsAuditFault may_hold may_fail why before before writing) unread is
 
 -- the file isn't read
-pub not_read : (may_hold : List ℕ → Type 0) (may_fail : Type 0) (why : FileFault) (before : Option (List ℕ)) (writing : WriterCalls) → (why ≡ file.Failed → may_fail) → AuditFailsBy may_hold may_fail (file_cause why) before before writing
+pub not_read : (may_hold : List ℕ → Type 0) (may_fail : Type 0) (why : FileFault) (before : Option (List ℕ)) (writing : WriterCalls) → (why ≢ file.Memory → may_fail) → AuditFailsBy may_hold may_fail (file_cause why) before before writing
 not_read may_hold may_fail file.Memory before writing fails = Keeps-refl before
-not_read may_hold may_fail file.Failed before writing fails = (fails refl, Keeps-refl before)
+not_read may_hold may_fail file.Failed before writing fails = (fails (λ e. absurd (cc (e))), Keeps-refl before)
+not_read may_hold may_fail file.TooMuch before writing fails = (fails (λ e. absurd (cc (e))), Keeps-refl before)

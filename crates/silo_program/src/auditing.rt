@@ -29,6 +29,7 @@ fn cause_of_file(fault: FileFault) -> Cause
     match fault {
         FileFault::Memory => Cause::Memory,
         FileFault::Failed => Cause::Read,
+        FileFault::TooMuch => Cause::TooMuch,
     }
 }
 
@@ -120,7 +121,8 @@ fn write_reports<W: Write>(
 ///
 /// # Errors
 ///
-/// `Failed` with `Read` if the file isn't read, and then `NoJournal` if it has no journal. `Failed` with
+/// `Failed` with `Read` if the file isn't read, or with `TooMuch` if its end isn't met by all calls that are made, and
+/// then `NoJournal` if it has no journal. `Failed` with
 /// `NoWorker` if a thread couldn't be started, with `Write` if a call of the writer failed, and with
 /// `Memory` if memory was refused. But for `Write` nothing was written.
 pub fn audit_file<

@@ -36,6 +36,6 @@ pub fn keep_journal<F: WholeFiles>(
     match files.write_whole(alloc, path, text.as_slice()) {
         Ok(()) => Ok(()),
         Err(FileFault::Memory) => Err(Cause::Memory),
-        Err(FileFault::Failed) => Err(Cause::Write),
+        Err(FileFault::Failed | FileFault::TooMuch) => Err(Cause::Write),
     }
 }

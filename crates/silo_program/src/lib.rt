@@ -10,6 +10,7 @@
 
 mod answering;
 mod auditing;
+mod counted_reader;
 mod failure;
 mod files;
 mod first_journal;
