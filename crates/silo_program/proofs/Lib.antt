@@ -1,5 +1,6 @@
 pub mod EndLemmas
 pub mod AuditLemmas
+pub mod MigrationLemmas
 pub mod FaultLemmas
 pub mod KeptLemmas
 pub mod ServingLemmas

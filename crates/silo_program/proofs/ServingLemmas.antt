@@ -177,14 +177,14 @@ module _ (words : List Text) (from : Option (List ℕ)) (reading : Reading) (bef
 
 module _ (words : List Text) (files : FileClaims) (from left before after : Option (List ℕ)) where
   shown : (how : End) → (how ≡ end.Well) × ShowsText words from left before after → EndsAs how words files from left before after
-  shown how is = subst (λ (e : End). EndsAs e words files from left before after) (sym is.0) (inl is.1)
+  shown how is = subst (λ (e : End). EndsAs e words files from left before after) (sym is.0) (inl (inl is.1))
 
   pub ends_shown : {E : Type 0} (result : Result End E) → IfOk result (λ how. (how ≡ end.Well) × ShowsText words from left before after) → IfOk result (λ how. EndsAs how words files from left before after)
   ends_shown result is = IfOk-weaker result (λ how. (how ≡ end.Well) × ShowsText words from left before after) (λ how. EndsAs how words files from left before after) shown is
 
 module _ (words : List Text) (files : FileClaims) (from left : Option (List ℕ)) (reading : Reading) (before after : Option (List ℕ)) (writing : WriterCalls) (same : files.same) where
   stream_fault : (why : ProgramFault) → IsStreamFault words why from left reading before after writing → IsFaultOf words files why from left reading before after writing
-  stream_fault (fault.Failed why) is = ⊎_elim (λ early. inl early) (λ steps. inr (inl steps)) is
+  stream_fault (fault.Failed why) is = ⊎_elim (λ early. inl (inl early)) (λ steps. inr (inl steps)) is
   stream_fault (fault.Refused text) is = (is.0, is.1, is.2, same)
   stream_fault (fault.NoJournal text) is = absurd is
 

@@ -7,4 +7,5 @@ pub mod Kept
 pub mod Serving
 pub mod Answering
 pub mod Auditing
+pub mod Migrating
 pub mod Ends

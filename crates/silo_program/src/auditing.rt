@@ -23,7 +23,7 @@ use tenant_audit::{AuditFault, AuditGate, Report, audit_with, has_difference, re
 const AUDIT_WORKERS: usize = 4;
 
 /// What a fault of a file that is read is to the program.
-fn cause_of_file(fault: FileFault) -> Cause
+pub fn cause_of_file(fault: FileFault) -> Cause
     ensures { result ≡ file_cause fault }
 {
     match fault {
@@ -34,7 +34,7 @@ fn cause_of_file(fault: FileFault) -> Cause
 }
 
 /// What is said of bytes that are no journal's, by the number of the line that is refused.
-fn refuse_line(alloc: Global, number: usize) -> ProgramFault
+pub fn refuse_line(alloc: Global, number: usize) -> ProgramFault
     ensures { IsRefusalOf number result }
 {
     match format!(in alloc; "silo: journal line {number} is refused\n") {
