@@ -16,18 +16,16 @@ impl WholeFiles for EndlessFile {
         Err(FileFault::TooMuch)
     }
 
-    fn write_whole(
-        &mut self,
-        _alloc: Global,
-        _path: &str,
-        _bytes: &[u8],
-    ) -> Result<(), FileFault> {
+    fn write_whole(&mut self, _alloc: Global, _path: &str, _bytes: &[u8]) -> Result<(), FileFault> {
         Err(FileFault::Failed)
     }
 }
 
 /// Whether the command ends with status 1, and tells of too much input and writes nothing.
-fn is_too_much<H: AllocGlobal + Threads + Wait + Sync>(rt: &H, command: &str) -> Result<bool, Fail> {
+fn is_too_much<H: AllocGlobal + Threads + Wait + Sync>(
+    rt: &H,
+    command: &str,
+) -> Result<bool, Fail> {
     let alloc = rt.alloc();
     let words = words_of(alloc, &["silo", command, "j"])?;
     let mut files = EndlessFile;
@@ -42,5 +40,6 @@ fn is_too_much<H: AllocGlobal + Threads + Wait + Sync>(rt: &H, command: &str) ->
 #[test]
 fn a_file_without_an_end_is_too_much(rt: HostRuntime) -> Result<(), Fail> {
     assert!(rt; is_too_much(&rt, "audit")?);
+    assert!(rt; is_too_much(&rt, "migrate")?);
     Ok(())
 }
