@@ -186,6 +186,8 @@ def written_lines(texts: Iterable[str]) -> bytes:
 
 def run_serve(given: dict, words: list[str], data: bytes, files: dict, chance: Optional[Random]) -> bytes:
     setup = setup_of(given, words)
+    if "--journal" in given:
+        files[given["--journal"]] = journal_text(journal_of(Silo(setup)))
     try:
         read = [lines.read_line(line) for line in lines.lines_of([data])]
     except lines.TooMuchInput as error:

@@ -1,10 +1,7 @@
 -- How answering lines at once ends, by what failed.
 use Rattle.std.proofs.Common.{◌≡◌, ◌≢◌, ◌⊎◌, ◌∙◌, ℕ, List, [], ◌∷◌, ◌++◌, append-nil, append_assoc, Option, None, Some, IfOk, IfErr, Result, Ok, Err, true, inl, inr, refl, sym, ap, subst, ⊎_elim}
 use Rattle.std.specs.Prelude.{IfSome, OnOk}
-use Rattle.std.specs.FinMap.{empty, entries, len-empty, len-entries}
-use Rattle.std.proofs.lemmas.List.{nil_from_length}
-use Rattle.grain_id.specs.Names.{grain_cmp}
-use Rattle.grain_storage.specs.declared.row.Row.{Row}
+use Rattle.std.specs.FinMap.{entries}
 use Rattle.tenant_gate.specs.Table.{Table}
 use Rattle.idle_collector.specs.Ages.{Ages}
 use Rattle.line_service.specs.Serving.{setup_of}
@@ -27,8 +24,9 @@ use Rattle.line_answer.specs.Runs.{AnswersAll, AnswersBefore, AnswersLine, Answe
 use Rattle.line_answer.proofs.Asked.{Hears, hears_more, hears_own}
 use Rattle.silo_program.specs.Files.{FileClaims, claims}
 use Rattle.silo_program.specs.Journals.{silo_journal}
-use Rattle.silo_program.specs.Serving.{HoldsJournal, IsKeepingCause, KeepsJournal, MayFailAt, WritesAtMost}
-use Rattle.silo_program.specs.Answering.{AnsweringFailsBy, AnswersFirst, AnswersInput, AnswersToEnd, AnswersUpTo, AnswersLanes, EndsBy, KeepsSecond, MayFailAgain, WritesJournalsAtMost, empty_journal, opened}
+use Rattle.silo_program.specs.Kept.{IsKeepingCause, KeepsJournal, KeepsSecond, MayFailAgain, MayFailAt, WritesAtMost, empty_journal, opened}
+use Rattle.silo_program.specs.Answering.{AnsweringFailsBy, AnswersFirst, AnswersInput, AnswersToEnd, AnswersUpTo, AnswersLanes, EndsBy, WritesJournalsAtMost}
+use Rattle.silo_program.proofs.KeptLemmas.{HasFirst, both_kept, entries-empty, may_fail_again}
 use Rattle.silo_program.specs.declared.failure.Cause.{Cause}
 use Rattle.silo_program.specs.declared.failure.Cause.TheVariants as cause
 
@@ -39,9 +37,6 @@ pub opens : (setup : Setup) (silo : History) → silo.setup ≡ setup → (silo.
 opens setup silo s o f = λ i. record { setup = s i; whole = o.0 i; journal = o.1 i; failures = f i }
 
 -- it has no rows at its opening
-entries-empty : entries (empty {X = Row} {R = grain_cmp}) ≡ []
-entries-empty = nil_from_length _ (sym (len-entries (empty {X = Row} {R = grain_cmp})) ∙ len-empty grain_cmp Row)
-
 pub no_rows : (setup : Setup) (tenants : Table) (age : ℕ) (ages : Ages) → setup ≡ setup_of tenants age ages → entries setup.rows ≡ []
 no_rows setup tenants age ages is = ap (λ (s : Setup). entries s.rows) is ∙ entries-empty
 
@@ -156,34 +151,31 @@ module _ {F : Type 0} (may_hold : F → List ℕ → List ℕ → Type 0) (may_f
       ⊎_elim (λ same. inl same) (λ written. inr (inl (subst (λ (s : History). may_leave old path (journal_text (silo_journal s)) new) is written))) alone
 
   module _ (old mid new : F) (first silo : History) (is : first ≡ opened setup) where
-    empty_written : (path : List ℕ) → HoldsJournal (of old mid) path first → may_leave old path (empty_journal setup) mid
-    empty_written path h = subst (λ (s : History). may_leave old path (journal_text (silo_journal s)) mid) is h.written
-
-    -- both
-    kept_both : (journal : Option (List ℕ)) → KeepsJournal (of old mid) journal first → KeepsJournal (of mid new) journal silo → KeepsSecond setup (of old new) journal silo
-    kept_both None a b = tt
-    kept_both (Some path) a b = record { written = (mid, empty_written path a, b.written); held = b.held; no_difference = b.no_difference }
+    -- it is the journal of no step
+    first_has : (journal : Option (List ℕ)) → KeepsJournal (of old mid) journal first → HasFirst setup (of old mid) journal
+    first_has None a = tt
+    first_has (Some path) a = subst (λ (s : History). may_leave old path (journal_text (silo_journal s)) mid) is a.written
 
     pub second_fails : (journal : Option (List ℕ)) → KeepsJournal (of old mid) journal first → MayFailAt (may_fail mid) journal → MayFailAgain setup (of old new) journal
-    second_fails None a fails = absurd fails
-    second_fails (Some path) a fails = (mid, empty_written path a, fails)
+    second_fails journal a fails = may_fail_again may_hold may_fail may_leave setup old mid new journal (first_has journal a) fails
 
     written_both : (journal from : Option (List ℕ)) → KeepsJournal (of old mid) journal first → WritesAtMost (of old mid) journal first → WritesAtMost (of mid new) journal silo
         → IfSome from (λ input. AnswersFirst setup sends input silo) → WritesJournalsAtMost setup sends (of old new) journal from
     written_both None from a alone b led = b ∙ alone
     written_both (Some path) from a alone b led =
-        ⊎_elim (λ same. inr (inl (subst (λ (f : F). may_leave old path (empty_journal setup) f) (sym same) (empty_written path a))))
-        (λ written. inr (inr (record { silo = silo; led = led; written = (mid, empty_written path a, written) }))) b
+        ⊎_elim (λ same. inr (inl (subst (λ (f : F). may_leave old path (empty_journal setup) f) (sym same) (first_has (Some path) a))))
+        (λ written. inr (inr (record { silo = silo; led = led; written = (mid, first_has (Some path) a, written) }))) b
 
     -- the first alone
     one_written : (journal from : Option (List ℕ)) → KeepsJournal (of old mid) journal first → WritesAtMost (of old mid) journal first → new ≡ mid → WritesJournalsAtMost setup sends (of old new) journal from
     one_written None from a alone same = same ∙ alone
-    one_written (Some path) from a alone same = inr (inl (subst (λ (f : F). may_leave old path (empty_journal setup) f) (sym same) (empty_written path a)))
+    one_written (Some path) from a alone same = inr (inl (subst (λ (f : F). may_leave old path (empty_journal setup) f) (sym same) (first_has (Some path) a)))
 
     -- of the silo as it is shown
     module _ (shown : History) (shows : shown ≡ silo) where
       pub second_kept : (journal : Option (List ℕ)) → KeepsJournal (of old mid) journal first → KeepsJournal (of mid new) journal shown → KeepsSecond setup (of old new) journal silo
-      second_kept journal a b = kept_both journal a (subst (λ (s : History). KeepsJournal (of mid new) journal s) shows b)
+      second_kept journal a b =
+          both_kept may_hold may_fail may_leave setup old mid new journal silo (first_has journal a) (subst (λ (s : History). KeepsJournal (of mid new) journal s) shows b)
 
       pub both_written : (journal from : Option (List ℕ)) → KeepsJournal (of old mid) journal first → WritesAtMost (of old mid) journal first → WritesAtMost (of mid new) journal shown
           → IfSome from (λ input. AnswersFirst setup sends input silo) → WritesJournalsAtMost setup sends (of old new) journal from
@@ -247,11 +239,6 @@ module _ (setup : Setup) (sends : ℕ) (files : FileClaims) (journal from : Opti
     stopped_by kept line.Memory why answered then ends = ends_with cause.Memory why ends (lacks_memory (Some line.Memory) answered)
 
 -- ---- how answering ends
-
--- what is so unless the first journal wasn't written
-pub kept_unless : {T E : Type 0} (P : Type 0) (result : Result T E) → ((x : E) → result ≡ Err x → ⊥) → OnOk result P → P
-kept_unless P (Ok done) never h = h
-kept_unless P (Err why) never h = absurd (never why refl)
 
 module _ {F : Type 0} (may_hold : F → List ℕ → List ℕ → Type 0) (may_fail : F → List ℕ → Type 0) (may_leave : F → List ℕ → List ℕ → F → Type 0) (setup : Setup) (sends : ℕ)
     (old mid new : F) (first silo shown : History) (is : first ≡ opened setup) (shows : shown ≡ silo) (journal from left : Option (List ℕ)) where

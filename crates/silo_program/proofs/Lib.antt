@@ -1,5 +1,7 @@
 pub mod EndLemmas
 pub mod AuditLemmas
+pub mod MigrationLemmas
 pub mod FaultLemmas
+pub mod KeptLemmas
 pub mod ServingLemmas
 pub mod AnsweringLemmas

@@ -1,5 +1,5 @@
 -- How serving fails, by what failed.
-use Rattle.std.proofs.Common.{◌≡◌, ℕ, List, Option, None, Some, IfOk, IfErr, Result, true, inl, inr, refl, sym, subst, ⊎_elim}
+use Rattle.std.proofs.Common.{◌≡◌, ◌∙◌, ℕ, List, Option, None, Some, IfOk, IfErr, Result, true, inl, inr, refl, sym, subst, ⊎_elim}
 use Rattle.std.proofs.KnownBytes.{Keeps-refl}
 use Rattle.std.proofs.lemmas.Result.{IfErr-weaker, IfOk-weaker}
 use Rattle.clap.specs.Words.{Text}
@@ -19,8 +19,9 @@ use Rattle.silo_program.specs.Status.{IsAgesFault, IsTenantsFault, cause_of}
 use Rattle.tenant_gate.specs.Table.{Table}
 use Rattle.idle_collector.specs.Ages.{Ages}
 use Rattle.line_service.specs.Serving.{StopsServing, setup_of}
-use Rattle.silo_program.specs.Files.{FileClaims}
-use Rattle.silo_program.specs.Serving.{IsKeepingCause, KeepsJournal, LeavesOutcome, Outcome, ServingFailsBy, WritesAtMost, WritesJournalAtMost, outcome_text, service_cause}
+use Rattle.silo_program.specs.Files.{FileClaims, claims}
+use Rattle.silo_program.specs.Kept.{IsKeepingCause, KeepsSecond, MayFailAgain, MayFailAt, WritesAtMost, WritesFirst, WritesFirstAtMost, empty_journal}
+use Rattle.silo_program.specs.Serving.{LeavesOutcome, Outcome, ServingFailsBy, WritesJournalAtMost, outcome_text, service_cause}
 use Rattle.silo_program.specs.Answering.{WritesJournalsAtMost}
 use Rattle.silo_program.specs.Ends.{AskForJournal, EndsAs, HaveArguments, IsAnsweringFault, IsFaultOf, IsNamingFault, IsServingFault, IsStreamFault, LeavesFiles, NameNoAges, ShowsText, WritesAnswered, WritesJournal}
 use Rattle.silo_program.specs.declared.failure.Cause.{Cause}
@@ -36,14 +37,25 @@ use Rattle.silo_words.specs.declared.tenants.TenantsFault.TheVariants as tenants
 
 -- ---- an input isn't served
 
-module _ (setup : Setup) (files : FileClaims) (journal : Option (List ℕ)) (from left : Option (List ℕ)) (reading : ReaderCalls) (before : Option (List ℕ)) (writing : WriterCalls) (same : files.same) where
+-- since the first journal isn't written
+pub not_begun : (setup : Setup) (files : FileClaims) (journal from : Option (List ℕ)) (reading : ReaderCalls) (before : Option (List ℕ)) (writing : WriterCalls) (why : Cause) → IsKeepingCause files.may_fail journal why
+    → ServingFailsBy setup files journal why from from reading before before writing
+not_begun setup files journal from reading before writing cause.Read is = absurd is
+not_begun setup files journal from reading before writing cause.Write is = inl (is, (Keeps-refl from, Keeps-refl before))
+not_begun setup files journal from reading before writing cause.Memory is = Keeps-refl before
+not_begun setup files journal from reading before writing cause.TooMuch is = absurd is
+not_begun setup files journal from reading before writing cause.NoWorker is = absurd is
+not_begun setup files journal from reading before writing cause.Strayed is = absurd is
+
+-- behind the first journal
+module _ (setup : Setup) (files : FileClaims) (journal : Option (List ℕ)) (from left : Option (List ℕ)) (reading : ReaderCalls) (before : Option (List ℕ)) (writing : WriterCalls) (first : WritesFirst setup files journal) where
   by_service : (why : ServiceFault) → StopsServing why from reading → ServingFailsBy setup files journal (service_cause why) from left reading before before writing
-  by_service (service.Failed line.Read) stops = (stops, Keeps-refl before, same)
-  by_service (service.Failed line.TooMuch) stops = (stops, Keeps-refl before, same)
+  by_service (service.Failed line.Read) stops = (stops, Keeps-refl before, first)
+  by_service (service.Failed line.TooMuch) stops = (stops, Keeps-refl before, first)
   by_service (service.Failed line.Memory) stops = Keeps-refl before
   by_service (service.Failed line.Write) stops = absurd stops
-  by_service service.NoWorker stops = (Keeps-refl before, same)
-  by_service service.Strayed stops = (Keeps-refl before, same)
+  by_service service.NoWorker stops = (Keeps-refl before, first)
+  by_service service.Strayed stops = (Keeps-refl before, first)
 
   pub not_served : (why : ServiceFault) (by : Cause) → by ≡ service_cause why → StopsServing why from reading → ServingFailsBy setup files journal by from left reading before before writing
   not_served why by is stops = subst (λ (c : Cause). ServingFailsBy setup files journal c from left reading before before writing) (sym is) (by_service why stops)
@@ -52,36 +64,47 @@ module _ (setup : Setup) (files : FileClaims) (journal : Option (List ℕ)) (fro
 
 module _ (setup : Setup) (files : FileClaims) (journal : Option (List ℕ)) (from left : Option (List ℕ)) (reading : ReaderCalls) (before after : Option (List ℕ)) (writing : WriterCalls) (outcome : Outcome) (served : LeavesOutcome setup from left outcome) where
   -- but the journal wasn't written
-  pub not_kept : (why : Cause) → IsKeepingCause files.may_fail journal why → ServingFailsBy setup files journal why from left reading before before writing
-  not_kept cause.Read is = absurd is
-  not_kept cause.Write is = inl (record { fails = is; outcome = outcome; served = served; kept = Keeps-refl before })
-  not_kept cause.Memory is = Keeps-refl before
-  not_kept cause.TooMuch is = absurd is
-  not_kept cause.NoWorker is = absurd is
-  not_kept cause.Strayed is = absurd is
+  pub not_kept : (fails : List ℕ → Type 0) (why : Cause) → IsKeepingCause fails journal why → (MayFailAt fails journal → MayFailAgain setup files journal) → ServingFailsBy setup files journal why from left reading before before writing
+  not_kept fails cause.Read is again = absurd is
+  not_kept fails cause.Write is again = inr (inl (record { fails = again is; outcome = outcome; served = served; kept = Keeps-refl before }))
+  not_kept fails cause.Memory is again = Keeps-refl before
+  not_kept fails cause.TooMuch is again = absurd is
+  not_kept fails cause.NoWorker is again = absurd is
+  not_kept fails cause.Strayed is again = absurd is
 
   -- but their text wasn't written whole
-  by_fault : (why : LineFault) → KeepsJournal files journal outcome.silo → StopsWriting why (outcome_text outcome) before after → (why ≡ line.Write → writing.failed ≡ true)
+  by_fault : (why : LineFault) → KeepsSecond setup files journal outcome.silo → StopsWriting why (outcome_text outcome) before after → (why ≡ line.Write → writing.failed ≡ true)
       → ServingFailsBy setup files journal (cause_of why) from left reading before after writing
   by_fault line.Read kept stops failed = absurd stops
-  by_fault line.Write kept stops failed = inr (record { outcome = outcome; served = served; kept = kept; part = record { part = stops; failed = failed refl } })
+  by_fault line.Write kept stops failed = inr (inr (record { outcome = outcome; served = served; kept = kept; part = record { part = stops; failed = failed refl } }))
   by_fault line.Memory kept stops failed = stops
   by_fault line.TooMuch kept stops failed = absurd stops
 
-  pub not_written : (why : LineFault) (by : Cause) → by ≡ cause_of why → KeepsJournal files journal outcome.silo → StopsWriting why (outcome_text outcome) before after → (why ≡ line.Write → writing.failed ≡ true)
+  pub not_written : (why : LineFault) (by : Cause) → by ≡ cause_of why → KeepsSecond setup files journal outcome.silo → StopsWriting why (outcome_text outcome) before after → (why ≡ line.Write → writing.failed ≡ true)
       → ServingFailsBy setup files journal by from left reading before after writing
   not_written why by is kept stops failed = subst (λ (c : Cause). ServingFailsBy setup files journal c from left reading before after writing) (sym is) (by_fault why kept stops failed)
 
 -- ---- what was written to files
 
 module _ (setup : Setup) (files : FileClaims) (from left : Option (List ℕ)) where
-  pub unwritten : (journal : Option (List ℕ)) → files.same → WritesJournalAtMost setup files journal from left
-  unwritten None same = same
-  unwritten (Some path) same = inl same
+  -- the first journal, or nothing
+  pub first_at_most : (journal : Option (List ℕ)) → WritesFirstAtMost setup files journal → WritesJournalAtMost setup files journal from left
+  first_at_most None same = same
+  first_at_most (Some path) is = ⊎_elim (λ same. inl same) (λ written. inr (inl written)) is
 
-  pub journal_written : (journal : Option (List ℕ)) (outcome : Outcome) → LeavesOutcome setup from left outcome → WritesAtMost files journal outcome.silo → WritesJournalAtMost setup files journal from left
-  journal_written None outcome served same = same
-  journal_written (Some path) outcome served is = ⊎_elim (λ same. inl same) (λ written. inr (record { outcome = outcome; served = served; written = written })) is
+  -- the first journal
+  pub first_written : (journal : Option (List ℕ)) → WritesFirst setup files journal → WritesJournalAtMost setup files journal from left
+  first_written None same = same
+  first_written (Some path) written = inr (inl written)
+
+-- the first, and then perhaps the second
+module _ {F : Type 0} (may_hold : F → List ℕ → List ℕ → Type 0) (may_fail : F → List ℕ → Type 0) (may_leave : F → List ℕ → List ℕ → F → Type 0) (setup : Setup) (old mid new : F) where
+  pub second_at_most : (journal from left : Option (List ℕ)) (outcome : Outcome) → LeavesOutcome setup from left outcome → WritesFirst setup (claims may_hold may_fail may_leave old mid) journal
+      → WritesAtMost (claims may_hold may_fail may_leave mid new) journal outcome.silo → WritesJournalAtMost setup (claims may_hold may_fail may_leave old new) journal from left
+  second_at_most None from left outcome served a b = b ∙ a
+  second_at_most (Some path) from left outcome served a b =
+      ⊎_elim (λ same. inr (inl (subst (λ (f : F). may_leave old path (empty_journal setup) f) (sym same) a)))
+      (λ written. inr (inr (record { outcome = outcome; served = served; written = (mid, a, written) }))) b
 
 module _ (words : List Text) (files : FileClaims) (from left : Option (List ℕ)) (workers age : ℕ) (given : Option Text) (tenants : Table) (ages : Ages) (arguments : List Text) where
   -- of what the words ask for
@@ -97,7 +120,7 @@ module _ (words : List Text) (files : FileClaims) (from left : Option (List ℕ)
         ages = ages;
         path = path;
         asked = record { given = given; arguments = arguments; asked = asked; named = named.0; aged = named.1 };
-        served = written;
+        written = written;
       }))) is
 
 -- no journal is asked for
@@ -154,14 +177,14 @@ module _ (words : List Text) (from : Option (List ℕ)) (reading : Reading) (bef
 
 module _ (words : List Text) (files : FileClaims) (from left before after : Option (List ℕ)) where
   shown : (how : End) → (how ≡ end.Well) × ShowsText words from left before after → EndsAs how words files from left before after
-  shown how is = subst (λ (e : End). EndsAs e words files from left before after) (sym is.0) (inl is.1)
+  shown how is = subst (λ (e : End). EndsAs e words files from left before after) (sym is.0) (inl (inl is.1))
 
   pub ends_shown : {E : Type 0} (result : Result End E) → IfOk result (λ how. (how ≡ end.Well) × ShowsText words from left before after) → IfOk result (λ how. EndsAs how words files from left before after)
   ends_shown result is = IfOk-weaker result (λ how. (how ≡ end.Well) × ShowsText words from left before after) (λ how. EndsAs how words files from left before after) shown is
 
 module _ (words : List Text) (files : FileClaims) (from left : Option (List ℕ)) (reading : Reading) (before after : Option (List ℕ)) (writing : WriterCalls) (same : files.same) where
   stream_fault : (why : ProgramFault) → IsStreamFault words why from left reading before after writing → IsFaultOf words files why from left reading before after writing
-  stream_fault (fault.Failed why) is = ⊎_elim (λ early. inl early) (λ steps. inr (inl steps)) is
+  stream_fault (fault.Failed why) is = ⊎_elim (λ early. inl (inl early)) (λ steps. inr (inl steps)) is
   stream_fault (fault.Refused text) is = (is.0, is.1, is.2, same)
   stream_fault (fault.NoJournal text) is = absurd is
 

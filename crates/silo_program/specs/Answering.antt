@@ -1,8 +1,7 @@
 -- What `silo answer` does with the lines of an input.
-use Rattle.std.specs.Prelude.{◌≡◌, ◌⊎◌, ◌++◌, ⊤, ℕ, List, [], Option, None, Some, IfSome}
-use Rattle.std.specs.Io.KnownBytes.{Keeps}
+use Rattle.std.specs.Prelude.{◌≡◌, ◌⊎◌, ◌++◌, ℕ, List, Option, None, Some, IfSome}
 use Rattle.grain_kinds.specs.Resting.{resting_kinds}
-use Rattle.silo_model.specs.Opening.{Setup, opening}
+use Rattle.silo_model.specs.Opening.{Setup}
 use Rattle.silo_core.specs.History.{History}
 use Rattle.line_protocol.specs.Lines.{lines_of}
 use Rattle.line_protocol.specs.Reading.{Reading}
@@ -12,16 +11,13 @@ use Rattle.line_protocol.specs.declared.fault.LineFault.TheVariants as line
 use Rattle.line_answer.specs.Runs.{AnswersAll, AnswersLines, StopsBy}
 use Rattle.journal_text.specs.Text.{journal_text}
 use Rattle.silo_program.specs.Files.{FileClaims}
-use Rattle.silo_program.specs.Journals.{HasNoDifference, silo_journal}
-use Rattle.silo_program.specs.Serving.{MayFailAt}
+use Rattle.silo_program.specs.Journals.{silo_journal}
+use Rattle.silo_program.specs.Kept.{KeepsSecond, MayFailAgain, MayFailAt, empty_journal, opened}
+use Rattle.silo_program.specs.Streams.{IsUnbegun}
 use Rattle.silo_program.specs.declared.failure.Cause.{Cause}
 use Rattle.silo_program.specs.declared.failure.Cause.TheVariants as cause
 
 -- ---- what is answered
-
--- a silo at its opening, which took no step, and whose storage didn't fail
-abbrev pub opened : Setup → History
-opened setup = record { setup = setup; whole = opening setup; journal = []; failures = record { at_opening = 0; now = 0 } }
 
 -- All of the input was read, each line was answered with at most so many deliveries behind it, and what was written is their
 -- text and nothing else. Of an input that isn't known nothing is said.
@@ -51,25 +47,6 @@ pub record AnswersFirst (setup : Setup) (sends : ℕ) (input : List ℕ) (silo :
   pub answers : AnswersLines resting_kinds sends (opened setup) done silo text
 
 -- ---- the journal
-
--- the journal of no step
-abbrev pub empty_journal : Setup → List ℕ
-empty_journal setup = journal_text (silo_journal (opened setup))
-
--- The journal of no step was written to the path, then that of the silo, and nothing else. The file at the path may have the
--- second, and in it no tenant differs from its machine.
-pub record HoldsSecond (setup : Setup) (files : FileClaims) (path : List ℕ) (silo : History) : Type 0 where
-  pub written : files.written_again path (empty_journal setup) (journal_text (silo_journal silo))
-  pub held : files.may_hold path (journal_text (silo_journal silo))
-  pub no_difference : HasNoDifference silo
-
--- the same, if a path is given
-abbrev pub KeepsSecond : Setup → FileClaims → Option (List ℕ) → History → Type 0
-KeepsSecond setup files journal silo = IfSome journal (λ path. HoldsSecond setup files path silo)
-
--- A path is given, and a call at it may fail behind the first write.
-abbrev pub MayFailAgain : Setup → FileClaims → Option (List ℕ) → Type 0
-MayFailAgain setup files journal = MayFailAt (λ path. files.may_fail_again path (empty_journal setup)) journal
 
 -- The journal of no step was written to the path, then that of the silo that the first lines led to, or all, and nothing else.
 pub record WritesSecond (setup : Setup) (sends : ℕ) (files : FileClaims) (path : List ℕ) (from : Option (List ℕ)) : Type 0 where
@@ -120,10 +97,6 @@ pub record LacksMemory (setup : Setup) (sends : ℕ) (from left : Option (List �
   pub silo : History
   pub answered : AnswersInput setup sends ended silo from left reading before after writing
   pub unfailed : silo.failures.now ≡ 0
-
--- Nothing was read and nothing written, but perhaps to a file.
-abbrev pub IsUnbegun : Option (List ℕ) → Option (List ℕ) → Option (List ℕ) → Option (List ℕ) → Type 0
-IsUnbegun from left before after = Keeps from left × Keeps before after
 
 -- By what answering fails, and when it comes. Writing fails before the first line, if a call at the journal's path may fail;
 -- or in a line, if a call of the writer failed; or at the end, if a call at the path may fail.

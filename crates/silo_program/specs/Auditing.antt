@@ -71,13 +71,13 @@ pub record WritesReportsInPart (may_hold : List ℕ → Type 0) (before after : 
   pub audited : AreReportsOf may_hold reports
   pub part : BreaksOff before after writing (reports_text reports)
 
--- By what an audit fails: reading only if a call at the file may fail, and writing only if a call of the writer failed. But
--- for a fault of writing nothing was written. If there is no thread, the file may have a journal.
+-- By what an audit fails: reading only if a call at the file may fail, too much only if its end may not be met, and writing only if
+-- a call of the writer failed. But for a fault of writing nothing was written. If there is no thread, the file may have a journal.
 abbrev pub AuditFailsBy : (List ℕ → Type 0) → Type 0 → Cause → Option (List ℕ) → Option (List ℕ) → WriterCalls → Type 0
 AuditFailsBy may_hold may_fail cause.Read before after writing = may_fail × Keeps before after
 AuditFailsBy may_hold may_fail cause.Write before after writing = WritesReportsInPart may_hold before after writing
 AuditFailsBy may_hold may_fail cause.Memory before after writing = Keeps before after
-AuditFailsBy may_hold may_fail cause.TooMuch before after writing = ⊥
+AuditFailsBy may_hold may_fail cause.TooMuch before after writing = may_fail × Keeps before after
 AuditFailsBy may_hold may_fail cause.NoWorker before after writing =
     ((journal : History) × MayHoldJournal may_hold journal) × Keeps before after
 AuditFailsBy may_hold may_fail cause.Strayed before after writing = ⊥
@@ -95,6 +95,7 @@ pub record RefusesFile (may_hold : List ℕ → Type 0) (text : List ℕ) (befor
 abbrev pub file_cause : FileFault → Cause
 file_cause file.Memory = cause.Memory
 file_cause file.Failed = cause.Read
+file_cause file.TooMuch = cause.TooMuch
 
 -- what an audit fails by
 abbrev pub IsAuditCause : Cause → Type 0

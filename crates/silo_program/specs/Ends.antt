@@ -8,8 +8,8 @@ use Rattle.line_protocol.specs.Reading.{Reading}
 use Rattle.line_protocol.specs.declared.written.WriterCalls.{WriterCalls}
 use Rattle.line_protocol.specs.declared.fault.LineFault.{LineFault}
 use Rattle.line_service.specs.Serving.{setup_of}
-use Rattle.silo_words.specs.Words.{AreRefused, AskForAnswering, AskForAudit, AskForHelp, AskForNothing, AskForServing}
-use Rattle.silo_words.specs.Words.{AskForSteps, AskForVersion, EndsWithExample}
+use Rattle.silo_words.specs.Words.{AreRefused, AskForAnswering, AskForAudit, AskForHelp, AskForMigration, AskForNothing}
+use Rattle.silo_words.specs.Words.{AskForServing, AskForSteps, AskForVersion, EndsWithExample}
 use Rattle.silo_program.specs.Status.{cause_of, no_ages_text, refused_text, version_text}
 use Rattle.silo_program.specs.Streams.{BreaksOff}
 use Rattle.silo_words.specs.Ages.{NamesAges}
@@ -17,8 +17,9 @@ use Rattle.silo_words.specs.Tenants.{IsFirstRefused, NameTenants}
 use Rattle.silo_program.specs.Steps.{AnswersFrom, StopsFrom}
 use Rattle.silo_program.specs.Files.{FileClaims}
 use Rattle.silo_program.specs.Answering.{AnsweringFailsBy, AnswersLanes, WritesJournals}
-use Rattle.silo_program.specs.Serving.{ServesLanes, ServingFailsBy, WritesJournalTo}
+use Rattle.silo_program.specs.Serving.{ServesLanes, ServingFailsBy, WritesServed}
 use Rattle.silo_program.specs.Auditing.{AuditFailsBy, AuditsFile, RefusesFile}
+use Rattle.silo_program.specs.Migrating.{MigratesFile, MigrationFailsBy}
 use Rattle.silo_program.specs.declared.failure.Cause.{Cause}
 use Rattle.silo_program.specs.declared.failure.Cause.TheVariants as cause
 use Rattle.silo_program.specs.declared.failure.End.{End}
@@ -65,6 +66,10 @@ AskForJournal words path =
     × AskForServing words workers age given (Some path) arguments)
     ⊎ ((age : ℕ) × (given : Option Text) × (sends : ℕ) × (arguments : List Text)
     × AskForAnswering words age given sends (Some path) arguments)
+
+-- The words ask for an audit of the journal at the path, or to migrate it.
+abbrev pub AskForFile : List Text → Text → Type 0
+AskForFile words path = AskForAudit words path ⊎ AskForMigration words path
 
 -- The words have this text of the kinds' ages and these tenant arguments, whether they ask to take steps, to serve, or to answer at once.
 abbrev pub HaveArguments : List Text → Option Text → List Text → Type 0
@@ -167,8 +172,8 @@ pub record FailsInServing (words : List Text) (files : FileClaims) (why : Cause)
   pub asked : AskForThreads words workers tenants age ages journal
   pub failed : ServingFailsBy (setup_of tenants age ages) files journal why from left reading.calls before after writing
 
--- The words name tenants and a path, the lines of the input were served for them, and their journal was written to this
--- path, once and nothing else.
+-- The words name tenants and a path. To this path the journal of no step was written, or this and then the journal of what was
+-- served, and nothing else.
 pub record WritesJournal (words : List Text) (files : FileClaims) (from left : Option (List ℕ)) : Type 0 where
   pub workers : ℕ
   pub tenants : Table
@@ -176,7 +181,7 @@ pub record WritesJournal (words : List Text) (files : FileClaims) (from left : O
   pub ages : Ages
   pub path : Text
   pub asked : AskForThreads words workers tenants age ages (Some path)
-  pub served : WritesJournalTo (setup_of tenants age ages) files path from left
+  pub written : WritesServed (setup_of tenants age ages) files path from left
 
 -- ---- lines are answered at once
 
@@ -212,7 +217,7 @@ pub record WritesAnswered (words : List Text) (files : FileClaims) (from : Optio
   pub asked : AskForAnswers words tenants age ages sends (Some path)
   pub written : WritesJournals (setup_of tenants age ages) sends files path from
 
--- No file was written, or the journal that the words ask for was.
+-- No file was written, or the journals that the words ask for were.
 abbrev pub LeavesFiles : List Text → FileClaims → Option (List ℕ) → Option (List ℕ) → Type 0
 LeavesFiles words files from left =
     files.same ⊎ (WritesJournal words files from left ⊎ WritesAnswered words files from)
@@ -236,22 +241,43 @@ pub record FailsInAudit (words : List Text) (files : FileClaims) (why : Cause) (
   pub unwritten : files.same
   pub failed : AuditFailsBy (files.may_hold path) (files.may_fail path) why before after writing
 
+-- ---- a journal is migrated
+
+-- The words name a file, and its journal was migrated. Nothing was read from the input, and no file was written.
+pub record Migrates (words : List Text) (files : FileClaims) (from left before after : Option (List ℕ)) : Type 0 where
+  pub path : Text
+  pub asked : AskForMigration words path
+  pub kept : Keeps from left
+  pub unwritten : files.same
+  pub migrated : MigratesFile (files.may_hold path) before after
+
+-- The words name a file, and migrating its journal failed. Nothing was read from the input, and no file was written.
+pub record FailsInMigration (words : List Text) (files : FileClaims) (why : Cause) (from left before after : Option (List ℕ))
+    (writing : WriterCalls) : Type 0 where
+  pub path : Text
+  pub asked : AskForMigration words path
+  pub kept : Keeps from left
+  pub unwritten : files.same
+  pub failed : MigrationFailsBy (files.may_hold path) (files.may_fail path) why before after writing
+
+-- ---- there is no journal
+
 -- The words name a file that has no journal, and that was said. Nothing was read from the input, and no file was written.
 pub record RefusesJournal (words : List Text) (files : FileClaims) (text : Text) (from left before after : Option (List ℕ)) : Type 0 where
   pub path : Text
-  pub asked : AskForAudit words path
+  pub asked : AskForFile words path
   pub kept : Keeps from left
   pub unwritten : files.same
   pub refused : RefusesFile (files.may_hold path) text before after
 
 -- ---- how the program ends
 
--- All is well: the words ask for a text, which was written, or for steps, which were answered, or for lines to be served or
--- answered at once, which they were, or for an audit, which found no difference. A tenant differs: the words ask for an audit, which found
--- that.
+-- All is well: the words ask for a text, or to migrate a journal, which was written, or for steps, which were answered, or for lines to
+-- be served or answered at once, which they were, or for an audit, which found no difference. A tenant differs: the words ask for an
+-- audit, which found that.
 abbrev pub EndsAs : End → List Text → FileClaims → Option (List ℕ) → Option (List ℕ) → Option (List ℕ) → Option (List ℕ) → Type 0
 EndsAs end.Well words files from left before after =
-    ShowsText words from left before after
+    (ShowsText words from left before after ⊎ Migrates words files from left before after)
     ⊎ (ServesSteps words from left before after
     ⊎ (ServesInput words files from left before after
     ⊎ (AnswersAtOnce words files from left before after ⊎ Audits words files end.Well from left before after)))
@@ -261,7 +287,7 @@ EndsAs end.Differs words files from left before after = Audits words files end.D
 abbrev pub FailsBy : List Text → FileClaims → Cause → Option (List ℕ) → Option (List ℕ) → Reading → Option (List ℕ) → Option (List ℕ)
     → WriterCalls → Type 0
 FailsBy words files why from left reading before after writing =
-    FailsEarly words why from left before after writing
+    (FailsEarly words why from left before after writing ⊎ FailsInMigration words files why from left before after writing)
     ⊎ (FailsInSteps words why from left reading before after writing
     ⊎ (FailsInServing words files why from left reading before after writing
     ⊎ (FailsInAnswering words files why from left reading before after writing

@@ -3,7 +3,9 @@ pub mod Streams
 pub mod Files
 pub mod Steps
 pub mod Journals
+pub mod Kept
 pub mod Serving
 pub mod Answering
 pub mod Auditing
+pub mod Migrating
 pub mod Ends

@@ -1,5 +1,5 @@
 -- What `silo serve` does with the lines of an input.
-use Rattle.std.specs.Prelude.{◌≡◌, ◌≢◌, ◌⊎◌, ℕ, List, Option, None, Some, IfSome, true}
+use Rattle.std.specs.Prelude.{◌≡◌, ◌⊎◌, ℕ, List, Option, None, Some, IfSome, true}
 use Rattle.std.specs.Io.KnownBytes.{Appends, Keeps}
 use Rattle.silo_event.specs.declared.reply.Reply.{Reply}
 use Rattle.grain_kinds.specs.Resting.{resting_kinds}
@@ -16,9 +16,10 @@ use Rattle.line_service.specs.ServedText.{served_text}
 use Rattle.line_service.specs.declared.fault.ServiceFault.{ServiceFault}
 use Rattle.line_service.specs.declared.fault.ServiceFault.TheVariants as service
 use Rattle.silo_program.specs.Files.{FileClaims}
-use Rattle.silo_program.specs.Journals.{HasNoDifference, silo_journal}
+use Rattle.silo_program.specs.Journals.{silo_journal}
+use Rattle.silo_program.specs.Kept.{KeepsSecond, MayFailAgain, MayFailAt, WritesFirst, empty_journal}
 use Rattle.silo_program.specs.Status.{cause_of}
-use Rattle.silo_program.specs.Streams.{BreaksOff}
+use Rattle.silo_program.specs.Streams.{BreaksOff, IsUnbegun}
 use Rattle.silo_program.specs.declared.failure.Cause.{Cause}
 use Rattle.silo_program.specs.declared.failure.Cause.TheVariants as cause
 
@@ -37,46 +38,31 @@ LeavesOutcome setup from left outcome =
 abbrev pub outcome_text : Outcome → List ℕ
 outcome_text outcome = served_text outcome.refusals outcome.answers outcome.silo.whole.replies
 
--- The journal of the silo was written to the path, once and nothing else. The file at the path may have it, and in it no
--- tenant differs from its machine.
-pub record HoldsJournal (files : FileClaims) (path : List ℕ) (silo : History) : Type 0 where
-  pub written : files.written path (journal_text (silo_journal silo))
-  pub held : files.may_hold path (journal_text (silo_journal silo))
-  pub no_difference : HasNoDifference silo
-
--- the same, if a path is given
-abbrev pub KeepsJournal : FileClaims → Option (List ℕ) → History → Type 0
-KeepsJournal files journal silo = IfSome journal (λ path. HoldsJournal files path silo)
-
--- No file was written, or the journal of the silo was, once, to the path that is given.
-abbrev pub WritesAtMost : FileClaims → Option (List ℕ) → History → Type 0
-WritesAtMost files None silo = files.same
-WritesAtMost files (Some path) silo = files.same ⊎ files.written path (journal_text (silo_journal silo))
-
--- The lines of the input were served, and their journal was written to the path, once and nothing else.
+-- The lines of the input were served. The journal of no step was written to the path, then theirs, and nothing else.
 pub record WritesJournalTo (setup : Setup) (files : FileClaims) (path : List ℕ) (from left : Option (List ℕ)) : Type 0 where
   pub outcome : Outcome
   pub served : LeavesOutcome setup from left outcome
-  pub written : files.written path (journal_text (silo_journal outcome.silo))
+  pub written : files.written_again path (empty_journal setup) (journal_text (silo_journal outcome.silo))
 
--- No file was written, or, if a path is given, the journal of what was served was, once, to this path.
+-- One journal was written, or both.
+abbrev pub WritesServed : Setup → FileClaims → List ℕ → Option (List ℕ) → Option (List ℕ) → Type 0
+WritesServed setup files path from left =
+    files.written path (empty_journal setup) ⊎ WritesJournalTo setup files path from left
+
+-- No file was written, or, if a path is given, one journal was, or both.
 abbrev pub WritesJournalAtMost : Setup → FileClaims → Option (List ℕ) → Option (List ℕ) → Option (List ℕ) → Type 0
 WritesJournalAtMost setup files None from left = files.same
-WritesJournalAtMost setup files (Some path) from left = files.same ⊎ WritesJournalTo setup files path from left
-
--- A path is given, and a call at it may fail.
-abbrev pub MayFailAt : (List ℕ → Type 0) → Option (List ℕ) → Type 0
-MayFailAt may_fail None = ⊥
-MayFailAt may_fail (Some path) = may_fail path
+WritesJournalAtMost setup files (Some path) from left = files.same ⊎ WritesServed setup files path from left
 
 -- ---- how serving ends
 
--- The lines of the input were served; their journal was written, if a path is given; and then what became of them.
+-- The lines of the input were served; their journal was written behind that of no step, if a path is given; and then what became
+-- of them.
 pub record ServesLanes (setup : Setup) (files : FileClaims) (journal : Option (List ℕ))
     (from left before after : Option (List ℕ)) : Type 0 where
   pub outcome : Outcome
   pub served : LeavesOutcome setup from left outcome
-  pub kept : KeepsJournal files journal outcome.silo
+  pub kept : KeepsSecond setup files journal outcome.silo
   pub written : Appends before after (outcome_text outcome)
 
 -- The same, but the text of what became of them breaks off: a call of the writer failed.
@@ -84,32 +70,35 @@ pub record WritesOutcomeInPart (setup : Setup) (files : FileClaims) (journal : O
     (from left before after : Option (List ℕ)) (writing : WriterCalls) : Type 0 where
   pub outcome : Outcome
   pub served : LeavesOutcome setup from left outcome
-  pub kept : KeepsJournal files journal outcome.silo
+  pub kept : KeepsSecond setup files journal outcome.silo
   pub part : BreaksOff before after writing (outcome_text outcome)
 
 -- The lines of the input were served, but their journal wasn't written to the path that is given, where a call may fail, and
 -- so nothing was.
-pub record LosesJournal (setup : Setup) (may_fail : List ℕ → Type 0) (journal : Option (List ℕ))
+pub record LosesJournal (setup : Setup) (files : FileClaims) (journal : Option (List ℕ))
     (from left before after : Option (List ℕ)) : Type 0 where
-  pub fails : MayFailAt may_fail journal
+  pub fails : MayFailAgain setup files journal
   pub outcome : Outcome
   pub served : LeavesOutcome setup from left outcome
   pub kept : Keeps before after
 
 -- By what serving fails: reading only if the last call of the reader failed; too much only if there are too many lines, or
--- all calls of the reader were made; writing as above. But for a fault of writing nothing was written, and but for one of
--- writing or of memory no file was.
+-- all calls of the reader were made; writing before anything is read, if a call at the journal's path may fail, or as above. But for
+-- a fault of writing nothing was written, and but for one of writing or of memory the journal of no step is all that was written to
+-- a file.
 abbrev pub ServingFailsBy : Setup → FileClaims → Option (List ℕ) → Cause → Option (List ℕ) → Option (List ℕ) → ReaderCalls
     → Option (List ℕ) → Option (List ℕ) → WriterCalls → Type 0
 ServingFailsBy setup files journal cause.Read from left reading before after writing =
-    (reading.failed ≡ true) × Keeps before after × files.same
+    (reading.failed ≡ true) × Keeps before after × WritesFirst setup files journal
 ServingFailsBy setup files journal cause.TooMuch from left reading before after writing =
-    (HasTooMany from ⊎ (reading.made ≡ calls_limit)) × Keeps before after × files.same
+    (HasTooMany from ⊎ (reading.made ≡ calls_limit)) × Keeps before after × WritesFirst setup files journal
 ServingFailsBy setup files journal cause.Write from left reading before after writing =
-    LosesJournal setup files.may_fail journal from left before after
-    ⊎ WritesOutcomeInPart setup files journal from left before after writing
+    (MayFailAt files.may_fail journal × IsUnbegun from left before after)
+    ⊎ (LosesJournal setup files journal from left before after
+    ⊎ WritesOutcomeInPart setup files journal from left before after writing)
 ServingFailsBy setup files journal cause.Memory from left reading before after writing = Keeps before after
-ServingFailsBy setup files journal why from left reading before after writing = Keeps before after × files.same
+ServingFailsBy setup files journal why from left reading before after writing =
+    Keeps before after × WritesFirst setup files journal
 
 -- ---- its parts
 
@@ -118,9 +107,3 @@ abbrev pub service_cause : ServiceFault → Cause
 service_cause (service.Failed why) = cause_of why
 service_cause service.NoWorker = cause.NoWorker
 service_cause service.Strayed = cause.Strayed
-
--- a path is given, and memory was refused, or a call at the path may fail
-abbrev pub IsKeepingCause : (List ℕ → Type 0) → Option (List ℕ) → Cause → Type 0
-IsKeepingCause may_fail journal cause.Memory = journal ≢ None
-IsKeepingCause may_fail journal cause.Write = MayFailAt may_fail journal
-IsKeepingCause may_fail journal why = ⊥

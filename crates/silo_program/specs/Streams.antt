@@ -1,6 +1,6 @@
 -- What is known of what was told.
 use Rattle.std.specs.Prelude.{◌≡◌, ◌⊎◌, ℕ, List, Option, true}
-use Rattle.std.specs.Io.KnownBytes.{Appends}
+use Rattle.std.specs.Io.KnownBytes.{Appends, Keeps}
 use Rattle.line_protocol.specs.LineRuns.{WrittenInPart}
 use Rattle.line_protocol.specs.declared.written.WriterCalls.{WriterCalls}
 
@@ -12,3 +12,7 @@ pub record BreaksOff (before after : Option (List ℕ)) (writing : WriterCalls) 
 -- The text was written whole, or it breaks off.
 abbrev pub Tells : Option (List ℕ) → Option (List ℕ) → WriterCalls → List ℕ → Type 0
 Tells before after writing text = Appends before after text ⊎ BreaksOff before after writing text
+
+-- Nothing was read and nothing written, but perhaps to a file.
+abbrev pub IsUnbegun : Option (List ℕ) → Option (List ℕ) → Option (List ℕ) → Option (List ℕ) → Type 0
+IsUnbegun from left before after = Keeps from left × Keeps before after

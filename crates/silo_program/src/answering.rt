@@ -8,7 +8,7 @@ ghost use Rattle.line_protocol.specs.Reading.{IsFresh};
 ghost use Rattle.line_answer.specs.Runs.{AnswersAll, KeepsSetup, StopsBy};
 ghost use Rattle.line_service.specs.Serving.{setup_of};
 ghost use Rattle.silo_program.specs.Files.{claims};
-ghost use Rattle.silo_program.specs.Serving.{KeepsJournal, MayFailAt, WritesAtMost};
+ghost use Rattle.silo_program.specs.Kept.{KeepsJournal, MayFailAt, WritesAtMost};
 ghost use Rattle.silo_program.specs.Answering.{AnsweringFailsBy, AnswersLanes, EndsBy, WritesJournalsAtMost};
 
 use crate::failure::{Cause, cause_of};

@@ -23,17 +23,18 @@ use tenant_audit::{AuditFault, AuditGate, Report, audit_with, has_difference, re
 const AUDIT_WORKERS: usize = 4;
 
 /// What a fault of a file that is read is to the program.
-fn cause_of_file(fault: FileFault) -> Cause
+pub fn cause_of_file(fault: FileFault) -> Cause
     ensures { result ≡ file_cause fault }
 {
     match fault {
         FileFault::Memory => Cause::Memory,
         FileFault::Failed => Cause::Read,
+        FileFault::TooMuch => Cause::TooMuch,
     }
 }
 
 /// What is said of bytes that are no journal's, by the number of the line that is refused.
-fn refuse_line(alloc: Global, number: usize) -> ProgramFault
+pub fn refuse_line(alloc: Global, number: usize) -> ProgramFault
     ensures { IsRefusalOf number result }
 {
     match format!(in alloc; "silo: journal line {number} is refused\n") {
@@ -120,7 +121,8 @@ fn write_reports<W: Write>(
 ///
 /// # Errors
 ///
-/// `Failed` with `Read` if the file isn't read, and then `NoJournal` if it has no journal. `Failed` with
+/// `Failed` with `Read` if the file isn't read, or with `TooMuch` if its end isn't met by all calls that are made, and
+/// then `NoJournal` if it has no journal. `Failed` with
 /// `NoWorker` if a thread couldn't be started, with `Write` if a call of the writer failed, and with
 /// `Memory` if memory was refused. But for `Write` nothing was written.
 pub fn audit_file<

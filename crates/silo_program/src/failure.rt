@@ -76,15 +76,24 @@ pub fn cause_of(fault: LineFault) -> Cause
     }
 }
 
-/// Writes a text whole, and says whether that was done. If it wasn't, a call of the writer failed, and a part of the
-/// text was written: its beginning.
+/// Writes bytes whole, and says whether that was done. If it wasn't, a call of the writer failed, and a part of them was
+/// written: their beginning.
+pub fn say_bytes<W: Write>(to: &mut Output<W>, bytes: &[u8]) -> bool
+    ensures whole { result ≡ true → Appends (W.contents to.old.writer) (W.contents to.new.writer) bytes.now }
+    ensures unfailed { result ≡ true → to.new.calls.failed ≡ to.old.calls.failed }
+    ensures part { result ≡ false → BreaksOff (W.contents to.old.writer) (W.contents to.new.writer) to.new.calls bytes.now }
+{
+    let whole = to.write_whole(bytes);
+    whole.is_ok() && to.flush().is_ok()
+}
+
+/// The same of a text.
 pub fn say<W: Write>(to: &mut Output<W>, text: &str) -> bool
     ensures whole { result ≡ true → Appends (W.contents to.old.writer) (W.contents to.new.writer) text.now }
     ensures unfailed { result ≡ true → to.new.calls.failed ≡ to.old.calls.failed }
     ensures part { result ≡ false → BreaksOff (W.contents to.old.writer) (W.contents to.new.writer) to.new.calls text.now }
 {
-    let whole = to.write_whole(text.as_bytes());
-    whole.is_ok() && to.flush().is_ok()
+    say_bytes(to, text.as_bytes())
 }
 
 fn failure_line(cause: Cause) -> &'static str

@@ -3,6 +3,7 @@
 ghost use Rattle.std.specs.Prelude.{◌≡◌, ◌≢◌, ◌↔◌, ◌⊎◌, ⊤, ℕ, List, IfOk, IfErr, OnOk, OnErr, IsErrOf, string_bytes};
 
 use std::alloc::Global;
+use std::io::{self, ErrorKind};
 use thiserror::Error;
 
 /// Why a file was not read or not written.
@@ -12,6 +13,19 @@ pub enum FileFault {
     Memory,
     #[error("a call at the path failed")]
     Failed,
+    /// Its end was not met by all calls of a reader that are made.
+    #[error("the file takes too many calls")]
+    TooMuch,
+}
+
+/// The fault of an error of the host.
+pub fn fault_of(error: io::Error) -> FileFault
+    ensures { result ≢ FileFault.TooMuch }
+{
+    match error.kind() {
+        ErrorKind::OutOfMemory => FileFault::Memory,
+        _ => FileFault::Failed,
+    }
 }
 
 /// What reads a path whole and writes a path whole.
@@ -19,7 +33,7 @@ pub trait WholeFiles {
     // The file at a path may have these bytes. What claims nothing leaves it out.
     ghost may_hold: { Self → List ℕ → List ℕ → Type 0 } = { λ _ _ _. ⊤ };
 
-    // A call at a path may fail. What claims nothing leaves it out.
+    // A call at a path may fail, or the end of the file not be met. What claims nothing leaves it out.
     ghost may_fail: { Self → List ℕ → Type 0 } = { λ _ _. ⊤ };
 
     // What one write of bytes to a path may leave, whether it fails or not. What claims nothing leaves it out.
@@ -27,12 +41,12 @@ pub trait WholeFiles {
 
     fn read_whole(&self, alloc: Global, path: &str) -> Result<Vec<u8>, FileFault>
         ensures held { IfOk result (λ bytes. may_hold self.now path.now bytes.items) }
-        ensures fault { IfErr result (λ why. why ≡ FileFault.Failed → may_fail self.now path.now) };
+        ensures fault { IfErr result (λ why. why ≢ FileFault.Memory → may_fail self.now path.now) };
 
     fn write_whole(&mut self, alloc: Global, path: &str, bytes: &[u8]) -> Result<(), FileFault>
         ensures held { OnOk result (may_hold self.new path.now bytes.now) }
         ensures left { may_leave self.old path.now bytes.now self.new }
-        ensures fault { IfErr result (λ why. why ≡ FileFault.Failed → may_fail self.old path.now) };
+        ensures fault { IfErr result (λ why. why ≢ FileFault.Memory → may_fail self.old path.now) };
 }
 
 /// One file in memory, of which the clauses of `WholeFiles` say most; the program has the host's. Every other path

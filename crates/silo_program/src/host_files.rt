@@ -1,6 +1,7 @@
 //! The files of the host.
 
-use crate::files::{FileFault, WholeFiles};
+use crate::counted_reader::{CountedReader, read_to_end};
+use crate::files::{FileFault, WholeFiles, fault_of};
 use std::alloc::Global;
 use std::fs::{File, OpenFile};
 use std::io::{ErrorKind, Write};
@@ -45,14 +46,6 @@ fn replace(files: &impl Files, path: &str, beside: &str, bytes: &[u8]) -> io::Re
     placed
 }
 
-/// The fault of an error of the host.
-fn fault_of(error: io::Error) -> FileFault {
-    match error.kind() {
-        ErrorKind::OutOfMemory => FileFault::Memory,
-        _ => FileFault::Failed,
-    }
-}
-
 /// The name of a new file beside the path.
 fn name_beside(alloc: Global, path: &str) -> Result<String, FileFault> {
     let mut name = String::new(alloc);
@@ -63,8 +56,11 @@ fn name_beside(alloc: Global, path: &str) -> Result<String, FileFault> {
 }
 
 impl<R: Files + AllocGlobal> WholeFiles for HostFiles<'_, R> {
-    fn read_whole(&self, _alloc: Global, path: &str) -> Result<Vec<u8>, FileFault> {
-        fs::read(self.rt, path).map_err(fault_of)
+    fn read_whole(&self, alloc: Global, path: &str) -> Result<Vec<u8>, FileFault> {
+        match File::open(self.rt, path) {
+            Ok(file) => read_to_end(alloc, &mut CountedReader::new(file)),
+            Err(error) => Err(fault_of(error)),
+        }
     }
 
     fn write_whole(&mut self, alloc: Global, path: &str, bytes: &[u8]) -> Result<(), FileFault> {

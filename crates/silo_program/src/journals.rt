@@ -3,7 +3,7 @@
 ghost use Rattle.std.specs.Prelude.{◌≡◌, [], IfErr, OnOk, option_map};
 ghost use Rattle.std.specs.FinMap.{entries};
 ghost use Rattle.silo_program.specs.Files.{claims};
-ghost use Rattle.silo_program.specs.Serving.{IsKeepingCause, KeepsJournal, WritesAtMost};
+ghost use Rattle.silo_program.specs.Kept.{IsKeepingCause, KeepsJournal, WritesAtMost};
 
 use crate::failure::Cause;
 use crate::files::{FileFault, WholeFiles};
@@ -36,6 +36,6 @@ pub fn keep_journal<F: WholeFiles>(
     match files.write_whole(alloc, path, text.as_slice()) {
         Ok(()) => Ok(()),
         Err(FileFault::Memory) => Err(Cause::Memory),
-        Err(FileFault::Failed) => Err(Cause::Write),
+        Err(FileFault::Failed | FileFault::TooMuch) => Err(Cause::Write),
     }
 }

@@ -18,6 +18,7 @@ use crate::answering::answer_input;
 use crate::auditing::audit_file;
 use crate::failure::{Cause, End, ProgramFault, cause_of, say, status_of_end, tell};
 use crate::files::WholeFiles;
+use crate::migrating::migrate_file;
 use crate::serving::serve_lines;
 use crate::stepping::answer_steps;
 use idle_collector::AgeTable;
@@ -324,6 +325,7 @@ pub fn answer<
             turns,
         ),
         Task::Audit { path } => audit_file(rt, path, &*files, output, audits),
+        Task::Migrate { path } => migrate_file(alloc, path, &*files, output),
     }
 }
 
@@ -354,8 +356,8 @@ pub fn run_program<
     ensures differs { result ≡ 3 → EndsAs End.Differs (texts_of words.now) (claims F.may_hold F.may_fail F.may_leave files.old files.new)
         (R.remaining input.old.reader) (R.remaining input.new.reader) (W.contents output.old.writer) (W.contents output.new.writer) }
 
-    // In every outcome no file was written, or the journal of what was served was: once, and to the path that was asked for.
-    // Of lines that are answered at once it is that of no step, and then perhaps that of what was answered.
+    // In every outcome no file was written, or to the path that was asked for the journal of no step was, and then perhaps that
+    // of what was served or answered.
     ensures journal { LeavesFiles (texts_of words.now) (claims F.may_hold F.may_fail F.may_leave files.old files.new)
         (R.remaining input.old.reader) (R.remaining input.new.reader) }
     ensures files { ((path : Text) → ¬ AskForJournal (texts_of words.now) path) → files.new ≡ files.old }
@@ -378,7 +380,7 @@ pub fn run_program<
     ensures unwritten { result ≡ 2 → Keeps (W.contents output.old.writer) (W.contents output.new.writer) }
     ensures untouched { result ≡ 2 → files.new ≡ files.old }
 
-    // An audit was asked for, the file has no journal, and what was told says which line is refused.
+    // An audit was asked for, or a journal to be migrated, the file has no journal, and what was told says which line is refused.
     ensures no_journal { result ≡ 4 → (text : Text)
         × RefusesJournal (texts_of words.now) (claims F.may_hold F.may_fail F.may_leave files.old files.new) text
         (R.remaining input.old.reader) (R.remaining input.new.reader) (W.contents output.old.writer) (W.contents output.new.writer)

@@ -10,6 +10,7 @@ ghost use Rattle.silo_program.specs.Serving.{ServesLanes, ServingFailsBy, Writes
 
 use crate::failure::{Cause, cause_of};
 use crate::files::WholeFiles;
+use crate::first_journal::keep_first;
 use crate::journals::keep_journal;
 use grain_kinds::RestingKinds;
 use idle_collector::AgeTable;
@@ -54,15 +55,16 @@ fn serve_reader<H: AllocGlobal + Threads + Wait + Sync, R: Read, G: TurnGate + S
     serve_input(rt, workers, tenants, age, ages, RestingKinds, input, gate)
 }
 
-/// Reads all lines of the input and serves them by so many threads, 1 to 64, over no rows; writes the
-/// journal to the file at the path, if one is given; and then writes what the lines are answered.
+/// Writes the journal of no step to the file at the path, if one is given; reads all lines of the input and serves them by
+/// so many threads, 1 to 64, over no rows; writes their journal to that file; and then writes what the lines are answered.
 ///
 /// # Errors
 ///
-/// In this order: `Read` if the last call of the reader failed, or `TooMuch` of the input; `NoWorker` if no thread could
-/// be started, and `Strayed` if the threads left what serving doesn't leave; `Write` if the journal wasn't written, or if
-/// a call of the writer failed. `Memory` if memory was refused. But for the last `Write` nothing was written. To the
-/// file at the path nothing is written before all lines were served, and then the journal once and nothing after it.
+/// In this order: `Write` if the first journal wasn't written, and then nothing is read; `Read` if the last call of the
+/// reader failed, or `TooMuch` of the input; `NoWorker` if no thread could be started, and `Strayed` if the threads left
+/// what serving doesn't leave; `Write` if the second journal wasn't written, or if a call of the writer failed. `Memory` if
+/// memory was refused. But for the last `Write` nothing was written but to the file at the path, and to this nothing but
+/// the two journals.
 pub fn serve_lines<
     H: AllocGlobal + Threads + Wait + Sync,
     F: WholeFiles,
@@ -98,6 +100,12 @@ pub fn serve_lines<
         (R.remaining input.old.reader) (R.remaining input.new.reader) }
 {
     let alloc = rt.alloc();
+    let first = keep_first(alloc, files, journal, &tenants, age, &ages);
+    if let Err(why) = first {
+        drop(tenants);
+        drop(ages);
+        return Err(why);
+    }
     let served = match serve_reader(rt, workers, tenants, age, ages, input, gate) {
         Ok(served) => served,
         Err(fault) => return Err(cause_of_service(fault)),

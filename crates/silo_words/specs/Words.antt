@@ -11,7 +11,8 @@ use Rattle.clap.specs.declared.builder.action.ArgAction.TheVariants.{Append}
 use Rattle.clap.specs.declared.builder.value_parser.ValueParser.TheVariants.{Unsigned}
 use Rattle.clap.specs.declared.error.kind.ErrorKind.{ErrorKind}
 use Rattle.clap.specs.declared.error.kind.ErrorKind.TheVariants.{DisplayHelp, DisplayVersion, OutOfMemory}
-use Rattle.silo_words.specs.declared.fault.TheConstants.{ANSWER_EXAMPLE, AUDIT_EXAMPLE, SERVE_EXAMPLE, SILO_EXAMPLE, STEPS_EXAMPLE}
+use Rattle.silo_words.specs.declared.fault.TheConstants.{ANSWER_EXAMPLE, AUDIT_EXAMPLE, MIGRATE_EXAMPLE, SERVE_EXAMPLE, SILO_EXAMPLE}
+use Rattle.silo_words.specs.declared.fault.TheConstants.{STEPS_EXAMPLE}
 use Rattle.silo_words.specs.declared.fault.WordsFault.{WordsFault}
 use Rattle.silo_words.specs.declared.fault.WordsFault.TheVariants as fault
 use Rattle.silo_words.specs.declared.task.Task.{Task}
@@ -70,11 +71,15 @@ serve_app = with_rule (with_rule (with_rule (with_rule (with_rule (new_app (code
 abbrev pub audit_app : App
 audit_app = with_rule (new_app (codes "audit")) path_rule
 
--- `silo`, which has a version and wants one of the four
+-- `migrate`, with a path
+abbrev pub migrate_app : App
+migrate_app = with_rule (new_app (codes "migrate")) path_rule
+
+-- `silo`, which has a version and wants one of the five
 abbrev pub silo_shape : Shape
 silo_shape = record (new_app (codes "silo")).top { has_version = true; subcommand_required = true }
 
--- `silo` with the first, with the first two, with the first three, and with all
+-- `silo` with the first, with the first two, three and four, and with all
 abbrev pub stepping_app : App
 stepping_app = with_subcommand (record (new_app (codes "silo")) { top = silo_shape }) steps_app.top
 
@@ -84,8 +89,11 @@ answering_app = with_subcommand stepping_app answer_app.top
 abbrev pub serving_app : App
 serving_app = with_subcommand answering_app serve_app.top
 
+abbrev pub auditing_app : App
+auditing_app = with_subcommand serving_app audit_app.top
+
 abbrev pub silo_app : App
-silo_app = with_subcommand serving_app audit_app.top
+silo_app = with_subcommand auditing_app migrate_app.top
 
 -- ---- the words
 
@@ -187,6 +195,11 @@ pub record FindAudit (name : Text) (rows : List Row) (path : Text) : Type 0 wher
   pub command : name ≡ codes "audit"
   pub given : Some path ≡ first_of (codes "path") rows
 
+-- `migrate`, with the path that was found
+pub record FindMigration (name : Text) (rows : List Row) (path : Text) : Type 0 where
+  pub command : name ≡ codes "migrate"
+  pub given : Some path ≡ first_of (codes "path") rows
+
 -- ---- what the words ask for
 
 -- what clap finds in the words: the subcommand's name and rows
@@ -228,6 +241,14 @@ pub record AskForAudit (words : List Text) (path : Text) : Type 0 where
   pub is : found_in words ≡ Some (name, rows)
   pub found : FindAudit name rows path
 
+-- The words ask to migrate the journal at the path.
+pub record AskForMigration (words : List Text) (path : Text) : Type 0 where
+  pub taken : AreTaken words
+  pub name : Text
+  pub rows : List Row
+  pub is : found_in words ≡ Some (name, rows)
+  pub found : FindMigration name rows path
+
 -- what was found makes no task
 pub record MakesNoTask (name : Text) (rows : List Row) : Type 0 where
   pub steps : (age : ℕ) (ages : Option Text) (tenants : List Text) → ¬ FindSteps name rows age ages tenants
@@ -236,6 +257,7 @@ pub record MakesNoTask (name : Text) (rows : List Row) : Type 0 where
   pub serving : (workers age : ℕ) (ages journal : Option Text) (tenants : List Text)
       → ¬ FindServing name rows workers age ages journal tenants
   pub audit : (path : Text) → ¬ FindAudit name rows path
+  pub migration : (path : Text) → ¬ FindMigration name rows path
 
 -- What was found in the words makes no task: a number is out of its range, or something that a task wants is not there.
 pub record IsOutOfRange (words : List Text) : Type 0 where
@@ -259,6 +281,7 @@ IsTaskOf name rows (task.Answer age ages sends journal tenants) = FindAnswering 
 IsTaskOf name rows (task.Serve workers age ages journal tenants) = FindServing name rows workers age (option_map (λ text. text.now) ages)
     (option_map (λ path. path.now) journal) (map (λ t. t.now) tenants.items)
 IsTaskOf name rows (task.Audit path) = FindAudit name rows path.now
+IsTaskOf name rows (task.Migrate path) = FindMigration name rows path.now
 
 -- why what was found is no task
 abbrev pub IsNoTaskFor : Text → List Row → WordsFault → Type 0
@@ -276,6 +299,7 @@ AskFor words (task.Answer age ages sends journal tenants) = AskForAnswering word
 AskFor words (task.Serve workers age ages journal tenants) = AskForServing words workers age (option_map (λ text. text.now) ages)
     (option_map (λ path. path.now) journal) (map (λ t. t.now) tenants.items)
 AskFor words (task.Audit path) = AskForAudit words path.now
+AskFor words (task.Migrate path) = AskForMigration words path.now
 
 -- the word of that number, the program's name being the first, or nothing
 abbrev pub word_at : ℕ → List Text → Text
@@ -290,7 +314,8 @@ abbrev pub example_of : Text → Text
 example_of name = if same_text name (codes "steps") then STEPS_EXAMPLE.now
     else (if same_text name (codes "answer") then ANSWER_EXAMPLE.now
     else (if same_text name (codes "serve") then SERVE_EXAMPLE.now
-    else (if same_text name (codes "audit") then AUDIT_EXAMPLE.now else SILO_EXAMPLE.now)))
+    else (if same_text name (codes "audit") then AUDIT_EXAMPLE.now
+    else (if same_text name (codes "migrate") then MIGRATE_EXAMPLE.now else SILO_EXAMPLE.now))))
 
 -- the text ends with the example of the command that the words name, or of none
 abbrev pub EndsWithExample : List Text → Text → Type 0
@@ -332,10 +357,12 @@ pub record TellsWordsApart : Type 0 where
       ∷ codes "--ages" ∷ codes "sheet=9" ∷ codes "--journal" ∷ codes "day" ∷ codes "red:2:4" ∷ [])) 8 5 (Some (codes "sheet=9"))
       (Some (codes "day")) (codes "red:2:4" ∷ [])
   pub audit : AskForAudit (after_silo (codes "audit" ∷ codes "day" ∷ [])) (codes "day")
+  pub migration : AskForMigration (after_silo (codes "migrate" ∷ codes "day" ∷ [])) (codes "day")
   pub help : AskForHelp (after_silo (codes "--help" ∷ []))
   pub help_of_steps : AskForHelp (after_silo (codes "steps" ∷ codes "-h" ∷ []))
   pub help_of_answer : AskForHelp (after_silo (codes "answer" ∷ codes "-h" ∷ []))
   pub help_of_serve : AskForHelp (after_silo (codes "serve" ∷ codes "-h" ∷ []))
+  pub help_of_migrate : AskForHelp (after_silo (codes "migrate" ∷ codes "-h" ∷ []))
   pub version : AskForVersion (after_silo (codes "--version" ∷ []))
   pub nothing : AreRefused (after_silo [])
   pub no_age : AreRefused (after_silo (codes "steps" ∷ codes "--age" ∷ codes "0" ∷ codes "red:2:4" ∷ []))
@@ -350,3 +377,4 @@ pub record TellsWordsApart : Type 0 where
   pub no_tenant_to_answer : AreRefused (after_silo (codes "answer" ∷ []))
   pub no_tenant_to_serve : AreRefused (after_silo (codes "serve" ∷ []))
   pub no_path : AreRefused (after_silo (codes "audit" ∷ []))
+  pub no_path_to_migrate : AreRefused (after_silo (codes "migrate" ∷ []))

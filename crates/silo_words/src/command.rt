@@ -3,8 +3,9 @@
 ghost use Rattle.std.specs.Prelude.{◌≡◌, IfOk, false, true};
 ghost use Rattle.clap.specs.Words.{app_of, rule_of, with_rule};
 ghost use Rattle.clap.specs.declared.builder.command.Command.TheViews.{out-Command as fields_of};
-ghost use Rattle.silo_words.specs.Words.{age_rule, ages_rule, answer_app, answering_app, audit_app, journal_rule, path_rule, sends_rule};
-ghost use Rattle.silo_words.specs.Words.{serve_app, serving_app, silo_app, stepping_app, steps_app, tenants_rule, workers_rule};
+ghost use Rattle.silo_words.specs.Words.{age_rule, ages_rule, answer_app, answering_app, audit_app, auditing_app, journal_rule};
+ghost use Rattle.silo_words.specs.Words.{migrate_app, path_rule, sends_rule, serve_app, serving_app, silo_app, stepping_app, steps_app};
+ghost use Rattle.silo_words.specs.Words.{tenants_rule, workers_rule};
 
 use clap::{Arg, ArgAction, Command, value_parser};
 use std::alloc::{AllocError, Global};
@@ -142,6 +143,15 @@ fn audit_command<'a>(alloc: Global) -> Result<Command<'a>, AllocError>
         .arg(path_argument(alloc))
 }
 
+fn migrate_command<'a>(alloc: Global) -> Result<Command<'a>, AllocError>
+    ensures app { IfOk result (λ c. app_of c ≡ migrate_app) }
+    ensures local { IfOk result (λ c. (fields_of c).has_globals ≡ false) }
+{
+    Command::new(alloc, "migrate")
+        .about("Writes the journal of a file in the form of today, on standard output")
+        .arg(path_argument(alloc))
+}
+
 /// The command line with `steps` alone.
 fn stepping_command<'a>(alloc: Global) -> Result<Command<'a>, AllocError>
     ensures app { IfOk result (λ c. app_of c ≡ stepping_app) }
@@ -174,11 +184,20 @@ fn serving_command<'a>(alloc: Global) -> Result<Command<'a>, AllocError>
     answering_command(alloc)?.subcommand(serve_command(alloc)?)
 }
 
+/// The command line with `steps`, `answer`, `serve` and `audit`.
+fn auditing_command<'a>(alloc: Global) -> Result<Command<'a>, AllocError>
+    ensures app { IfOk result (λ c. app_of c ≡ auditing_app) }
+    ensures local { IfOk result (λ c. (fields_of c).has_globals ≡ false) }
+    ensures wanted { IfOk result (λ c. (fields_of c).subcommand_required ≡ true) }
+{
+    serving_command(alloc)?.subcommand(audit_command(alloc)?)
+}
+
 /// The whole command line.
 pub fn silo_command<'a>(alloc: Global) -> Result<Command<'a>, AllocError>
     ensures app { IfOk result (λ c. app_of c ≡ silo_app) }
     ensures local { IfOk result (λ c. (fields_of c).has_globals ≡ false) }
     ensures wanted { IfOk result (λ c. (fields_of c).subcommand_required ≡ true) }
 {
-    serving_command(alloc)?.subcommand(audit_command(alloc)?)
+    auditing_command(alloc)?.subcommand(migrate_command(alloc)?)
 }

@@ -59,6 +59,15 @@ pub const AUDIT_EXAMPLE: &str = concat!(
     " |\n  silo answer --journal day red:2:4 && silo audit day\n"
 );
 
+/// What stands at the end of help on `migrate`.
+pub const MIGRATE_EXAMPLE: &str = concat!(
+    "\nExit status: 0 if it was written; 1 if the file, the output or memory failed; 2 if the\n",
+    "words are refused; 4 if the file has no journal.\n",
+    "\nExample: a counter is asked to add 3, and the journal of that is migrated.\n",
+    r#"  echo '{"op":"call","from":"red/c1","id":1,"grain":"counter/red:a","method":"add","args":{"by":3}}'"#,
+    " |\n  silo answer --journal day red:2:4 && silo migrate day\n"
+);
+
 /// Why the words ask for nothing.
 #[derive(Debug, Drop, Error)]
 pub enum WordsFault {
@@ -117,6 +126,9 @@ fn example_of(name: &str) -> &'static str
     }
     if is_same(name, "audit") {
         return AUDIT_EXAMPLE;
+    }
+    if is_same(name, "migrate") {
+        return MIGRATE_EXAMPLE;
     }
     SILO_EXAMPLE
 }

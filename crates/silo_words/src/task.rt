@@ -58,6 +58,11 @@ pub enum Task<'a> {
     Audit {
         path: &'a str,
     },
+
+    /// Write the journal at the path in the form in which journals are written.
+    Migrate {
+        path: &'a str,
+    },
 }
 
 /// The number of an option, if what was found is one within its range, and the usual one if nothing was.
@@ -219,6 +224,16 @@ fn audit_task<'a>(alloc: Global, found: &ArgMatches<'a>) -> Result<Task<'a>, Wor
     }
 }
 
+fn migrate_task<'a>(alloc: Global, found: &ArgMatches<'a>) -> Result<Task<'a>, WordsFault>
+    ensures task { IfOk result (λ task. IsTaskOf (codes "migrate") (rows_of (found_of found.now)) task) }
+    ensures fault { IfErr result (λ fault. IsNoTaskFor (codes "migrate") (rows_of (found_of found.now)) fault) }
+{
+    let Some(path) = text_of(found, "path") else {
+        return Err(no_task(alloc));
+    };
+    Ok(Task::Migrate { path })
+}
+
 /// The task of a subcommand, by its name and what was found of it.
 pub fn task_of<'a>(
     alloc: Global,
@@ -233,6 +248,7 @@ pub fn task_of<'a>(
         "answer" => answer_task(alloc, found),
         "serve" => serve_task(alloc, found),
         "audit" => audit_task(alloc, found),
+        "migrate" => migrate_task(alloc, found),
         _ => Err(no_task(alloc)),
     }
 }

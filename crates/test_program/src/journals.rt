@@ -1,4 +1,4 @@
-//! The journal that is kept and audited: statuses, texts, and what stands in the file.
+//! The journal that is kept, audited and migrated: statuses, texts, and what stands in the file.
 
 use silo_program::{Input, MemoryFile, Output, run_program};
 use std::alloc::Global;
@@ -22,29 +22,37 @@ const RESTS: &str = "{\"from\":\"red/c1\",\"id\":1,\"ok\":null}\n";
 
 /// The journal of the call to add.
 const JOURNAL: &str =
-    "silo-journal 2\nkinds 2\nage 900000\ntenant red 2 4\ncall red/c1 1 counter/red:a 01000000036164640600000001000000026279030000000000000003\nactivate counter/red:a\nload counter/red:a ok\nbegin counter/red:a\nend counter/red:a 1\nreply red/c1 1 ok 030000000000000003\nclose 5\n";
+    "silo-journal 3\nkinds 2\nage 900000\ntenant red 2 4\ncall red/c1 1 counter/red:a 02000000036164640600000001000000026279030000000000000003\nactivate counter/red:a\nload counter/red:a ok\nbegin counter/red:a\nend counter/red:a 1\nreply red/c1 1 ok 030000000000000003\nclose 5\n";
 
 /// The same with another digit at the end of the reply.
 const CHANGED: &str =
-    "silo-journal 2\nkinds 2\nage 900000\ntenant red 2 4\ncall red/c1 1 counter/red:a 01000000036164640600000001000000026279030000000000000003\nactivate counter/red:a\nload counter/red:a ok\nbegin counter/red:a\nend counter/red:a 1\nreply red/c1 1 ok 030000000000000004\nclose 5\n";
+    "silo-journal 3\nkinds 2\nage 900000\ntenant red 2 4\ncall red/c1 1 counter/red:a 02000000036164640600000001000000026279030000000000000003\nactivate counter/red:a\nload counter/red:a ok\nbegin counter/red:a\nend counter/red:a 1\nreply red/c1 1 ok 030000000000000004\nclose 5\n";
 
 /// The same without its last line.
 const CUT: &str =
-    "silo-journal 2\nkinds 2\nage 900000\ntenant red 2 4\ncall red/c1 1 counter/red:a 01000000036164640600000001000000026279030000000000000003\nactivate counter/red:a\nload counter/red:a ok\nbegin counter/red:a\nend counter/red:a 1\nreply red/c1 1 ok 030000000000000003\n";
+    "silo-journal 3\nkinds 2\nage 900000\ntenant red 2 4\ncall red/c1 1 counter/red:a 02000000036164640600000001000000026279030000000000000003\nactivate counter/red:a\nload counter/red:a ok\nbegin counter/red:a\nend counter/red:a 1\nreply red/c1 1 ok 030000000000000003\n";
 
 /// The journal of the call to add, in the first form.
 const OLD: &str =
     "silo-journal 1\nage 900000\ntenant red 2 4\ncall red/c1 1 counter/red:a 01000000036164640600000001000000026279030000000000000003\nactivate counter/red:a\nload counter/red:a ok\nbegin counter/red:a\nend counter/red:a 1\nreply red/c1 1 ok 030000000000000003\nclose 5\n";
 
+/// The same, migrated.
+const MIGRATED: &str =
+    "silo-journal 3\nkinds 1\nage 900000\ntenant red 2 4\ncall red/c1 1 counter/red:a 02000000036164640600000001000000026279030000000000000003\nactivate counter/red:a\nload counter/red:a ok\nbegin counter/red:a\nend counter/red:a 1\nreply red/c1 1 ok 030000000000000003\nclose 5\n";
+
+/// The journal of the call to add, in the second form.
+const SECOND: &str =
+    "silo-journal 2\nkinds 2\nage 900000\ntenant red 2 4\ncall red/c1 1 counter/red:a 01000000036164640600000001000000026279030000000000000003\nactivate counter/red:a\nload counter/red:a ok\nbegin counter/red:a\nend counter/red:a 1\nreply red/c1 1 ok 030000000000000003\nclose 5\n";
+
 /// The journal of no call.
-const EMPTY: &str = "silo-journal 2\nkinds 2\nage 900000\ntenant red 2 4\nclose 0\n";
+const EMPTY: &str = "silo-journal 3\nkinds 2\nage 900000\ntenant red 2 4\nclose 0\n";
 
 /// The same where a kind has an age of its own.
-const AGED: &str = "silo-journal 2\nkinds 2\nage 900000\nkind sheet 9\ntenant red 2 4\nclose 0\n";
+const AGED: &str = "silo-journal 3\nkinds 2\nage 900000\nkind sheet 9\ntenant red 2 4\nclose 0\n";
 
 /// The journal of a counter that is asked to rest, and that goes then.
 const RESTED: &str =
-    "silo-journal 2\nkinds 2\nage 900000\ntenant red 2 4\ncall red/c1 1 counter/red:a 01000000047265737400\nactivate counter/red:a\nload counter/red:a ok\nbegin counter/red:a\nend counter/red:a 1\nreply red/c1 1 ok 00\nclose 5\n";
+    "silo-journal 3\nkinds 2\nage 900000\ntenant red 2 4\ncall red/c1 1 counter/red:a 02000000047265737400\nactivate counter/red:a\nload counter/red:a ok\nbegin counter/red:a\nend counter/red:a 1\nreply red/c1 1 ok 00\nclose 5\n";
 
 /// A run of the program: its words, with the program's name first; the input; and what the file at `j` has before it.
 /// Then its status, and what the file, the output and the errors have after it.
@@ -58,7 +66,7 @@ type Run = (
     &'static str,
 );
 
-static RUNS: [Run; 21] = [
+static RUNS: [Run; 28] = [
     (
         &[
             "silo",
@@ -288,6 +296,61 @@ static RUNS: [Run; 21] = [
         "",
         "silo: reading failed\n",
     ),
+    (
+        &["silo", "audit", "j"],
+        "",
+        SECOND,
+        0,
+        SECOND,
+        "tenant red: 5 steps, 1 replies, 0 rows\n",
+        "",
+    ),
+    (&["silo", "migrate", "j"], "", OLD, 0, OLD, MIGRATED, ""),
+    (
+        &["silo", "migrate", "j"],
+        "",
+        SECOND,
+        0,
+        SECOND,
+        JOURNAL,
+        "",
+    ),
+    (
+        &["silo", "migrate", "j"],
+        "",
+        JOURNAL,
+        0,
+        JOURNAL,
+        JOURNAL,
+        "",
+    ),
+    (
+        &["silo", "migrate", "j"],
+        "",
+        CHANGED,
+        0,
+        CHANGED,
+        CHANGED,
+        "",
+    ),
+    (
+        &["silo", "migrate", "j"],
+        "",
+        CUT,
+        4,
+        CUT,
+        "",
+        "silo: journal line 11 is refused\n",
+    ),
+    (
+        &["silo", "migrate", "k"],
+        "",
+        JOURNAL,
+        1,
+        JOURNAL,
+        "",
+        "silo: reading failed\n",
+    ),
 ];
 
 /// What a run leaves: its status, and what stands in the file, the output and the errors.
@@ -349,7 +412,7 @@ fn leaves<H: AllocGlobal + Threads + Wait + Sync>(rt: &H, run: &Run) -> Result<b
 }
 
 #[test]
-fn a_journal_is_kept_and_audited(rt: HostRuntime) -> Result<(), Fail> {
+fn a_journal_is_kept_audited_and_migrated(rt: HostRuntime) -> Result<(), Fail> {
     for run in &RUNS {
         assert!(rt; leaves(&rt, run)?);
     }

@@ -8,4 +8,6 @@ mod asked;
 #[cfg(test)]
 mod at_once;
 #[cfg(test)]
+mod endless;
+#[cfg(test)]
 mod journals;

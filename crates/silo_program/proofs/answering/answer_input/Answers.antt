@@ -2,7 +2,8 @@ use Rattle.std.proofs.Common.{◌∙◌, ap}
 use Rattle.std.specs.FinMap.{entries}
 use Rattle.silo_core.specs.History.{History}
 use Rattle.line_service.specs.Serving.{setup_of}
-use Rattle.silo_program.proofs.AnsweringLemmas.{both_written, ended_so, kept_unless, led_to_end, no_rows, not_kept_so, opens, rows_kept, stopped_files, to_end, up_to, written_after}
+use Rattle.silo_program.proofs.KeptLemmas.{kept_unless}
+use Rattle.silo_program.proofs.AnsweringLemmas.{both_written, ended_so, led_to_end, no_rows, not_kept_so, opens, rows_kept, stopped_files, to_end, up_to, written_after}
 use Rattle.silo_program.proofs.answering.answer_input.Goals as goal
 
 pub keep_journal-first-requires : goal.keep_journal-first-requires

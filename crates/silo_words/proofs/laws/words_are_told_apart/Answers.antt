@@ -221,6 +221,23 @@ audit_path : first_of (codes "path") (rows_in audit_words) ≡ Some (codes "day"
 unfolding clap_on_literals
 audit_path = refl
 
+-- ---- to migrate
+
+abbrev migrate_words : List Text
+migrate_words = after_silo (codes "migrate" ∷ codes "day" ∷ [])
+
+migrate_taken : fault_of silo_app migrate_words ≡ []
+unfolding clap_on_literals
+migrate_taken = refl
+
+migrate_is : found_in migrate_words ≡ Some (codes "migrate", rows_in migrate_words)
+unfolding clap_on_literals
+migrate_is = refl
+
+migrate_path : first_of (codes "path") (rows_in migrate_words) ≡ Some (codes "day")
+unfolding clap_on_literals
+migrate_path = refl
+
 -- ---- no task
 
 help_asked : fault_of silo_app (after_silo (codes "--help" ∷ [])) ≡ DisplayHelp ∷ []
@@ -238,6 +255,10 @@ help_of_answer_asked = refl
 help_of_serve_asked : fault_of silo_app (after_silo (codes "serve" ∷ codes "-h" ∷ [])) ≡ DisplayHelp ∷ []
 unfolding clap_on_literals
 help_of_serve_asked = refl
+
+help_of_migrate_asked : fault_of silo_app (after_silo (codes "migrate" ∷ codes "-h" ∷ [])) ≡ DisplayHelp ∷ []
+unfolding clap_on_literals
+help_of_migrate_asked = refl
 
 version_asked : fault_of silo_app (after_silo (codes "--version" ∷ [])) ≡ DisplayVersion ∷ []
 unfolding clap_on_literals
@@ -282,6 +303,10 @@ none_to_serve = refl
 no_path_given : fault_of silo_app (after_silo (codes "audit" ∷ [])) ≡ MissingRequiredArgument ∷ []
 unfolding clap_on_literals
 no_path_given = refl
+
+none_to_migrate : fault_of silo_app (after_silo (codes "migrate" ∷ [])) ≡ MissingRequiredArgument ∷ []
+unfolding clap_on_literals
+none_to_migrate = refl
 
 -- ---- a number that is not plain
 
@@ -329,6 +354,7 @@ not_plain rows text written never = record {
   answering = λ age ages sends journal tenants (found : FindAnswering (codes "answer") rows age ages sends journal tenants). never (subst IsPlain written found.behind.1);
   serving = λ workers age ages journal tenants found. absurd (cc (found.command));
   audit = λ path found. absurd (cc (found.command));
+  migration = λ path found. absurd (cc (found.command));
 }
 
 only : (kind : ErrorKind) (kinds : List ErrorKind) → kinds ≡ kind ∷ [] → IsAmong kind kinds
@@ -423,10 +449,18 @@ returns c = record {
     is = audit_is;
     found = record { command = refl; given = sym audit_path };
   };
+  migration = record {
+    taken = migrate_taken;
+    name = codes "migrate";
+    rows = rows_in migrate_words;
+    is = migrate_is;
+    found = record { command = refl; given = sym migrate_path };
+  };
   help = only DisplayHelp _ help_asked;
   help_of_steps = only DisplayHelp _ help_of_steps_asked;
   help_of_answer = only DisplayHelp _ help_of_answer_asked;
   help_of_serve = only DisplayHelp _ help_of_serve_asked;
+  help_of_migrate = only DisplayHelp _ help_of_migrate_asked;
   version = only DisplayVersion _ version_asked;
   nothing = (MissingSubcommand, (λ e. absurd cc), (λ e. absurd cc), only MissingSubcommand _ nothing_given);
   no_age = (ValueValidation, (λ e. absurd cc), (λ e. absurd cc), only ValueValidation _ age_of_0);
@@ -440,4 +474,5 @@ returns c = record {
   no_tenant_to_answer = (MissingRequiredArgument, (λ e. absurd cc), (λ e. absurd cc), only MissingRequiredArgument _ none_to_answer);
   no_tenant_to_serve = (MissingRequiredArgument, (λ e. absurd cc), (λ e. absurd cc), only MissingRequiredArgument _ none_to_serve);
   no_path = (MissingRequiredArgument, (λ e. absurd cc), (λ e. absurd cc), only MissingRequiredArgument _ no_path_given);
+  no_path_to_migrate = (MissingRequiredArgument, (λ e. absurd cc), (λ e. absurd cc), only MissingRequiredArgument _ none_to_migrate);
 }
