@@ -1,5 +1,6 @@
 -- Values and JSON. An object whose only name is `$hex` stands for bytes.
-use Rattle.std.specs.Prelude.{◌≡◌, ℕ, suc, max, Bool, false, ◌||◌, is_none, if◌then◌else◌, List, bytes_eq, codes, Option, Some, None, option_map, option_and_then}
+use Rattle.std.specs.Prelude.{◌≡◌, ℕ, suc, max, Bool, false, ◌||◌, is_none, if◌then◌else◌, List, bytes_eq, codes}
+use Rattle.std.specs.Prelude.{Option, Some, None, option_map, option_and_then}
 use Rattle.serde_json.specs.Data as json
 use Rattle.serde_json.specs.Find.{of_integer, as_i64}
 use Rattle.request_codec.specs.Tree as tree
