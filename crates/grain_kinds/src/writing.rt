@@ -39,7 +39,11 @@ fn message_of(alloc: Global, method: &str, argument: Node<'_>) -> Result<Message
     match encode_call(alloc, method, argument) {
         Ok(message) => Ok(message),
         Err(CodecFault::Memory) => Err(AllocError),
-        Err(_) => unreachable!(),
+        Err(CodecFault::TooDeep) => unreachable!(),
+        Err(CodecFault::TooLong) => unreachable!(),
+        Err(CodecFault::NotWhole) => unreachable!(),
+        Err(CodecFault::NotHex) => unreachable!(),
+        Err(CodecFault::NotAMessage) => unreachable!(),
     }
 }
 

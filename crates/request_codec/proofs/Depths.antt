@@ -1,6 +1,7 @@
 -- A test of the members one after another is a test of them all.
 use Rattle.std.proofs.Common.{◌≡◌, ℕ, ◌-◌, ◌<◌, ◌≤◌, ◌≢◌, Bool, true, false, List, ◌∷◌, [], sym, subst, arith}
 use Rattle.std.specs.Prelude.{max, IsUtf8}
+use Rattle.request_codec.specs.Tree as tree
 use Rattle.request_codec.specs.Tree.{Tree, null, truth, integer, text, list, map, Members, no_members, member, Fields, no_fields, field, depth, members_depth, fields_depth, members_of, fields_of}
 use Rattle.request_codec.specs.Spelling.{IsBelowFirst}
 use Rattle.request_codec.specs.Formed.{IsFormed, TestsDepth, TestDepths, TestFieldDepths}
@@ -85,3 +86,4 @@ deeper_than_none limit (integer i) e = omega (arith, e)
 deeper_than_none limit (text s) e = omega (arith, e)
 deeper_than_none limit (list vs) e = omega (arith, e)
 deeper_than_none limit (map fs) e = omega (arith, e)
+deeper_than_none limit (tree.bytes b) e = omega (arith, e)

@@ -17,10 +17,14 @@ pub mod Puts
 pub mod Parts
 pub mod Spelled
 pub mod Encoded
+pub mod Digits
+pub mod JsonAgain
 pub mod JsonParts
 pub mod JsonObjects
 pub mod JsonMembers
 pub mod JsonDepths
 pub mod JsonShown
-pub mod NotWhole
+pub mod Flaws
+pub mod BytesFound
+pub mod Migrated
 pub mod ValueEnds

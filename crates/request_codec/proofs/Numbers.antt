@@ -10,11 +10,9 @@ use Rattle.std.proofs.lemmas.Option.{some_pair_parts}
 use Rattle.std.proofs.lemmas.Str.{is_utf8-from_IsUtf8, IsUtf8-from_is_utf8}
 use Rattle.finite_maps.proofs.Options.{some_if_fails, some_if_passes}
 use Rattle.request_codec.specs.Spelling.{SpellsText}
-use Rattle.request_codec.specs.Reading.{number_at, characters_at, text_at}
+use Rattle.hex.specs.Hex.{IsBytes}
+use Rattle.request_codec.specs.Reading.{number_at, octets_at, bytes_at, text_at}
 use Rattle.request_codec.proofs.Steps.{bound}
-
-abbrev pub IsBytes : List ℕ → Type 0
-IsBytes bytes = (i : ℕ) → get_or bytes i 0 < 256
 
 pub record IsWide (w : Width) (limit : ℕ) : Type 0 where
   pub len : (n : ℕ) → length (to_be_bytes w n) ≡ byte_len w
@@ -45,15 +43,22 @@ number_again w limit wide n rest lt =
     let long : ltb (length (to_be_bytes w n ++ rest)) (byte_len w) ≡ false = le-ltb _ _ (omega (arith, length-append (to_be_bytes w n) rest)) in
     rw (long, take_at (to_be_bytes w n) rest (byte_len w) len, drop_at (to_be_bytes w n) rest (byte_len w) len, wide.again n lt) refl
 
--- with any bytes before the text that are read as its length
-text_behind : (front s x : List ℕ) → number_at w32 (front ++ (s ++ x)) ≡ Some (length s, s ++ x) → IsUtf8 s → text_at ((front ++ s) ++ x) ≡ Some (s, x)
-unfolding text_at
-text_behind front s x e valid =
+-- with any bytes before them that are read as their length
+bytes_behind : (front s x : List ℕ) → number_at w32 (front ++ (s ++ x)) ≡ Some (length s, s ++ x) → bytes_at ((front ++ s) ++ x) ≡ Some (s, x)
+unfolding bytes_at
+bytes_behind front s x e =
     let long : ltb (length (s ++ x)) (length s) ≡ false = le-ltb _ _ (omega (arith, length-append s x)) in
-    rw (append_assoc front s x, e, long, take_at s x (length s) refl, drop_at s x (length s) refl, is_utf8-from_IsUtf8 s valid) refl
+    rw (append_assoc front s x, e, long, take_at s x (length s) refl, drop_at s x (length s) refl) refl
+
+pub bytes_again : (s x : List ℕ) → length s < 2 ^ 32 → bytes_at ((to_be_bytes w32 (length s) ++ s) ++ x) ≡ Some (s, x)
+bytes_again s x short = bytes_behind (to_be_bytes w32 (length s)) s x (number_again w32 (2 ^ 32) wide32 (length s) (s ++ x) short)
+
+text_of_bytes : (bytes s x : List ℕ) → bytes_at bytes ≡ Some (s, x) → IsUtf8 s → text_at bytes ≡ Some (s, x)
+unfolding text_at
+text_of_bytes bytes s x e valid = rw (e, is_utf8-from_IsUtf8 s valid) refl
 
 pub text_again : (s a x : List ℕ) → SpellsText s a → text_at (a ++ x) ≡ Some (s, x)
-text_again s a x h = rw h.2 (text_behind (to_be_bytes w32 (length s)) s x (number_again w32 (2 ^ 32) wide32 (length s) (s ++ x) h.0) h.1)
+text_again s a x h = rw h.2 (text_of_bytes _ s x (bytes_again s x h.0) h.1)
 
 -- ---- what is read
 
@@ -87,23 +92,46 @@ number_found w limit wide bytes n rest fits e =
     (rw (front, ← is.1) (sym (take-append-drop (byte_len w) bytes)), rw (← is.0) (wide.below (take (byte_len w) bytes) (IsBytes-take (byte_len w) bytes fits)), rw (← is.1) (IsBytes-drop (byte_len w) bytes fits))
 
 -- behind a length k
-text_parts : (k : ℕ) (m s rest : List ℕ) → IsBytes m → characters_at k m ≡ Some (s, rest) → (length s ≡ k) × IsUtf8 s × (m ≡ s ++ rest) × IsBytes rest
-text_parts k m s rest fits e =
+octets_parts : (k : ℕ) (m s rest : List ℕ) → IsBytes m → octets_at k m ≡ Some (s, rest) → (length s ≡ k) × IsBytes s × (m ≡ s ++ rest) × IsBytes rest
+octets_parts k m s rest fits e =
     let g = some_if_fails (ltb (length m) k) _ (s, rest) e in
     let long : k ≤ length m = ltb-false _ _ g.0 in
-    let valid = some_if_passes (is_utf8 (take k m)) _ (s, rest) g.1 in
-    let is = some_pair_parts _ _ _ _ valid.1 in
-    (rw (← is.0) (omega (arith, length-take k m)), rw (← is.0) (IsUtf8-from_is_utf8 _ valid.0), rw (← is.0, ← is.1) (sym (take-append-drop k m)), rw (← is.1) (IsBytes-drop k m fits))
+    let is = some_pair_parts _ _ _ _ g.1 in
+    (rw (← is.0) (omega (arith, length-take k m)), rw (← is.0) (IsBytes-take k m fits), rw (← is.0, ← is.1) (sym (take-append-drop k m)), rw (← is.1) (IsBytes-drop k m fits))
 
-pub text_found : (bytes s rest : List ℕ) → IsBytes bytes → text_at bytes ≡ Some (s, rest) → Found (SpellsText s) bytes rest
-unfolding text_at
-text_found bytes s rest fits e =
+-- bytes behind their length
+abbrev pub IsCountedBytes : List ℕ → List ℕ → Type 0
+IsCountedBytes s bytes = (length s < 2 ^ 32) × IsBytes s × (bytes ≡ to_be_bytes w32 (length s) ++ s)
+
+pub bytes_found : (bytes s rest : List ℕ) → IsBytes bytes → bytes_at bytes ≡ Some (s, rest) → Found (IsCountedBytes s) bytes rest
+unfolding bytes_at
+bytes_found bytes s rest fits e =
     let b = bound (number_at w32 bytes) _ (s, rest) e in
     let t = number_found w32 (2 ^ 32) wide32 bytes b.0.0 b.0.1 fits b.1 in
-    let p = text_parts b.0.0 b.0.1 s rest t.2 b.2 in
+    let p = octets_parts b.0.0 b.0.1 s rest t.2 b.2 in
     record {
       used = to_be_bytes w32 (length s) ++ s;
       wanted = (subst (λ (k : ℕ). k < 2 ^ 32) (sym p.0) t.1, p.1, refl);
       parts = t.0 ∙ ap (λ (m : List ℕ). to_be_bytes w32 b.0.0 ++ m) p.2 ∙ sym (append_assoc (to_be_bytes w32 b.0.0) s rest) ∙ ap (λ (k : ℕ). (to_be_bytes w32 k ++ s) ++ rest) (sym p.0);
       rest_fits = p.3;
+    }
+
+-- a text is bytes that are UTF-8
+pub bytes_of_text : (bytes s rest : List ℕ) → text_at bytes ≡ Some (s, rest) → (bytes_at bytes ≡ Some (s, rest)) × IsUtf8 s
+unfolding text_at
+bytes_of_text bytes s rest e =
+    let b = bound (bytes_at bytes) _ (s, rest) e in
+    let valid = some_if_passes (is_utf8 b.0.0) (Some b.0) (s, rest) b.2 in
+    let is = some_pair_parts _ _ _ _ valid.1 in
+    (b.1 ∙ valid.1, subst IsUtf8 is.0 (IsUtf8-from_is_utf8 b.0.0 valid.0))
+
+pub text_found : (bytes s rest : List ℕ) → IsBytes bytes → text_at bytes ≡ Some (s, rest) → Found (SpellsText s) bytes rest
+text_found bytes s rest fits e =
+    let t = bytes_of_text bytes s rest e in
+    let found = bytes_found bytes s rest fits t.0 in
+    record {
+      used = found.used;
+      wanted = (found.wanted.0, t.1, found.wanted.2);
+      parts = found.parts;
+      rest_fits = found.rest_fits;
     }

@@ -5,6 +5,7 @@ use Rattle.std.specs.Int.{w32, to_be_bytes}
 use Rattle.std.proofs.Math.Nat.{le-max_left, le-max_right}
 use Rattle.std.proofs.lemmas.Option.{some_pair_parts}
 use Rattle.std.proofs.lemmas.List.{append-nil}
+use Rattle.request_codec.specs.Tree as tree
 use Rattle.request_codec.specs.Tree.{Tree, null, truth, integer, text, list, map, Members, no_members, member, Fields, no_fields, field, members_count, fields_count, depth}
 use Rattle.request_codec.specs.Spelling.{SpellsText, Spells, SpellEach, SpellFields}
 use Rattle.request_codec.specs.Reading.{value_at}
@@ -40,6 +41,7 @@ mutual
   spelled_once (integer i) a b h k = h.1 ∙ sym k.1
   spelled_once (text s) a b h k = h.2 ∙ ap (λ (x : List ℕ). 4 ∷ x) (text_once s h.0 k.0 h.1 k.1) ∙ sym k.2
   spelled_once (list vs) a b h k = h.3 ∙ ap (λ (x : List ℕ). 5 ∷ (to_be_bytes w32 (members_count vs) ++ x)) (each_once vs h.0 k.0 h.2 k.2) ∙ sym k.3
+  spelled_once (tree.bytes c) a b h k = h.2 ∙ sym k.2
   spelled_once (map fs) a b h k = h.3 ∙ ap (λ (x : List ℕ). 6 ∷ (to_be_bytes w32 (fields_count fs) ++ x)) (fields_once fs h.0 k.0 h.2 k.2) ∙ sym k.3
 
   pub each_once : (vs : Members) (a b : List ℕ) → SpellEach vs a → SpellEach vs b → a ≡ b

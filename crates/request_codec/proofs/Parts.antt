@@ -2,6 +2,7 @@
 use Rattle.std.proofs.Common.{◌≡◌, ℕ, suc, ◌+◌, ◌<◌, ◌≤◌, List, [], ◌∷◌, ◌++◌, length, Err, refl, sym, ap, subst, ◌∙◌, append_assoc, arith}
 use Rattle.std.specs.Int.{w32, to_be_bytes}
 use Rattle.std.proofs.lemmas.List.{append-nil, length-append}
+use Rattle.request_codec.specs.Tree as tree
 use Rattle.request_codec.specs.Tree.{Tree, null, truth, integer, text, list, map, members_count, fields_count, members_of, fields_of}
 use Rattle.request_codec.specs.inside.Build.{Named}
 use Rattle.request_codec.specs.Answers.{spelled_length, members_length, fields_length}
@@ -18,6 +19,7 @@ some_byte (integer i) = omega arith
 some_byte (text s) = omega arith
 some_byte (list vs) = omega arith
 some_byte (map fs) = omega arith
+some_byte (tree.bytes b) = omega arith
 
 -- what is still to be written of a list's members and of a map's fields
 abbrev pub members_left : List Tree → List ℕ

@@ -12,6 +12,7 @@ Puts-then limit old front mid new back (Ok u) e p = (p.0 ∙ ap (λ (s : List �
 Puts-then limit old front mid new back (Err faults.Memory) e p = tt
 Puts-then limit old front mid new back (Err faults.TooDeep) e p = absurd p
 Puts-then limit old front mid new back (Err faults.NotWhole) e p = absurd p
+Puts-then limit old front mid new back (Err faults.NotHex) e p = absurd p
 Puts-then limit old front mid new back (Err faults.NotAMessage) e p = absurd p
 Puts-then limit old front mid new back (Err faults.TooLong) e p = omega (arith, p, ap (λ (s : List ℕ). length s) e, length-append old front, length-append front back)
 
@@ -20,6 +21,7 @@ pub Puts-front : (limit : ℕ) (old new after front back : List ℕ) (e : CodecF
 Puts-front limit old new after front back faults.Memory p = tt
 Puts-front limit old new after front back faults.TooDeep p = absurd p
 Puts-front limit old new after front back faults.NotWhole p = absurd p
+Puts-front limit old new after front back faults.NotHex p = absurd p
 Puts-front limit old new after front back faults.NotAMessage p = absurd p
 Puts-front limit old new after front back faults.TooLong p = omega (arith, p, length-append front back)
 
@@ -28,6 +30,7 @@ pub Puts-part : (limit : ℕ) (old new after begun part rest whole : List ℕ) (
 Puts-part limit old new after begun part rest whole faults.Memory e p = tt
 Puts-part limit old new after begun part rest whole faults.TooDeep e p = absurd p
 Puts-part limit old new after begun part rest whole faults.NotWhole e p = absurd p
+Puts-part limit old new after begun part rest whole faults.NotHex e p = absurd p
 Puts-part limit old new after begun part rest whole faults.NotAMessage e p = absurd p
 Puts-part limit old new after begun part rest whole faults.TooLong e p =
     omega (arith, p, ap (λ (s : List ℕ). length s) e, length-append begun (part ++ rest), length-append part rest, length-append old whole)

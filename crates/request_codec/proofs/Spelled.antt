@@ -5,6 +5,7 @@ use Rattle.request_codec.specs.Call.{Call, asks}
 use Rattle.std.specs.Int.{w32, to_be_bytes}
 use Rattle.std.proofs.lemmas.List.{length-append}
 use Rattle.request_codec.specs.Limits.{message_version, depth_limit, message_limit, state_limit}
+use Rattle.request_codec.specs.Tree as tree
 use Rattle.request_codec.specs.Tree.{Tree, null, truth, integer, text, list, map, Members, no_members, member, Fields, no_fields, field, members_count, fields_count, depth}
 use Rattle.request_codec.specs.Spelling.{SpellsText, Spells, SpellEach, SpellFields, SpellsMessage, SpellsState}
 use Rattle.request_codec.specs.Written.{text_spelling, spelling, members_spelling, fields_spelling, message_spelling}
@@ -26,6 +27,7 @@ mutual
   spelled (text s) formed sized = (text_spelling s, text_spelled s sized formed, refl)
   spelled (list vs) formed sized = (members_spelling vs, sized.0, each_spelled vs formed sized.1, refl)
   spelled (map fs) formed sized = (fields_spelling fs, sized.0, fields_spelled fs formed sized.1, refl)
+  spelled (tree.bytes b) formed sized = (sized, formed, refl)
 
   pub each_spelled : (vs : Members) → AreFormed vs → AreSized vs → SpellEach vs (members_spelling vs)
   each_spelled no_members formed sized = refl
@@ -49,6 +51,7 @@ mutual
   length-spelling (truth b) = refl
   length-spelling (integer i) = refl
   length-spelling (text s) = omega (arith, length-text_spelling s)
+  length-spelling (tree.bytes b) = omega (arith, length-text_spelling b)
   length-spelling (list vs) = omega (arith, length-append (to_be_bytes w32 (members_count vs)) (members_spelling vs), length-members_spelling vs)
   length-spelling (map fs) = omega (arith, length-append (to_be_bytes w32 (fields_count fs)) (fields_spelling fs), length-fields_spelling fs)
 
@@ -69,6 +72,7 @@ some_length (integer i) = omega arith
 some_length (text s) = omega arith
 some_length (list vs) = omega arith
 some_length (map fs) = omega arith
+some_length (tree.bytes b) = omega arith
 
 members_count-le : (vs : Members) → members_count vs ≤ members_length vs
 members_count-le no_members = omega arith
@@ -84,6 +88,7 @@ mutual
   sized (truth b) short = tt
   sized (integer i) short = tt
   sized (text s) short = omega (arith, short)
+  sized (tree.bytes b) short = omega (arith, short)
   sized (list vs) short = (omega (arith, short, members_count-le vs), each_sized vs (omega (arith, short)))
   sized (map fs) short = (omega (arith, short, fields_count-le fs), fields_sized fs (omega (arith, short)))
 
@@ -126,6 +131,7 @@ mutual
   formed_of (truth b) bytes h = tt
   formed_of (integer i) bytes h = h.0
   formed_of (text s) bytes h = h.1.1
+  formed_of (tree.bytes b) bytes h = h.1
   formed_of (list vs) bytes h = each_formed_of vs h.0 h.2
   formed_of (map fs) bytes h = fields_formed_of fs h.0 h.2
 
@@ -143,6 +149,7 @@ mutual
   sized_of (truth b) bytes h = tt
   sized_of (integer i) bytes h = tt
   sized_of (text s) bytes h = h.1.0
+  sized_of (tree.bytes b) bytes h = h.0
   sized_of (list vs) bytes h = (h.1, each_sized_of vs h.0 h.2)
   sized_of (map fs) bytes h = (h.1, fields_sized_of fs h.0 h.2)
 

@@ -1,13 +1,14 @@
 -- What spells a value is read as that value, whatever follows it.
-use Rattle.std.proofs.Common.{◌≡◌, ℕ, zero, suc, ◌^◌, ◌<◌, ◌≤◌, Bool, true, false, List, ◌∷◌, ◌++◌, Option, Some, None, refl, append_assoc, arith}
+use Rattle.std.proofs.Common.{◌≡◌, ℕ, zero, suc, ◌^◌, ◌<◌, ◌≤◌, Bool, true, false, List, ◌∷◌, ◌++◌, length, Option, Some, None, refl, append_assoc, arith}
 use Rattle.std.specs.Prelude.{ℤ, pos, negsuc, FitsSigned}
 use Rattle.std.specs.Int.{w32, w64, to_be_bytes, cast_signed, cast_unsigned}
 use Rattle.std.proofs.Math.Nat.{le-max_left, le-max_right}
 use Rattle.std.proofs.lemmas.Int.{to_z-of_z}
+use Rattle.request_codec.specs.Tree as tree
 use Rattle.request_codec.specs.Tree.{Tree, null, truth, integer, text, list, map, Members, no_members, member, Fields, no_fields, field, members_count, fields_count, depth, members_depth, fields_depth}
 use Rattle.request_codec.specs.Spelling.{Spells, SpellEach, SpellFields, IsBelowFirst}
-use Rattle.request_codec.specs.Reading.{Parse, number_at, members_at, is_above, fields_at, node_at, value_at}
-use Rattle.request_codec.proofs.Numbers.{wide32, wide64, number_again, text_again}
+use Rattle.request_codec.specs.Reading.{Parse, number_at, bytes_at, members_at, is_above, fields_at, node_at, value_at}
+use Rattle.request_codec.proofs.Numbers.{wide32, wide64, number_again, bytes_again, text_again}
 
 pub depth_positive : (v : Tree) → 1 ≤ depth v
 depth_positive null = omega arith
@@ -16,6 +17,7 @@ depth_positive (integer i) = omega arith
 depth_positive (text s) = omega arith
 depth_positive (list vs) = omega arith
 depth_positive (map fs) = omega arith
+depth_positive (tree.bytes b) = omega arith
 
 -- the names of the fields are above the last one
 abbrev pub AreAbove : Option (List ℕ) → Fields → Type 0
@@ -55,6 +57,13 @@ text_value_again : (s : List ℕ) (d : ℕ) (a x : List ℕ) → Spells (text s)
 unfolding value_at node_at
 text_value_again s d a x h = rw (h.2, text_again s h.0 x h.1) refl
 
+bytes_value : (b rest : List ℕ) (d : ℕ) (x : List ℕ) → bytes_at (rest ++ x) ≡ Some (b, x) → value_at (suc d) ((7 ∷ rest) ++ x) ≡ Some (tree.bytes b, x)
+unfolding value_at node_at
+bytes_value b rest d x e = rw e refl
+
+bytes_value_again : (b : List ℕ) (d : ℕ) (a x : List ℕ) → Spells (tree.bytes b) a → value_at (suc d) (a ++ x) ≡ Some (tree.bytes b, x)
+bytes_value_again b d a x h = rw h.2 (bytes_value b (to_be_bytes w32 (length b) ++ b) d x (bytes_again b x h.0))
+
 list_behind : (vs : Members) (d : ℕ) (front rest x : List ℕ) → number_at w32 (front ++ (rest ++ x)) ≡ Some (members_count vs, rest ++ x) → members_at (value_at d) (members_count vs) (rest ++ x) ≡ Some (vs, x) → value_at (suc d) ((5 ∷ (front ++ rest)) ++ x) ≡ Some (list vs, x)
 unfolding value_at node_at
 list_behind vs d front rest x count members = rw (append_assoc front rest x, count, members) refl
@@ -93,6 +102,7 @@ mutual
   value_again (text s) d a x h le = text_value_again s d a x h
   value_again (list vs) d a x h le = list_again vs d a x h (members_again vs d h.0 x h.2 (omega (arith, le)))
   value_again (map fs) d a x h le = map_again fs d a x h (fields_again fs d None h.0 x h.2 (above_none fs) (omega (arith, le)))
+  value_again (tree.bytes b) d a x h le = bytes_value_again b d a x h
 
   pub members_again : (vs : Members) (d : ℕ) (a x : List ℕ) → SpellEach vs a → members_depth vs ≤ d → members_at (value_at d) (members_count vs) (a ++ x) ≡ Some (vs, x)
   members_again no_members d a x h le = none_again (value_at d) a x h

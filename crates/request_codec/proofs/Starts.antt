@@ -2,14 +2,14 @@
 use Rattle.std.proofs.Common.{◌≡◌, ℕ, zero, suc, ◌+◌, ◌<◌, ◌≤◌, Bool, true, false, cond, ltb, List, [], ◌∷◌, length, take, drop, Option, Some, None, refl, arith}
 use Rattle.std.specs.Prelude.{if◌then◌else◌}
 use Rattle.std.specs.Int.{Width, w32, w64, byte_len, from_be_bytes}
-use Rattle.std.specs.Str.{is_utf8}
 use Rattle.std.proofs.lemmas.Bool.{ltb-true, ltb-false}
 use Rattle.std.proofs.lemmas.List.{length-drop}
 use Rattle.std.proofs.lemmas.Option.{some_pair_parts}
 use Rattle.finite_maps.proofs.Options.{some_if_fails, some_if_passes}
 use Rattle.request_codec.specs.Tree.{Tree, list, map, Members, Fields}
-use Rattle.request_codec.specs.Reading.{Parse, ◌>>=◌, number_at, characters_at, text_at, members_at, fields_at, is_above, node_at, value_at}
+use Rattle.request_codec.specs.Reading.{Parse, ◌>>=◌, number_at, octets_at, bytes_at, text_at, members_at, fields_at, is_above, node_at, value_at}
 use Rattle.request_codec.specs.Start.{Begun, leaf, list_of, map_of, if_enough, count_at, start_at, value_behind}
+use Rattle.request_codec.proofs.Numbers.{bytes_of_text}
 use Rattle.request_codec.proofs.Steps.{bound}
 
 -- ---- what is read takes a byte at least
@@ -25,20 +25,22 @@ number_left w bytes n rest e =
     let is = some_pair_parts _ _ _ _ g.1 in
     rw (← is.1) (omega (arith, length-drop (byte_len w) bytes))
 
-characters_left : (k : ℕ) (bytes s rest : List ℕ) → characters_at k bytes ≡ Some (s, rest) → length rest ≤ length bytes
-characters_left k bytes s rest e =
+octets_left : (k : ℕ) (bytes s rest : List ℕ) → octets_at k bytes ≡ Some (s, rest) → length rest ≤ length bytes
+octets_left k bytes s rest e =
     let g = some_if_fails (ltb (length bytes) k) _ (s, rest) e in
-    let valid = some_if_passes (is_utf8 (take k bytes)) _ (s, rest) g.1 in
-    let is = some_pair_parts _ _ _ _ valid.1 in
+    let is = some_pair_parts _ _ _ _ g.1 in
     rw (← is.1) (omega (arith, length-drop k bytes))
 
-text_left : Shrinks text_at
-unfolding text_at
-text_left bytes s rest e =
+bytes_left : Shrinks bytes_at
+unfolding bytes_at
+bytes_left bytes s rest e =
     let b = bound (number_at w32 bytes) _ (s, rest) e in
     let n = number_left w32 bytes b.0.0 b.0.1 b.1 in
-    let c = characters_left b.0.0 b.0.1 s rest b.2 in
+    let c = octets_left b.0.0 b.0.1 s rest b.2 in
     omega (arith, n, c)
+
+text_left : Shrinks text_at
+text_left bytes s rest e = bytes_left bytes s rest (bytes_of_text bytes s rest e).0
 
 members_left : (read : Parse Tree) → Shrinks read → (n : ℕ) (bytes : List ℕ) (vs : Members) (rest : List ℕ) → members_at read n bytes ≡ Some (vs, rest) → length rest + n ≤ length bytes
 unfolding members_at
@@ -131,7 +133,8 @@ node-by_start read shrinks (suc (suc (suc zero))) rest = whole_behind read (numb
 node-by_start read shrinks (suc (suc (suc (suc zero)))) rest = whole_behind read (text_at rest) _
 node-by_start read shrinks (suc (suc (suc (suc (suc zero))))) rest = list_counted read shrinks (number_at w32 rest)
 node-by_start read shrinks (suc (suc (suc (suc (suc (suc zero)))))) rest = map_counted read shrinks (number_at w32 rest)
-node-by_start read shrinks (suc (suc (suc (suc (suc (suc (suc b))))))) rest = refl
+node-by_start read shrinks (suc (suc (suc (suc (suc (suc (suc zero))))))) rest = whole_behind read (bytes_at rest) _
+node-by_start read shrinks (suc (suc (suc (suc (suc (suc (suc (suc b)))))))) rest = refl
 
 -- ---- reading a value takes a byte at least
 
@@ -170,7 +173,12 @@ node_left read shrinks (suc (suc (suc (suc (suc (suc zero)))))) bytes v rest e =
     let left = fields_left read shrinks b.0.0 None b.0.1 c.0.0 c.0.1 c.1 in
     let is = some_pair_parts _ _ _ _ c.2 in
     rw (← is.1) (omega (arith, first, left))
-node_left read shrinks (suc (suc (suc (suc (suc (suc (suc b))))))) bytes v rest e = absurd cc
+node_left read shrinks (suc (suc (suc (suc (suc (suc (suc zero))))))) bytes v rest e =
+    let b = bound (bytes_at bytes) _ (v, rest) e in
+    let is = some_pair_parts _ _ _ _ b.2 in
+    let left = bytes_left bytes b.0.0 b.0.1 b.1 in
+    rw (← is.1) (omega (arith, left))
+node_left read shrinks (suc (suc (suc (suc (suc (suc (suc (suc b)))))))) bytes v rest e = absurd cc
 
 pub value_left : (d : ℕ) → Shrinks (value_at d)
 unfolding value_at

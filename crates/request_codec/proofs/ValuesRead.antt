@@ -6,11 +6,13 @@ use Rattle.std.proofs.Math.Nat.{max-le}
 use Rattle.std.proofs.lemmas.Int.{of_z-to_z, wrapping_add-bits, SFits-int_wrap}
 use Rattle.std.proofs.lemmas.Option.{some_pair_parts, same_Some}
 use Rattle.finite_maps.proofs.Options.{some_if_passes}
+use Rattle.request_codec.specs.Tree as tree
 use Rattle.request_codec.specs.Tree.{Tree, null, truth, integer, text, list, map, Members, no_members, member, Fields, no_fields, field, members_count, fields_count, depth, members_depth, fields_depth}
 use Rattle.request_codec.specs.Spelling.{SpellsText, Spells, SpellEach, SpellFields, IsBelowFirst}
-use Rattle.request_codec.specs.Reading.{Parse, number_at, text_at, members_at, is_above, fields_at, node_at, value_at}
+use Rattle.request_codec.specs.Reading.{Parse, number_at, bytes_at, text_at, members_at, is_above, fields_at, node_at, value_at}
 use Rattle.request_codec.proofs.Steps.{bound}
-use Rattle.request_codec.proofs.Numbers.{IsBytes, IsBytes-rest, Found, wide32, wide64, number_found, text_found}
+use Rattle.hex.specs.Hex.{IsBytes}
+use Rattle.request_codec.proofs.Numbers.{IsBytes-rest, Found, wide32, wide64, number_found, bytes_found, text_found}
 use Rattle.request_codec.proofs.SpellingsRead.{AreAbove}
 
 -- ---- members, where what `read` gives is spelled and no deeper than d
@@ -155,7 +157,20 @@ node_found read d reads (suc (suc (suc (suc (suc (suc zero)))))) bytes v rest fi
       omega (arith, m.1),
     ) in
     subst (λ (p : Tree × List ℕ). Found (Spells p.0) (6 ∷ bytes) p.1 × (depth p.0 ≤ suc d)) (same_Some _ _ c.2) result
-node_found read d reads (suc (suc (suc (suc (suc (suc (suc b))))))) bytes v rest fits e = absurd cc
+node_found read d reads (suc (suc (suc (suc (suc (suc (suc zero))))))) bytes v rest fits e =
+    let b = bound (bytes_at bytes) _ (v, rest) e in
+    let t = bytes_found bytes b.0.0 b.0.1 fits b.1 in
+    let result : Found (Spells (tree.bytes b.0.0)) (7 ∷ bytes) b.0.1 × (depth (tree.bytes b.0.0) ≤ suc d) = (
+      record {
+        used = 7 ∷ t.used;
+        wanted = (t.wanted.0, t.wanted.1, ap (λ (m : List ℕ). 7 ∷ m) t.wanted.2);
+        parts = ap (λ (m : List ℕ). 7 ∷ m) t.parts;
+        rest_fits = t.rest_fits;
+      },
+      omega arith,
+    ) in
+    subst (λ (p : Tree × List ℕ). Found (Spells p.0) (7 ∷ bytes) p.1 × (depth p.0 ≤ suc d)) (same_Some _ _ b.2) result
+node_found read d reads (suc (suc (suc (suc (suc (suc (suc (suc b)))))))) bytes v rest fits e = absurd cc
 
 -- What is read as a value, no deeper than d, spells it.
 pub value_found : (d : ℕ) → IsRead (value_at d) d

@@ -11,9 +11,10 @@ use Rattle.request_codec.specs.Limits.{message_version, depth_limit, message_lim
 use Rattle.request_codec.specs.Tree.{Tree, null}
 use Rattle.request_codec.specs.Spelling.{Spells, SpellsMessage, SpellsState}
 use Rattle.request_codec.specs.Reading.{text_at, value_at, if_ended}
-use Rattle.request_codec.specs.Call.{Call, asks, call_behind, behind_version, message_call, state_value, call_of, value_of_state, no_call}
+use Rattle.request_codec.specs.Call.{Call, asks, call_behind, behind_version, versioned_call, message_call, state_value, call_of, value_of_state, no_call}
 use Rattle.request_codec.proofs.Steps.{bound}
-use Rattle.request_codec.proofs.Numbers.{IsBytes, IsBytes-rest, text_found, text_again}
+use Rattle.hex.specs.Hex.{IsBytes}
+use Rattle.request_codec.proofs.Numbers.{IsBytes-rest, text_found, text_again}
 use Rattle.request_codec.proofs.ValuesRead.{value_found}
 use Rattle.request_codec.proofs.OneSpelling.{value_again_within}
 
@@ -83,7 +84,7 @@ call_found bytes call fits short e =
     } in
     subst (λ (c : Call). SpellsMessage c.method c.argument (message_version ∷ bytes)) (same_Some _ _ value.2) message
 
-version_found : (bytes : List ℕ) (call : Call) → IsBytes bytes → length bytes ≤ message_limit → behind_version bytes ≡ Some call → SpellsMessage call.method call.argument bytes
+version_found : (bytes : List ℕ) (call : Call) → IsBytes bytes → length bytes ≤ message_limit → behind_version message_version bytes ≡ Some call → SpellsMessage call.method call.argument bytes
 version_found [] call fits short e = absurd cc
 version_found (b ∷ bytes) call fits short e =
     let g = some_if_passes (eqb b message_version) (call_behind bytes) call e in
@@ -91,20 +92,20 @@ version_found (b ∷ bytes) call fits short e =
     subst (λ (v : ℕ). SpellsMessage call.method call.argument (v ∷ bytes)) one (call_found bytes call (IsBytes-rest b bytes fits) short g.1)
 
 pub message_found : (bytes : List ℕ) (call : Call) → IsBytes bytes → message_call bytes ≡ Some call → SpellsMessage call.method call.argument bytes
-unfolding message_call
+unfolding versioned_call
 message_found bytes call fits e =
-    let g = some_if_fails (ltb message_limit (length bytes)) (behind_version bytes) call e in
+    let g = some_if_fails (ltb message_limit (length bytes)) (behind_version message_version bytes) call e in
     version_found bytes call fits (ltb-false _ _ g.0) g.1
 
-call_again : (method : List ℕ) (v : Tree) (name rest : List ℕ) → text_at (name ++ rest) ≡ Some (method, rest) → value_at depth_limit rest ≡ Some (v, []) → behind_version (message_version ∷ (name ++ rest)) ≡ Some (asks method v)
+call_again : (method : List ℕ) (v : Tree) (name rest : List ℕ) → text_at (name ++ rest) ≡ Some (method, rest) → value_at depth_limit rest ≡ Some (v, []) → behind_version message_version (message_version ∷ (name ++ rest)) ≡ Some (asks method v)
 call_again method v name rest text value = rw (text, value) refl
 
 pub message_again : (bytes method : List ℕ) (v : Tree) → SpellsMessage method v bytes → message_call bytes ≡ Some (asks method v)
-unfolding message_call
+unfolding versioned_call
 message_again bytes method v is =
     let read : value_at depth_limit is.rest ≡ Some (v, []) = ap (value_at depth_limit) (sym (append-nil is.rest)) ∙ value_again_within v depth_limit is.rest [] is.value_spelled is.depth_within in
     let short : ltb message_limit (length bytes) ≡ false = le-ltb _ _ is.length_within in
-    let call : behind_version bytes ≡ Some (asks method v) = ap behind_version is.whole_bytes ∙ call_again method v is.name is.rest (text_again method is.name is.rest is.method_spelled) read in
+    let call : behind_version message_version bytes ≡ Some (asks method v) = ap (behind_version message_version) is.whole_bytes ∙ call_again method v is.name is.rest (text_again method is.name is.rest is.method_spelled) read in
     rw short call
 
 -- the bytes of a message give the call that is shown of it
@@ -139,10 +140,10 @@ no_message bytes e method v is = some_none (message_call bytes) (asks method v) 
 
 -- where a message spells a call, its method stands behind the first byte
 pub method_behind : (bytes : List ℕ) (call : Call) → message_call bytes ≡ Some call → (rest : List ℕ) × (text_at (drop 1 bytes) ≡ Some (call.method, rest))
-unfolding message_call
+unfolding versioned_call
 method_behind [] call e = absurd cc
 method_behind (b ∷ bytes) call e =
-    let g = some_if_fails (ltb message_limit (length (b ∷ bytes))) (behind_version (b ∷ bytes)) call e in
+    let g = some_if_fails (ltb message_limit (length (b ∷ bytes))) (behind_version message_version (b ∷ bytes)) call e in
     let version = some_if_passes (eqb b message_version) (call_behind bytes) call g.1 in
     let name = bound (text_at bytes) _ call version.1 in
     let value = bound (if_ended (value_at depth_limit name.0.1)) _ call name.2 in
@@ -150,7 +151,7 @@ method_behind (b ∷ bytes) call e =
     (name.0.1, name.1 ∙ ap (λ (s : List ℕ). Some (s, name.0.1)) same)
 
 pub no_empty_message : (bytes : List ℕ) → length bytes < 1 → IsSome (message_call bytes) → ⊥
-unfolding message_call
+unfolding versioned_call
 no_empty_message [] lt h = absurd cc
 no_empty_message (b ∷ bytes) lt h = omega arith
 
@@ -161,8 +162,8 @@ state_value-short bytes le =
     let short : ltb state_limit (length bytes) ≡ false = le-ltb _ _ le in
     rw short refl
 
-pub message_call-short : (bytes : List ℕ) → length bytes ≤ message_limit → message_call bytes ≡ behind_version bytes
-unfolding message_call
+pub message_call-short : (bytes : List ℕ) → length bytes ≤ message_limit → message_call bytes ≡ behind_version message_version bytes
+unfolding versioned_call
 message_call-short bytes le =
     let short : ltb message_limit (length bytes) ≡ false = le-ltb _ _ le in
     rw short refl

@@ -1,5 +1,5 @@
 -- The value of JSON part by part, with null for each number that isn't a whole number of 64 bits, and for bytes that aren't well formed.
-use Rattle.std.specs.Prelude.{◌≡◌, ℕ, ℤ, List, Bool, false, ◌||◌, Option, Some, None, is_none, String, string_bytes}
+use Rattle.std.specs.Prelude.{ℕ, ℤ, List, Bool, false, ◌||◌, Option, Some, None, is_none, String, string_bytes}
 use Rattle.std.specs.declared.alloc.Global.{Global}
 use Rattle.serde_json.specs.Data as json
 use Rattle.serde_json.specs.Find.{as_i64}
@@ -8,8 +8,7 @@ use Rattle.serde_json.specs.declared.value.Value.{Value}
 use Rattle.request_codec.specs.inside.Build.{Named}
 use Rattle.request_codec.specs.Tree as tree
 use Rattle.request_codec.specs.Tree.{Tree, null, truth, integer, text, list, map, Members, no_members, member, Fields, no_fields, field}
-use Rattle.request_codec.specs.Json.{hex_of, hex_bytes, by_hex, value_of_json}
-use Rattle.request_codec.specs.Formed.{IsFormed}
+use Rattle.request_codec.specs.Json.{hex_of, hex_bytes, by_hex}
 
 abbrev pub integer_or_null : Option ℤ → Tree
 integer_or_null (Some i) = integer i
@@ -60,7 +59,3 @@ abbrev mutual
   pub fields_not_hex : json.Members → Bool
   fields_not_hex json.no_members = false
   fields_not_hex (json.member n d ms) = is_not_hex d || fields_not_hex ms
-
--- JSON that has a value, and that value is well formed
-abbrev pub HasValue : json.Data → Type 0
-HasValue d = (value_of_json d ≡ Some (lenient_value d)) × IsFormed (lenient_value d)

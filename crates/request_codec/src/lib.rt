@@ -41,7 +41,7 @@ pub use datum::Datum;
 pub use fault::CodecFault;
 pub use json_message::encode_json;
 pub use message::Message;
-pub use migrate::migrate_message;
+pub use migrate::{migrate_message, read_old_state};
 pub use reading::{decode, decode_message, decode_state};
 pub use shared::SharedState;
 pub use shown::{Level, Shown};

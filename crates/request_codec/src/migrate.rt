@@ -1,22 +1,25 @@
-//! Messages of the form before: their first byte was another one, and no bytes were among their values.
+//! Messages and states of before: the first byte of a message was another one, and no bytes were among the values.
 
-ghost use Rattle.std.specs.Prelude.{◌≡◌, None, option_map, is_some};
+ghost use Rattle.std.specs.Prelude.{◌≡◌, None, option_map, is_some, IsSome, IfOk};
 ghost use Rattle.request_codec.specs.Limits.{depth_limit, old_version};
-ghost use Rattle.request_codec.specs.Reading.{value_at, members_at, fields_at};
-ghost use Rattle.request_codec.specs.Call.{old_call};
+ghost use Rattle.request_codec.specs.Reading.{◌>>=◌, value_at, members_at, fields_at, if_ended};
+ghost use Rattle.request_codec.specs.Call.{message_call, old_call, old_state, behind_version, plain_call, plain_value};
+ghost use Rattle.request_codec.specs.inside.Ends.{holding};
 ghost use Rattle.request_codec.specs.Tree.{holds_bytes, members_hold_bytes, fields_hold_bytes};
 ghost use Rattle.request_codec.specs.Answers.{Reads};
+ghost use Rattle.request_codec.specs.Written.{spelling, old_spelling};
 
 use crate::bytes::{Start, may_follow, start_of, text_of};
 use crate::fault::CodecFault;
-use crate::limits::{MAX_DEPTH, MAX_MESSAGE_BYTES, MESSAGE_VERSION, OLD_VERSION};
+use crate::limits::{MAX_DEPTH, MAX_MESSAGE_BYTES, MAX_STATE_BYTES, MESSAGE_VERSION, OLD_VERSION};
 use crate::message::Message;
-use std::alloc::Global;
+use crate::state::StateBytes;
+use std::alloc::{AllocError, Global};
 
 /// Whether bytes stand in the value at the front, which is no deeper than the limit, and what is behind it.
 #[cycle(finding)]
 fn bytes_found(bytes: &[u8], limit: u8) -> Option<(bool, &[u8])>
-    ensures { option_map (λ x. (x.0, x.1.now)) result ≡ option_map (λ x. (holds_bytes x.0, x.1)) (value_at limit bytes.now) }
+    ensures { option_map (λ x. (x.0, x.1.now)) result ≡ holding holds_bytes (value_at limit bytes.now) }
 {
     if limit == 0 {
         return None;
@@ -38,7 +41,7 @@ fn bytes_found(bytes: &[u8], limit: u8) -> Option<(bool, &[u8])>
 #[cycle(finding)]
 fn members_found(bytes: &[u8], count: u32, limit: u8) -> Option<(bool, &[u8])>
     ensures { option_map (λ x. (x.0, x.1.now)) result
-        ≡ option_map (λ x. (members_hold_bytes x.0, x.1)) (members_at (value_at limit) count bytes.now) }
+        ≡ holding members_hold_bytes (members_at (value_at limit) count bytes.now) }
 {
     let mut found = false;
     let mut rest = bytes;
@@ -55,7 +58,7 @@ fn members_found(bytes: &[u8], count: u32, limit: u8) -> Option<(bool, &[u8])>
 #[cycle(finding)]
 fn fields_found(bytes: &[u8], count: u32, limit: u8) -> Option<(bool, &[u8])>
     ensures { option_map (λ x. (x.0, x.1.now)) result
-        ≡ option_map (λ x. (fields_hold_bytes x.0, x.1)) (fields_at (value_at limit) count None bytes.now) }
+        ≡ holding fields_hold_bytes (fields_at (value_at limit) count None bytes.now) }
 {
     let mut found = false;
     let mut rest = bytes;
@@ -77,36 +80,87 @@ fn fields_found(bytes: &[u8], count: u32, limit: u8) -> Option<(bool, &[u8])>
     Some((found, rest))
 }
 
-/// Whether the bytes are a message's of the form before.
-fn is_old_message(bytes: &[u8]) -> bool
-    ensures { result ≡ is_some (old_call bytes.now) }
+/// Whether all of the bytes spell one value that holds no bytes.
+fn is_plain_value(bytes: &[u8]) -> bool
+    ensures { result ≡ is_some (if_ended (value_at depth_limit bytes.now) >>= plain_value) }
 {
-    if bytes.len() > MAX_MESSAGE_BYTES {
-        return false;
+    match bytes_found(bytes, MAX_DEPTH) {
+        Some((false, [])) => true,
+        Some((false, [_, ..])) => false,
+        Some((true, _)) => false,
+        None => false,
     }
+}
+
+/// Whether the first byte is that of the form before, and those behind it are a method and one value that holds no bytes.
+fn is_old_call(bytes: &[u8]) -> bool
+    ensures { result ≡ is_some (behind_version old_version bytes.now >>= plain_call) }
+{
     let [OLD_VERSION, behind @ ..] = bytes else {
         return false;
     };
     let Some((_, rest)) = text_of(behind) else {
         return false;
     };
-    match bytes_found(rest, MAX_DEPTH) {
-        Some((false, [])) => true,
-        Some((true, _)) => false,
-        Some((false, [_, ..])) => false,
-        None => false,
+    is_plain_value(rest)
+}
+
+/// Whether the bytes are a message's of the form before.
+#[tactic(auto, unfolding(crate::specs::Call::versioned_call))]
+fn is_old_message(bytes: &[u8]) -> bool
+    ensures { result ≡ is_some (old_call bytes.now) }
+{
+    if bytes.len() > MAX_MESSAGE_BYTES {
+        return false;
     }
+    is_old_call(bytes)
+}
+
+/// The bytes of a message of the form before with the first byte of a message.
+fn renewed(alloc: Global, bytes: &[u8]) -> Result<Vec<u8>, AllocError>
+    requires { IsSome (old_call bytes.now) }
+    ensures { IfOk result (λ renewed. message_call renewed.items ≡ old_call bytes.now) }
+{
+    let [_, behind @ ..] = bytes else {
+        unreachable!();
+    };
+    let mut renewed = Vec::with_capacity(alloc, bytes.len())?;
+    renewed.push(MESSAGE_VERSION)?;
+    renewed.extend_from_slice(behind)?;
+    Ok(renewed)
 }
 
 /// The message of the method and the value that bytes of the form before spell: its first byte is another one, and
 /// the others are the same. `NotAMessage` where they spell none in that form, in which no bytes are among the values.
 pub fn migrate_message(alloc: Global, bytes: &[u8]) -> Result<Message, CodecFault>
-    ensures { Reads (λ made. made) result (old_call bytes.now) }
+    ensures reads { Reads (λ made. made) result (old_call bytes.now) }
+    ensures exact { IfOk result (λ made. old_spelling made ≡ bytes.now) }
 {
     if !is_old_message(bytes) {
         return Err(CodecFault::NotAMessage);
     }
-    let mut copy = Vec::from_slice(alloc, bytes)?;
-    copy[0] = MESSAGE_VERSION;
-    Ok(Message::from_spelling(copy)?)
+    Ok(Message::from_spelling(renewed(alloc, bytes)?)?)
+}
+
+/// Whether the bytes are a state's that holds no bytes.
+#[tactic(auto, unfolding(crate::specs::Call::state_value))]
+fn is_old_state(bytes: &[u8]) -> bool
+    ensures { result ≡ is_some (old_state bytes.now) }
+{
+    if bytes.len() > MAX_STATE_BYTES {
+        return false;
+    }
+    is_plain_value(bytes)
+}
+
+/// The state whose bytes these are, if its value holds no bytes, as none did before there were any. It keeps the very
+/// bytes. `NotAMessage` where they spell no such state.
+pub fn read_old_state(alloc: Global, bytes: &[u8]) -> Result<StateBytes, CodecFault>
+    ensures reads { Reads (λ read. read) result (old_state bytes.now) }
+    ensures exact { IfOk result (λ read. spelling read ≡ bytes.now) }
+{
+    if !is_old_state(bytes) {
+        return Err(CodecFault::NotAMessage);
+    }
+    StateBytes::read(alloc, bytes)
 }

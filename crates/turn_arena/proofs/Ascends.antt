@@ -14,6 +14,7 @@ mutual
   Spells-ascend (tree.text s) bytes h = tt
   Spells-ascend (tree.list vs) bytes (rest, few, each, is) = SpellEach-ascend vs rest each
   Spells-ascend (tree.map fs) bytes (rest, few, each, is) = SpellFields-ascend fs rest each
+  Spells-ascend (tree.bytes b) bytes h = tt
 
   pub SpellEach-ascend : (vs : Members) (bytes : List ℕ) → SpellEach vs bytes → MembersAscend vs
   SpellEach-ascend no_members bytes h = tt

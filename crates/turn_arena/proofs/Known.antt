@@ -5,9 +5,9 @@ use Rattle.std.specs.Int.{w32}
 use Rattle.std.specs.Str.{IsUtf8, is_utf8}
 use Rattle.std.proofs.lemmas.Str.{IsUtf8-from_is_utf8}
 use Rattle.request_codec.specs.inside.Build.{Named}
-use Rattle.request_codec.specs.Call.{Call, asks, call_behind, message_call, state_value}
-use Rattle.request_codec.specs.Limits.{depth_limit, message_limit, state_limit}
-use Rattle.request_codec.specs.Reading.{Parse, ◌>>=◌, number_at, characters_at, text_at, members_at, fields_at, value_at, is_above, if_ended}
+use Rattle.request_codec.specs.Call.{Call, asks, call_behind, versioned_call, message_call, state_value}
+use Rattle.request_codec.specs.Limits.{message_version, depth_limit, message_limit, state_limit}
+use Rattle.request_codec.specs.Reading.{Parse, ◌>>=◌, bytes_at, text_at, members_at, fields_at, value_at, is_above, if_ended}
 use Rattle.request_codec.specs.Start.{start_at, list_of, map_of}
 use Rattle.request_codec.specs.Tree.{Tree, Members, Fields}
 use Rattle.request_codec.proofs.Levels.{value_at-zero, value_at-unstarted, value_at-no_list, value_at-no_map}
@@ -28,18 +28,15 @@ true_unless false h = absurd (h refl)
 
 -- ---- texts
 
-text_if : (b u : Bool) (t r : List ℕ) → IsSome {T = List ℕ × List ℕ} (if b then None else if u then Some (t, r) else None) → u ≡ true
-text_if true u t r h = absurd (cc (h))
-text_if false true t r h = refl
-text_if false false t r h = absurd (cc (h))
+text_if : (u : Bool) (found : List ℕ × List ℕ) → IsSome {T = List ℕ × List ℕ} (if u then Some found else None) → u ≡ true
+text_if true found h = refl
+text_if false found h = absurd (cc (h))
 
-module _ (bytes : List ℕ) (n : ℕ) (rest : List ℕ) (is : Some (n, rest) ≡ number_at w32 bytes) (some : IsSome (text_at bytes)) where
-  known_characters : IsSome (characters_at n rest)
-  unfolding text_at
-  known_characters = subst (λ o. IsSome (o >>= λ x. characters_at x.0 x.1)) (sym is) some
-
-  pub known_utf8 : IsUtf8 (take n rest)
-  known_utf8 = IsUtf8-from_is_utf8 (take n rest) (text_if (nat_lt (length rest) n) (is_utf8 (take n rest)) (take n rest) (drop n rest) known_characters)
+pub known_utf8 : (bytes front rest : List ℕ) → Some (front, rest) ≡ bytes_at bytes → IsSome (text_at bytes) → IsUtf8 front
+unfolding text_at
+known_utf8 bytes front rest is some =
+    let tested = subst (λ o. IsSome (o >>= λ found. if is_utf8 found.0 then Some found else None)) (sym is) some in
+    IsUtf8-from_is_utf8 front (text_if (is_utf8 front) (front, rest) tested)
 
 -- ---- one level
 
@@ -119,7 +116,7 @@ ended_call method v [] h = refl
 ended_call method v (b ∷ rest) h = absurd (cc (h))
 
 no_first_byte : IsSome (message_call []) → ⊥
-unfolding message_call
+unfolding versioned_call
 no_first_byte some = none_if (nat_lt message_limit 0) some
 
 pub no_call : (bytes : List ℕ) → IsSome (message_call bytes) → length bytes < 1 → ⊥
@@ -132,8 +129,8 @@ behind_first (version ∷ behind) some = (version, refl)
 
 module _ (version : ℕ) (behind : List ℕ) (some : IsSome (message_call (version ∷ behind))) where
   called : message_call (version ∷ behind) ≡ call_behind behind
-  unfolding message_call
-  called = call_if (nat_lt message_limit (length (version ∷ behind))) (version == 1) (call_behind behind) some
+  unfolding versioned_call
+  called = call_if (nat_lt message_limit (length (version ∷ behind))) (version == message_version) (call_behind behind) some
 
   known_call : IsSome (call_behind behind)
   known_call = subst (λ o. IsSome {T = Call} o) called some

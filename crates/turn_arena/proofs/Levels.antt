@@ -3,7 +3,7 @@ use Rattle.std.proofs.Common.{◌≡◌, ℕ, ℤ, Bool as Truth, List as Listed
 use Rattle.request_codec.specs.Tree as tree
 use Rattle.turn_arena.specs.NodeValue.{node_value, node_values, field_values}
 use Rattle.turn_arena.specs.declared.node.Field.{Field}
-use Rattle.turn_arena.specs.declared.node.Node.{Node, Null, Bool, Int, Text, List, Map, the_lemmas}
+use Rattle.turn_arena.specs.declared.node.Node.{Node, Null, Bool, Int, Text, List, Map, Bytes, the_lemmas}
 
 pub node_value-Null : node_value Null ≡ tree.null
 node_value-Null = search (rules, the_lemmas)
@@ -22,5 +22,8 @@ node_value-List ns = search (rules, the_lemmas)
 
 pub node_value-Map : (fs : Bor (Listed Field)) → node_value (Map fs) ≡ tree.map (field_values fs.now)
 node_value-Map fs = search (rules, the_lemmas)
+
+pub node_value-Bytes : (b : Bor (Listed ℕ)) → node_value (Bytes b) ≡ tree.bytes b.now
+node_value-Bytes b = search (rules, the_lemmas)
 
 pub ruleset node_levels = (node_value-List, node_value-Map)

@@ -37,6 +37,7 @@ counts_fields (tree.truth true) bytes behind h there = no_map _ behind bytes _ r
 counts_fields (tree.integer i) bytes behind h there = no_map _ behind bytes _ refl h.1 there
 counts_fields (tree.text s) bytes behind h there = no_map _ behind bytes _ refl h.2 there
 counts_fields (tree.list vs) bytes behind h there = no_map _ behind bytes _ refl h.3 there
+counts_fields (tree.bytes b) bytes behind h there = no_map _ behind bytes _ refl h.2 there
 counts_fields (tree.map fs) bytes behind h there =
     let same : behind ≡ to_be_bytes w32 (fields_count fs) ++ h.0 = same_Some behind _ (there ∙ ap behind_map h.3) in
     record {

@@ -142,6 +142,9 @@ pub fn put_spelled(
         Ok(bytes) => Ok(Some(StateBytes::from_spelling(bytes)?)),
         Err(CodecFault::TooLong) => Ok(None),
         Err(CodecFault::Memory) => Err(AllocError),
-        Err(_) => unreachable!(),
+        Err(CodecFault::TooDeep) => unreachable!(),
+        Err(CodecFault::NotWhole) => unreachable!(),
+        Err(CodecFault::NotHex) => unreachable!(),
+        Err(CodecFault::NotAMessage) => unreachable!(),
     }
 }

@@ -46,6 +46,10 @@ pub fn encode_formed(alloc: Global, room: usize, node: Node<'_>) -> Result<State
     match state_bytes(alloc, room, node) {
         Ok(bytes) => Ok(StateBytes::from_spelling(bytes)?),
         Err(CodecFault::Memory) => Err(AllocError),
-        Err(_) => unreachable!(),
+        Err(CodecFault::TooLong) => unreachable!(),
+        Err(CodecFault::TooDeep) => unreachable!(),
+        Err(CodecFault::NotWhole) => unreachable!(),
+        Err(CodecFault::NotHex) => unreachable!(),
+        Err(CodecFault::NotAMessage) => unreachable!(),
     }
 }

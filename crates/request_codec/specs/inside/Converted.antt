@@ -1,10 +1,9 @@
 -- What the parts of a conversion from JSON answer.
-use Rattle.std.specs.Prelude.{◌≡◌, ◌≤◌, Option, Some, None, Result, Ok, Err}
+use Rattle.std.specs.Prelude.{◌≡◌, Option, Some, None, Result, Ok, Err}
 use Rattle.serde_json.specs.Data.{Data}
-use Rattle.request_codec.specs.Limits.{depth_limit}
+use Rattle.request_codec.specs.Formed.{IsFormed}
 use Rattle.request_codec.specs.Answers.{read_json}
-use Rattle.request_codec.specs.Json.{json_depth}
-use Rattle.request_codec.specs.Lenient.{lenient_value, HasValue}
+use Rattle.request_codec.specs.Lenient.{lenient_value}
 use Rattle.request_codec.specs.declared.json_test.JsonTest.{JsonTest}
 use Rattle.request_codec.specs.declared.json_test.JsonTest.TheVariants.{Passed, NotHex, NotWhole, TooDeep}
 use Rattle.request_codec.specs.declared.fault.CodecFault.{CodecFault}
@@ -12,7 +11,7 @@ use Rattle.request_codec.specs.declared.fault.CodecFault.TheVariants as faults
 
 -- The answer of a test of JSON: it has a value, which is well formed; or why it has none.
 abbrev pub TestsJson : JsonTest → Data → Type 0
-TestsJson Passed d = (read_json d ≡ Ok (lenient_value d)) × (json_depth d ≤ depth_limit) × HasValue d
+TestsJson Passed d = (read_json d ≡ Ok (lenient_value d)) × IsFormed (lenient_value d)
 TestsJson NotHex d = read_json d ≡ Err faults.NotHex
 TestsJson NotWhole d = read_json d ≡ Err faults.NotWhole
 TestsJson TooDeep d = read_json d ≡ Err faults.TooDeep

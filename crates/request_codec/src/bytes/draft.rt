@@ -78,12 +78,7 @@ fn put_number(out: &mut Vec<u8>, limit: usize, number: i64) -> Result<(), CodecF
 
 /// Puts the first byte of a value, and what it holds behind its length, at the end.
 #[inline(always)]
-fn put_content(
-    out: &mut Vec<u8>,
-    limit: usize,
-    first: u8,
-    content: &[u8],
-) -> Result<(), CodecFault>
+fn put_content(out: &mut Vec<u8>, limit: usize, first: u8, content: &[u8]) -> Result<(), CodecFault>
     requires room { length out.old.items ≤ limit }
     requires small { limit < 2 ^ 32 }
     ensures { Puts limit out.old.items out.new.items result (first ∷ text_spelling content.now) }

@@ -1,6 +1,7 @@
 //! Bytes as digits: two lower case hexadecimal ones for each byte.
 
-ghost use Rattle.std.specs.Prelude.{◌≡◌, ◌++◌, ◌<◌, ◌≤◌, ◌^◌, length, is_some, string_bytes, IsSome, OnOk};
+ghost use Rattle.std.specs.Prelude.{◌≡◌, ◌++◌, ◌∷◌, [], ◌<◌, ◌≤◌, ◌^◌, ◌/◌, ◌%◌, length, slice_index, unwrap_or, is_some, string_bytes, IsSome, OnOk};
+ghost use Rattle.hex.specs.Hex.{lower_digits};
 ghost use Rattle.std.specs.List.{list_all};
 ghost use Rattle.request_codec.specs.Hex.{digits_of, is_digit, bytes_of_digits};
 ghost use Rattle.request_codec.specs.Lenient.{bytes_or_null};
@@ -48,13 +49,21 @@ pub(crate) fn decode_digits(alloc: Global, text: &str) -> Result<Vec<u8>, CodecF
     }
 }
 
+/// How many bytes they are the digits of.
+fn bytes_in(digits: &str) -> usize
+    requires { IsSome (bytes_of_digits digits.now) }
+    ensures { result ≡ length (unwrap_or (bytes_of_digits digits.now) []) }
+{
+    digits.len() / 2
+}
+
 /// Puts the bytes of the digits at the end, if they fit below the limit.
 fn put_decoded(out: &mut Vec<u8>, limit: usize, digits: &str) -> Result<(), CodecFault>
     requires room { length out.old.items ≤ limit }
     requires hex { IsSome (bytes_of_digits digits.now) }
     ensures { Puts limit out.old.items out.new.items result (unwrap_or (bytes_of_digits digits.now) []) }
 {
-    let count = digits.len() / 2;
+    let count = bytes_in(digits);
     let begin = out.len();
     if count > limit - begin {
         return Err(CodecFault::TooLong);
@@ -73,9 +82,29 @@ pub(crate) fn put_digits(out: &mut Vec<u8>, limit: usize, digits: &str) -> Resul
     requires hex { IsSome (bytes_of_digits digits.now) }
     ensures { Puts limit out.old.items out.new.items result (spelling (bytes_or_null (bytes_of_digits digits.now))) }
 {
-    let count = counted(digits.len() / 2, limit)?;
+    let count = counted(bytes_in(digits), limit)?;
     put_counted(out, limit, 7, count)?;
     put_decoded(out, limit, digits)
+}
+
+/// The digits, each at its value.
+const DIGITS: &[u8; 16] = b"0123456789abcdef";
+
+/// Adds the digit of a value below 16.
+fn push_digit(text: &mut String, value: u8) -> Result<(), AllocError>
+    requires { value < 16 }
+    ensures { OnOk result (string_bytes text.new ≡ string_bytes text.old ++ slice_index lower_digits value ∷ []) }
+{
+    Ok(text.push(char::from(DIGITS[usize::from(value)]))?)
+}
+
+/// Adds the two digits of a byte.
+fn push_byte(text: &mut String, byte: u8) -> Result<(), AllocError>
+    ensures { OnOk result (string_bytes text.new
+        ≡ string_bytes text.old ++ slice_index lower_digits (byte / 16) ∷ slice_index lower_digits (byte % 16) ∷ []) }
+{
+    push_digit(text, byte / 16)?;
+    push_digit(text, byte % 16)
 }
 
 /// Adds the digits of the bytes at the end of the text.
@@ -86,9 +115,8 @@ pub(crate) fn put_digits(out: &mut Vec<u8>, limit: usize, digits: &str) -> Resul
 pub fn push_digits(text: &mut String, bytes: &[u8]) -> Result<(), AllocError>
     ensures { OnOk result (string_bytes text.new ≡ string_bytes text.old ++ digits_of bytes.now) }
 {
-    'bytes: for byte in bytes {
-        text.push(char::from(digit(byte / 16)))?;
-        text.push(char::from(digit(byte % 16)))?;
+    'bytes: for i in 0..bytes.len() {
+        push_byte(text, bytes[i])?;
     }
     Ok(())
 }

@@ -8,6 +8,9 @@ use Rattle.request_codec.specs.Tree.{Tree, members_of, fields_of}
 use Rattle.request_codec.specs.inside.Build.{Named}
 use Rattle.request_codec.specs.Formed.{TestsDepth, TestDepths, TestFieldDepths}
 use Rattle.request_codec.specs.inside.Level.{AreKept}
+use Rattle.request_codec.specs.Hex.{bytes_of_digits}
+use Rattle.request_codec.specs.Lenient.{bytes_or_null}
+use Rattle.request_codec.proofs.Digits.{digits_deep, digits_formed}
 use Rattle.request_codec.proofs.Depths.{passed-next, passed-fails, passed-all, fields_passed-next, fields_passed-fails, fields_passed-all, list_tested, map_tested, leaf_tested, deeper_than_none}
 use Rattle.request_codec.proofs.depth.+depth.Goals as goal
 
@@ -25,6 +28,15 @@ is_within-returns-in-Int g t c =
 pub is_within-returns-in-Text : goal.is_within-returns-in-Text
 is_within-returns-in-Text g t c =
     leaf_tested c.is_text.result c.args.limit (g.V.Shown.value c.args.value) (tree.text c.in-Text.text.now) c.if-limit-eq0.false c.is_text.ensures.always c.in-Text.ensures.value refl c.is_text.ensures.formed
+
+pub is_within-returns-in-Bytes : goal.is_within-returns-in-Bytes
+is_within-returns-in-Bytes g t c =
+    leaf_tested c.is_bytes.result c.args.limit (g.V.Shown.value c.args.value) (tree.bytes c.in-Bytes.bytes.now) c.if-limit-eq0.false c.is_bytes.ensures.always c.in-Bytes.ensures.value refl c.is_bytes.ensures.formed
+
+pub is_within-returns-in-Hex : goal.is_within-returns-in-Hex
+is_within-returns-in-Hex g t c =
+    let digits = c.in-Hex.field-0.now in
+    leaf_tested true c.args.limit (g.V.Shown.value c.args.value) (bytes_or_null (bytes_of_digits digits)) c.if-limit-eq0.false refl c.in-Hex.ensures.value (digits_deep (bytes_of_digits digits)) (digits_formed digits)
 
 pub is_within-are_within-requires : goal.is_within-are_within-requires
 is_within-are_within-requires g t c κs within =

@@ -9,7 +9,7 @@ use Rattle.request_codec.specs.Written.{message_spelling}
 use Rattle.request_codec.specs.Answers.{message_length}
 use Rattle.request_codec.specs.declared.json_test.JsonTest.{JsonTest}
 use Rattle.request_codec.proofs.PartAnswers.{WritesJson-fault}
-use Rattle.request_codec.proofs.JsonDepths.{lenient_within}
+use Rattle.request_codec.proofs.JsonDepths.{within_depth}
 use Rattle.request_codec.proofs.Spelled.{length-message}
 use Rattle.request_codec.proofs.Whole.{message_is_some}
 use Rattle.request_codec.proofs.Encoded.{encoded_message, same_found}
@@ -22,7 +22,7 @@ returns-in_err-bytes-in-Passed c =
     let d = view c.args.argument.now in
     let v = lenient_value d in
     let tested = subst (λ (t : JsonTest). TestsJson t d) c.in-Passed.is c.test_json.ensures in
-    rw (p.1, p.2) (WritesJson-fault c.in_err-bytes-in-Passed.field-0.0 method d v (message_spelling (asks method v)) tested.0 tested.1.0 (length-message method v) c.in_err-bytes-in-Passed.ensures)
+    rw (p.1, p.2) (WritesJson-fault c.in_err-bytes-in-Passed.field-0.0 method d v (message_spelling (asks method v)) tested.0 (length-message method v) c.in_err-bytes-in-Passed.ensures)
 
 pub from_spelling-requires : goal.from_spelling-requires
 from_spelling-requires c =
@@ -31,7 +31,7 @@ from_spelling-requires c =
     let d = view c.args.argument.now in
     let v = lenient_value d in
     let tested = subst (λ (t : JsonTest). TestsJson t d) c.in-Passed.is c.test_json.ensures in
-    message_is_some items (asks method v) (encoded_message items method v c.utf8.method (lenient_within d tested.0, tested.1.1) c.in_ok-bytes-in-Passed.ensures)
+    message_is_some items (asks method v) (encoded_message items method v c.utf8.method (within_depth d v tested.0, tested.1) c.in_ok-bytes-in-Passed.ensures)
 
 pub returns-in_ok-from_spelling-in-Passed : goal.returns-in_ok-from_spelling-in-Passed
 returns-in_ok-from_spelling-in-Passed c =
@@ -41,5 +41,5 @@ returns-in_ok-from_spelling-in-Passed c =
     let v = lenient_value d in
     let tested = subst (λ (t : JsonTest). TestsJson t d) c.in-Passed.is c.test_json.ensures in
     let short : message_length method v ≤ message_limit = omega (arith, c.in_ok-bytes-in-Passed.ensures.1, length-message method v) in
-    let same = same_found (message_call items) c.in_ok-from_spelling-in-Passed.field-0 (asks method v) c.in_ok-from_spelling-in-Passed.ensures (encoded_message items method v c.utf8.method (lenient_within d tested.0, tested.1.1) c.in_ok-bytes-in-Passed.ensures) in
-    (tested.0, (v, tested.1.0, same, short))
+    let same = same_found (message_call items) c.in_ok-from_spelling-in-Passed.field-0 (asks method v) c.in_ok-from_spelling-in-Passed.ensures (encoded_message items method v c.utf8.method (within_depth d v tested.0, tested.1) c.in_ok-bytes-in-Passed.ensures) in
+    (v, tested.0, same, short)

@@ -1,4 +1,5 @@
 use Rattle.std.proofs.Common.{None, option_map, sym, ap, ◌∙◌, arith}
+use Rattle.request_codec.specs.Tree as tree
 use Rattle.request_codec.specs.Tree.{null, truth, integer, text}
 use Rattle.request_codec.specs.Reading.{value_at, members_at, fields_at}
 use Rattle.request_codec.specs.Start.{begun}
@@ -26,6 +27,9 @@ value_end-returns-in-Int t c = value_end-leaf c.args.limit c.args.bytes.now (int
 
 pub value_end-returns-in-Text : goal.value_end-returns-in-Text
 value_end-returns-in-Text t c = value_end-leaf c.args.limit c.args.bytes.now (text c.in-Text.field-0.now) c.in-Some.rest.now c.if-limit-eq0.false (started c.in-Some.ensures (ap begun c.in-Text.is))
+
+pub value_end-returns-in-Bytes : goal.value_end-returns-in-Bytes
+value_end-returns-in-Bytes t c = value_end-leaf c.args.limit c.args.bytes.now (tree.bytes c.in-Bytes.field-0.now) c.in-Some.rest.now c.if-limit-eq0.false (started c.in-Some.ensures (ap begun c.in-Bytes.is))
 
 pub value_end-returns-in-List : goal.value_end-returns-in-List
 value_end-returns-in-List t c = c.members_end.ensures ∙ value_end-list c.args.limit c.args.bytes.now c.in-List.count c.in-Some.rest.now c.if-limit-eq0.false (started c.in-Some.ensures (ap begun c.in-List.is))

@@ -3,6 +3,7 @@ use Rattle.std.proofs.lemmas.Result.{err_from_is_err_and}
 use Rattle.std.proofs.lemmas.Int.{to_z-of_z}
 use mir.Val.{to_z, of_z}
 use mir.Syntax.{w64}
+use Rattle.request_codec.specs.Tree as tree
 use Rattle.request_codec.specs.Tree.{null, truth, integer, text, members_of, fields_of}
 use Rattle.request_codec.specs.Reading.{value_at, members_at, fields_at}
 use Rattle.request_codec.specs.Start.{begun}
@@ -33,6 +34,9 @@ read_value-returns-in-Int g t c =
 
 pub read_value-returns-in_ok-text-in-Text : goal.read_value-returns-in_ok-text-in-Text
 read_value-returns-in_ok-text-in-Text g t c = value_at-leaf c.args.limit c.args.bytes.now (text c.in-Text.text.now) _ c.in-Some.rest.now (omega arith) (started c.in-Some.ensures (ap begun c.in-Text.is)) c.in_ok-text-in-Text.ensures
+
+pub read_value-returns-in_ok-bytes-in-Bytes : goal.read_value-returns-in_ok-bytes-in-Bytes
+read_value-returns-in_ok-bytes-in-Bytes g t c = value_at-leaf c.args.limit c.args.bytes.now (tree.bytes c.in-Bytes.bytes.now) _ c.in-Some.rest.now (omega arith) (started c.in-Some.ensures (ap begun c.in-Bytes.is)) c.in_ok-bytes-in-Bytes.ensures
 
 pub read_value-returns-in_ok-items-in-List : goal.read_value-returns-in_ok-items-in-List
 read_value-returns-in_ok-items-in-List g t c =

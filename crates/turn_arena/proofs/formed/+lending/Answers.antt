@@ -3,6 +3,7 @@ use Rattle.std.proofs.lemmas.Int.{to_z-of_z}
 use Rattle.std.proofs.lemmas.List.{map-append}
 use mir.Val.{to_z, of_z}
 use mir.Syntax.{w64}
+use Rattle.request_codec.specs.Tree as tree
 use Rattle.request_codec.specs.Tree.{null, truth, integer, text}
 use Rattle.request_codec.specs.Reading.{value_at, members_at, fields_at}
 use Rattle.request_codec.specs.Start.{begun}
@@ -10,7 +11,7 @@ use Rattle.request_codec.proofs.Levels.{started, value_at-leaf, value_at-list, v
 use Rattle.request_codec.proofs.MemberLoops.{with_members, with_fields, members-start, members-go_on, members-done, fields-start, fields-go_on, fields-done}
 use Rattle.turn_arena.specs.NodeValue.{node_value, node_values, field_value, field_values}
 use Rattle.turn_arena.proofs.Known.{not_none, known_limit, known_begun, known_members, known_fields, known_member, known_name, known_above, known_field}
-use Rattle.turn_arena.proofs.Levels.{node_value-Null, node_value-Bool, node_value-Int, node_value-Text, node_value-List, node_value-Map}
+use Rattle.turn_arena.proofs.Levels.{node_value-Null, node_value-Bool, node_value-Int, node_value-Text, node_value-List, node_value-Map, node_value-Bytes}
 use Rattle.turn_arena.proofs.formed.+lending.Goals as goal
 
 -- ---- one value
@@ -37,6 +38,9 @@ formed_node-returns-in-Int t c =
 
 pub formed_node-returns-in-Text : goal.formed_node-returns-in-Text
 formed_node-returns-in-Text t c = value_at-leaf c.args.limit c.args.bytes.now (text c.in-Text.text.now) _ c.in-Some.rest.now (omega arith) (started c.in-Some.ensures (ap begun c.in-Text.is)) (node_value-Text c.in-Text.text)
+
+pub formed_node-returns-in-Bytes : goal.formed_node-returns-in-Bytes
+formed_node-returns-in-Bytes t c = value_at-leaf c.args.limit c.args.bytes.now (tree.bytes c.in-Bytes.bytes.now) _ c.in-Some.rest.now (omega arith) (started c.in-Some.ensures (ap begun c.in-Bytes.is)) (node_value-Bytes c.in-Bytes.bytes)
 
 pub formed_node-formed_nodes-requires : goal.formed_node-formed_nodes-requires
 formed_node-formed_nodes-requires t c = (search rules, known_members c.args.limit c.args.bytes.now c.requires c.in-List.count c.in-Some.rest.now (omega arith) (started c.in-Some.ensures (ap begun c.in-List.is)))

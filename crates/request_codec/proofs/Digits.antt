@@ -1,0 +1,135 @@
+-- Bytes as digits.
+use Rattle.std.proofs.Common.{◌≡◌, ℕ, zero, suc, inl, inr, ◌%◌, ◌/◌, ◌+◌, ◌*◌, ◌<◌, ◌≤◌, Bool, true, false, ◌&&◌, List, [], ◌∷◌, ◌++◌, length, drop, slice_index, Option, Some, None, Result, Ok, Err, is_some, refl, sym, ap, subst, ◌∙◌, append_assoc, arith}
+use Rattle.std.specs.Prelude.{if◌then◌else◌, unwrap_or, IsSome}
+use Rattle.std.specs.List.{list_all, AllPass}
+use Rattle.std.specs.Result.{result_ok}
+use Rattle.std.proofs.lemmas.Bool.Decides.{nat_tests}
+use Rattle.std.proofs.lemmas.Bool.{and_parts, cases_lt}
+use Rattle.std.proofs.lemmas.List.{drop_all, append-nil}
+use Rattle.std.proofs.lemmas.List.Elements.{All-cons, All-nil}
+use Rattle.hex.specs.Hex.{IsBytes, decode_of, decode_sized, encode_with, encode_lower, lower_digits, is_hex_digit}
+use Rattle.hex.specs.declared.error.FromHexError.{FromHexError}
+use Rattle.hex.proofs.HexLemmas.{decode_of-ok, decode_of-odd, decode_of-digits, decode_of-encode_lower, decode_sized-twice}
+use Rattle.hex.proofs.Pairs.{encode_with-drop}
+use Rattle.request_codec.specs.Tree.{depth}
+use Rattle.request_codec.specs.Formed.{IsFormed}
+use Rattle.request_codec.specs.Hex.{digits_of, is_digit, bytes_of_digits}
+use Rattle.request_codec.specs.Lenient.{bytes_or_null}
+
+-- ---- the value of digits
+
+pub digits_deep : (o : Option (List ℕ)) → depth (bytes_or_null o) ≡ 1
+digits_deep (Some b) = refl
+digits_deep None = refl
+
+formed_by : (b : Bool) (s : List ℕ) (r : Result (List ℕ) FromHexError) → decode_of s ≡ r → IsFormed (bytes_or_null (if b then result_ok r else None))
+formed_by true s (Ok bytes) e = (decode_of-ok s bytes e).3
+formed_by true s (Err why) e = tt
+formed_by false s r e = tt
+
+pub digits_formed : (s : List ℕ) → IsFormed (bytes_or_null (bytes_of_digits s))
+digits_formed s = formed_by (list_all is_digit s) s (decode_of s) refl
+
+-- ---- which texts are digits
+
+hex_digit : (c : ℕ) → is_digit c ≡ true → is_hex_digit c ≡ true
+hex_digit c h = grind (arith, nat_tests)
+
+all_hex : (s : List ℕ) → list_all is_digit s ≡ true → AllPass is_hex_digit s
+all_hex [] h = All-nil _
+all_hex (c ∷ s) h =
+    let parts = and_parts (is_digit c) (list_all is_digit s) h in
+    All-cons _ c s (hex_digit c parts.0) (all_hex s parts.1)
+
+none_by : (b : Bool) (s : List ℕ) → decode_of s ≡ decode_of s → length s % 2 ≡ 1 → is_some (if b then result_ok (decode_of s) else None) ≡ false
+none_by true s _ odd = ap (λ r. is_some (result_ok r)) (decode_of-odd s odd)
+none_by false s _ odd = refl
+
+-- an odd number of digits has no bytes
+pub odd_digits : (s : List ℕ) → length s % 2 ≡ 1 → is_some (bytes_of_digits s) ≡ false
+odd_digits s odd = none_by (list_all is_digit s) s refl odd
+
+some_by : (b : Bool) (s : List ℕ) → list_all is_digit s ≡ b → length s % 2 ≡ 0 → is_some (if b then result_ok (decode_of s) else None) ≡ b
+some_by true s h even =
+    let found = decode_of-digits s even (all_hex s h) in
+    ap (λ r. is_some (result_ok r)) found.1
+some_by false s h even = refl
+
+-- an even number of them has some
+pub even_digits : (s : List ℕ) → length s % 2 ≡ 0 → is_some (bytes_of_digits s) ≡ list_all is_digit s
+even_digits s even = some_by (list_all is_digit s) s refl even
+
+-- ---- what digits are decoded as
+
+-- the bytes, and how many of them there are
+pub record AreOf (s bytes : List ℕ) : Type 0 where
+  pub found : bytes_of_digits s ≡ Some bytes
+  pub decoded : decode_of s ≡ Ok bytes
+  pub twice : length s ≡ 2 * length bytes
+
+of_by : (b : Bool) (s : List ℕ) (r : Result (List ℕ) FromHexError) → list_all is_digit s ≡ b → decode_of s ≡ r → IsSome (if b then result_ok r else None) → (bytes : List ℕ) × AreOf s bytes
+of_by true s (Ok bytes) h e some =
+    (bytes, record { found = rw (h, e) refl; decoded = e; twice = (decode_of-ok s bytes e).2 })
+of_by true s (Err why) h e some = absurd (cc (some))
+of_by false s r h e some = absurd (cc (some))
+
+pub digits_known : (s : List ℕ) → IsSome (bytes_of_digits s) → (bytes : List ℕ) × AreOf s bytes
+digits_known s some = of_by (list_all is_digit s) s (decode_of s) refl refl some
+
+-- ---- the digits of bytes
+
+-- the first n digits of the table are digits, which computes
+abbrev are_digits_to : ℕ → Bool
+are_digits_to zero = true
+are_digits_to (suc n) = is_digit (slice_index lower_digits n) && are_digits_to n
+
+digit_to : (n d : ℕ) → are_digits_to n ≡ true → d < n → is_digit (slice_index lower_digits d) ≡ true
+digit_to zero d all lt = absurd (omega arith)
+digit_to (suc n) d all lt =
+    let parts = and_parts (is_digit (slice_index lower_digits n)) (are_digits_to n) all in
+    elim (cases_lt d n) [
+      | inl below ↦ digit_to n d parts.1 below
+      | inr top ↦
+          let e : d ≡ n = omega arith in
+          rw e parts.0
+    ]
+
+digit_at : (d : ℕ) → d < 16 → is_digit (slice_index lower_digits d) ≡ true
+digit_at d lt = digit_to 16 d refl lt
+
+all_digits_of : (b : List ℕ) → IsBytes b → list_all is_digit (digits_of b) ≡ true
+unfolding encode_with
+all_digits_of [] h = refl
+all_digits_of (x ∷ b) h =
+    let fits : x < 256 = h 0 in
+    let high : x / 16 < 16 = omega arith in
+    let low : x % 16 < 16 = omega arith in
+    rw (digit_at (x / 16) high, digit_at (x % 16) low) (all_digits_of b (λ i. h (suc i)))
+
+-- the digits of bytes are those of these bytes
+pub digits_again : (b : List ℕ) → IsBytes b → bytes_of_digits (digits_of b) ≡ Some b
+digits_again b h = rw (all_digits_of b h, decode_of-encode_lower b h) refl
+
+-- ---- adding digits one byte after another
+
+pub digits_next : (out new bytes : List ℕ) (i : ℕ) (total : List ℕ) → i < length bytes
+    → new ≡ out ++ slice_index lower_digits (slice_index bytes i / 16) ∷ slice_index lower_digits (slice_index bytes i % 16) ∷ []
+    → out ++ digits_of (drop i bytes) ≡ total → new ++ digits_of (drop (i + 1) bytes) ≡ total
+digits_next out new bytes i total lt n so_far =
+    let high = slice_index lower_digits (slice_index bytes i / 16) in
+    let low = slice_index lower_digits (slice_index bytes i % 16) in
+    let rest = digits_of (drop (i + 1) bytes) in
+    ap (λ (l : List ℕ). l ++ rest) n ∙ append_assoc out (high ∷ low ∷ []) rest
+    ∙ ap (λ (l : List ℕ). out ++ l) (sym (encode_with-drop lower_digits bytes i lt)) ∙ so_far
+
+pub digits_done : (out bytes : List ℕ) (i : ℕ) (total : List ℕ) → length bytes ≤ i → out ++ digits_of (drop i bytes) ≡ total → out ≡ total
+unfolding encode_with
+digits_done out bytes i total le so_far = sym (append-nil out) ∙ ap (λ (l : List ℕ). out ++ digits_of l) (sym (drop_all i bytes le)) ∙ so_far
+
+-- ---- how many bytes
+
+pub count_of_digits : (s : List ℕ) → IsSome (bytes_of_digits s) → length s / 2 ≡ length (unwrap_or (bytes_of_digits s) [])
+count_of_digits s some =
+    let known = digits_known s some in
+    let same : length (unwrap_or (bytes_of_digits s) []) ≡ length known.0 = ap (λ (o : Option (List ℕ)). length (unwrap_or o [])) known.1.found in
+    omega (arith, known.1.twice, same)

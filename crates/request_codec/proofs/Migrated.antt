@@ -1,0 +1,123 @@
+-- A message of the form before, with the first byte of the form of now.
+use Rattle.std.proofs.Common.{◌≡◌, ℕ, zero, suc, Bool, true, false, ltb, eqb, true≢false, List, [], ◌∷◌, length, drop, Option, Some, None, refl, sym, ap, ◌∙◌, arith}
+use Rattle.std.specs.Prelude.{IsSome, is_some, if◌then◌else◌}
+use Rattle.std.proofs.lemmas.Option.{same_Some}
+use Rattle.finite_maps.proofs.Options.{some_if_fails, some_if_passes}
+use Rattle.request_codec.specs.Limits.{message_version, old_version, depth_limit, message_limit}
+use Rattle.request_codec.specs.Tree.{Tree, holds_bytes}
+use Rattle.request_codec.specs.Reading.{◌>>=◌, text_at, value_at, if_ended}
+use Rattle.request_codec.specs.Call.{Call, asks, call_behind, behind_version, versioned_call, message_call, old_call, old_state, plain_call, plain_value, state_value}
+use Rattle.request_codec.specs.inside.Ends.{holding}
+use Rattle.request_codec.proofs.Steps.{bound}
+use Rattle.request_codec.specs.Written.{old_spelling}
+use Rattle.hex.specs.Hex.{IsBytes}
+use Rattle.std.proofs.lemmas.Bool.{eqb-true}
+use Rattle.request_codec.proofs.Numbers.{IsBytes-rest}
+use Rattle.request_codec.proofs.Spelled.{message_spelling-is}
+use Rattle.request_codec.proofs.Whole.{message_found}
+
+-- ---- a value that holds no bytes
+
+-- what is told of it
+abbrev pub is_plain : Option (Bool × List ℕ) → Bool
+is_plain None = false
+is_plain (Some (true, rest)) = false
+is_plain (Some (false, [])) = true
+is_plain (Some (false, b ∷ rest)) = false
+
+plain_alone : (b : Bool) (v : Tree) → is_plain (Some (b, [])) ≡ is_some {T = Tree} (if b then None else Some v)
+plain_alone true v = refl
+plain_alone false v = refl
+
+followed : (b : Bool) (c : ℕ) (rest : List ℕ) → is_plain (Some (b, c ∷ rest)) ≡ false
+followed true c rest = refl
+followed false c rest = refl
+
+ended_plain : (v : Tree) (rest : List ℕ) → is_plain (Some (holds_bytes v, rest)) ≡ is_some (if_ended (Some (v, rest)) >>= plain_value)
+ended_plain v [] = plain_alone (holds_bytes v) v
+ended_plain v (c ∷ rest) = followed (holds_bytes v) c rest
+
+pub plain_told : (o : Option (Tree × List ℕ)) (r : Option (Bool × List ℕ)) → r ≡ holding holds_bytes o → is_plain r ≡ is_some (if_ended o >>= plain_value)
+plain_told None r e = ap is_plain e
+plain_told (Some (v, rest)) r e = ap is_plain e ∙ ended_plain v rest
+
+-- ---- a call
+
+plain_if : (b : Bool) (method : List ℕ) (v : Tree) → is_some {T = Tree} (if b then None else Some v) ≡ is_some {T = Call} (if b then None else Some (asks method v))
+plain_if true method v = refl
+plain_if false method v = refl
+
+call_plain : (method : List ℕ) (o : Option Tree) → is_some (o >>= plain_value) ≡ is_some ((o >>= λ v. Some (asks method v)) >>= plain_call)
+call_plain method None = refl
+call_plain method (Some v) = plain_if (holds_bytes v) method v
+
+pub call_told : (behind method rest : List ℕ) → text_at behind ≡ Some (method, rest) → is_some (if_ended (value_at depth_limit rest) >>= plain_value) ≡ is_some (call_behind behind >>= plain_call)
+call_told behind method rest named = call_plain method (if_ended (value_at depth_limit rest)) ∙ ap (λ o. is_some ((o >>= λ m. if_ended (value_at depth_limit m.1) >>= λ v. Some (asks m.0 v)) >>= plain_call)) (sym named)
+
+pub no_call_told : (behind : List ℕ) → text_at behind ≡ None → false ≡ is_some (call_behind behind >>= plain_call)
+no_call_told behind named = ap (λ o. is_some ((o >>= λ m. if_ended (value_at depth_limit m.1) >>= λ v. Some (asks m.0 v)) >>= plain_call)) (sym named)
+
+-- ---- the other first byte
+
+some_of : {A : Type 0} (o : Option A) → IsSome o → (x : A) × (o ≡ Some x)
+some_of None h = absurd (cc (h))
+some_of (Some x) h = (x, refl)
+
+plain_is : (call made : Call) → plain_call call ≡ Some made → call ≡ made
+plain_is call made e = same_Some call made (some_if_fails (holds_bytes call.argument) (Some call) made e).1
+
+short_call : (long : Bool) (o : Option Call) (call : Call) → long ≡ false → o ≡ Some call → (if long then None else o) ≡ Some call
+short_call true o call e is = absurd (true≢false e)
+short_call false o call e is = is
+
+changed : (b : ℕ) (rest : List ℕ) (call : Call) → versioned_call old_version (b ∷ rest) ≡ Some call → message_call (message_version ∷ rest) ≡ Some call
+unfolding versioned_call
+changed b rest call e =
+    let short = some_if_fails (ltb message_limit (length (b ∷ rest))) (behind_version old_version (b ∷ rest)) call e in
+    let version = some_if_passes (eqb b old_version) (call_behind rest) call short.1 in
+    short_call (ltb message_limit (length (b ∷ rest))) (call_behind rest) call short.0 version.1
+
+first_is : (b : ℕ) (rest : List ℕ) (call : Call) → versioned_call old_version (b ∷ rest) ≡ Some call → b ≡ old_version
+unfolding versioned_call
+first_is b rest call e =
+    let short = some_if_fails (ltb message_limit (length (b ∷ rest))) (behind_version old_version (b ∷ rest)) call e in
+    eqb-true b old_version (some_if_passes (eqb b old_version) (call_behind rest) call short.1).0
+
+fits_again : (rest : List ℕ) → IsBytes rest → IsBytes (message_version ∷ rest)
+fits_again rest fits zero = omega arith
+fits_again rest fits (suc i) = fits i
+
+-- what is spelled behind the one first byte is spelled behind the other
+pub version_changed : (b : ℕ) (rest : List ℕ) → IsSome (old_call (b ∷ rest)) → message_call (message_version ∷ rest) ≡ old_call (b ∷ rest)
+version_changed b rest some =
+    let made = some_of (old_call (b ∷ rest)) some in
+    let call = bound (versioned_call old_version (b ∷ rest)) plain_call made.0 made.1 in
+    changed b rest call.0 call.1 ∙ ap (λ (c : Call). Some c) (plain_is call.0 made.0 call.2) ∙ sym made.1
+
+none_at : (long : Bool) → IsSome {T = Call} ((if long then None else None {T = Call}) >>= plain_call) → ⊥
+none_at true h = cc (h)
+none_at false h = cc (h)
+
+pub no_old_call : IsSome (old_call []) → ⊥
+unfolding versioned_call
+no_old_call some = none_at (ltb message_limit 0) some
+
+-- the bytes are those that are written for the call
+pub old_exact : (bytes : List ℕ) (made : Call) → IsBytes bytes → old_call bytes ≡ Some made → old_spelling made ≡ bytes
+old_exact [] made fits is = absurd (no_old_call (ap is_some is))
+old_exact (b ∷ rest) made fits is =
+    let call = bound (versioned_call old_version (b ∷ rest)) plain_call made is in
+    let now : message_call (message_version ∷ rest) ≡ Some made = changed b rest call.0 call.1 ∙ ap (λ (c : Call). Some c) (plain_is call.0 made call.2) in
+    let written = message_spelling-is made (message_version ∷ rest) (message_found (message_version ∷ rest) made (fits_again rest (IsBytes-rest b rest fits)) now) in
+    ap (λ (l : List ℕ). old_version ∷ drop 1 l) (sym written) ∙ ap (λ (v : ℕ). v ∷ rest) (sym (first_is b rest call.0 call.1))
+
+-- ---- a state
+
+plain_value_is : (v made : Tree) → plain_value v ≡ Some made → v ≡ made
+plain_value_is v made e = same_Some v made (some_if_fails (holds_bytes v) (Some v) made e).1
+
+pub old_is_state : (bytes : List ℕ) → IsSome (old_state bytes) → old_state bytes ≡ state_value bytes
+old_is_state bytes some =
+    let made = some_of (old_state bytes) some in
+    let v = bound (state_value bytes) plain_value made.0 made.1 in
+    made.1 ∙ ap (λ (w : Tree). Some w) (sym (plain_value_is v.0 made.0 v.2)) ∙ sym v.1
