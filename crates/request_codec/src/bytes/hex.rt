@@ -1,6 +1,7 @@
 //! Bytes as digits: two lower case hexadecimal ones for each byte.
 
-ghost use Rattle.std.specs.Prelude.{◌≡◌, ◌++◌, ◌∷◌, [], ◌<◌, ◌≤◌, ◌^◌, ◌/◌, ◌%◌, length, slice_index, unwrap_or, is_some, string_bytes, IsSome, OnOk};
+ghost use Rattle.std.specs.Prelude.{◌≡◌, ◌++◌, ◌∷◌, [], ◌<◌, ◌≤◌, ◌^◌, ◌/◌, ◌%◌};
+ghost use Rattle.std.specs.Prelude.{length, slice_index, unwrap_or, is_some, string_bytes, IsSome, OnOk};
 ghost use Rattle.hex.specs.Hex.{lower_digits};
 ghost use Rattle.std.specs.List.{list_all};
 ghost use Rattle.request_codec.specs.Hex.{digits_of, is_digit, bytes_of_digits};
