@@ -11,6 +11,7 @@
 mod caller;
 mod fault;
 mod grain;
+mod hash_seed;
 mod kind;
 pub mod laws;
 mod name_cache;
@@ -20,6 +21,7 @@ mod words;
 pub use caller::Caller;
 pub use fault::IdFault;
 pub use grain::GrainId;
+pub use hash_seed::HashSeed;
 pub use kind::Kind;
 pub use name_cache::NameCache;
 pub use tenant::Tenant;
