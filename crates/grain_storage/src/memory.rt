@@ -10,7 +10,7 @@ ghost use Rattle.grain_storage.specs.Memory.{IsAscending, AreVersioned, rows_of,
 use crate::fault::StoreFault;
 use crate::row::Row;
 use crate::storage::GrainStorage;
-use grain_id::GrainId;
+use grain_id::{GrainId, HashSeed};
 use indexmap::IndexMap;
 use request_codec::StateBytes;
 use std::alloc::{AllocError, Global};
@@ -19,7 +19,7 @@ use std::marker::Model;
 /// Rows in memory, which never fail. A grain leads to its row by its hash.
 #[derive(Drop)]
 pub struct MemoryStorage {
-    rows: IndexMap<GrainId, Row>,
+    rows: IndexMap<GrainId, Row, HashSeed>,
 }
 
 impl Model for MemoryStorage {
@@ -34,22 +34,30 @@ impl Model for MemoryStorage {
 }
 
 impl MemoryStorage {
-    /// No rows.
+    /// No rows. They will be found by hashes from the fixed seed.
     pub fn new(alloc: Global) -> MemoryStorage
         ensures { result ≡ empty }
     {
+        MemoryStorage::seeded(alloc, HashSeed::fixed())
+    }
+
+    /// No rows. They will be found by hashes from this seed.
+    pub fn seeded(alloc: Global, seed: HashSeed) -> MemoryStorage
+        ensures { result ≡ empty }
+    {
         MemoryStorage {
-            rows: IndexMap::new(alloc),
+            rows: IndexMap::with_hasher(alloc, seed),
         }
     }
 
-    /// These rows, which stand in ascending order of their grains, each under a version above 0.
+    /// These rows, which stand in ascending order of their grains, each under a version above 0. They are found by hashes
+    /// from the fixed seed.
     pub fn with_rows(alloc: Global, rows: Vec<(GrainId, Row)>) -> Result<MemoryStorage, AllocError>
         requires ascending { IsAscending rows.items }
         requires versioned { AreVersioned rows.items }
         ensures { IfOk result (λ storage. storage ≡ rows_of rows.items) }
     {
-        let mut kept = IndexMap::new(alloc);
+        let mut kept = IndexMap::with_hasher(alloc, HashSeed::fixed());
         for (grain, row) in rows {
             place(&mut kept, grain, row)?;
         }
@@ -176,7 +184,11 @@ impl GrainStorage for MemoryStorage {
 }
 
 /// Puts a row behind those that are there, or in the place of the grain's earlier one.
-fn place(kept: &mut IndexMap<GrainId, Row>, grain: GrainId, row: Row) -> Result<(), AllocError>
+fn place(
+    kept: &mut IndexMap<GrainId, Row, HashSeed>,
+    grain: GrainId,
+    row: Row,
+) -> Result<(), AllocError>
     ensures { OnOk result (kept.new.entries ≡ insert_entry grain_eq kept.old.entries grain row) }
 {
     kept.insert(grain, row)?;
