@@ -7,7 +7,7 @@ ghost use Rattle.slab.specs.Slab.{get, Updates, SameValues};
 ghost use Rattle.idle_collector.specs.Notes.{noted, forgotten, HoldsDue};
 ghost use Rattle.idle_collector.specs.inside.Ties.{time_cmp};
 
-use grain_id::GrainId;
+use grain_id::{GrainId, HashSeed};
 use indexmap::IndexMap;
 use indexmap::map::Entry;
 use slab::Slab;
@@ -19,7 +19,7 @@ use std::marker::Model;
 /// stands in the order of time by its moment and its place.
 #[derive(Drop)]
 pub struct ByMoment {
-    notes: IndexMap<GrainId, (u64, usize)>,
+    notes: IndexMap<GrainId, (u64, usize), HashSeed>,
     grains: Slab<GrainId>,
     by_moment: BTreeSet<(u64, usize)>,
 }
@@ -80,12 +80,12 @@ fn leave(
 }
 
 impl ByMoment {
-    /// Nothing is noted.
-    pub fn new(alloc: Global) -> ByMoment
+    /// Nothing is noted. Grains will be found by hashes from this seed.
+    pub fn new(alloc: Global, seed: HashSeed) -> ByMoment
         ensures { result ≡ empty }
     {
         ByMoment {
-            notes: IndexMap::new(alloc),
+            notes: IndexMap::with_hasher(alloc, seed),
             grains: Slab::new(alloc),
             by_moment: BTreeSet::new(alloc),
         }

@@ -7,7 +7,7 @@ ghost use Rattle.idle_collector.specs.Notes.{noted, noted_if, forgotten, due};
 use crate::by_moment::ByMoment;
 use crate::latest::Latest;
 use crate::{latest, moment};
-use grain_id::GrainId;
+use grain_id::{GrainId, HashSeed};
 use indexmap::IndexSet;
 use std::alloc::{AllocError, Global};
 use std::marker::Model;
@@ -19,7 +19,7 @@ use std::mem::replace;
 pub struct Collector {
     latest: Latest,
     moment: u64,
-    grains: IndexSet<GrainId>,
+    grains: IndexSet<GrainId, HashSeed>,
     filed: ByMoment,
 }
 
@@ -37,15 +37,22 @@ impl Model for Collector {
 }
 
 impl Collector {
-    /// Nothing is noted, and nothing expected.
+    /// Nothing is noted, and nothing expected. Grains will be found by hashes from the fixed seed.
     pub fn new(alloc: Global) -> Collector
+        ensures { result ≡ record { notes = map.empty; expected = None } }
+    {
+        Collector::seeded(alloc, HashSeed::fixed())
+    }
+
+    /// Nothing is noted, and nothing expected. Grains will be found by hashes from this seed.
+    pub fn seeded(alloc: Global, seed: HashSeed) -> Collector
         ensures { result ≡ record { notes = map.empty; expected = None } }
     {
         Collector {
             latest: Latest::Nobody,
             moment: 0,
-            grains: IndexSet::new(alloc),
-            filed: ByMoment::new(alloc),
+            grains: IndexSet::with_hasher(alloc, seed),
+            filed: ByMoment::new(alloc, seed),
         }
     }
 

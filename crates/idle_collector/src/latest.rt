@@ -5,7 +5,7 @@ ghost use Rattle.idle_collector.specs.inside.Aside.{is_of, with_latest, due_of, 
 
 use crate::by_moment::ByMoment;
 use crate::moment;
-use grain_id::GrainId;
+use grain_id::{GrainId, HashSeed};
 use indexmap::IndexSet;
 use std::alloc::AllocError;
 
@@ -39,7 +39,7 @@ pub fn is_of(latest: &Latest, id: &GrainId) -> bool
 pub fn put_by(
     latest: &Latest,
     at: &mut u64,
-    grains: &mut IndexSet<GrainId>,
+    grains: &mut IndexSet<GrainId, HashSeed>,
     filed: &mut ByMoment,
 ) -> Result<(), AllocError>
     requires { IsHeldApart latest.now grains.old.keys at.old filed.old }

@@ -8,7 +8,7 @@ ghost use Rattle.idle_collector.specs.Notes.{forgotten};
 ghost use Rattle.idle_collector.specs.inside.Aside.{all_noted, AreApart};
 
 use crate::by_moment::ByMoment;
-use grain_id::GrainId;
+use grain_id::{GrainId, HashSeed};
 use indexmap::IndexSet;
 use std::alloc::AllocError;
 
@@ -19,7 +19,7 @@ use std::alloc::AllocError;
 /// Out of memory: some of them may be filed.
 fn file_all(
     moment: u64,
-    grains: &mut IndexSet<GrainId>,
+    grains: &mut IndexSet<GrainId, HashSeed>,
     filed: &mut ByMoment,
 ) -> Result<(), AllocError>
     requires { AreApart grains.old.keys filed.old }
@@ -41,7 +41,7 @@ fn file_all(
 /// Out of memory: some of them may be filed.
 pub fn go_on(
     at: &mut u64,
-    grains: &mut IndexSet<GrainId>,
+    grains: &mut IndexSet<GrainId, HashSeed>,
     filed: &mut ByMoment,
     moment: u64,
 ) -> Result<(), AllocError>
@@ -59,7 +59,7 @@ pub fn go_on(
 }
 
 /// Drops the note of a grain, if there is one. Takes no memory.
-pub fn forget(grains: &mut IndexSet<GrainId>, filed: &mut ByMoment, id: &GrainId)
+pub fn forget(grains: &mut IndexSet<GrainId, HashSeed>, filed: &mut ByMoment, id: &GrainId)
     requires { AreApart grains.old.keys filed.old }
     ensures forgotten { (at : ℕ) → all_noted filed.new grains.new.keys at ≡ forgotten (all_noted filed.old grains.old.keys at) id.now }
     ensures apart { AreApart grains.new.keys filed.new }
