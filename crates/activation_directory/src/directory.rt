@@ -14,7 +14,7 @@ ghost use Rattle.activation_directory.specs.Register.{StandsIn};
 use crate::activation::Activation;
 use crate::latest_place::LatestPlace;
 use crate::{counts, latest_place};
-use grain_id::GrainId;
+use grain_id::{GrainId, HashSeed};
 use indexmap::IndexMap;
 use slab::Slab;
 use std::alloc::Global;
@@ -26,7 +26,7 @@ use std::marker::Model;
 /// that was looked up last.
 #[derive(Drop)]
 pub struct Directory {
-    places: IndexMap<GrainId, usize>,
+    places: IndexMap<GrainId, usize, HashSeed>,
     activations: Slab<Activation>,
     numbers: BTreeMap<String, usize>,
     latest: Option<LatestPlace>,
@@ -51,12 +51,19 @@ impl Model for Directory {
 impl Directory {
     ghost use Rattle.activation_directory.specs.inside.Lending.{LendsActivation};
 
-    /// No activations.
+    /// No activations. Grains will be found by hashes from the fixed seed.
     pub fn new(alloc: Global) -> Directory
         ensures { result ≡ record { activations = map.empty; order = [] } }
     {
+        Directory::seeded(alloc, HashSeed::fixed())
+    }
+
+    /// No activations. Grains will be found by hashes from this seed.
+    pub fn seeded(alloc: Global, seed: HashSeed) -> Directory
+        ensures { result ≡ record { activations = map.empty; order = [] } }
+    {
         Directory {
-            places: IndexMap::new(alloc),
+            places: IndexMap::with_hasher(alloc, seed),
             activations: Slab::new(alloc),
             numbers: BTreeMap::new(alloc),
             latest: None,

@@ -5,7 +5,7 @@ ghost use Rattle.std.specs.Map.{lookup};
 ghost use Rattle.grain_id.specs.Names.{Grain, grain_eq};
 ghost use Rattle.activation_directory.specs.inside.LatestPlace.{place_in, LeadsTo};
 
-use grain_id::GrainId;
+use grain_id::{GrainId, HashSeed};
 use indexmap::IndexMap;
 
 /// A grain, and the place to which it leads.
@@ -31,7 +31,7 @@ fn place_in(latest: &Option<LatestPlace>, id: &GrainId) -> Option<usize>
 /// The place to which the grain leads, with no look-up by hash if it was looked up last.
 pub fn place_of(
     latest: &Option<LatestPlace>,
-    places: &IndexMap<GrainId, usize>,
+    places: &IndexMap<GrainId, usize, HashSeed>,
     id: &GrainId,
 ) -> Option<usize>
     requires { LeadsTo latest.now places.now.entries }
