@@ -1,6 +1,7 @@
 -- Bytes as digits.
 use Rattle.std.proofs.Common.{◌≡◌, ℕ, zero, suc, inl, inr, ◌%◌, ◌/◌, ◌+◌, ◌*◌, ◌<◌, ◌≤◌, Bool, true, false, ◌&&◌, List, [], ◌∷◌, ◌++◌, length, drop, slice_index, Option, Some, None, Result, Ok, Err, is_some, refl, sym, ap, subst, ◌∙◌, append_assoc, arith}
-use Rattle.std.specs.Prelude.{if◌then◌else◌, unwrap_or, IsSome}
+use Rattle.std.specs.Prelude.{if◌then◌else◌, unwrap_or, IsSome, MatchResult, ⊤}
+use Rattle.std.specs.Int.{w32, to_be_bytes}
 use Rattle.std.specs.List.{list_all, AllPass}
 use Rattle.std.specs.Result.{result_ok}
 use Rattle.std.proofs.lemmas.Bool.Decides.{nat_tests}
@@ -15,6 +16,7 @@ use Rattle.request_codec.specs.Tree.{depth}
 use Rattle.request_codec.specs.Formed.{IsFormed}
 use Rattle.request_codec.specs.Hex.{digits_of, is_digit, bytes_of_digits}
 use Rattle.request_codec.specs.Lenient.{bytes_or_null}
+use Rattle.request_codec.specs.Written.{spelling}
 
 -- ---- the value of digits
 
@@ -39,7 +41,7 @@ all_hex : (s : List ℕ) → list_all is_digit s ≡ true → AllPass is_hex_dig
 all_hex [] h = All-nil _
 all_hex (c ∷ s) h =
     let parts = and_parts (is_digit c) (list_all is_digit s) h in
-    All-cons _ c s (hex_digit c parts.0) (all_hex s parts.1)
+    All-cons (λ x. is_hex_digit x ≡ true) c s (hex_digit c parts.0) (all_hex s parts.1)
 
 none_by : (b : Bool) (s : List ℕ) → decode_of s ≡ decode_of s → length s % 2 ≡ 1 → is_some (if b then result_ok (decode_of s) else None) ≡ false
 none_by true s _ odd = ap (λ r. is_some (result_ok r)) (decode_of-odd s odd)
@@ -75,6 +77,11 @@ of_by false s r h e some = absurd (cc (some))
 
 pub digits_known : (s : List ℕ) → IsSome (bytes_of_digits s) → (bytes : List ℕ) × AreOf s bytes
 digits_known s some = of_by (list_all is_digit s) s (decode_of s) refl refl some
+
+-- their bytes are spelled behind their length
+pub digits_spelled : (s : List ℕ) → IsSome (bytes_of_digits s) → spelling (bytes_or_null (bytes_of_digits s)) ≡ (7 ∷ to_be_bytes w32 (length (unwrap_or (bytes_of_digits s) []))) ++ unwrap_or (bytes_of_digits s) []
+unfolding spelling
+digits_spelled s some = rw (digits_known s some).1.found refl
 
 -- ---- the digits of bytes
 
@@ -125,6 +132,16 @@ digits_next out new bytes i total lt n so_far =
 pub digits_done : (out bytes : List ℕ) (i : ℕ) (total : List ℕ) → length bytes ≤ i → out ++ digits_of (drop i bytes) ≡ total → out ≡ total
 unfolding encode_with
 digits_done out bytes i total le so_far = sym (append-nil out) ∙ ap (λ (l : List ℕ). out ++ digits_of l) (sym (drop_all i bytes le)) ∙ so_far
+
+-- room for them is filled with the bytes
+pub digits_fill : (s : List ℕ) (n : ℕ) (r : Result ⊤ FromHexError) (out : List ℕ) → IsSome (bytes_of_digits s) → n ≡ length (unwrap_or (bytes_of_digits s) [])
+    → MatchResult (decode_sized s n) (λ bytes. (r ≡ Ok tt) × (out ≡ bytes)) (λ e. r ≡ Err e) → (r ≡ Ok tt) × (out ≡ unwrap_or (bytes_of_digits s) [])
+digits_fill s n r out some fits written =
+    let known = digits_known s some in
+    let count : n ≡ length known.0 = fits ∙ ap (λ (o : Option (List ℕ)). length (unwrap_or o [])) known.1.found in
+    let sized : decode_sized s n ≡ Ok known.0 = decode_sized-twice s n (known.1.twice ∙ ap (λ (k : ℕ). 2 * k) (sym count)) ∙ known.1.decoded in
+    let is : (r ≡ Ok tt) × (out ≡ known.0) = rw sized at written in
+    (is.0, is.1 ∙ ap (λ (o : Option (List ℕ)). unwrap_or o []) (sym known.1.found))
 
 -- ---- how many bytes
 
