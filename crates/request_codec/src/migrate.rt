@@ -1,9 +1,8 @@
 //! Messages and states of before: the first byte of a message was another one, and no bytes were among the values.
 
 ghost use Rattle.std.specs.Prelude.{◌≡◌, None, option_map, is_some, IsSome, IfOk};
-ghost use Rattle.request_codec.specs.Limits.{depth_limit, old_version};
-ghost use Rattle.request_codec.specs.Reading.{◌>>=◌, value_at, members_at, fields_at, if_ended};
-ghost use Rattle.request_codec.specs.Call.{message_call, old_call, old_state, behind_version, plain_call, plain_value};
+ghost use Rattle.request_codec.specs.Reading.{value_at, members_at, fields_at};
+ghost use Rattle.request_codec.specs.Call.{message_call, old_call, old_call_behind, old_state, plain_alone};
 ghost use Rattle.request_codec.specs.inside.Ends.{holding};
 ghost use Rattle.request_codec.specs.Tree.{holds_bytes, members_hold_bytes, fields_hold_bytes};
 ghost use Rattle.request_codec.specs.Answers.{Reads};
@@ -82,7 +81,7 @@ fn fields_found(bytes: &[u8], count: u32, limit: u8) -> Option<(bool, &[u8])>
 
 /// Whether all of the bytes spell one value that holds no bytes.
 fn is_plain_value(bytes: &[u8]) -> bool
-    ensures { result ≡ is_some (if_ended (value_at depth_limit bytes.now) >>= plain_value) }
+    ensures { result ≡ is_some (plain_alone bytes.now) }
 {
     match bytes_found(bytes, MAX_DEPTH) {
         Some((false, [])) => true,
@@ -94,7 +93,7 @@ fn is_plain_value(bytes: &[u8]) -> bool
 
 /// Whether the first byte is that of the form before, and those behind it are a method and one value that holds no bytes.
 fn is_old_call(bytes: &[u8]) -> bool
-    ensures { result ≡ is_some (behind_version old_version bytes.now >>= plain_call) }
+    ensures { result ≡ is_some (old_call_behind bytes.now) }
 {
     let [OLD_VERSION, behind @ ..] = bytes else {
         return false;
