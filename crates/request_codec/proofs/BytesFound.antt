@@ -1,7 +1,7 @@
 -- Whether bytes stand in a value is found level by level and member by member.
 use Rattle.std.proofs.Common.{◌≡◌, ℕ, suc, ◌+◌, ◌-◌, ◌<◌, ◌≤◌, ◌≢◌, Bool, true, false, ◌||◌, List, Option, Some, None, refl, sym, ap, ◌∙◌, arith}
 use Rattle.std.proofs.lemmas.Option.{some_pair_parts}
-use Rattle.request_codec.specs.Tree.{Tree, list, map, Members, no_members, member, Fields, no_fields, field, holds_bytes, members_hold_bytes, fields_hold_bytes}
+use Rattle.request_codec.specs.Tree.{Tree, list, map, Members, member, Fields, field, holds_bytes, members_hold_bytes, fields_hold_bytes}
 use Rattle.request_codec.specs.Reading.{Parse, ◌>>=◌, text_at, members_at, fields_at, is_above, value_at}
 use Rattle.request_codec.specs.Start.{leaf, list_of, map_of, start_at, value_behind}
 use Rattle.request_codec.specs.inside.Ends.{holding}
@@ -60,14 +60,18 @@ one_member : (found : Bool) (v : Tree) (o : Option (Members × List ℕ)) → so
 one_member found v None = refl
 one_member found v (Some (vs, r)) = ap (λ (b : Bool). Some (b, r)) (sym (or_assoc found (holds_bytes v) (members_hold_bytes vs)))
 
+members_one : (read : Parse Tree) (count i : ℕ) (found : Bool) (v : Tree) (bytes after : List ℕ) → i < count → read bytes ≡ Some (v, after)
+    → so_far found (holding members_hold_bytes (members_at read (count - i) bytes)) ≡ so_far (found || holds_bytes v) (holding members_hold_bytes (members_at read (count - (i + 1)) after))
+unfolding members_at
+members_one read count i found v bytes after lt is =
+    let k : count - i ≡ suc (count - (i + 1)) = omega arith in
+    rw (k, is) (one_member found v (members_at read (count - (i + 1)) after))
+
 pub held_members-next : (read : Parse Tree) (count i : ℕ) (found here : Bool) (bytes after : List ℕ) (total : Option (Bool × List ℕ)) → i < count → Some (here, after) ≡ holding holds_bytes (read bytes)
     → so_far found (holding members_hold_bytes (members_at read (count - i) bytes)) ≡ total → so_far (found || here) (holding members_hold_bytes (members_at read (count - (i + 1)) after)) ≡ total
-unfolding members_at
 held_members-next read count i found here bytes after total lt h told =
-    let k : count - i ≡ suc (count - (i + 1)) = omega arith in
-    let read_one = found_held holds_bytes (read bytes) here after h in
-    let one : so_far found (holding members_hold_bytes (members_at read (count - i) bytes)) ≡ so_far (found || holds_bytes read_one.0) (holding members_hold_bytes (members_at read (count - (i + 1)) after)) = rw (k, read_one.1) (one_member found read_one.0 (members_at read (count - (i + 1)) after)) in
-    ap (λ b. so_far (found || b) (holding members_hold_bytes (members_at read (count - (i + 1)) after))) read_one.2 ∙ sym one ∙ told
+    let one = found_held holds_bytes (read bytes) here after h in
+    ap (λ b. so_far (found || b) (holding members_hold_bytes (members_at read (count - (i + 1)) after))) one.2 ∙ sym (members_one read count i found one.0 bytes after lt one.1) ∙ told
 
 pub held_members-none : (read : Parse Tree) (count i : ℕ) (found : Bool) (bytes : List ℕ) (total : Option (Bool × List ℕ)) → i < count → None ≡ holding holds_bytes (read bytes)
     → so_far found (holding members_hold_bytes (members_at read (count - i) bytes)) ≡ total → None ≡ total
@@ -98,15 +102,20 @@ one_field found n v (Some (fs, r)) = ap (λ (b : Bool). Some (b, r)) (sym (or_as
 abbrev pub fields_held : Parse Tree → ℕ → Option (List ℕ) → List ℕ → Option (Bool × List ℕ)
 fields_held read n last bytes = holding fields_hold_bytes (fields_at read n last bytes)
 
+fields_one : (read : Parse Tree) (count i : ℕ) (last : Option (List ℕ)) (found : Bool) (v : Tree) (bytes name behind after : List ℕ) → i < count
+    → text_at bytes ≡ Some (name, behind) → is_above last name ≡ true → read behind ≡ Some (v, after)
+    → so_far found (fields_held read (count - i) last bytes) ≡ so_far (found || holds_bytes v) (fields_held read (count - (i + 1)) (Some name) after)
+unfolding fields_at
+fields_one read count i last found v bytes name behind after lt named above is =
+    let k : count - i ≡ suc (count - (i + 1)) = omega arith in
+    rw (k, named, above, is) (one_field found name v (fields_at read (count - (i + 1)) (Some name) after))
+
 pub held_fields-next : (read : Parse Tree) (count i : ℕ) (last : Option (List ℕ)) (found here : Bool) (bytes name behind after : List ℕ) (total : Option (Bool × List ℕ)) → i < count
     → text_at bytes ≡ Some (name, behind) → is_above last name ≡ true → Some (here, after) ≡ holding holds_bytes (read behind)
     → so_far found (fields_held read (count - i) last bytes) ≡ total → so_far (found || here) (fields_held read (count - (i + 1)) (Some name) after) ≡ total
-unfolding fields_at
 held_fields-next read count i last found here bytes name behind after total lt named above h told =
-    let k : count - i ≡ suc (count - (i + 1)) = omega arith in
-    let read_one = found_held holds_bytes (read behind) here after h in
-    let one : so_far found (fields_held read (count - i) last bytes) ≡ so_far (found || holds_bytes read_one.0) (fields_held read (count - (i + 1)) (Some name) after) = rw (k, named, above, read_one.1) (one_field found name read_one.0 (fields_at read (count - (i + 1)) (Some name) after)) in
-    ap (λ b. so_far (found || b) (fields_held read (count - (i + 1)) (Some name) after)) read_one.2 ∙ sym one ∙ told
+    let one = found_held holds_bytes (read behind) here after h in
+    ap (λ b. so_far (found || b) (fields_held read (count - (i + 1)) (Some name) after)) one.2 ∙ sym (fields_one read count i last found one.0 bytes name behind after lt named above one.1) ∙ told
 
 pub held_fields-unnamed : (read : Parse Tree) (count i : ℕ) (last : Option (List ℕ)) (found : Bool) (bytes : List ℕ) (total : Option (Bool × List ℕ)) → i < count
     → text_at bytes ≡ None → so_far found (fields_held read (count - i) last bytes) ≡ total → None ≡ total

@@ -1,7 +1,8 @@
 -- A message of the form before, with the first byte of the form of now.
-use Rattle.std.proofs.Common.{◌≡◌, ℕ, zero, suc, Bool, true, false, ltb, eqb, true≢false, List, [], ◌∷◌, length, drop, Option, Some, None, refl, sym, ap, ◌∙◌, arith}
+use Rattle.std.proofs.Common.{◌≡◌, ℕ, zero, suc, ◌<◌, Bool, true, false, ltb, eqb, true≢false, List, [], ◌∷◌, ◌-◌, length, take, drop, Option, Some, None, refl, sym, ap, ◌∙◌, arith}
 use Rattle.std.specs.Prelude.{IsSome, is_some, if◌then◌else◌}
 use Rattle.std.proofs.lemmas.Option.{same_Some}
+use Rattle.std.proofs.lemmas.List.{take_all}
 use Rattle.finite_maps.proofs.Options.{some_if_fails, some_if_passes}
 use Rattle.request_codec.specs.Limits.{message_version, old_version, depth_limit, message_limit}
 use Rattle.request_codec.specs.Tree.{Tree, holds_bytes}
@@ -60,7 +61,7 @@ no_call_told behind named = ap (λ o. is_some ((o >>= λ m. if_ended (value_at d
 -- ---- the other first byte
 
 some_of : {A : Type 0} (o : Option A) → IsSome o → (x : A) × (o ≡ Some x)
-some_of None h = absurd (cc (h))
+some_of None h = absurd cc
 some_of (Some x) h = (x, refl)
 
 plain_is : (call made : Call) → plain_call call ≡ Some made → call ≡ made
@@ -94,17 +95,18 @@ version_changed b rest some =
     let call = bound (versioned_call old_version (b ∷ rest)) plain_call made.0 made.1 in
     changed b rest call.0 call.1 ∙ ap (λ (c : Call). Some c) (plain_is call.0 made.0 call.2) ∙ sym made.1
 
-none_at : (long : Bool) → IsSome {T = Call} ((if long then None else None {T = Call}) >>= plain_call) → ⊥
-none_at true h = cc (h)
-none_at false h = cc (h)
-
-pub no_old_call : IsSome (old_call []) → ⊥
+pub no_old_call_in : (bytes : List ℕ) → length bytes < 1 → IsSome (old_call bytes) → ⊥
 unfolding versioned_call
-no_old_call some = none_at (ltb message_limit 0) some
+no_old_call_in [] lt some = absurd cc
+no_old_call_in (b ∷ bytes) lt some = omega arith
+
+pub renewed_spells : (bytes : List ℕ) → IsSome (old_call bytes) → message_call (message_version ∷ take (length bytes - 1) (drop 1 bytes)) ≡ old_call bytes
+renewed_spells [] some = absurd (no_old_call_in [] (omega arith) some)
+renewed_spells (b ∷ rest) some = ap (λ (l : List ℕ). message_call (message_version ∷ l)) (take_all (length (b ∷ rest) - 1) rest (omega arith)) ∙ version_changed b rest some
 
 -- the bytes are those that are written for the call
 pub old_exact : (bytes : List ℕ) (made : Call) → IsBytes bytes → old_call bytes ≡ Some made → old_spelling made ≡ bytes
-old_exact [] made fits is = absurd (no_old_call (ap is_some is))
+old_exact [] made fits is = absurd (no_old_call_in [] (omega arith) (ap is_some is))
 old_exact (b ∷ rest) made fits is =
     let call = bound (versioned_call old_version (b ∷ rest)) plain_call made is in
     let now : message_call (message_version ∷ rest) ≡ Some made = changed b rest call.0 call.1 ∙ ap (λ (c : Call). Some c) (plain_is call.0 made call.2) in

@@ -48,7 +48,7 @@ fn members_found(bytes: &[u8], count: u32, limit: u8) -> Option<(bool, &[u8])>
         let Some((here, after)) = bytes_found(rest, limit) else {
             return None;
         };
-        found = found || here;
+        found |= here;
         rest = after;
     }
     Some((found, rest))
@@ -72,7 +72,7 @@ fn fields_found(bytes: &[u8], count: u32, limit: u8) -> Option<(bool, &[u8])>
         let Some((here, after)) = bytes_found(behind, limit) else {
             return None;
         };
-        found = found || here;
+        found |= here;
         rest = after;
         last = Some(name);
     }

@@ -1,11 +1,11 @@
-use Rattle.std.proofs.Common.{None, option_map, sym, ap, ◌∙◌, arith}
+use Rattle.std.proofs.Common.{◌≡◌, ◌-◌, false, None, option_map, sym, ap, ◌∙◌, arith}
 use Rattle.request_codec.specs.Tree as tree
 use Rattle.request_codec.specs.Tree.{null, truth, integer, text, holds_bytes, members_hold_bytes, fields_hold_bytes}
 use Rattle.request_codec.specs.Reading.{value_at, members_at}
 use Rattle.request_codec.specs.Start.{begun}
 use Rattle.request_codec.specs.inside.Ends.{holding}
 use Rattle.request_codec.proofs.Levels.{value_at-zero, value_at-unstarted, started}
-use Rattle.request_codec.proofs.BytesFound.{held_leaf, held_list, held_map, so_far-start, held_members-next, held_members-none, held_members-done, fields_held, held_fields-next, held_fields-unnamed, held_fields-misplaced, held_fields-none, held_fields-done}
+use Rattle.request_codec.proofs.BytesFound.{held_leaf, held_list, held_map, so_far, so_far-start, held_members-next, held_members-none, held_members-done, fields_held, held_fields-next, held_fields-unnamed, held_fields-misplaced, held_fields-none, held_fields-done}
 use Rattle.request_codec.proofs.migrate.+finding.Goals as goal
 
 -- ---- one value
@@ -40,7 +40,9 @@ bytes_found-returns-in-Map t c = c.fields_found.ensures ∙ held_map c.args.limi
 -- ---- members
 
 pub members_found-items-init : goal.members_found-items-init
-members_found-items-init t c = so_far-start _
+members_found-items-init t c =
+    let all : c.args.count - 0 ≡ c.args.count = omega arith in
+    ap (λ n. so_far false (holding members_hold_bytes (members_at (value_at c.args.limit) n c.args.bytes.now))) all ∙ so_far-start (holding members_hold_bytes (members_at (value_at c.args.limit) c.args.count c.args.bytes.now))
 
 pub members_found-returns-in_default : goal.members_found-returns-in_default
 members_found-returns-in_default t c = held_members-none (value_at c.args.limit) c.args.count c.items.counter c.items.found c.items.rest.now (holding members_hold_bytes (members_at (value_at c.args.limit) c.args.count c.args.bytes.now)) c.items-test.true c.in_default.ensures c.items.invariant
@@ -52,7 +54,9 @@ pub members_found-returns : goal.members_found-returns
 members_found-returns t c = held_members-done (value_at c.args.limit) c.args.count c.items.counter c.items.found c.items.rest.now (holding members_hold_bytes (members_at (value_at c.args.limit) c.args.count c.args.bytes.now)) c.items-test.false c.items.invariant
 
 pub fields_found-fields-init : goal.fields_found-fields-init
-fields_found-fields-init t c = so_far-start _
+fields_found-fields-init t c =
+    let all : c.args.count - 0 ≡ c.args.count = omega arith in
+    ap (λ n. so_far false (fields_held (value_at c.args.limit) n None c.args.bytes.now)) all ∙ so_far-start (fields_held (value_at c.args.limit) c.args.count None c.args.bytes.now)
 
 pub fields_found-returns-in_default : goal.fields_found-returns-in_default
 fields_found-returns-in_default t c =

@@ -1,5 +1,5 @@
 use Rattle.std.proofs.Common.{◌≡◌, ◌+◌, ◌*◌, ◌-◌, None, option_map}
-use Rattle.request_codec.specs.Tree.{members_hold_bytes, fields_hold_bytes}
+use Rattle.request_codec.specs.Tree.{members_hold_bytes}
 use Rattle.request_codec.specs.Reading.{value_at, members_at}
 use Rattle.request_codec.specs.inside.Ends.{holding}
 use Rattle.request_codec.proofs.BytesFound.{so_far, fields_held}
