@@ -38,7 +38,7 @@ hex_digit : (c : ℕ) → is_digit c ≡ true → is_hex_digit c ≡ true
 hex_digit c h = grind (arith, nat_tests)
 
 all_hex : (s : List ℕ) → list_all is_digit s ≡ true → AllPass is_hex_digit s
-all_hex [] h = All-nil _
+all_hex [] h = All-nil (λ x. is_hex_digit x ≡ true)
 all_hex (c ∷ s) h =
     let parts = and_parts (is_digit c) (list_all is_digit s) h in
     All-cons (λ x. is_hex_digit x ≡ true) c s (hex_digit c parts.0) (all_hex s parts.1)

@@ -24,7 +24,6 @@ pub mod JsonObjects
 pub mod JsonMembers
 pub mod JsonDepths
 pub mod JsonShown
-pub mod Flaws
 pub mod BytesFound
 pub mod Migrated
 pub mod ValueEnds

@@ -9,17 +9,20 @@ use Rattle.serde_json.proofs.Views.{view-Object}
 use Rattle.request_codec.specs.Tree as tree
 use Rattle.request_codec.specs.Tree.{Tree}
 use Rattle.request_codec.specs.Seen.{value_of, entry_of}
-use Rattle.request_codec.specs.Json.{value_of_json, members_of_json, fields_of_json}
+use Rattle.request_codec.specs.Json.{hex_bytes, by_hex, value_of_json, members_of_json, fields_of_json}
 use Rattle.request_codec.proofs.DatumValue.{value_of-Map}
 use Rattle.request_codec.proofs.Entries.{Entry, AreBelow, insert_entry-last}
 use Rattle.request_codec.proofs.JsonParts.{JsonEntry, items-next, items-done, fields-next, fields-done}
 use Rattle.request_codec.proofs.JsonObjects.{AreBelowKeys, below_first, below_others}
 use Rattle.request_codec.proofs.json_reader.+json_reading.Goals as goal
 
-pub datum_of_json-returns-in_ok-map_of_json-in-Object : goal.datum_of_json-returns-in_ok-map_of_json-in-Object
-datum_of_json-returns-in_ok-map_of_json-in-Object t c =
-    let done = c.in_ok-map_of_json-in-Object in
-    ap (λ (v : Value). value_of_json (view v)) c.in-Object.is ∙ ap value_of_json (view-Object c.in-Object.members) ∙ ap (option_map tree.map) done.ensures ∙ ap (λ (v : Tree). Some v) (sym (value_of-Map done.field-0))
+pub datum_of_json-returns-in_ok-map_of_json-in-None-hex_in : goal.datum_of_json-returns-in_ok-map_of_json-in-None-hex_in
+datum_of_json-returns-in_ok-map_of_json-in-None-hex_in t c =
+    let done = c.in_ok-map_of_json-in-None-hex_in in
+    let ms = members_view c.in-Object.members.entries in
+    ap (λ (v : Value). value_of_json (view v)) c.in-Object.is ∙ ap value_of_json (view-Object c.in-Object.members)
+    ∙ ap (λ o. by_hex o (λ d. option_map tree.bytes (hex_bytes d)) (option_map tree.map (fields_of_json ms))) (sym c.in-None-hex_in.ensures)
+    ∙ ap (option_map tree.map) done.ensures ∙ ap (λ (v : Tree). Some v) (sym (value_of-Map done.field-0))
 
 pub items_of_json-items-preserved : goal.items_of_json-items-preserved
 items_of_json-items-preserved t c =
