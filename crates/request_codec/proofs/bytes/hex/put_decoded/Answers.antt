@@ -13,4 +13,3 @@ unreachable-requires c =
     omega (arith, length-take (length whole - begin) (drop begin whole), length-drop begin whole, a, b) in
     let filled = digits_fill c.args.digits.now _ _ _ c.requires.hex (room ∙ c.bytes_in-count.ensures) (rw c.as_bytes.ensures.value at c.decode_to_slice.ensures.value) in
     cc (c.in-Err.is, filled.0)
-
