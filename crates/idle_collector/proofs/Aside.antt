@@ -1,8 +1,8 @@
 -- The note of the latest grain, beside the others.
-use Rattle.std.proofs.Common.{◌≡◌, ℕ, ◌+◌, Bool, true, false, cond, List, [], ◌∷◌, ◌++◌, Option, Some, None, refl, ap, sym, ◌∙◌, true≢false, arith}
+use Rattle.std.proofs.Common.{◌≡◌, ℕ, ◌+◌, Bool, true, false, cond, List, [], ◌∷◌, ◌++◌, Option, Some, None, refl, ap, sym, ◌∙◌, subst, true≢false, arith}
 use Rattle.std.proofs.lemmas.List.{append-nil}
 use Rattle.std.proofs.lemmas.List.Sums.{sum_by-append}
-use Rattle.std.specs.Prelude.{nat_le, count_by}
+use Rattle.std.specs.Prelude.{nat_le, count_by, IfSome}
 use Rattle.std.specs.Ordering.{eq_by_cmp}
 use Rattle.std.specs.FinMap as map
 use Rattle.finite_maps.proofs.Choices.{cond-again, cond-apart}
@@ -49,6 +49,12 @@ others-forgotten (Noted other moment) n id e = maps.alike grain_cmp_total grain_
 
 pub latest-stays : (latest : Latest) (n m : Notes) (id : Grain) → is_of id latest ≡ false → m ≡ forgotten n id → held_with latest m ≡ record { notes = forgotten (with_latest latest n) id; expected = expected_of latest }
 latest-stays latest n m id e same = ap (held_with latest) same ∙ ap (λ notes. record { notes = notes; expected = expected_of latest }) (others-forgotten latest n id e)
+
+-- another one is filed with the moment with which it is noted
+pub filed_at : (latest : Latest) (n : Notes) (id : Grain) (moment : ℕ) → is_of id latest ≡ false → IfSome (map.get (with_latest latest n) id) (λ noted. noted ≡ moment) → IfSome (map.get n id) (λ noted. noted ≡ moment)
+filed_at Nobody n id moment e own = own
+filed_at (Expected other) n id moment e own = own
+filed_at (Noted other last) n id moment e own = subst (λ o. IfSome o (λ noted. noted ≡ moment)) (get-noted n other last id ∙ ap (λ b. cond b (Some last) (map.get n id)) e) own
 
 -- ---- what is due
 

@@ -2,7 +2,8 @@
 use Rattle.std.proofs.Common.{◌≡◌, ℕ, Bool, true, false, ◌&&◌, ◌||◌, ◌+◌, ◌≤◌, cond, List, [], ◌∷◌, map, Option, Some, None, refl, ap, sym, ◌∙◌, subst, true≢false, arith}
 use Rattle.std.proofs.lemmas.List.Sorted.{sum_by-IsPermutation}
 use Rattle.std.proofs.lemmas.List.Kept.{IsStrictlySortedBy-dedup}
-use Rattle.std.specs.Prelude.{unwrap_or, T, is_some, nat_le}
+use Rattle.std.proofs.lemmas.List.Recursion.{is_count_by}
+use Rattle.std.specs.Prelude.{unwrap_or, T, is_some, nat_le, count_by}
 use Rattle.std.specs.declared.cmp.Ordering.TheVariants.{Less}
 use Rattle.std.specs.Ordering.{is_lt, eq_by_cmp}
 use Rattle.std.specs.Cmp.{Equal-is}
@@ -15,7 +16,14 @@ use Rattle.grain_id.specs.Names.{Grain, grain_cmp}
 use Rattle.grain_id.proofs.Order.{grain_cmp_total, grain_cmp_exact, eq_by_cmp-Decides}
 use Rattle.finite_maps.proofs.Maps as maps
 use Rattle.idle_collector.specs.Notes.{Notes, is_due, due, HoldsDue}
-use Rattle.idle_collector.proofs.Prefix.{count, count_is}
+
+-- `count_by`, one element at a time
+abbrev pub count : {X : Type 0} → (X → Bool) → List X → ℕ
+count p [] = 0
+count p (x ∷ xs) = cond (p x) (1 + count p xs) (count p xs)
+
+pub count_is : {X : Type 0} (p : X → Bool) (xs : List X) → count p xs ≡ count_by p xs
+count_is p xs = is_count_by (count p) p refl (λ x xs. refl) xs
 
 abbrev pub tie : Grain → Grain → Bool
 tie = eq_by_cmp grain_cmp

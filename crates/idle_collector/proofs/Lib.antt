@@ -1,7 +1,5 @@
-pub mod Moments
-pub mod Ties
-pub mod Prefix
 pub mod Due
 pub mod Aside
 pub mod OneMoment
+pub mod Sets
 pub mod AgesOf

@@ -1,4 +1,4 @@
 -- What only the contracts of this crate's own parts cite. No promise stands on it.
 pub mod AgesInOrder
 pub mod Aside
-pub mod Ties
+pub mod Sets

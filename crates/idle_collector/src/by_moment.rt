@@ -1,145 +1,96 @@
-//! The notes that are filed: by grain, and in the order of time.
+//! The notes that are filed: the grains of each moment.
 
-ghost use Rattle.std.specs.Prelude.{◌≡◌, None, Some, true, false, OnOk, OnErr, IfOk};
-ghost use Rattle.std.specs.FinMap.{empty};
-ghost use Rattle.std.specs.BTreeSet as set;
-ghost use Rattle.slab.specs.Slab.{get, Updates, SameValues};
+ghost use Rattle.std.specs.Prelude.{◌≡◌, ◌++◌, None, OnOk, OnErr, IfOk, IfSome};
+ghost use Rattle.std.specs.FinMap as map;
 ghost use Rattle.idle_collector.specs.Notes.{noted, forgotten, HoldsDue};
-ghost use Rattle.idle_collector.specs.inside.Ties.{time_cmp};
 
 use grain_id::{GrainId, HashSeed};
-use indexmap::IndexMap;
-use indexmap::map::Entry;
-use slab::Slab;
+use indexmap::IndexSet;
 use std::alloc::{AllocError, Global};
-use std::collections::BTreeSet;
+use std::collections::BTreeMap;
 use std::marker::Model;
 
-/// The notes that are filed. Each grain has a place of a slab for as long as its note is filed, and
-/// stands in the order of time by its moment and its place.
+/// The notes that are filed. The grains that are due from one moment on are in one set, and the sets stand in the order of
+/// time. So a note is made, or dropped by its moment, by one look-up among the moments and one among the moment's grains.
 #[derive(Drop)]
 pub struct ByMoment {
-    notes: IndexMap<GrainId, (u64, usize), HashSeed>,
-    grains: Slab<GrainId>,
-    by_moment: BTreeSet<(u64, usize)>,
+    sets: BTreeMap<u64, IndexSet<GrainId, HashSeed>>,
+    alloc: Global,
+    seed: HashSeed,
 }
 
 impl Model for ByMoment {
-    ghost use Rattle.std.specs.FinMap.{from_entries};
-    ghost use Rattle.std.specs.Map.{lookup};
-    ghost use Rattle.std.specs.BTreeSet.{contains};
-    ghost use Rattle.slab.specs.Slab.{get};
-    ghost use Rattle.grain_id.specs.Names.{grain_eq};
     ghost use Rattle.idle_collector.specs.Notes.{Notes, coded_notes};
-    ghost use Rattle.idle_collector.specs.inside.Ties.{moments, time_cmp, AreTied};
+    ghost use Rattle.idle_collector.specs.inside.Sets.{notes_of, AreApart};
 
     ghost Value = { Notes };
 
     ghost coded = { coded_notes };
 
-    ghost view = { λ c. from_entries (moments c.notes.entries) };
+    ghost view = { λ c. notes_of c.sets.entries };
 
-    ghost invariant = { λ c. AreTied (λ grain. lookup (grain_eq grain) c.notes.entries) (get c.grains) (contains time_cmp c.by_moment) };
-}
-
-/// Takes a place for a grain, and enters the place in the order of time.
-fn enter(
-    grains: &mut Slab<GrainId>,
-    by_moment: &mut BTreeSet<(u64, usize)>,
-    id: &GrainId,
-    moment: u64,
-) -> Result<usize, AllocError>
-    ensures vacant { IfOk result (λ place. get grains.old place ≡ None) }
-    ensures placed { IfOk result (λ place. Updates grains.old grains.new place (Some id.now)) }
-    ensures entered { IfOk result (λ place. set.Updates time_cmp by_moment.old by_moment.new (moment, place) true) }
-    ensures same_grains { OnErr result (SameValues grains.old grains.new) }
-    ensures same_order { OnErr result (set.IsUnchanged by_moment.old by_moment.new) }
-{
-    let place = grains.insert(id.clone()?)?;
-    match by_moment.insert((moment, place)) {
-        Ok(_) => Ok(place),
-        Err(_) => {
-            grains.try_remove(place);
-            Err(AllocError)
-        }
-    }
-}
-
-/// Takes a place out of the order of time, and its grain away. Takes no memory.
-fn leave(
-    grains: &mut Slab<GrainId>,
-    by_moment: &mut BTreeSet<(u64, usize)>,
-    moment: u64,
-    place: usize,
-)
-    ensures vacated { Updates grains.old grains.new place None }
-    ensures left { set.Updates time_cmp by_moment.old by_moment.new (moment, place) false }
-{
-    by_moment.remove(&(moment, place));
-    grains.try_remove(place);
+    ghost invariant = { λ c. AreApart c.sets };
 }
 
 impl ByMoment {
     /// Nothing is noted. Grains will be found by hashes from this seed.
     pub fn new(alloc: Global, seed: HashSeed) -> ByMoment
-        ensures { result ≡ empty }
+        ensures { result ≡ map.empty }
     {
         ByMoment {
-            notes: IndexMap::with_hasher(alloc, seed),
-            grains: Slab::new(alloc),
-            by_moment: BTreeSet::new(alloc),
+            sets: BTreeMap::new(alloc),
+            alloc,
+            seed,
         }
     }
 
-    /// Notes the moment from which a grain is due, in place of its earlier note.
+    /// Notes the moment from which a grain is due. It has no earlier note.
     ///
     /// # Errors
     ///
     /// Out of memory: the notes are as before.
     pub fn note(&mut self, id: GrainId, moment: u64) -> Result<(), AllocError>
+        requires { map.get self.old id ≡ None }
         ensures noted { OnOk result (self.new ≡ noted self.old id moment) }
         ensures unchanged { OnErr result (self.new ≡ self.old) }
     {
-        match self.notes.entry(id)? {
-            Entry::Occupied(entry) => {
-                let noted = entry.into_mut();
-                let (before, place) = *noted;
-                if before != moment {
-                    self.by_moment.insert((moment, place))?;
-                    self.by_moment.remove(&(before, place));
-                    *noted = (moment, place);
-                }
-                Ok(())
-            }
-            Entry::Vacant(entry) => {
-                let place = match enter(
-                    &mut self.grains,
-                    &mut self.by_moment,
-                    entry.key(),
-                    moment,
-                ) {
-                    Ok(place) => place,
-                    Err(refused) => {
-                        entry.into_key();
-                        return Err(refused);
-                    }
-                };
-                entry.insert((moment, place));
-                Ok(())
-            }
+        if let Some(grains) = self.sets.get_mut(&moment) {
+            grains.insert(id)?;
+            return Ok(());
         }
+        let mut grains = IndexSet::with_hasher(self.alloc, self.seed);
+        grains.insert(id)?;
+        self.sets.insert(moment, grains)?;
+        Ok(())
     }
 
-    /// Drops the note of a grain, if there is one. Takes no memory.
-    pub fn forget(&mut self, id: &GrainId)
+    /// The moment with which a grain is noted, if it is. Looks into the set of each moment.
+    pub fn moment_of(&self, id: &GrainId) -> Option<u64>
+        ensures { result ≡ map.get self.now id.now }
+    {
+        for (moment, grains) in self.sets.iter() {
+            if grains.contains(id) {
+                return Some(*moment);
+            }
+        }
+        None
+    }
+
+    /// Drops the note of a grain, if there is one: it is of this moment. Takes no memory.
+    pub fn forget(&mut self, id: &GrainId, moment: u64)
+        requires { IfSome (map.get self.old id.now) (λ noted. noted ≡ moment) }
         ensures { self.new ≡ forgotten self.old id.now }
     {
-        if let Some((moment, place)) = self.notes.swap_remove(id) {
-            leave(&mut self.grains, &mut self.by_moment, moment, place);
+        let Some(grains) = self.sets.get_mut(&moment) else {
+            return;
+        };
+        grains.swap_remove(id);
+        if grains.is_empty() {
+            drop(self.sets.remove(&moment));
         }
     }
 
-    /// The grains that are due, the one that is due for longest first. Looks at these and at one more.
+    /// The grains that are due, those of the earliest moment first. Looks at these and at one moment more.
     ///
     /// # Errors
     ///
@@ -147,15 +98,27 @@ impl ByMoment {
     pub fn first_due(&self, alloc: Global, now: u64) -> Result<Vec<GrainId>, AllocError>
         ensures { IfOk result (λ grains. HoldsDue self.now now grains.items) }
     {
-        let mut grains = Vec::new(alloc);
-        for (moment, place) in self.by_moment.iter() {
+        let mut due = Vec::new(alloc);
+        for (moment, grains) in self.sets.iter() {
             if now < *moment {
                 break;
             }
-            if let Some(id) = self.grains.get(*place) {
-                grains.push(id.clone()?)?;
-            }
+            add_all(grains.as_slice(), &mut due)?;
         }
-        Ok(grains)
+        Ok(due)
     }
+}
+
+/// Adds the grains to others.
+///
+/// # Errors
+///
+/// Out of memory.
+fn add_all(grains: &[GrainId], others: &mut Vec<GrainId>) -> Result<(), AllocError>
+    ensures { OnOk result (others.new.items ≡ others.old.items ++ grains.now) }
+{
+    for id in grains {
+        others.push(id.clone()?)?;
+    }
+    Ok(())
 }

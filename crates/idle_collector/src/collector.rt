@@ -5,35 +5,31 @@ ghost use Rattle.std.specs.FinMap as map;
 ghost use Rattle.idle_collector.specs.Notes.{noted, noted_if, forgotten, due};
 
 use crate::by_moment::ByMoment;
-use crate::latest::Latest;
-use crate::{latest, moment};
+use crate::latest::{self, Latest};
 use grain_id::{GrainId, HashSeed};
-use indexmap::IndexSet;
 use std::alloc::{AllocError, Global};
 use std::marker::Model;
 use std::mem::replace;
 
-/// The grains that are idle, and the moment from which each of them is due. The note that came last is held aside, and those of
-/// one moment beside it; the others are filed. A grain that may be idle soon is expected: there is room for its note.
+/// The grains that are idle, and the moment from which each of them is due. The note that came last is held aside; the others
+/// are filed by their moments. A grain that may be idle soon is expected: there is room for its note.
 #[derive(Drop)]
 pub struct Collector {
     latest: Latest,
-    moment: u64,
-    grains: IndexSet<GrainId, HashSeed>,
     filed: ByMoment,
 }
 
 impl Model for Collector {
     ghost use Rattle.idle_collector.specs.Notes.{Collection, coded_collection};
-    ghost use Rattle.idle_collector.specs.inside.Aside.{held_with, all_noted, IsHeldApart};
+    ghost use Rattle.idle_collector.specs.inside.Aside.{held_with, IsApart};
 
     ghost Value = { Collection };
 
     ghost coded = { coded_collection };
 
-    ghost view = { λ c. held_with c.latest (all_noted c.filed c.grains.keys c.moment) };
+    ghost view = { λ c. held_with c.latest c.filed };
 
-    ghost invariant = { λ c. IsHeldApart c.latest c.grains.keys c.moment c.filed };
+    ghost invariant = { λ c. IsApart c.latest c.filed };
 }
 
 impl Collector {
@@ -50,8 +46,6 @@ impl Collector {
     {
         Collector {
             latest: Latest::Nobody,
-            moment: 0,
-            grains: IndexSet::with_hasher(alloc, seed),
             filed: ByMoment::new(alloc, seed),
         }
     }
@@ -65,12 +59,7 @@ impl Collector {
         ensures expected { OnOk result (self.new ≡ record self.old { expected = Some id }) }
         ensures unchanged { OnErr result (self.new ≡ self.old) }
     {
-        latest::put_by(
-            &self.latest,
-            &mut self.moment,
-            &mut self.grains,
-            &mut self.filed,
-        )?;
+        latest::put_by(&self.latest, &mut self.filed)?;
         self.latest = Latest::Expected(id);
         Ok(())
     }
@@ -101,7 +90,8 @@ impl Collector {
         Ok(())
     }
 
-    /// Drops the note of a grain, if there is one. Takes no memory.
+    /// Drops the note of a grain, if there is one. Takes no memory. Looks for the grain among those of each moment;
+    /// `forget_at` looks among those of one.
     pub fn forget(&mut self, id: &GrainId)
         ensures { self.new ≡ record self.old { notes = forgotten self.old.notes id.now } }
     {
@@ -109,7 +99,22 @@ impl Collector {
             self.latest = Latest::Nobody;
             return;
         }
-        moment::forget(&mut self.grains, &mut self.filed, id);
+        let Some(moment) = self.filed.moment_of(id) else {
+            return;
+        };
+        self.filed.forget(id, moment);
+    }
+
+    /// Drops the note of a grain, if there is one: it is of this moment. Takes no memory.
+    pub fn forget_at(&mut self, id: &GrainId, moment: u64)
+        requires { IfSome (map.get self.old.notes id.now) (λ noted. noted ≡ moment) }
+        ensures { self.new ≡ record self.old { notes = forgotten self.old.notes id.now } }
+    {
+        if latest::is_of(&self.latest, id) {
+            self.latest = Latest::Nobody;
+            return;
+        }
+        self.filed.forget(id, moment);
     }
 
     /// The grains whose moment is `now` or earlier, ascending. Looks at the grains that are due, and at
@@ -122,7 +127,6 @@ impl Collector {
         ensures { IfOk result (λ grains. grains.items ≡ due self.now.notes now) }
     {
         let mut grains = self.filed.first_due(alloc, now)?;
-        moment::add_due(self.grains.as_slice(), self.moment, now, &mut grains)?;
         latest::add_due(&self.latest, now, &mut grains)?;
         grains.sort_unstable();
         Ok(grains)

@@ -1,12 +1,10 @@
 //! The grain that came last, which is held aside from the others.
 
 ghost use Rattle.std.specs.Prelude.{◌≡◌, ◌++◌, OnOk, OnErr};
-ghost use Rattle.idle_collector.specs.inside.Aside.{is_of, with_latest, due_of, all_noted, AreApart, IsHeldApart};
+ghost use Rattle.idle_collector.specs.inside.Aside.{is_of, with_latest, due_of, IsApart};
 
 use crate::by_moment::ByMoment;
-use crate::moment;
-use grain_id::{GrainId, HashSeed};
-use indexmap::IndexSet;
+use grain_id::GrainId;
 use std::alloc::AllocError;
 
 /// What is held of the grain that came last.
@@ -31,26 +29,18 @@ pub fn is_of(latest: &Latest, id: &GrainId) -> bool
     }
 }
 
-/// Puts the note of the latest grain among those of its moment, if it is noted. Those of another moment are filed.
+/// Files the note of the latest grain, if it is noted.
 ///
 /// # Errors
 ///
-/// Out of memory: some of them may be filed.
-pub fn put_by(
-    latest: &Latest,
-    at: &mut u64,
-    grains: &mut IndexSet<GrainId, HashSeed>,
-    filed: &mut ByMoment,
-) -> Result<(), AllocError>
-    requires { IsHeldApart latest.now grains.old.keys at.old filed.old }
-    ensures put { OnOk result (all_noted filed.new grains.new.keys at.new
-        ≡ with_latest latest.now (all_noted filed.old grains.old.keys at.old)) }
-    ensures unchanged { OnErr result (all_noted filed.new grains.new.keys at.new ≡ all_noted filed.old grains.old.keys at.old) }
-    ensures apart { AreApart grains.new.keys filed.new }
+/// Out of memory: the filed notes are as before.
+pub fn put_by(latest: &Latest, filed: &mut ByMoment) -> Result<(), AllocError>
+    requires { IsApart latest.now filed.old }
+    ensures put { OnOk result (filed.new ≡ with_latest latest.now filed.old) }
+    ensures unchanged { OnErr result (filed.new ≡ filed.old) }
 {
     if let Latest::Noted(id, moment) = latest {
-        moment::go_on(at, grains, filed, *moment)?;
-        grains.insert(id.clone()?)?;
+        filed.note(id.clone()?, *moment)?;
     }
     Ok(())
 }

@@ -4,9 +4,8 @@
 //! that map as they say, and `due` gives exactly the grains whose moment has come, ascending. How long
 //! a grain stays is for the layer above to say: it notes the moment. A grain that is expected has room
 //! for its note, which then takes no memory. The definitions are in `specs/Notes.antt`. The note that
-//! came last is held aside, beside the grains of one moment, as `specs/Aside.antt` says; behind these
-//! are the notes that are filed. `specs/Ties.antt` says how these, the places of their grains and the
-//! order of time stand together. `proofs/Due.antt` has `due-there`, which says of one grain whether it's
+//! came last is held aside, as `specs/inside/Aside.antt` says; the others are filed, in a set for each moment, as
+//! `specs/inside/Sets.antt` says. `proofs/Due.antt` has `due-there`, which says of one grain whether it's
 //! among the due ones.
 #![tactic(auto)]
 
@@ -14,7 +13,6 @@ mod ages;
 mod by_moment;
 mod collector;
 mod latest;
-mod moment;
 
 pub use ages::{AgeFault, AgeTable, MAX_AGES};
 pub use collector::Collector;

@@ -1,6 +1,5 @@
--- The notes that are held aside from the filed ones: that of the grain that came last, and those of one moment.
-use Rattle.std.specs.Prelude.{◌≡◌, ℕ, Bool, true, false, nat_le, List, [], ◌∷◌, Option, Some, None, if◌then◌else◌}
-use Rattle.std.specs.List.{list_any}
+-- The note of the grain that came last, which is held aside from the filed ones.
+use Rattle.std.specs.Prelude.{◌≡◌, ℕ, Bool, false, nat_le, List, [], ◌∷◌, Option, Some, None, if◌then◌else◌}
 use Rattle.std.specs.FinMap as map
 use Rattle.grain_id.specs.Names.{Grain, grain_eq}
 use Rattle.idle_collector.specs.declared.latest.Latest.{Latest}
@@ -35,21 +34,8 @@ due_of now Nobody = []
 due_of now (Expected id) = []
 due_of now (Noted id moment) = if nat_le moment now then id ∷ [] else []
 
--- each of the grains is due from then on
-abbrev pub all_noted : Notes → List Grain → ℕ → Notes
-all_noted notes [] moment = notes
-all_noted notes (grain ∷ grains) moment = all_noted (noted notes grain moment) grains moment
-
 -- no other note is of the latest grain
 abbrev pub IsApart : Latest → Notes → Type 0
 IsApart Nobody notes = Unit {0}
 IsApart (Expected id) notes = Unit {0}
 IsApart (Noted id moment) notes = map.get notes id ≡ None
-
--- there is no note of these grains
-abbrev pub AreApart : List Grain → Notes → Type 0
-AreApart grains notes = (grain : Grain) → list_any (grain_eq grain) grains ≡ true → map.get notes grain ≡ None
-
--- No grain is noted in two of the three: as the latest, among those of one moment, and among the filed ones.
-abbrev pub IsHeldApart : Latest → List Grain → ℕ → Notes → Type 0
-IsHeldApart latest grains moment filed = IsApart latest (all_noted filed grains moment) × AreApart grains filed

@@ -1,92 +1,86 @@
-use Rattle.std.proofs.Common.{rules, ◌≡◌, ℕ, List, Some, None, Result, Ok, Err, false, cond, refl, ap, ◌∙◌}
-use Rattle.std.specs.Map.{lookup}
+use Rattle.std.proofs.Common.{◌≡◌, ◌∷◌, [], true, false, cond, List, Some, None, Option, ℕ, refl, ap, sym, ◌∙◌, subst}
+use Rattle.std.specs.Prelude.{IfSome, Result, Ok, Err, OnErr}
+use Rattle.std.specs.BTreeMap as tree
+use Rattle.std.specs.FinMap as map
 use Rattle.std.specs.List.{list_any}
-use Rattle.std.specs.Ordering.{is_eq}
-use Rattle.std.specs.Result.{OnErr}
-use Rattle.indexmap.specs.Entry.{map_with_value, entry_key}
+use Rattle.std.specs.Ordering.{nat_cmp, is_eq}
+use Rattle.finite_maps.proofs.Maps as maps
 use Rattle.grain_id.specs.Names.{Grain, grain_eq}
-use Rattle.grain_id.proofs.Order.{grain_eq_decides}
-use Rattle.idle_collector.specs.inside.Ties.{time_cmp}
-use Rattle.idle_collector.proofs.Moments.{found, noted_again, shown-noted, shown-same}
-use Rattle.idle_collector.proofs.Ties.{tied-same, tied-first, tied-moved}
+use Rattle.grain_id.proofs.Order.{grain_cmp_total, grain_cmp_exact}
+use Rattle.idle_collector.specs.Notes.{Notes, noted}
+use Rattle.idle_collector.specs.inside.Sets.{has}
+use Rattle.idle_collector.proofs.Sets.{changed_apart, now_noted, now_forgotten, not_there}
 use Rattle.idle_collector.proofs.by_moment.ByMoment.note.Goals as goal
 
--- ---- a noted grain gets another moment
-
-pub invariant_of-self-then-before-moment : goal.invariant_of-self-then-before-moment
-invariant_of-self-then-before-moment c =
-    let old = c.self.inside.notes.entries in
-    let before : ℕ × ℕ = c.into_mut-noted.result.now in
-    let note : ℕ × ℕ = (c.args.moment, before.1) in
-    let after : List (Grain × (ℕ × ℕ)) = (map_with_value c.in_ok-entry.field-0 note).entries in
-    let was : lookup (grain_eq c.args.id) old ≡ Some before = search rules in
-    tied-moved c.self.invariant c.args.id before.0 c.args.moment before.1 was c.if-before-moment.true
-    (found after _ _ (search rules) (c.in_ok-entry.ensures.update.0 note).0)
-    (λ p. c.remove.ensures.updates.0 p ∙ ap (cond (is_eq (time_cmp before p)) false) (c.in_ok-insert-in-Occupied.ensures.updates.0 p))
-
-pub returns-in_ok-insert-in-Occupied-clause-noted :
-    goal.returns-in_ok-insert-in-Occupied-clause-noted
-returns-in_ok-insert-in-Occupied-clause-noted c =
-    let note : ℕ × ℕ = (c.args.moment, c.into_mut-noted.result.now.1) in
-    let after : List (Grain × (ℕ × ℕ)) = (map_with_value c.in_ok-entry.field-0 note).entries in
-    rw (← c.self.view_is) (shown-noted c.self.inside.notes.entries _ c.args.id note (found after _ _ (search rules) (c.in_ok-entry.ensures.update.0 note).0))
-
--- ---- a noted grain keeps its note
-
-pub invariant_of-self-else-before-moment : goal.invariant_of-self-else-before-moment
-invariant_of-self-else-before-moment c =
-    let old = c.self.inside.notes.entries in
-    let before : ℕ × ℕ = c.into_mut-noted.result.now in
-    let after : List (Grain × (ℕ × ℕ)) = (map_with_value c.in_ok-entry.field-0 before).entries in
-    let was : lookup (grain_eq c.args.id) old ≡ Some before = search rules in
-    tied-same c.self.invariant (found after _ _ (search rules) (λ q. (c.in_ok-entry.ensures.update.0 before).0 q ∙ noted_again old c.args.id before was q)) (λ n. refl) (λ p. refl)
-
-pub returns-else-before-moment-clause-noted : goal.returns-else-before-moment-clause-noted
-returns-else-before-moment-clause-noted c =
-    let before : ℕ × ℕ = c.into_mut-noted.result.now in
-    let after : List (Grain × (ℕ × ℕ)) = (map_with_value c.in_ok-entry.field-0 before).entries in
-    rw (← c.self.view_is, ← c.if-before-moment.false) (shown-noted c.self.inside.notes.entries _ c.args.id before (found after _ _ (search rules) (c.in_ok-entry.ensures.update.0 before).0))
-
--- ---- nor does it get another where memory ran out
-
-pub invariant_of-self-in_err-insert-in-Occupied : goal.invariant_of-self-in_err-insert-in-Occupied
-invariant_of-self-in_err-insert-in-Occupied c =
-    let old = c.self.inside.notes.entries in
-    let before : ℕ × ℕ = c.into_mut-noted.result.now in
-    let after : List (Grain × (ℕ × ℕ)) = (map_with_value c.in_ok-entry.field-0 before).entries in
-    let was : lookup (grain_eq c.args.id) old ≡ Some before = search rules in
-    tied-same c.self.invariant (found after _ _ (search rules) (λ q. (c.in_ok-entry.ensures.update.0 before).0 q ∙ noted_again old c.args.id before was q)) (λ n. refl)
-    (λ p. ap (list_any (λ k. is_eq (time_cmp p k))) c.in_err-insert-in-Occupied.ensures.err)
+-- it has no note
+unnoted : (o : Option ℕ) (m : ℕ) → o ≡ None → IfSome o (λ k. k ≡ m)
+unnoted None m e = tt
+unnoted (Some k) m e = absurd cc
 
 either_way : {T E P : Type 0} (r : Result T E) → P → OnErr r P
 either_way (Ok x) p = tt
 either_way (Err e) p = p
 
-pub returns-in_err-insert-in-Occupied-clause-unchanged :
-    goal.returns-in_err-insert-in-Occupied-clause-unchanged
-returns-in_err-insert-in-Occupied-clause-unchanged c =
-    let old = c.self.inside.notes.entries in
-    let before : ℕ × ℕ = c.into_mut-noted.result.now in
-    let after : List (Grain × (ℕ × ℕ)) = (map_with_value c.in_ok-entry.field-0 before).entries in
-    let was : lookup (grain_eq c.args.id) old ≡ Some before = search rules in
-    either_way c.from_residual-in_err-insert-in-Occupied.result
-    (shown-same old _ (found after _ _ (search rules) (λ q. (c.in_ok-entry.ensures.update.0 before).0 q ∙ noted_again old c.args.id before was q)) ∙ c.self.view_is)
+-- ---- there is a set of the moment
 
--- ---- a grain is noted that wasn't
+pub invariant_of-self-in-Some : goal.invariant_of-self-in-Some
+invariant_of-self-in-Some c =
+    let after = c.insert.new.self in
+    let wrote = (c.get_mut.follows.holds after) in
+    changed_apart c.self.inside.sets (c.get_mut.follows.lender after) c.self.invariant wrote.4 c.args.moment (Some after) (wrote.3 (rw (sym c.in-Some.ensures.value) refl)).0
+    c.insert.ensures.unique c.args.id true (λ q. c.in_ok-insert.ensures.updates.0 q ∙ ap (λ o. cond (grain_eq c.args.id q) true (has q o)) c.in-Some.ensures.value)
+    (unnoted _ c.args.moment (ap (λ (n : Notes). map.get n c.args.id) c.self.view_is ∙ c.requires))
 
-pub invariant_of-self-in-Vacant : goal.invariant_of-self-in-Vacant
-invariant_of-self-in-Vacant c =
-    let note : ℕ × ℕ = (c.args.moment, c.in-Ok.place) in
-    let after : List (Grain × (ℕ × ℕ)) = (map_with_value c.in_ok-entry.field-0 note).entries in
-    let none : lookup (grain_eq c.args.id) c.self.inside.notes.entries ≡ None = search rules in
-    let same : c.args.id ≡ entry_key c.in_ok-entry.field-0 = (grain_eq_decides c.args.id (entry_key c.in_ok-entry.field-0)).0 c.in_ok-entry.ensures.same_key in
-    let key : c.key.result.now ≡ c.args.id = search rules in
-    tied-first c.self.invariant c.args.id c.args.moment c.in-Ok.place none c.in-Ok.ensures.vacant
-    (found after _ _ (search rules) (c.in_ok-entry.ensures.update.0 note).0)
-    (c.in-Ok.ensures.placed.changed ∙ ap Some key) c.in-Ok.ensures.placed.others c.in-Ok.ensures.entered.0
+pub returns-in-Some-clause-noted : goal.returns-in-Some-clause-noted
+returns-in-Some-clause-noted c =
+    let after = c.insert.new.self in
+    let wrote = (c.get_mut.follows.holds after) in
+    now_noted c.self.inside.sets (c.get_mut.follows.lender after) c.self.invariant wrote.4 c.args.moment (Some after) (wrote.3 (rw (sym c.in-Some.ensures.value) refl)).0
+    c.insert.ensures.unique c.args.id true (λ q. c.in_ok-insert.ensures.updates.0 q ∙ ap (λ o. cond (grain_eq c.args.id q) true (has q o)) c.in-Some.ensures.value)
+    (unnoted _ c.args.moment (ap (λ (n : Notes). map.get n c.args.id) c.self.view_is ∙ c.requires)) refl
+    ∙ ap (λ (n : Notes). noted n c.args.id c.args.moment) c.self.view_is
 
-pub returns-in-Ok-clause-noted : goal.returns-in-Ok-clause-noted
-returns-in-Ok-clause-noted c =
-    let note : ℕ × ℕ = (c.args.moment, c.in-Ok.place) in
-    let after : List (Grain × (ℕ × ℕ)) = (map_with_value c.in_ok-entry.field-0 note).entries in
-    rw (← c.self.view_is) (shown-noted c.self.inside.notes.entries _ c.args.id note (found after _ _ (search rules) (c.in_ok-entry.ensures.update.0 note).0))
+-- ---- its room is refused
+
+pub invariant_of-self : goal.invariant_of-self
+invariant_of-self c =
+    let after = c.insert.new.self in
+    let wrote = (c.get_mut.follows.holds after) in
+    let none = ap (λ (n : Notes). map.get n c.args.id) c.self.view_is ∙ c.requires in
+    changed_apart c.self.inside.sets (c.get_mut.follows.lender after) c.self.invariant wrote.4 c.args.moment (Some after) (wrote.3 (rw (sym c.in-Some.ensures.value) refl)).0
+    c.insert.ensures.unique c.args.id false
+    (λ q. ap (list_any (grain_eq q)) c.in_err-insert.ensures.err ∙ ap (has q) c.in-Some.ensures.value ∙ not_there c.self.inside.sets c.self.invariant c.args.id none c.args.moment q)
+    (unnoted _ c.args.moment none)
+
+pub returns-in_err-insert-clause-unchanged : goal.returns-in_err-insert-clause-unchanged
+returns-in_err-insert-clause-unchanged c =
+    let after = c.insert.new.self in
+    let wrote = (c.get_mut.follows.holds after) in
+    let none = ap (λ (n : Notes). map.get n c.args.id) c.self.view_is ∙ c.requires in
+    either_way c.from_residual.result
+    (now_forgotten c.self.inside.sets (c.get_mut.follows.lender after) c.self.invariant wrote.4 c.args.moment (Some after) (wrote.3 (rw (sym c.in-Some.ensures.value) refl)).0
+    c.insert.ensures.unique c.args.id false
+    (λ q. ap (list_any (grain_eq q)) c.in_err-insert.ensures.err ∙ ap (has q) c.in-Some.ensures.value ∙ not_there c.self.inside.sets c.self.invariant c.args.id none c.args.moment q)
+    (unnoted _ c.args.moment none) refl
+    ∙ maps.remove-absent grain_cmp_total grain_cmp_exact _ c.args.id none ∙ c.self.view_is)
+
+-- ---- there is none
+
+pub invariant_of-self-2 : goal.invariant_of-self-2
+invariant_of-self-2 c =
+    let set = c.insert-2.new.self in
+    changed_apart c.self.inside.sets c.insert-3.new.self c.self.invariant c.insert-3.ensures.ordered c.args.moment (Some set)
+    (λ k. c.in_ok-insert-3.ensures.updates.0 k ∙ ap (λ sets. cond (is_eq (nat_cmp c.args.moment k)) (Some set) (tree.get nat_cmp sets k)) c.get_mut.follows.holds-at-none)
+    c.insert-2.ensures.unique c.args.id true
+    (λ q. c.in_ok-insert-2.ensures.updates.0 q ∙ ap (λ (gs : List Grain). cond (grain_eq c.args.id q) true (list_any (grain_eq q) gs)) c.with_hasher-grains.ensures.empty ∙ ap (λ o. cond (grain_eq c.args.id q) true (has q o)) c.in_default.ensures.value)
+    (unnoted _ c.args.moment (ap (λ (n : Notes). map.get n c.args.id) c.self.view_is ∙ c.requires))
+
+pub returns-clause-noted : goal.returns-clause-noted
+returns-clause-noted c =
+    let set = c.insert-2.new.self in
+    now_noted c.self.inside.sets c.insert-3.new.self c.self.invariant c.insert-3.ensures.ordered c.args.moment (Some set)
+    (λ k. c.in_ok-insert-3.ensures.updates.0 k ∙ ap (λ sets. cond (is_eq (nat_cmp c.args.moment k)) (Some set) (tree.get nat_cmp sets k)) c.get_mut.follows.holds-at-none)
+    c.insert-2.ensures.unique c.args.id true
+    (λ q. c.in_ok-insert-2.ensures.updates.0 q ∙ ap (λ (gs : List Grain). cond (grain_eq c.args.id q) true (list_any (grain_eq q) gs)) c.with_hasher-grains.ensures.empty ∙ ap (λ o. cond (grain_eq c.args.id q) true (has q o)) c.in_default.ensures.value)
+    (unnoted _ c.args.moment (ap (λ (n : Notes). map.get n c.args.id) c.self.view_is ∙ c.requires)) refl
+    ∙ ap (λ (n : Notes). noted n c.args.id c.args.moment) c.self.view_is

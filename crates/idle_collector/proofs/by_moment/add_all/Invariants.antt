@@ -1,5 +1,5 @@
 use Rattle.std.proofs.Common.{◌≡◌, ◌++◌, take}
-use Rattle.idle_collector.proofs.moment.add_due.Given as goal
+use Rattle.idle_collector.proofs.by_moment.add_all.Given as goal
 
 -- the grains so far stand behind the others
 abbrev pub invariant-loop-id : goal.invariant-loop-id
