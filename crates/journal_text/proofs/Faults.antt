@@ -76,7 +76,7 @@ same_first l m ls ms e = (cc, cc)
 named : (f g : Form) (xs ys : List ℕ) → line_text f line.Head ++ 10 ∷ xs ≡ line_text g line.Head ++ 10 ∷ ys → get_or (line_text f line.Head ++ 10 ∷ xs) 13 0 ≡ get_or (line_text g line.Head ++ 10 ∷ ys) 13 0
 named f g xs ys same = ap (λ t. get_or t 13 0) same
 
-byte_of : Form → ℕ
+abbrev byte_of : Form → ℕ
 byte_of forms.First = 49
 byte_of forms.Second = 50
 byte_of forms.Third = 51
@@ -86,7 +86,7 @@ form_byte forms.First xs = refl
 form_byte forms.Second xs = refl
 form_byte forms.Third xs = refl
 
-form_of : ℕ → Form
+abbrev form_of : ℕ → Form
 form_of byte = if byte == 49 then forms.First else if byte == 50 then forms.Second else forms.Third
 
 form_again : (form : Form) → form ≡ form_of (byte_of form)
@@ -315,12 +315,16 @@ fault_without_head bytes none = record {
 kinds_next : (form : Form) (j : History) (l : Line) (more : List Line) → tells_kinds form ≡ true → journal_lines form j ≡ line.Head ∷ l ∷ more → line.Kinds j.kinds ≡ l
 kinds_next forms.First j l more tells lines = absurd (true≢false (sym tells))
 kinds_next forms.Second j l more tells lines = (same_first (line.Kinds j.kinds) l _ more (same_first line.Head line.Head _ _ (sym (first_lines forms.Second j) ∙ lines)).1).0
+kinds_next forms.Third j l more tells lines = (same_first (line.Kinds j.kinds) l _ more (same_first line.Head line.Head _ _ (sym (first_lines forms.Third j) ∙ lines)).1).0
 
 -- the age stands behind the head, or behind the logic
 age_next : (form : Form) (kinds : ℕ) (j : History) (l : Line) (more : List Line) → journal_lines form j ≡ line.Head ∷ kinds_lines form kinds ++ l ∷ more → line.Age j.age ≡ l
 age_next forms.First kinds j l more lines = (same_first (line.Age j.age) l _ more (same_first line.Head line.Head _ _ (sym (first_lines forms.First j) ∙ lines)).1).0
 age_next forms.Second kinds j l more lines =
     let behind = (same_first line.Head line.Head _ _ (sym (first_lines forms.Second j) ∙ lines)).1 in
+    (same_first (line.Age j.age) l _ more (same_first (line.Kinds j.kinds) (line.Kinds kinds) _ (l ∷ more) behind).1).0
+age_next forms.Third kinds j l more lines =
+    let behind = (same_first line.Head line.Head _ _ (sym (first_lines forms.Third j) ∙ lines)).1 in
     (same_first (line.Age j.age) l _ more (same_first (line.Kinds j.kinds) (line.Kinds kinds) _ (l ∷ more) behind).1).0
 
 -- a journal has more lines than these
@@ -329,10 +333,14 @@ not_whole forms.First kinds j lines = no_lines (line.Age j.age) _ (same_first li
 not_whole forms.Second kinds j lines =
     let behind = (same_first line.Head line.Head _ _ (sym (first_lines forms.Second j) ∙ lines)).1 in
     no_lines (line.Age j.age) _ (same_first (line.Kinds j.kinds) (line.Kinds kinds) _ [] behind).1
+not_whole forms.Third kinds j lines =
+    let behind = (same_first line.Head line.Head _ _ (sym (first_lines forms.Third j) ∙ lines)).1 in
+    no_lines (line.Age j.age) _ (same_first (line.Kinds j.kinds) (line.Kinds kinds) _ [] behind).1
 
 head_alone : (form : Form) (j : History) → journal_lines form j ≡ line.Head ∷ [] → ⊥
 head_alone forms.First j lines = no_lines (line.Age j.age) _ (same_first line.Head line.Head _ _ (sym (first_lines forms.First j) ∙ lines)).1
 head_alone forms.Second j lines = no_lines (line.Kinds j.kinds) _ (same_first line.Head line.Head _ _ (sym (first_lines forms.Second j) ∙ lines)).1
+head_alone forms.Third j lines = no_lines (line.Kinds j.kinds) _ (same_first line.Head line.Head _ _ (sym (first_lines forms.Third j) ∙ lines)).1
 
 -- bytes that don't tell behind the head which logic the kinds have
 pub fault_without_kinds : (form : Form) (bytes rest : List ℕ) → bytes ≡ line_text form line.Head ++ 10 ∷ rest → tells_kinds form ≡ true → BeginsWithKinds form rest None → IsFirstFault bytes 2

@@ -1,7 +1,7 @@
 -- Each line of a journal is read back as what it is the line of.
-use Rattle.std.proofs.Common.{◌≡◌, ℕ, ◌<◌, ◌≤◌, ◌^◌, true, false, ◌&&◌, leb, List, ◌∷◌, length, get_or, Some, Result, Ok, Err, refl, ap, ◌∙◌, arith}
+use Rattle.std.proofs.Common.{◌≡◌, ℕ, ◌<◌, ◌≤◌, ◌^◌, Bool, true, false, true≢false, ◌&&◌, ◌||◌, eqb, leb, ltb, List, [], ◌∷◌, ◌++◌, length, get_or, Some, Result, Ok, Err, refl, sym, ap, ◌∙◌, arith}
 use Rattle.std.specs.Prelude.{IsTrue, decimal, codes}
-use Rattle.std.specs.List.{list_all}
+use Rattle.std.specs.List.{list_all, list_any}
 use Rattle.std.specs.Cmp.{first_so, second_so}
 use Rattle.std.proofs.lemmas.Bool.{leb-true, le-leb, and_from}
 use Rattle.std.proofs.lemmas.List.{append_assoc}
@@ -18,7 +18,7 @@ use Rattle.journal_text.specs.declared.form.Form.TheVariants as forms
 use Rattle.journal_text.specs.declared.line.Line.{Line}
 use Rattle.journal_text.specs.declared.line.Line.TheVariants as line
 use Rattle.tenant_gate.specs.Age.{IsAge}
-use Rattle.journal_text.specs.Form.{form_text, tells_kinds, is_code}
+use Rattle.journal_text.specs.Form.{form_text, tells_kinds, is_code, common_codes}
 use Rattle.journal_text.specs.RecordedFault.{CodeAndText, is_recorded_fault, is_text_byte}
 use Rattle.journal_text.specs.inside.Candidates.{kinds_of, kind_of, tenant_of, recipient_of, recorded_fault_of, outcome_of, reply_of, row_of, head_of, candidate_of}
 use Rattle.journal_text.specs.Text.{◌␣◌, state_text, recipient_text, outcome_text, content_text, line_text}
@@ -31,10 +31,21 @@ use Rattle.journal_text.proofs.StepsBack.{line_of, step_back}
 
 -- ---- replies
 
+-- a number that is one of those below a limit is below it
+below_here : (limit n first : ℕ) (others : List ℕ) (same : Bool) → eqb first n ≡ same → (same || list_any (λ code. eqb code n) others) ≡ true → ltb first limit ≡ true → (list_any (λ code. eqb code n) others ≡ true → n < limit) → n < limit
+below_here limit n first others true same is below next = grind (arith, same, below)
+below_here limit n first others false same is below next = next is
+
+one_below : (limit n : ℕ) (numbers : List ℕ) → list_any (λ code. eqb code n) numbers ≡ true → list_all (λ code. ltb code limit) numbers ≡ true → n < limit
+one_below limit n [] is below = absurd (true≢false (sym is))
+one_below limit n (first ∷ others) is below =
+    let rest : Bool = list_all (λ code. ltb code limit) others in
+    below_here limit n first others (eqb first n) refl is (first_so (ltb first limit) rest below) (λ any. one_below limit n others any (second_so (ltb first limit) rest below))
+
 code_small : (form : Form) (n : ℕ) → is_code form n ≡ true → n < 2 ^ 64
-code_small forms.First n is = grind (arith, is)
-code_small forms.Second n is = grind (arith, is)
-code_small forms.Third n is = grind (arith, is)
+code_small forms.First n is = one_below (2 ^ 64) n (common_codes ++ []) is refl
+code_small forms.Second n is = one_below (2 ^ 64) n (common_codes ++ []) is refl
+code_small forms.Third n is = one_below (2 ^ 64) n (common_codes ++ 14 ∷ []) is refl
 
 fault_back : (form : Form) (t : CodeAndText) → IsTrue (is_recorded_fault form t) → Back (recorded_fault_of form) (decimal t.code ␣ t.text) t
 unfolding is_recorded_fault
