@@ -1,12 +1,11 @@
 -- A draft with a line more is a draft, and its lines are those before and the line.
-use Rattle.std.proofs.Common.{◌≡◌, ℕ, ◌<◌, ◌≤◌, Bool, true, false, true≢false, not, cond, ◌&&◌, ltb, ltb-true, List, [], ◌∷◌, ◌++◌, length, All, Option, Some, None, refl, ap, sym, subst, ◌∙◌, arith}
+use Rattle.std.proofs.Common.{◌≡◌, ℕ, ◌<◌, ◌≤◌, Bool, true, false, true≢false, not, ◌&&◌, ltb, ltb-true, List, [], ◌∷◌, ◌++◌, length, All, Option, Some, None, refl, ap, sym, subst, ◌∙◌, arith}
 use Rattle.std.specs.Prelude.{IsTrue}
 use Rattle.std.specs.Cmp.{first_so, second_so}
 use Rattle.std.specs.List.{list_any}
 use Rattle.std.proofs.lemmas.List.{append-nil, append_assoc, map-append}
 use Rattle.std.proofs.lemmas.List.Elements.{All-nil, All-cons, All-append, All-push}
 use Rattle.std.proofs.lemmas.Bool.{not-true}
-use Rattle.finite_maps.proofs.Options.{none_from_cond}
 use Rattle.tenant_gate.proofs.Repeats.{first_repeat-push}
 use Rattle.finite_maps.proofs.Lists.{push_not_empty}
 use Rattle.grain_id.specs.Names.{Grain, same_text}

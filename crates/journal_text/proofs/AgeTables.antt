@@ -1,5 +1,5 @@
 -- A list of ages that is a table already has no fault, and is the table that is made of it.
-use Rattle.std.proofs.Common.{◌≡◌, ℕ, ◌≤◌, ◌<◌, Bool, true, false, not, cond, List, [], ◌∷◌, ◌++◌, length, Option, Some, None, refl, ap, sym, ◌∙◌, arith, true≢false}
+use Rattle.std.proofs.Common.{◌≡◌, ℕ, Bool, true, false, not, cond, List, [], ◌∷◌, ◌++◌, length, Some, None, refl, ap, sym, ◌∙◌, arith, true≢false}
 use Rattle.std.specs.Prelude.{nat_le, nat_lt, ◌&&◌, ◌||◌, find, option_map, Err, if◌then◌else◌}
 use Rattle.std.specs.declared.cmp.Ordering.TheVariants.{Less}
 use Rattle.std.specs.FinMap as map
@@ -11,7 +11,6 @@ use Rattle.std.specs.Ordering.{is_lt}
 use Rattle.std.proofs.lemmas.Bool.Decides.{nat_tests}
 use Rattle.finite_maps.proofs.Ascending.{entries-ascending}
 use Rattle.finite_maps.proofs.Entries.{from_entries-alike}
-use Rattle.finite_maps.proofs.Lists.{all_weaker}
 use Rattle.grain_id.specs.Names.{same_text, text_cmp}
 use Rattle.grain_id.specs.Order.{same_text_decides, text_cmp_total, text_cmp_exact}
 use Rattle.grain_id.proofs.Keys.{texts}

@@ -16,9 +16,8 @@ use Rattle.journal_text.specs.declared.form.Form.{Form}
 use Rattle.journal_text.specs.declared.recorded.RecordedReply.{RecordedReply}
 use Rattle.journal_text.specs.declared.line.Line.{Line}
 use Rattle.journal_text.specs.declared.line.Line.TheVariants as line
-use Rattle.journal_text.specs.Form.{tells_kinds}
 use Rattle.journal_text.specs.Text.{History, history_of, kind_line, tenant_line, row_line, body, start_lines, journal_lines}
-use Rattle.journal_text.specs.Rules.{IsKinds, IsLine, IsTable, KeepsRulesIn}
+use Rattle.journal_text.specs.Rules.{IsLine, IsTable, KeepsRulesIn}
 use Rattle.journal_text.specs.FirstFault.{BeginJournal}
 use Rattle.journal_text.specs.inside.Draft.{lines_so_far, IsDraft, is_empty}
 use Rattle.journal_text.proofs.AgesKept.{are_ages, one_after_another}

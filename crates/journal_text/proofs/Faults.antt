@@ -1,5 +1,5 @@
 -- Which line is the first at fault.
-use Rattle.std.proofs.Common.{◌≡◌, ℕ, ◌+◌, ◌<◌, ◌≤◌, ◌^◌, inl, inr, Bool, true, false, true≢false, not, ◌&&◌, if◌then◌else◌, ◌==◌, eq-eqb, eqb-true, List, [], ◌∷◌, ◌++◌, length, map, take, drop, get_or, All, Option, Some, None, refl, ap, sym, subst, ◌∙◌, lit<, lit≤, arith}
+use Rattle.std.proofs.Common.{◌≡◌, ℕ, ◌+◌, ◌<◌, ◌≤◌, ◌^◌, inl, inr, Bool, true, false, true≢false, not, ◌&&◌, if◌then◌else◌, ◌==◌, eq-eqb, eqb-true, List, [], ◌∷◌, ◌++◌, length, map, take, drop, get_or, All, Some, None, refl, ap, sym, subst, ◌∙◌, lit<, lit≤, arith}
 use Rattle.std.specs.Prelude.{option_and_then}
 use Rattle.std.specs.Cmp.{first_so, second_so}
 use Rattle.std.proofs.lemmas.Bool.{cases_lt}
@@ -11,7 +11,7 @@ use Rattle.journal_text.specs.declared.form.Form.{Form}
 use Rattle.journal_text.specs.declared.line.Line.{Line}
 use Rattle.journal_text.specs.declared.line.Line.TheVariants as line
 use Rattle.journal_text.specs.Text.{History, kind_line, tenant_line, row_line, body, line_text, lines_text, kinds_lines, start_lines, journal_lines, text_in}
-use Rattle.journal_text.specs.Rules.{IsKinds, IsLine, KeepsRulesIn}
+use Rattle.journal_text.specs.Rules.{IsLine, KeepsRulesIn}
 use Rattle.journal_text.specs.inside.Candidates.{only_if}
 use Rattle.journal_text.specs.declared.form.Form.TheVariants as forms
 use Rattle.journal_text.specs.Form.{newest, tells_kinds}

@@ -1,5 +1,5 @@
 -- What was read of a text, written again and compared.
-use Rattle.std.proofs.Common.{◌≡◌, ℕ, true, false, true≢false, List, Option, Some, None, sym, ap, ◌∙◌}
+use Rattle.std.proofs.Common.{◌≡◌, ℕ, true, false, true≢false, List, Some, None, sym, ap, ◌∙◌}
 use Rattle.std.proofs.lemmas.Option.{same_Some}
 use Rattle.finite_maps.proofs.Options.{some_none}
 use Rattle.grain_id.specs.Names.{same_text}
