@@ -47,13 +47,6 @@ plain_call call = if holds_bytes call.argument then None else Some call
 abbrev pub plain_value : Tree → Option Tree
 plain_value v = if holds_bytes v then None else Some v
 
--- the value that all of the bytes spell if it holds no bytes, and a call behind the first byte of the form before with such a value
-abbrev pub plain_alone : List ℕ → Option Tree
-plain_alone bytes = if_ended (value_at depth_limit bytes) >>= plain_value
-
-abbrev pub old_call_behind : List ℕ → Option Call
-old_call_behind bytes = behind_version old_version bytes >>= plain_call
-
 -- the call that a message's bytes of the form before spell, where they spell one: no bytes were among its values
 abbrev pub old_call : List ℕ → Option Call
 old_call bytes = versioned_call old_version bytes >>= plain_call

@@ -3,5 +3,6 @@ pub mod Build
 pub mod Converted
 pub mod Ends
 pub mod Level
+pub mod Plain
 pub mod SharedBytes
 pub mod SmallBytes

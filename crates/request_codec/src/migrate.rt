@@ -2,8 +2,9 @@
 
 ghost use Rattle.std.specs.Prelude.{◌≡◌, None, option_map, is_some, IsSome, IfOk};
 ghost use Rattle.request_codec.specs.Reading.{value_at, members_at, fields_at};
-ghost use Rattle.request_codec.specs.Call.{message_call, old_call, old_call_behind, old_state, plain_alone};
+ghost use Rattle.request_codec.specs.Call.{message_call, old_call, old_state};
 ghost use Rattle.request_codec.specs.inside.Ends.{holding};
+ghost use Rattle.request_codec.specs.inside.Plain.{old_call_behind, plain_alone};
 ghost use Rattle.request_codec.specs.Tree.{holds_bytes, members_hold_bytes, fields_hold_bytes};
 ghost use Rattle.request_codec.specs.Answers.{Reads};
 ghost use Rattle.request_codec.specs.Written.{spelling, old_spelling};

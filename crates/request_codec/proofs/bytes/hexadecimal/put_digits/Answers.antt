@@ -7,7 +7,7 @@ use Rattle.request_codec.specs.Hex.{bytes_of_digits}
 use Rattle.request_codec.specs.Written.{Puts}
 use Rattle.request_codec.proofs.Digits.{digits_spelled}
 use Rattle.request_codec.proofs.Puts.{Puts-then, Puts-front}
-use Rattle.request_codec.proofs.bytes.hex.put_digits.Goals as goal
+use Rattle.request_codec.proofs.bytes.hexadecimal.put_digits.Goals as goal
 
 pub returns-in_err-count : goal.returns-in_err-count
 returns-in_err-count c =

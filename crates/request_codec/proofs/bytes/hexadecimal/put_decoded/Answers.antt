@@ -1,7 +1,7 @@
 use Rattle.std.proofs.Common.{◌∙◌, sym, List, length, take, drop, ap, arith, ◌≡◌, ◌-◌}
 use Rattle.std.proofs.lemmas.List.{length-take, length-drop}
 use Rattle.request_codec.proofs.Digits.{digits_fill}
-use Rattle.request_codec.proofs.bytes.hex.put_decoded.Goals as goal
+use Rattle.request_codec.proofs.bytes.hexadecimal.put_decoded.Goals as goal
 
 pub unreachable-requires : goal.unreachable-requires
 unreachable-requires c =

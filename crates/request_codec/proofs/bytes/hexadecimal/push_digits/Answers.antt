@@ -1,7 +1,7 @@
 use Rattle.std.proofs.Common.{◌++◌, string_bytes, arith}
 use Rattle.request_codec.specs.Hex.{digits_of}
 use Rattle.request_codec.proofs.Digits.{digits_next, digits_done}
-use Rattle.request_codec.proofs.bytes.hex.push_digits.Goals as goal
+use Rattle.request_codec.proofs.bytes.hexadecimal.push_digits.Goals as goal
 
 pub bytes-preserved : goal.bytes-preserved
 bytes-preserved c =

@@ -2,7 +2,7 @@ use Rattle.std.proofs.Common.{◌≡◌, ◌%◌, length, sym, ap, ◌∙◌, ar
 use Rattle.std.specs.List.{list_all}
 use Rattle.request_codec.specs.Hex.{is_digit}
 use Rattle.request_codec.proofs.Digits.{even_digits}
-use Rattle.request_codec.proofs.bytes.hex.are_digits.Goals as goal
+use Rattle.request_codec.proofs.bytes.hexadecimal.are_digits.Goals as goal
 
 pub returns : goal.returns
 returns c =
