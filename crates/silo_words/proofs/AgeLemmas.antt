@@ -1,5 +1,5 @@
 -- Texts of kinds with their ages: what they write is one thing alone.
-use Rattle.std.proofs.Common.{◌≡◌, ◌≢◌, ◌==◌, ◌<◌, ◌+◌, ℕ, false, ne_eqb, Bor, Option, Some, None, option_map, List, [], ◌∷◌, ◌++◌, length, take, take_all, drop, get_or, map, refl, ap, ap₂, sym, ◌∙◌, subst, arith}
+use Rattle.std.proofs.Common.{◌≡◌, ◌≢◌, ◌==◌, ◌<◌, ◌+◌, ℕ, false, ne_eqb, Bor, Option, Some, option_map, List, [], ◌∷◌, ◌++◌, length, take, drop, get_or, map, refl, ap, ap₂, sym, ◌∙◌, subst, arith}
 use Rattle.std.specs.Prelude.{decimal}
 use Rattle.std.proofs.lemmas.Fmt.{decimal_injective}
 use Rattle.std.proofs.lemmas.List.{append_cancel_left, map-append, take-append-drop, drop_more, take_more}

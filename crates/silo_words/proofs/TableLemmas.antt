@@ -1,5 +1,5 @@
 -- Tenants that are named one after another.
-use Rattle.std.proofs.Common.{◌≡◌, ℕ, suc, ◌+◌, ◌<◌, ◌≤◌, ◌==◌, Bool, true, false, not, ◌&&◌, ◌||◌, cond, ne_eqb, List, [], ◌∷◌, ◌++◌, length, take, take_all, drop, get_or, map, Option, Some, None, option_map, refl, ap, ap₂, sym, ◌∙◌, subst, arith, append-nil, append_assoc, length-append}
+use Rattle.std.proofs.Common.{◌≡◌, ℕ, suc, ◌+◌, ◌<◌, ◌≤◌, ◌==◌, Bool, true, false, not, ◌&&◌, ◌||◌, cond, ne_eqb, List, [], ◌∷◌, ◌++◌, length, take, take_all, drop, get_or, map, Some, None, option_map, refl, ap, ap₂, sym, ◌∙◌, subst, arith, length-append}
 use Rattle.std.specs.Prelude.{find}
 use Rattle.std.specs.List.{list_any}
 use Rattle.std.proofs.lemmas.Bool.Decides.{nat_tests}

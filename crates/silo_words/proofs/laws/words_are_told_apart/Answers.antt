@@ -5,7 +5,7 @@ use Rattle.clap.specs.declared.error.kind.ErrorKind.{ErrorKind}
 use Rattle.clap.specs.declared.error.kind.ErrorKind.TheVariants.{ArgumentConflict, DisplayHelp, DisplayVersion, MissingSubcommand, MissingRequiredArgument, ValueValidation}
 use Rattle.clap.proofs.OnLiterals.{clap_on_literals}
 use Rattle.std.specs.Prelude.{unwrap_or}
-use Rattle.silo_words.specs.Words.{FindAnswering, IsAge, IsNumber, IsPlain, IsSends, IsWorkers, MakesNoTask, after_silo, found_in, silo_app}
+use Rattle.silo_words.specs.Words.{FindAnswering, IsAge, IsNumber, IsPlain, IsWorkers, MakesNoTask, after_silo, found_in, silo_app}
 use Rattle.silo_words.proofs.laws.words_are_told_apart.Goals as goal
 
 abbrev rows_in : List Text → List Row

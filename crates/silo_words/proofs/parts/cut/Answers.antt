@@ -1,4 +1,4 @@
-use Rattle.std.proofs.Common.{◌≡◌, ◌≢◌, ℕ, List, IsSomeAnd, MatchOption, Option, Some, None, Bor, arith}
+use Rattle.std.proofs.Common.{◌≡◌, ◌≢◌, ℕ, List, IsSomeAnd, MatchOption, Option, Some, None, Bor}
 use Rattle.std.proofs.lemmas.Str.Pattern.{split_after}
 use Rattle.std.proofs.lemmas.List.Elements.{All-get_or}
 use Rattle.silo_words.proofs.parts.cut.Goals as goal
