@@ -1,14 +1,17 @@
 -- What the words ask for, from what clap found.
-use Rattle.std.proofs.Common.{◌≡◌, ◌≢◌, ◌≤◌, ◌⊎◌, ◌∙◌, ℕ, List, [], Option, Some, None, Result, Ok, Err, inl, inr, refl, sym, ap, subst, arith}
+use Rattle.std.proofs.Common.{◌≡◌, ◌≢◌, ◌≤◌, ◌⊎◌, ◌∙◌, ℕ, List, [], true, IfOk, IfErr, Option, Some, None, Result, Ok, Err, inl, inr, refl, sym, ap, subst, arith}
 use Rattle.std.specs.Prelude.{option_map, unwrap_or}
 use Rattle.std.specs.Str.Parse.{ParsesUnsigned}
 use Rattle.clap.specs.Matches.{TriesOne}
-use Rattle.clap.specs.Words.{IsAmong, Text, fault_of}
+use Rattle.clap.proofs.OnLiterals.{clap_on_literals}
+use Rattle.clap.specs.Words.{FailsBy, HasKind, HasMatchesOf, IsAmong, Kinds, Text, fault_of, is_simple, is_simple_and_free, subcommand_rows_of}
+use Rattle.clap.specs.declared.error.Error.{Error}
+use Rattle.clap.specs.declared.parser.matches.ArgMatches.{ArgMatches}
 use Rattle.clap.specs.declared.error.kind.ErrorKind.{ErrorKind}
 use Rattle.clap.specs.declared.error.kind.ErrorKind.TheVariants.{DisplayHelp, DisplayVersion, OutOfMemory}
 use Rattle.silo_words.specs.declared.fault.WordsFault.{WordsFault}
 use Rattle.silo_words.specs.declared.fault.WordsFault.TheVariants as fault
-use Rattle.silo_words.specs.Words.{IsFaultBy, IsNumber, IsWhy, silo_app}
+use Rattle.silo_words.specs.Words.{IsFaultBy, IsNumber, IsWhy, found_in, silo_app}
 
 -- ---- a number
 
@@ -73,6 +76,31 @@ found_behind f found x all behind is = sym (ap (λ o. unwrap_or (option_map f o)
 
 pub nothing_behind : {A B : Type 0} (f : A → List B) (found : Option A) (all : Option (List B)) → option_map f found ≡ all → found ≡ None → [] ≡ unwrap_or all []
 nothing_behind f found all behind is = sym (ap (λ o. unwrap_or (option_map f o) []) is) ∙ ap (λ o. unwrap_or o []) behind
+
+-- ---- what clap takes
+
+-- clap's accounts of its words are exact for this command line
+pub silo_app-free : is_simple_and_free silo_app ≡ true
+unfolding clap_on_literals
+silo_app-free = refl
+
+silo_app-simple : is_simple silo_app ≡ true
+unfolding clap_on_literals
+silo_app-simple = refl
+
+-- an `Ok` comes only where no fault does, with what is found of the subcommand
+pub taken-passes : {T : Type 0} (r : Result T Error) (kinds : Kinds) → FailsBy kinds r → IfOk r (λ _. kinds ≡ [])
+taken-passes (Ok x) kinds h = h
+taken-passes (Err e) kinds h = tt
+
+pub found-matches : (words : List Text) (r : Result ArgMatches Error) → IfOk r (HasMatchesOf silo_app words) → IfOk r (λ m. subcommand_rows_of m ≡ found_in words)
+found-matches words (Ok m) h = (h silo_app-simple).1
+found-matches words (Err e) h = tt
+
+-- an `Err` has the kind of a fault
+pub refused-fails : {T : Type 0} (r : Result T Error) (kinds : Kinds) → FailsBy kinds r → IfErr r (HasKind kinds)
+refused-fails (Ok x) kinds h = tt
+refused-fails (Err e) kinds h = h
 
 -- ---- what clap says instead
 
