@@ -1,5 +1,5 @@
 -- How answering lines at once ends, by what failed.
-use Rattle.std.proofs.Common.{◌≡◌, ◌≢◌, ◌⊎◌, ◌∙◌, ℕ, List, [], ◌∷◌, ◌++◌, append-nil, append_assoc, Option, None, Some, IfOk, IfErr, Result, Ok, Err, true, inl, inr, refl, sym, ap, subst, ⊎_elim}
+use Rattle.std.proofs.Common.{◌≡◌, ◌≢◌, ◌⊎◌, ◌∙◌, ℕ, List, [], ◌∷◌, ◌++◌, append-nil, append_assoc, Option, None, Some, IfErr, Result, Ok, Err, inl, inr, refl, sym, ap, subst, ⊎_elim}
 use Rattle.std.specs.Prelude.{IfSome, OnOk}
 use Rattle.std.specs.FinMap.{entries}
 use Rattle.tenant_gate.specs.Table.{Table}
@@ -14,7 +14,6 @@ use Rattle.silo_core.specs.History.{History}
 use Rattle.journal_text.specs.Text.{journal_text}
 use Rattle.line_parser.specs.Meaning.{meaning_of}
 use Rattle.line_protocol.specs.Lines.{lines_of}
-use Rattle.line_protocol.specs.LineRuns.{WrittenInPart}
 use Rattle.line_protocol.specs.Reading.{IsFresh, Reading, left_of}
 use Rattle.line_protocol.specs.declared.written.WriterCalls.{WriterCalls}
 use Rattle.line_protocol.specs.declared.fault.LineFault.{LineFault}

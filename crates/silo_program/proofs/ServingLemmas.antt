@@ -23,7 +23,7 @@ use Rattle.silo_program.specs.Files.{FileClaims, claims}
 use Rattle.silo_program.specs.Kept.{IsKeepingCause, KeepsSecond, MayFailAgain, MayFailAt, WritesAtMost, WritesFirst, WritesFirstAtMost, empty_journal}
 use Rattle.silo_program.specs.Serving.{LeavesOutcome, Outcome, ServingFailsBy, WritesJournalAtMost, outcome_text, service_cause}
 use Rattle.silo_program.specs.Answering.{WritesJournalsAtMost}
-use Rattle.silo_program.specs.Ends.{AskForJournal, EndsAs, HaveArguments, IsAnsweringFault, IsFaultOf, IsNamingFault, IsServingFault, IsStreamFault, LeavesFiles, NameNoAges, ShowsText, WritesAnswered, WritesJournal}
+use Rattle.silo_program.specs.Ends.{AskForJournal, EndsAs, IsAnsweringFault, IsFaultOf, IsNamingFault, IsServingFault, IsStreamFault, LeavesFiles, ShowsText, WritesAnswered, WritesJournal}
 use Rattle.silo_program.specs.declared.failure.Cause.{Cause}
 use Rattle.silo_program.specs.declared.failure.Cause.TheVariants as cause
 use Rattle.silo_program.specs.declared.failure.End.{End}
