@@ -98,7 +98,7 @@ module _ (setup : Setup) (sends : ℕ) where
   one_more : (mid silo : History) (done : List (List ℕ)) (l text last : List ℕ) → AnswersLines resting_kinds sends (opened setup) done mid text → AnswersLine resting_kinds sends mid (meaning_of l) silo last
       → AnswersLines resting_kinds sends (opened setup) (done ++ l ∷ []) silo (text ++ last)
   one_more mid silo done l text last p answers =
-      let heard : Hears resting_kinds sends (opened setup) done mid text = record { heard = p.heard; said = p.said; tries = p.tries; text_is = p.text_is; rests = p.rests } in
+      let heard : Hears resting_kinds sends (opened setup) done mid text = record { heard = p.heard; said = p.said; tries = p.tries; text_is = p.text_is; idle = p.idle } in
       hears_own resting_kinds sends (opened setup) silo (done ++ l ∷ []) (text ++ last) refl (hears_more resting_kinds sends (opened setup) mid silo done l text last heard answers)
 
   writing_first : (input : List ℕ) (mid silo : History) (before during after : Option (List ℕ)) (p : AnswersBefore resting_kinds sends (lines_of input) (opened setup) mid before during)
