@@ -4,7 +4,9 @@ use Rattle.std.specs.Prelude.{bytes_eq, is_none, is_some}
 use Rattle.std.specs.List.Sorted.{IsPermutation}
 use Rattle.std.proofs.lemmas.List.Elements.{All-nil, All-cons, All-head}
 use Rattle.std.proofs.lemmas.List.Sorted.{All-permutation, length_permutation}
+use Rattle.std.proofs.lemmas.Bool.{false_from_ne_true}
 use Rattle.std.proofs.lemmas.Option.{same_Some}
+use Rattle.std.proofs.lemmas.Slice.Eq.{bytes_eq-Decides}
 use Rattle.serde_json.specs.Data.{Data, Members, object}
 use Rattle.request_codec.specs.Tree.{map}
 use Rattle.request_codec.specs.Json.{hex_name, hex_of, hex_bytes, by_hex, json_depth, json_members_depth, is_not_whole, fields_not_whole}
@@ -26,6 +28,10 @@ pub object_plain : (ms : Members) → hex_of ms ≡ None → fields_not_hex ms �
 object_plain ms none plain = ap (λ (o : Option Data). by_hex o (λ d. is_none (hex_bytes d)) (fields_not_hex ms)) none ∙ plain
 
 -- ---- whether fields are those of bytes
+
+-- a name of another length is not that of bytes
+pub other_length : (name : List ℕ) → (length name ≡ 4 → ⊥) → false ≡ bytes_eq name hex_name
+other_length name other = sym (false_from_ne_true (bytes_eq name hex_name) (λ same. other (ap length ((bytes_eq-Decides name hex_name).0 same))))
 
 -- no field and several are not
 pub several_no_bytes : (placed : List PlacedField) → (length placed ≡ 1 → ⊥) → false ≡ is_some (hex_of (members_of placed))

@@ -33,11 +33,14 @@ pub(crate) struct Fields<'a> {
     ascend: bool,
 }
 
-/// Whether it is the name that bytes stand beside.
+/// Whether it is the name that bytes stand beside. Most names are of another length, which costs no call.
 #[inline(always)]
 fn is_hex_name(name: &str) -> bool
     ensures { result ≡ bytes_eq name.now hex_name }
 {
+    if name.len() != 4 {
+        return false;
+    }
     name == "$hex"
 }
 
