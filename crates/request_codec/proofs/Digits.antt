@@ -1,5 +1,5 @@
 -- Bytes as digits.
-use Rattle.std.proofs.Common.{◌≡◌, ℕ, zero, suc, inl, inr, ◌%◌, ◌/◌, ◌+◌, ◌*◌, ◌<◌, ◌≤◌, Bool, true, false, ◌&&◌, List, [], ◌∷◌, ◌++◌, length, drop, slice_index, Option, Some, None, Result, Ok, Err, is_some, refl, sym, ap, subst, ◌∙◌, append_assoc, arith}
+use Rattle.std.proofs.Common.{◌≡◌, ℕ, zero, suc, inl, inr, ◌%◌, ◌/◌, ◌+◌, ◌*◌, ◌<◌, ◌≤◌, Bool, true, false, ◌&&◌, List, [], ◌∷◌, ◌++◌, length, drop, slice_index, Option, Some, None, Result, Ok, Err, is_some, refl, sym, ap, ◌∙◌, append_assoc, arith}
 use Rattle.std.specs.Prelude.{if◌then◌else◌, unwrap_or, IsSome, MatchResult, ⊤}
 use Rattle.std.specs.Int.{w32, to_be_bytes}
 use Rattle.std.specs.List.{list_all, AllPass}
@@ -8,7 +8,7 @@ use Rattle.std.proofs.lemmas.Bool.Decides.{nat_tests}
 use Rattle.std.proofs.lemmas.Bool.{and_parts, cases_lt}
 use Rattle.std.proofs.lemmas.List.{drop_all, append-nil}
 use Rattle.std.proofs.lemmas.List.Elements.{All-cons, All-nil}
-use Rattle.hex.specs.Hex.{IsBytes, decode_of, decode_sized, encode_with, encode_lower, lower_digits, is_hex_digit}
+use Rattle.hex.specs.Hex.{IsBytes, decode_of, decode_sized, encode_with, lower_digits, is_hex_digit}
 use Rattle.hex.specs.declared.error.FromHexError.{FromHexError}
 use Rattle.hex.proofs.HexLemmas.{decode_of-ok, decode_of-odd, decode_of-digits, decode_of-encode_lower, decode_sized-twice}
 use Rattle.hex.proofs.Pairs.{encode_with-drop}
@@ -43,13 +43,13 @@ all_hex (c ∷ s) h =
     let parts = and_parts (is_digit c) (list_all is_digit s) h in
     All-cons (λ x. is_hex_digit x ≡ true) c s (hex_digit c parts.0) (all_hex s parts.1)
 
-none_by : (b : Bool) (s : List ℕ) → decode_of s ≡ decode_of s → length s % 2 ≡ 1 → is_some (if b then result_ok (decode_of s) else None) ≡ false
-none_by true s _ odd = ap (λ r. is_some (result_ok r)) (decode_of-odd s odd)
-none_by false s _ odd = refl
+none_by : (b : Bool) (s : List ℕ) → length s % 2 ≡ 1 → is_some (if b then result_ok (decode_of s) else None) ≡ false
+none_by true s odd = ap (λ r. is_some (result_ok r)) (decode_of-odd s odd)
+none_by false s odd = refl
 
 -- an odd number of digits has no bytes
 pub odd_digits : (s : List ℕ) → length s % 2 ≡ 1 → is_some (bytes_of_digits s) ≡ false
-odd_digits s odd = none_by (list_all is_digit s) s refl odd
+odd_digits s odd = none_by (list_all is_digit s) s odd
 
 some_by : (b : Bool) (s : List ℕ) → list_all is_digit s ≡ b → length s % 2 ≡ 0 → is_some (if b then result_ok (decode_of s) else None) ≡ b
 some_by true s h even =

@@ -1,15 +1,13 @@
 -- The JSON of a value has this value.
-use Rattle.std.proofs.Common.{◌≡◌, ℕ, ℤ, pos, negsuc, ◌^◌, ◌<◌, List, Option, Some, None, refl, ap, ◌∙◌, arith}
+use Rattle.std.proofs.Common.{◌≡◌, ℤ, pos, negsuc, ◌^◌, ◌<◌, Some, refl, ap, ◌∙◌, arith}
 use Rattle.std.specs.Prelude.{FitsSigned, option_map, option_and_then}
 use Rattle.std.specs.Int.{w64}
 use Rattle.std.proofs.lemmas.Bool.{lt-ltb}
-use Rattle.serde_json.specs.Data as json
 use Rattle.serde_json.specs.Find.{of_integer, as_i64}
 use Rattle.request_codec.specs.Tree as tree
 use Rattle.request_codec.specs.Tree.{Tree, null, truth, integer, text, list, map, Members, no_members, member, Fields, no_fields, field}
 use Rattle.request_codec.specs.Formed.{IsFormed, AreFormed, FieldsFormed}
-use Rattle.request_codec.specs.Hex.{digits_of, bytes_of_digits}
-use Rattle.request_codec.specs.Json.{json_of, items_of, json_members_of, hex_of, hex_bytes, by_hex, value_of_json, members_of_json, fields_of_json, HoldsNoHexMap, MembersHoldNoHexMap, FieldsHoldNoHexMap}
+use Rattle.request_codec.specs.Json.{json_of, items_of, json_members_of, hex_bytes, by_hex, value_of_json, members_of_json, fields_of_json, HoldsNoHexMap, MembersHoldNoHexMap, FieldsHoldNoHexMap}
 use Rattle.request_codec.proofs.Digits.{digits_again}
 
 pub as_i64-of_integer : (i : ℤ) → FitsSigned w64 i → as_i64 (of_integer i) ≡ Some i

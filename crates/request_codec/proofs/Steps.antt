@@ -1,7 +1,5 @@
 -- What each step of a reading that succeeded gave.
-use Rattle.std.proofs.Common.{◌≡◌, Bool, true, false, cond, Option, Some, None, refl}
-use Rattle.std.proofs.lemmas.Option.{same_Some}
-use Rattle.finite_maps.proofs.Options.{some_if_fails, some_if_passes}
+use Rattle.std.proofs.Common.{◌≡◌, Option, Some, None, refl}
 use Rattle.request_codec.specs.Reading.{◌>>=◌}
 
 pub bound : {A B : Type 0} (o : Option A) (f : A → Option B) (y : B) → (o >>= f) ≡ Some y → (x : A) × (o ≡ Some x) × (f x ≡ Some y)

@@ -1,6 +1,6 @@
 //! What is made of a value while its bytes are read.
 
-ghost use Rattle.std.specs.Prelude.{◌≡◌, ℕ, List, [], ◌∷◌, ◌++◌, IfOk, OnOk};
+ghost use Rattle.std.specs.Prelude.{◌≡◌, List, [], ◌∷◌, ◌++◌, IfOk, OnOk};
 ghost use Rattle.request_codec.specs.Tree as tree;
 ghost use Rattle.request_codec.specs.Tree.{Tree, members_of, fields_of};
 ghost use Rattle.request_codec.specs.inside.Build.{Named, AreBelow};

@@ -1,6 +1,6 @@
 //! The JSON of bytes: an object whose only name is `$hex`, and their digits beside it.
 
-ghost use Rattle.std.specs.Prelude.{◌≡◌, IfOk, is_some, option_map};
+ghost use Rattle.std.specs.Prelude.{◌≡◌, IfOk, option_map};
 ghost use Rattle.serde_json.specs.Data as json;
 ghost use Rattle.serde_json.specs.View.{view, members_view};
 ghost use Rattle.request_codec.specs.Hex.{digits_of, bytes_of_digits};

@@ -1,7 +1,7 @@
 //! The bytes of a state: in place if they are few, and otherwise shared by all clones; or in a block that
 //! was taken beforehand.
 
-ghost use Rattle.std.specs.Prelude.{◌≡◌, ◌≤◌, ◌+◌, ◌∷◌, length, take, box_value, IfOk};
+ghost use Rattle.std.specs.Prelude.{◌≡◌, ◌≤◌, ◌+◌, ◌∷◌, length, take, IfOk};
 ghost use Rattle.request_codec.specs.inside.SmallBytes.{bytes_of_small};
 ghost use Rattle.request_codec.specs.Tree.{integer};
 ghost use Rattle.request_codec.specs.Written.{text_spelling, spelling};

@@ -1,5 +1,5 @@
 -- One level of a value: a whole one, or how many members it has and what gives them.
-use Rattle.std.specs.Prelude.{◌≡◌, ℕ, List, [], ◌∷◌, length, IsSome}
+use Rattle.std.specs.Prelude.{◌≡◌, List, [], ◌∷◌, length, IsSome}
 use Rattle.request_codec.specs.Tree as tree
 use Rattle.request_codec.specs.Tree.{Tree, members_of, fields_of}
 use Rattle.request_codec.specs.Hex.{bytes_of_digits}

@@ -1,6 +1,6 @@
 use Rattle.std.proofs.Common.{◌≡◌, ◌-◌, false, None, option_map, sym, ap, ◌∙◌, arith}
 use Rattle.request_codec.specs.Tree as tree
-use Rattle.request_codec.specs.Tree.{null, truth, integer, text, holds_bytes, members_hold_bytes, fields_hold_bytes}
+use Rattle.request_codec.specs.Tree.{null, truth, integer, text, holds_bytes, members_hold_bytes}
 use Rattle.request_codec.specs.Reading.{value_at, members_at}
 use Rattle.request_codec.specs.Start.{begun}
 use Rattle.request_codec.specs.inside.Ends.{holding}

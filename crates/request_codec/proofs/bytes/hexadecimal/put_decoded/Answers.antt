@@ -1,4 +1,4 @@
-use Rattle.std.proofs.Common.{◌∙◌, sym, List, length, take, drop, ap, arith, ◌≡◌, ◌-◌}
+use Rattle.std.proofs.Common.{◌∙◌, length, take, drop, arith, ◌≡◌, ◌-◌}
 use Rattle.std.proofs.lemmas.List.{length-take, length-drop}
 use Rattle.request_codec.proofs.Digits.{digits_fill}
 use Rattle.request_codec.proofs.bytes.hexadecimal.put_decoded.Goals as goal
