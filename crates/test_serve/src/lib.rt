@@ -4,4 +4,14 @@
 #![tactic(auto)]
 
 #[cfg(test)]
+mod ages;
+#[cfg(test)]
+mod answered;
+#[cfg(test)]
+mod asked;
+#[cfg(test)]
+mod meeting;
+#[cfg(test)]
 mod serving;
+#[cfg(test)]
+mod told;
