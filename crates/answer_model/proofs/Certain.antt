@@ -28,13 +28,13 @@ use Rattle.silo_model.proofs.Isolation.{place_in}
 use Rattle.silo_model.proofs.Runs.{done_by-append}
 use Rattle.silo_model.proofs.TurnSteps.{seen_at, end_turn, end_reads, end_writes, end_clears, store_failed, abandon_turn}
 use Rattle.answer_model.specs.Answering.{Luck, Closing, well, storage_failed, out_of_memory, good, first_luck, later_luck, whole_stepper, raising, ending, closing, turn_of_first, turn_of, turning, serving, serving_if, bringing, delivering, deliveries, deliveries_of, is_asked, called_grain, Asked, taken_by, taken, answering}
-use Rattle.answer_model.specs.Resting.{AllRest}
+use Rattle.answer_model.specs.Idle.{AllIdle}
 use Rattle.answer_model.specs.Certain.{went_well, AllWell, luckily, AnsweredCertainly}
 use Rattle.answer_model.proofs.Apart.{call_done, taken_call}
 use Rattle.answer_model.proofs.Brought.{Brings, is_told, waits, brings}
 use Rattle.answer_model.proofs.Raised.{IsAlone, Raises, raises_by, not_activated, begun, begun_entry, begins, is_open, none_to_turn}
 use Rattle.answer_model.proofs.Reached.{IsReached, run_reached}
-use Rattle.answer_model.proofs.Resting.{alone, not_served, is_served, poke_done, asked_settles, delivering_goes}
+use Rattle.answer_model.proofs.Idle.{alone, not_served, is_served, poke_done, asked_settles, delivering_goes}
 use Rattle.answer_model.proofs.Served.{source_own, target_is, is_delivered}
 
 -- ---- lists of steps that went well
@@ -171,19 +171,19 @@ module _ (logic : Logic) (w : Whole) (g : Grain) (q : Request) (luck : Luck) (al
 
 -- ---- a step that may bring one
 
-module _ (logic : Logic) (w : Whole) (rests : AllRest w.entries) (s : Step) (luck : Luck) (after : Whole) (step : whole_step logic w s ≡ Some after) where
+module _ (logic : Logic) (w : Whole) (idle : AllIdle w.entries) (s : Step) (luck : Luck) (after : Whole) (step : whole_step logic w s ≡ Some after) where
   bringing_is : (grain : Option Grain) (l : Luck) → bringing (whole_stepper logic) w s grain l ≡ s ∷ serving_if (whole_stepper logic) w after grain l
   bringing_is grain l = ap (λ o. s ∷ serving_if (whole_stepper logic) w (unwrap_or o w) grain l) step
 
   if_alike : (owner : List ℕ) (p : Party) (grain : Option Grain) → Brings w after owner p grain → AllWell (done logic after (serving_if (whole_stepper logic) w after grain luck))
       → serving_if (whole_stepper logic) w after grain luck ≡ serving_if (whole_stepper logic) w after grain good
   if_alike owner p grain (is_told _ outcome entries replies) all =
-      not_served logic w rests s luck after step grain p outcome replies ∙ sym (not_served logic w rests s good after step grain p outcome replies)
+      not_served logic w idle s luck after step grain p outcome replies ∙ sym (not_served logic w idle s good after step grain p outcome replies)
   if_alike owner p grain (waits g q own sender entries replies) all =
-      let served = is_served logic w rests s luck after step g replies in
+      let served = is_served logic w idle s luck after step g replies in
       served
-      ∙ serves_alike logic after g q luck (alone w after g q rests entries) (subst (λ steps. AllWell (done logic after steps)) served all)
-      ∙ sym (is_served logic w rests s good after step g replies)
+      ∙ serves_alike logic after g q luck (alone w after g q idle entries) (subst (λ steps. AllWell (done logic after steps)) served all)
+      ∙ sym (is_served logic w idle s good after step g replies)
 
   brings_alike : (owner : List ℕ) (p : Party) (grain : Option Grain) → Brings w after owner p grain → AllWell (done logic w (bringing (whole_stepper logic) w s grain luck))
       → bringing (whole_stepper logic) w s grain luck ≡ bringing (whole_stepper logic) w s grain good
@@ -192,7 +192,7 @@ module _ (logic : Logic) (w : Whole) (rests : AllRest w.entries) (s : Step) (luc
       bringing_is grain luck ∙ ap (λ steps. s ∷ steps) (if_alike owner p grain brought later.1) ∙ sym (bringing_is grain good)
 
 -- if it can't but be done
-module _ (logic : Logic) (w : Whole) (rests : AllRest w.entries) (s : Step) (luck : Luck) (owner : List ℕ) (p : Party) (grain : Option Grain)
+module _ (logic : Logic) (w : Whole) (idle : AllIdle w.entries) (s : Step) (luck : Luck) (owner : List ℕ) (p : Party) (grain : Option Grain)
     (is : owner_of s ≡ Some owner) (role : role_of s ≡ asks p) (place : place_in w owner s ≡ grain) (can : whole_step logic w s ≡ None → ⊥) where
   asks_alike : AllWell (done logic w (bringing (whole_stepper logic) w s grain luck)) → bringing (whole_stepper logic) w s grain luck ≡ bringing (whole_stepper logic) w s grain good
   asks_alike all = by_step (whole_step logic w s) refl
@@ -200,11 +200,11 @@ module _ (logic : Logic) (w : Whole) (rests : AllRest w.entries) (s : Step) (luc
       by_step : (r : Option Whole) → whole_step logic w s ≡ r → bringing (whole_stepper logic) w s grain luck ≡ bringing (whole_stepper logic) w s grain good
       by_step None none = absurd (can none)
       by_step (Some after) step =
-          brings_alike logic w rests s luck after step owner p grain (subst (Brings w after owner p) place (brings logic w after s owner p is role step)) all
+          brings_alike logic w idle s luck after step owner p grain (subst (Brings w after owner p) place (brings logic w after s owner p is role step)) all
 
 -- ---- what is asked
 
-module _ (logic : Logic) (w : Whole) (rests : AllRest w.entries) (luck : Luck) where
+module _ (logic : Logic) (w : Whole) (idle : AllIdle w.entries) (luck : Luck) where
   abbrev FirstAlike : Step → Type 0
   FirstAlike s = AllWell (done logic w (bringing (whole_stepper logic) w (taken_by luck.asking_failed s) (called_grain s) luck))
       → bringing (whole_stepper logic) w (taken_by luck.asking_failed s) (called_grain s) luck ≡ bringing (whole_stepper logic) w s (called_grain s) good
@@ -223,7 +223,7 @@ module _ (logic : Logic) (w : Whole) (rests : AllRest w.entries) (luck : Luck) w
       let s : Step = Call caller id g message in
       let same : taken_by luck.asking_failed s ≡ s = taken_call luck.asking_failed caller id g message in
       ap (λ x. bringing (whole_stepper logic) w x (Some g) luck) same
-      ∙ asks_alike logic w rests s luck caller.tenant (party.Client caller id) (Some g) refl refl refl (call_done logic w caller id g message)
+      ∙ asks_alike logic w idle s luck caller.tenant (party.Client caller id) (Some g) refl refl refl (call_done logic w caller id g message)
       (subst (λ x. AllWell (done logic w (bringing (whole_stepper logic) w x (Some g) luck))) same all)
 
   plainly : (b : Bool) (s : Step) → taken_by true s ≡ s → taken_by b s ≡ s
@@ -249,29 +249,29 @@ module _ (logic : Logic) (w : Whole) (rests : AllRest w.entries) (luck : Luck) w
 -- ---- with the deliveries behind it
 
 module _ (logic : Logic) (setup : Setup) (tenant : List ℕ) where
-  delivers_alike : (w : Whole) (sends : List Send) (luck : Luck) → IsReached logic setup w → AllRest w.entries → sends_of (map.get w.accounts tenant) ≡ sends
+  delivers_alike : (w : Whole) (sends : List Send) (luck : Luck) → IsReached logic setup w → AllIdle w.entries → sends_of (map.get w.accounts tenant) ≡ sends
       → AllWell (done logic w (delivering (whole_stepper logic) w sends luck))
       → delivering (whole_stepper logic) w sends luck ≡ delivering (whole_stepper logic) w sends good
-  delivers_alike w [] luck reached rests is all = refl
-  delivers_alike w (oldest ∷ others) luck reached rests is all =
+  delivers_alike w [] luck reached idle is all = refl
+  delivers_alike w (oldest ∷ others) luck reached idle is all =
       let own = source_own logic setup tenant oldest others w reached is in
-      asks_alike logic w rests (Deliver oldest.source) luck tenant (party.Grain oldest.source) (Some oldest.message.target) (ap Some own) refl
+      asks_alike logic w idle (Deliver oldest.source) luck tenant (party.Grain oldest.source) (Some oldest.message.target) (ap Some own) refl
       (target_is logic setup tenant oldest others w is) (is_delivered logic setup tenant oldest others w own is) all
 
-  deliver_alike : (n : ℕ) (w : Whole) (lucks : List Luck) → IsReached logic setup w → AllRest w.entries
+  deliver_alike : (n : ℕ) (w : Whole) (lucks : List Luck) → IsReached logic setup w → AllIdle w.entries
       → AllWell (done logic w (deliveries (whole_stepper logic) n w tenant lucks))
       → deliveries (whole_stepper logic) n w tenant lucks ≡ deliveries (whole_stepper logic) n w tenant []
-  deliver_alike zero w lucks reached rests all = refl
-  deliver_alike (suc n) w lucks reached rests all =
+  deliver_alike zero w lucks reached idle all = refl
+  deliver_alike (suc n) w lucks reached idle all =
       let by = whole_stepper logic in
       let sends = sends_of (map.get w.accounts tenant) in
       let luck = first_luck lucks in
       let steps = delivering by w sends luck in
       let next = whole_run logic w steps in
       let parts = parts_well logic w steps (deliveries by n next tenant (later_luck lucks)) all in
-      let later = deliver_alike n next (later_luck lucks) (run_reached logic setup steps w reached) (delivering_goes logic setup tenant w sends luck reached rests refl).rests parts.1 in
+      let later = deliver_alike n next (later_luck lucks) (run_reached logic setup steps w reached) (delivering_goes logic setup tenant w sends luck reached idle refl).idle parts.1 in
       ap (λ others. steps ++ others) later
-      ∙ ap (λ ss. ss ++ deliveries by n (whole_run logic w ss) tenant []) (delivers_alike w sends luck reached rests refl parts.0)
+      ∙ ap (λ ss. ss ++ deliveries by n (whole_run logic w ss) tenant []) (delivers_alike w sends luck reached idle refl parts.0)
 
 -- what a tenant asks, a client of it asks
 client_of : (s : Step) (owner : List ℕ) → owner_of s ≡ Some owner → is_asked s ≡ true → (asking : Client × ℕ) × (asking_of s ≡ Some asking)
@@ -289,7 +289,7 @@ client_of (Store g turn failed) owner own asked = absurd (true≢false (sym aske
 client_of (End g turn) owner own asked = absurd (true≢false (sym asked))
 client_of (Abandon g turn) owner own asked = absurd (true≢false (sym asked))
 
-module _ (logic : Logic) (setup : Setup) (n : ℕ) (w : Whole) (reached : IsReached logic setup w) (rests : AllRest w.entries) (asked : Asked) (is : is_asked asked.step ≡ true) where
+module _ (logic : Logic) (setup : Setup) (n : ℕ) (w : Whole) (reached : IsReached logic setup w) (idle : AllIdle w.entries) (asked : Asked) (is : is_asked asked.step ≡ true) where
   abbrev luck : Luck
   luck = first_luck asked.lucks
 
@@ -304,14 +304,14 @@ module _ (logic : Logic) (setup : Setup) (n : ℕ) (w : Whole) (reached : IsReac
   later_alike None own all = refl
   later_alike (Some owner) own all =
       let client = client_of asked.step owner own is in
-      deliver_alike logic setup owner n next (later_luck asked.lucks) (run_reached logic setup first w reached) (asked_settles logic w rests luck asked.step client.0 client.1).rests all
+      deliver_alike logic setup owner n next (later_luck asked.lucks) (run_reached logic setup first w reached) (asked_settles logic w idle luck asked.step client.0 client.1).idle all
 
   all_alike : AllWell (done logic w (answering (whole_stepper logic) n w asked)) → answering (whole_stepper logic) n w asked ≡ answering (whole_stepper logic) n w (luckily asked)
   all_alike all =
       let by = whole_stepper logic in
       let parts = parts_well logic w first (deliveries_of by n next (owner_of asked.step) (later_luck asked.lucks)) all in
       ap (λ others. first ++ others) (later_alike (owner_of asked.step) refl parts.1)
-      ∙ ap (λ steps. steps ++ deliveries_of by n (whole_run logic w steps) (owner_of asked.step) []) (first_alike logic w rests luck asked.step is parts.0)
+      ∙ ap (λ steps. steps ++ deliveries_of by n (whole_run logic w steps) (owner_of asked.step) []) (first_alike logic w idle luck asked.step is parts.0)
 
 pub answered_certainly : AnsweredCertainly
-answered_certainly logic setup journal w n asked leads rests is all = all_alike logic setup n w (journal, leads) rests asked is all
+answered_certainly logic setup journal w n asked leads idle is all = all_alike logic setup n w (journal, leads) idle asked is all

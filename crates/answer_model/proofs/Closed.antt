@@ -1,4 +1,4 @@
--- The one open turn of an entry in which nothing waits is closed: the entry rests or is gone, and the turn's request is answered.
+-- The one open turn of an entry in which nothing waits is closed: the entry is idle or gone, and the turn's request is answered.
 use Rattle.std.proofs.Common.{◌≡◌, ℕ, Bool, true, false, cond, List, [], ◌∷◌, ◌++◌, Option, Some, None, unwrap_or, refl, ap, sym, ◌∙◌, subst}
 use Rattle.std.specs.Prelude.{Result, Ok, Err, is_some, if◌then◌else◌}
 use Rattle.std.specs.FinMap as map
@@ -40,9 +40,9 @@ elsewhere-remove m g h apart = map.get-remove grain_cmp_total m g h ∙ ap (λ b
 pub gone : (m : Entries) (g : Grain) → map.get (map.remove m g) g ≡ None
 gone m g = map.get-remove grain_cmp_total m g g ∙ ap (λ b. cond b None (map.get m g)) ((eq_by_cmp-Decides grain_cmp_total grain_cmp_exact g g).1 refl)
 
--- the request is answered, and the entry rests or is gone
+-- the request is answered, and the entry is idle or gone
 pub record Answers (w after : Whole) (g : Grain) (q : Request) : Type 0 where
-  pub rests : (e : Entry) → map.get after.entries g ≡ Some e → IsIdle e
+  pub idle : (e : Entry) → map.get after.entries g ≡ Some e → IsIdle e
   pub elsewhere : Elsewhere w.entries after.entries g
   pub outcome : Result Tree Fault
   pub replies : after.replies ≡ w.replies ++ reply_to q.sender outcome
@@ -51,7 +51,7 @@ pub record Answers (w after : Whole) (g : Grain) (q : Request) : Type 0 where
 answers_put : (w after : Whole) (g : Grain) (q : Request) (x : Entry) (outcome : Result Tree Fault) → after.entries ≡ map.insert w.entries g x → IsIdle x
     → after.replies ≡ w.replies ++ reply_to q.sender outcome → Answers w after g q
 answers_put w after g q x outcome put idle replies = record {
-  rests = λ e found. subst IsIdle (same_Some x e (sym (ap (λ m. map.get m g) put ∙ get-insert_same grain_cmp_total grain_cmp_exact w.entries g x) ∙ found)) idle;
+  idle = λ e found. subst IsIdle (same_Some x e (sym (ap (λ m. map.get m g) put ∙ get-insert_same grain_cmp_total grain_cmp_exact w.entries g x) ∙ found)) idle;
   elsewhere = λ h apart. ap (λ m. map.get m h) put ∙ elsewhere-insert w.entries g x h apart;
   outcome = outcome;
   replies = replies;
@@ -60,7 +60,7 @@ answers_put w after g q x outcome put idle replies = record {
 pub answers_gone : (w after : Whole) (g : Grain) (q : Request) (outcome : Result Tree Fault) → after.entries ≡ map.remove w.entries g
     → after.replies ≡ w.replies ++ reply_to q.sender outcome → Answers w after g q
 answers_gone w after g q outcome put replies = record {
-  rests = λ e found. absurd (none-some e (sym (ap (λ m. map.get m g) put ∙ gone w.entries g) ∙ found));
+  idle = λ e found. absurd (none-some e (sym (ap (λ m. map.get m g) put ∙ gone w.entries g) ∙ found));
   elsewhere = λ h apart. ap (λ m. map.get m h) put ∙ elsewhere-remove w.entries g h apart;
   outcome = outcome;
   replies = replies;

@@ -5,5 +5,5 @@ pub mod Served
 pub mod Apart
 pub mod Closed
 pub mod Raised
-pub mod Resting
+pub mod Idle
 pub mod Certain

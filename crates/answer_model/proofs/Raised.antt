@@ -52,7 +52,7 @@ Raises w after g q = IsUp w after g q ⊎ (Answers w after g q × (map.get after
 module _ (w next after : Whole) (g : Grain) (q : Request) (elsewhere : Elsewhere w.entries next.entries g) (replies : next.replies ≡ w.replies) where
   answers_later : Answers next after g q → Answers w after g q
   answers_later a = record {
-    rests = a.rests;
+    idle = a.idle;
     elsewhere = λ h apart. a.elsewhere h apart ∙ elsewhere h apart;
     outcome = a.outcome;
     replies = a.replies ∙ ap (λ rs. rs ++ reply_to q.sender a.outcome) replies;

@@ -9,7 +9,7 @@ use Rattle.silo_model.specs.Run.{done_by}
 use Rattle.silo_model.specs.Opening.{Setup}
 use Rattle.silo_model.specs.Journal.{LeadsTo}
 use Rattle.answer_model.specs.Answering.{Asked, answering, is_asked, whole_stepper}
-use Rattle.answer_model.specs.Resting.{AllRest}
+use Rattle.answer_model.specs.Idle.{AllIdle}
 
 -- the storage didn't fail in the step, and no turn is given up by it
 abbrev pub went_well : Step → Bool
@@ -35,9 +35,9 @@ AllWell (s ∷ steps) = (went_well s ≡ true) × AllWell steps
 abbrev pub luckily : Asked → Asked
 luckily asked = record { step = asked.step; lucks = [] }
 
--- From where a journal leads and where all rests: if all that was done for what is asked went well, it is what is done with good luck.
+-- From where a journal leads and where all is idle: if all that was done for what is asked went well, it is what is done with good luck.
 abbrev pub AnsweredCertainly : Type 0
 AnsweredCertainly = (logic : Logic) (setup : Setup) (journal : List Step) (w : Whole) (n : ℕ) (asked : Asked)
-    → LeadsTo logic setup journal w → AllRest w.entries → is_asked asked.step ≡ true
+    → LeadsTo logic setup journal w → AllIdle w.entries → is_asked asked.step ≡ true
     → AllWell (done_by (whole_step logic) w (answering (whole_stepper logic) n w asked))
     → answering (whole_stepper logic) n w asked ≡ answering (whole_stepper logic) n w (luckily asked)

@@ -1,4 +1,4 @@
 pub mod Answering
 pub mod Apart
-pub mod Resting
+pub mod Idle
 pub mod Certain

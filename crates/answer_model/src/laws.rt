@@ -3,7 +3,7 @@
 
 ghost use Rattle.answer_model.specs.Apart.{TenantsApart};
 ghost use Rattle.answer_model.specs.Certain.{AnsweredCertainly};
-ghost use Rattle.answer_model.specs.Resting.{AnsweredAtOnce};
+ghost use Rattle.answer_model.specs.Idle.{AnsweredAtOnce};
 
 /// What a silo that answers each request at once shows to each tenant is what the tenant's own machine
 /// is after what the tenant and nobody asked alone.

@@ -11,11 +11,11 @@ use Rattle.line_parser.specs.declared.line.Line.TheVariants as line
 use Rattle.line_protocol.specs.LineTexts.{said_lines, texts_of}
 use Rattle.answer_model.specs.Answering.{Luck, Stepper, Asked, taken, is_asked, whole_stepper, machine_stepper, answering, answered, all_answered}
 use Rattle.answer_model.specs.Certain.{AllWell}
-use Rattle.answer_model.specs.Resting.{AllRest}
+use Rattle.answer_model.specs.Idle.{AllIdle}
 use Rattle.answer_model.proofs.Apart.{tenants_apart}
 use Rattle.answer_model.proofs.Certain.{AllWell-split, parts_well, answered_certainly}
 use Rattle.answer_model.proofs.Reached.{IsReached, run_reached}
-use Rattle.answer_model.proofs.Resting.{answered_at_once}
+use Rattle.answer_model.proofs.Idle.{answered_at_once}
 use Rattle.line_answer.specs.Texts.{Heard, asked_if, asks_by, asks_of, text_if, all_steps, asked_text, step_text, line_text, lines_text}
 use Rattle.line_answer.specs.Laws.{heard_well, LinesApart, LinesCertain, LinesAlone}
 use Rattle.line_answer.proofs.Asked.{all_answered-append, run_all}
@@ -40,7 +40,7 @@ module _ (logic : Logic) (setup : Setup) (n : ℕ) where
   Well w asks = AllWell (done_by (whole_step logic) w (all_steps of_whole n w asks))
 
   -- what is asked by one line
-  module _ (w : Whole) (reached : IsReached logic setup w) (rests : AllRest w.entries) (s : Step) (lucks : List Luck) (asked : is_asked s ≡ true) where
+  module _ (w : Whole) (reached : IsReached logic setup w) (idle : AllIdle w.entries) (s : Step) (lucks : List Luck) (asked : is_asked s ≡ true) where
     abbrev one : Asked
     one = record { step = s; lucks = lucks }
 
@@ -49,7 +49,7 @@ module _ (logic : Logic) (setup : Setup) (n : ℕ) where
 
     module _ (all : AllWell (done_by (whole_step logic) w (answering of_whole n w one))) where
       same_steps : answering of_whole n w one ≡ answering of_whole n w plain
-      same_steps = answered_certainly logic setup reached.0 w n one reached.1 rests asked all
+      same_steps = answered_certainly logic setup reached.0 w n one reached.1 idle asked all
 
       same_after : answered of_whole n w one ≡ answered of_whole n w plain
       same_after = ap (whole_run logic w) same_steps
@@ -61,35 +61,35 @@ module _ (logic : Logic) (setup : Setup) (n : ℕ) where
       same_text =
           (λ i. text_if (whole_step logic w (same_taken i)) (texts_of (drop (length w.replies) (same_after i).replies)))
 
-    rests_then : AllRest (answered of_whole n w one).entries
-    rests_then = (answered_at_once logic setup reached.0 w n one reached.1 rests asked).0
+    idle_then : AllIdle (answered of_whole n w one).entries
+    idle_then = (answered_at_once logic setup reached.0 w n one reached.1 idle asked).0
 
   reached_then : (w : Whole) (asked : Asked) → IsReached logic setup w → IsReached logic setup (answered of_whole n w asked)
   reached_then w asked reached = run_reached logic setup (answering of_whole n w asked) w reached
 
-  -- what one line leaves: all rests, and it is as with good luck
+  -- what one line leaves: all is idle, and it is as with good luck
   record LineWell (w : Whole) (said : Line) (lucks : List Luck) (others : List Asked) : Type 0 where
     pub after : all_answered of_whole n w (asks_by said lucks) ≡ all_answered of_whole n w (asks_by said [])
     pub text : line_text of_whole n w said lucks ≡ line_text of_whole n w said []
     pub reached : IsReached logic setup (all_answered of_whole n w (asks_by said lucks))
-    pub rests : AllRest (all_answered of_whole n w (asks_by said lucks)).entries
+    pub idle : AllIdle (all_answered of_whole n w (asks_by said lucks)).entries
     pub later : Well (all_answered of_whole n w (asks_by said lucks)) others
 
   nothing_well : (w : Whole) (said : Line) (lucks : List Luck) (others : List Asked) → asks_by said lucks ≡ asks_by said [] → line_text of_whole n w said lucks ≡ line_text of_whole n w said []
-      → asks_by said lucks ≡ [] → IsReached logic setup w → AllRest w.entries → Well w (asks_by said lucks ++ others) → LineWell w said lucks others
-  nothing_well w said lucks others same text none reached rests all = record {
+      → asks_by said lucks ≡ [] → IsReached logic setup w → AllIdle w.entries → Well w (asks_by said lucks ++ others) → LineWell w said lucks others
+  nothing_well w said lucks others same text none reached idle all = record {
     after = ap (all_answered of_whole n w) same;
     text = text;
     reached = subst (λ asks. IsReached logic setup (all_answered of_whole n w asks)) (sym none) reached;
-    rests = subst (λ asks. AllRest (all_answered of_whole n w asks).entries) (sym none) rests;
+    idle = subst (λ asks. AllIdle (all_answered of_whole n w asks).entries) (sym none) idle;
     later = subst (λ asks. Well (all_answered of_whole n w asks) others) (sym none) (subst (λ asks. Well w (asks ++ others)) none all);
   }
 
-  line_well : (w : Whole) (said : Line) (lucks : List Luck) (others : List Asked) → IsReached logic setup w → AllRest w.entries → Well w (asks_by said lucks ++ others)
+  line_well : (w : Whole) (said : Line) (lucks : List Luck) (others : List Asked) → IsReached logic setup w → AllIdle w.entries → Well w (asks_by said lucks ++ others)
       → LineWell w said lucks others
-  line_well w line.Nothing lucks others reached rests all = nothing_well w line.Nothing lucks others refl refl refl reached rests all
-  line_well w (line.Refusal r) lucks others reached rests all = nothing_well w (line.Refusal r) lucks others refl refl refl reached rests all
-  line_well w (line.Step s) lucks others reached rests all = by_test (is_asked s) refl
+  line_well w line.Nothing lucks others reached idle all = nothing_well w line.Nothing lucks others refl refl refl reached idle all
+  line_well w (line.Refusal r) lucks others reached idle all = nothing_well w (line.Refusal r) lucks others refl refl refl reached idle all
+  line_well w (line.Step s) lucks others reached idle all = by_test (is_asked s) refl
     where
       step_well : is_asked s ≡ true → LineWell w (line.Step s) lucks others
       step_well is =
@@ -98,12 +98,12 @@ module _ (logic : Logic) (setup : Setup) (n : ℕ) where
           let tried = subst (λ asks. Well w (asks ++ others)) (all_asked lucks) all in
           let parts = parts_well logic w (answering of_whole n w asked) (all_steps of_whole n (answered of_whole n w asked) others) tried in
           record {
-            after = ap (all_answered of_whole n w) (all_asked lucks) ∙ same_after w reached rests s lucks is parts.0 ∙ ap (all_answered of_whole n w) (sym (all_asked []));
+            after = ap (all_answered of_whole n w) (all_asked lucks) ∙ same_after w reached idle s lucks is parts.0 ∙ ap (all_answered of_whole n w) (sym (all_asked []));
             text =
-                ap (λ b. step_text of_whole n b w s lucks) is ∙ same_text w reached rests s lucks is parts.0
+                ap (λ b. step_text of_whole n b w s lucks) is ∙ same_text w reached idle s lucks is parts.0
                 ∙ ap (λ b. step_text of_whole n b w s []) (sym is);
             reached = subst (λ asks. IsReached logic setup (all_answered of_whole n w asks)) (sym (all_asked lucks)) (reached_then w asked reached);
-            rests = subst (λ asks. AllRest (all_answered of_whole n w asks).entries) (sym (all_asked lucks)) (rests_then w reached rests s lucks is);
+            idle = subst (λ asks. AllIdle (all_answered of_whole n w asks).entries) (sym (all_asked lucks)) (idle_then w reached idle s lucks is);
             later = subst (λ asks. Well (all_answered of_whole n w asks) others) (sym (all_asked lucks)) parts.1;
           }
 
@@ -112,17 +112,17 @@ module _ (logic : Logic) (setup : Setup) (n : ℕ) where
       by_test false is =
           let none : (lucks : List Luck) → asks_by (line.Step s) lucks ≡ [] = λ lucks. ap (λ b. asked_if b s lucks) is in
           nothing_well w (line.Step s) lucks others (none lucks ∙ sym (none []))
-          (ap (λ b. step_text of_whole n b w s lucks) is ∙ ap (λ b. step_text of_whole n b w s []) (sym is)) (none lucks) reached rests all
+          (ap (λ b. step_text of_whole n b w s lucks) is ∙ ap (λ b. step_text of_whole n b w s []) (sym is)) (none lucks) reached idle all
 
   -- all lines
-  pub all_well : (heard : List Heard) (w : Whole) → IsReached logic setup w → AllRest w.entries → Well w (asks_of heard)
+  pub all_well : (heard : List Heard) (w : Whole) → IsReached logic setup w → AllIdle w.entries → Well w (asks_of heard)
       → (all_answered of_whole n w (asks_of heard) ≡ all_answered of_whole n w (asks_of (heard_well (map_list (λ h. h.said) heard))))
       × (lines_text of_whole n w heard ≡ lines_text of_whole n w (heard_well (map_list (λ h. h.said) heard)))
-  all_well [] w reached rests all = (refl, refl)
-  all_well (h ∷ heard) w reached rests all =
-      let first = line_well w h.said h.lucks (asks_of heard) reached rests all in
+  all_well [] w reached idle all = (refl, refl)
+  all_well (h ∷ heard) w reached idle all =
+      let first = line_well w h.said h.lucks (asks_of heard) reached idle all in
       let next = all_answered of_whole n w (asks_by h.said h.lucks) in
-      let later = all_well heard next first.reached first.rests first.later in
+      let later = all_well heard next first.reached first.idle first.later in
       let well = heard_well (map_list (λ h. h.said) heard) in (
         all_answered-append of_whole n w (asks_by h.said h.lucks) (asks_of heard)
             ∙ later.0
@@ -136,7 +136,7 @@ lines_certain logic n lines old new text p =
     let by = whole_stepper logic in
     let a = p.answers in
     let tried : AllWell (done_by (whole_step logic) old.whole (all_steps by n old.whole (asks_of a.heard))) = (AllWell-split old.journal _ (subst AllWell a.tries.journal p.well)).1 in
-    let same = all_well logic old.setup n a.heard old.whole (old.journal, p.leads) p.rests tried in
+    let same = all_well logic old.setup n a.heard old.whole (old.journal, p.leads) p.idle tried in
     let well = heard_well (said_lines lines) in
     let said : heard_well (map_list (λ h. h.said) a.heard) ≡ well = ap heard_well a.said in (
       a.text_is ∙ same.1 ∙ ap (lines_text by n old.whole) said,

@@ -22,8 +22,8 @@ use Rattle.line_protocol.specs.LineTexts.{ended, texts_of, said_lines}
 use Rattle.line_protocol.specs.Text.{refusal_line, not_now_line}
 use Rattle.line_protocol.proofs.Saids.{said_lines-more}
 use Rattle.answer_model.specs.Answering.{Stepper, Asked, taken, is_asked, whole_stepper, answering, answered, all_answered}
-use Rattle.answer_model.specs.Resting.{AllRest, TellsAsker}
-use Rattle.answer_model.proofs.Resting.{answered_at_once}
+use Rattle.answer_model.specs.Idle.{AllIdle, TellsAsker}
+use Rattle.answer_model.proofs.Idle.{answered_at_once}
 use Rattle.answer_model.proofs.Apart.{tenants_apart}
 use Rattle.line_answer.specs.Texts.{Heard, asked_if, asks_by, asks_of, text_if, all_steps, step_text, line_text, lines_text}
 use Rattle.line_answer.specs.Trying.{Tries, AnswersAsked}
@@ -70,15 +70,15 @@ module _ {M : Type 0} (by : Stepper M) (n : ℕ) where
 module _ (logic : Logic) (n : ℕ) where
   -- a line that asks nothing
   pub nothing_asked : (old : History) (said : Line) (text : List ℕ) → asks_by said [] ≡ [] → text ≡ line_text (whole_stepper logic) n old.whole said []
-      → AllRest old.whole.entries → AnswersLine logic n old said old text
-  nothing_asked old said text none is rests =
-      ([], subst (λ asks. Tries logic old (all_steps (whole_stepper logic) n old.whole asks) old) (sym none) (tries_none logic old), is, rests)
+      → AllIdle old.whole.entries → AnswersLine logic n old said old text
+  nothing_asked old said text none is idle =
+      ([], subst (λ asks. Tries logic old (all_steps (whole_stepper logic) n old.whole asks) old) (sym none) (tries_none logic old), is, idle)
 
   -- a step that is no client's to ask
-  pub not_asked : (old : History) (s : Step) (text : List ℕ) → is_asked s ≡ false → text ≡ ended (refusal_line NotARequest) → AllRest old.whole.entries
+  pub not_asked : (old : History) (s : Step) (text : List ℕ) → is_asked s ≡ false → text ≡ ended (refusal_line NotARequest) → AllIdle old.whole.entries
       → AnswersLine logic n old (line.Step s) old text
-  not_asked old s text never is rests =
-      nothing_asked old (line.Step s) text (ap (λ b. asked_if b s []) never) (is ∙ sym (ap (λ b. step_text (whole_stepper logic) n b old.whole s []) never)) rests
+  not_asked old s text never is idle =
+      nothing_asked old (line.Step s) text (ap (λ b. asked_if b s []) never) (is ∙ sym (ap (λ b. step_text (whole_stepper logic) n b old.whole s []) never)) idle
 
   text_by : (r : Option Whole) (done : Bool) (text : List ℕ) → is_some r ≡ done → (if done then text else ended not_now_line) ≡ text_if r text
   text_by None true text e = absurd (true≢false (sym e))
@@ -88,9 +88,9 @@ module _ (logic : Logic) (n : ℕ) where
 
   -- a step that is
   pub asked_line : (old new : History) (s : Step) (done : Bool) (text : List ℕ) → is_asked s ≡ true → AnswersAsked logic n old s done new
-      → text ≡ (if done then texts_of (drop (length old.whole.replies) new.whole.replies) else ended not_now_line) → AllRest new.whole.entries
+      → text ≡ (if done then texts_of (drop (length old.whole.replies) new.whole.replies) else ended not_now_line) → AllIdle new.whole.entries
       → AnswersLine logic n old (line.Step s) new text
-  asked_line old new s done text asked answers is rests =
+  asked_line old new s done text asked answers is idle =
       let by = whole_stepper logic in
       let one : Asked = record { step = s; lucks = answers.lucks } in
       let after : new.whole ≡ answered by n old.whole one = answers.tries.whole in (
@@ -101,27 +101,27 @@ module _ (logic : Logic) (n : ℕ) where
             ∙ ap (λ (w : Whole). if done then texts_of (drop (length old.whole.replies) w.replies) else ended not_now_line) after
             ∙ text_by (whole_step logic old.whole (taken one)) done (texts_of (drop (length old.whole.replies) (answered by n old.whole one).replies)) answers.possible
             ∙ sym (ap (λ b. step_text by n b old.whole s answers.lucks) asked),
-        rests,
+        idle,
       )
 
--- ---- what is asked of a silo where all rests
+-- ---- what is asked of a silo where all is idle
 
-pub opening_rests : (setup : Setup) → AllRest (opening setup).entries
+pub opening_idle : (setup : Setup) → AllIdle (opening setup).entries
 unfolding opening
-opening_rests setup g e found = absurd (none-some e (sym (map.get-empty grain_cmp g) ∙ found))
+opening_idle setup g e found = absurd (none-some e (sym (map.get-empty grain_cmp g) ∙ found))
 
-module _ (logic : Logic) (n : ℕ) (old new : History) (s : Step) (done : Bool) (leads : LeadsTo logic old.setup old.journal old.whole) (rests : AllRest old.whole.entries)
+module _ (logic : Logic) (n : ℕ) (old new : History) (s : Step) (done : Bool) (leads : LeadsTo logic old.setup old.journal old.whole) (idle : AllIdle old.whole.entries)
     (asked : is_asked s ≡ true) (answers : AnswersAsked logic n old s done new) where
   abbrev one : Asked
   one = record { step = s; lucks = answers.lucks }
 
-  pub rests_after : AllRest new.whole.entries
-  rests_after =
-      subst (λ (w : Whole). AllRest w.entries) (sym answers.tries.whole) (answered_at_once logic old.setup old.journal old.whole n one leads rests asked).0
+  pub idle_after : AllIdle new.whole.entries
+  idle_after =
+      subst (λ (w : Whole). AllIdle w.entries) (sym answers.tries.whole) (answered_at_once logic old.setup old.journal old.whole n one leads idle asked).0
 
   pub told_after : TellsAsker (asking_of s) old.whole.replies new.whole.replies
   told_after =
-      subst (λ (w : Whole). TellsAsker (asking_of s) old.whole.replies w.replies) (sym answers.tries.whole) (answered_at_once logic old.setup old.journal old.whole n one leads rests asked).1
+      subst (λ (w : Whole). TellsAsker (asking_of s) old.whole.replies w.replies) (sym answers.tries.whole) (answered_at_once logic old.setup old.journal old.whole n one leads idle asked).1
 
 -- ---- lines, and one more
 
@@ -131,15 +131,15 @@ pub record Hears (logic : Logic) (n : ℕ) (old : History) (lines : List (List �
   pub said : map_list (λ h. h.said) heard ≡ said_lines lines
   pub tries : Tries logic old (all_steps (whole_stepper logic) n old.whole (asks_of heard)) new
   pub text_is : text ≡ lines_text (whole_stepper logic) n old.whole heard
-  pub rests : AllRest new.whole.entries
+  pub idle : AllIdle new.whole.entries
 
 map-more : (heard : List Heard) (h : Heard) → map_list (λ x. x.said) (heard ++ h ∷ []) ≡ map_list (λ x. x.said) heard ++ h.said ∷ []
 map-more [] h = refl
 map-more (x ∷ heard) h = ap (λ rest. x.said ∷ rest) (map-more heard h)
 
 module _ (logic : Logic) (n : ℕ) where
-  pub hears_none : (old : History) → AllRest old.whole.entries → Hears logic n old [] old []
-  hears_none old rests = record { heard = []; said = refl; tries = tries_none logic old; text_is = refl; rests = rests }
+  pub hears_none : (old : History) → AllIdle old.whole.entries → Hears logic n old [] old []
+  hears_none old idle = record { heard = []; said = refl; tries = tries_none logic old; text_is = refl; idle = idle }
 
   pub hears_more : (old mid new : History) (lines : List (List ℕ)) (l : List ℕ) (text last : List ℕ) → Hears logic n old lines mid text
       → AnswersLine logic n mid (meaning_of l) new last → Hears logic n old (lines ++ l ∷ []) new (text ++ last)
@@ -158,7 +158,7 @@ module _ (logic : Logic) (n : ℕ) where
         text_is =
             (λ i. p.text_is i ++ (answers.2 ∙ ap (λ w. line_text by n w (meaning_of l) answers.0) at) i)
             ∙ sym (lines_text-more by n old.whole p.heard h);
-        rests = answers.3;
+        idle = answers.3;
       }
 
   -- and so it is for every tenant alone
@@ -169,7 +169,7 @@ module _ (logic : Logic) (n : ℕ) where
     said = p.said;
     tries = p.tries;
     text_is = p.text_is;
-    rests = p.rests;
+    idle = p.idle;
     own = λ tenant.
         ap (shown_to tenant) (p.tries.whole ∙ run_all (whole_stepper logic) n old.whole (asks_of p.heard))
         ∙ tenants_apart logic old.setup old.journal old.whole n tenant (asks_of p.heard) leads;

@@ -7,8 +7,8 @@ use Rattle.silo_model.specs.Calls.{told}
 use Rattle.silo_model.specs.Whole.{Whole, whole_step}
 use Rattle.line_protocol.specs.LineTexts.{texts_of}
 use Rattle.answer_model.specs.Answering.{Asked, first_luck, taken, whole_stepper, answered}
-use Rattle.answer_model.specs.Resting.{TellsAsker, TellsFirst}
-use Rattle.answer_model.proofs.Resting.{answered_at_once, asked_done}
+use Rattle.answer_model.specs.Idle.{TellsAsker, TellsFirst}
+use Rattle.answer_model.proofs.Idle.{answered_at_once, asked_done}
 use Rattle.line_answer.specs.Texts.{text_if, step_text}
 use Rattle.line_answer.specs.Laws.{ClientsFirst}
 
@@ -21,12 +21,12 @@ text_possible None text can = absurd (can refl)
 text_possible (Some w) text can = refl
 
 pub clients_first : ClientsFirst
-clients_first logic n h s lucks client id leads rests asked is =
+clients_first logic n h s lucks client id leads idle asked is =
     let by = whole_stepper logic in
     let w = h.whole in
     let one : Asked = record { step = s; lucks = lucks } in
     let after = answered by n w one in
-    let tells : TellsFirst client id w.replies after.replies = subst (λ asking. TellsAsker asking w.replies after.replies) is (answered_at_once logic h.setup h.journal w n one leads rests asked).1 in
+    let tells : TellsFirst client id w.replies after.replies = subst (λ asking. TellsAsker asking w.replies after.replies) is (answered_at_once logic h.setup h.journal w n one leads idle asked).1 in
     let added = told (party.Client client id) tells.outcome ++ tells.others in
     let all : after.replies ≡ w.replies ++ added = tells.replies ∙ append_assoc w.replies (told (party.Client client id) tells.outcome) tells.others in (
       tells.outcome,

@@ -18,7 +18,7 @@ use Rattle.line_protocol.specs.declared.fault.LineFault.TheVariants as fault
 use Rattle.line_protocol.proofs.LinesOfBytes.{LinesTaken-trans, LinesTaken-kept, left_of-fresh}
 use Rattle.line_protocol.proofs.ReadLines.{all_taken_here, lines_ahead}
 use Rattle.line_protocol.proofs.TakenLines.{Took, Took-kept, Took-more, TakesLine-lines, are_taken, none_beyond, one_beyond}
-use Rattle.answer_model.specs.Resting.{AllRest}
+use Rattle.answer_model.specs.Idle.{AllIdle}
 use Rattle.line_answer.specs.Runs.{AnswersLine, AnswersLines, AnswersAll, AnswersBefore, StopsBy, LineStopsBy, MayStop, KeepsSetup}
 use Rattle.line_answer.proofs.Asked.{Hears, hears_none, hears_more, hears_own}
 
@@ -58,16 +58,16 @@ pub record LinesDone (logic : Logic) (n count : ℕ) (from left : Option (List �
   pub written : Appends before after text
 
 module _ (logic : Logic) (n : ℕ) where
-  pub done_none : (from left : Option (List ℕ)) (old : History) (before : Option (List ℕ)) → LeadsTo logic old.setup old.journal old.whole → AllRest old.whole.entries
+  pub done_none : (from left : Option (List ℕ)) (old : History) (before : Option (List ℕ)) → LeadsTo logic old.setup old.journal old.whole → AllIdle old.whole.entries
       → LinesTaken from left [] → Took from left [] → LinesDone logic n 0 from left old old before before
-  done_none from left old before leads rests h t = record {
+  done_none from left old before leads idle h t = record {
     leads = leads;
     done = [];
     counted = refl;
     taken = h;
     took = t;
     text = [];
-    hears = hears_none logic n old rests;
+    hears = hears_none logic n old idle;
     written = Appends-nil before;
   }
 

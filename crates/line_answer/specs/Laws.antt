@@ -19,7 +19,7 @@ use Rattle.line_protocol.specs.LineTexts.{said_lines, texts_of}
 use Rattle.answer_model.specs.Answering.{Luck, is_asked, machine_stepper, whole_stepper, all_answered}
 use Rattle.answer_model.specs.Apart.{asked_by}
 use Rattle.answer_model.specs.Certain.{AllWell}
-use Rattle.answer_model.specs.Resting.{AllRest, AllToGrains}
+use Rattle.answer_model.specs.Idle.{AllIdle, AllToGrains}
 use Rattle.line_answer.specs.Texts.{Heard, asks_of, line_text, lines_text}
 use Rattle.line_answer.specs.Runs.{AnswersLines}
 
@@ -36,11 +36,11 @@ LinesApart = (logic : Logic) (n : ℕ) (tenant : List ℕ) (lines others : List 
     → asked_by tenant (asks_of here.heard) ≡ asked_by tenant (asks_of there.heard)
     → shown_to tenant new.whole ≡ shown_to tenant after.whole
 
--- From where a journal leads and where all rests lines were answered, and the journal shows that all went well: the storage never
+-- From where a journal leads and where all is idle lines were answered, and the journal shows that all went well: the storage never
 -- failed, and no turn was given up.
 pub record AnswersWell (logic : Logic) (n : ℕ) (old : History) (lines : List (List ℕ)) (new : History) (text : List ℕ) : Type 0 where
   pub leads : LeadsTo logic old.setup old.journal old.whole
-  pub rests : AllRest old.whole.entries
+  pub idle : AllIdle old.whole.entries
   pub answers : AnswersLines logic n old lines new text
   pub well : AllWell new.journal
 
@@ -65,6 +65,6 @@ LinesAlone = (logic : Logic) (n : ℕ) (tenant : List ℕ) (lines others : List 
 -- What is written for a client's line: the line of one reply to it under its number, and behind it lines of replies to grains.
 abbrev pub ClientsFirst : Type 0
 ClientsFirst = (logic : Logic) (n : ℕ) (h : History) (s : Step) (lucks : List Luck) (client : Client) (id : ℕ)
-    → LeadsTo logic h.setup h.journal h.whole → AllRest h.whole.entries → is_asked s ≡ true → asking_of s ≡ Some (client, id)
+    → LeadsTo logic h.setup h.journal h.whole → AllIdle h.whole.entries → is_asked s ≡ true → asking_of s ≡ Some (client, id)
     → (outcome : Result Tree Fault) × (others : List Reply) × AllToGrains others
     × (line_text (whole_stepper logic) n h.whole (line.Step s) lucks ≡ texts_of (told (party.Client client id) outcome ++ others))

@@ -16,7 +16,7 @@ use Rattle.line_protocol.specs.declared.fault.LineFault.{LineFault}
 use Rattle.line_protocol.specs.declared.fault.LineFault.TheVariants as fault
 use Rattle.answer_model.specs.Answering.{Luck, whole_stepper, machine_stepper, all_answered}
 use Rattle.answer_model.specs.Apart.{asked_by}
-use Rattle.answer_model.specs.Resting.{AllRest}
+use Rattle.answer_model.specs.Idle.{AllIdle}
 use Rattle.line_answer.specs.Texts.{Heard, asks_by, asks_of, all_steps, line_text, lines_text}
 use Rattle.line_answer.specs.Trying.{Tries}
 
@@ -25,11 +25,11 @@ pub record Answering : Type 0 where
   pub history : History
   pub stopped : Bool
 
--- With some luck this was done and written for one line, and all rests again.
+-- With some luck this was done and written for one line, and all is idle again.
 abbrev pub AnswersLine : Logic → ℕ → History → Line → History → List ℕ → Type 0
 AnswersLine logic n old said new text =
     (lucks : List Luck) × Tries logic old (all_steps (whole_stepper logic) n old.whole (asks_by said lucks)) new
-    × (text ≡ line_text (whole_stepper logic) n old.whole said lucks) × AllRest new.whole.entries
+    × (text ≡ line_text (whole_stepper logic) n old.whole said lucks) × AllIdle new.whole.entries
 
 -- So it was for these lines. Each tenant is shown what its own machine is after what the tenant and nobody asked alone.
 pub record AnswersLines (logic : Logic) (n : ℕ) (old : History) (lines : List (List ℕ)) (new : History) (text : List ℕ) : Type 0 where
@@ -37,7 +37,7 @@ pub record AnswersLines (logic : Logic) (n : ℕ) (old : History) (lines : List 
   pub said : map (λ h. h.said) heard ≡ said_lines lines
   pub tries : Tries logic old (all_steps (whole_stepper logic) n old.whole (asks_of heard)) new
   pub text_is : text ≡ lines_text (whole_stepper logic) n old.whole heard
-  pub rests : AllRest new.whole.entries
+  pub idle : AllIdle new.whole.entries
   pub own : (tenant : List ℕ) → shown_to tenant new.whole ≡ all_answered (machine_stepper logic) n (shown_to tenant old.whole)
       (asked_by tenant (asks_of heard))
 

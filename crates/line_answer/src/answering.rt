@@ -5,7 +5,7 @@ ghost use Rattle.silo_event.specs.Asker.{asking_of};
 ghost use Rattle.silo_model.specs.Journal.{LeadsTo};
 ghost use Rattle.silo_model.specs.Opening.{opening};
 ghost use Rattle.answer_model.specs.Answering.{is_asked};
-ghost use Rattle.answer_model.specs.Resting.{AllRest, TellsAsker};
+ghost use Rattle.answer_model.specs.Idle.{AllIdle, TellsAsker};
 ghost use Rattle.line_answer.specs.Trying.{AnswersAsked};
 
 use crate::bringing::answer_step;
@@ -29,7 +29,7 @@ impl<S: GrainStorage, L: GrainLogic> Model for AnsweringSilo<S, L> {
     ghost use Rattle.request_codec.specs.Code.{coded_tree};
     ghost use Rattle.request_codec.specs.contracts.state.StateBytes as state;
     ghost use Rattle.silo_model.specs.Codes.{by_grain_code, by_text_code, by_number_code};
-    ghost use Rattle.answer_model.specs.Resting.{AllRest};
+    ghost use Rattle.answer_model.specs.Idle.{AllIdle};
     ghost use Rattle.line_answer.specs.Runs.{Answering};
 
     ghost Value = { Answering };
@@ -38,7 +38,7 @@ impl<S: GrainStorage, L: GrainLogic> Model for AnsweringSilo<S, L> {
 
     ghost view = { λ a. record { history = a.silo; stopped = a.stopped } };
 
-    ghost invariant = { λ a. a.stopped ≡ false → AllRest a.silo.whole.entries };
+    ghost invariant = { λ a. a.stopped ≡ false → AllIdle a.silo.whole.entries };
 }
 
 impl<S: GrainStorage + Drop, L: GrainLogic + Drop> AnsweringSilo<S, L> {
@@ -96,7 +96,7 @@ impl<S: GrainStorage, L: GrainLogic> AnsweringSilo<S, L> {
         ensures leads { LeadsTo L.logic self.now.history.setup self.now.history.journal self.now.history.whole }
 
         // Nothing waits and nothing is open, unless it stopped.
-        ensures rests { self.now.stopped ≡ false → AllRest self.now.history.whole.entries }
+        ensures idle { self.now.stopped ≡ false → AllIdle self.now.history.whole.entries }
     {
         self.silo.journal()
     }
@@ -106,7 +106,7 @@ impl<S: GrainStorage, L: GrainLogic> AnsweringSilo<S, L> {
         ensures same { result ≡ self.history }
 
         // Nothing waits and nothing is open.
-        ensures rests { self.stopped ≡ false → AllRest self.history.whole.entries }
+        ensures idle { self.stopped ≡ false → AllIdle self.history.whole.entries }
     {
         let AnsweringSilo { silo, .. } = self;
         silo
@@ -119,14 +119,14 @@ impl<S: GrainStorage, L: GrainLogic> AnsweringSilo<S, L> {
     /// # Errors
     ///
     /// Out of memory: it has stopped, and some of this may have been done.
-    #[tactic(auto, using(crate::proofs::Asked::rests_after))]
+    #[tactic(auto, using(crate::proofs::Asked::idle_after))]
     pub fn answer(&mut self, alloc: Global, step: Step, most: u64) -> Result<bool, AllocError>
         requires asked { is_asked step ≡ true }
         requires ready { self.old.stopped ≡ false }
         ensures answered { IfOk result (λ done. AnswersAsked L.logic most self.old.history step done self.new.history) }
 
         // Nothing waits and nothing is open.
-        ensures rests { OnOk result (AllRest self.new.history.whole.entries) }
+        ensures idle { OnOk result (AllIdle self.new.history.whole.entries) }
 
         // Who asked has one reply, the first of all that are new, of which the others are told to grains.
         ensures told { OnOk result (TellsAsker (asking_of step) self.old.history.whole.replies self.new.history.whole.replies) }

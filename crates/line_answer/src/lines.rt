@@ -40,7 +40,7 @@ fn answer_said<S: GrainStorage, L: GrainLogic>(
 {
     text.clear();
 
-    // For the proof: what isn't asked anything rests as it did.
+    // For the proof: what is asked nothing is as idle as it was.
     let _ = silo.journal();
     if !is_asked(&step) {
         drop(step);
@@ -74,7 +74,7 @@ pub fn answer_line<S: GrainStorage, L: GrainLogic>(
     ensures ok { OnOk result (AnswersLine L.logic most silo.old.history (meaning_of line.now) silo.new.history (string_bytes text.new)) }
     ensures ready { OnOk result (silo.new.stopped ≡ false) }
 {
-    // For the proof: what isn't asked anything rests as it did.
+    // For the proof: what is asked nothing is as idle as it was.
     let _ = silo.journal();
     match read_line(alloc, scratch, line)? {
         Line::Nothing => {

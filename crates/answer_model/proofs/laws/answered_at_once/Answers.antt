@@ -1,4 +1,4 @@
-use Rattle.answer_model.proofs.Resting as lemmas
+use Rattle.answer_model.proofs.Idle as lemmas
 use Rattle.answer_model.proofs.laws.answered_at_once.Goals as goal
 
 pub returns : goal.returns

@@ -10,7 +10,7 @@ pub returns-then-not-is_asked-clause-ok : goal.returns-then-not-is_asked-clause-
 returns-then-not-is_asked-clause-ok g c =
     let is : string_bytes c.refuse.new.text ≡ ended (refusal_line NotARequest) = search rules in
     not_asked g.L.GrainLogic.logic c.args.most c.args.silo.now.history c.args.step (string_bytes c.refuse.new.text)
-    (sym c.is_asked.ensures ∙ c.if-not-is_asked.true) is (c.journal.ensures.rests c.requires)
+    (sym c.is_asked.ensures ∙ c.if-not-is_asked.true) is (c.journal.ensures.idle c.requires)
 
 pub returns-then-branch-clause-ok : goal.returns-then-branch-clause-ok
 returns-then-branch-clause-ok g c =
@@ -24,4 +24,4 @@ returns-then-branch-clause-ok g c =
     ∙ ap texts_of (take_rest after (length before))
     ∙ (λ i. texts_of (drop (length (c.replies-before.ensures i)) (c.replies.ensures i))) in
     asked_line g.L.GrainLogic.logic c.args.most old new c.args.step _ (string_bytes c.push_replies.new.text)
-    (sym c.is_asked.ensures ∙ c.if-not-is_asked.false) (rw c.if-branch.true at c.in_ok-answer.ensures.answered) is c.in_ok-answer.ensures.rests
+    (sym c.is_asked.ensures ∙ c.if-not-is_asked.false) (rw c.if-branch.true at c.in_ok-answer.ensures.answered) is c.in_ok-answer.ensures.idle

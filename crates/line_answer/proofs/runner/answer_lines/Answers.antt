@@ -9,7 +9,7 @@ use Rattle.line_answer.proofs.LineRuns.{Keeps-same, may_stop, setup_kept, line_s
 use Rattle.line_answer.proofs.runner.answer_lines.Goals as goal
 
 pub loop-count-init : goal.loop-count-init
-loop-count-init g c = (done_none _ _ _ _ _ _ c.journal.ensures.leads (c.journal.ensures.rests c.requires) (LinesTaken-self _) (Took-none _), refl, c.requires)
+loop-count-init g c = (done_none _ _ _ _ _ _ c.journal.ensures.leads (c.journal.ensures.idle c.requires) (LinesTaken-self _) (Took-none _), refl, c.requires)
 
 pub loop-count-preserved : goal.loop-count-preserved
 loop-count-preserved g c =
@@ -78,7 +78,7 @@ pub returns-in_err-scratch-clause-err : goal.returns-in_err-scratch-clause-err
 returns-in_err-scratch-clause-err g c =
     let p = err_from_is_err_and c.from_residual.result c.from_residual.ensures.1 in
     let input = c.args.input.now in
-    handed_on _ _ _ (p.1 ∙ ap Err p.2) (stops_reading _ _ fault.Memory input.lines (g.R.Read.remaining input.reader) c.args.output.now.calls _ _ _ _ _ _ _ tt tt (TakesPart-none _) (done_none _ _ _ _ _ _ c.journal.ensures.leads (c.journal.ensures.rests c.requires) (LinesTaken-self _) (Took-none _)) (Keeps-same _))
+    handed_on _ _ _ (p.1 ∙ ap Err p.2) (stops_reading _ _ fault.Memory input.lines (g.R.Read.remaining input.reader) c.args.output.now.calls _ _ _ _ _ _ _ tt tt (TakesPart-none _) (done_none _ _ _ _ _ _ c.journal.ensures.leads (c.journal.ensures.idle c.requires) (LinesTaken-self _) (Took-none _)) (Keeps-same _))
 
 -- it hasn't stopped, unless for want of memory
 

@@ -1,6 +1,6 @@
 use Rattle.std.proofs.Common.{rules}
 use Rattle.silo_model.specs.Journal.{LeadsTo}
-use Rattle.answer_model.specs.Resting.{AllRest}
+use Rattle.answer_model.specs.Idle.{AllIdle}
 use Rattle.line_answer.specs.Trying.{AnswersAsked}
 use Rattle.line_answer.proofs.Asked.{told_after}
 use Rattle.line_answer.proofs.answering.AnsweringSilo.answer.Goals as goal
@@ -10,6 +10,6 @@ returns-clause-told g c =
     let logic = g.L.GrainLogic.logic in
     let old = c.args.self.now.history in
     let leads : LeadsTo logic old.setup old.journal old.whole = search rules in
-    let rests : AllRest old.whole.entries = search rules in
+    let idle : AllIdle old.whole.entries = search rules in
     let answers : AnswersAsked logic c.args.most old c.args.step c.in_ok-done.done c.answer_step.new.silo = search rules in
-    told_after logic c.args.most old c.answer_step.new.silo c.args.step c.in_ok-done.done leads rests c.requires.asked answers
+    told_after logic c.args.most old c.answer_step.new.silo c.args.step c.in_ok-done.done leads idle c.requires.asked answers

@@ -1,8 +1,8 @@
 use Rattle.std.proofs.Common.{sym, subst}
 use Rattle.silo_model.specs.Whole.{Whole}
-use Rattle.answer_model.specs.Resting.{AllRest}
-use Rattle.line_answer.proofs.Asked.{opening_rests}
+use Rattle.answer_model.specs.Idle.{AllIdle}
+use Rattle.line_answer.proofs.Asked.{opening_idle}
 use Rattle.line_answer.proofs.answering.AnsweringSilo.new.Goals as goal
 
 pub invariant_of-result : goal.invariant_of-result
-invariant_of-result g c = λ _. subst (λ (w : Whole). AllRest w.entries) (sym c.in_ok-new.ensures.opening.0) (opening_rests c.in_ok-new.field-0.setup)
+invariant_of-result g c = λ _. subst (λ (w : Whole). AllIdle w.entries) (sym c.in_ok-new.ensures.opening.0) (opening_idle c.in_ok-new.field-0.setup)

@@ -19,8 +19,8 @@ use Rattle.silo_model.specs.Whole.{Whole}
 use Rattle.answer_model.specs.Answering.{Asked, answered, is_asked, whole_stepper}
 
 -- Each entry is ready, no request waits, and no turn is open.
-abbrev pub AllRest : Entries → Type 0
-AllRest entries = (grain : Grain) (e : Entry) → map.get entries grain ≡ Some e → IsIdle e
+abbrev pub AllIdle : Entries → Type 0
+AllIdle entries = (grain : Grain) (e : Entry) → map.get entries grain ≡ Some e → IsIdle e
 
 -- each of the replies is told to a grain
 abbrev pub IsToGrain : Party → Type 0
@@ -43,9 +43,10 @@ abbrev pub TellsAsker : Option (Client × ℕ) → List Reply → List Reply →
 TellsAsker None old new = new ≡ old
 TellsAsker (Some asking) old new = TellsFirst asking.0 asking.1 old new
 
--- From where a journal leads and where all rests, whatever is asked and with whatever luck: all rests again, and who asked was answered.
+-- From where a journal leads and where all is idle, whatever is asked and with whatever luck: all is idle again, and who asked was
+-- answered.
 abbrev pub AnsweredAtOnce : Type 0
 AnsweredAtOnce = (logic : Logic) (setup : Setup) (journal : List Step) (w : Whole) (n : ℕ) (asked : Asked)
-    → LeadsTo logic setup journal w → AllRest w.entries → is_asked asked.step ≡ true
-    → AllRest (answered (whole_stepper logic) n w asked).entries
+    → LeadsTo logic setup journal w → AllIdle w.entries → is_asked asked.step ≡ true
+    → AllIdle (answered (whole_stepper logic) n w asked).entries
     × TellsAsker (asking_of asked.step) w.replies (answered (whole_stepper logic) n w asked).replies

@@ -1,4 +1,4 @@
--- Whatever is asked where all rests, all rests again, and who asked was answered.
+-- Whatever is asked where all is idle, all is idle again, and who asked was answered.
 use Rattle.std.proofs.Common.{◌≡◌, ℕ, zero, suc, Bool, true, false, cond, List, [], ◌∷◌, ◌++◌, Option, Some, None, unwrap_or, refl, ap, sym, ◌∙◌, subst, append_assoc, true≢false, inl, inr}
 use Rattle.std.specs.Prelude.{◌⊎◌, Result, Ok, Err, length}
 use Rattle.std.specs.FinMap as map
@@ -41,7 +41,7 @@ use Rattle.silo_model.proofs.Isolation.{place_in, did, shared_by}
 use Rattle.silo_model.proofs.Runs.{whole_after, whole_run-append}
 use Rattle.silo_model.proofs.SharedSteps.{shared_leaves}
 use Rattle.answer_model.specs.Answering.{Stepper, Luck, first_luck, later_luck, whole_stepper, serving, is_accepted, serving_if, bringing, delivering, deliveries, deliveries_of, is_asked, called_grain, Asked, taken_by, taken, answered}
-use Rattle.answer_model.specs.Resting.{AllRest, AllToGrains, TellsAsker, AnsweredAtOnce}
+use Rattle.answer_model.specs.Idle.{AllIdle, AllToGrains, TellsAsker, AnsweredAtOnce}
 use Rattle.answer_model.proofs.Apart.{call_done, owner_failed}
 use Rattle.answer_model.proofs.Brought.{Brings, is_told, waits, brings, more_than_none}
 use Rattle.answer_model.proofs.Closed.{Answers, elsewhere-insert, run_done}
@@ -53,42 +53,42 @@ use Rattle.answer_model.proofs.Served.{source_own, target_is, is_delivered}
 abbrev pub IsAbout : Party → List Reply → Type 0
 IsAbout p added = (outcome : Result Tree Fault) × ((added ≡ told p outcome) ⊎ (added ≡ reply_to p outcome))
 
--- All rests again, and the party was told.
+-- All is idle again, and the party was told.
 pub record Settles (w after : Whole) (p : Party) : Type 0 where
-  pub rests : AllRest after.entries
+  pub idle : AllIdle after.entries
   pub added : List Reply
   pub replies : after.replies ≡ w.replies ++ added
   pub about : IsAbout p added
 
 -- ---- a request that waits where all rested
 
-module _ (w after : Whole) (g : Grain) (q : Request) (rests : AllRest w.entries)
+module _ (w after : Whole) (g : Grain) (q : Request) (idle : AllIdle w.entries)
     (entries : after.entries ≡ map.insert w.entries g (with_request w.clock q (map.get w.entries g))) where
   alone_by : (found : Option Entry) → map.get w.entries g ≡ found → map.get after.entries g ≡ Some (with_request w.clock q found) → IsAlone after g q
   alone_by None was is = record { entry = with_request w.clock q None; found = is; queue = refl; none_open = map.len-empty nat_cmp Request; not_loading = λ is. cc is }
   alone_by (Some e) was is = record {
     entry = with_request w.clock q (Some e);
     found = is;
-    queue = ap (λ queue. queue ++ q ∷ []) (rests g e was).nothing_waits;
-    none_open = (rests g e was).none_open;
-    not_loading = λ is. cc (is, (rests g e was).phase);
+    queue = ap (λ queue. queue ++ q ∷ []) (idle g e was).nothing_waits;
+    none_open = (idle g e was).none_open;
+    not_loading = λ is. cc (is, (idle g e was).phase);
   }
 
   pub alone : IsAlone after g q
   alone = alone_by (map.get w.entries g) refl (ap (λ m. map.get m g) entries ∙ get-insert_same grain_cmp_total grain_cmp_exact w.entries g _)
 
-  rests_again : (last : Whole) → Answers after last g q → AllRest last.entries
-  rests_again last answers h e found = by_test (eq_by_cmp grain_cmp h g) refl
+  idle_again : (last : Whole) → Answers after last g q → AllIdle last.entries
+  idle_again last answers h e found = by_test (eq_by_cmp grain_cmp h g) refl
     where
       by_test : (b : Bool) → eq_by_cmp grain_cmp h g ≡ b → IsIdle e
       by_test true tied =
-          answers.rests e (ap (map.get last.entries) (sym ((eq_by_cmp-Decides grain_cmp_total grain_cmp_exact h g).0 tied)) ∙ found)
+          answers.idle e (ap (map.get last.entries) (sym ((eq_by_cmp-Decides grain_cmp_total grain_cmp_exact h g).0 tied)) ∙ found)
       by_test false apart =
-          rests h e (sym (answers.elsewhere h apart ∙ ap (λ m. map.get m h) entries ∙ elsewhere-insert w.entries g _ h apart) ∙ found)
+          idle h e (sym (answers.elsewhere h apart ∙ ap (λ m. map.get m h) entries ∙ elsewhere-insert w.entries g _ h apart) ∙ found)
 
 -- ---- a step that may bring a request
 
-module _ (logic : Logic) (w : Whole) (rests : AllRest w.entries) (s : Step) (luck : Luck) (after : Whole) (step : whole_step logic w s ≡ Some after) where
+module _ (logic : Logic) (w : Whole) (idle : AllIdle w.entries) (s : Step) (luck : Luck) (after : Whole) (step : whole_step logic w s ≡ Some after) where
   abbrev of_whole : Stepper Whole
   of_whole = whole_stepper logic
 
@@ -110,12 +110,12 @@ module _ (logic : Logic) (w : Whole) (rests : AllRest w.entries) (s : Step) (luc
       → Settles w (whole_run logic after (serving_if of_whole w after grain luck)) p
   settles_by owner p grain (is_told _ outcome entries replies) =
       subst (λ x. Settles w x p) (sym (ap (whole_run logic after) (not_served grain p outcome replies)))
-      (record { rests = subst AllRest (sym entries) rests; added = told p outcome; replies = replies; about = (outcome, inl refl) })
+      (record { idle = subst AllIdle (sym entries) idle; added = told p outcome; replies = replies; about = (outcome, inl refl) })
   settles_by owner p grain (waits g q own sender entries replies) =
-      let answers = served logic after g q luck (alone w after g q rests entries) in
+      let answers = served logic after g q luck (alone w after g q idle entries) in
       subst (λ x. Settles w x p) (sym (ap (whole_run logic after) (is_served g replies)))
       (record {
-        rests = rests_again w after g q rests entries (whole_run logic after (serving of_whole after g luck)) answers;
+        idle = idle_again w after g q idle entries (whole_run logic after (serving of_whole after g luck)) answers;
         added = reply_to q.sender answers.outcome;
         replies = answers.replies ∙ ap (λ rs. rs ++ reply_to q.sender answers.outcome) replies;
         about = (answers.outcome, inr (ap (λ x. reply_to x answers.outcome) sender));
@@ -195,7 +195,7 @@ asked_done logic w b (Abandon grain turn) asking is = absurd (none-some asking i
 asked_done logic w b (Tick now) asking is = absurd (none-some asking is)
 asked_done logic w b Sweep asking is = absurd (none-some asking is)
 
-module _ (logic : Logic) (w : Whole) (rests : AllRest w.entries) (luck : Luck) where
+module _ (logic : Logic) (w : Whole) (idle : AllIdle w.entries) (luck : Luck) where
   abbrev Settling : Step → Option Grain → Party → Type 0
   Settling s grain p = Settles w (whole_run logic w (bringing (whole_stepper logic) w s grain luck)) p
 
@@ -210,22 +210,22 @@ module _ (logic : Logic) (w : Whole) (rests : AllRest w.entries) (luck : Luck) w
   refuse_settles : (caller : Client) (id : ℕ) (code : Refusal) → Settling (Refuse caller id code) None (party.Client caller id)
   refuse_settles caller id code =
       if_done _ None _ (refuse_done logic w caller id code)
-      (λ after step. settles_asking logic w rests (Refuse caller id code) luck after step caller.tenant (party.Client caller id) None refl refl refl)
+      (λ after step. settles_asking logic w idle (Refuse caller id code) luck after step caller.tenant (party.Client caller id) None refl refl refl)
 
   status_settles : (caller : Client) (id : ℕ) → Settling (Status caller id) None (party.Client caller id)
   status_settles caller id =
       if_done _ None _ (status_done logic w caller id)
-      (λ after step. settles_asking logic w rests (Status caller id) luck after step caller.tenant (party.Client caller id) None refl refl refl)
+      (λ after step. settles_asking logic w idle (Status caller id) luck after step caller.tenant (party.Client caller id) None refl refl refl)
 
   call_settles : (caller : Client) (id : ℕ) (g : Grain) (message : codec.Call) → Settling (Call caller id g message) (Some g) (party.Client caller id)
   call_settles caller id g message =
       if_done _ (Some g) _ (call_done logic w caller id g message)
-      (λ after step. settles_asking logic w rests (Call caller id g message) luck after step caller.tenant (party.Client caller id) (Some g) refl refl refl)
+      (λ after step. settles_asking logic w idle (Call caller id g message) luck after step caller.tenant (party.Client caller id) (Some g) refl refl refl)
 
   poke_settles : (failed : Bool) (caller : Client) (id : ℕ) (g : Grain) (state : Tree) → Settling (Poke failed caller id g state) None (party.Client caller id)
   poke_settles failed caller id g state =
       if_done _ None _ (poke_done logic w caller id failed g state)
-      (λ after step. settles logic w rests (Poke failed caller id g state) luck after step caller.tenant (party.Client caller id) None (poke_brings logic w after failed caller id g state step))
+      (λ after step. settles logic w idle (Poke failed caller id g state) luck after step caller.tenant (party.Client caller id) None (poke_brings logic w after failed caller id g state step))
 
   pub asked_settles : (s : Step) (asking : Client × ℕ) → asking_of s ≡ Some asking
       → Settling (taken_by luck.asking_failed s) (called_grain s) (party.Client asking.0 asking.1)
@@ -256,9 +256,9 @@ module _ (logic : Logic) (w : Whole) (rests : AllRest w.entries) (luck : Luck) w
 
 -- ---- deliveries
 
--- All rests again, and only grains were told anything.
+-- All is idle again, and only grains were told anything.
 pub record Goes (w after : Whole) : Type 0 where
-  pub rests : AllRest after.entries
+  pub idle : AllIdle after.entries
   pub others : List Reply
   pub replies : after.replies ≡ w.replies ++ others
   pub to_grains : AllToGrains others
@@ -272,27 +272,27 @@ grains_alone g added (outcome, inl is) = subst AllToGrains (sym is) (tt, tt)
 grains_alone g added (outcome, inr is) = subst AllToGrains (sym is) tt
 
 module _ (logic : Logic) (setup : Setup) (tenant : List ℕ) where
-  pub delivering_goes : (w : Whole) (sends : List Send) (luck : Luck) → IsReached logic setup w → AllRest w.entries → sends_of (map.get w.accounts tenant) ≡ sends
+  pub delivering_goes : (w : Whole) (sends : List Send) (luck : Luck) → IsReached logic setup w → AllIdle w.entries → sends_of (map.get w.accounts tenant) ≡ sends
       → Goes w (whole_run logic w (delivering (whole_stepper logic) w sends luck))
-  delivering_goes w [] luck reached rests is = record { rests = rests; others = []; replies = sym (append-nil w.replies); to_grains = tt }
-  delivering_goes w (oldest ∷ others) luck reached rests is =
+  delivering_goes w [] luck reached idle is = record { idle = idle; others = []; replies = sym (append-nil w.replies); to_grains = tt }
+  delivering_goes w (oldest ∷ others) luck reached idle is =
       let s = Deliver oldest.source in
       let own = source_own logic setup tenant oldest others w reached is in
-      let settled = if_done logic w rests luck s (Some oldest.message.target) (party.Grain oldest.source) (is_delivered logic setup tenant oldest others w own is)
-      (λ after step. settles_asking logic w rests s luck after step tenant (party.Grain oldest.source) (Some oldest.message.target) (ap Some own) refl (target_is logic setup tenant oldest others w is)) in
-      record { rests = settled.rests; others = settled.added; replies = settled.replies; to_grains = grains_alone oldest.source settled.added settled.about }
+      let settled = if_done logic w idle luck s (Some oldest.message.target) (party.Grain oldest.source) (is_delivered logic setup tenant oldest others w own is)
+      (λ after step. settles_asking logic w idle s luck after step tenant (party.Grain oldest.source) (Some oldest.message.target) (ap Some own) refl (target_is logic setup tenant oldest others w is)) in
+      record { idle = settled.idle; others = settled.added; replies = settled.replies; to_grains = grains_alone oldest.source settled.added settled.about }
 
-  deliveries_go : (n : ℕ) (w : Whole) (lucks : List Luck) → IsReached logic setup w → AllRest w.entries
+  deliveries_go : (n : ℕ) (w : Whole) (lucks : List Luck) → IsReached logic setup w → AllIdle w.entries
       → Goes w (whole_run logic w (deliveries (whole_stepper logic) n w tenant lucks))
-  deliveries_go zero w lucks reached rests = record { rests = rests; others = []; replies = sym (append-nil w.replies); to_grains = tt }
-  deliveries_go (suc n) w lucks reached rests =
+  deliveries_go zero w lucks reached idle = record { idle = idle; others = []; replies = sym (append-nil w.replies); to_grains = tt }
+  deliveries_go (suc n) w lucks reached idle =
       let steps = delivering (whole_stepper logic) w (sends_of (map.get w.accounts tenant)) (first_luck lucks) in
-      let first = delivering_goes w (sends_of (map.get w.accounts tenant)) (first_luck lucks) reached rests refl in
+      let first = delivering_goes w (sends_of (map.get w.accounts tenant)) (first_luck lucks) reached idle refl in
       let next = whole_run logic w steps in
-      let rest = deliveries_go n next (later_luck lucks) (run_reached logic setup steps w reached) first.rests in
+      let rest = deliveries_go n next (later_luck lucks) (run_reached logic setup steps w reached) first.idle in
       subst (Goes w) (sym (whole_run-append logic w steps (deliveries (whole_stepper logic) n next tenant (later_luck lucks))))
       (record {
-        rests = rest.rests;
+        idle = rest.idle;
         others = first.others ++ rest.others;
         replies = rest.replies ∙ ap (λ rs. rs ++ rest.others) first.replies ∙ append_assoc w.replies first.others rest.others;
         to_grains = AllToGrains-append first.others rest.others first.to_grains rest.to_grains;
@@ -319,22 +319,22 @@ client_told : (caller : Client) (id : ℕ) (added : List Reply) → IsAbout (par
 client_told caller id added (outcome, inl is) = (outcome, is)
 client_told caller id added (outcome, inr is) = (outcome, is)
 
-module _ (logic : Logic) (setup : Setup) (n : ℕ) (w : Whole) (reached : IsReached logic setup w) (rests : AllRest w.entries) where
+module _ (logic : Logic) (setup : Setup) (n : ℕ) (w : Whole) (reached : IsReached logic setup w) (idle : AllIdle w.entries) where
   abbrev AtOnce : Asked → Option (Client × ℕ) → Type 0
-  AtOnce asked asking = AllRest (answered (whole_stepper logic) n w asked).entries × TellsAsker asking w.replies (answered (whole_stepper logic) n w asked).replies
+  AtOnce asked asking = AllIdle (answered (whole_stepper logic) n w asked).entries × TellsAsker asking w.replies (answered (whole_stepper logic) n w asked).replies
 
   clients_asked : (asked : Asked) (asking : Client × ℕ) → asking_of asked.step ≡ Some asking → AtOnce asked (Some asking)
   clients_asked asked asking is =
       let luck = first_luck asked.lucks in
       let steps = bringing (whole_stepper logic) w (taken asked) (called_grain asked.step) luck in
-      let first = asked_settles logic w rests luck asked.step asking is in
+      let first = asked_settles logic w idle luck asked.step asking is in
       let next = whole_run logic w steps in
-      let rest = deliveries_go logic setup asking.0.tenant n next (later_luck asked.lucks) (run_reached logic setup steps w reached) first.rests in
+      let rest = deliveries_go logic setup asking.0.tenant n next (later_luck asked.lucks) (run_reached logic setup steps w reached) first.idle in
       let last : answered (whole_stepper logic) n w asked ≡ whole_run logic next (deliveries (whole_stepper logic) n next asking.0.tenant (later_luck asked.lucks))
       = whole_run-append logic w steps (deliveries_of (whole_stepper logic) n next (owner_of asked.step) (later_luck asked.lucks))
       ∙ ap (λ o. whole_run logic next (deliveries_of (whole_stepper logic) n next o (later_luck asked.lucks))) (owner_by_asking asked.step asking is) in
       let what = client_told asking.0 asking.1 first.added first.about in (
-        subst (λ (x : Whole). AllRest x.entries) (sym last) rest.rests,
+        subst (λ (x : Whole). AllIdle x.entries) (sym last) rest.idle,
         record {
           outcome = what.0;
           others = rest.others;
@@ -345,16 +345,16 @@ module _ (logic : Logic) (setup : Setup) (n : ℕ) (w : Whole) (reached : IsReac
       )
 
   -- what nobody asks
-  nobodys : (s : Step) → owner_of s ≡ None → AllRest (whole_run logic w (s ∷ [])).entries × ((whole_run logic w (s ∷ [])).replies ≡ w.replies)
+  nobodys : (s : Step) → owner_of s ≡ None → AllIdle (whole_run logic w (s ∷ [])).entries × ((whole_run logic w (s ∷ [])).replies ≡ w.replies)
   nobodys s is = by_step (whole_step logic w s) refl
     where
-      by_step : (r : Option Whole) → whole_step logic w s ≡ r → AllRest (unwrap_or r w).entries × ((unwrap_or r w).replies ≡ w.replies)
-      by_step None e = (rests, refl)
+      by_step : (r : Option Whole) → whole_step logic w s ≡ r → AllIdle (unwrap_or r w).entries × ((unwrap_or r w).replies ≡ w.replies)
+      by_step None e = (idle, refl)
       by_step (Some after) e =
           let leaves = shared_leaves w after s (sym (shared_by logic w s is) ∙ e) in
-          ((λ g x found. rests g x (leaves.entries g x found)), leaves.replies)
+          ((λ g x found. idle g x (leaves.entries g x found)), leaves.replies)
 
-  by_flag : (b : Bool) (s : Step) → owner_of s ≡ None → AllRest (whole_run logic w (taken_by b s ∷ [])).entries × ((whole_run logic w (taken_by b s ∷ [])).replies ≡ w.replies)
+  by_flag : (b : Bool) (s : Step) → owner_of s ≡ None → AllIdle (whole_run logic w (taken_by b s ∷ [])).entries × ((whole_run logic w (taken_by b s ∷ [])).replies ≡ w.replies)
   by_flag b s is = nobodys (taken_by b s) (owner_failed b s ∙ is)
 
   at_once : (s : Step) (lucks : List Luck) (asking : Option (Client × ℕ)) → asking_of s ≡ asking → is_asked s ≡ true → AtOnce (record { step = s; lucks = lucks }) asking
@@ -374,4 +374,4 @@ module _ (logic : Logic) (setup : Setup) (n : ℕ) (w : Whole) (reached : IsReac
   at_once (Abandon grain turn) lucks None is asked = absurd (true≢false (sym asked))
 
 pub answered_at_once : AnsweredAtOnce
-answered_at_once logic setup journal w n asked leads rests is = at_once logic setup n w (journal, leads) rests asked.step asked.lucks (asking_of asked.step) refl is
+answered_at_once logic setup journal w n asked leads idle is = at_once logic setup n w (journal, leads) idle asked.step asked.lucks (asking_of asked.step) refl is
