@@ -10,6 +10,7 @@ mod gate;
 mod owed;
 mod pace;
 mod report;
+mod same;
 mod schedule;
 mod work;
 mod working;

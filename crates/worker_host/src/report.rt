@@ -7,16 +7,17 @@ ghost use Rattle.lane_model.specs.Pacing.{is_paced};
 ghost use Rattle.lane_model.specs.Serving.{AreServed};
 ghost use Rattle.worker_host.specs.SetupCopy.{AreAnswered, AreCopies, HasFailed, IsOpenedSo};
 
+use crate::same::are_same;
 use crate::schedule::Schedule;
 use client_lanes::{Lane, answers, failed_in, lanes_stand};
-use grain_id::{GrainId, Kind, Tenant};
+use grain_id::{GrainId, Tenant};
 use grain_kinds::GrainLogic;
 use grain_storage::{GrainStorage, Row};
 use idle_collector::AgeTable;
 use silo_core::{Setup, Silo};
 use silo_event::Reply;
 use std::alloc::{AllocError, Global};
-use tenant_gate::{Age, Limits};
+use tenant_gate::Limits;
 use thiserror::Error;
 
 /// Why lanes weren't served.
@@ -89,77 +90,6 @@ impl SetupCopy {
     }
 }
 
-/// Whether two lists have the same tenants with the same limits.
-fn same_tenants(list: &[(Tenant, Limits)], others: &[(Tenant, Limits)]) -> bool
-    ensures { IsTrue result → list.now ≡ others.now }
-{
-    let mut rest = list;
-    let mut left = others;
-    'tenants: while let Some((one, more)) = rest.split_first() {
-        let Some((other, fewer)) = left.split_first() else {
-            return false;
-        };
-        if one.0 != other.0 || one.1 != other.1 {
-            return false;
-        }
-        rest = more;
-        left = fewer;
-    }
-    left.is_empty()
-}
-
-/// Whether two lists have the same kinds with the same ages.
-fn same_ages(ages: &[(Kind, u64)], others: &[(Kind, u64)]) -> bool
-    ensures { IsTrue result → ages.now ≡ others.now }
-{
-    let mut rest = ages;
-    let mut left = others;
-    'ages: while let Some((entry, more)) = rest.split_first() {
-        let Some((other, fewer)) = left.split_first() else {
-            return false;
-        };
-        if entry.0 != other.0 || entry.1 != other.1 {
-            return false;
-        }
-        rest = more;
-        left = fewer;
-    }
-    left.is_empty()
-}
-
-/// Whether two rows are the same.
-fn same_row(row: &Row, other: &Row) -> bool
-    ensures { IsTrue result → row.now ≡ other.now }
-{
-    if row.version != other.version {
-        return false;
-    }
-    match (&row.content, &other.content) {
-        (Some(content), Some(another)) => *content == *another,
-        (None, None) => true,
-        _ => false,
-    }
-}
-
-/// Whether two lists have the same rows of the same grains.
-fn same_rows(rows: &[(GrainId, Row)], others: &[(GrainId, Row)]) -> bool
-    ensures { IsTrue result → rows.now ≡ others.now }
-{
-    let mut rest = rows;
-    let mut left = others;
-    'rows: while let Some((one, more)) = rest.split_first() {
-        let Some((other, fewer)) = left.split_first() else {
-            return false;
-        };
-        if one.0 != other.0 || !same_row(&one.1, &other.1) {
-            return false;
-        }
-        rest = more;
-        left = fewer;
-    }
-    left.is_empty()
-}
-
 /// Whether the silo was opened so.
 fn is_opened_so<S: GrainStorage, L: GrainLogic>(silo: &Silo<S, L>, opened: &SetupCopy) -> bool
     ensures { IsTrue result → IsOpenedSo opened.now silo.now }
@@ -170,13 +100,13 @@ fn is_opened_so<S: GrainStorage, L: GrainLogic>(silo: &Silo<S, L>, opened: &Setu
     if silo.opening_failures() != opened.failures {
         return false;
     }
-    if !same_tenants(opened.tenants.as_slice(), silo.tenants().list()) {
+    if !are_same(opened.tenants.as_slice(), silo.tenants().list()) {
         return false;
     }
-    if !same_ages(opened.ages.list(), silo.ages().list()) {
+    if !are_same(opened.ages.list(), silo.ages().list()) {
         return false;
     }
-    same_rows(opened.rows.as_slice(), silo.opening())
+    are_same(opened.rows.as_slice(), silo.opening())
 }
 
 /// Whether as many of the journal's steps failed as calls of the storage did.
