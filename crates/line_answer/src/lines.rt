@@ -1,7 +1,7 @@
 //! What one line leaves in the silo, and its text.
 
-ghost use Rattle.std.specs.Prelude.{◌≡◌, ◌++◌, false, OnOk, string_bytes};
-ghost use Rattle.line_protocol.specs.LineTexts.{ended};
+ghost use Rattle.std.specs.Prelude.{◌≡◌, ◌++◌, ◌≤◌, false, OnOk, drop, length, string_bytes};
+ghost use Rattle.line_protocol.specs.LineTexts.{ended, texts_of};
 ghost use Rattle.line_protocol.specs.Text.{refusal_line};
 ghost use Rattle.line_parser.specs.Meaning.{meaning_of};
 ghost use Rattle.line_parser.specs.declared.line.Line.TheVariants as line;
@@ -13,7 +13,7 @@ use grain_kinds::GrainLogic;
 use grain_storage::GrainStorage;
 use line_parser::{Line, LineRefusal, LineScratch, read_line};
 use line_protocol::{push_not_now, push_refusal, push_replies};
-use silo_event::Step;
+use silo_event::{Reply, Step};
 use std::alloc::{AllocError, Global};
 
 /// Adds the line of a refusal, with its LF.
@@ -22,6 +22,20 @@ fn refuse(alloc: Global, text: &mut String, refusal: LineRefusal) -> Result<(), 
 {
     push_refusal(alloc, text, refusal)?;
     text.push_str("\n")
+}
+
+/// Adds the lines of the replies behind so many.
+fn push_new(
+    alloc: Global,
+    text: &mut String,
+    replies: &[Reply],
+    before: usize,
+) -> Result<(), AllocError>
+    requires { before ≤ length replies.now }
+    ensures { OnOk result (string_bytes text.new ≡ string_bytes text.old ++ texts_of (drop before replies.now)) }
+{
+    let (_, new) = replies.split_at(before);
+    push_replies(alloc, text, new)
 }
 
 /// Answers a step that a line says, and puts its text in place of another: the replies that it added, or that it isn't
@@ -49,7 +63,7 @@ fn answer_said<S: GrainStorage, L: GrainLogic>(
     }
     let before = silo.replies().len();
     if silo.answer(alloc, step, most)? {
-        push_replies(alloc, text, &silo.replies()[before..])?;
+        push_new(alloc, text, silo.replies(), before)?;
         return Ok(());
     }
     push_not_now(text)?;

@@ -1,5 +1,4 @@
-use Rattle.std.proofs.Common.{rules, ◌≡◌, ◌∙◌, ◌-◌, ◌++◌, length, take, drop, string_bytes, ap, sym}
-use Rattle.std.proofs.lemmas.List.{take_rest}
+use Rattle.std.proofs.Common.{rules, ◌≡◌, ◌∙◌, ◌++◌, length, drop, string_bytes, ap, sym}
 use Rattle.line_protocol.specs.LineTexts.{ended, texts_of}
 use Rattle.line_protocol.specs.Text.{refusal_line}
 use Rattle.line_parser.specs.declared.line.LineRefusal.TheVariants.{NotARequest}
@@ -18,10 +17,9 @@ returns-then-branch-clause-ok g c =
     let new = c.answer.new.self.history in
     let before = c.replies-before.result.now in
     let after = c.replies.result.now in
-    let is : string_bytes c.push_replies.new.text ≡ texts_of (drop (length old.whole.replies) new.whole.replies)
-    = c.in_ok-push_replies.ensures
-    ∙ ap (λ front. front ++ texts_of (take (length after - length before) (drop (length before) after))) c.clear.ensures.bytes
-    ∙ ap texts_of (take_rest after (length before))
+    let is : string_bytes c.push_new.new.text ≡ texts_of (drop (length old.whole.replies) new.whole.replies)
+    = c.in_ok-push_new.ensures
+    ∙ ap (λ front. front ++ texts_of (drop (length before) after)) c.clear.ensures.bytes
     ∙ (λ i. texts_of (drop (length (c.replies-before.ensures i)) (c.replies.ensures i))) in
-    asked_line g.L.GrainLogic.logic c.args.most old new c.args.step _ (string_bytes c.push_replies.new.text)
+    asked_line g.L.GrainLogic.logic c.args.most old new c.args.step _ (string_bytes c.push_new.new.text)
     (sym c.is_asked.ensures ∙ c.if-not-is_asked.false) (rw c.if-branch.true at c.in_ok-answer.ensures.answered) is c.in_ok-answer.ensures.idle
