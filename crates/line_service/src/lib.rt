@@ -17,5 +17,5 @@ mod writing;
 
 pub use asked::{LanesAndRefusals, asked_by};
 pub use fault::ServiceFault;
-pub use serving::{ServedInput, serve_input};
+pub use serving::{ServedInput, serve_input, serve_read};
 pub use writing::write_served;

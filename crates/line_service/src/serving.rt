@@ -4,6 +4,8 @@ ghost use Rattle.std.specs.Prelude.{◌≡◌, ◌≤◌, [], IfOk, IfErr, IfSom
 ghost use Rattle.std.specs.FinMap.{entries};
 ghost use Rattle.lane_model.specs.Lanes.{AreDistinct};
 ghost use Rattle.line_protocol.specs.Reading.{left_of};
+ghost use Rattle.worker_host.specs.declared.report.ServeFault.{ServeFault as ServeFaultValue};
+ghost use Rattle.line_service.specs.Asked.{lanes_of, refusals_of};
 ghost use Rattle.line_service.specs.Serving.{IsServed, LeavesServed, StopsServing, serving_fault, setup_of};
 
 use crate::asked::asked_by;
@@ -12,7 +14,7 @@ use client_lanes::Lane;
 use grain_kinds::GrainLogic;
 use grain_storage::MemoryStorage;
 use idle_collector::AgeTable;
-use line_parser::LineRefusal;
+use line_parser::{Line, LineRefusal};
 use line_protocol::{Input, LineFault, read_all};
 use silo_core::Setup;
 use std::alloc::Global;
@@ -74,15 +76,58 @@ fn serve_lanes<
     Ok(report)
 }
 
-/// Reads all lines of an input, and then serves them by so many threads, 1 to 64, over no rows at the
-/// start. Requests go to the lane of their client, ticks and sweeps to nobody's, lanes in the order of
-/// their first lines; a line that no lane gives is refused. What was read ahead comes first. The
-/// gate is told of each turn before its body runs.
+/// Serves lines that were read, by so many threads, 1 to 64, over no rows at the start. Requests go to
+/// the lane of their client, ticks and sweeps to nobody's, lanes in the order of their first lines; a line
+/// that no lane gives is refused. The gate is told of each turn before its body runs.
 ///
 /// # Errors
 ///
-/// Reading comes first, with the faults of `read_all`; then `Memory`, `NoWorker` and `Strayed` as of
-/// `worker_host::serve`. No part of the input has then been answered.
+/// `Memory`, `NoWorker` and `Strayed`, as of `worker_host::serve`: no line has then been answered.
+pub fn serve_read<
+    H: AllocGlobal + Threads + Wait + Sync,
+    L: GrainLogic + Copy + Send,
+    G: TurnGate + Sync,
+>(
+    rt: &H,
+    workers: usize,
+    tenants: TenantTable,
+    age: Age,
+    ages: AgeTable,
+    logic: L,
+    said: Vec<Line>,
+    gate: &G,
+) -> Result<ServedInput<L>, ServiceFault>
+    requires workers { (1 ≤ workers) × (workers ≤ 64) }
+    ensures refused { IfOk result (λ served. served.refusals.items ≡ refusals_of said.items) }
+    ensures lanes { IfOk result (λ served. LeavesServed L.logic (setup_of tenants age ages) (lanes_of said.items) served.report.silo
+        (map_list (λ v. v.items) served.report.answers.items)) }
+
+    // The silo was opened with these tenants, this age and these ages, and no rows.
+    ensures setup { IfOk result (λ served. served.report.silo.setup ≡ setup_of tenants age ages) }
+    ensures no_rows { IfOk result (λ served. entries served.report.silo.setup.rows ≡ []) }
+
+    // It is a fault of serving lanes, or memory was refused.
+    ensures fault { IfErr result (λ why. (fault : ServeFaultValue) × (why ≡ serving_fault fault)) }
+{
+    let Ok(asked) = asked_by(rt.alloc(), said) else {
+        return Err(ServiceFault::Failed(LineFault::Memory));
+    };
+    let lanes = asked.lanes.as_slice();
+    match serve_lanes(rt, workers, tenants, age, ages, logic, lanes, gate) {
+        Ok(report) => Ok(ServedInput {
+            refusals: asked.refusals,
+            report,
+        }),
+        Err(fault) => Err(fault_of_serving(fault)),
+    }
+}
+
+/// Reads all lines of an input, and then serves them as `serve_read` does. What was read ahead comes
+/// first.
+///
+/// # Errors
+///
+/// Reading comes first, with the faults of `read_all`; then those of `serve_read`. No part of the input has then been answered.
 pub fn serve_input<
     H: AllocGlobal + Threads + Wait + Sync,
     L: GrainLogic + Copy + Send,
@@ -111,15 +156,8 @@ pub fn serve_input<
     ensures fault { IfErr result (λ why. StopsServing why (left_of input.old.lines (R.remaining input.old.reader)) input.new.lines.calls) }
 {
     let said = read_all(rt.alloc(), input)?;
-    let Ok(asked) = asked_by(rt.alloc(), said) else {
-        return Err(ServiceFault::Failed(LineFault::Memory));
-    };
-    let lanes = asked.lanes.as_slice();
-    match serve_lanes(rt, workers, tenants, age, ages, logic, lanes, gate) {
-        Ok(report) => Ok(ServedInput {
-            refusals: asked.refusals,
-            report,
-        }),
-        Err(fault) => Err(fault_of_serving(fault)),
+    match serve_read(rt, workers, tenants, age, ages, logic, said, gate) {
+        Ok(served) => Ok(served),
+        Err(fault) => Err(fault),
     }
 }
