@@ -9,26 +9,31 @@ ghost use Rattle.lane_model.specs.Lanes.{same_lane, without_ticks_below};
 ghost use Rattle.client_lanes.specs.inside.Passing.{Passes, Takes, left_in, steps_at};
 
 use crate::lane::Lane;
-use grain_id::Caller;
+use grain_id::{Caller, HashSeed};
 use indexmap::IndexMap;
 use silo_event::{Step, same_but_failed};
 use std::alloc::{AllocError, Global};
 use std::collections::VecDeque;
 
 /// What is left of each lane.
-type Left<'l> = IndexMap<Option<Caller>, VecDeque<&'l Step>>;
+type Left<'l> = IndexMap<Option<Caller>, VecDeque<&'l Step>, HashSeed>;
 
 /// Whether the lanes stand in the journal, and each of its steps that a lane gives is of one of them.
-/// One pass over the journal, with a look-up for each step that a lane gives.
+/// One pass over the journal, with a look-up for each step that a lane gives, by a hash from the seed.
 ///
 /// # Errors
 ///
 /// Out of memory.
-pub fn lanes_stand(alloc: Global, lanes: &[Lane], journal: &[Step]) -> Result<bool, AllocError>
+pub fn lanes_stand(
+    alloc: Global,
+    seed: HashSeed,
+    lanes: &[Lane],
+    journal: &[Step],
+) -> Result<bool, AllocError>
     requires { AreDistinct lanes.now }
     ensures { IfOk result (λ stand. IsTrue stand ↔ LanesStand lanes.now journal.now) }
 {
-    let mut left = all_left(alloc, lanes)?;
+    let mut left = all_left(alloc, seed, lanes)?;
     let mut rest = journal;
     'steps: while let Some((step, others)) = rest.split_first() {
         if !take_next(&mut left, step)? {
@@ -40,10 +45,10 @@ pub fn lanes_stand(alloc: Global, lanes: &[Lane], journal: &[Step]) -> Result<bo
 }
 
 /// Before the first step all that is done of each lane is left.
-fn all_left<'l>(alloc: Global, lanes: &'l [Lane]) -> Result<Left<'l>, AllocError>
+fn all_left<'l>(alloc: Global, seed: HashSeed, lanes: &'l [Lane]) -> Result<Left<'l>, AllocError>
     ensures { IfOk result (λ left. left_in left ≡ remaining_of lanes.now) }
 {
-    let mut left = IndexMap::new(alloc);
+    let mut left = IndexMap::with_hasher(alloc, seed);
     let mut rest = lanes;
     'lanes: while let Some((lane, earlier)) = rest.split_last() {
         let key = key_of(lane)?;

@@ -7,22 +7,23 @@ ghost use Rattle.lane_model.specs.Serving.{replies_to};
 ghost use Rattle.client_lanes.specs.inside.RepliesByClient.{HoldsReplies, only_to, told_by, told_to};
 
 use crate::lane::Lane;
-use grain_id::Caller;
+use grain_id::{Caller, HashSeed};
 use indexmap::IndexMap;
 use silo_event::{Party, Reply, copy_of_reply};
 use std::alloc::{AllocError, Global};
 
 /// The replies to each client, in order.
-type RepliesByClient = IndexMap<Caller, Vec<Reply>>;
+type RepliesByClient = IndexMap<Caller, Vec<Reply>, HashSeed>;
 
 /// For each lane the replies to its client, in order; for nobody's lane none. One pass over the
-/// replies, with a look-up for each that a client is told.
+/// replies, with a look-up for each that a client is told, by a hash from the seed.
 ///
 /// # Errors
 ///
 /// Out of memory.
 pub fn answers(
     alloc: Global,
+    seed: HashSeed,
     lanes: &[Lane],
     replies: &[Reply],
 ) -> Result<Vec<Vec<Reply>>, AllocError>
@@ -30,7 +31,7 @@ pub fn answers(
     ensures { IfOk result (λ answers. map_list (λ v. v.items) answers.items
         ≡ map_list (λ lane. replies_to lane.from replies.now) lanes.now) }
 {
-    let mut told = told_by_client(alloc, replies)?;
+    let mut told = told_by_client(alloc, seed, replies)?;
     let mut answers = Vec::new(alloc);
     let mut rest = lanes;
     'lanes: while let Some((lane, others)) = rest.split_first() {
@@ -41,10 +42,14 @@ pub fn answers(
 }
 
 /// The replies by the clients that they are told.
-fn told_by_client(alloc: Global, replies: &[Reply]) -> Result<RepliesByClient, AllocError>
+fn told_by_client(
+    alloc: Global,
+    seed: HashSeed,
+    replies: &[Reply],
+) -> Result<RepliesByClient, AllocError>
     ensures { IfOk result (λ told. HoldsReplies told replies.now) }
 {
-    let mut told: RepliesByClient = IndexMap::new(alloc);
+    let mut told: RepliesByClient = IndexMap::with_hasher(alloc, seed);
     let mut rest = replies;
     'replies: while let Some((reply, others)) = rest.split_first() {
         if let Party::Client(caller, _) = &reply.recipient {

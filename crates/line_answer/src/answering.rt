@@ -9,6 +9,7 @@ ghost use Rattle.answer_model.specs.Idle.{AllIdle, TellsAsker};
 ghost use Rattle.line_answer.specs.Trying.{AnswersAsked};
 
 use crate::bringing::answer_step;
+use grain_id::HashSeed;
 use grain_kinds::GrainLogic;
 use grain_storage::GrainStorage;
 use silo_core::{Setup, Silo};
@@ -42,7 +43,7 @@ impl<S: GrainStorage, L: GrainLogic> Model for AnsweringSilo<S, L> {
 }
 
 impl<S: GrainStorage + Drop, L: GrainLogic + Drop> AnsweringSilo<S, L> {
-    /// A silo at its opening.
+    /// A silo at its opening. Its grains are found by hashes from the fixed seed: take `seeded` if a stranger names them.
     ///
     /// # Errors
     ///
@@ -59,8 +60,33 @@ impl<S: GrainStorage + Drop, L: GrainLogic + Drop> AnsweringSilo<S, L> {
             ≡ record { at_opening = S.failed setup.storage; now = S.failed setup.storage }) }
         ensures ready { IfOk result (λ a. a.stopped ≡ false) }
     {
+        AnsweringSilo::seeded(alloc, setup, HashSeed::fixed())
+    }
+
+    /// A silo at its opening, as `new` makes it, whose grains are found by hashes from this seed. Nothing that it answers
+    /// depends on the seed. A storage has a seed of its own.
+    ///
+    /// # Errors
+    ///
+    /// Out of memory.
+    pub fn seeded(
+        alloc: Global,
+        setup: Setup<S, L>,
+        seed: HashSeed,
+    ) -> Result<AnsweringSilo<S, L>, AllocError>
+        ensures setup { IfOk result (λ a. a.history.setup ≡ record {
+          tenants = setup.tenants;
+          age = setup.age;
+          ages = setup.ages;
+          rows = S.rows setup.storage;
+        }) }
+        ensures opening { IfOk result (λ a. (a.history.whole ≡ opening a.history.setup) × (a.history.journal ≡ [])) }
+        ensures failures { IfOk result (λ a. a.history.failures
+            ≡ record { at_opening = S.failed setup.storage; now = S.failed setup.storage }) }
+        ensures ready { IfOk result (λ a. a.stopped ≡ false) }
+    {
         Ok(AnsweringSilo {
-            silo: Silo::new(alloc, setup)?,
+            silo: Silo::seeded(alloc, setup, seed)?,
             stopped: false,
         })
     }

@@ -8,7 +8,7 @@ ghost use Rattle.line_service.specs.inside.Places.{ArePlaced};
 
 use crate::giver::{copy_of, giver_of};
 use client_lanes::Lane;
-use grain_id::Caller;
+use grain_id::{Caller, HashSeed};
 use indexmap::IndexMap;
 use line_parser::{Line, LineRefusal};
 use silo_event::Step;
@@ -24,23 +24,27 @@ pub struct LanesAndRefusals {
 }
 
 /// The place of each lane, by whose it is.
-type Places = IndexMap<Option<Caller>, usize>;
+type Places = IndexMap<Option<Caller>, usize, HashSeed>;
 
 /// The lanes that the lines ask for, and the refusals of the other lines. A step goes to the lane that
 /// gives it; a step that no lane gives, or that has the mark of a failure, is refused as no request. One
-/// pass over the lines, with a look-up for each step.
+/// pass over the lines, with a look-up for each step, by a hash from the seed.
 ///
 /// # Errors
 ///
 /// Out of memory.
-pub fn asked_by(alloc: Global, lines: Vec<Line>) -> Result<LanesAndRefusals, AllocError>
+pub fn asked_by(
+    alloc: Global,
+    seed: HashSeed,
+    lines: Vec<Line>,
+) -> Result<LanesAndRefusals, AllocError>
     ensures lanes { IfOk result (λ asked. asked.lanes.items ≡ lanes_of lines.items) }
     ensures refusals { IfOk result (λ asked. asked.refusals.items ≡ refusals_of lines.items) }
     ensures distinct { IfOk result (λ asked. AreDistinct asked.lanes.items) }
 {
     let mut lanes = Vec::new(alloc);
     let mut refusals = Vec::new(alloc);
-    let mut places = IndexMap::new(alloc);
+    let mut places = IndexMap::with_hasher(alloc, seed);
     'lines: for line in lines {
         match line {
             Line::Nothing => {}

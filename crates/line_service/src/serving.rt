@@ -11,6 +11,7 @@ ghost use Rattle.line_service.specs.Serving.{IsServed, LeavesServed, StopsServin
 use crate::asked::asked_by;
 use crate::fault::ServiceFault;
 use client_lanes::Lane;
+use grain_id::HashSeed;
 use grain_kinds::GrainLogic;
 use grain_storage::MemoryStorage;
 use idle_collector::AgeTable;
@@ -22,7 +23,7 @@ use std::io::Read;
 use std::sync::Wait;
 use std::thread::Threads;
 use tenant_gate::{Age, TenantTable};
-use worker_host::{ServeFault, ServeReport, TurnGate, serve};
+use worker_host::{ServeFault, ServeReport, TurnGate, serve_seeded};
 
 /// What became of an input: the silo, each lane's answers, and the refusals of lines of no lane.
 #[derive(Drop)]
@@ -53,6 +54,7 @@ fn serve_lanes<
     tenants: TenantTable,
     age: Age,
     ages: AgeTable,
+    seed: HashSeed,
     logic: L,
     lanes: &[Lane],
     gate: &G,
@@ -67,10 +69,10 @@ fn serve_lanes<
         tenants,
         age,
         ages,
-        storage: MemoryStorage::new(alloc),
+        storage: MemoryStorage::seeded(alloc, seed),
         logic,
     };
-    let report = serve(rt, alloc, setup, lanes, workers, gate)?;
+    let report = serve_seeded(rt, alloc, setup, seed, lanes, workers, gate)?;
     // For the proof: a storage in memory never fails.
     let _ = report.silo.storage();
     Ok(report)
@@ -78,7 +80,8 @@ fn serve_lanes<
 
 /// Serves lines that were read, by so many threads, 1 to 64, over no rows at the start. Requests go to
 /// the lane of their client, ticks and sweeps to nobody's, lanes in the order of their first lines; a line
-/// that no lane gives is refused. The gate is told of each turn before its body runs.
+/// that no lane gives is refused. The gate is told of each turn before its body runs. Grains, rows and
+/// clients are found by hashes from the seed, on which nothing that is answered depends.
 ///
 /// # Errors
 ///
@@ -93,6 +96,7 @@ pub fn serve_read<
     tenants: TenantTable,
     age: Age,
     ages: AgeTable,
+    seed: HashSeed,
     logic: L,
     said: Vec<Line>,
     gate: &G,
@@ -109,11 +113,11 @@ pub fn serve_read<
     // It is a fault of serving lanes, or memory was refused.
     ensures fault { IfErr result (λ why. (fault : ServeFaultValue) × (why ≡ serving_fault fault)) }
 {
-    let Ok(asked) = asked_by(rt.alloc(), said) else {
+    let Ok(asked) = asked_by(rt.alloc(), seed, said) else {
         return Err(ServiceFault::Failed(LineFault::Memory));
     };
     let lanes = asked.lanes.as_slice();
-    match serve_lanes(rt, workers, tenants, age, ages, logic, lanes, gate) {
+    match serve_lanes(rt, workers, tenants, age, ages, seed, logic, lanes, gate) {
         Ok(report) => Ok(ServedInput {
             refusals: asked.refusals,
             report,
@@ -139,6 +143,7 @@ pub fn serve_input<
     tenants: TenantTable,
     age: Age,
     ages: AgeTable,
+    seed: HashSeed,
     logic: L,
     input: &mut Input<R>,
     gate: &G,
@@ -156,7 +161,7 @@ pub fn serve_input<
     ensures fault { IfErr result (λ why. StopsServing why (left_of input.old.lines (R.remaining input.old.reader)) input.new.lines.calls) }
 {
     let said = read_all(rt.alloc(), input)?;
-    match serve_read(rt, workers, tenants, age, ages, logic, said, gate) {
+    match serve_read(rt, workers, tenants, age, ages, seed, logic, said, gate) {
         Ok(served) => Ok(served),
         Err(fault) => Err(fault),
     }

@@ -3,7 +3,7 @@
 use crate::rows::{
     Worked, counted, counted_but_saved, others, sent, sent_one_by_one, sent_to_nobody,
 };
-use crate::silos::{TestedSilo, ended, new_silo};
+use crate::silos::{TestedSilo, ended, new_silo, seeded_silo};
 use line_answer::{Input, Output};
 use std::alloc::Global;
 use std::test::Fail;
@@ -23,6 +23,14 @@ fn answered(alloc: Global, silo: &mut TestedSilo, row: &Worked) -> Result<u64, F
 /// The same of a new silo, whose storage fails that call, or none if it is 0.
 fn answered_anew(alloc: Global, row: &Worked, fails_at: u64) -> Result<u64, Fail> {
     let mut silo = new_silo(alloc, fails_at)?;
+    let lines = answered(alloc, &mut silo, row);
+    drop(silo);
+    lines
+}
+
+/// The same of a new silo whose grains are found by hashes from this seed.
+fn answered_by_seed(alloc: Global, row: &Worked, seed: u64) -> Result<u64, Fail> {
+    let mut silo = seeded_silo(alloc, seed)?;
     let lines = answered(alloc, &mut silo, row);
     drop(silo);
     lines
@@ -56,5 +64,13 @@ fn what_is_left_goes_on_behind_the_tenants_next_line(rt: HostRuntime) -> Result<
 #[test]
 fn other_lines_are_refused_or_ask_nothing(rt: HostRuntime) -> Result<(), Fail> {
     assert_eq!(rt; answered_anew(rt.alloc(), &others(), 0)?, 11);
+    Ok(())
+}
+
+#[test]
+fn answers_are_the_same_by_each_seed(rt: HostRuntime) -> Result<(), Fail> {
+    for seed in 0..10 {
+        assert_eq!(rt; answered_by_seed(rt.alloc(), &sent(), seed)?, 6);
+    }
     Ok(())
 }

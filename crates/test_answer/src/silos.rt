@@ -1,7 +1,7 @@
 //! Silos that answer at once, and calls of them, each in a function without clauses: the clauses of a call stand before
 //! all later goals of the body that makes it.
 
-use grain_id::Tenant;
+use grain_id::{HashSeed, Tenant};
 use grain_kinds::Kinds;
 use grain_storage::{FusedStorage, MemoryStorage};
 use idle_collector::AgeTable;
@@ -28,21 +28,38 @@ fn tenants(alloc: Global) -> Result<TenantTable, Fail> {
     Ok(TenantTable::new(alloc, list)?)
 }
 
-fn opened(alloc: Global, setup: Setup<FusedStorage, Kinds>) -> Result<TestedSilo, AllocError> {
-    AnsweringSilo::new(alloc, setup)
-}
-
-/// A silo over no rows, whose storage fails that call, or none if it is 0. Grains are idle for 5 milliseconds.
-pub fn new_silo(alloc: Global, fails_at: u64) -> Result<TestedSilo, Fail> {
+/// Over no rows. The storage fails that call, or none if it is 0. Grains are idle for 5 milliseconds.
+fn setup(alloc: Global, fails_at: u64) -> Result<Setup<FusedStorage, Kinds>, Fail> {
     let age = Age::new(5).ok_or("no age")?;
-    let setup = Setup {
+    Ok(Setup {
         tenants: tenants(alloc)?,
         age,
         ages: AgeTable::none(alloc),
         storage: FusedStorage::new(MemoryStorage::new(alloc), fails_at),
         logic: Kinds,
-    };
-    Ok(opened(alloc, setup)?)
+    })
+}
+
+fn opened(alloc: Global, setup: Setup<FusedStorage, Kinds>) -> Result<TestedSilo, AllocError> {
+    AnsweringSilo::new(alloc, setup)
+}
+
+fn opened_by(
+    alloc: Global,
+    setup: Setup<FusedStorage, Kinds>,
+    seed: u64,
+) -> Result<TestedSilo, AllocError> {
+    AnsweringSilo::seeded(alloc, setup, HashSeed::new(seed))
+}
+
+/// A silo over no rows, whose storage fails that call, or none if it is 0.
+pub fn new_silo(alloc: Global, fails_at: u64) -> Result<TestedSilo, Fail> {
+    Ok(opened(alloc, setup(alloc, fails_at)?)?)
+}
+
+/// A silo over no rows, whose grains are found by hashes from this seed.
+pub fn seeded_silo(alloc: Global, seed: u64) -> Result<TestedSilo, Fail> {
+    Ok(opened_by(alloc, setup(alloc, 0)?, seed)?)
 }
 
 /// Answers the lines of the reader: how that ends, but for want of memory.

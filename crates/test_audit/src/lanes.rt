@@ -1,7 +1,7 @@
 //! Lanes of clients, and what is looked at once they were served.
 
 use client_lanes::{Lane, LaneFault, answers, distinct, failed_in, lanes_stand};
-use grain_id::{Caller, GrainId};
+use grain_id::{Caller, GrainId, HashSeed};
 use silo_event::{Moment, Party, Refusal, Reply, Step};
 use std::alloc::Global;
 use std::test::Fail;
@@ -93,7 +93,7 @@ fn stand(alloc: Global, lanes: &[Lane], journal: &[Step]) -> Result<bool, Fail> 
     if !distinct(lanes) {
         return Err(Fail::from("two lanes are of one client"));
     }
-    Ok(lanes_stand(alloc, lanes, journal)?)
+    Ok(lanes_stand(alloc, HashSeed::new(7), lanes, journal)?)
 }
 
 /// What each lane is answered.
@@ -101,7 +101,7 @@ fn answered(alloc: Global, lanes: &[Lane], replies: &[Reply]) -> Result<Vec<Vec<
     if !distinct(lanes) {
         return Err(Fail::from("two lanes are of one client"));
     }
-    Ok(answers(alloc, lanes, replies)?)
+    Ok(answers(alloc, HashSeed::new(7), lanes, replies)?)
 }
 
 /// A lane of nobody: two ticks, of which the second is behind the clock, and a sweep.

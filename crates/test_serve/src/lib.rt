@@ -12,6 +12,8 @@ mod asked;
 #[cfg(test)]
 mod meeting;
 #[cfg(test)]
+mod seeds;
+#[cfg(test)]
 mod serving;
 #[cfg(test)]
 mod told;

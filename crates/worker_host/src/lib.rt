@@ -18,4 +18,4 @@ mod working;
 pub use client_lanes::{Lane, LaneFault, distinct};
 pub use gate::{FreeGate, TurnGate};
 pub use report::{ServeFault, ServeReport};
-pub use work::serve;
+pub use work::{serve, serve_seeded};

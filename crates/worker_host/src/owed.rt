@@ -5,13 +5,13 @@ ghost use Rattle.grain_id.specs.Names.{Client, client_eq};
 ghost use Rattle.lane_model.specs.Asking.{asker_of, ids_told};
 ghost use Rattle.worker_host.specs.inside.Working.{asks_once, owing_to};
 
-use grain_id::Caller;
+use grain_id::{Caller, HashSeed};
 use indexmap::IndexMap;
 use silo_event::{Party, Reply, Step};
 use std::alloc::AllocError;
 
 /// How many answers each client is owed. One that isn't there is owed none.
-pub type Owing = IndexMap<Caller, u64>;
+pub type Owing = IndexMap<Caller, u64, HashSeed>;
 
 /// The client that asks by the step, if one does, asked once more.
 ///

@@ -10,7 +10,7 @@ ghost use Rattle.worker_host.specs.SetupCopy.{AreAnswered, AreCopies, HasFailed,
 use crate::same::are_same;
 use crate::schedule::Schedule;
 use client_lanes::{Lane, answers, failed_in, lanes_stand};
-use grain_id::{GrainId, Tenant};
+use grain_id::{GrainId, HashSeed, Tenant};
 use grain_kinds::GrainLogic;
 use grain_storage::{GrainStorage, Row};
 use idle_collector::AgeTable;
@@ -134,6 +134,7 @@ fn must_hold(holds: bool) -> Result<(), ServeFault>
 /// What each lane is answered, if what the silo holds is what serving the lanes leaves.
 fn served_answers<S: GrainStorage, L: GrainLogic>(
     alloc: Global,
+    seed: HashSeed,
     silo: &Silo<S, L>,
     opened: &SetupCopy,
     lanes: &[Lane],
@@ -145,15 +146,16 @@ fn served_answers<S: GrainStorage, L: GrainLogic>(
     ensures served { IfOk result (λ answers. AreServed L.logic silo.now.setup lanes.now silo.now.journal silo.now.whole
         silo.now.failures.at_opening silo.now.failures.now (map_list (λ v. v.items) answers.items)) }
 {
-    must_hold(lanes_stand(alloc, lanes, silo.journal())?)?;
+    must_hold(lanes_stand(alloc, seed, lanes, silo.journal())?)?;
     must_hold(is_opened_so(silo, opened))?;
     must_hold(failures_count(silo))?;
-    Ok(answers(alloc, lanes, silo.replies())?)
+    Ok(answers(alloc, seed, lanes, silo.replies())?)
 }
 
-/// Looks once at what the workers left.
+/// Looks once at what the workers left. Clients are found by hashes from the seed.
 pub fn settle<S: GrainStorage + Drop, L: GrainLogic + Drop>(
     alloc: Global,
+    seed: HashSeed,
     schedule: Schedule<S, L>,
     opened: &SetupCopy,
     lanes: &[Lane],
@@ -169,6 +171,6 @@ pub fn settle<S: GrainStorage + Drop, L: GrainLogic + Drop>(
     };
     let silo = working.into_silo();
     must_hold(silo.is_quiet())?;
-    let answers = served_answers(alloc, &silo, opened, lanes)?;
+    let answers = served_answers(alloc, seed, &silo, opened, lanes)?;
     Ok(ServeReport { silo, answers })
 }

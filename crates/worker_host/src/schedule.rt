@@ -9,7 +9,7 @@ ghost use Rattle.worker_host.specs.inside.Batches.{closing_step, most_turns, tur
 use crate::pace::Pace;
 use crate::working::WorkingSilo;
 use client_lanes::Lane;
-use grain_id::{Caller, GrainId};
+use grain_id::{Caller, GrainId, HashSeed};
 use grain_kinds::{FinishedTurn, GrainLogic, OpenedTurn, StoreCall};
 use grain_storage::GrainStorage;
 use indexmap::IndexMap;
@@ -54,7 +54,7 @@ pub struct LanePlaces {
     /// How many steps of each lane were given.
     given: Vec<usize>,
     /// Which lane is a client's.
-    lane_of: IndexMap<Caller, usize>,
+    lane_of: IndexMap<Caller, usize, HashSeed>,
     /// The lanes that may give their next step.
     ready: VecDeque<usize>,
     /// How many replies were looked at.
@@ -62,14 +62,14 @@ pub struct LanePlaces {
 }
 
 impl LanePlaces {
-    /// All lanes may give their first step.
+    /// All lanes may give their first step. Clients are found by hashes from the seed.
     ///
     /// # Errors
     ///
     /// Out of memory.
-    pub fn new(alloc: Global, lanes: &[Lane]) -> Result<LanePlaces, AllocError> {
+    pub fn new(alloc: Global, seed: HashSeed, lanes: &[Lane]) -> Result<LanePlaces, AllocError> {
         let mut given = Vec::new(alloc);
-        let mut lane_of = IndexMap::new(alloc);
+        let mut lane_of = IndexMap::with_hasher(alloc, seed);
         let mut ready = VecDeque::new(alloc);
         for (index, lane) in lanes.iter().enumerate() {
             given.push(0)?;

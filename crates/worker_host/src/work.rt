@@ -15,6 +15,7 @@ use crate::schedule::{LanePlaces, Schedule, TakenTurn, Task};
 use crate::working::WorkingSilo;
 use bumpalo::Bump;
 use client_lanes::Lane;
+use grain_id::HashSeed;
 use grain_kinds::{GrainLogic, run_turn};
 use grain_storage::GrainStorage;
 use silo_core::Setup;
@@ -205,7 +206,8 @@ fn run_workers<
 }
 
 /// Serves the lanes by so many threads, 1 to 64, over one silo of the setup. A lane gives its next step
-/// when its last has its reply; a tick or a sweep, when it was applied.
+/// when its last has its reply; a tick or a sweep, when it was applied. Grains and clients are found by
+/// hashes from the fixed seed: take `serve_seeded` if a stranger names them.
 ///
 /// What isn't promised: that a turn isn't abandoned without need, that two threads run, or that it
 /// returns.
@@ -246,14 +248,56 @@ pub fn serve<
     ensures parts { IfOk result (λ report. (tenant : List ℕ) → shown_to tenant report.silo.whole
         ≡ machine_run L.logic (start_of report.silo.setup tenant) (restricted_to tenant report.silo.journal)) }
 {
+    serve_seeded(rt, alloc, setup, HashSeed::fixed(), lanes, workers, gate)
+}
+
+/// Serves the lanes, as `serve` does, with grains and clients that are found by hashes from this seed. The
+/// storage has a seed of its own. Nothing that is answered depends on a seed.
+///
+/// # Errors
+///
+/// As of `serve`.
+pub fn serve_seeded<
+    S: GrainStorage + Drop + Send,
+    L: GrainLogic + Copy + Send,
+    G: TurnGate + Sync,
+    R: Threads + Wait + Sync,
+>(
+    rt: &R,
+    alloc: Global,
+    setup: Setup<S, L>,
+    seed: HashSeed,
+    lanes: &[Lane],
+    workers: usize,
+    gate: &G,
+) -> Result<ServeReport<S, L>, ServeFault>
+    requires workers { (1 ≤ workers) × (workers ≤ 64) }
+    requires distinct { AreDistinct lanes.now }
+
+    // The silo was opened with the setup's tenants, age, ages and rows, as the storage was then.
+    ensures setup { IfOk result (λ report. report.silo.setup
+        ≡ record { tenants = setup.tenants; age = setup.age; ages = setup.ages; rows = S.rows setup.storage }) }
+    ensures failures { IfOk result (λ report. report.silo.failures.at_opening ≡ S.failed setup.storage) }
+
+    // The lanes were served.
+    ensures served { IfOk result (λ report. AreServed L.logic report.silo.setup lanes.now report.silo.journal report.silo.whole
+        report.silo.failures.at_opening report.silo.failures.now (map_list (λ v. v.items) report.answers.items)) }
+
+    // Each client was told as often as its lane asks, in the lane's order.
+    ensures answered { IfOk result (λ report. AreAnswered lanes.now report.silo.whole.replies) }
+
+    // Each tenant's part is the run of its own machine over the journal.
+    ensures parts { IfOk result (λ report. (tenant : List ℕ) → shown_to tenant report.silo.whole
+        ≡ machine_run L.logic (start_of report.silo.setup tenant) (restricted_to tenant report.silo.journal)) }
+{
     let opened = SetupCopy::copied(alloc, &setup)?;
-    let places = LanePlaces::new(alloc, lanes)?;
+    let places = LanePlaces::new(alloc, seed, lanes)?;
     let logic = setup.logic;
-    let silo = WorkingSilo::new(alloc, setup)?;
+    let silo = WorkingSilo::seeded(alloc, setup, seed)?;
     let schedule = Mutex::new(Schedule::new(alloc, silo, places, workers));
     let changed = Condvar::new();
     if !run_workers(rt, alloc, &schedule, &changed, lanes, workers, gate, logic) {
         return Err(ServeFault::NoWorker);
     }
-    settle(alloc, schedule.into_inner(), &opened, lanes)
+    settle(alloc, seed, schedule.into_inner(), &opened, lanes)
 }

@@ -18,7 +18,7 @@ ghost use Rattle.worker_host.specs.inside.Working.{may_ask_in, was_done};
 
 use crate::owed;
 use crate::owed::Owing;
-use grain_id::{Caller, GrainId};
+use grain_id::{Caller, GrainId, HashSeed};
 use grain_kinds::{FinishedTurn, GrainLogic, OpenedTurn};
 use grain_storage::GrainStorage;
 use indexmap::IndexMap;
@@ -62,20 +62,24 @@ fn was_done(answer: &Result<Answer, StepFault>) -> bool
 }
 
 impl<S: GrainStorage + Drop, L: GrainLogic + Drop> WorkingSilo<S, L> {
-    /// A silo at its opening.
+    /// A silo at its opening. Its grains, and the clients that are owed answers, are found by hashes from the seed.
     ///
     /// # Errors
     ///
     /// Out of memory.
-    pub fn new(alloc: Global, setup: Setup<S, L>) -> Result<WorkingSilo<S, L>, AllocError>
+    pub fn seeded(
+        alloc: Global,
+        setup: Setup<S, L>,
+        seed: HashSeed,
+    ) -> Result<WorkingSilo<S, L>, AllocError>
         ensures setup { IfOk result (λ w. w.setup
             ≡ record { tenants = setup.tenants; age = setup.age; ages = setup.ages; rows = S.rows setup.storage }) }
         ensures opening { IfOk result (λ w. (w.whole ≡ opening w.setup) × (w.journal ≡ [])) }
         ensures failures { IfOk result (λ w. w.failures ≡ record { at_opening = S.failed setup.storage; now = S.failed setup.storage }) }
     {
         Ok(WorkingSilo {
-            silo: Silo::new(alloc, setup)?,
-            owing: IndexMap::new(alloc),
+            silo: Silo::seeded(alloc, setup, seed)?,
+            owing: IndexMap::with_hasher(alloc, seed),
             seen: 0,
         })
     }

@@ -1,7 +1,7 @@
 use Rattle.std.specs.Prelude.{map as map_list}
 use Rattle.std.proofs.lemmas.Result.{IfOk-weaker}
 use Rattle.worker_host.proofs.Served.{setup_is, failures_were, parts_are_runs}
-use Rattle.worker_host.proofs.work.serve.Goals as goal
+use Rattle.worker_host.proofs.work.serve_seeded.Goals as goal
 
 pub returns-clause-setup : goal.returns-clause-setup
 returns-clause-setup g c =
