@@ -1,6 +1,6 @@
 //! The moments from which grains are due.
 
-ghost use Rattle.std.specs.Prelude.{◌≡◌, OnOk, OnErr, IfOk, IfSome, None, Some};
+ghost use Rattle.std.specs.Prelude.{◌≡◌, OnOk, OnErr, IfOk, IfSome, None, Some, true, false};
 ghost use Rattle.std.specs.FinMap as map;
 ghost use Rattle.idle_collector.specs.Notes.{noted, noted_if, forgotten, due};
 
@@ -103,6 +103,18 @@ impl Collector {
             return;
         };
         self.filed.forget(id, moment);
+    }
+
+    /// Drops the note of a grain if it is the one that came last: whether it is. Takes no memory, and compares two names.
+    pub fn forget_latest(&mut self, id: &GrainId) -> bool
+        ensures forgotten { result ≡ true → self.new ≡ record self.old { notes = forgotten self.old.notes id.now } }
+        ensures unchanged { result ≡ false → self.new ≡ self.old }
+    {
+        if latest::is_of(&self.latest, id) {
+            self.latest = Latest::Nobody;
+            return true;
+        }
+        false
     }
 
     /// Drops the note of a grain, if there is one: it is of this moment. Takes no memory.

@@ -13,7 +13,7 @@ ghost use Rattle.silo_core.specs.Runs.{noted};
 
 use crate::setup::Setup;
 use crate::{replies, rows};
-use grain_id::{GrainId, Tenant};
+use grain_id::{GrainId, HashSeed, Tenant};
 use grain_kinds::GrainLogic;
 use grain_storage::{GrainStorage, Row};
 use idle_collector::AgeTable;
@@ -68,12 +68,33 @@ impl<S: GrainStorage, L: GrainLogic> Model for Silo<S, L> {
 }
 
 impl<S: GrainStorage + Drop, L: GrainLogic + Drop> Silo<S, L> {
-    /// A silo at its opening: it has the storage's rows, and nothing was asked yet.
+    /// A silo at its opening: it has the storage's rows, and nothing was asked yet. Its grains are found by hashes from the fixed
+    /// seed: take `seeded` where a stranger names the grains.
     ///
     /// # Errors
     ///
     /// Out of memory.
     pub fn new(alloc: Global, setup: Setup<S, L>) -> Result<Silo<S, L>, AllocError>
+        ensures setup { IfOk result (λ s. s.setup
+            ≡ record { tenants = setup.tenants; age = setup.age; ages = setup.ages; rows = S.rows setup.storage }) }
+        ensures opening { IfOk result (λ s. (s.whole ≡ opening s.setup) × (s.journal ≡ [])) }
+        ensures failures { IfOk result (λ s. s.failures ≡ record { at_opening = S.failed setup.storage; now = S.failed setup.storage }) }
+        ensures parts { IfOk result (λ s. (tenant : List ℕ) → shown_to tenant s.whole ≡ start_of s.setup tenant) }
+    {
+        Silo::seeded(alloc, setup, HashSeed::fixed())
+    }
+
+    /// A silo at its opening, as `new` makes it, whose grains are found by hashes from this seed. Nothing that it shows or writes
+    /// depends on the seed. Its storage has a seed of its own.
+    ///
+    /// # Errors
+    ///
+    /// Out of memory.
+    pub fn seeded(
+        alloc: Global,
+        setup: Setup<S, L>,
+        seed: HashSeed,
+    ) -> Result<Silo<S, L>, AllocError>
         ensures setup { IfOk result (λ s. s.setup
             ≡ record { tenants = setup.tenants; age = setup.age; ages = setup.ages; rows = S.rows setup.storage }) }
         ensures opening { IfOk result (λ s. (s.whole ≡ opening s.setup) × (s.journal ≡ [])) }
@@ -89,7 +110,8 @@ impl<S: GrainStorage + Drop, L: GrainLogic + Drop> Silo<S, L> {
         } = setup;
         let opening = storage.list(alloc)?;
         let opening_failures = storage.failures();
-        let state = SiloState::new(alloc, tenants.list(), age, ages.clone()?, storage, logic)?;
+        let kinds = ages.clone()?;
+        let state = SiloState::new(alloc, tenants.list(), age, kinds, storage, logic, seed)?;
         Ok(Silo {
             tenants,
             age,

@@ -10,7 +10,7 @@ ghost use Rattle.silo_state.specs.Entries.{Activates, Begins, opened_turn};
 
 use crate::change;
 use activation_directory::{Activation, Directory};
-use grain_id::GrainId;
+use grain_id::{GrainId, HashSeed};
 use grain_kinds::{GrainLogic, OpenedTurn};
 use idle_collector::{AgeTable, Collector};
 use silo_event::Answer;
@@ -57,15 +57,16 @@ impl<L: GrainLogic> Model for Activations<L> {
 
 impl<L: GrainLogic> Activations<L> {
     /// No grain has an activation. An idle one is due the age of its kind after it was last used, or
-    /// later if it stays longer: the age that the table has of the kind, or else the one beside it.
-    pub fn new(alloc: Global, age: Age, ages: AgeTable) -> Activations<L>
+    /// later if it stays longer: the age that the table has of the kind, or else the one beside it. Grains are found by hashes
+    /// from the seed.
+    pub fn new(alloc: Global, age: Age, ages: AgeTable, seed: HashSeed) -> Activations<L>
         ensures { result ≡ record { ages = record { age = age; ages = ages }; entries = map.empty; expected = None } }
     {
         Activations {
             age,
             ages,
-            directory: Directory::new(alloc),
-            collector: Collector::new(alloc),
+            directory: Directory::seeded(alloc, seed),
+            collector: Collector::seeded(alloc, seed),
             of: PhantomData,
         }
     }

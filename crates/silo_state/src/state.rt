@@ -5,7 +5,7 @@ ghost use Rattle.silo_model.specs.Opening.{opening};
 
 use crate::accounts::Accounts;
 use crate::activations::Activations;
-use grain_id::Tenant;
+use grain_id::{HashSeed, Tenant};
 use grain_kinds::GrainLogic;
 use grain_storage::GrainStorage;
 use idle_collector::AgeTable;
@@ -62,7 +62,8 @@ fn beginning() -> Moment
 impl<S: GrainStorage + Drop, L: GrainLogic + Drop> SiloState<S, L> {
     /// Nothing is asked yet, and nothing answered. These tenants are known, with these limits; of a tenant
     /// that stands twice the first are its own. A grain of a kind that has no age in the table has the age
-    /// beside it. The rows are those of the storage.
+    /// beside it. The rows are those of the storage. Grains are found by hashes from the seed, on which nothing that is shown
+    /// depends.
     ///
     /// # Errors
     ///
@@ -74,6 +75,7 @@ impl<S: GrainStorage + Drop, L: GrainLogic + Drop> SiloState<S, L> {
         ages: AgeTable,
         storage: S,
         logic: L,
+        seed: HashSeed,
     ) -> Result<SiloState<S, L>, AllocError>
         ensures { IfOk result (λ b. b ≡ record {
           whole = opening (record { tenants = tenants.now; age = age; ages = ages; rows = S.rows storage });
@@ -83,7 +85,7 @@ impl<S: GrainStorage + Drop, L: GrainLogic + Drop> SiloState<S, L> {
         Ok(SiloState {
             accounts: Accounts::new(alloc, tenants)?,
             clock: beginning(),
-            activations: Activations::new(alloc, age, ages),
+            activations: Activations::new(alloc, age, ages, seed),
             storage,
             logic,
             replies: Vec::new(alloc),

@@ -1,13 +1,13 @@
 //! The activations of a tenant's grains, as entries.
 
-ghost use Rattle.std.specs.Prelude.{◌≡◌, ◌<◌, ◌^◌, ◌&&◌, true, false, IfOk, OnOk, OnErr, IfSome, Some};
+ghost use Rattle.std.specs.Prelude.{◌≡◌, ◌<◌, ◌^◌, true, false, IfOk, OnOk, OnErr, IfSome, Some};
 ghost use Rattle.std.specs.Option.{option_copied, option_map};
 ghost use Rattle.std.specs.FinMap as map;
 ghost use Rattle.grain_kinds.specs.Laws.{IsKeep};
 ghost use Rattle.grain_kinds.specs.Planned.{keep_of};
 ghost use Rattle.idle_collector.specs.Ages.{kind_age};
 ghost use Rattle.silo_model.specs.Calls.{with_request};
-ghost use Rattle.silo_model.specs.Idle.{is_idle, kept_entries};
+ghost use Rattle.silo_model.specs.Idle.{kept_entries};
 ghost use Rattle.silo_model.specs.Machine.{Entry, ready};
 ghost use Rattle.silo_state.specs.Entries.{Activates, Begins, Closes};
 ghost use Rattle.silo_state.specs.Marks.{AreMarked, IsMarked};
@@ -163,7 +163,7 @@ impl<L: GrainLogic> Entries<L> {
         let Some(sender) = change::close(activation, turn, phase, keep, last) else {
             return None;
         };
-        if goes(activation) {
+        if change::goes(activation) {
             drop(self.by_grain.remove(grain));
             return Some(sender);
         }
@@ -184,11 +184,4 @@ impl<L: GrainLogic> Entries<L> {
     {
         self.by_grain.sweep(clock, age, ages);
     }
-}
-
-/// Whether it rests and is idle.
-fn goes(activation: &Activation) -> bool
-    ensures { result ≡ ((entry_of activation.now).resting && is_idle (entry_of activation.now)) }
-{
-    activation.resting && change::is_idle(activation)
 }

@@ -1,14 +1,16 @@
 //! How requests come to an activation.
 
-ghost use Rattle.std.specs.Prelude.{◌≡◌, true, OnOk, OnErr, length};
+ghost use Rattle.std.specs.Prelude.{◌≡◌, ℕ, true, IfOk, OnOk, OnErr, length};
 ghost use Rattle.std.specs.Option.{option_map};
 ghost use Rattle.std.specs.FinMap as map;
 ghost use Rattle.silo_state.specs.inside.Arrivals.{with_waiting};
 ghost use Rattle.silo_state.specs.Shown.{request_of, entries_of};
 ghost use Rattle.silo_state.specs.Marks.{IsMarked, AllMarked};
+ghost use Rattle.silo_state.specs.inside.Notes.{due_at, noted_by};
 
 use crate::activations::Activations;
-use crate::arrival;
+use crate::activations::close::forget;
+use crate::{arrival, change};
 use activation_directory::Directory;
 use grain_id::GrainId;
 use grain_kinds::GrainLogic;
@@ -46,13 +48,17 @@ impl<L: GrainLogic> Activations<L> {
         ensures unchanged { OnErr result (self.new.entries ≡ self.old.entries) }
         ensures ages { self.new.ages ≡ self.old.ages }
     {
-        enter::<L>(alloc, &mut self.directory, grain, request, clock)?;
-        self.collector.forget(grain);
+        let entered = enter::<L>(alloc, &mut self.directory, grain, request, clock)?;
+        let Some(idle) = entered else {
+            return Ok(());
+        };
+        forget(&mut self.collector, grain, idle, &self.ages, self.age);
         Ok(())
     }
 }
 
-/// One request more waits at the grain, or at a new activation of it.
+/// One request more waits at the grain, or at a new activation of it: when the grain's activation was last used before and until
+/// when it stays, if it was idle.
 ///
 /// # Errors
 ///
@@ -63,7 +69,7 @@ fn enter<L: GrainLogic>(
     grain: &GrainId,
     request: Request,
     clock: Moment,
-) -> Result<(), AllocError>
+) -> Result<Option<(Moment, u64)>, AllocError>
     requires marks { AllMarked L.logic directory.old.activations }
     requires known { L.logic.knows grain.now.kind ≡ true }
     requires marked { IsMarked L.logic grain.now request }
@@ -71,9 +77,12 @@ fn enter<L: GrainLogic>(
         (request_of request) clock) }
     ensures unchanged { OnErr result (entries_of directory.new.activations ≡ entries_of directory.old.activations) }
     ensures marks { AllMarked L.logic directory.new.activations }
+    ensures noted { IfOk result (λ idle. (age : ℕ) → due_at age (map.get (entries_of directory.old.activations) grain.now) ≡ noted_by age idle) }
 {
     if let Some(activation) = directory.get_mut(grain) {
-        return arrival::arrive(activation, request, clock);
+        let idle = change::idle_since(activation);
+        arrival::arrive(activation, request, clock)?;
+        return Ok(idle);
     }
     let named = grain.clone()?;
     let activation = arrival::first(alloc, request, clock)?;
@@ -84,5 +93,5 @@ fn enter<L: GrainLogic>(
             return Err(AllocError);
         }
     }
-    Ok(())
+    Ok(None)
 }

@@ -6,12 +6,13 @@ ghost use Rattle.std.specs.FinMap as map;
 ghost use Rattle.grain_kinds.specs.Laws.{IsKeep};
 ghost use Rattle.grain_kinds.specs.Planned.{keep_of};
 ghost use Rattle.idle_collector.specs.Ages.{kind_age};
+ghost use Rattle.idle_collector.specs.Notes.{forgotten};
 ghost use Rattle.silo_model.specs.Machine.{Entry, ready};
 ghost use Rattle.silo_model.specs.Idle.{kept_entries};
 ghost use Rattle.silo_state.specs.Shown.{phase_of, entry_of};
 ghost use Rattle.silo_state.specs.inside.Activations.{HasRoom, IsLoading};
 ghost use Rattle.silo_state.specs.Entries.{Closes};
-ghost use Rattle.silo_state.specs.inside.Notes.{none_waits};
+ghost use Rattle.silo_state.specs.inside.Notes.{none_waits, noted_by};
 ghost use Rattle.silo_state.specs.inside.Sweeps.{without};
 
 use crate::activations::Activations;
@@ -19,9 +20,11 @@ use crate::change;
 use activation_directory::{Activation, Phase};
 use grain_id::GrainId;
 use grain_kinds::{GrainLogic, Keep};
+use idle_collector::{AgeTable, Collector};
 use request_codec::StateBytes;
 use silo_event::{Moment, Party};
 use std::alloc::{AllocError, Global};
+use tenant_gate::Age;
 
 impl<L: GrainLogic> Activations<L> {
     /// Makes room for the note of a grain, if no request waits there: it may be idle soon.
@@ -101,8 +104,14 @@ impl<L: GrainLogic> Activations<L> {
         ensures removed { self.new.entries ≡ map.remove self.old.entries grain.now }
         ensures ages { self.new.ages ≡ self.old.ages }
     {
-        self.collector.forget(grain);
-        self.directory.remove(grain)
+        let Some(activation) = self.directory.remove(grain) else {
+            return None;
+        };
+        let Some(idle) = change::idle_since(&activation) else {
+            return Some(activation);
+        };
+        forget(&mut self.collector, grain, idle, &self.ages, self.age);
+        Some(activation)
     }
 
     /// Takes the activations of these grains out. Takes no memory.
@@ -130,4 +139,22 @@ impl<L: GrainLogic> Activations<L> {
         self.remove_all(due.as_slice());
         Ok(())
     }
+}
+
+/// Drops the note of a grain whose activation is idle: when it was last used, and until when it stays. Takes no memory.
+pub(super) fn forget(
+    collector: &mut Collector,
+    grain: &GrainId,
+    idle: (Moment, u64),
+    ages: &AgeTable,
+    age: Age,
+)
+    requires { map.get collector.old.notes grain.now ≡ noted_by (kind_age ages.now age grain.now.kind) (Some idle) }
+    ensures { collector.new ≡ record collector.old { notes = forgotten collector.old.notes grain.now } }
+{
+    if collector.forget_latest(grain) {
+        return;
+    }
+    let (last, until) = idle;
+    collector.forget_at(grain, change::due_after(grain, last, until, ages, age));
 }

@@ -14,12 +14,12 @@ use Rattle.silo_state.proofs.activations.Activations.new.Goals as goal
 
 pub invariant_of-result : goal.invariant_of-result
 invariant_of-result g c =
-    let entries = ap (λ (d : Register). entries_of d.activations) c.new.ensures ∙ mapped-empty grain_cmp_total grain_cmp_exact entry_of in (
-      subst (λ (d : Register). AllMarked g.L.GrainLogic.logic d.activations) (sym c.new.ensures) (none_marked g.L.GrainLogic.logic),
-      subst (λ (p : Entries × Collection). AreNoted (kind_age c.args.ages c.args.age) p.0 p.1.notes) (λ i. (sym entries i, sym c.new-2.ensures i)) (none_noted (kind_age c.args.ages c.args.age)),
+    let entries = ap (λ (d : Register). entries_of d.activations) c.seeded.ensures ∙ mapped-empty grain_cmp_total grain_cmp_exact entry_of in (
+      subst (λ (d : Register). AllMarked g.L.GrainLogic.logic d.activations) (sym c.seeded.ensures) (none_marked g.L.GrainLogic.logic),
+      subst (λ (p : Entries × Collection). AreNoted (kind_age c.args.ages c.args.age) p.0 p.1.notes) (λ i. (sym entries i, sym c.seeded-2.ensures i)) (none_noted (kind_age c.args.ages c.args.age)),
     )
 
 pub returns : goal.returns
 returns g c =
-    let entries = ap (λ (d : Register). entries_of d.activations) c.new.ensures ∙ mapped-empty grain_cmp_total grain_cmp_exact entry_of in
-    λ i. record { ages = record { age = c.args.age; ages = c.args.ages }; entries = entries i; expected = (c.new-2.ensures i).expected }
+    let entries = ap (λ (d : Register). entries_of d.activations) c.seeded.ensures ∙ mapped-empty grain_cmp_total grain_cmp_exact entry_of in
+    λ i. record { ages = record { age = c.args.age; ages = c.args.ages }; entries = entries i; expected = (c.seeded-2.ensures i).expected }

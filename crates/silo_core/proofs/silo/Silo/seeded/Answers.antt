@@ -9,8 +9,8 @@ use Rattle.silo_model.proofs.Opening.{opening_shown}
 use Rattle.silo_state.specs.inside.Held.{Held}
 use Rattle.silo_core.specs.inside.Shown.{rows_in, setup_of}
 use Rattle.silo_core.proofs.Opened.{listed, are_listed}
-use Rattle.silo_core.proofs.silo.Silo.new.Given as given
-use Rattle.silo_core.proofs.silo.Silo.new.Goals as goal
+use Rattle.silo_core.proofs.silo.Silo.seeded.Given as given
+use Rattle.silo_core.proofs.silo.Silo.seeded.Goals as goal
 
 module _ (g : given.Over) (c : goal.After-new-2 g) where
   abbrev rows : Rows
@@ -25,7 +25,7 @@ module _ (g : given.Over) (c : goal.After-new-2 g) where
   opens : c.in_ok-state.state.whole ≡ opening opened
   opens =
       ap (λ (h : Held). h.whole) c.in_ok-state.ensures
-      ∙ (λ i. opening (record { tenants = c.list-2.ensures.list i; age = c.args.setup.age; ages = c.in_ok-clone.ensures.cases i; rows = sym same_rows i }))
+      ∙ (λ i. opening (record { tenants = c.list-2.ensures.list i; age = c.args.setup.age; ages = c.in_ok-kinds.ensures.cases i; rows = sym same_rows i }))
 
 pub invariant_of-result : goal.invariant_of-result
 invariant_of-result g c =
