@@ -99,10 +99,10 @@ impl Collector {
             self.latest = Latest::Nobody;
             return;
         }
-        let Some(moment) = self.filed.moment_of(id) else {
+        let Some(noted_at) = self.filed.moment_of(id) else {
             return;
         };
-        self.filed.forget(id, moment);
+        self.filed.forget(id, noted_at);
     }
 
     /// Drops the note of a grain if it is the one that came last: whether it is. Takes no memory, and compares two names.

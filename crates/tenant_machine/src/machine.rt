@@ -9,7 +9,7 @@ ghost use Rattle.tenant_machine.specs.Machines.{start_with, StepAnswers};
 
 use crate::account::Account;
 use crate::entries::Entries;
-use grain_id::{GrainId, Tenant};
+use grain_id::{GrainId, HashSeed, Tenant};
 use grain_kinds::GrainLogic;
 use grain_storage::{GrainStorage, MemoryStorage, Row};
 use idle_collector::AgeTable;
@@ -103,6 +103,27 @@ impl<L: GrainLogic + Drop> TenantMachine<L> {
         requires { IfSome limits (λ l. IsTrue (are_in_range l)) }
         ensures { IfOk result (λ m. m ≡ start_with tenant limits age ages) }
     {
+        TenantMachine::seeded(alloc, tenant, limits, age, ages, logic, HashSeed::fixed())
+    }
+
+    /// The tenant's machine before any step, as `new` makes it, whose rows are found by hashes from this seed. Nothing that it
+    /// shows depends on the seed.
+    ///
+    /// # Errors
+    ///
+    /// Out of memory.
+    pub fn seeded(
+        alloc: Global,
+        tenant: Tenant,
+        limits: Option<Limits>,
+        age: Age,
+        ages: AgeTable,
+        logic: L,
+        seed: HashSeed,
+    ) -> Result<TenantMachine<L>, AllocError>
+        requires { IfSome limits (λ l. IsTrue (are_in_range l)) }
+        ensures { IfOk result (λ m. m ≡ start_with tenant limits age ages) }
+    {
         Ok(TenantMachine {
             tenant,
             account: opened(alloc, limits),
@@ -110,7 +131,7 @@ impl<L: GrainLogic + Drop> TenantMachine<L> {
             ages,
             clock: beginning(),
             entries: Entries::new(alloc),
-            storage: MemoryStorage::new(alloc),
+            storage: MemoryStorage::seeded(alloc, seed),
             replies: Vec::new(alloc),
             logic,
         })

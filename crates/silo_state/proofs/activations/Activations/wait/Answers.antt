@@ -13,7 +13,7 @@ use Rattle.silo_state.proofs.Idle.{wait_noted}
 use Rattle.silo_state.proofs.activations.Activations.wait.Goals as goal
 
 pub invariant_of-self : goal.invariant_of-self
-invariant_of-self g c = (c.enter-entered.ensures.marks, subst (λ (es : Entries). AreNoted (kind_age c.self.inside.ages c.self.inside.age) es c.self.inside.collector.notes) (sym c.in_err-enter-entered.ensures.unchanged) c.self.invariant.1)
+invariant_of-self g c = (c.enter.ensures.marks, subst (λ (es : Entries). AreNoted (kind_age c.self.inside.ages c.self.inside.age) es c.self.inside.collector.notes) (sym c.in_err-entered.ensures.unchanged) c.self.invariant.1)
 
 -- ---- it wasn't idle, and has no note
 
@@ -23,7 +23,7 @@ invariant_of-self-in_default g c =
     let age_of = kind_age inside.ages inside.age in
     let grain = c.args.grain.now in
     let none : map.get inside.collector.notes grain ≡ None = c.self.invariant.1 grain ∙ c.in_ok-entered.ensures.noted (age_of grain.kind) ∙ ap (noted_by (age_of grain.kind)) c.in_default.is in (
-      c.enter-entered.ensures.marks,
+      c.enter.ensures.marks,
       wait_noted age_of (entries_of inside.directory.activations) inside.collector.notes c.self.invariant.1 grain c.args.clock (request_of c.args.request) _ _ c.in_ok-entered.ensures.waits
           (sym (maps.remove-absent grain_cmp_total grain_cmp_exact inside.collector.notes grain none)),
     )
@@ -42,7 +42,7 @@ forget-requires g c =
 pub invariant_of-self-2 : goal.invariant_of-self-2
 invariant_of-self-2 g c =
     let inside = c.self.inside in (
-      c.enter-entered.ensures.marks,
+      c.enter.ensures.marks,
       wait_noted (kind_age inside.ages inside.age) (entries_of inside.directory.activations) inside.collector.notes c.self.invariant.1 c.args.grain.now c.args.clock (request_of c.args.request) _ _ c.in_ok-entered.ensures.waits (ap (λ (k : Collection). k.notes) c.forget.ensures),
     )
 
