@@ -19,16 +19,17 @@ use Rattle.silo_model.specs.Opening.{Setup}
 use Rattle.silo_model.specs.Journal.{LeadsTo}
 use Rattle.silo_model.specs.Pending.{sends_of}
 use Rattle.silo_model.specs.Sends.{first_target}
-use Rattle.silo_model.specs.Turns.{may_open, reads}
+use Rattle.silo_model.specs.Turns.{activated, may_open, opened_if_ready, reads}
 use Rattle.silo_model.specs.Whole.{Whole, whole_step}
 use Rattle.silo_model.specs.Run.{if_possible, done_by, whole_run}
+use Rattle.silo_model.proofs.EntrySteps.{activate_found, begin_found}
 use Rattle.silo_model.proofs.Runs.{whole_after, run_by-append, done_by-append}
 use Rattle.silo_state.specs.Entries.{front_turn, turn_in, opened_turn}
 use Rattle.silo_state.specs.Sends.{first_source}
 use Rattle.silo_core.specs.History.{History, Failures, Advances, Fails, StaysAsItWas, Answered, failed_since}
 use Rattle.answer_model.specs.Answering.{Luck, Closing, well, storage_failed, out_of_memory, whole_stepper, taken_by, raising, ending, closing, turn_of, turn_of_first, turning, serving, bringing, is_accepted, delivering, deliveries, deliveries_of, good, is_asked, called_grain}
 use Rattle.answer_model.proofs.Served.{source_own, target_is}
-use Rattle.line_answer.specs.Trying.{failed_among, Tries, is_possible, TakesNow, IsFirst, Begins, Brings, IsOldest, Delivers, AnswersAsked}
+use Rattle.line_answer.specs.Trying.{failed_among, Tries, is_possible, TakesNow, IsFirst, Begins, Opens, Brings, IsOldest, Delivers, AnswersAsked}
 
 -- ---- lists of steps that are tried
 
@@ -227,6 +228,24 @@ module _ (logic : Logic) where
     tries_step old new (Begin g) 0 refl answered,
     ap is_some answered.whole,
     first_at old.whole g turn (map.get old.whole.entries g) refl is,
+  )
+
+  module _ (w : Whole) (g : Grain) (e : Entry) (found : map.get w.entries g ≡ Some e) (begins : is_possible logic w (Begin g) ≡ true) where
+    is_up : (p : Phase) → e.phase ≡ p → is_possible logic w (Activate g) ≡ false
+    is_up waiting is = absurd (true≢false (sym begins ∙ ap is_some (begin_found logic w g e found None (ap (opened_if_ready logic g e) is))))
+    is_up loading is = ap is_some (activate_found logic w g e found None (ap (activated e) is))
+    is_up (ready state version) is = ap is_some (activate_found logic w g e found None (ap (activated e) is))
+
+    -- where a turn can begin, the grain isn't brought up
+    none_to_raise : (failed : Bool) → raising (whole_stepper logic) w g failed ≡ []
+    none_to_raise failed = ap (λ b. if b then Activate g ∷ Load g failed ∷ [] else []) (is_up e.phase refl)
+
+  -- a turn that began at once
+  pub opened_at_once : (old new : History) (g : Grain) (number : ℕ) → Begins logic old g (Some number) new → Opens logic old g (Some number) new
+  opened_at_once old new g number begins = (
+    old,
+    (false, subst (λ steps. Tries logic old steps old) (sym (none_to_raise old.whole g begins.2.entry begins.2.found begins.1 false)) (tries_none old)),
+    begins,
   )
 
   abbrev Serves : History → Grain → History → Type 0

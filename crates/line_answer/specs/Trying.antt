@@ -11,7 +11,7 @@ use Rattle.silo_model.specs.Pending.{sends_of}
 use Rattle.silo_model.specs.Whole.{Whole, whole_step}
 use Rattle.silo_model.specs.Run.{done_by, whole_run}
 use Rattle.silo_core.specs.History.{History, failed_since}
-use Rattle.answer_model.specs.Answering.{Luck, taken_by, taken, bringing, delivering, answering, whole_stepper}
+use Rattle.answer_model.specs.Answering.{Luck, taken_by, taken, raising, bringing, delivering, answering, whole_stepper}
 
 -- how many of the steps have the mark of a failure
 abbrev pub failed_among : List Step → ℕ
@@ -49,6 +49,12 @@ abbrev pub Begins : Logic → History → Grain → Option ℕ → History → T
 Begins logic old grain None new = (is_possible logic old.whole (Begin grain) ≡ false) × (new ≡ old)
 Begins logic old grain (Some number) new = Tries logic old (Begin grain ∷ []) new × (is_possible logic old.whole (Begin grain) ≡ true)
     × IsFirst old.whole grain number
+
+-- The grain was brought up, if it waited for that; and then a turn began, or none can begin.
+abbrev pub Opens : Logic → History → Grain → Option ℕ → History → Type 0
+Opens logic old grain turn new =
+    (mid : History) × ((failed : Bool) × Tries logic old (raising (whole_stepper logic) old.whole grain failed) mid)
+    × Begins logic mid grain turn new
 
 -- The step was taken and the request that it brought was served, with this luck; and whether the step was possible.
 abbrev pub Brings : Logic → History → Step → Option Grain → Bool → History → Type 0

@@ -3,7 +3,7 @@
 ghost use Rattle.std.specs.Prelude.{◌≡◌, ◌∷◌, Bool, false, IfOk, OnErr, OnOk};
 ghost use Rattle.silo_event.specs.Failed.{has_failed};
 ghost use Rattle.answer_model.specs.Answering.{Closing, Luck, closing, ending, raising, serving, whole_stepper};
-ghost use Rattle.line_answer.specs.Trying.{Begins, TakesNow, Tries};
+ghost use Rattle.line_answer.specs.Trying.{Begins, Opens, TakesNow, Tries};
 
 use grain_id::GrainId;
 use grain_kinds::GrainLogic;
@@ -86,6 +86,26 @@ fn begin<S: GrainStorage, L: GrainLogic>(
     }
 }
 
+/// The first request that waits at the grain is given its turn, if it can begin: its number. Mostly the grain is up, and
+/// the turn begins at once; if it doesn't, the grain is brought up.
+///
+/// # Errors
+///
+/// Out of memory: some of it may have been done.
+fn open<S: GrainStorage, L: GrainLogic>(
+    alloc: Global,
+    silo: &mut Silo<S, L>,
+    grain: &GrainId,
+) -> Result<Option<u64>, AllocError>
+    ensures { IfOk result (λ turn. Opens L.logic silo.old grain.now turn silo.new) }
+{
+    if let Some(turn) = begin(alloc, silo, grain)? {
+        return Ok(Some(turn));
+    }
+    raise(alloc, silo, grain)?;
+    begin(alloc, silo, grain)
+}
+
 /// An open turn ends by its plan, or else by what the storage answers.
 ///
 /// # Errors
@@ -155,8 +175,7 @@ pub fn serve<S: GrainStorage, L: GrainLogic>(
 ) -> Result<(), AllocError>
     ensures { OnOk result ((luck : Luck) × Tries L.logic silo.old (serving (whole_stepper L.logic) silo.old.whole grain luck) silo.new) }
 {
-    raise(alloc, silo, &grain)?;
-    let Some(turn) = begin(alloc, silo, &grain)? else {
+    let Some(turn) = open(alloc, silo, &grain)? else {
         drop(grain);
         return Ok(());
     };
