@@ -145,7 +145,7 @@ fn two_bytes<'a>(bump: &'a Bump) -> Result<Node<'a>, AllocError> {
 /// Whether a node is those bytes.
 fn are_two_bytes(node: Node<'_>) -> bool {
     match node {
-        Node::Bytes(bytes) => bytes == b"\0\xff",
+        Node::Bytes(bytes) => bytes == b"\0\xff".as_slice(),
         _ => false,
     }
 }
