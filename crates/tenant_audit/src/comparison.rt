@@ -14,7 +14,7 @@ use crate::difference::{Difference, first_not_done};
 use crate::parted_journal::PartedJournal;
 use crate::replies::first_reply_apart;
 use crate::rows::first_row_apart;
-use grain_id::{GrainId, Tenant};
+use grain_id::{GrainId, HashSeed, Tenant};
 use grain_kinds::GrainLogic;
 use journal_text::Journal;
 use std::alloc::{AllocError, Global};
@@ -33,9 +33,10 @@ fn limits_in(table: &[(Tenant, Limits)], tenant: &Tenant) -> Option<Limits>
     None
 }
 
-/// The tenant's machine before any step, with the journal's limits and ages.
+/// The tenant's machine before any step, with the journal's limits and ages, whose maps hash from the seed.
 fn machine_for<L: GrainLogic + Drop>(
     alloc: Global,
+    seed: HashSeed,
     journal: &Journal,
     tenant: &Tenant,
     logic: L,
@@ -44,7 +45,8 @@ fn machine_for<L: GrainLogic + Drop>(
 {
     let limits = limits_in(journal.tenants(), tenant);
     let ages = journal.ages().clone()?;
-    TenantMachine::new(alloc, tenant.clone()?, limits, journal.age(), ages, logic)
+    let age = journal.age();
+    TenantMachine::seeded(alloc, tenant.clone()?, limits, age, ages, logic, seed)
 }
 
 /// The least grain of the tenant whose recorded row isn't the machine's.
@@ -99,16 +101,17 @@ fn difference_from<L: GrainLogic>(
 }
 
 /// The first difference between what a journal recorded of the tenant and what the tenant's machine
-/// does.
+/// does, whose maps hash from the seed.
 pub fn first_difference<L: GrainLogic + Drop>(
     alloc: Global,
+    seed: HashSeed,
     journal: &PartedJournal<'_>,
     tenant: &Tenant,
     logic: L,
 ) -> Result<Option<Difference>, AllocError>
     ensures { IfOk result (λ difference. IsFirstDifference L.logic journal.now tenant.now (option_map difference_of difference)) }
 {
-    let mut machine = machine_for(alloc, journal.journal(), tenant, logic)?;
+    let mut machine = machine_for(alloc, seed, journal.journal(), tenant, logic)?;
     let found = difference_from(alloc, journal, tenant, &mut machine);
     drop(machine);
     found

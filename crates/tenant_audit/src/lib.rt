@@ -32,4 +32,4 @@ pub use report::{Report, TenantReport};
 pub use report_lines::{has_difference, report_text};
 pub use silo_journal::write_journal;
 pub use tenant_machine::TenantMachine;
-pub use threads::{AuditFault, MAX_WORKERS, audit, audit_with};
+pub use threads::{AuditFault, MAX_WORKERS, audit, audit_seeded, audit_with};

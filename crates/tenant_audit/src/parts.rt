@@ -9,16 +9,18 @@ ghost use Rattle.tenant_audit.specs.declared.report.TenantReport.{TenantReport a
 use crate::gate::AuditGate;
 use crate::parted_journal::PartedJournal;
 use crate::report::{TenantReport, report_as_named};
-use grain_id::Tenant;
+use grain_id::{HashSeed, Tenant};
 use journal_text::Journal;
 use std::alloc::{AllocError, Global};
 use std::collections::VecDeque;
 
-/// Which tenants a thread reports: those whose places, counted from 0, leave `place` by `stride`.
-#[derive(Clone, Copy, Debug)]
+/// Which tenants a thread reports: those whose places, counted from 0, leave `place` by `stride`. The maps of
+/// their machines hash from the seed.
+#[derive(Clone, Copy)]
 pub struct Share {
     pub place: usize,
     pub stride: usize,
+    pub seed: HashSeed,
 }
 
 /// Adds the report of the tenant at the index, if the share has that one.
@@ -40,7 +42,7 @@ fn keep<G: AuditGate>(
     if index % share.stride == share.place {
         let tenant = &tenants[index];
         gate.entered(tenant);
-        reports.push_back(report_as_named(alloc, journal, tenant.clone()?)?)?;
+        reports.push_back(report_as_named(alloc, share.seed, journal, tenant.clone()?)?)?;
     }
     Ok(())
 }

@@ -7,6 +7,7 @@ ghost use Rattle.tenant_audit.specs.ReportView.{tenant_report_of};
 use crate::parted_journal::PartedJournal;
 use crate::report::{Report, TenantReport, report_on};
 use crate::tenants::tenants_of;
+use grain_id::HashSeed;
 use grain_kinds::GrainLogic;
 use journal_text::Journal;
 use std::alloc::{AllocError, Global};
@@ -39,10 +40,11 @@ fn reports_under<L: GrainLogic + Copy + Drop>(
 ) -> Result<Vec<TenantReport>, AllocError>
     ensures { IfOk result (λ reports. IsReport L.logic journal.now (map tenant_report_of reports.items)) }
 {
+    let seed = HashSeed::fixed();
     let parted = PartedJournal::new(alloc, journal)?;
     let mut reports = Vec::new(alloc);
     'tenants: for tenant in tenants_of(alloc, journal)? {
-        reports.push(report_on(alloc, &parted, tenant, logic)?)?;
+        reports.push(report_on(alloc, seed, &parted, tenant, logic)?)?;
     }
     Ok(reports)
 }

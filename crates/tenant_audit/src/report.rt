@@ -8,7 +8,7 @@ ghost use Rattle.tenant_audit.specs.ReportView.{tenant_report_of};
 use crate::comparison::first_difference;
 use crate::difference::Difference;
 use crate::parted_journal::PartedJournal;
-use grain_id::Tenant;
+use grain_id::{HashSeed, Tenant};
 use grain_kinds::{GrainLogic, Kinds, RestingKinds};
 use std::alloc::{AllocError, Global};
 use std::marker::Model;
@@ -60,9 +60,11 @@ impl Report {
     }
 }
 
-/// What is reported of one tenant, under the logic that the journal names.
+/// What is reported of one tenant, under the logic that the journal names. The maps of its machine hash
+/// from the seed.
 pub fn report_as_named(
     alloc: Global,
+    seed: HashSeed,
     journal: &PartedJournal<'_>,
     tenant: Tenant,
 ) -> Result<TenantReport, AllocError>
@@ -70,15 +72,16 @@ pub fn report_as_named(
     ensures tenant { IfOk result (λ report. report.tenant ≡ tenant) }
 {
     if journal.journal().kinds() == 1 {
-        report_on(alloc, journal, tenant, Kinds)
+        report_on(alloc, seed, journal, tenant, Kinds)
     } else {
-        report_on(alloc, journal, tenant, RestingKinds)
+        report_on(alloc, seed, journal, tenant, RestingKinds)
     }
 }
 
-/// What is reported of one tenant.
+/// What is reported of one tenant. The maps of its machine hash from the seed.
 pub fn report_on<L: GrainLogic + Drop>(
     alloc: Global,
+    seed: HashSeed,
     journal: &PartedJournal<'_>,
     tenant: Tenant,
     logic: L,
@@ -86,7 +89,7 @@ pub fn report_on<L: GrainLogic + Drop>(
     ensures report { IfOk result (λ report. IsTenantReport L.logic journal.now (tenant_report_of report)) }
     ensures tenant { IfOk result (λ report. report.tenant ≡ tenant) }
 {
-    let difference = first_difference(alloc, journal, &tenant, logic)?;
+    let difference = first_difference(alloc, seed, journal, &tenant, logic)?;
     let steps = journal.steps_for(&tenant).len();
     let replies = journal.replies_for(&tenant).len();
     let rows = journal.rows_for(&tenant).len();

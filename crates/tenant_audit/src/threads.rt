@@ -11,7 +11,7 @@ use crate::gate::{AuditGate, FreeAuditGate};
 use crate::parts::{Share, merge, part};
 use crate::report::{Report, TenantReport};
 use crate::tenants::tenants_of;
-use grain_id::Tenant;
+use grain_id::{HashSeed, Tenant};
 use journal_text::Journal;
 use std::alloc::{AllocError, Global};
 use std::collections::VecDeque;
@@ -77,6 +77,7 @@ fn start_part<'s, E, G: AuditGate + Sync>(
 fn start_parts<'s, E, G: AuditGate + Sync>(
     scope: &Scope<'s, E>,
     alloc: Global,
+    seed: HashSeed,
     journal: &'s Journal,
     tenants: &'s [Tenant],
     gate: &'s G,
@@ -98,6 +99,7 @@ fn start_parts<'s, E, G: AuditGate + Sync>(
         let share = Share {
             place,
             stride: workers,
+            seed,
         };
         let work = AuditShare {
             journal,
@@ -168,6 +170,7 @@ fn run_parts<'s, E, R: Threads, G: AuditGate + Sync>(
     rt: &R,
     scope: &Scope<'s, E>,
     alloc: Global,
+    seed: HashSeed,
     journal: &'s Journal,
     tenants: &'s [Tenant],
     gate: &'s G,
@@ -177,7 +180,7 @@ fn run_parts<'s, E, R: Threads, G: AuditGate + Sync>(
     ensures len { IfOk result (λ parts. length parts.items ≡ workers) }
     ensures each { IfOk result (λ parts. AreParts journal.now tenants.now 0 parts.items) }
 {
-    let (handles, all_started) = start_parts(scope, alloc, journal, tenants, gate, workers)?;
+    let (handles, all_started) = start_parts(scope, alloc, seed, journal, tenants, gate, workers)?;
     let Ok(results) = thread::join_promised(rt, handles) else {
         return Err(AuditFault::Memory);
     };
@@ -187,15 +190,17 @@ fn run_parts<'s, E, R: Threads, G: AuditGate + Sync>(
 /// Audits a journal, under the logic that it names, by several threads: as many as there are workers, and no
 /// more than there are tenants to report. The tenant at each place of the report, counted from 0, goes to the
 /// thread of the place's rest by the number of threads. The gate is told of each tenant before its
-/// machine starts. The report is the same for every number of workers, 1 to 64.
+/// machine starts. The maps of the machines hash from the seed. The report is the same for every number of
+/// workers, 1 to 64, and for every seed.
 ///
 /// # Errors
 ///
 /// `Memory` if memory was refused, also in a thread. `NoWorker` if a thread couldn't be started, and
 /// none of those that were met want of memory: they are waited for.
-pub fn audit_with<R: Threads + Wait + Sync, G: AuditGate + Sync>(
+pub fn audit_seeded<R: Threads + Wait + Sync, G: AuditGate + Sync>(
     rt: &R,
     alloc: Global,
+    seed: HashSeed,
     journal: &Journal,
     workers: usize,
     gate: &G,
@@ -216,9 +221,27 @@ pub fn audit_with<R: Threads + Wait + Sync, G: AuditGate + Sync>(
             requires { 0 < threads }
             ensures len { IfOk result (λ parts. length parts.items ≡ threads) }
             ensures each { IfOk result (λ parts. AreParts journal.entry.now tenants.entry.now 0 parts.items) }
-        { run_parts(rt, scope, alloc, journal, tenants, gate, threads) },
+        { run_parts(rt, scope, alloc, seed, journal, tenants, gate, threads) },
     )?;
     Ok(Report::new(merge(alloc, journal, tenants, parts)?))
+}
+
+/// Audits a journal as [`audit_seeded`], from the seed that everybody knows.
+///
+/// # Errors
+///
+/// Those of [`audit_seeded`].
+pub fn audit_with<R: Threads + Wait + Sync, G: AuditGate + Sync>(
+    rt: &R,
+    alloc: Global,
+    journal: &Journal,
+    workers: usize,
+    gate: &G,
+) -> Result<Report, AuditFault>
+    requires { (1 ≤ workers) × (workers ≤ 64) }
+    ensures { IfOk result (λ report. IsReport (logic_of journal.now.kinds) journal.now report) }
+{
+    audit_seeded(rt, alloc, HashSeed::fixed(), journal, workers, gate)
 }
 
 /// Audits a journal by so many workers, 1 to 64: takes every tenant's steps again, each tenant's by a

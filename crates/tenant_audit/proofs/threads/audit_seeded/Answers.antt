@@ -4,7 +4,7 @@ use Rattle.audit_model.specs.Parts.{tenants_in}
 use Rattle.audit_model.specs.Report.{TenantReport as Told, IsReport}
 use Rattle.tenant_audit.specs.declared.report.TenantReport.{TenantReport}
 use Rattle.tenant_audit.proofs.Reports.{report_of_each}
-use Rattle.tenant_audit.proofs.threads.audit_with.Goals as goal
+use Rattle.tenant_audit.proofs.threads.audit_seeded.Goals as goal
 
 pub returns : goal.returns
 returns g c =
