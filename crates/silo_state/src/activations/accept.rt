@@ -77,7 +77,8 @@ fn enter<L: GrainLogic>(
         (request_of request) clock) }
     ensures unchanged { OnErr result (entries_of directory.new.activations ≡ entries_of directory.old.activations) }
     ensures marks { AllMarked L.logic directory.new.activations }
-    ensures noted { IfOk result (λ idle. (age : ℕ) → due_at age (map.get (entries_of directory.old.activations) grain.now) ≡ noted_by age idle) }
+    ensures noted { IfOk result (λ idle. (age : ℕ)
+        → due_at age (map.get (entries_of directory.old.activations) grain.now) ≡ noted_by age idle) }
 {
     if let Some(activation) = directory.get_mut(grain) {
         let idle = change::idle_since(activation);
