@@ -5,3 +5,4 @@ pub mod FaultLemmas
 pub mod KeptLemmas
 pub mod ServingLemmas
 pub mod AnsweringLemmas
+pub mod SeedLemmas

@@ -78,6 +78,11 @@ HaveArguments words given arguments =
     ⊎ (((workers : ℕ) × (age : ℕ) × (journal : Option Text) × AskForServing words workers age given journal arguments)
     ⊎ ((age : ℕ) × (sends : ℕ) × (journal : Option Text) × AskForAnswering words age given sends journal arguments))
 
+-- The words ask for work that takes maps: to take steps, to serve, to answer at once, or to audit.
+abbrev pub AskForWork : List Text → Type 0
+AskForWork words = ((given : Option Text) × (arguments : List Text) × HaveArguments words given arguments)
+    ⊎ ((path : Text) × AskForAudit words path)
+
 -- The arguments name tenants, but the text of ages names no table.
 pub record NameNoAges (given : Option Text) (arguments : List Text) : Type 0 where
   pub tenants : Table
@@ -119,9 +124,10 @@ pub record StopsText (words : List Text) (from left before after : Option (List 
   pub kept : Keeps from left
   pub part : BreaksOff before after writing text
 
--- Before a task is done memory may be refused, or writing a text may fail.
+-- Before a task is done memory may be refused, or writing a text may fail, or the source of random bytes, from which the task's maps have
+-- their seed.
 abbrev pub FailsEarly : List Text → Cause → Option (List ℕ) → Option (List ℕ) → Option (List ℕ) → Option (List ℕ) → WriterCalls → Type 0
-FailsEarly words cause.Read from left before after writing = ⊥
+FailsEarly words cause.Read from left before after writing = AskForWork words × Keeps from left × Keeps before after
 FailsEarly words cause.Write from left before after writing = StopsText words from left before after writing
 FailsEarly words cause.Memory from left before after writing = Keeps from left × Keeps before after
 FailsEarly words cause.TooMuch from left before after writing = ⊥

@@ -14,6 +14,7 @@ ghost use Rattle.silo_program.specs.Answering.{AnsweringFailsBy, AnswersLanes, E
 use crate::failure::{Cause, cause_of};
 use crate::files::WholeFiles;
 use crate::journals::keep_journal;
+use grain_id::HashSeed;
 use grain_kinds::RestingKinds;
 use grain_storage::MemoryStorage;
 use idle_collector::AgeTable;
@@ -25,9 +26,10 @@ use std::io::{Read, Write};
 use std::mem;
 use tenant_gate::{Age, TenantTable};
 
-/// A silo of the kinds `counter`, `sheet` and `relay`, whose grains rest and stay, over no rows.
+/// A silo of the kinds `counter`, `sheet` and `relay`, whose grains rest and stay, over no rows. Its maps are of the seed.
 fn new_silo(
     alloc: Global,
+    seed: HashSeed,
     tenants: TenantTable,
     age: Age,
     ages: AgeTable,
@@ -37,15 +39,16 @@ fn new_silo(
     ensures failures { IfOk result (λ s. s.history.failures ≡ record { at_opening = 0; now = 0 }) }
     ensures ready { IfOk result (λ s. s.stopped ≡ false) }
 {
-    AnsweringSilo::new(
+    AnsweringSilo::seeded(
         alloc,
         Setup {
             tenants,
             age,
             ages,
-            storage: MemoryStorage::new(alloc),
+            storage: MemoryStorage::seeded(alloc, seed),
             logic: RestingKinds,
         },
+        seed,
     )
 }
 
@@ -119,6 +122,7 @@ fn keep_after<F: WholeFiles>(
 /// any time, and then the whole journal may not be written.
 pub fn answer_input<F: WholeFiles, R: Read, W: Write>(
     alloc: Global,
+    seed: HashSeed,
     tenants: TenantTable,
     age: Age,
     ages: AgeTable,
@@ -143,7 +147,7 @@ pub fn answer_input<F: WholeFiles, R: Read, W: Write>(
         (claims F.may_hold F.may_fail F.may_leave files.old files.new) (option_map (λ path. path.now) journal.entry)
         (R.remaining input.old.reader) }
 {
-    let Ok(mut silo) = new_silo(alloc, tenants, age, ages) else {
+    let Ok(mut silo) = new_silo(alloc, seed, tenants, age, ages) else {
         return Err(Cause::Memory);
     };
     let first = keep_journal(alloc, files, journal, silo.silo());

@@ -11,13 +11,14 @@ ghost use Rattle.silo_program.specs.Auditing.{IsWritingCause, MayHoldJournal, fi
 
 use crate::failure::{Cause, End, ProgramFault, say};
 use crate::files::{FileFault, WholeFiles};
+use grain_id::HashSeed;
 use journal_text::{Journal, JournalFault, read_journal};
 use line_protocol::Output;
 use std::alloc::Global;
 use std::io::Write;
 use std::sync::Wait;
 use std::thread::Threads;
-use tenant_audit::{AuditFault, AuditGate, Report, audit_with, has_difference, report_text};
+use tenant_audit::{AuditFault, AuditGate, Report, audit_seeded, has_difference, report_text};
 
 /// How many threads audit a journal.
 const AUDIT_WORKERS: usize = 4;
@@ -68,16 +69,18 @@ fn journal_at<F: WholeFiles>(alloc: Global, files: &F, path: &str) -> Result<Jou
     }
 }
 
-/// What the audit reports of each tenant of the journal, under the logic that the journal names.
+/// What the audit reports of each tenant of the journal, under the logic that the journal names. The machines' maps are of
+/// the seed.
 fn reports_on<H: AllocGlobal + Threads + Wait + Sync, A: AuditGate + Sync>(
     rt: &H,
+    seed: HashSeed,
     journal: &Journal,
     gate: &A,
 ) -> Result<Report, Cause>
     ensures reports { IfOk result (λ reports. IsReport (logic_of journal.now.kinds) journal.now reports) }
     ensures fault { IfErr result (λ cause. IsAuditCause cause) }
 {
-    match audit_with(rt, rt.alloc(), journal, AUDIT_WORKERS, gate) {
+    match audit_seeded(rt, rt.alloc(), seed, journal, AUDIT_WORKERS, gate) {
         Ok(reports) => Ok(reports),
         Err(AuditFault::Memory) => Err(Cause::Memory),
         Err(AuditFault::NoWorker) => Err(Cause::NoWorker),
@@ -130,7 +133,14 @@ pub fn audit_file<
     F: WholeFiles,
     W: Write,
     A: AuditGate + Sync,
->(rt: &H, path: &str, files: &F, output: &mut Output<W>, gate: &A) -> Result<End, ProgramFault>
+>(
+    rt: &H,
+    seed: HashSeed,
+    path: &str,
+    files: &F,
+    output: &mut Output<W>,
+    gate: &A,
+) -> Result<End, ProgramFault>
     ensures audited { IfOk result (λ how. AuditsFile (F.may_hold files.now path.now) how
         (W.contents output.old.writer) (W.contents output.new.writer)) }
     ensures unfailed { OnOk result (output.new.calls.failed ≡ output.old.calls.failed) }
@@ -139,7 +149,7 @@ pub fn audit_file<
 {
     let alloc = rt.alloc();
     let journal = journal_at(alloc, files, path)?;
-    let reports = match reports_on(rt, &journal, gate) {
+    let reports = match reports_on(rt, seed, &journal, gate) {
         Ok(reports) => reports,
         Err(cause) => return Err(ProgramFault::Failed(cause)),
     };

@@ -3,8 +3,8 @@
 //! A layer above may rely on this: `run_program` does what the words ask for, and says by its answer what the exit status
 //! is, and by its contract what was read, written and told. The crate `silo_words` reads the words, the tenant arguments
 //! among them. Here `stepping` takes the steps of an input, `answering` answers its lines at once, `serving` serves them by
-//! threads, `first_journal` and `journals` keep the journal in a file, `auditing` audits one, `migrating` migrates one, and
-//! `files` is what the program knows of files.
+//! threads, `first_journal` and `journals` keep the journal in a file, `auditing` audits one, `migrating` migrates one,
+//! `files` is what the program knows of files, and `seeding` gives the maps of a task their seed.
 //! How the program ends stands in `specs/Ends.antt`.
 #![tactic(auto)]
 
@@ -18,6 +18,7 @@ mod host_files;
 mod journals;
 mod migrating;
 mod program;
+mod seeding;
 mod serving;
 mod stepping;
 

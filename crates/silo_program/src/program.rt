@@ -19,13 +19,16 @@ use crate::auditing::audit_file;
 use crate::failure::{Cause, End, ProgramFault, cause_of, say, status_of_end, tell};
 use crate::files::WholeFiles;
 use crate::migrating::migrate_file;
+use crate::seeding::seed_for;
 use crate::serving::serve_lines;
 use crate::stepping::answer_steps;
+use grain_id::HashSeed;
 use idle_collector::AgeTable;
 use line_protocol::{Input, Output};
 use silo_words::{AgesFault, Task, TenantsFault, WordsFault, read_ages, read_tenants, read_words};
 use std::alloc::Global;
 use std::io::{Read, Write};
+use std::random::RandomSource;
 use std::sync::Wait;
 use std::thread::Threads;
 use tenant_audit::{AuditGate, FreeAuditGate};
@@ -122,6 +125,7 @@ fn read_named(alloc: Global, arguments: &[&str], ages: Option<&str>) -> Result<N
 /// Takes the steps of the input for the tenants of the arguments.
 fn take_steps<R: Read, W: Write>(
     alloc: Global,
+    seed: HashSeed,
     age: Age,
     ages: Option<&str>,
     arguments: &[&str],
@@ -142,7 +146,7 @@ fn take_steps<R: Read, W: Write>(
         (W.contents output.old.writer) (W.contents output.new.writer) output.new.calls) }
 {
     let named = read_named(alloc, arguments, ages)?;
-    match answer_steps(alloc, named.tenants, age, named.ages, input, output) {
+    match answer_steps(alloc, seed, named.tenants, age, named.ages, input, output) {
         Ok(()) => Ok(End::Well),
         Err(why) => Err(ProgramFault::Failed(cause_of(why))),
     }
@@ -151,6 +155,7 @@ fn take_steps<R: Read, W: Write>(
 /// Answers the lines of the input at once, for the tenants of the arguments.
 fn answer_tenants<F: WholeFiles, R: Read, W: Write>(
     alloc: Global,
+    seed: HashSeed,
     age: Age,
     ages: Option<&str>,
     sends: u64,
@@ -179,6 +184,7 @@ fn answer_tenants<F: WholeFiles, R: Read, W: Write>(
     let named = read_named(alloc, arguments, ages)?;
     match answer_input(
         alloc,
+        seed,
         named.tenants,
         age,
         named.ages,
@@ -202,6 +208,7 @@ fn serve_tenants<
     G: TurnGate + Sync,
 >(
     rt: &H,
+    seed: HashSeed,
     workers: usize,
     age: Age,
     ages: Option<&str>,
@@ -232,6 +239,7 @@ fn serve_tenants<
     let named = read_named(rt.alloc(), arguments, ages)?;
     match serve_lines(
         rt,
+        seed,
         workers,
         named.tenants,
         age,
@@ -255,7 +263,7 @@ fn serve_tenants<
 ///
 /// As `run_program` tells them.
 pub fn answer<
-    H: AllocGlobal + Threads + Wait + Sync,
+    H: AllocGlobal + RandomSource + Threads + Wait + Sync,
     F: WholeFiles,
     R: Read,
     W: Write,
@@ -285,9 +293,16 @@ pub fn answer<
         Ok(task) => task,
         Err(fault) => return explain_words(fault, output),
     };
+    let seed = match seed_for(rt, &task) {
+        Ok(seed) => seed,
+        Err(why) => {
+            drop(task);
+            return Err(ProgramFault::Failed(why));
+        }
+    };
     match &task {
         Task::Steps { age, ages, tenants } => {
-            take_steps(alloc, *age, *ages, tenants.as_slice(), input, output)
+            take_steps(alloc, seed, *age, *ages, tenants.as_slice(), input, output)
         }
         Task::Answer {
             age,
@@ -297,6 +312,7 @@ pub fn answer<
             tenants,
         } => answer_tenants(
             alloc,
+            seed,
             *age,
             *ages,
             *sends,
@@ -314,6 +330,7 @@ pub fn answer<
             tenants,
         } => serve_tenants(
             rt,
+            seed,
             *workers,
             *age,
             *ages,
@@ -324,15 +341,15 @@ pub fn answer<
             output,
             turns,
         ),
-        Task::Audit { path } => audit_file(rt, path, &*files, output, audits),
+        Task::Audit { path } => audit_file(rt, seed, path, &*files, output, audits),
         Task::Migrate { path } => migrate_file(alloc, path, &*files, output),
     }
 }
 
 /// The whole program: its answer is the exit status. The words begin with the program's name, and nothing of the input
-/// is read ahead.
+/// is read ahead. What is promised is so whatever random bytes the system gives.
 pub fn run_program<
-    H: AllocGlobal + Threads + Wait + Sync,
+    H: AllocGlobal + RandomSource + Threads + Wait + Sync,
     F: WholeFiles,
     R: Read,
     W: Write,

@@ -12,6 +12,7 @@ use crate::failure::{Cause, cause_of};
 use crate::files::WholeFiles;
 use crate::first_journal::keep_first;
 use crate::journals::keep_journal;
+use grain_id::HashSeed;
 use grain_kinds::RestingKinds;
 use idle_collector::AgeTable;
 use line_protocol::{Input, Output};
@@ -34,9 +35,10 @@ fn cause_of_service(fault: ServiceFault) -> Cause
     }
 }
 
-/// Reads all lines of the input, and serves them over no rows.
+/// Reads all lines of the input, and serves them over no rows, by maps of the seed.
 fn serve_reader<H: AllocGlobal + Threads + Wait + Sync, R: Read, G: TurnGate + Sync>(
     rt: &H,
+    seed: HashSeed,
     workers: usize,
     tenants: TenantTable,
     age: Age,
@@ -52,7 +54,17 @@ fn serve_reader<H: AllocGlobal + Threads + Wait + Sync, R: Read, G: TurnGate + S
     ensures no_rows { IfOk result (λ served. entries served.report.silo.setup.rows ≡ []) }
     ensures fault { IfErr result (λ why. StopsServing why (R.remaining input.old.reader) input.new.lines.calls) }
 {
-    serve_input(rt, workers, tenants, age, ages, RestingKinds, input, gate)
+    serve_input(
+        rt,
+        workers,
+        tenants,
+        age,
+        ages,
+        seed,
+        RestingKinds,
+        input,
+        gate,
+    )
 }
 
 /// Writes the journal of no step to the file at the path, if one is given; reads all lines of the input and serves them by
@@ -73,6 +85,7 @@ pub fn serve_lines<
     G: TurnGate + Sync,
 >(
     rt: &H,
+    seed: HashSeed,
     workers: usize,
     tenants: TenantTable,
     age: Age,
@@ -106,7 +119,7 @@ pub fn serve_lines<
         drop(ages);
         return Err(why);
     }
-    let served = match serve_reader(rt, workers, tenants, age, ages, input, gate) {
+    let served = match serve_reader(rt, seed, workers, tenants, age, ages, input, gate) {
         Ok(served) => served,
         Err(fault) => return Err(cause_of_service(fault)),
     };

@@ -6,6 +6,7 @@ ghost use Rattle.line_protocol.specs.Reading.{IsFresh};
 ghost use Rattle.line_service.specs.Serving.{setup_of};
 ghost use Rattle.silo_program.specs.Steps.{AnswersFrom, StopsFrom};
 
+use grain_id::HashSeed;
 use grain_kinds::RestingKinds;
 use grain_storage::MemoryStorage;
 use idle_collector::AgeTable;
@@ -16,9 +17,10 @@ use std::io::{Read, Write};
 use std::mem;
 use tenant_gate::{Age, TenantTable};
 
-/// A silo of the kinds `counter`, `sheet` and `relay`, whose grains rest and stay, over no rows.
+/// A silo of the kinds `counter`, `sheet` and `relay`, whose grains rest and stay, over no rows. Its maps are of the seed.
 fn new_silo(
     alloc: Global,
+    seed: HashSeed,
     tenants: TenantTable,
     age: Age,
     ages: AgeTable,
@@ -26,21 +28,23 @@ fn new_silo(
     ensures setup { IfOk result (λ s. s.setup ≡ setup_of tenants age ages) }
     ensures opening { IfOk result (λ s. s.whole ≡ opening (setup_of tenants age ages)) }
 {
-    Silo::new(
+    Silo::seeded(
         alloc,
         Setup {
             tenants,
             age,
             ages,
-            storage: MemoryStorage::new(alloc),
+            storage: MemoryStorage::seeded(alloc, seed),
             logic: RestingKinds,
         },
+        seed,
     )
 }
 
 /// Takes every step of the input, and writes what it answers.
 fn answer_lines<R: Read, W: Write>(
     alloc: Global,
+    seed: HashSeed,
     tenants: TenantTable,
     age: Age,
     ages: AgeTable,
@@ -56,7 +60,7 @@ fn answer_lines<R: Read, W: Write>(
         (R.remaining input.old.reader) (R.remaining input.new.reader) input.new.lines
         (W.contents output.old.writer) (W.contents output.new.writer) output.new.calls) }
 {
-    let Ok(mut silo) = new_silo(alloc, tenants, age, ages) else {
+    let Ok(mut silo) = new_silo(alloc, seed, tenants, age, ages) else {
         return Err(LineFault::Memory);
     };
     let done = run_lines(alloc, input, output, &mut silo);
@@ -74,6 +78,7 @@ fn answer_lines<R: Read, W: Write>(
 /// Takes every step of the input. What was written goes out, also what was written before a fault.
 pub fn answer_steps<R: Read, W: Write>(
     alloc: Global,
+    seed: HashSeed,
     tenants: TenantTable,
     age: Age,
     ages: AgeTable,
@@ -89,7 +94,7 @@ pub fn answer_steps<R: Read, W: Write>(
         (R.remaining input.old.reader) (R.remaining input.new.reader) input.new.lines
         (W.contents output.old.writer) (W.contents output.new.writer) output.new.calls) }
 {
-    match answer_lines(alloc, tenants, age, ages, input, output) {
+    match answer_lines(alloc, seed, tenants, age, ages, input, output) {
         Ok(()) => output.flush(),
         Err(why) => {
             let _ = output.writer.flush();
