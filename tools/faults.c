@@ -1,7 +1,7 @@
 // A library to load before a program's own (LD_PRELOAD): it counts the program's calls of the system by kind, makes one of
 // them fail, and makes reads and writes short or interrupted.
 //
-// FAULT_CALL=K    the kind: read, write, open, close, sync, rename or thread
+// FAULT_CALL=K    the kind: read, write, open, close, sync, rename, thread or random
 // FAULT_AT=N      the N-th call of that kind fails, counted from 1; with none or 0 none does
 // FAULT_MARK=F    the file F is made when a call fails
 // SHORT_READ=B    a read gets B bytes at most; SHORT_WRITE=B likewise
@@ -105,4 +105,9 @@ int pthread_create(pthread_t *thread, const pthread_attr_t *how, void *(*run)(vo
     int (*create)(pthread_t *, const pthread_attr_t *, void *(*)(void *), void *) = dlsym(RTLD_NEXT, "pthread_create");
     if (fails("thread", EAGAIN)) return EAGAIN;
     return create(thread, how, run, given);
+}
+
+int getentropy(void *to, size_t count) {
+    if (fails("random", EIO)) return -1;
+    return syscall(SYS_getrandom, to, count, 0) == (long)count ? 0 : -1;
 }
