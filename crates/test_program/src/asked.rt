@@ -1,7 +1,7 @@
 //! The lanes that the lines of an input ask for.
 
 use client_lanes::Lane;
-use grain_id::{Caller, GrainId};
+use grain_id::{Caller, GrainId, HashSeed};
 use line_parser::{Line, LineRefusal};
 use line_service::{LanesAndRefusals, asked_by};
 use silo_event::{Moment, Step};
@@ -86,7 +86,7 @@ fn are_lanes_of_mixed(alloc: Global, asked: &LanesAndRefusals) -> Result<bool, F
 
 /// Whether the mixed lines ask for their lanes.
 fn mixed_lines_ask(alloc: Global) -> Result<bool, Fail> {
-    let asked = asked_by(alloc, mixed(alloc)?)?;
+    let asked = asked_by(alloc, HashSeed::fixed(), mixed(alloc)?)?;
     let found = are_lanes_of_mixed(alloc, &asked);
     drop(asked);
     found
@@ -125,7 +125,7 @@ fn are_refused(asked: &LanesAndRefusals) -> bool {
 #[test]
 fn what_no_lane_gives_is_refused_in_order(rt: HostRuntime) -> Result<(), Fail> {
     let alloc = rt.alloc();
-    let asked = asked_by(alloc, refused(alloc)?)?;
+    let asked = asked_by(alloc, HashSeed::fixed(), refused(alloc)?)?;
     assert!(rt; are_refused(&asked));
     Ok(())
 }

@@ -3,6 +3,7 @@
 use crate::journals::{file_of, words_of};
 use grain_id::{GrainId, Tenant};
 use silo_program::{Input, Output, answer};
+use std::random::RandomSource;
 use std::sync::Wait;
 use std::sync::atomic::{AtomicBool, AtomicU64, Ordering};
 use std::test::Fail;
@@ -82,7 +83,7 @@ const QUIET: &str =
     "silo-journal 1\nage 1\ntenant a 1 1\ntenant b 1 1\ntenant c 1 1\ntenant d 1 1\ntenant e 1 1\nclose 0\n";
 
 /// Whether the program does what the words ask for, and so many turns or tenants are at the gate at once.
-fn meet<H: AllocGlobal + Threads + Wait + Sync>(
+fn meet<H: AllocGlobal + RandomSource + Threads + Wait + Sync>(
     rt: &H,
     texts: &[&str],
     meeting: &Meeting,
@@ -108,7 +109,7 @@ fn meet<H: AllocGlobal + Threads + Wait + Sync>(
 }
 
 /// Whether so many turns are open at once if so many workers are asked for.
-fn turns_meet<H: AllocGlobal + Threads + Wait + Sync>(
+fn turns_meet<H: AllocGlobal + RandomSource + Threads + Wait + Sync>(
     rt: &H,
     workers: &str,
     wanted: u64,
@@ -123,7 +124,7 @@ fn turns_meet<H: AllocGlobal + Threads + Wait + Sync>(
 }
 
 /// Whether so many tenants are audited at once.
-fn tenants_meet<H: AllocGlobal + Threads + Wait + Sync>(
+fn tenants_meet<H: AllocGlobal + RandomSource + Threads + Wait + Sync>(
     rt: &H,
     wanted: u64,
     polls: u32,

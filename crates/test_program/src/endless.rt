@@ -3,6 +3,7 @@
 use crate::journals::words_of;
 use silo_program::{FileFault, Input, Output, WholeFiles, run_program};
 use std::alloc::Global;
+use std::random::RandomSource;
 use std::sync::Wait;
 use std::test::Fail;
 use std::thread::Threads;
@@ -22,7 +23,7 @@ impl WholeFiles for EndlessFile {
 }
 
 /// Whether the command ends with status 1, and tells of too much input and writes nothing.
-fn is_too_much<H: AllocGlobal + Threads + Wait + Sync>(
+fn is_too_much<H: AllocGlobal + RandomSource + Threads + Wait + Sync>(
     rt: &H,
     command: &str,
 ) -> Result<bool, Fail> {

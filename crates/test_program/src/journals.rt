@@ -2,6 +2,7 @@
 
 use silo_program::{Input, MemoryFile, Output, run_program};
 use std::alloc::Global;
+use std::random::RandomSource;
 use std::sync::Wait;
 use std::test::Fail;
 use std::thread::Threads;
@@ -378,7 +379,7 @@ pub fn file_of(alloc: Global, text: &str) -> Result<MemoryFile, Fail> {
 }
 
 /// Runs the program on these words, this input and this file at `j`.
-fn left_by<H: AllocGlobal + Threads + Wait + Sync>(
+fn left_by<H: AllocGlobal + RandomSource + Threads + Wait + Sync>(
     rt: &H,
     texts: &[&str],
     input: &str,
@@ -400,7 +401,10 @@ fn left_by<H: AllocGlobal + Threads + Wait + Sync>(
 }
 
 /// Whether the run leaves what it should.
-fn leaves<H: AllocGlobal + Threads + Wait + Sync>(rt: &H, run: &Run) -> Result<bool, Fail> {
+fn leaves<H: AllocGlobal + RandomSource + Threads + Wait + Sync>(
+    rt: &H,
+    run: &Run,
+) -> Result<bool, Fail> {
     let (words, input, before, status, after, told, failed) = *run;
     let left = left_by(rt, words, input, before)?;
     let same = left.status == status
