@@ -1,7 +1,13 @@
 -- The journal of a file, migrated and written.
-use Rattle.std.proofs.Common.{◌≡◌, ℕ, List, Option, Result, Ok, Err, IfErr, IfOk, sym, subst}
-use Rattle.std.specs.Io.KnownBytes.{Appends}
+use Rattle.std.proofs.Common.{◌≡◌, ℕ, List, Option, Result, Ok, Err, IfErr, IfOk, inl, inr, sym, subst}
+use Rattle.std.specs.Io.KnownBytes.{Appends, Keeps}
+use Rattle.std.proofs.lemmas.Result.{IfErr-weaker}
+use Rattle.clap.specs.Words.{Text}
+use Rattle.line_protocol.specs.Reading.{Reading}
 use Rattle.line_protocol.specs.declared.written.WriterCalls.{WriterCalls}
+use Rattle.silo_words.specs.Words.{AskForMigration}
+use Rattle.silo_program.specs.Ends.{IsFaultOf}
+use Rattle.silo_program.specs.Files.{FileClaims}
 use Rattle.silo_program.specs.Migrating.{IsMigrationFault, MayMigrateTo, MigratesFile}
 use Rattle.silo_program.specs.Streams.{BreaksOff}
 use Rattle.silo_program.specs.declared.failure.Cause.TheVariants as cause
@@ -23,3 +29,16 @@ module _ (may_hold : List ℕ → Type 0) (text : List ℕ) (migrated : MayMigra
   breaks_off may_fail writing (Err why) is =
       subst (λ (w : ProgramFault). IsMigrationFault may_hold may_fail w before after writing) (sym is.0)
       (record { text = text; migrated = migrated; part = subst (λ (t : List ℕ). BreaksOff before after writing t) same is.1 })
+
+-- ---- it isn't migrated
+
+module _ (words : List Text) (files : FileClaims) (path : Text) (asked : AskForMigration words path) (same : files.same) (from left : Option (List ℕ)) (reading : Reading) (before after : Option (List ℕ)) (writing : WriterCalls) (kept : Keeps from left) where
+  migration_fault : (why : ProgramFault) → IsMigrationFault (files.may_hold path) (files.may_fail path) why before after writing → IsFaultOf words files why from left reading before after writing
+  migration_fault (fault.Failed why) is = inl (inr (record { path = path; asked = asked; kept = kept; unwritten = same; failed = is }))
+  migration_fault (fault.Refused text) is = absurd is
+  migration_fault (fault.NoJournal text) is = record { path = path; asked = inr asked; kept = kept; unwritten = same; refused = is }
+
+  pub migration_faults : {T : Type 0} (result : Result T ProgramFault) → IfErr result (λ why. IsMigrationFault (files.may_hold path) (files.may_fail path) why before after writing)
+      → IfErr result (λ why. IsFaultOf words files why from left reading before after writing)
+  migration_faults result is =
+      IfErr-weaker result (λ why. IsMigrationFault (files.may_hold path) (files.may_fail path) why before after writing) (λ why. IsFaultOf words files why from left reading before after writing) migration_fault is

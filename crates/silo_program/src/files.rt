@@ -69,6 +69,7 @@ impl WholeFiles for MemoryFile {
     fn read_whole(&self, alloc: Global, path: &str) -> Result<Vec<u8>, FileFault>
         ensures read { IfOk result (λ bytes. (path.now ≡ string_bytes self.now.path) × (bytes.items ≡ self.now.bytes.items)) }
         ensures failed { IsErrOf result FileFault.Failed ↔ (path.now ≢ string_bytes self.now.path) }
+        ensures fault { IfErr result (λ why. why ≢ FileFault.Memory → path.now ≢ string_bytes self.now.path) }
     {
         if path != self.path.as_str() {
             return Err(FileFault::Failed);
@@ -82,6 +83,7 @@ impl WholeFiles for MemoryFile {
         ensures left { (self.new ≡ self.old)
             ⊎ ((path.now ≡ string_bytes self.old.path) × (self.new.path ≡ self.old.path) × (bytes.now ≡ self.new.bytes.items)) }
         ensures refused { OnErr result (self.new ≡ self.old) }
+        ensures fault { IfErr result (λ why. why ≢ FileFault.Memory → path.now ≢ string_bytes self.old.path) }
     {
         if path != self.path.as_str() {
             return Err(FileFault::Failed);

@@ -1,5 +1,7 @@
-use Rattle.std.proofs.Common.{map}
+use Rattle.std.proofs.Common.{ℕ, List, Option, map}
+use Rattle.std.specs.Prelude.{option_map}
 use Rattle.silo_program.specs.Files.{claims}
+use Rattle.silo_program.specs.Kept.{WritesFirst}
 use Rattle.silo_program.specs.Serving.{Outcome}
 use Rattle.line_service.specs.Serving.{setup_of}
 use Rattle.silo_program.proofs.KeptLemmas.{both_kept, has_first, kept_unless, may_fail_again}
@@ -32,10 +34,12 @@ returns-in-Err-kept-clause-fault g c =
     let files = claims g.F.WholeFiles.may_hold g.F.WholeFiles.may_fail g.F.WholeFiles.may_leave c.args.files.now c.keep_journal-kept.new.files in
     let outcome : Outcome = record { refusals = c.in-Ok.served.refusals.items; silo = c.in-Ok.served.report.silo; answers = map (λ v. v.items) c.in-Ok.served.report.answers.items } in
     let setup = setup_of c.args.tenants c.args.age c.args.ages in
-    let first = kept_unless _ c.keep_first-first.result c.in_default.not-Err c.keep_first-first.ensures.kept in
+    let started = claims g.F.WholeFiles.may_hold g.F.WholeFiles.may_fail g.F.WholeFiles.may_leave c.args.files.now c.keep_first-first.new.files in
+    let path : Option (List ℕ) = option_map (λ text. text.now) c.args.journal in
+    let first = kept_unless (WritesFirst setup started path) c.keep_first-first.result c.in_default.not-Err c.keep_first-first.ensures.kept in
     not_kept _ files _ _ _ _ (g.W.Write.contents c.args.output.now.writer) (g.W.Write.contents c.args.output.now.writer) _ outcome c.in-Ok.ensures.served
     (g.F.WholeFiles.may_fail c.keep_first-first.new.files) c.in-Err-kept.why c.in-Err-kept.ensures.fault
-    (may_fail_again g.F.WholeFiles.may_hold g.F.WholeFiles.may_fail g.F.WholeFiles.may_leave setup c.args.files.now c.keep_first-first.new.files c.keep_journal-kept.new.files _ (has_first setup _ _ first))
+    (may_fail_again g.F.WholeFiles.may_hold g.F.WholeFiles.may_fail g.F.WholeFiles.may_leave setup c.args.files.now c.keep_first-first.new.files c.keep_journal-kept.new.files _ (has_first setup started path first))
 
 pub returns-in-Err-kept-clause-journal : goal.returns-in-Err-kept-clause-journal
 returns-in-Err-kept-clause-journal g c =
@@ -46,11 +50,13 @@ returns-in-Err-kept-clause-journal g c =
 pub returns-in-Ok-written-clause-served : goal.returns-in-Ok-written-clause-served
 returns-in-Ok-written-clause-served g c =
     let setup = setup_of c.args.tenants c.args.age c.args.ages in
-    let first = kept_unless _ c.keep_first-first.result c.in_default.not-Err c.keep_first-first.ensures.kept in
+    let started = claims g.F.WholeFiles.may_hold g.F.WholeFiles.may_fail g.F.WholeFiles.may_leave c.args.files.now c.keep_first-first.new.files in
+    let path : Option (List ℕ) = option_map (λ text. text.now) c.args.journal in
+    let first = kept_unless (WritesFirst setup started path) c.keep_first-first.result c.in_default.not-Err c.keep_first-first.ensures.kept in
     record {
       outcome = record { refusals = c.in-Ok.served.refusals.items; silo = c.in-Ok.served.report.silo; answers = map (λ v. v.items) c.in-Ok.served.report.answers.items };
       served = c.in-Ok.ensures.served;
-      kept = both_kept g.F.WholeFiles.may_hold g.F.WholeFiles.may_fail g.F.WholeFiles.may_leave setup c.args.files.now c.keep_first-first.new.files c.keep_journal-kept.new.files _ _ (has_first setup _ _ first) c.in-Ok-kept.ensures.kept;
+      kept = both_kept g.F.WholeFiles.may_hold g.F.WholeFiles.may_fail g.F.WholeFiles.may_leave setup c.args.files.now c.keep_first-first.new.files c.keep_journal-kept.new.files _ _ (has_first setup started path first) c.in-Ok-kept.ensures.kept;
       written = c.in-Ok-written.ensures.written;
     }
 
@@ -65,9 +71,11 @@ returns-in-Err-written-clause-fault g c =
     let files = claims g.F.WholeFiles.may_hold g.F.WholeFiles.may_fail g.F.WholeFiles.may_leave c.args.files.now c.keep_journal-kept.new.files in
     let outcome : Outcome = record { refusals = c.in-Ok.served.refusals.items; silo = c.in-Ok.served.report.silo; answers = map (λ v. v.items) c.in-Ok.served.report.answers.items } in
     let setup = setup_of c.args.tenants c.args.age c.args.ages in
-    let first = kept_unless _ c.keep_first-first.result c.in_default.not-Err c.keep_first-first.ensures.kept in
+    let started = claims g.F.WholeFiles.may_hold g.F.WholeFiles.may_fail g.F.WholeFiles.may_leave c.args.files.now c.keep_first-first.new.files in
+    let path : Option (List ℕ) = option_map (λ text. text.now) c.args.journal in
+    let first = kept_unless (WritesFirst setup started path) c.keep_first-first.result c.in_default.not-Err c.keep_first-first.ensures.kept in
     not_written _ files _ _ _ _ _ _ _ outcome c.in-Ok.ensures.served c.in-Err-written.why c.cause_of.result c.cause_of.ensures
-    (both_kept g.F.WholeFiles.may_hold g.F.WholeFiles.may_fail g.F.WholeFiles.may_leave setup c.args.files.now c.keep_first-first.new.files c.keep_journal-kept.new.files _ _ (has_first setup _ _ first) c.in-Ok-kept.ensures.kept)
+    (both_kept g.F.WholeFiles.may_hold g.F.WholeFiles.may_fail g.F.WholeFiles.may_leave setup c.args.files.now c.keep_first-first.new.files c.keep_journal-kept.new.files _ _ (has_first setup started path first) c.in-Ok-kept.ensures.kept)
     c.in-Err-written.ensures.stopped c.in-Err-written.ensures.cause
 
 pub returns-in-Err-written-clause-journal : goal.returns-in-Err-written-clause-journal
