@@ -161,6 +161,7 @@ impl<S: GrainStorage, L: GrainLogic> WorkingSilo<S, L> {
         ensures refused { may_ask_in self.old.whole (asker_of step) ≡ false → result ≡ Ok answer.NotNow }
         ensures unchanged { may_ask_in self.old.whole (asker_of step) ≡ false → self.new ≡ self.old }
     {
+        self.look_at_replies();
         if !self.may_take(&step) {
             drop(step);
             return Ok(Answer::NotNow);
