@@ -1,3 +1,4 @@
 -- What only the contracts of this crate's own parts cite. No promise stands on it.
 pub mod Places
 pub mod Told
+pub mod Written

@@ -1,78 +1,53 @@
-//! The lines of what grains are told.
+//! What each grain is told.
 
-ghost use Rattle.std.specs.Prelude.{◌≡◌, ◌++◌, IfOk, OnOk, string_bytes, map as map_list};
-ghost use Rattle.std.specs.BTreeMap.{IsOrdered, values};
-ghost use Rattle.std.specs.FinMap as finite;
+ghost use Rattle.std.specs.Prelude.{◌≡◌, IfOk, OnOk};
+ghost use Rattle.std.specs.BTreeMap.{IsOrdered};
 ghost use Rattle.grain_id.specs.Names.{Grain, grain_cmp};
-ghost use Rattle.line_protocol.specs.LineTexts.{ended, joined};
-ghost use Rattle.line_protocol.specs.Text.{line_of};
-ghost use Rattle.line_service.specs.ServedText.{lines_by_grain};
-ghost use Rattle.line_service.specs.inside.Told.{HoldLines, lines_at, with_line};
+ghost use Rattle.line_service.specs.inside.Told.{HoldTold, told_at, with_reply};
 
 use grain_id::GrainId;
-use line_protocol::reply_text;
 use silo_event::{Party, Reply};
 use std::alloc::{AllocError, Global};
 use std::collections::BTreeMap;
 
-/// The lines of the replies to each grain, in order.
-type LinesByGrain = BTreeMap<GrainId, String>;
+/// The replies to each grain, in order.
+pub(crate) type ToldByGrain<'r> = BTreeMap<GrainId, Vec<&'r Reply>>;
 
-/// The line of a reply, with its LF.
-fn reply_line(alloc: Global, reply: &Reply) -> Result<String, AllocError>
-    ensures { IfOk result (λ line. string_bytes line ≡ ended (line_of reply.now)) }
+/// Puts a reply behind those to the grain.
+fn add_reply<'r>(
+    alloc: Global,
+    told: &mut ToldByGrain<'r>,
+    grain: &GrainId,
+    reply: &'r Reply,
+) -> Result<(), AllocError>
+    ensures { OnOk result ((other : Grain) → told_at told.new other ≡ with_reply grain.now reply.now other (told_at told.old other)) }
 {
-    let mut line = reply_text(alloc, reply)?;
-    line.push_str("\n")?;
-    Ok(line)
-}
-
-/// Puts a line behind those of the grain.
-fn add_line(told: &mut LinesByGrain, grain: &GrainId, line: String) -> Result<(), AllocError>
-    ensures { OnOk result ((other : Grain) → lines_at told.new other
-        ≡ with_line grain.now (string_bytes line) other (lines_at told.old other)) }
-{
-    if let Some(lines) = told.get_mut(grain) {
-        lines.push_str(line.as_str())?;
+    if let Some(replies) = told.get_mut(grain) {
+        replies.push(reply)?;
         return Ok(());
     }
     let key = grain.clone()?;
-    told.insert(key, line)?;
+    let first = vec![in alloc; reply]?;
+    told.insert(key, first)?;
     Ok(())
 }
 
-/// The lines of what each grain is told.
-fn told_by_grain(alloc: Global, replies: &[Reply]) -> Result<LinesByGrain, AllocError>
-    ensures { IfOk result (λ told. HoldLines told replies.now) }
+/// What each grain is told. Takes memory for each reply to a grain.
+pub(crate) fn told_by_grain<'r>(
+    alloc: Global,
+    replies: &'r [Reply],
+) -> Result<ToldByGrain<'r>, AllocError>
+    ensures held { IfOk result (λ told. HoldTold told replies.now) }
+    ensures ordered { IfOk result (λ told. IsOrdered grain_cmp told) }
 {
-    let mut told: LinesByGrain = BTreeMap::new(alloc);
+    let mut told: ToldByGrain<'r> = BTreeMap::new(alloc);
     'replies: for reply in replies {
         match &reply.recipient {
             Party::Client(_, _) => {}
-            Party::Grain(grain) => add_line(&mut told, grain, reply_line(alloc, reply)?)?,
+            Party::Grain(grain) => add_reply(alloc, &mut told, grain, reply)?,
         }
     }
+    // For the proof: grains ascend.
+    let _ = told.len();
     Ok(told)
-}
-
-/// Adds the lines of what grains are told: grains ascending, the replies to each in order.
-pub(crate) fn push_told(
-    alloc: Global,
-    text: &mut String,
-    replies: &[Reply],
-) -> Result<(), AllocError>
-    ensures { OnOk result (string_bytes text.new ≡ string_bytes text.old ++ joined (finite.values (lines_by_grain replies.now))) }
-{
-    push_all(text, told_by_grain(alloc, replies)?)
-}
-
-/// Adds the lines of each grain.
-fn push_all(text: &mut String, told: LinesByGrain) -> Result<(), AllocError>
-    ensures added { OnOk result (string_bytes text.new ≡ string_bytes text.old ++ joined (map_list string_bytes (values told))) }
-    ensures ordered { IsOrdered grain_cmp told }
-{
-    for (_, lines) in told {
-        text.push_str(lines.as_str())?;
-    }
-    Ok(())
 }

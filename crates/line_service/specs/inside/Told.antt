@@ -1,26 +1,29 @@
--- The lines of what grains are told, as code collects them.
-use Rattle.std.specs.Prelude.{◌≡◌, ℕ, List, [], ◌∷◌, ◌++◌, Option, Some, None, option_map, unwrap_or, string_bytes, if◌then◌else◌}
-use Rattle.std.specs.declared.alloc.Global.{Global}
-use Rattle.std.specs.declared.string.String.{String}
+-- The replies to each grain, as code collects them.
+use Rattle.std.specs.Prelude.{◌≡◌, List, [], ◌∷◌, ◌++◌, Option, Some, None, option_map, unwrap_or, map as map_list, if◌then◌else◌}
+use Rattle.std.specs.Borrow.{Bor}
+use Rattle.std.specs.Global.{Vec}
 use Rattle.std.specs.BTreeMap.{BTreeMap, get}
 use Rattle.grain_id.specs.Names.{Grain, grain_cmp, grain_eq}
 use Rattle.silo_event.specs.declared.reply.Reply.{Reply}
-use Rattle.line_protocol.specs.LineTexts.{texts_of}
 use Rattle.line_service.specs.ServedText.{replies_to_grain}
 
+-- the replies, as they stand behind references
+abbrev pub replies_at : Vec (Bor Reply) → List Reply
+replies_at list = map_list (λ r. r.now) list.items
+
 -- what stands there for a grain
-abbrev pub lines_at : BTreeMap Grain (String Global) → Grain → Option (List ℕ)
-lines_at told grain = option_map string_bytes (get grain_cmp told grain)
+abbrev pub told_at : BTreeMap Grain (Vec (Bor Reply)) → Grain → Option (List Reply)
+told_at told grain = option_map replies_at (get grain_cmp told grain)
 
--- the lines of replies, if there are any
-abbrev pub lines_if_any : List Reply → Option (List ℕ)
-lines_if_any [] = None
-lines_if_any (r ∷ rs) = Some (texts_of (r ∷ rs))
+-- the replies, if there are any
+abbrev pub if_any : List Reply → Option (List Reply)
+if_any [] = None
+if_any (r ∷ rs) = Some (r ∷ rs)
 
--- Of each grain, the lines of the replies to it stand there.
-abbrev pub HoldLines : BTreeMap Grain (String Global) → List Reply → Type 0
-HoldLines told replies = (grain : Grain) → lines_at told grain ≡ lines_if_any (replies_to_grain grain replies)
+-- Of each grain, the replies to it stand there.
+abbrev pub HoldTold : BTreeMap Grain (Vec (Bor Reply)) → List Reply → Type 0
+HoldTold told replies = (grain : Grain) → told_at told grain ≡ if_any (replies_to_grain grain replies)
 
--- a line more for this grain, and as before for the others
-abbrev pub with_line : Grain → List ℕ → Grain → Option (List ℕ) → Option (List ℕ)
-with_line told line grain lines = if grain_eq told grain then Some (unwrap_or lines [] ++ line) else lines
+-- a reply more for this grain, and as before for the others
+abbrev pub with_reply : Grain → Reply → Grain → Option (List Reply) → Option (List Reply)
+with_reply told reply grain replies = if grain_eq told grain then Some (unwrap_or replies [] ++ reply ∷ []) else replies

@@ -1,8 +1,8 @@
 use Rattle.std.proofs.Common.{ap, ◌∙◌}
-use Rattle.line_service.specs.inside.Told.{lines_at, with_line}
+use Rattle.line_service.specs.inside.Told.{told_at}
 use Rattle.line_service.proofs.Collected.{told_more, passed_over}
 use Rattle.line_service.proofs.told.told_by_grain.Goals as goal
-use Rattle.line_service.proofs.told.told_by_grain.Goals.{in-Grain+in_ok-reply_line-in-Grain+in_ok-add_line-in-Grain, in-Client}
+use Rattle.line_service.proofs.told.told_by_grain.Goals.{in-Grain+in_ok-add_reply-in-Grain, in-Client}
 
 pub replies-preserved : goal.replies-preserved
 replies-preserved c = λ grain.
@@ -10,9 +10,9 @@ replies-preserved c = λ grain.
     let i = c.replies.reply-index in
     let r = c.reply-item.result in
     elim c.match-reply.branch [
-      | in-Client w ↦ ap (λ told. lines_at told grain) w.told-is ∙ passed_over rs i r c.replies-test.true c.reply-item.is grain _ _ w.in-Client.is (lines_at c.replies.told grain) (c.replies.invariant grain)
-      | in-Grain+in_ok-reply_line-in-Grain+in_ok-add_line-in-Grain w ↦
-          ap (λ told. lines_at told grain) w.told-is
-          ∙ told_more rs i r c.replies-test.true c.reply-item.is grain w.in-Grain.grain w.in-Grain.is (lines_at c.replies.told grain) (lines_at w.add_line.new.told grain) (c.replies.invariant grain)
-          (w.in_ok-add_line-in-Grain.ensures grain ∙ ap (λ line. with_line w.in-Grain.grain line grain (lines_at c.replies.told grain)) w.in_ok-reply_line-in-Grain.ensures)
+      | in-Client w ↦ ap (λ told. told_at told grain) w.told-is ∙ passed_over rs i r c.replies-test.true c.reply-item.is grain _ _ w.in-Client.is (told_at c.replies.told grain) (c.replies.invariant grain)
+      | in-Grain+in_ok-add_reply-in-Grain w ↦
+          ap (λ told. told_at told grain) w.told-is
+          ∙ told_more rs i r c.replies-test.true c.reply-item.is grain w.in-Grain.grain w.in-Grain.is (told_at c.replies.told grain) (told_at w.add_reply.new.told grain) (c.replies.invariant grain)
+          (w.in_ok-add_reply-in-Grain.ensures grain)
     ]
