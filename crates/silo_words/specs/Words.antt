@@ -1,5 +1,5 @@
 -- What the words of a command line ask for, by clap's own account of what it makes of words.
-use Rattle.std.specs.Prelude.{◌≡◌, ◌≢◌, ◌≤◌, ◌⊎◌, ◌++◌, ◌∷◌, ⊤, ℕ, List, [], Option, Some, None, true, codes, map, slice_get}
+use Rattle.std.specs.Prelude.{◌≡◌, ◌≢◌, ◌≤◌, ◌⊎◌, ◌++◌, ◌∷◌, ⊤, ℕ, Bool, true, false, List, [], Option, Some, None, codes, map, slice_get}
 use Rattle.std.specs.Prelude.{slice_index, String, string_bytes, unwrap_or, if◌then◌else◌}
 use Rattle.std.specs.Option.{option_map}
 use Rattle.std.specs.Str.Parse.{IsNumeral, digits_value, without_leading_plus}
@@ -7,7 +7,7 @@ use Rattle.grain_id.specs.Names.{same_text}
 use Rattle.clap.specs.Lexer.{usize_max}
 use Rattle.clap.specs.Words.{App, IsAmong, Row, Rule, Shape, Text, all_of, fault_of, first_of, new_app, new_rule, one_of, subcommand_of}
 use Rattle.clap.specs.Words.{with_rule, with_subcommand}
-use Rattle.clap.specs.declared.builder.action.ArgAction.TheVariants.{Append}
+use Rattle.clap.specs.declared.builder.action.ArgAction.TheVariants.{Append, SetTrue}
 use Rattle.clap.specs.declared.builder.value_parser.ValueParser.TheVariants.{Unsigned}
 use Rattle.clap.specs.declared.error.kind.ErrorKind.{ErrorKind}
 use Rattle.clap.specs.declared.error.kind.ErrorKind.TheVariants.{DisplayHelp, DisplayVersion, OutOfMemory}
@@ -17,6 +17,7 @@ use Rattle.silo_words.specs.declared.fault.WordsFault.{WordsFault}
 use Rattle.silo_words.specs.declared.fault.WordsFault.TheVariants as fault
 use Rattle.silo_words.specs.declared.task.Task.{Task}
 use Rattle.silo_words.specs.declared.task.Task.TheVariants as task
+use Rattle.silo_words.specs.declared.task.Telling.{Telling}
 
 -- ---- the command line
 
@@ -40,6 +41,13 @@ sends_rule = record (new_rule (codes "sends")) { long = Some (codes "sends"); va
 abbrev pub journal_rule : Rule
 journal_rule = record (new_rule (codes "journal")) { long = Some (codes "journal"); value_names = 1 }
 
+-- `--explain-lines` and `--summary`, which take no text
+abbrev pub explain_rule : Rule
+explain_rule = record (new_rule (codes "explain-lines")) { long = Some (codes "explain-lines"); action = Some SetTrue }
+
+abbrev pub summary_rule : Rule
+summary_rule = record (new_rule (codes "summary")) { long = Some (codes "summary"); action = Some SetTrue }
+
 -- `TENANT:ACT:MAIL..`, one text or more
 abbrev pub tenants_rule : Rule
 tenants_rule = record (new_rule (codes "tenants")) {
@@ -62,10 +70,12 @@ abbrev pub answer_app : App
 answer_app = with_rule (with_rule (with_rule (with_rule (with_rule (new_app (codes "answer")) age_rule) ages_rule) sends_rule) journal_rule)
     tenants_rule
 
--- `serve`, with those of `steps` and two options more
+-- `serve`, with those of `steps` and four options more: at first with the options alone, but for the last two
+abbrev pub kept_app : App
+kept_app = with_rule (with_rule (with_rule (with_rule (new_app (codes "serve")) workers_rule) age_rule) ages_rule) journal_rule
+
 abbrev pub serve_app : App
-serve_app = with_rule (with_rule (with_rule (with_rule (with_rule (new_app (codes "serve")) workers_rule) age_rule) ages_rule) journal_rule)
-    tenants_rule
+serve_app = with_rule (with_rule (with_rule kept_app explain_rule) summary_rule) tenants_rule
 
 -- `audit`, with a path
 abbrev pub audit_app : App
@@ -158,6 +168,22 @@ IsNoWorkers rows = (workers : ℕ) → ¬ IsWorkers (one_of (codes "workers") ro
 abbrev pub IsNoSends : List Row → Type 0
 IsNoSends rows = (sends : ℕ) → ¬ IsSends rows sends
 
+-- ---- flags
+
+-- a flag is there: clap finds the text `true` of it, and otherwise another
+abbrev pub is_set : Option Text → Bool
+is_set None = false
+is_set (Some text) = same_text text (codes "true")
+
+-- what is to be told is what the flags ask for
+abbrev pub IsTelling : List Row → Telling → Type 0
+IsTelling rows telling = (telling.explain_lines ≡ is_set (first_of (codes "explain-lines") rows))
+    × (telling.summary ≡ is_set (first_of (codes "summary") rows))
+
+-- nothing is to be told
+abbrev pub nothing_told : Telling
+nothing_told = record { explain_lines = false; summary = false }
+
 -- ---- what is asked of what clap found: a subcommand's name, and the rows of its options and arguments
 
 -- the tenant arguments that were found
@@ -181,13 +207,16 @@ pub record FindAnswering (name : Text) (rows : List Row) (age : ℕ) (ages : Opt
   pub kept : journal ≡ first_of (codes "journal") rows
   pub named : tenants ≡ tenants_in rows
 
--- `serve`, with the workers, the age, the text of the kinds' ages, the journal's path and the tenant arguments that were found
-pub record FindServing (name : Text) (rows : List Row) (workers age : ℕ) (ages journal : Option Text) (tenants : List Text) : Type 0 where
+-- `serve`, with the workers, the age, the text of the kinds' ages, the journal's path, what is to be told and the tenant arguments that were
+-- found
+pub record FindServing (name : Text) (rows : List Row) (workers age : ℕ) (ages journal : Option Text) (telling : Telling)
+    (tenants : List Text) : Type 0 where
   pub command : name ≡ codes "serve"
   pub shared : IsWorkers (one_of (codes "workers") rows) workers
   pub within : IsAge (one_of (codes "age") rows) age
   pub aged : ages ≡ first_of (codes "ages") rows
   pub kept : journal ≡ first_of (codes "journal") rows
+  pub told : IsTelling rows telling
   pub named : tenants ≡ tenants_in rows
 
 -- `audit`, with the path that was found
@@ -224,14 +253,15 @@ pub record AskForAnswering (words : List Text) (age : ℕ) (ages : Option Text) 
   pub is : found_in words ≡ Some (name, rows)
   pub found : FindAnswering name rows age ages sends journal tenants
 
--- The words ask so many workers to serve under this age and with this text of the kinds' ages, for these tenant arguments, and to keep the
--- journal at a path if there is one.
-pub record AskForServing (words : List Text) (workers age : ℕ) (ages journal : Option Text) (tenants : List Text) : Type 0 where
+-- The words ask so many workers to serve under this age and with this text of the kinds' ages, for these tenant arguments, to keep the
+-- journal at a path if there is one, and to tell this of it.
+pub record AskForServing (words : List Text) (workers age : ℕ) (ages journal : Option Text) (telling : Telling) (tenants : List Text)
+    : Type 0 where
   pub taken : AreTaken words
   pub name : Text
   pub rows : List Row
   pub is : found_in words ≡ Some (name, rows)
-  pub found : FindServing name rows workers age ages journal tenants
+  pub found : FindServing name rows workers age ages journal telling tenants
 
 -- The words ask to audit the journal at the path.
 pub record AskForAudit (words : List Text) (path : Text) : Type 0 where
@@ -254,8 +284,8 @@ pub record MakesNoTask (name : Text) (rows : List Row) : Type 0 where
   pub steps : (age : ℕ) (ages : Option Text) (tenants : List Text) → ¬ FindSteps name rows age ages tenants
   pub answering : (age : ℕ) (ages : Option Text) (sends : ℕ) (journal : Option Text) (tenants : List Text)
       → ¬ FindAnswering name rows age ages sends journal tenants
-  pub serving : (workers age : ℕ) (ages journal : Option Text) (tenants : List Text)
-      → ¬ FindServing name rows workers age ages journal tenants
+  pub serving : (workers age : ℕ) (ages journal : Option Text) (telling : Telling) (tenants : List Text)
+      → ¬ FindServing name rows workers age ages journal telling tenants
   pub audit : (path : Text) → ¬ FindAudit name rows path
   pub migration : (path : Text) → ¬ FindMigration name rows path
 
@@ -278,8 +308,8 @@ IsTaskOf name rows (task.Steps age ages tenants) = FindSteps name rows age (opti
     (map (λ t. t.now) tenants.items)
 IsTaskOf name rows (task.Answer age ages sends journal tenants) = FindAnswering name rows age (option_map (λ text. text.now) ages) sends
     (option_map (λ path. path.now) journal) (map (λ t. t.now) tenants.items)
-IsTaskOf name rows (task.Serve workers age ages journal tenants) = FindServing name rows workers age (option_map (λ text. text.now) ages)
-    (option_map (λ path. path.now) journal) (map (λ t. t.now) tenants.items)
+IsTaskOf name rows (task.Serve workers age ages journal telling tenants) = FindServing name rows workers age
+    (option_map (λ text. text.now) ages) (option_map (λ path. path.now) journal) telling (map (λ t. t.now) tenants.items)
 IsTaskOf name rows (task.Audit path) = FindAudit name rows path.now
 IsTaskOf name rows (task.Migrate path) = FindMigration name rows path.now
 
@@ -296,8 +326,8 @@ AskFor words (task.Steps age ages tenants) = AskForSteps words age (option_map (
     (map (λ t. t.now) tenants.items)
 AskFor words (task.Answer age ages sends journal tenants) = AskForAnswering words age (option_map (λ text. text.now) ages) sends
     (option_map (λ path. path.now) journal) (map (λ t. t.now) tenants.items)
-AskFor words (task.Serve workers age ages journal tenants) = AskForServing words workers age (option_map (λ text. text.now) ages)
-    (option_map (λ path. path.now) journal) (map (λ t. t.now) tenants.items)
+AskFor words (task.Serve workers age ages journal telling tenants) = AskForServing words workers age (option_map (λ text. text.now) ages)
+    (option_map (λ path. path.now) journal) telling (map (λ t. t.now) tenants.items)
 AskFor words (task.Audit path) = AskForAudit words path.now
 AskFor words (task.Migrate path) = AskForMigration words path.now
 
@@ -352,10 +382,14 @@ pub record TellsWordsApart : Type 0 where
   pub undelivered : AskForAnswering (after_silo (codes "answer" ∷ codes "--sends" ∷ codes "0" ∷ codes "--journal" ∷ codes "day"
       ∷ codes "--ages" ∷ codes "sheet=9" ∷ codes "red:2:4" ∷ [])) 900000 (Some (codes "sheet=9")) 0 (Some (codes "day"))
       (codes "red:2:4" ∷ [])
-  pub serving : AskForServing (after_silo (codes "serve" ∷ codes "red:2:4" ∷ [])) 4 900000 None None (codes "red:2:4" ∷ [])
+  pub serving : AskForServing (after_silo (codes "serve" ∷ codes "red:2:4" ∷ [])) 4 900000 None None nothing_told (codes "red:2:4" ∷ [])
   pub journaled : AskForServing (after_silo (codes "serve" ∷ codes "--workers" ∷ codes "8" ∷ codes "--age" ∷ codes "5"
       ∷ codes "--ages" ∷ codes "sheet=9" ∷ codes "--journal" ∷ codes "day" ∷ codes "red:2:4" ∷ [])) 8 5 (Some (codes "sheet=9"))
-      (Some (codes "day")) (codes "red:2:4" ∷ [])
+      (Some (codes "day")) nothing_told (codes "red:2:4" ∷ [])
+  pub explained : AskForServing (after_silo (codes "serve" ∷ codes "--explain-lines" ∷ codes "red:2:4" ∷ [])) 4 900000 None None
+      (record { explain_lines = true; summary = false }) (codes "red:2:4" ∷ [])
+  pub summed_up : AskForServing (after_silo (codes "serve" ∷ codes "--summary" ∷ codes "red:2:4" ∷ [])) 4 900000 None None
+      (record { explain_lines = false; summary = true }) (codes "red:2:4" ∷ [])
   pub audit : AskForAudit (after_silo (codes "audit" ∷ codes "day" ∷ [])) (codes "day")
   pub migration : AskForMigration (after_silo (codes "migrate" ∷ codes "day" ∷ [])) (codes "day")
   pub help : AskForHelp (after_silo (codes "--help" ∷ []))
@@ -371,6 +405,7 @@ pub record TellsWordsApart : Type 0 where
   pub no_tenant : AreRefused (after_silo (codes "steps" ∷ []))
   pub no_worker : AreRefused (after_silo (codes "serve" ∷ codes "--workers" ∷ codes "0" ∷ codes "red:2:4" ∷ []))
   pub too_many_workers : AreRefused (after_silo (codes "serve" ∷ codes "--workers" ∷ codes "65" ∷ codes "red:2:4" ∷ []))
+  pub explained_twice : AreRefused (after_silo (codes "serve" ∷ codes "--explain-lines" ∷ codes "--explain-lines" ∷ codes "red:2:4" ∷ []))
   pub too_many_deliveries : AreRefused (after_silo (codes "answer" ∷ codes "--sends" ∷ codes "1000001" ∷ codes "red:2:4" ∷ []))
   pub signed_deliveries : AskForNothing (after_silo (codes "answer" ∷ codes "--sends" ∷ codes "+5" ∷ codes "red:2:4" ∷ []))
   pub padded_deliveries : AskForNothing (after_silo (codes "answer" ∷ codes "--sends" ∷ codes "05" ∷ codes "red:2:4" ∷ []))

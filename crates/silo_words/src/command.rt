@@ -3,9 +3,9 @@
 ghost use Rattle.std.specs.Prelude.{◌≡◌, IfOk, false, true};
 ghost use Rattle.clap.specs.Words.{app_of, rule_of, with_rule};
 ghost use Rattle.clap.specs.declared.builder.command.Command.TheViews.{out-Command as fields_of};
-ghost use Rattle.silo_words.specs.Words.{age_rule, ages_rule, answer_app, answering_app, audit_app, auditing_app, journal_rule};
-ghost use Rattle.silo_words.specs.Words.{migrate_app, path_rule, sends_rule, serve_app, serving_app, silo_app, stepping_app, steps_app};
-ghost use Rattle.silo_words.specs.Words.{tenants_rule, workers_rule};
+ghost use Rattle.silo_words.specs.Words.{age_rule, ages_rule, answer_app, answering_app, audit_app, auditing_app, explain_rule};
+ghost use Rattle.silo_words.specs.Words.{journal_rule, kept_app, migrate_app, path_rule, sends_rule, serve_app, serving_app, silo_app};
+ghost use Rattle.silo_words.specs.Words.{stepping_app, steps_app, summary_rule, tenants_rule, workers_rule};
 
 use clap::{Arg, ArgAction, Command, value_parser};
 use std::alloc::{AllocError, Global};
@@ -71,6 +71,26 @@ fn journal_option<'a>(alloc: Global) -> Arg<'a>
         .help("The file that the journal goes to, for `silo audit`")
 }
 
+fn explain_option<'a>(alloc: Global) -> Arg<'a>
+    ensures rule { rule_of result ≡ explain_rule }
+    ensures local { result.global ≡ false }
+{
+    Arg::new(alloc, "explain-lines")
+        .long("explain-lines")
+        .action(ArgAction::SetTrue)
+        .help("Tells on standard error which lines made no step, and why")
+}
+
+fn summary_option<'a>(alloc: Global) -> Arg<'a>
+    ensures rule { rule_of result ≡ summary_rule }
+    ensures local { result.global ≡ false }
+{
+    Arg::new(alloc, "summary")
+        .long("summary")
+        .action(ArgAction::SetTrue)
+        .help("Counts lines, answers, refusals by code and steps on standard error")
+}
+
 fn tenant_arguments<'a>(alloc: Global) -> Arg<'a>
     ensures rule { rule_of result ≡ tenants_rule }
     ensures local { result.global ≡ false }
@@ -122,15 +142,24 @@ fn answer_command<'a>(alloc: Global) -> Result<Command<'a>, AllocError>
         .arg(tenant_arguments(alloc))
 }
 
-fn serve_command<'a>(alloc: Global) -> Result<Command<'a>, AllocError>
-    ensures app { IfOk result (λ c. app_of c ≡ serve_app) }
+/// `serve` with its options, but for those of what is told.
+fn kept_command<'a>(alloc: Global) -> Result<Command<'a>, AllocError>
+    ensures app { IfOk result (λ c. app_of c ≡ kept_app) }
     ensures local { IfOk result (λ c. (fields_of c).has_globals ≡ false) }
 {
     let command = Command::new(alloc, "serve")
         .about("Serves the clients on standard input by workers")
         .arg(workers_option(alloc))?;
-    with_ages(alloc, command)?
-        .arg(journal_option(alloc))?
+    with_ages(alloc, command)?.arg(journal_option(alloc))
+}
+
+fn serve_command<'a>(alloc: Global) -> Result<Command<'a>, AllocError>
+    ensures app { IfOk result (λ c. app_of c ≡ serve_app) }
+    ensures local { IfOk result (λ c. (fields_of c).has_globals ≡ false) }
+{
+    kept_command(alloc)?
+        .arg(explain_option(alloc))?
+        .arg(summary_option(alloc))?
         .arg(tenant_arguments(alloc))
 }
 

@@ -2,8 +2,9 @@
 
 ghost use Rattle.std.specs.Prelude.{◌≡◌, ◌↔◌, ℕ, List, IfOk, IfErr, IfSome, IfNone, IsTrue, Some, codes, map, option_map};
 ghost use Rattle.clap.specs.Words.{Row, Text, first_of, found_of, one_of, rows_of};
+ghost use Rattle.grain_id.specs.Names.{same_text};
 ghost use Rattle.silo_words.specs.Words.{IsAge, IsNoAge, IsNoSends, IsNoTaskFor, IsNoWorkers, IsNumber, IsPlain, IsSends, IsTaskOf};
-ghost use Rattle.silo_words.specs.Words.{IsWorkers, MakesNoTask, tenants_in};
+ghost use Rattle.silo_words.specs.Words.{IsTelling, IsWorkers, MakesNoTask, is_set, tenants_in};
 
 use crate::fault::WordsFault;
 use clap::ArgMatches;
@@ -25,6 +26,15 @@ const DEFAULT_SENDS: u64 = 1_000;
 /// The most deliveries that may be asked for.
 const MAX_SENDS: u64 = 1_000_000;
 
+/// What is told of an input that is served, beside its answers.
+#[derive(Clone, Copy, Debug, PartialEq, Eq)]
+pub struct Telling {
+    /// Which lines made no step, and why.
+    pub explain_lines: bool,
+    /// How many lines, answers, refusals by code and steps there are.
+    pub summary: bool,
+}
+
 /// What the words ask for. Tenant arguments, ages of kinds and paths are as they are written.
 #[derive(Drop)]
 pub enum Task<'a> {
@@ -45,12 +55,14 @@ pub enum Task<'a> {
         tenants: Vec<&'a str>,
     },
 
-    /// Serve the clients on standard input by workers (1 to 64), and write the journal if it has a path.
+    /// Serve the clients on standard input by workers (1 to 64), write the journal if it has a path, and tell what is to be
+    /// told.
     Serve {
         workers: usize,
         age: Age,
         ages: Option<&'a str>,
         journal: Option<&'a str>,
+        telling: Telling,
         tenants: Vec<&'a str>,
     },
 
@@ -141,6 +153,32 @@ fn text_of<'a>(found: &ArgMatches<'a>, id: &str) -> Option<&'a str>
     found.get_str(id)
 }
 
+fn is_same(text: &str, other: &str) -> bool
+    ensures { result ≡ same_text text.now other.now }
+{
+    text == other
+}
+
+/// Whether a flag is there.
+fn is_set(found: &ArgMatches<'_>, flag: &str) -> bool
+    ensures { result ≡ is_set (first_of flag.now (rows_of (found_of found.now))) }
+{
+    match text_of(found, flag) {
+        Some(text) => is_same(text, "true"),
+        None => false,
+    }
+}
+
+/// What the flags ask to tell.
+fn telling_of(found: &ArgMatches<'_>) -> Telling
+    ensures { IsTelling (rows_of (found_of found.now)) result }
+{
+    Telling {
+        explain_lines: is_set(found, "explain-lines"),
+        summary: is_set(found, "summary"),
+    }
+}
+
 /// `clap` refuses what makes no task before this does.
 fn no_task(alloc: Global) -> WordsFault
     ensures { (name : Text) (rows : List Row) → MakesNoTask name rows → IsNoTaskFor name rows result }
@@ -210,6 +248,7 @@ fn serve_task<'a>(alloc: Global, found: &ArgMatches<'a>) -> Result<Task<'a>, Wor
         age,
         ages: text_of(found, "ages"),
         journal: text_of(found, "journal"),
+        telling: telling_of(found),
         tenants,
     })
 }

@@ -1,11 +1,11 @@
-use Rattle.std.proofs.Common.{◌≡◌, ◌∷◌, [], List, Option, Some, None, refl, sym, ap, subst, inl, inr, rules, arith, codes}
+use Rattle.std.proofs.Common.{◌≡◌, ◌∷◌, [], true, false, List, Option, Some, None, refl, sym, ap, subst, inl, inr, rules, arith, codes}
 use Rattle.std.specs.Option.{option_map_or}
 use Rattle.clap.specs.Words.{IsAmong, Row, Text, all_of, fault_of, first_of, one_of}
 use Rattle.clap.specs.declared.error.kind.ErrorKind.{ErrorKind}
 use Rattle.clap.specs.declared.error.kind.ErrorKind.TheVariants.{ArgumentConflict, DisplayHelp, DisplayVersion, MissingSubcommand, MissingRequiredArgument, ValueValidation}
 use Rattle.clap.proofs.OnLiterals.{clap_on_literals}
 use Rattle.std.specs.Prelude.{unwrap_or}
-use Rattle.silo_words.specs.Words.{FindAnswering, IsAge, IsNumber, IsPlain, IsWorkers, MakesNoTask, after_silo, found_in, silo_app}
+use Rattle.silo_words.specs.Words.{FindAnswering, IsAge, IsNumber, IsPlain, IsTelling, IsWorkers, MakesNoTask, after_silo, found_in, nothing_told, silo_app}
 use Rattle.silo_words.proofs.laws.words_are_told_apart.Goals as goal
 
 abbrev rows_in : List Text → List Row
@@ -201,6 +201,84 @@ journaled_named : all_of (codes "tenants") (rows_in journaled_words) ≡ Some (c
 unfolding clap_on_literals
 journaled_named = refl
 
+serving_told : IsTelling (rows_in serving_words) nothing_told
+unfolding clap_on_literals
+serving_told = (refl, refl)
+
+journaled_told : IsTelling (rows_in journaled_words) nothing_told
+unfolding clap_on_literals
+journaled_told = (refl, refl)
+
+abbrev explained_words : List Text
+explained_words = after_silo (codes "serve" ∷ codes "--explain-lines" ∷ codes "red:2:4" ∷ [])
+
+abbrev summed_words : List Text
+summed_words = after_silo (codes "serve" ∷ codes "--summary" ∷ codes "red:2:4" ∷ [])
+
+explained_taken : fault_of silo_app explained_words ≡ []
+unfolding clap_on_literals
+explained_taken = refl
+
+explained_is : found_in explained_words ≡ Some (codes "serve", rows_in explained_words)
+unfolding clap_on_literals
+explained_is = refl
+
+explained_workers : one_of (codes "workers") (rows_in explained_words) ≡ None
+unfolding clap_on_literals
+explained_workers = refl
+
+explained_age : one_of (codes "age") (rows_in explained_words) ≡ None
+unfolding clap_on_literals
+explained_age = refl
+
+explained_journal : first_of (codes "journal") (rows_in explained_words) ≡ None
+unfolding clap_on_literals
+explained_journal = refl
+
+explained_ages : first_of (codes "ages") (rows_in explained_words) ≡ None
+unfolding clap_on_literals
+explained_ages = refl
+
+explained_told : IsTelling (rows_in explained_words) (record { explain_lines = true; summary = false })
+unfolding clap_on_literals
+explained_told = (refl, refl)
+
+explained_named : all_of (codes "tenants") (rows_in explained_words) ≡ Some (codes "red:2:4" ∷ [])
+unfolding clap_on_literals
+explained_named = refl
+
+summed_taken : fault_of silo_app summed_words ≡ []
+unfolding clap_on_literals
+summed_taken = refl
+
+summed_is : found_in summed_words ≡ Some (codes "serve", rows_in summed_words)
+unfolding clap_on_literals
+summed_is = refl
+
+summed_workers : one_of (codes "workers") (rows_in summed_words) ≡ None
+unfolding clap_on_literals
+summed_workers = refl
+
+summed_age : one_of (codes "age") (rows_in summed_words) ≡ None
+unfolding clap_on_literals
+summed_age = refl
+
+summed_journal : first_of (codes "journal") (rows_in summed_words) ≡ None
+unfolding clap_on_literals
+summed_journal = refl
+
+summed_ages : first_of (codes "ages") (rows_in summed_words) ≡ None
+unfolding clap_on_literals
+summed_ages = refl
+
+summed_told : IsTelling (rows_in summed_words) (record { explain_lines = false; summary = true })
+unfolding clap_on_literals
+summed_told = (refl, refl)
+
+summed_named : all_of (codes "tenants") (rows_in summed_words) ≡ Some (codes "red:2:4" ∷ [])
+unfolding clap_on_literals
+summed_named = refl
+
 eight : IsWorkers (Some (codes "8")) 8
 eight = search (rules, arith)
 
@@ -288,6 +366,10 @@ workers_of_65 : fault_of silo_app (after_silo (codes "serve" ∷ codes "--worker
 unfolding clap_on_literals
 workers_of_65 = refl
 
+explained_again : fault_of silo_app (after_silo (codes "serve" ∷ codes "--explain-lines" ∷ codes "--explain-lines" ∷ codes "red:2:4" ∷ [])) ≡ ArgumentConflict ∷ []
+unfolding clap_on_literals
+explained_again = refl
+
 sends_of_1000001 : fault_of silo_app (after_silo (codes "answer" ∷ codes "--sends" ∷ codes "1000001" ∷ codes "red:2:4" ∷ [])) ≡ ValueValidation ∷ []
 unfolding clap_on_literals
 sends_of_1000001 = refl
@@ -352,7 +434,7 @@ not_plain : (rows : List Row) (text : Text) → first_of (codes "sends") rows �
 not_plain rows text written never = record {
   steps = λ age ages tenants found. absurd (cc (found.command));
   answering = λ age ages sends journal tenants (found : FindAnswering (codes "answer") rows age ages sends journal tenants). never (subst IsPlain written found.behind.1);
-  serving = λ workers age ages journal tenants found. absurd (cc (found.command));
+  serving = λ workers age ages journal telling tenants found. absurd (cc (found.command));
   audit = λ path found. absurd (cc (found.command));
   migration = λ path found. absurd (cc (found.command));
 }
@@ -425,6 +507,7 @@ returns c = record {
       within = subst (λ (o : Option Text). IsAge o 900000) (sym serving_age) refl;
       aged = sym serving_ages;
       kept = sym serving_journal;
+      told = serving_told;
       named = sym (ap (λ o. unwrap_or o []) serving_named);
     };
   };
@@ -439,7 +522,38 @@ returns c = record {
       within = subst (λ (o : Option Text). IsAge o 5) (sym journaled_age) five;
       aged = sym journaled_ages;
       kept = sym journaled_journal;
+      told = journaled_told;
       named = sym (ap (λ o. unwrap_or o []) journaled_named);
+    };
+  };
+  explained = record {
+    taken = explained_taken;
+    name = codes "serve";
+    rows = rows_in explained_words;
+    is = explained_is;
+    found = record {
+      command = refl;
+      shared = subst (λ (o : Option Text). IsWorkers o 4) (sym explained_workers) refl;
+      within = subst (λ (o : Option Text). IsAge o 900000) (sym explained_age) refl;
+      aged = sym explained_ages;
+      kept = sym explained_journal;
+      told = explained_told;
+      named = sym (ap (λ o. unwrap_or o []) explained_named);
+    };
+  };
+  summed_up = record {
+    taken = summed_taken;
+    name = codes "serve";
+    rows = rows_in summed_words;
+    is = summed_is;
+    found = record {
+      command = refl;
+      shared = subst (λ (o : Option Text). IsWorkers o 4) (sym summed_workers) refl;
+      within = subst (λ (o : Option Text). IsAge o 900000) (sym summed_age) refl;
+      aged = sym summed_ages;
+      kept = sym summed_journal;
+      told = summed_told;
+      named = sym (ap (λ o. unwrap_or o []) summed_named);
     };
   };
   audit = record {
@@ -468,6 +582,7 @@ returns c = record {
   no_tenant = (MissingRequiredArgument, (λ e. absurd cc), (λ e. absurd cc), only MissingRequiredArgument _ no_tenant_given);
   no_worker = (ValueValidation, (λ e. absurd cc), (λ e. absurd cc), only ValueValidation _ workers_of_0);
   too_many_workers = (ValueValidation, (λ e. absurd cc), (λ e. absurd cc), only ValueValidation _ workers_of_65);
+  explained_twice = (ArgumentConflict, (λ e. absurd cc), (λ e. absurd cc), only ArgumentConflict _ explained_again);
   too_many_deliveries = (ValueValidation, (λ e. absurd cc), (λ e. absurd cc), only ValueValidation _ sends_of_1000001);
   signed_deliveries = (signed_taken, record { name = codes "answer"; rows = rows_in signed_words; is = signed_is; none = not_plain _ (codes "+5") signed_written signed_not_plain });
   padded_deliveries = (padded_taken, record { name = codes "answer"; rows = rows_in padded_words; is = padded_is; none = not_plain _ (codes "05") padded_written padded_not_plain });
