@@ -315,7 +315,7 @@ def serve_input(random: Random) -> Input:
                                   grain_line(random, "begin", grain), '{"op":"sweep"}', '{"op":"tick","now":3}',
                                   world.call(caller, random.choice(BAD_GRAINS), "get", "null")])
         made.append(line.encode() + b"\n")
-    words = ["serve", "--workers", random.choice(["1", "2", "4", "64"])]
+    words = ["serve", "--workers", random.choice(["1", "2", "4", "64"]), *random.choice([[], ["--explain-lines"]])]
     return Input(words + [f"{tenant}:10000:1000" for tenant in tenants], b"".join(made))
 
 

@@ -108,9 +108,11 @@ OPTIONS = {
     "audit": {},
     "migrate": {},
 }
+# what takes no value
+FLAGS = {"serve": ["--explain-lines", "--summary"]}
 
 
-def split_words(words: list[str], options: dict) -> tuple[dict, list[str]]:
+def split_words(words: list[str], options: dict, flags: list[str]) -> tuple[dict, list[str]]:
     """The options' values, and the words that aren't options."""
     rest, given, others = list(words), {}, []
     while rest:
@@ -118,7 +120,11 @@ def split_words(words: list[str], options: dict) -> tuple[dict, list[str]]:
         name, equals, value = word.partition("=")
         if word == "--":
             return given, others + rest
-        if name in options:
+        if word in flags:
+            if word in given:
+                raise Ended(BAD_WORDS)
+            given[word] = ""
+        elif name in options:
             if not equals and (not rest or rest[0].startswith("-")):
                 raise Ended(BAD_WORDS)
             value = value if equals else rest.pop(0)
@@ -149,7 +155,7 @@ def setup_of(given: dict, words: list[str]) -> Setup:
 
 def setup_of_words(words: list[str]) -> Setup:
     """What all words of `steps`, `answer` or `serve` set up."""
-    return setup_of(*split_words(words[1:], OPTIONS[words[0]]))
+    return setup_of(*split_words(words[1:], OPTIONS[words[0]], FLAGS.get(words[0], [])))
 
 
 # ---- the commands
@@ -184,7 +190,8 @@ def written_lines(texts: Iterable[str]) -> bytes:
     return "".join(text + "\n" for text in texts).encode()
 
 
-def run_serve(given: dict, words: list[str], data: bytes, files: dict, chance: Optional[Random]) -> bytes:
+def run_serve(given: dict, words: list[str], data: bytes, files: dict, chance: Optional[Random]) -> tuple[bytes, bytes]:
+    """What is written, and what is told of the lines."""
     setup = setup_of(given, words)
     if "--journal" in given:
         files[given["--journal"]] = journal_text(journal_of(Silo(setup)))
@@ -199,7 +206,34 @@ def run_serve(given: dict, words: list[str], data: bytes, files: dict, chance: O
         files[given["--journal"]] = journal_text(journal_of(silo))
     replies = [reply for lane in lanes if lane.caller is not None for reply in answers_of(silo, lane)]
     replies += replies_to_grains(silo)
-    return written_lines([*map(lines.refusal_text, refusals), *map(lines.reply_text, replies)])
+    told = [*(reasons(read) if "--explain-lines" in given else []), *(counts(read, silo) if "--summary" in given else [])]
+    return written_lines([*map(lines.refusal_text, refusals), *map(lines.reply_text, replies)]), written_lines(told)
+
+
+def reason_of(said: object) -> Optional[str]:
+    """Why a line made no step, if it made none and has bytes."""
+    if said == codes.TOO_LONG:
+        return "line is too long"
+    if said == codes.NOT_A_REQUEST:
+        return "line is not a request"
+    return None if said is None or is_asked(said) else "step is not one of silo serve"
+
+
+def reasons(read: list) -> Iterable[str]:
+    """Which lines made no step, and why."""
+    for number, said in enumerate(read, 1):
+        reason = reason_of(said)
+        if reason is not None:
+            yield f"silo: line {number}: {reason}"
+
+
+def counts(read: list, silo: Silo) -> Iterable[str]:
+    """How many lines, answers, refusals by code and steps there are."""
+    refused = sort_lines(read)[0] + [reply.code for reply in silo.replies if reply.code is not None]
+    yield f"silo: lines: {len(read)}"
+    yield f"silo: answers: {sum(reply.code is None for reply in silo.replies)}"
+    yield from (f"silo: refusals {code}: {refused.count(code)}" for code in sorted(set(refused)))
+    yield f"silo: steps: {len(silo.journal)}"
 
 
 def sort_lines(read: list) -> tuple[list[int], list]:
@@ -252,13 +286,14 @@ def run_program(words: list[str], data: Union[bytes, Iterable[bytes]] = b"", fil
     try:
         if not words or words[0] not in OPTIONS:
             raise Ended(BAD_WORDS)
-        given, others = split_words(words[1:], OPTIONS[words[0]])
+        given, others = split_words(words[1:], OPTIONS[words[0]], FLAGS.get(words[0], []))
         if words[0] == "steps":
             run_steps(given, others, data, written)
         elif words[0] == "answer":
             run_answer(given, others, data, files, written)
         elif words[0] == "serve":
-            written.append(run_serve(given, others, data, files, chance))
+            out, errors = run_serve(given, others, data, files, chance)
+            written.append(out)
         elif words[0] == "migrate":
             written.append(read_with(migrate_journal, others, files))
         else:

@@ -1,10 +1,10 @@
 -- What the program says of a fault, by the status that it ends with.
-use Rattle.std.proofs.Common.{◌≡◌, ℕ, List, Option}
+use Rattle.std.proofs.Common.{◌≡◌, ◌≢◌, ℕ, List, Option}
 use Rattle.std.specs.Prelude.{string_bytes}
 use Rattle.clap.specs.Words.{Text}
 use Rattle.line_protocol.specs.Reading.{Reading}
 use Rattle.line_protocol.specs.declared.written.WriterCalls.{WriterCalls}
-use Rattle.silo_program.specs.Ends.{AreRefusedBy, EndsAs, FailsBy, IsFaultOf}
+use Rattle.silo_program.specs.Ends.{AreRefusedBy, EndsAs, FailsBy, IsFaultOf, TellsEnd}
 use Rattle.silo_program.specs.Files.{FileClaims}
 use Rattle.silo_program.specs.Status.{end_status, failure_text, status_of, told_text}
 use Rattle.silo_program.specs.Streams.{Tells}
@@ -29,7 +29,9 @@ module _ (words : List Text) (files : FileClaims) (from left : Option (List ℕ)
   refused_by (fault.Refused text) two is tells = (string_bytes text, is.0, tells)
   refused_by (fault.NoJournal text) two is tells = absurd (cc (two))
 
--- with status 0 all is well
-pub ends_well : (how : End) (words : List Text) (files : FileClaims) (from left before after : Option (List ℕ)) → end_status how ≡ 0 → EndsAs how words files from left before after → EndsAs end.Well words files from left before after
-ends_well end.Well words files from left before after zero is = is
-ends_well end.Differs words files from left before after zero is = absurd (cc (zero))
+-- with status 0 all is well, and what is told of it is told
+pub ends_well : (how : End) (words : List Text) (files : FileClaims) (from left before after said told : Option (List ℕ)) (writing : WriterCalls) → end_status how ≡ 0 → EndsAs how words files from left before after → TellsEnd said told writing how
+    → (how : End) × (how ≢ end.Differs) × EndsAs how words files from left before after × TellsEnd said told writing how
+ends_well end.Well words files from left before after said told writing zero is tells = (end.Well, (λ e. absurd (cc e)), is, tells)
+ends_well (end.Told text) words files from left before after said told writing zero is tells = (end.Told text, (λ e. absurd (cc e)), is, tells)
+ends_well end.Differs words files from left before after said told writing zero is tells = absurd (cc (zero))

@@ -6,3 +6,4 @@ pub mod KeptLemmas
 pub mod ServingLemmas
 pub mod AnsweringLemmas
 pub mod SeedLemmas
+pub mod TellingLemmas

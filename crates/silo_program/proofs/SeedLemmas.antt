@@ -21,7 +21,7 @@ TakesMaps other = Unit {0}
 pub ask_for_work : (words : List Text) (t : Task) → TakesMaps t → AskFor words t → AskForWork words
 ask_for_work words (task.Steps age ages tenants) takes asked = inl (_, _, inl (age, asked))
 ask_for_work words (task.Answer age ages sends journal tenants) takes asked = inl (_, _, inr (inr (age, sends, _, asked)))
-ask_for_work words (task.Serve workers age ages journal tenants) takes asked = inl (_, _, inr (inl (workers, age, _, asked)))
+ask_for_work words (task.Serve workers age ages journal telling tenants) takes asked = inl (_, _, inr (inl (workers, age, _, telling, asked)))
 ask_for_work words (task.Audit path) takes asked = inr (path.now, asked)
 ask_for_work words (task.Migrate path) takes asked = absurd takes
 

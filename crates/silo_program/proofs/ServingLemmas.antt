@@ -1,6 +1,9 @@
 -- How serving fails, by what failed.
-use Rattle.std.proofs.Common.{◌≡◌, ◌∙◌, ℕ, List, Option, None, Some, IfOk, IfErr, Result, true, inl, inr, refl, sym, subst, ⊎_elim}
+use Rattle.std.proofs.Common.{◌≡◌, ◌∙◌, ◌++◌, ◌||◌, if◌then◌else◌, ℕ, Bool, true, false, true≢false, List, [], length, Option, None, Some, IfOk, IfErr, Result, inl, inr, refl, sym, ap, subst, ⊎_elim}
+use Rattle.std.specs.Prelude.{IfSome}
+use Rattle.std.specs.Io.KnownBytes.{Keeps}
 use Rattle.std.proofs.KnownBytes.{Keeps-refl}
+use Rattle.std.proofs.lemmas.Option.{IfSome-weaker}
 use Rattle.std.proofs.lemmas.Result.{IfErr-weaker, IfOk-weaker}
 use Rattle.clap.specs.Words.{Text}
 use Rattle.silo_model.specs.Opening.{Setup}
@@ -14,16 +17,28 @@ use Rattle.line_service.specs.declared.fault.ServiceFault.{ServiceFault}
 use Rattle.line_service.specs.declared.fault.ServiceFault.TheVariants as service
 use Rattle.silo_words.specs.Ages.{IsWhyNoAges, NamesAges}
 use Rattle.silo_words.specs.Tenants.{IsReason, NameTenants}
-use Rattle.silo_words.specs.Words.{AskForAnswering, AskForServing, AskForSteps}
+use Rattle.silo_words.specs.Words.{AskForAnswering, AskForAudit, AskForServing, AskForSteps, nothing_told}
+use Rattle.silo_words.specs.declared.task.Telling.{Telling}
+use Rattle.silo_program.specs.Telling.{IsTold, asks_to_tell, codes_of, counts_text, reasons_behind, telling_text}
 use Rattle.silo_program.specs.Status.{IsAgesFault, IsTenantsFault, cause_of}
 use Rattle.tenant_gate.specs.Table.{Table}
 use Rattle.idle_collector.specs.Ages.{Ages}
-use Rattle.line_service.specs.Serving.{StopsServing, setup_of}
+use Rattle.silo_core.specs.History.{History}
+use Rattle.silo_event.specs.declared.reply.Reply.{Reply}
+use Rattle.grain_kinds.specs.Resting.{resting_kinds}
+use Rattle.line_parser.specs.declared.line.Line.{Line}
+use Rattle.line_parser.specs.declared.line.LineRefusal.{LineRefusal}
+use Rattle.line_protocol.specs.Gathered.{ReadsAll, StopsGathering}
+use Rattle.line_service.specs.Asked.{lanes_of, refusals_of}
+use Rattle.line_service.specs.Serving.{IsServed, LeavesServed, StopsServing, serving_fault, setup_of}
+use Rattle.worker_host.specs.declared.report.ServeFault.{ServeFault}
+use Rattle.worker_host.specs.declared.report.ServeFault.TheVariants as serve
 use Rattle.silo_program.specs.Files.{FileClaims, claims}
 use Rattle.silo_program.specs.Kept.{IsKeepingCause, KeepsSecond, MayFailAgain, MayFailAt, WritesAtMost, WritesFirst, WritesFirstAtMost, empty_journal}
-use Rattle.silo_program.specs.Serving.{LeavesOutcome, Outcome, ServingFailsBy, WritesJournalAtMost, outcome_text, service_cause}
+use Rattle.silo_program.specs.Serving.{LeavesOutcome, Outcome, ServesLanes, ServingFailsBy, WritesJournalAtMost, outcome_text, service_cause}
 use Rattle.silo_program.specs.Answering.{WritesJournalsAtMost}
-use Rattle.silo_program.specs.Ends.{AskForJournal, EndsAs, IsAnsweringFault, IsFaultOf, IsNamingFault, IsServingFault, IsStreamFault, LeavesFiles, ShowsText, WritesAnswered, WritesJournal}
+use Rattle.silo_program.specs.Auditing.{AuditsFile}
+use Rattle.silo_program.specs.Ends.{AskForJournal, EndsAs, EndsServing, IsAnsweringFault, IsFaultOf, IsNamingFault, IsServingFault, IsStreamFault, LeavesFiles, ServesInput, ShowsText, WritesAnswered, WritesJournal}
 use Rattle.silo_program.specs.declared.failure.Cause.{Cause}
 use Rattle.silo_program.specs.declared.failure.Cause.TheVariants as cause
 use Rattle.silo_program.specs.declared.failure.End.{End}
@@ -59,6 +74,52 @@ module _ (setup : Setup) (files : FileClaims) (journal : Option (List ℕ)) (fro
 
   pub not_served : (why : ServiceFault) (by : Cause) → by ≡ service_cause why → StopsServing why from reading → ServingFailsBy setup files journal by from left reading before before writing
   not_served why by is stops = subst (λ (c : Cause). ServingFailsBy setup files journal c from left reading before before writing) (sym is) (by_service why stops)
+
+-- ---- lines were read, and served
+
+-- of an input of which nothing is read ahead
+pub stops_read : (why : LineFault) (from left : Option (List ℕ)) (calls : ReaderCalls) → left ≡ from → StopsGathering why left calls → StopsServing (service.Failed why) from calls
+stops_read why from left calls same stops = subst (λ (o : Option (List ℕ)). StopsGathering why o calls) same stops
+
+pub stops_served : (from : Option (List ℕ)) (calls : ReaderCalls) (why : ServiceFault) → (fault : ServeFault) × (why ≡ serving_fault fault) → StopsServing why from calls
+stops_served from calls why is = subst (λ (w : ServiceFault). StopsServing w from calls) (sym is.1) (by is.0)
+  where
+    by : (fault : ServeFault) → StopsServing (serving_fault fault) from calls
+    by serve.Memory = tt
+    by serve.NoWorker = tt
+    by serve.Strayed = tt
+
+module _ (setup : Setup) (from ahead left : Option (List ℕ)) (same : ahead ≡ from) (lines : List Line) (read : IfSome ahead (λ input. ReadsAll input lines left)) (refusals : List LineRefusal) (refused : refusals ≡ refusals_of lines) (silo : History) where
+  reads : IfSome from (λ input. ReadsAll input lines left)
+  reads = subst (λ (o : Option (List ℕ)). IfSome o (λ input. ReadsAll input lines left)) same read
+
+  pub served_lines : (answers : List (List Reply)) → LeavesServed resting_kinds setup (lanes_of lines) silo answers → IfSome from (λ input. IsServed resting_kinds setup input left refusals silo answers)
+  served_lines answers served = IfSome-weaker from _ _ (λ input is. record { lines = lines; read = is; refused = refused; lanes = served }) reads
+
+  pub told_lines : (telling : Telling) (reasons text : List ℕ) → reasons ≡ (if telling.explain_lines then reasons_behind 0 lines else [])
+      → text ≡ reasons ++ (if telling.summary then counts_text (length lines) (codes_of refusals silo.whole.replies) (length silo.journal) else [])
+      → IsTold telling from silo text
+  told_lines telling reasons text first second = IfSome-weaker from _ _
+      (λ input (is : ReadsAll input lines left). second
+      ∙ ap (λ t. t ++ (if telling.summary then counts_text (length lines) (codes_of refusals silo.whole.replies) (length silo.journal) else [])) first
+      ∙ ap (λ r. (if telling.explain_lines then reasons_behind 0 lines else []) ++ (if telling.summary then counts_text (length lines) (codes_of r silo.whole.replies) (length silo.journal) else [])) refused
+      ∙ ap (λ said. telling_text telling said silo) is.said) reads
+
+-- nothing is to be told
+pub untold_lines : (telling : Telling) (lines : List Line) (refusals : List LineRefusal) (silo : History) (reasons text : List ℕ) → reasons ≡ (if telling.explain_lines then reasons_behind 0 lines else [])
+    → text ≡ reasons ++ (if telling.summary then counts_text (length lines) (codes_of refusals silo.whole.replies) (length silo.journal) else []) → telling ≡ nothing_told → text ≡ []
+untold_lines telling lines refusals silo reasons text first second none =
+    second ∙ ap (λ t. t ++ (if telling.summary then counts_text (length lines) (codes_of refusals silo.whole.replies) (length silo.journal) else [])) first
+    ∙ ap (λ (asked : Telling). (if asked.explain_lines then reasons_behind 0 lines else []) ++ (if asked.summary then counts_text (length lines) (codes_of refusals silo.whole.replies) (length silo.journal) else [])) none
+
+-- what is asked for is told, or nothing is
+pub not_asked : (telling : Telling) → asks_to_tell telling ≡ false → telling ≡ nothing_told
+not_asked telling none = go telling.explain_lines telling.summary refl refl none
+  where
+    go : (explain summary : Bool) → telling.explain_lines ≡ explain → telling.summary ≡ summary → (explain || summary) ≡ false → telling ≡ nothing_told
+    go false false e s n = λ i. record { explain_lines = e i; summary = s i }
+    go false true e s n = absurd (true≢false n)
+    go true summary e s n = absurd (true≢false n)
 
 -- ---- lines were served
 
@@ -108,10 +169,10 @@ module _ {F : Type 0} (may_hold : F → List ℕ → List ℕ → Type 0) (may_f
 
 module _ (words : List Text) (files : FileClaims) (from left : Option (List ℕ)) (workers age : ℕ) (given : Option Text) (tenants : Table) (ages : Ages) (arguments : List Text) where
   -- of what the words ask for
-  pub files_left : (journal : Option Text) → AskForServing words workers age given journal arguments → NameTenants arguments tenants × NamesAges given ages → WritesJournalAtMost (setup_of tenants age ages) files journal from left
+  pub files_left : (journal : Option Text) (telling : Telling) → AskForServing words workers age given journal telling arguments → NameTenants arguments tenants × NamesAges given ages → WritesJournalAtMost (setup_of tenants age ages) files journal from left
       → LeavesFiles words files from left
-  files_left None asked named same = inl same
-  files_left (Some path) asked named is =
+  files_left None telling asked named same = inl same
+  files_left (Some path) telling asked named is =
       ⊎_elim (λ same. inl same)
       (λ written. inr (inl (record {
         workers = workers;
@@ -119,6 +180,7 @@ module _ (words : List Text) (files : FileClaims) (from left : Option (List ℕ)
         age = age;
         ages = ages;
         path = path;
+        telling = telling;
         asked = record { given = given; arguments = arguments; asked = asked; named = named.0; aged = named.1 };
         written = written;
       }))) is
@@ -127,7 +189,7 @@ module _ (words : List Text) (files : FileClaims) (from left : Option (List ℕ)
 pub untouched : (words : List Text) (files : FileClaims) (from left : Option (List ℕ)) → LeavesFiles words files from left → ((path : Text) → ¬ AskForJournal words path) → files.same
 untouched words files from left leaves never =
     ⊎_elim (λ same. same)
-    (λ written. ⊎_elim (λ (w : WritesJournal words files from left). absurd (never w.path (inl (w.workers, w.age, w.asked.given, w.asked.arguments, w.asked.asked))))
+    (λ written. ⊎_elim (λ (w : WritesJournal words files from left). absurd (never w.path (inl (w.workers, w.age, w.asked.given, w.telling, w.asked.arguments, w.asked.asked))))
     (λ (w : WritesAnswered words files from). absurd (never w.path (inr (w.age, w.asked.given, w.sends, w.asked.arguments, w.asked.asked)))) written) leaves
 
 -- ---- tenants and ages aren't named
@@ -156,13 +218,13 @@ module _ (words : List Text) (from : Option (List ℕ)) (reading : Reading) (bef
 
   module _ (files : FileClaims) (same : files.same) where
     -- nor lines served
-    pub serving_refused : (workers age : ℕ) (journal : Option Text) → AskForServing words workers age given journal arguments → (told : ProgramFault) → IsNamingFault given arguments told
+    pub serving_refused : (workers age : ℕ) (journal : Option Text) (telling : Telling) → AskForServing words workers age given journal telling arguments → (told : ProgramFault) → IsNamingFault given arguments told
         → IsServingFault words files told from from reading before before writing
-    serving_refused workers age journal asked (fault.Failed why) is =
+    serving_refused workers age journal telling asked (fault.Failed why) is =
         subst (λ (c : Cause). IsServingFault words files (fault.Failed c) from from reading before before writing) (sym is) (inl (Keeps-refl from, Keeps-refl before))
-    serving_refused workers age journal asked (fault.Refused text) is =
-        (inr (record { given = given; arguments = arguments; asked = inr (inl (workers, age, journal, asked)); why = is }), Keeps-refl from, Keeps-refl before, same)
-    serving_refused workers age journal asked (fault.NoJournal text) is = absurd is
+    serving_refused workers age journal telling asked (fault.Refused text) is =
+        (inr (record { given = given; arguments = arguments; asked = inr (inl (workers, age, journal, telling, asked)); why = is }), Keeps-refl from, Keeps-refl before, same)
+    serving_refused workers age journal telling asked (fault.NoJournal text) is = absurd is
 
     -- nor answered at once
     pub answering_refused : (age sends : ℕ) (journal : Option Text) → AskForAnswering words age given sends journal arguments → (told : ProgramFault) → IsNamingFault given arguments told
@@ -209,3 +271,37 @@ module _ (words : List Text) (files : FileClaims) (from left : Option (List ℕ)
         asked = record { given = given; arguments = arguments; asked = asked; named = named.0; aged = named.1 };
         written = written;
       }))) is
+
+-- ---- how lines that were served end
+
+module _ (words : List Text) (files : FileClaims) (telling : Telling) (from left before after : Option (List ℕ)) where
+  -- of what the words ask for
+  pub input_served : (workers age : ℕ) (given journal : Option Text) (tenants : Table) (ages : Ages) (arguments : List Text) (text : List ℕ) → AskForServing words workers age given journal telling arguments
+      → NameTenants arguments tenants × NamesAges given ages → ServesLanes (setup_of tenants age ages) files journal telling from left before after text → ServesInput words files telling from left before after text
+  input_served workers age given journal tenants ages arguments text asked named served = record {
+    workers = workers;
+    tenants = tenants;
+    age = age;
+    ages = ages;
+    journal = journal;
+    asked = record { given = given; arguments = arguments; asked = asked; named = named.0; aged = named.1 };
+    served = served;
+  }
+
+  served_end : (how : End) → EndsServing how words files telling from left before after → EndsAs how words files from left before after
+  served_end end.Well is = inr (inr (inl (subst (λ (t : Telling). ServesInput words files t from left before after []) is.0 is.1)))
+  served_end (end.Told text) is = (telling, is.0, is.1)
+  served_end end.Differs is = absurd is
+
+  pub ends_served : {E : Type 0} (result : Result End E) → IfOk result (λ how. EndsServing how words files telling from left before after) → IfOk result (λ how. EndsAs how words files from left before after)
+  ends_served result is = IfOk-weaker result (λ how. EndsServing how words files telling from left before after) (λ how. EndsAs how words files from left before after) served_end is
+
+-- a journal was audited
+module _ (words : List Text) (files : FileClaims) (path : Text) (asked : AskForAudit words path) (same : files.same) (from left before after : Option (List ℕ)) (kept : Keeps from left) where
+  audited_end : (how : End) → AuditsFile (files.may_hold path) how before after → EndsAs how words files from left before after
+  audited_end end.Well is = inr (inr (inr (inr (record { path = path; asked = asked; kept = kept; unwritten = same; audited = is }))))
+  audited_end (end.Told text) is = absurd is.found
+  audited_end end.Differs is = record { path = path; asked = asked; kept = kept; unwritten = same; audited = is }
+
+  pub ends_audited : {E : Type 0} (result : Result End E) → IfOk result (λ how. AuditsFile (files.may_hold path) how before after) → IfOk result (λ how. EndsAs how words files from left before after)
+  ends_audited result is = IfOk-weaker result (λ how. AuditsFile (files.may_hold path) how before after) (λ how. EndsAs how words files from left before after) audited_end is

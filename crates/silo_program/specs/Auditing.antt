@@ -34,6 +34,7 @@ some_differs reports = list_any (λ (r : TenantReport). is_some r.difference) re
 -- how an audit ends that finds a difference, or none
 abbrev pub IsEndOf : End → List TenantReport → Type 0
 IsEndOf end.Well reports = some_differs reports ≡ false
+IsEndOf (end.Told text) reports = ⊥
 IsEndOf end.Differs reports = some_differs reports ≡ true
 
 -- ---- what a file may have

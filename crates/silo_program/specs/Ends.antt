@@ -1,5 +1,5 @@
 -- How the program ends, by its status: what the words ask for, what was read and written, and what was told.
-use Rattle.std.specs.Prelude.{◌≡◌, ◌⊎◌, ℕ, List, Option, Some, string_bytes}
+use Rattle.std.specs.Prelude.{◌≡◌, ◌⊎◌, ℕ, true, List, [], Option, Some, string_bytes}
 use Rattle.std.specs.Io.KnownBytes.{Appends, Keeps}
 use Rattle.clap.specs.Words.{Text}
 use Rattle.tenant_gate.specs.Table.{Table}
@@ -9,9 +9,11 @@ use Rattle.line_protocol.specs.declared.written.WriterCalls.{WriterCalls}
 use Rattle.line_protocol.specs.declared.fault.LineFault.{LineFault}
 use Rattle.line_service.specs.Serving.{setup_of}
 use Rattle.silo_words.specs.Words.{AreRefused, AskForAnswering, AskForAudit, AskForHelp, AskForMigration, AskForNothing}
-use Rattle.silo_words.specs.Words.{AskForServing, AskForSteps, AskForVersion, EndsWithExample}
+use Rattle.silo_words.specs.Words.{AskForServing, AskForSteps, AskForVersion, EndsWithExample, nothing_told}
+use Rattle.silo_words.specs.declared.task.Telling.{Telling}
 use Rattle.silo_program.specs.Status.{cause_of, no_ages_text, refused_text, version_text}
-use Rattle.silo_program.specs.Streams.{BreaksOff}
+use Rattle.silo_program.specs.Streams.{BreaksOff, Tells}
+use Rattle.silo_program.specs.Telling.{asks_to_tell}
 use Rattle.silo_words.specs.Ages.{NamesAges}
 use Rattle.silo_words.specs.Tenants.{IsFirstRefused, NameTenants}
 use Rattle.silo_program.specs.Steps.{AnswersFrom, StopsFrom}
@@ -41,12 +43,13 @@ pub record AskForTenants (words : List Text) (tenants : Table) (age : ℕ) (ages
   pub named : NameTenants arguments tenants
   pub aged : NamesAges given ages
 
--- The words ask to serve the lines of an input by so many threads, for these tenants under this age and these ages of kinds, and for the
--- journal at this path.
-pub record AskForThreads (words : List Text) (workers : ℕ) (tenants : Table) (age : ℕ) (ages : Ages) (journal : Option Text) : Type 0 where
+-- The words ask to serve the lines of an input by so many threads, for these tenants under this age and these ages of kinds, for the
+-- journal at this path, and to tell this of it.
+pub record AskForThreads (words : List Text) (workers : ℕ) (tenants : Table) (age : ℕ) (ages : Ages) (journal : Option Text)
+    (telling : Telling) : Type 0 where
   pub given : Option Text
   pub arguments : List Text
-  pub asked : AskForServing words workers age given journal arguments
+  pub asked : AskForServing words workers age given journal telling arguments
   pub named : NameTenants arguments tenants
   pub aged : NamesAges given ages
 
@@ -62,8 +65,8 @@ pub record AskForAnswers (words : List Text) (tenants : Table) (age : ℕ) (ages
 -- The words ask for the journal at the path, of lines that are served or answered at once.
 abbrev pub AskForJournal : List Text → Text → Type 0
 AskForJournal words path =
-    ((workers : ℕ) × (age : ℕ) × (given : Option Text) × (arguments : List Text)
-    × AskForServing words workers age given (Some path) arguments)
+    ((workers : ℕ) × (age : ℕ) × (given : Option Text) × (telling : Telling) × (arguments : List Text)
+    × AskForServing words workers age given (Some path) telling arguments)
     ⊎ ((age : ℕ) × (given : Option Text) × (sends : ℕ) × (arguments : List Text)
     × AskForAnswering words age given sends (Some path) arguments)
 
@@ -75,7 +78,8 @@ AskForFile words path = AskForAudit words path ⊎ AskForMigration words path
 abbrev pub HaveArguments : List Text → Option Text → List Text → Type 0
 HaveArguments words given arguments =
     ((age : ℕ) × AskForSteps words age given arguments)
-    ⊎ (((workers : ℕ) × (age : ℕ) × (journal : Option Text) × AskForServing words workers age given journal arguments)
+    ⊎ (((workers : ℕ) × (age : ℕ) × (journal : Option Text) × (telling : Telling)
+    × AskForServing words workers age given journal telling arguments)
     ⊎ ((age : ℕ) × (sends : ℕ) × (journal : Option Text) × AskForAnswering words age given sends journal arguments))
 
 -- The words ask for work that takes maps: to take steps, to serve, to answer at once, or to audit.
@@ -157,15 +161,16 @@ pub record FailsInSteps (words : List Text) (why : Cause) (from left : Option (L
 
 -- ---- lines are served
 
--- The words name tenants, and the lines of the input were served for them.
-pub record ServesInput (words : List Text) (files : FileClaims) (from left before after : Option (List ℕ)) : Type 0 where
+-- The words name tenants, and the lines of the input were served for them. The text is what the words ask to tell of them.
+pub record ServesInput (words : List Text) (files : FileClaims) (telling : Telling) (from left before after : Option (List ℕ))
+    (text : List ℕ) : Type 0 where
   pub workers : ℕ
   pub tenants : Table
   pub age : ℕ
   pub ages : Ages
   pub journal : Option Text
-  pub asked : AskForThreads words workers tenants age ages journal
-  pub served : ServesLanes (setup_of tenants age ages) files journal from left before after
+  pub asked : AskForThreads words workers tenants age ages journal telling
+  pub served : ServesLanes (setup_of tenants age ages) files journal telling from left before after text
 
 -- The words name tenants, and serving the lines of the input for them failed.
 pub record FailsInServing (words : List Text) (files : FileClaims) (why : Cause) (from left : Option (List ℕ)) (reading : Reading)
@@ -175,7 +180,8 @@ pub record FailsInServing (words : List Text) (files : FileClaims) (why : Cause)
   pub age : ℕ
   pub ages : Ages
   pub journal : Option Text
-  pub asked : AskForThreads words workers tenants age ages journal
+  pub telling : Telling
+  pub asked : AskForThreads words workers tenants age ages journal telling
   pub failed : ServingFailsBy (setup_of tenants age ages) files journal why from left reading.calls before after writing
 
 -- The words name tenants and a path. To this path the journal of no step was written, or this and then the journal of what was
@@ -186,7 +192,8 @@ pub record WritesJournal (words : List Text) (files : FileClaims) (from left : O
   pub age : ℕ
   pub ages : Ages
   pub path : Text
-  pub asked : AskForThreads words workers tenants age ages (Some path)
+  pub telling : Telling
+  pub asked : AskForThreads words workers tenants age ages (Some path) telling
   pub written : WritesServed (setup_of tenants age ages) files path from left
 
 -- ---- lines are answered at once
@@ -279,15 +286,32 @@ pub record RefusesJournal (words : List Text) (files : FileClaims) (text : Text)
 -- ---- how the program ends
 
 -- All is well: the words ask for a text, or to migrate a journal, which was written, or for steps, which were answered, or for lines to
--- be served or answered at once, which they were, or for an audit, which found no difference. A tenant differs: the words ask for an
--- audit, which found that.
+-- be served or answered at once, which they were, or for an audit, which found no difference. The same of lines that were served, of
+-- which this text is to be told. A tenant differs: the words ask for an audit, which found that.
 abbrev pub EndsAs : End → List Text → FileClaims → Option (List ℕ) → Option (List ℕ) → Option (List ℕ) → Option (List ℕ) → Type 0
 EndsAs end.Well words files from left before after =
     (ShowsText words from left before after ⊎ Migrates words files from left before after)
     ⊎ (ServesSteps words from left before after
-    ⊎ (ServesInput words files from left before after
+    ⊎ (ServesInput words files nothing_told from left before after []
     ⊎ (AnswersAtOnce words files from left before after ⊎ Audits words files end.Well from left before after)))
+EndsAs (end.Told text) words files from left before after =
+    (telling : Telling) × (asks_to_tell telling ≡ true) × ServesInput words files telling from left before after (string_bytes text)
 EndsAs end.Differs words files from left before after = Audits words files end.Differs from left before after
+
+-- What was told at such an end: nothing, or the text.
+abbrev pub TellsEnd : Option (List ℕ) → Option (List ℕ) → WriterCalls → End → Type 0
+TellsEnd before after writing end.Well = Keeps before after
+TellsEnd before after writing (end.Told text) = Tells before after writing (string_bytes text)
+TellsEnd before after writing end.Differs = Keeps before after
+
+-- How lines that are served end, if they do.
+abbrev pub EndsServing : End → List Text → FileClaims → Telling → Option (List ℕ) → Option (List ℕ) → Option (List ℕ) → Option (List ℕ)
+    → Type 0
+EndsServing end.Well words files telling from left before after =
+    (telling ≡ nothing_told) × ServesInput words files telling from left before after []
+EndsServing (end.Told text) words files telling from left before after =
+    (asks_to_tell telling ≡ true) × ServesInput words files telling from left before after (string_bytes text)
+EndsServing end.Differs words files telling from left before after = ⊥
 
 -- What was done before the program failed by this: nothing yet, or a part of what the words ask for.
 abbrev pub FailsBy : List Text → FileClaims → Cause → Option (List ℕ) → Option (List ℕ) → Reading → Option (List ℕ) → Option (List ℕ)

@@ -4,6 +4,7 @@ pub mod Files
 pub mod Steps
 pub mod Journals
 pub mod Kept
+pub mod Telling
 pub mod Serving
 pub mod Answering
 pub mod Auditing

@@ -20,6 +20,8 @@ use Rattle.silo_program.specs.Journals.{silo_journal}
 use Rattle.silo_program.specs.Kept.{KeepsSecond, MayFailAgain, MayFailAt, WritesFirst, empty_journal}
 use Rattle.silo_program.specs.Status.{cause_of}
 use Rattle.silo_program.specs.Streams.{BreaksOff, IsUnbegun}
+use Rattle.silo_program.specs.Telling.{IsTold}
+use Rattle.silo_words.specs.declared.task.Telling.{Telling}
 use Rattle.silo_program.specs.declared.failure.Cause.{Cause}
 use Rattle.silo_program.specs.declared.failure.Cause.TheVariants as cause
 
@@ -57,13 +59,14 @@ WritesJournalAtMost setup files (Some path) from left = files.same ⊎ WritesSer
 -- ---- how serving ends
 
 -- The lines of the input were served; their journal was written behind that of no step, if a path is given; and then what became
--- of them.
-pub record ServesLanes (setup : Setup) (files : FileClaims) (journal : Option (List ℕ))
-    (from left before after : Option (List ℕ)) : Type 0 where
+-- of them. The text is what is to be told of them.
+pub record ServesLanes (setup : Setup) (files : FileClaims) (journal : Option (List ℕ)) (telling : Telling)
+    (from left before after : Option (List ℕ)) (text : List ℕ) : Type 0 where
   pub outcome : Outcome
   pub served : LeavesOutcome setup from left outcome
   pub kept : KeepsSecond setup files journal outcome.silo
   pub written : Appends before after (outcome_text outcome)
+  pub told : IsTold telling from outcome.silo text
 
 -- The same, but the text of what became of them breaks off: a call of the writer failed.
 pub record WritesOutcomeInPart (setup : Setup) (files : FileClaims) (journal : Option (List ℕ))

@@ -54,9 +54,10 @@ status_of (fault.Failed why) = 1
 status_of (fault.Refused text) = 2
 status_of (fault.NoJournal text) = 4
 
--- 0 if all is well, and 3 if a tenant differs
+-- 0 if all is well, whatever is told of it, and 3 if a tenant differs
 abbrev pub end_status : End → ℕ
 end_status end.Well = 0
+end_status (end.Told text) = 0
 end_status end.Differs = 3
 
 -- ---- what faults become

@@ -3,6 +3,7 @@
 ghost use Rattle.std.specs.Prelude.{◌≡◌, ◌≢◌, true, false};
 ghost use Rattle.std.specs.Io.KnownBytes.{Appends};
 ghost use Rattle.std.specs.IoError.{error_kind};
+ghost use Rattle.silo_program.specs.Ends.{TellsEnd};
 ghost use Rattle.silo_program.specs.Status.{cause_of, end_status, failure_text, status_of, told_text};
 ghost use Rattle.silo_program.specs.Streams.{BreaksOff, Tells};
 
@@ -11,9 +12,11 @@ use std::io::{self, ErrorKind, Write};
 use thiserror::Error;
 
 /// How the program ends if it does what it is asked for.
-#[derive(Clone, Copy, Debug, PartialEq, Eq)]
+#[derive(Debug, Drop)]
 pub enum End {
     Well,
+    /// All is well, and this is to be told of the lines that were served.
+    Told(String),
     /// An audit found that a tenant differs.
     Differs,
 }
@@ -130,12 +133,17 @@ pub fn tell<E: Write>(errors: &mut Output<E>, fault: &ProgramFault) -> u8
     }
 }
 
-/// The status of a program that did what it was asked for.
-pub fn status_of_end(end: End) -> u8
-    ensures { result ≡ end_status end }
+/// Tells the errors what is to be told of what was done, as far as they take it, and answers the status.
+pub fn tell_end<E: Write>(errors: &mut Output<E>, end: &End) -> u8
+    ensures status { result ≡ end_status end.now }
+    ensures told { TellsEnd (E.contents errors.old.writer) (E.contents errors.new.writer) errors.new.calls end.now }
 {
     match end {
         End::Well => 0,
+        End::Told(told) => {
+            say(errors, told.as_str());
+            0
+        }
         End::Differs => DIFFERS_STATUS,
     }
 }

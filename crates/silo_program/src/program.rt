@@ -1,6 +1,6 @@
 //! What the program does, over any files and streams.
 
-ghost use Rattle.std.specs.Prelude.{◌≡◌, ◌≤◌, ◌⊎◌, List, ℕ, Option, IfOk, IfErr, OnOk, map, option_map};
+ghost use Rattle.std.specs.Prelude.{◌≡◌, ◌≢◌, ◌≤◌, ◌⊎◌, List, ℕ, Option, IfOk, IfErr, OnOk, map, option_map};
 ghost use Rattle.std.specs.Io.KnownBytes.{Appends, Keeps};
 ghost use Rattle.clap.specs.Words.{Text};
 ghost use Rattle.line_protocol.specs.Reading.{IsFresh, Reading};
@@ -10,22 +10,26 @@ ghost use Rattle.silo_words.specs.Words.{AskForAnswering, AskForServing, AskForS
 ghost use Rattle.silo_program.specs.Status.{IsAgesFault, IsTenantsFault, failure_text};
 ghost use Rattle.silo_program.specs.Streams.{BreaksOff, Tells};
 ghost use Rattle.silo_program.specs.Files.{claims};
-ghost use Rattle.silo_program.specs.Ends.{AnswersAtOnce, AreRefusedBy, AskForJournal, EndsAs, FailsBy, IsAnsweringFault, IsFaultOf};
-ghost use Rattle.silo_program.specs.Ends.{IsNamingFault, IsServingFault, IsStreamFault, LeavesFiles, RefusesJournal, ServesInput};
-ghost use Rattle.silo_program.specs.Ends.{ServesSteps, ShowsText};
+ghost use Rattle.silo_program.specs.Ends.{AnswersAtOnce, AreRefusedBy, AskForJournal, EndsAs, EndsServing, FailsBy, IsAnsweringFault};
+ghost use Rattle.silo_program.specs.Ends.{IsFaultOf, IsNamingFault, IsServingFault, IsStreamFault, LeavesFiles, RefusesJournal};
+ghost use Rattle.silo_program.specs.Ends.{ServesSteps, ShowsText, TellsEnd};
+ghost use Rattle.silo_program.specs.declared.failure.End.{End as EndValue};
 
 use crate::answering::answer_input;
 use crate::auditing::audit_file;
-use crate::failure::{Cause, End, ProgramFault, cause_of, say, status_of_end, tell};
+use crate::failure::{Cause, End, ProgramFault, cause_of, say, tell, tell_end};
 use crate::files::WholeFiles;
 use crate::migrating::migrate_file;
 use crate::seeding::seed_for;
 use crate::serving::serve_lines;
 use crate::stepping::answer_steps;
+use crate::telling::asks_to_tell;
 use grain_id::HashSeed;
 use idle_collector::AgeTable;
 use line_protocol::{Input, Output};
-use silo_words::{AgesFault, Task, TenantsFault, WordsFault, read_ages, read_tenants, read_words};
+use silo_words::{
+    AgesFault, Task, Telling, TenantsFault, WordsFault, read_ages, read_tenants, read_words,
+};
 use std::alloc::Global;
 use std::io::{Read, Write};
 use std::random::RandomSource;
@@ -213,6 +217,7 @@ fn serve_tenants<
     age: Age,
     ages: Option<&str>,
     journal: Option<&str>,
+    telling: Telling,
     arguments: &[&str],
     files: &mut F,
     input: &mut Input<R>,
@@ -222,17 +227,17 @@ fn serve_tenants<
     requires workers { (1 ≤ workers) × (workers ≤ 64) }
     requires fresh { IsFresh input.old.lines }
     ensures ended { (words : List Text) → AskForServing words workers age (option_map (λ text. text.now) ages.entry)
-        (option_map (λ path. path.now) journal.entry) (map (λ text. text.now) arguments.now)
-        → IfOk result (λ end. (end ≡ End.Well) × ServesInput words (claims F.may_hold F.may_fail F.may_leave files.old files.new)
+        (option_map (λ path. path.now) journal.entry) telling (map (λ text. text.now) arguments.now)
+        → IfOk result (λ end. EndsServing end words (claims F.may_hold F.may_fail F.may_leave files.old files.new) telling
         (R.remaining input.old.reader) (R.remaining input.new.reader) (W.contents output.old.writer) (W.contents output.new.writer)) }
     ensures unfailed { OnOk result (output.new.calls.failed ≡ output.old.calls.failed) }
     ensures fault { (words : List Text) → AskForServing words workers age (option_map (λ text. text.now) ages.entry)
-        (option_map (λ path. path.now) journal.entry) (map (λ text. text.now) arguments.now)
+        (option_map (λ path. path.now) journal.entry) telling (map (λ text. text.now) arguments.now)
         → IfErr result (λ why. IsServingFault words (claims F.may_hold F.may_fail F.may_leave files.old files.new) why
         (R.remaining input.old.reader) (R.remaining input.new.reader) input.new.lines
         (W.contents output.old.writer) (W.contents output.new.writer) output.new.calls) }
     ensures journal { (words : List Text) → AskForServing words workers age (option_map (λ text. text.now) ages.entry)
-        (option_map (λ path. path.now) journal.entry) (map (λ text. text.now) arguments.now)
+        (option_map (λ path. path.now) journal.entry) telling (map (λ text. text.now) arguments.now)
         → LeavesFiles words (claims F.may_hold F.may_fail F.may_leave files.old files.new)
         (R.remaining input.old.reader) (R.remaining input.new.reader) }
 {
@@ -245,12 +250,19 @@ fn serve_tenants<
         age,
         named.ages,
         journal,
+        telling,
         files,
         input,
         output,
         gate,
     ) {
-        Ok(()) => Ok(End::Well),
+        Ok(text) => {
+            if asks_to_tell(telling) {
+                return Ok(End::Told(text));
+            }
+            drop(text);
+            Ok(End::Well)
+        }
         Err(why) => Err(ProgramFault::Failed(why)),
     }
 }
@@ -327,6 +339,7 @@ pub fn answer<
             age,
             ages,
             journal,
+            telling,
             tenants,
         } => serve_tenants(
             rt,
@@ -335,6 +348,7 @@ pub fn answer<
             *age,
             *ages,
             *journal,
+            *telling,
             tenants.as_slice(),
             files,
             input,
@@ -365,9 +379,11 @@ pub fn run_program<
     requires { IsFresh input.old.lines }
     ensures status { result ≤ 4 }
 
-    // What the words ask for was done.
-    ensures well { result ≡ 0 → EndsAs End.Well (texts_of words.now) (claims F.may_hold F.may_fail F.may_leave files.old files.new)
-        (R.remaining input.old.reader) (R.remaining input.new.reader) (W.contents output.old.writer) (W.contents output.new.writer) }
+    // What the words ask for was done, and told if they ask to tell it.
+    ensures well { result ≡ 0 → (how : EndValue) × (how ≢ End.Differs)
+        × EndsAs how (texts_of words.now) (claims F.may_hold F.may_fail F.may_leave files.old files.new)
+        (R.remaining input.old.reader) (R.remaining input.new.reader) (W.contents output.old.writer) (W.contents output.new.writer)
+        × TellsEnd (E.contents errors.old.writer) (E.contents errors.new.writer) errors.new.calls how }
 
     // An audit was asked for, and a tenant differs.
     ensures differs { result ≡ 3 → EndsAs End.Differs (texts_of words.now) (claims F.may_hold F.may_fail F.may_leave files.old files.new)
@@ -379,9 +395,9 @@ pub fn run_program<
         (R.remaining input.old.reader) (R.remaining input.new.reader) }
     ensures files { ((path : Text) → ¬ AskForJournal (texts_of words.now) path) → files.new ≡ files.old }
 
-    // No call of the writer failed, and nothing was told then.
+    // No call of the writer failed, and nothing was told then but what the words ask to tell.
     ensures unfailed { (result ≡ 0) ⊎ (result ≡ 3) → output.new.calls.failed ≡ output.old.calls.failed }
-    ensures quiet { (result ≡ 0) ⊎ (result ≡ 3) → Keeps (E.contents errors.old.writer) (E.contents errors.new.writer) }
+    ensures quiet { result ≡ 3 → Keeps (E.contents errors.old.writer) (E.contents errors.new.writer) }
 
     // The program failed, and told by what.
     ensures failed { result ≡ 1 → (why : Cause)
@@ -404,7 +420,7 @@ pub fn run_program<
         × Tells (E.contents errors.old.writer) (E.contents errors.new.writer) errors.new.calls text }
 {
     match answer(rt, words, files, input, output, &FreeGate, &FreeAuditGate) {
-        Ok(end) => status_of_end(end),
+        Ok(end) => tell_end(errors, &end),
         Err(fault) => tell(errors, &fault),
     }
 }

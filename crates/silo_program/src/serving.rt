@@ -1,22 +1,29 @@
 //! Serving the lines of an input by threads, and keeping the journal.
 
-ghost use Rattle.std.specs.Prelude.{◌≡◌, ◌≤◌, [], IfOk, IfErr, IfSome, OnOk, map as map_list, option_map};
+ghost use Rattle.std.specs.Prelude.{◌≡◌, ◌≤◌, [], IfOk, IfErr, IfSome, OnOk, map as map_list, option_map, string_bytes};
 ghost use Rattle.std.specs.FinMap.{entries};
 ghost use Rattle.grain_kinds.specs.Resting.{resting_kinds};
 ghost use Rattle.line_protocol.specs.Reading.{IsFresh};
-ghost use Rattle.line_service.specs.Serving.{IsServed, StopsServing, setup_of};
+ghost use Rattle.line_service.specs.Asked.{lanes_of, refusals_of};
+ghost use Rattle.line_service.specs.Serving.{IsServed, LeavesServed, StopsServing, serving_fault, setup_of};
+ghost use Rattle.worker_host.specs.declared.report.ServeFault.{ServeFault};
+ghost use Rattle.silo_words.specs.Words.{nothing_told};
 ghost use Rattle.silo_program.specs.Files.{claims};
 ghost use Rattle.silo_program.specs.Serving.{ServesLanes, ServingFailsBy, WritesJournalAtMost, service_cause};
+ghost use Rattle.silo_program.specs.Telling.{IsTold};
 
 use crate::failure::{Cause, cause_of};
 use crate::files::WholeFiles;
 use crate::first_journal::keep_first;
 use crate::journals::keep_journal;
+use crate::telling::{reasons_text, with_counts};
 use grain_id::HashSeed;
 use grain_kinds::RestingKinds;
 use idle_collector::AgeTable;
-use line_protocol::{Input, Output};
-use line_service::{ServedInput, ServiceFault, serve_input, write_served};
+use line_parser::Line;
+use line_protocol::{Input, LineFault, Output, read_all};
+use line_service::{ServedInput, ServiceFault, serve_read, write_served};
+use silo_words::Telling;
 use std::io::{Read, Write};
 use std::mem;
 use std::sync::Wait;
@@ -35,26 +42,25 @@ fn cause_of_service(fault: ServiceFault) -> Cause
     }
 }
 
-/// Reads all lines of the input, and serves them over no rows, by maps of the seed.
-fn serve_reader<H: AllocGlobal + Threads + Wait + Sync, R: Read, G: TurnGate + Sync>(
+/// Serves lines that were read, over no rows, by maps of the seed.
+fn serve_said<H: AllocGlobal + Threads + Wait + Sync, G: TurnGate + Sync>(
     rt: &H,
     seed: HashSeed,
     workers: usize,
     tenants: TenantTable,
     age: Age,
     ages: AgeTable,
-    input: &mut Input<R>,
+    said: Vec<Line>,
     gate: &G,
 ) -> Result<ServedInput<RestingKinds>, ServiceFault>
     requires workers { (1 ≤ workers) × (workers ≤ 64) }
-    requires fresh { IsFresh input.old.lines }
-    ensures served { IfOk result (λ served. IfSome (R.remaining input.old.reader) (λ bytes.
-        IsServed resting_kinds (setup_of tenants age ages) bytes (R.remaining input.new.reader) served.refusals.items served.report.silo
-        (map_list (λ v. v.items) served.report.answers.items))) }
+    ensures refused { IfOk result (λ served. served.refusals.items ≡ refusals_of said.items) }
+    ensures lanes { IfOk result (λ served. LeavesServed resting_kinds (setup_of tenants age ages) (lanes_of said.items) served.report.silo
+        (map_list (λ v. v.items) served.report.answers.items)) }
     ensures no_rows { IfOk result (λ served. entries served.report.silo.setup.rows ≡ []) }
-    ensures fault { IfErr result (λ why. StopsServing why (R.remaining input.old.reader) input.new.lines.calls) }
+    ensures fault { IfErr result (λ why. (fault : ServeFault) × (why ≡ serving_fault fault)) }
 {
-    serve_input(
+    serve_read(
         rt,
         workers,
         tenants,
@@ -62,13 +68,59 @@ fn serve_reader<H: AllocGlobal + Threads + Wait + Sync, R: Read, G: TurnGate + S
         ages,
         seed,
         RestingKinds,
-        input,
+        said,
         gate,
     )
 }
 
+/// What was served, and what is to be told of it.
+#[derive(Drop)]
+struct ToldInput {
+    served: ServedInput<RestingKinds>,
+    told: String,
+}
+
+/// Reads all lines of the input, and serves them over no rows, by maps of the seed; with what is to be told of them.
+fn serve_reader<H: AllocGlobal + Threads + Wait + Sync, R: Read, G: TurnGate + Sync>(
+    rt: &H,
+    seed: HashSeed,
+    workers: usize,
+    tenants: TenantTable,
+    age: Age,
+    ages: AgeTable,
+    telling: Telling,
+    input: &mut Input<R>,
+    gate: &G,
+) -> Result<ToldInput, ServiceFault>
+    requires workers { (1 ≤ workers) × (workers ≤ 64) }
+    requires fresh { IsFresh input.old.lines }
+    ensures served { IfOk result (λ told. IfSome (R.remaining input.old.reader) (λ bytes.
+        IsServed resting_kinds (setup_of tenants age ages) bytes (R.remaining input.new.reader) told.served.refusals.items
+        told.served.report.silo (map_list (λ v. v.items) told.served.report.answers.items))) }
+    ensures no_rows { IfOk result (λ told. entries told.served.report.silo.setup.rows ≡ []) }
+    ensures told { IfOk result (λ told. IsTold telling (R.remaining input.old.reader) told.served.report.silo (string_bytes told.told)) }
+    ensures untold { IfOk result (λ told. telling ≡ nothing_told → string_bytes told.told ≡ []) }
+    ensures fault { IfErr result (λ why. StopsServing why (R.remaining input.old.reader) input.new.lines.calls) }
+{
+    let alloc = rt.alloc();
+    let said = match read_all(alloc, input) {
+        Ok(said) => said,
+        Err(why) => return Err(ServiceFault::Failed(why)),
+    };
+    let lines = said.len();
+    let Ok(reasons) = reasons_text(alloc, telling, said.as_slice()) else {
+        return Err(ServiceFault::Failed(LineFault::Memory));
+    };
+    let served = serve_said(rt, seed, workers, tenants, age, ages, said, gate)?;
+    let Ok(told) = with_counts(alloc, telling, reasons, lines, &served) else {
+        return Err(ServiceFault::Failed(LineFault::Memory));
+    };
+    Ok(ToldInput { served, told })
+}
+
 /// Writes the journal of no step to the file at the path, if one is given; reads all lines of the input and serves them by
 /// so many threads, 1 to 64, over no rows; writes their journal to that file; and then writes what the lines are answered.
+/// Answers what is to be told of them.
 ///
 /// # Errors
 ///
@@ -91,16 +143,19 @@ pub fn serve_lines<
     age: Age,
     ages: AgeTable,
     journal: Option<&str>,
+    telling: Telling,
     files: &mut F,
     input: &mut Input<R>,
     output: &mut Output<W>,
     gate: &G,
-) -> Result<(), Cause>
+) -> Result<String, Cause>
     requires workers { (1 ≤ workers) × (workers ≤ 64) }
     requires fresh { IsFresh input.old.lines }
-    ensures served { OnOk result (ServesLanes (setup_of tenants age ages) (claims F.may_hold F.may_fail F.may_leave files.old files.new)
-        (option_map (λ path. path.now) journal.entry)
-        (R.remaining input.old.reader) (R.remaining input.new.reader) (W.contents output.old.writer) (W.contents output.new.writer)) }
+    ensures served { IfOk result (λ text. ServesLanes (setup_of tenants age ages)
+        (claims F.may_hold F.may_fail F.may_leave files.old files.new) (option_map (λ path. path.now) journal.entry) telling
+        (R.remaining input.old.reader) (R.remaining input.new.reader) (W.contents output.old.writer) (W.contents output.new.writer)
+        (string_bytes text)) }
+    ensures untold { IfOk result (λ text. telling ≡ nothing_told → string_bytes text ≡ []) }
     ensures unfailed { OnOk result (output.new.calls.failed ≡ output.old.calls.failed) }
     ensures fault { IfErr result (λ why. ServingFailsBy (setup_of tenants age ages)
         (claims F.may_hold F.may_fail F.may_leave files.old files.new) (option_map (λ path. path.now) journal.entry) why
@@ -119,24 +174,27 @@ pub fn serve_lines<
         drop(ages);
         return Err(why);
     }
-    let served = match serve_reader(rt, seed, workers, tenants, age, ages, input, gate) {
-        Ok(served) => served,
+    let read = match serve_reader(rt, seed, workers, tenants, age, ages, telling, input, gate) {
+        Ok(read) => read,
         Err(fault) => return Err(cause_of_service(fault)),
     };
-    let kept = keep_journal(alloc, files, journal, &served.report.silo);
+    let kept = keep_journal(alloc, files, journal, &read.served.report.silo);
     match kept {
         Err(why) => {
-            drop(served);
+            drop(read);
             Err(why)
         }
         Ok(()) => {
-            let written = write_served(alloc, &served, output);
+            let written = write_served(alloc, &read.served, output);
 
             // The process ends soon, and gives all of its memory back at once.
-            mem::forget(served);
+            mem::forget(read.served);
             match written {
-                Ok(()) => Ok(()),
-                Err(why) => Err(cause_of(why)),
+                Ok(()) => Ok(read.told),
+                Err(why) => {
+                    drop(read.told);
+                    Err(cause_of(why))
+                }
             }
         }
     }

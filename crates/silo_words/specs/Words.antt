@@ -207,8 +207,8 @@ pub record FindAnswering (name : Text) (rows : List Row) (age : ℕ) (ages : Opt
   pub kept : journal ≡ first_of (codes "journal") rows
   pub named : tenants ≡ tenants_in rows
 
--- `serve`, with the workers, the age, the text of the kinds' ages, the journal's path, what is to be told and the tenant arguments that were
--- found
+-- `serve`, with the workers, the age, the text of the kinds' ages, the journal's path, what is to be told and the tenant arguments
+-- that were found
 pub record FindServing (name : Text) (rows : List Row) (workers age : ℕ) (ages journal : Option Text) (telling : Telling)
     (tenants : List Text) : Type 0 where
   pub command : name ≡ codes "serve"

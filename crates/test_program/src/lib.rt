@@ -11,3 +11,5 @@ mod at_once;
 mod endless;
 #[cfg(test)]
 mod journals;
+#[cfg(test)]
+mod told;

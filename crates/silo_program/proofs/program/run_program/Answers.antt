@@ -16,4 +16,4 @@ pub returns-in-Err-clause-refused : goal.returns-in-Err-clause-refused
 returns-in-Err-clause-refused g c two = refused_by _ _ _ _ _ _ _ _ _ _ _ c.in-Err.fault (sym c.tell.ensures.status ∙ two) c.in-Err.ensures.fault c.tell.ensures.told
 
 pub returns-in-Ok-clause-well : goal.returns-in-Ok-clause-well
-returns-in-Ok-clause-well g c zero = ends_well c.in-Ok.end _ _ _ _ _ _ (sym c.status_of_end.ensures ∙ zero) c.in-Ok.ensures.ended
+returns-in-Ok-clause-well g c zero = ends_well c.in-Ok.end _ _ _ _ _ _ _ _ _ (sym c.tell_end.ensures.status ∙ zero) c.in-Ok.ensures.ended c.tell_end.ensures.told

@@ -6,10 +6,10 @@ use Rattle.silo_program.proofs.program.serve_tenants.Goals as goal
 pub returns-in_err-named-clause-fault : goal.returns-in_err-named-clause-fault
 returns-in_err-named-clause-fault g c words asked =
     let p = err_from_is_err_and c.from_residual.result c.from_residual.ensures.1 in
-    rw (p.1, p.2) (serving_refused words _ _ _ _ _ _ _ refl _ _ _ asked c.in_err-named.field-0.0 c.in_err-named.ensures.fault)
+    rw (p.1, p.2) (serving_refused words _ _ _ _ _ _ _ refl _ _ _ _ asked c.in_err-named.field-0.0 c.in_err-named.ensures.fault)
 
 pub returns-in-Ok-clause-journal : goal.returns-in-Ok-clause-journal
-returns-in-Ok-clause-journal g c words asked = files_left words _ _ _ _ _ _ _ _ _ _ asked c.in_ok-named.ensures.named c.serve_lines.ensures.journal
+returns-in-Ok-clause-journal g c words asked = files_left words _ _ _ _ _ _ _ _ _ _ _ asked c.in_ok-named.ensures.named c.serve_lines.ensures.journal
 
 pub returns-in-Err-clause-journal : goal.returns-in-Err-clause-journal
-returns-in-Err-clause-journal g c words asked = files_left words _ _ _ _ _ _ _ _ _ _ asked c.in_ok-named.ensures.named c.serve_lines.ensures.journal
+returns-in-Err-clause-journal g c words asked = files_left words _ _ _ _ _ _ _ _ _ _ _ asked c.in_ok-named.ensures.named c.serve_lines.ensures.journal

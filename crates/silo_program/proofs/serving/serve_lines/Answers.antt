@@ -32,7 +32,7 @@ returns-in-Err-serve_reader-clause-journal g c =
 pub returns-in-Err-kept-clause-fault : goal.returns-in-Err-kept-clause-fault
 returns-in-Err-kept-clause-fault g c =
     let files = claims g.F.WholeFiles.may_hold g.F.WholeFiles.may_fail g.F.WholeFiles.may_leave c.args.files.now c.keep_journal-kept.new.files in
-    let outcome : Outcome = record { refusals = c.in-Ok.served.refusals.items; silo = c.in-Ok.served.report.silo; answers = map (λ v. v.items) c.in-Ok.served.report.answers.items } in
+    let outcome : Outcome = record { refusals = c.in-Ok.read.served.refusals.items; silo = c.in-Ok.read.served.report.silo; answers = map (λ v. v.items) c.in-Ok.read.served.report.answers.items } in
     let setup = setup_of c.args.tenants c.args.age c.args.ages in
     let started = claims g.F.WholeFiles.may_hold g.F.WholeFiles.may_fail g.F.WholeFiles.may_leave c.args.files.now c.keep_first-first.new.files in
     let path : Option (List ℕ) = option_map (λ text. text.now) c.args.journal in
@@ -43,7 +43,7 @@ returns-in-Err-kept-clause-fault g c =
 
 pub returns-in-Err-kept-clause-journal : goal.returns-in-Err-kept-clause-journal
 returns-in-Err-kept-clause-journal g c =
-    let outcome : Outcome = record { refusals = c.in-Ok.served.refusals.items; silo = c.in-Ok.served.report.silo; answers = map (λ v. v.items) c.in-Ok.served.report.answers.items } in
+    let outcome : Outcome = record { refusals = c.in-Ok.read.served.refusals.items; silo = c.in-Ok.read.served.report.silo; answers = map (λ v. v.items) c.in-Ok.read.served.report.answers.items } in
     second_at_most g.F.WholeFiles.may_hold g.F.WholeFiles.may_fail g.F.WholeFiles.may_leave _ c.args.files.now c.keep_first-first.new.files c.keep_journal-kept.new.files _ _ _ outcome c.in-Ok.ensures.served
     (kept_unless _ c.keep_first-first.result c.in_default.not-Err c.keep_first-first.ensures.kept) c.keep_journal-kept.ensures.alone
 
@@ -54,22 +54,23 @@ returns-in-Ok-written-clause-served g c =
     let path : Option (List ℕ) = option_map (λ text. text.now) c.args.journal in
     let first = kept_unless (WritesFirst setup started path) c.keep_first-first.result c.in_default.not-Err c.keep_first-first.ensures.kept in
     record {
-      outcome = record { refusals = c.in-Ok.served.refusals.items; silo = c.in-Ok.served.report.silo; answers = map (λ v. v.items) c.in-Ok.served.report.answers.items };
+      outcome = record { refusals = c.in-Ok.read.served.refusals.items; silo = c.in-Ok.read.served.report.silo; answers = map (λ v. v.items) c.in-Ok.read.served.report.answers.items };
       served = c.in-Ok.ensures.served;
       kept = both_kept g.F.WholeFiles.may_hold g.F.WholeFiles.may_fail g.F.WholeFiles.may_leave setup c.args.files.now c.keep_first-first.new.files c.keep_journal-kept.new.files _ _ (has_first setup started path first) c.in-Ok-kept.ensures.kept;
       written = c.in-Ok-written.ensures.written;
+      told = c.in-Ok.ensures.told;
     }
 
 pub returns-in-Ok-written-clause-journal : goal.returns-in-Ok-written-clause-journal
 returns-in-Ok-written-clause-journal g c =
-    let outcome : Outcome = record { refusals = c.in-Ok.served.refusals.items; silo = c.in-Ok.served.report.silo; answers = map (λ v. v.items) c.in-Ok.served.report.answers.items } in
+    let outcome : Outcome = record { refusals = c.in-Ok.read.served.refusals.items; silo = c.in-Ok.read.served.report.silo; answers = map (λ v. v.items) c.in-Ok.read.served.report.answers.items } in
     second_at_most g.F.WholeFiles.may_hold g.F.WholeFiles.may_fail g.F.WholeFiles.may_leave _ c.args.files.now c.keep_first-first.new.files c.keep_journal-kept.new.files _ _ _ outcome c.in-Ok.ensures.served
     (kept_unless _ c.keep_first-first.result c.in_default.not-Err c.keep_first-first.ensures.kept) c.keep_journal-kept.ensures.alone
 
 pub returns-in-Err-written-clause-fault : goal.returns-in-Err-written-clause-fault
 returns-in-Err-written-clause-fault g c =
     let files = claims g.F.WholeFiles.may_hold g.F.WholeFiles.may_fail g.F.WholeFiles.may_leave c.args.files.now c.keep_journal-kept.new.files in
-    let outcome : Outcome = record { refusals = c.in-Ok.served.refusals.items; silo = c.in-Ok.served.report.silo; answers = map (λ v. v.items) c.in-Ok.served.report.answers.items } in
+    let outcome : Outcome = record { refusals = c.in-Ok.read.served.refusals.items; silo = c.in-Ok.read.served.report.silo; answers = map (λ v. v.items) c.in-Ok.read.served.report.answers.items } in
     let setup = setup_of c.args.tenants c.args.age c.args.ages in
     let started = claims g.F.WholeFiles.may_hold g.F.WholeFiles.may_fail g.F.WholeFiles.may_leave c.args.files.now c.keep_first-first.new.files in
     let path : Option (List ℕ) = option_map (λ text. text.now) c.args.journal in
@@ -80,6 +81,6 @@ returns-in-Err-written-clause-fault g c =
 
 pub returns-in-Err-written-clause-journal : goal.returns-in-Err-written-clause-journal
 returns-in-Err-written-clause-journal g c =
-    let outcome : Outcome = record { refusals = c.in-Ok.served.refusals.items; silo = c.in-Ok.served.report.silo; answers = map (λ v. v.items) c.in-Ok.served.report.answers.items } in
+    let outcome : Outcome = record { refusals = c.in-Ok.read.served.refusals.items; silo = c.in-Ok.read.served.report.silo; answers = map (λ v. v.items) c.in-Ok.read.served.report.answers.items } in
     second_at_most g.F.WholeFiles.may_hold g.F.WholeFiles.may_fail g.F.WholeFiles.may_leave _ c.args.files.now c.keep_first-first.new.files c.keep_journal-kept.new.files _ _ _ outcome c.in-Ok.ensures.served
     (kept_unless _ c.keep_first-first.result c.in_default.not-Err c.keep_first-first.ensures.kept) c.keep_journal-kept.ensures.alone
