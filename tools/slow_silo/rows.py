@@ -11,6 +11,7 @@ from .resting_rows import AGES_OF_KINDS, MISFIT, RESTING
 from .row import Row
 from .short_lines import (A, B, BLUE, BLUE_A, LINE_TOO_LONG, NOT_A_REQUEST, NOT_NOW, RELAY, SHEET, SWEEP, at,
                           begin, call, end, no, ok, poke, run, save, seen, status, text, tick, told, up)
+from .told_rows import TOLD
 
 TWO_TENANTS = ["red:2:4", "blue:2:4"]
 
@@ -354,4 +355,4 @@ LANES = [
 ]
 
 ROWS = [*COUNTERS, *STORAGE, *OTHER_KINDS, *TENANTS, *CLOCK, *RESTING, *LINES, *BYTES_IN_LINES, *WORDS, *AGES_OF_KINDS, *LANES,
-        *JOURNALS, *BYTES_IN_JOURNALS, *MIGRATED, *ANSWERED]
+        *TOLD, *JOURNALS, *BYTES_IN_JOURNALS, *MIGRATED, *ANSWERED]
