@@ -35,7 +35,7 @@ use Rattle.worker_host.specs.declared.report.ServeFault.{ServeFault}
 use Rattle.worker_host.specs.declared.report.ServeFault.TheVariants as serve
 use Rattle.silo_program.specs.Files.{FileClaims, claims}
 use Rattle.silo_program.specs.Kept.{IsKeepingCause, KeepsSecond, MayFailAgain, MayFailAt, WritesAtMost, WritesFirst, WritesFirstAtMost, empty_journal}
-use Rattle.silo_program.specs.Serving.{LeavesOutcome, Outcome, ServesLanes, ServingFailsBy, WritesJournalAtMost, outcome_text, service_cause}
+use Rattle.silo_program.specs.Serving.{LeavesOutcome, Outcome, ServesLanes, ServingFailsBy, WritesJournalAtMost, outcome_lines, service_cause}
 use Rattle.silo_program.specs.Answering.{WritesJournalsAtMost}
 use Rattle.silo_program.specs.Auditing.{AuditsFile}
 use Rattle.silo_program.specs.Ends.{AskForJournal, EndsAs, EndsServing, IsAnsweringFault, IsFaultOf, IsNamingFault, IsServingFault, IsStreamFault, LeavesFiles, ServesInput, ShowsText, WritesAnswered, WritesJournal}
@@ -57,7 +57,7 @@ pub not_begun : (setup : Setup) (files : FileClaims) (journal from : Option (Lis
     → ServingFailsBy setup files journal why from from reading before before writing
 not_begun setup files journal from reading before writing cause.Read is = absurd is
 not_begun setup files journal from reading before writing cause.Write is = inl (is, (Keeps-refl from, Keeps-refl before))
-not_begun setup files journal from reading before writing cause.Memory is = Keeps-refl before
+not_begun setup files journal from reading before writing cause.Memory is = inl (Keeps-refl before)
 not_begun setup files journal from reading before writing cause.TooMuch is = absurd is
 not_begun setup files journal from reading before writing cause.NoWorker is = absurd is
 not_begun setup files journal from reading before writing cause.Strayed is = absurd is
@@ -67,7 +67,7 @@ module _ (setup : Setup) (files : FileClaims) (journal : Option (List ℕ)) (fro
   by_service : (why : ServiceFault) → StopsServing why from reading → ServingFailsBy setup files journal (service_cause why) from left reading before before writing
   by_service (service.Failed line.Read) stops = (stops, Keeps-refl before, first)
   by_service (service.Failed line.TooMuch) stops = (stops, Keeps-refl before, first)
-  by_service (service.Failed line.Memory) stops = Keeps-refl before
+  by_service (service.Failed line.Memory) stops = inl (Keeps-refl before)
   by_service (service.Failed line.Write) stops = absurd stops
   by_service service.NoWorker stops = (Keeps-refl before, first)
   by_service service.Strayed stops = (Keeps-refl before, first)
@@ -128,20 +128,20 @@ module _ (setup : Setup) (files : FileClaims) (journal : Option (List ℕ)) (fro
   pub not_kept : (fails : List ℕ → Type 0) (why : Cause) → IsKeepingCause fails journal why → (MayFailAt fails journal → MayFailAgain setup files journal) → ServingFailsBy setup files journal why from left reading before before writing
   not_kept fails cause.Read is again = absurd is
   not_kept fails cause.Write is again = inr (inl (record { fails = again is; outcome = outcome; served = served; kept = Keeps-refl before }))
-  not_kept fails cause.Memory is again = Keeps-refl before
+  not_kept fails cause.Memory is again = inl (Keeps-refl before)
   not_kept fails cause.TooMuch is again = absurd is
   not_kept fails cause.NoWorker is again = absurd is
   not_kept fails cause.Strayed is again = absurd is
 
   -- but their text wasn't written whole
-  by_fault : (why : LineFault) → KeepsSecond setup files journal outcome.silo → StopsWriting why (outcome_text outcome) before after → (why ≡ line.Write → writing.failed ≡ true)
+  by_fault : (why : LineFault) → KeepsSecond setup files journal outcome.silo → StopsWriting why (outcome_lines outcome) before after → (why ≡ line.Write → writing.failed ≡ true)
       → ServingFailsBy setup files journal (cause_of why) from left reading before after writing
   by_fault line.Read kept stops failed = absurd stops
   by_fault line.Write kept stops failed = inr (inr (record { outcome = outcome; served = served; kept = kept; part = record { part = stops; failed = failed refl } }))
-  by_fault line.Memory kept stops failed = stops
+  by_fault line.Memory kept stops failed = inr (record { outcome = outcome; served = served; kept = kept; part = stops })
   by_fault line.TooMuch kept stops failed = absurd stops
 
-  pub not_written : (why : LineFault) (by : Cause) → by ≡ cause_of why → KeepsSecond setup files journal outcome.silo → StopsWriting why (outcome_text outcome) before after → (why ≡ line.Write → writing.failed ≡ true)
+  pub not_written : (why : LineFault) (by : Cause) → by ≡ cause_of why → KeepsSecond setup files journal outcome.silo → StopsWriting why (outcome_lines outcome) before after → (why ≡ line.Write → writing.failed ≡ true)
       → ServingFailsBy setup files journal by from left reading before after writing
   not_written why by is kept stops failed = subst (λ (c : Cause). ServingFailsBy setup files journal c from left reading before after writing) (sym is) (by_fault why kept stops failed)
 

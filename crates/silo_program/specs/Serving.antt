@@ -12,7 +12,7 @@ use Rattle.line_protocol.specs.declared.calls.ReaderCalls.{ReaderCalls}
 use Rattle.line_protocol.specs.declared.written.WriterCalls.{WriterCalls}
 use Rattle.journal_text.specs.Text.{journal_text}
 use Rattle.line_service.specs.Serving.{IsServed}
-use Rattle.line_service.specs.ServedText.{served_text}
+use Rattle.line_service.specs.ServedText.{WrittenInLines, served_lines, served_text}
 use Rattle.line_service.specs.declared.fault.ServiceFault.{ServiceFault}
 use Rattle.line_service.specs.declared.fault.ServiceFault.TheVariants as service
 use Rattle.silo_program.specs.Files.{FileClaims}
@@ -36,7 +36,10 @@ abbrev pub LeavesOutcome : Setup → Option (List ℕ) → Option (List ℕ) →
 LeavesOutcome setup from left outcome =
     IfSome from (λ input. IsServed resting_kinds setup input left outcome.refusals outcome.silo outcome.answers)
 
--- what is written of it
+-- what is written of it, in lines and as a text
+abbrev pub outcome_lines : Outcome → List (List ℕ)
+outcome_lines outcome = served_lines outcome.refusals outcome.answers outcome.silo.whole.replies
+
 abbrev pub outcome_text : Outcome → List ℕ
 outcome_text outcome = served_text outcome.refusals outcome.answers outcome.silo.whole.replies
 
@@ -76,6 +79,14 @@ pub record WritesOutcomeInPart (setup : Setup) (files : FileClaims) (journal : O
   pub kept : KeepsSecond setup files journal outcome.silo
   pub part : BreaksOff before after writing (outcome_text outcome)
 
+-- The same, but memory was refused: the lines before the one that was being made were written whole, and nothing of the others.
+pub record WritesOutcomeInLines (setup : Setup) (files : FileClaims) (journal : Option (List ℕ))
+    (from left before after : Option (List ℕ)) : Type 0 where
+  pub outcome : Outcome
+  pub served : LeavesOutcome setup from left outcome
+  pub kept : KeepsSecond setup files journal outcome.silo
+  pub part : WrittenInLines before after (outcome_lines outcome)
+
 -- The lines of the input were served, but their journal wasn't written to the path that is given, where a call may fail, and
 -- so nothing was.
 pub record LosesJournal (setup : Setup) (files : FileClaims) (journal : Option (List ℕ))
@@ -86,9 +97,8 @@ pub record LosesJournal (setup : Setup) (files : FileClaims) (journal : Option (
   pub kept : Keeps before after
 
 -- By what serving fails: reading only if the last call of the reader failed; too much only if there are too many lines, or
--- all calls of the reader were made; writing before anything is read, if a call at the journal's path may fail, or as above. But for
--- a fault of writing nothing was written, and but for one of writing or of memory the journal of no step is all that was written to
--- a file.
+-- all calls of the reader were made; writing before anything is read, if a call at the journal's path may fail, or as above; memory at
+-- any time. But for a fault of writing or of memory nothing was written, and the journal of no step is all that was written to a file.
 abbrev pub ServingFailsBy : Setup → FileClaims → Option (List ℕ) → Cause → Option (List ℕ) → Option (List ℕ) → ReaderCalls
     → Option (List ℕ) → Option (List ℕ) → WriterCalls → Type 0
 ServingFailsBy setup files journal cause.Read from left reading before after writing =
@@ -99,7 +109,8 @@ ServingFailsBy setup files journal cause.Write from left reading before after wr
     (MayFailAt files.may_fail journal × IsUnbegun from left before after)
     ⊎ (LosesJournal setup files journal from left before after
     ⊎ WritesOutcomeInPart setup files journal from left before after writing)
-ServingFailsBy setup files journal cause.Memory from left reading before after writing = Keeps before after
+ServingFailsBy setup files journal cause.Memory from left reading before after writing =
+    Keeps before after ⊎ WritesOutcomeInLines setup files journal from left before after
 ServingFailsBy setup files journal why from left reading before after writing =
     Keeps before after × WritesFirst setup files journal
 

@@ -127,8 +127,8 @@ fn serve_reader<H: AllocGlobal + Threads + Wait + Sync, R: Read, G: TurnGate + S
 /// In this order: `Write` if the first journal wasn't written, and then nothing is read; `Read` if the last call of the
 /// reader failed, or `TooMuch` of the input; `NoWorker` if no thread could be started, and `Strayed` if the threads left
 /// what serving doesn't leave; `Write` if the second journal wasn't written, or if a call of the writer failed. `Memory` if
-/// memory was refused. But for the last `Write` nothing was written but to the file at the path, and to this nothing but
-/// the two journals.
+/// memory was refused: if that was while a line was made, the lines before it were written. But for these and the last `Write`
+/// nothing was written but to the file at the path, and to this nothing but the two journals.
 pub fn serve_lines<
     H: AllocGlobal + Threads + Wait + Sync,
     F: WholeFiles,
