@@ -88,7 +88,8 @@ fn write_lines<T: OneLine, W: Write>(
     all: &[T],
     output: &mut Output<W>,
 ) -> Result<(), LineFault>
-    ensures written { OnOk result (Appends (W.contents output.old.writer) (W.contents output.new.writer) (joined (map_list T.line all.now))) }
+    ensures written { OnOk result (Appends (W.contents output.old.writer) (W.contents output.new.writer)
+        (joined (map_list T.line all.now))) }
     ensures stopped { IfErr result (λ why. StopsWriting why (map_list T.line all.now)
         (W.contents output.old.writer) (W.contents output.new.writer)) }
     ensures cause { IfErr result (λ why. why ≡ line.Write → output.new.calls.failed ≡ true) }
