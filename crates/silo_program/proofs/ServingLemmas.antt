@@ -3,7 +3,7 @@ use Rattle.std.proofs.Common.{◌≡◌, ◌∙◌, ◌++◌, ◌||◌, if◌the
 use Rattle.std.specs.Prelude.{IfSome}
 use Rattle.std.specs.Io.KnownBytes.{Keeps}
 use Rattle.std.proofs.KnownBytes.{Keeps-refl}
-use Rattle.std.proofs.lemmas.Option.{IfSome-weaker}
+use Rattle.std.proofs.lemmas.Option.{IfSome_then}
 use Rattle.std.proofs.lemmas.Result.{IfErr-weaker, IfOk-weaker}
 use Rattle.clap.specs.Words.{Text}
 use Rattle.silo_model.specs.Opening.{Setup}
@@ -94,16 +94,16 @@ module _ (setup : Setup) (from ahead left : Option (List ℕ)) (same : ahead ≡
   reads = subst (λ (o : Option (List ℕ)). IfSome o (λ input. ReadsAll input lines left)) same read
 
   pub served_lines : (answers : List (List Reply)) → LeavesServed resting_kinds setup (lanes_of lines) silo answers → IfSome from (λ input. IsServed resting_kinds setup input left refusals silo answers)
-  served_lines answers served = IfSome-weaker from _ _ (λ input is. record { lines = lines; read = is; refused = refused; lanes = served }) reads
+  served_lines answers served = IfSome_then from reads (λ input is. record { lines = lines; read = is; refused = refused; lanes = served })
 
   pub told_lines : (telling : Telling) (reasons text : List ℕ) → reasons ≡ (if telling.explain_lines then reasons_behind 0 lines else [])
       → text ≡ reasons ++ (if telling.summary then counts_text (length lines) (codes_of refusals silo.whole.replies) (length silo.journal) else [])
       → IsTold telling from silo text
-  told_lines telling reasons text first second = IfSome-weaker from _ _
+  told_lines telling reasons text first second = IfSome_then from reads
       (λ input (is : ReadsAll input lines left). second
       ∙ ap (λ t. t ++ (if telling.summary then counts_text (length lines) (codes_of refusals silo.whole.replies) (length silo.journal) else [])) first
       ∙ ap (λ r. (if telling.explain_lines then reasons_behind 0 lines else []) ++ (if telling.summary then counts_text (length lines) (codes_of r silo.whole.replies) (length silo.journal) else [])) refused
-      ∙ ap (λ said. telling_text telling said silo) is.said) reads
+      ∙ ap (λ said. telling_text telling said silo) is.said)
 
 -- nothing is to be told
 pub untold_lines : (telling : Telling) (lines : List Line) (refusals : List LineRefusal) (silo : History) (reasons text : List ℕ) → reasons ≡ (if telling.explain_lines then reasons_behind 0 lines else [])
