@@ -42,7 +42,7 @@ class Asking(Lanes):
         return self.odd_step().encode() if kind < 0.4 else self.request()
 
 
-def make_input(random: Random, journal: str = "j") -> Input:
+def make_input(random: Random, journal: str = "j", lengths: list[int] = LENGTHS) -> Input:
     tenants = TENANTS[: random.choice([1, 2, 3, 4])]
     sends = random.choice(SENDS)
     options = [*age_words(random), "--sends", sends, "--journal", journal]
@@ -50,7 +50,7 @@ def make_input(random: Random, journal: str = "j") -> Input:
     silo = Silo(program.setup_of_words(words))
     world = Asking(random, tenants, silo, random.random() < 0.3)
     made = []
-    for _ in range(random.choice(LENGTHS)):
+    for _ in range(random.choice(lengths)):
         for line in world.line().split(b"\n"):
             answer_line(silo, line, int(sends))
             made.append(line + b"\n")

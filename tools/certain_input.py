@@ -63,7 +63,7 @@ def is_kept(step: object, callers: list[str], alone: bool) -> bool:
     return step.caller.text() in callers and not sends and (alone or not isinstance(step, Status))
 
 
-def lanes_input(random: Random, alone: bool) -> Certain:
+def lanes_input(random: Random, alone: bool, lengths: list[int] = LENGTHS) -> Certain:
     """One lane, or one in each of several tenants, of calls, pokes and lines with something wrong."""
     count = random.choice([1, 2, 3] if alone else [2, 3, 4])
     asking = [random.choice(TENANTS[:count])] if alone else TENANTS[:count]
@@ -71,7 +71,7 @@ def lanes_input(random: Random, alone: bool) -> Certain:
     silo = Silo(program.setup_of_words(["serve", *words]))
     world = Lanes(random, asking, silo, random.random() < 0.3)
     kept = []
-    for _ in range(random.choice(LENGTHS)):
+    for _ in range(random.choice(lengths)):
         for line in world.request().split(b"\n"):
             step = lines.read_line(line)
             if is_kept(step, [world.caller(tenant) for tenant in asking], alone):

@@ -278,8 +278,8 @@ def age_words(random: Random) -> list[str]:
     return ["--age", random.choice(AGES), *ages]
 
 
-def steps_input(random: Random) -> Input:
-    """An input of `steps`."""
+def steps_input(random: Random, lengths: list[int] = LENGTHS) -> Input:
+    """An input of `steps`, of one of these numbers of steps."""
     tenants = TENANTS[: random.choice([1, 1, 2, 2, 3, 4])]
     if random.random() < 0.05:
         return Input(random.choice(ODD_WORDS), b"")
@@ -288,7 +288,7 @@ def steps_input(random: Random) -> Input:
     silo = Silo(program.setup_of_words(words))
     world = World(random, tenants, silo, crowded)
     made = []
-    for _ in range(random.choice(LENGTHS)):
+    for _ in range(random.choice(lengths)):
         made.append(world.line())
         for line in made[-1].split(b"\n"):
             lines.answer(silo, line)
