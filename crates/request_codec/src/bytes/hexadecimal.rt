@@ -20,10 +20,15 @@ fn is_digit(byte: u8) -> bool
     matches!(byte, b'0'..=b'9' | b'a'..=b'f')
 }
 
+// No early end, so that the loop tests many bytes at a time.
 fn all_digits(text: &[u8]) -> bool
     ensures { result ≡ list_all is_digit text.now }
 {
-    text.iter().all(|byte| is_digit(*byte))
+    let mut good = true;
+    'digits: for byte in text {
+        good &= is_digit(*byte);
+    }
+    good
 }
 
 /// Whether these are the digits of bytes: an even number of lower case hexadecimal ones.
