@@ -1,6 +1,6 @@
 -- Bytes as digits.
 use Rattle.std.proofs.Common.{◌≡◌, ℕ, zero, suc, inl, inr, ◌%◌, ◌/◌, ◌+◌, ◌*◌, ◌<◌, ◌≤◌, Bool, true, false, ◌&&◌, List, [], ◌∷◌, ◌++◌, length, drop, slice_index, Option, Some, None, Result, Ok, Err, is_some, refl, sym, ap, ◌∙◌, append_assoc, arith}
-use Rattle.std.specs.Prelude.{if◌then◌else◌, unwrap_or, IsSome, MatchResult, ⊤}
+use Rattle.std.specs.Prelude.{if◌then◌else◌, unwrap_or, IsSome}
 use Rattle.std.specs.Int.{w32, to_be_bytes}
 use Rattle.std.specs.List.{list_all, AllPass}
 use Rattle.std.specs.Result.{result_ok}
@@ -8,9 +8,10 @@ use Rattle.std.proofs.lemmas.Bool.Decides.{nat_tests}
 use Rattle.std.proofs.lemmas.Bool.{and_parts, cases_lt}
 use Rattle.std.proofs.lemmas.List.{drop_all, append-nil}
 use Rattle.std.proofs.lemmas.List.Elements.{All-cons, All-nil}
-use Rattle.hex.specs.Hex.{IsBytes, decode_of, decode_sized, encode_with, lower_digits, is_hex_digit}
+use Rattle.std.proofs.lemmas.List.Sums.{AllPass-from_list_all}
+use Rattle.hex.specs.Hex.{IsBytes, decode_of, digit_or_error, encode_with, hex_digit_value, lower_digits, is_hex_digit, pair_value, value_at}
 use Rattle.hex.specs.declared.error.FromHexError.{FromHexError}
-use Rattle.hex.proofs.HexLemmas.{decode_of-ok, decode_of-odd, decode_of-digits, decode_of-encode_lower, decode_sized-twice}
+use Rattle.hex.proofs.HexLemmas.{decode_of-ok, decode_of-odd, decode_of-digits, decode_of-encode_lower}
 use Rattle.hex.proofs.Pairs.{encode_with-drop}
 use Rattle.request_codec.specs.Tree.{depth}
 use Rattle.request_codec.specs.Formed.{IsFormed}
@@ -65,13 +66,14 @@ even_digits s even = some_by (list_all is_digit s) s refl even
 
 -- the bytes, and how many of them there are
 pub record AreOf (s bytes : List ℕ) : Type 0 where
+  pub digits : list_all is_digit s ≡ true
   pub found : bytes_of_digits s ≡ Some bytes
   pub decoded : decode_of s ≡ Ok bytes
   pub twice : length s ≡ 2 * length bytes
 
 of_by : (b : Bool) (s : List ℕ) (r : Result (List ℕ) FromHexError) → list_all is_digit s ≡ b → decode_of s ≡ r → IsSome (if b then result_ok r else None) → (bytes : List ℕ) × AreOf s bytes
 of_by true s (Ok bytes) h e some =
-    (bytes, record { found = rw (h, e) refl; decoded = e; twice = (decode_of-ok s bytes e).2 })
+    (bytes, record { digits = h; found = rw (h, e) refl; decoded = e; twice = (decode_of-ok s bytes e).2 })
 of_by true s (Err why) h e some = absurd (cc (some))
 of_by false s r h e some = absurd (cc (some))
 
@@ -133,15 +135,18 @@ pub digits_done : (out bytes : List ℕ) (i : ℕ) (total : List ℕ) → length
 unfolding encode_with
 digits_done out bytes i total le so_far = sym (append-nil out) ∙ ap (λ (l : List ℕ). out ++ digits_of l) (sym (drop_all i bytes le)) ∙ so_far
 
--- room for them is filled with the bytes
-pub digits_fill : (s : List ℕ) (n : ℕ) (r : Result ⊤ FromHexError) (out : List ℕ) → IsSome (bytes_of_digits s) → n ≡ length (unwrap_or (bytes_of_digits s) [])
-    → MatchResult (decode_sized s n) (λ bytes. (r ≡ Ok tt) × (out ≡ bytes)) (λ e. r ≡ Err e) → (r ≡ Ok tt) × (out ≡ unwrap_or (bytes_of_digits s) [])
-digits_fill s n r out some fits written =
-    let known = digits_known s some in
-    let count : n ≡ length known.0 = fits ∙ ap (λ (o : Option (List ℕ)). length (unwrap_or o [])) known.1.found in
-    let sized : decode_sized s n ≡ Ok known.0 = decode_sized-twice s n (known.1.twice ∙ ap (λ (k : ℕ). 2 * k) (sym count)) ∙ known.1.decoded in
-    let is : (r ≡ Ok tt) × (out ≡ known.0) = rw sized at written in
-    (is.0, is.1 ∙ ap (λ (o : Option (List ℕ)). unwrap_or o []) (sym known.1.found))
+-- ---- writing bytes one pair of digits after another
+
+-- each digit of a text is one
+pub digit_there : (s : List ℕ) (k : ℕ) → list_all is_digit s ≡ true → k < length s → is_digit (slice_index s k) ≡ true
+digit_there s k all lt = AllPass-from_list_all is_digit s all k 0 lt
+
+-- two digits side by side are a byte
+pub pair_is : (high low i x y : ℕ) → hex_digit_value high ≡ Some x → hex_digit_value low ≡ Some y → pair_value high low i ≡ Ok (x * 16 + y)
+pair_is high low i x y h l =
+    let first : value_at high i ≡ Ok x = ap (digit_or_error high i) h in
+    let second : value_at low (i + 1) ≡ Ok y = ap (digit_or_error low (i + 1)) l in
+    rw (first, second) refl
 
 -- ---- how many bytes
 

@@ -1,8 +1,8 @@
 //! Bytes as digits: two lower case hexadecimal ones for each byte.
 
-ghost use Rattle.std.specs.Prelude.{◌≡◌, ◌++◌, ◌∷◌, [], ◌<◌, ◌≤◌, ◌^◌, ◌/◌, ◌%◌};
-ghost use Rattle.std.specs.Prelude.{length, slice_index, unwrap_or, is_some, string_bytes, IsSome, OnOk};
-ghost use Rattle.hex.specs.Hex.{lower_digits};
+ghost use Rattle.std.specs.Prelude.{◌≡◌, ◌++◌, ◌∷◌, [], ◌<◌, ◌≤◌, ◌^◌, ◌*◌, ◌/◌, ◌%◌};
+ghost use Rattle.std.specs.Prelude.{length, slice_index, unwrap_or, is_some, string_bytes, IsSome, IsTrue, OnOk, Some, Ok};
+ghost use Rattle.hex.specs.Hex.{lower_digits, decode_of, hex_digit_value};
 ghost use Rattle.std.specs.List.{list_all};
 ghost use Rattle.request_codec.specs.Hex.{digits_of, is_digit, bytes_of_digits};
 ghost use Rattle.request_codec.specs.Lenient.{bytes_or_null};
@@ -63,6 +63,32 @@ fn bytes_in(digits: &str) -> usize
     digits.len() / 2
 }
 
+/// The value of a digit.
+#[inline(always)]
+fn digit_value(digit: u8) -> u8
+    requires { IsTrue (is_digit digit) }
+    ensures value { hex_digit_value digit ≡ Some result }
+    ensures small { result < 16 }
+{
+    if digit <= b'9' {
+        digit - b'0'
+    } else {
+        digit - b'a' + 10
+    }
+}
+
+/// Writes the bytes of the digits. These are known to be digits, so none is asked for an error, as the `hex` crate does, and the
+/// loop writes many bytes at a time.
+fn decode_into(out: &mut [u8], digits: &[u8])
+    requires hex { IsTrue (list_all is_digit digits.now) }
+    requires room { length digits.now ≡ 2 * length out.old }
+    ensures { decode_of digits.now ≡ Ok out.new }
+{
+    'bytes: for i in 0..out.len() {
+        out[i] = digit_value(digits[2 * i]) * 16 + digit_value(digits[2 * i + 1]);
+    }
+}
+
 /// Puts the bytes of the digits at the end, if they fit below the limit.
 fn put_decoded(out: &mut Vec<u8>, limit: usize, digits: &str) -> Result<(), CodecFault>
     requires room { length out.old.items ≤ limit }
@@ -75,10 +101,8 @@ fn put_decoded(out: &mut Vec<u8>, limit: usize, digits: &str) -> Result<(), Code
         return Err(CodecFault::TooLong);
     }
     out.resize(begin + count, 0)?;
-    match hex::decode_to_slice(digits.as_bytes(), &mut out[begin..]) {
-        Ok(()) => Ok(()),
-        Err(_) => unreachable!(),
-    }
+    decode_into(&mut out[begin..], digits.as_bytes());
+    Ok(())
 }
 
 /// Puts the bytes of the digits as a value at the end. After a fault a part of it may stand there.
