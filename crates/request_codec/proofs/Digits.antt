@@ -1,18 +1,16 @@
 -- Bytes as digits.
-use Rattle.std.proofs.Common.{◌≡◌, ℕ, zero, suc, inl, inr, ◌%◌, ◌/◌, ◌+◌, ◌*◌, ◌<◌, ◌≤◌, Bool, true, false, ◌&&◌, List, [], ◌∷◌, ◌++◌, length, drop, slice_index, Option, Some, None, Result, Ok, Err, is_some, refl, sym, ap, ◌∙◌, append_assoc, arith}
+use Rattle.std.proofs.Common.{◌≡◌, ℕ, zero, suc, inl, inr, ◌%◌, ◌/◌, ◌+◌, ◌*◌, ◌<◌, Bool, true, false, ◌&&◌, List, [], ◌∷◌, ◌++◌, length, slice_index, Option, Some, None, Result, Ok, Err, is_some, refl, ap, arith}
 use Rattle.std.specs.Prelude.{if◌then◌else◌, unwrap_or, IsSome}
 use Rattle.std.specs.Int.{w32, to_be_bytes}
 use Rattle.std.specs.List.{list_all, AllPass}
 use Rattle.std.specs.Result.{result_ok}
 use Rattle.std.proofs.lemmas.Bool.Decides.{nat_tests}
 use Rattle.std.proofs.lemmas.Bool.{and_parts, cases_lt}
-use Rattle.std.proofs.lemmas.List.{drop_all, append-nil}
 use Rattle.std.proofs.lemmas.List.Elements.{All-cons, All-nil}
 use Rattle.std.proofs.lemmas.List.Sums.{AllPass-from_list_all}
 use Rattle.hex.specs.Hex.{IsBytes, decode_of, digit_or_error, encode_with, hex_digit_value, lower_digits, is_hex_digit, pair_value, value_at}
 use Rattle.hex.specs.declared.error.FromHexError.{FromHexError}
 use Rattle.hex.proofs.HexLemmas.{decode_of-ok, decode_of-odd, decode_of-digits, decode_of-encode_lower}
-use Rattle.hex.proofs.Pairs.{encode_with-drop}
 use Rattle.request_codec.specs.Tree.{depth}
 use Rattle.request_codec.specs.Formed.{IsFormed}
 use Rattle.request_codec.specs.Hex.{digits_of, is_digit, bytes_of_digits}
@@ -118,22 +116,6 @@ all_digits_of (x ∷ b) h =
 -- the digits of bytes are those of these bytes
 pub digits_again : (b : List ℕ) → IsBytes b → bytes_of_digits (digits_of b) ≡ Some b
 digits_again b h = rw (all_digits_of b h, decode_of-encode_lower b h) refl
-
--- ---- adding digits one byte after another
-
-pub digits_next : (out new bytes : List ℕ) (i : ℕ) (total : List ℕ) → i < length bytes
-    → new ≡ out ++ slice_index lower_digits (slice_index bytes i / 16) ∷ slice_index lower_digits (slice_index bytes i % 16) ∷ []
-    → out ++ digits_of (drop i bytes) ≡ total → new ++ digits_of (drop (i + 1) bytes) ≡ total
-digits_next out new bytes i total lt n so_far =
-    let high = slice_index lower_digits (slice_index bytes i / 16) in
-    let low = slice_index lower_digits (slice_index bytes i % 16) in
-    let rest = digits_of (drop (i + 1) bytes) in
-    ap (λ (l : List ℕ). l ++ rest) n ∙ append_assoc out (high ∷ low ∷ []) rest
-    ∙ ap (λ (l : List ℕ). out ++ l) (sym (encode_with-drop lower_digits bytes i lt)) ∙ so_far
-
-pub digits_done : (out bytes : List ℕ) (i : ℕ) (total : List ℕ) → length bytes ≤ i → out ++ digits_of (drop i bytes) ≡ total → out ≡ total
-unfolding encode_with
-digits_done out bytes i total le so_far = sym (append-nil out) ∙ ap (λ (l : List ℕ). out ++ digits_of l) (sym (drop_all i bytes le)) ∙ so_far
 
 -- ---- writing bytes one pair of digits after another
 

@@ -1,8 +1,8 @@
 //! Bytes as digits: two lower case hexadecimal ones for each byte.
 
-ghost use Rattle.std.specs.Prelude.{◌≡◌, ◌++◌, ◌∷◌, [], ◌<◌, ◌≤◌, ◌^◌, ◌*◌, ◌/◌, ◌%◌};
-ghost use Rattle.std.specs.Prelude.{length, slice_index, unwrap_or, is_some, string_bytes, IsSome, IsTrue, OnOk, Some, Ok};
-ghost use Rattle.hex.specs.Hex.{lower_digits, decode_of, hex_digit_value};
+ghost use Rattle.std.specs.Prelude.{◌≡◌, ◌++◌, [], ◌<◌, ◌≤◌, ◌^◌, ◌*◌};
+ghost use Rattle.std.specs.Prelude.{length, unwrap_or, is_some, string_bytes, IsSome, IsTrue, OnOk, Some, Ok};
+ghost use Rattle.hex.specs.Hex.{decode_of, hex_digit_value};
 ghost use Rattle.std.specs.List.{list_all};
 ghost use Rattle.request_codec.specs.Hex.{digits_of, is_digit, bytes_of_digits};
 ghost use Rattle.request_codec.specs.Lenient.{bytes_or_null};
@@ -117,36 +117,14 @@ pub(crate) fn put_digits(out: &mut Vec<u8>, limit: usize, digits: &str) -> Resul
     put_decoded(out, limit, digits)
 }
 
-/// The digits, each at its value.
-const DIGITS: &[u8; 16] = b"0123456789abcdef";
-
-/// Adds the digit of a value below 16.
-fn push_digit(text: &mut String, value: u8) -> Result<(), AllocError>
-    requires { value < 16 }
-    ensures { OnOk result (string_bytes text.new ≡ string_bytes text.old ++ slice_index lower_digits value ∷ []) }
-{
-    Ok(text.push(char::from(DIGITS[usize::from(value)]))?)
-}
-
-/// Adds the two digits of a byte.
-fn push_byte(text: &mut String, byte: u8) -> Result<(), AllocError>
-    ensures { OnOk result (string_bytes text.new
-        ≡ string_bytes text.old ++ slice_index lower_digits (byte / 16) ∷ slice_index lower_digits (byte % 16) ∷ []) }
-{
-    push_digit(text, byte / 16)?;
-    push_digit(text, byte % 16)
-}
-
-/// Adds the digits of the bytes at the end of the text.
+/// Adds the digits of the bytes at the end of the text. All of them are made before, so that there is room for them at once.
 ///
 /// # Errors
 ///
-/// `AllocError` if memory is refused. A part of the digits may stand there then.
+/// `AllocError` if memory is refused. The text is as before then.
 pub fn push_digits(text: &mut String, bytes: &[u8]) -> Result<(), AllocError>
     ensures { OnOk result (string_bytes text.new ≡ string_bytes text.old ++ digits_of bytes.now) }
 {
-    'bytes: for i in 0..bytes.len() {
-        push_byte(text, bytes[i])?;
-    }
-    Ok(())
+    let digits = hex::encode(*text.allocator(), bytes)?;
+    text.push_str(digits.as_str())
 }
