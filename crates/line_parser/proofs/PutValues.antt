@@ -1,26 +1,28 @@
 -- One value of an argument.
 use Rattle.std.proofs.Common.{◌≡◌, ℕ, suc, ◌-◌, ◌<◌, Bool, true, false, ℤ, List, ◌∷◌, ◌++◌, length, Some, refl, sym, ap, subst, ◌∙◌, arith}
-use Rattle.std.specs.Prelude.{IsUtf8, option_map, is_none}
+use Rattle.std.specs.Prelude.{Option, None, IsSome, IsUtf8, option_map, is_none}
 use Rattle.json.specs.Token.{Token}
 use Rattle.json.specs.Json.{value, items, members, parse_map}
 use Rattle.json.proofs.Grammar.{value_is, value-begin_array, value-begin_object}
 use Rattle.serde_json.specs.Data as json
 use Rattle.serde_json.specs.Data.{Data, array, object}
 use Rattle.serde_json.specs.Find.{of_integer, as_i64}
-use Rattle.serde_json.specs.Read.{of_json, converted, number_of}
+use Rattle.serde_json.specs.Read.{of_json, of_members, converted, number_of}
 use Rattle.std.proofs.Math.Bool.{or-false}
 use Rattle.request_codec.specs.Formed.{IsFormed}
-use Rattle.request_codec.specs.Json.{json_depth, items_depth, json_members_depth}
+use Rattle.request_codec.specs.Hex.{bytes_of_digits}
+use Rattle.request_codec.specs.Json.{hex_name, json_depth, items_depth, json_members_depth}
 use Rattle.request_codec.specs.Tree as tree
 use Rattle.request_codec.specs.Tree.{list, map}
-use Rattle.request_codec.specs.Lenient.{lenient_value, lenient_members, lenient_fields, integer_or_null}
+use Rattle.request_codec.specs.Lenient.{lenient_value, lenient_members, lenient_fields, integer_or_null, bytes_or_null}
 use Rattle.request_codec.specs.Written.{spelling}
+use Rattle.request_codec.proofs.Digits.{digits_formed}
 use Rattle.line_parser.specs.inside.Number.{IsWhole, IsNotWhole}
 use Rattle.line_parser.specs.inside.Argument.{is_deep, AddsFaults, PutsValue, PutsItems, PutsFields}
 use Rattle.line_parser.specs.declared.faults.Faults.{Faults}
 use Rattle.line_parser.proofs.Noted.{adds_both, adds_as, deep_outer}
 use Rattle.line_parser.proofs.NoBytes.{object_shown, object_levels, object_numbers, object_plain}
-use Rattle.line_parser.proofs.GrammarLoops.{converted-array, converted-object}
+use Rattle.line_parser.proofs.GrammarLoops.{converted-array, converted-object, member_read, members_over}
 use Rattle.line_parser.proofs.Numbers.{as_i64-of_integer}
 
 one_less : (ts : List Token) (t : Token) (old : List Token) → old ≡ t ∷ ts → length ts < length old
@@ -122,4 +124,42 @@ put_map depth old ts r before after first mid last some deep e p =
       noted = adds_as first last _ _ _ _ (adds_both first mid last _ _ _ _ deep p.noted) (deep_outer depth (json_members_depth p.json) some ∙ levels) (sym (object_numbers p.json p.no_bytes));
       bytes = map_spelled (depth - 1) ts r before after mid last p ∙ ap (λ v. before ++ spelling v) (sym shown);
       shorter = omega (arith, p.shorter, one_less ts Token.begin_object old e);
+    }
+
+-- ---- a map that stands for bytes
+
+-- its JSON, by the text beside `$hex`
+abbrev hex_json : List ℕ → Data
+hex_json s = object (json.member hex_name (json.string s) json.no_members)
+
+-- its tokens behind the first, before others
+abbrev hex_tokens : List ℕ → List Token → List Token
+hex_tokens s r = Token.key hex_name ∷ Token.string s ∷ Token.end_object ∷ r
+
+hex_members : (depth : ℕ) (s : List ℕ) (r : List Token) → converted (λ ms. of_members ms json.no_members) (members (value depth) (length (hex_tokens s r)) (hex_tokens s r)) ≡ Some (json.member hex_name (json.string s) json.no_members, r)
+hex_members depth s r =
+    let text : converted of_json (value depth (Token.string s ∷ Token.end_object ∷ r)) ≡ Some (json.string s, Token.end_object ∷ r) = ap (converted of_json) (value_is depth (Token.string s ∷ Token.end_object ∷ r)) in
+    member_read (value depth) json.no_members (length (hex_tokens s r)) hex_name (hex_tokens s r) (Token.string s ∷ Token.end_object ∷ r) (Token.end_object ∷ r) (json.string s) (omega arith) refl text
+    ∙ members_over (value depth) (json.member hex_name (json.string s) json.no_members) (length (hex_tokens s r) - 1) (Token.end_object ∷ r) r (omega arith) refl
+
+hex_read : (depth : ℕ) (s : List ℕ) (r : List Token) → 0 < depth → converted of_json (value depth (Token.begin_object ∷ hex_tokens s r)) ≡ Some (hex_json s, r)
+hex_read depth s r some =
+    ap (converted of_json) (value-begin_object depth (hex_tokens s r) some) ∙ converted-object (members (value (depth - 1)) (length (hex_tokens s r)) (hex_tokens s r)) ∙ ap (parse_map object) (hex_members (depth - 1) s r)
+
+not_none : {A : Type 0} (o : Option A) → IsSome o → is_none o ≡ false
+not_none (Some x) h = refl
+not_none None h = absurd (cc (h))
+
+pub put_bytes : (depth : ℕ) (old ts r : List Token) (before after : List ℕ) (first last : Faults) (s : List ℕ) → 0 < depth → AddsFaults first last (is_deep depth 1) false → old ≡ Token.begin_object ∷ ts → ts ≡ hex_tokens s r
+    → IsSome (bytes_of_digits s) → after ≡ before ++ spelling (bytes_or_null (bytes_of_digits s)) → PutsValue depth old r before after first last
+put_bytes depth old ts r before after first last s some deep e inside well b =
+    let all : old ≡ Token.begin_object ∷ hex_tokens s r = e ∙ ap (λ l. Token.begin_object ∷ l) inside in
+    record {
+      json = hex_json s;
+      plain = not_none (bytes_of_digits s) well;
+      read = ap (converted of_json) (ap (value depth) all) ∙ hex_read depth s r some;
+      formed = digits_formed s;
+      noted = deep;
+      bytes = b;
+      shorter = omega (arith, ap length all);
     }

@@ -1,10 +1,13 @@
 //! An argument, written from the tokens of a line as the bytes that spell it. If it is too deep or a number of it isn't
-//! whole, that is noted, and null stands for the number. A line in which a map's only name is `$hex` is left.
+//! whole, that is noted, and null stands for the number. A map that stands for bytes is put as these, if it is spelled
+//! plainly; a line with another whose only name is `$hex` is left.
 
-ghost use Rattle.std.specs.Prelude.{◌≡◌, ◌<◌, ◌≤◌, ◌^◌, ◌+◌, ◌++◌, ◌∷◌, [], ℕ, List, length, OnOk, IsTrue, IsUtf8, true, false};
+ghost use Rattle.std.specs.Prelude.{◌≡◌, ◌<◌, ◌≤◌, ◌^◌, ◌+◌, ◌++◌, ◌∷◌, [], ℕ, List, length, OnOk, IsSome, IsTrue, IsUtf8, true, false};
 ghost use Rattle.std.specs.Int.{w32, to_be_bytes};
 ghost use Rattle.serde_json.specs.Read.{number_of};
 ghost use Rattle.request_codec.specs.Tree.{null};
+ghost use Rattle.request_codec.specs.Hex.{bytes_of_digits};
+ghost use Rattle.request_codec.specs.Lenient.{bytes_or_null};
 ghost use Rattle.request_codec.specs.Written.{spelling};
 ghost use Rattle.line_parser.specs.inside.Argument.{too_deep, is_deep, AddsFaults, PutsValue, PutsItems, PutsFields};
 ghost use Rattle.line_parser.specs.inside.Number.{IsNotWhole};
@@ -15,7 +18,7 @@ use crate::number::{is_not_whole, whole_number};
 use crate::quick_fault::QuickFault;
 use crate::tokens::Tokens;
 use json::Token;
-use request_codec::bytes::{Start, put_start, put_text};
+use request_codec::bytes::{Start, are_digits, put_digits, put_start, put_text};
 
 /// So many levels are left for a value right below an argument's 32nd level; they are counted down from `MEMBER_DEPTH`.
 const TOO_DEEP: usize = 94;
@@ -76,6 +79,22 @@ fn put_not_whole(
     Ok(())
 }
 
+/// Puts the bytes of the digits. A line in which they are no digits of bytes is left.
+#[inline(never)]
+fn put_hex(out: &mut Vec<u8>, limit: usize, digits: &str) -> Result<(), QuickFault>
+    requires room { length out.old.items ≤ limit }
+    requires small { limit < 2 ^ 32 }
+    ensures hex { OnOk result (IsSome (bytes_of_digits digits.now)) }
+    ensures bytes { OnOk result (out.new.items ≡ out.old.items ++ spelling (bytes_or_null (bytes_of_digits digits.now))) }
+    ensures within { OnOk result (length out.new.items ≤ limit) }
+{
+    if !are_digits(digits) {
+        return Err(QuickFault::LeftToTree);
+    }
+    put_digits(out, limit, digits)?;
+    Ok(())
+}
+
 /// Puts the value that the tokens begin with, and notes its faults.
 #[cycle(argument)]
 pub(crate) fn put_value(
@@ -101,7 +120,10 @@ pub(crate) fn put_value(
         },
         Token::String(text) => put_start(out, limit, Start::Text(known(text)))?,
         Token::BeginArray if depth > 0 => return put_items(out, limit, reader, depth - 1, faults),
-        Token::BeginObject if depth > 0 => return put_fields(out, limit, reader, depth - 1, faults),
+        Token::BeginObject if depth > 0 => match reader.take_hex() {
+            Some(digits) => return put_hex(out, limit, digits),
+            None => return put_fields(out, limit, reader, depth - 1, faults),
+        },
         _ => return Err(QuickFault::LeftToTree),
     }
     Ok(())
@@ -134,7 +156,7 @@ fn put_items(
     Ok(())
 }
 
-/// Puts the map whose bracket was read. One that stands for bytes is left.
+/// Puts the map whose bracket was read. A line in which its only name is `$hex` is left.
 #[cycle(argument)]
 #[inline(never)]
 fn put_fields(

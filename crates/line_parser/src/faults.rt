@@ -1,5 +1,5 @@
 //! Why a value is no argument and no state: it is too deep, or a number of it isn't whole. Bytes that aren't well formed
-//! are never met here: a map that stands for bytes is left to the reader of any line.
+//! are never met here: a line with these is left to the reader of any line.
 
 ghost use Rattle.std.specs.Prelude.{◌≡◌, false};
 ghost use Rattle.line_parser.specs.inside.Argument.{why_of};

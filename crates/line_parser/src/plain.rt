@@ -9,11 +9,12 @@ ghost use Rattle.json.specs.Lex.{token, between, lex, tokens};
 ghost use Rattle.json.specs.Json.{after_end_array};
 ghost use Rattle.json.specs.Run.{is_plain};
 ghost use Rattle.json.specs.Reads.{token_of};
+ghost use Rattle.request_codec.specs.Json.{hex_name};
 ghost use Rattle.line_parser.specs.inside.LineMembers.{name_text};
 ghost use Rattle.line_parser.specs.inside.Plain.{name_spelling, is_opener, is_number_end, PassesValue};
 
 use crate::line_members::Name;
-use crate::scan::{begins_with, digits_len, plain_len};
+use crate::scan::{begins_with, digits_len, plain_len, same_text};
 use json::Token;
 
 /// The byte at a place, or a space past the end.
@@ -167,6 +168,30 @@ pub(crate) fn plain_key<'t>(rest: &'t str) -> Option<(&'t str, &'t str)>
         return None;
     }
     Some((name, past(after, 0)))
+}
+
+/// The text that stands beside `$hex`, and what follows the map, if that name and this text are all of it.
+#[inline(never)]
+fn hex_map<'t>(rest: &'t str) -> Option<(&'t str, &'t str)>
+    ensures { IfSome result (λ cut. tokens rest.now ≡ key hex_name ∷ string cut.0.now ∷ end_object ∷ tokens cut.1.now) }
+{
+    let (name, behind) = plain_key(rest)?;
+    if !same_text(name, "$hex") {
+        return None;
+    }
+    let (digits, end) = plain_text(behind)?;
+    Some((digits, map_end(end)?))
+}
+
+/// The same. Most maps begin with another name, which costs no call.
+#[inline(always)]
+pub(crate) fn plain_hex<'t>(rest: &'t str) -> Option<(&'t str, &'t str)>
+    ensures { IfSome result (λ cut. tokens rest.now ≡ key hex_name ∷ string cut.0.now ∷ end_object ∷ tokens cut.1.now) }
+{
+    if byte_at(rest, 1) != b'$' {
+        return None;
+    }
+    hex_map(rest)
 }
 
 /// A member's name as it is spelled plainly, with its quotes and its colon.

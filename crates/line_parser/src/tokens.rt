@@ -1,18 +1,19 @@
 //! The tokens of a line. While they are spelled plainly they are read straight from the text; from the first that isn't
 //! on, by json's reader.
 
-ghost use Rattle.std.specs.Prelude.{◌≡◌, ◌≢◌, ◌∷◌, [], Some, None, false, IfOk, OnOk, option_map};
+ghost use Rattle.std.specs.Prelude.{◌≡◌, ◌≢◌, ◌∷◌, [], Some, None, false, IfOk, OnOk, MatchOption, option_map};
 ghost use Rattle.std.specs.Bool.{MatchBool};
-ghost use Rattle.json.specs.Token.{string, number, begin_object};
+ghost use Rattle.json.specs.Token.{string, number, key, begin_object, end_object};
 ghost use Rattle.json.specs.Lex.{tokens};
 ghost use Rattle.json.specs.Json.{read_key, after_end_array};
 ghost use Rattle.json.specs.Reads.{token_of};
+ghost use Rattle.request_codec.specs.Json.{hex_name};
 ghost use Rattle.line_parser.specs.inside.LineMembers.{begins_object, IsNext};
 
 use crate::line_members::{Next, name_of};
 use crate::plain::{
-    has_item, list_end, map_end, map_start, plain_key, plain_name, plain_number, plain_text,
-    plain_token,
+    has_item, list_end, map_end, map_start, plain_hex, plain_key, plain_name, plain_number,
+    plain_text, plain_token,
 };
 use crate::quick_fault::QuickFault;
 use json::{Reader, Scratch, Token};
@@ -155,6 +156,21 @@ impl<'a> Tokens<'a> {
             }
         }
         self.key_of_any()
+    }
+
+    /// Takes the text beside `$hex` and the end of the map that was begun, if that name and this text are all of it. A map
+    /// that isn't spelled plainly is left, so there may be one where there is no text.
+    #[inline(always)]
+    pub(crate) fn take_hex(&mut self) -> Option<&'a str>
+        ensures { MatchOption result (self.new ≡ self.old) (λ text. self.old ≡ key hex_name ∷ string text.now ∷ end_object ∷ self.new) }
+    {
+        if self.reader.is_none() {
+            if let Some((text, rest)) = plain_hex(self.rest) {
+                self.rest = rest;
+                return Some(text);
+            }
+        }
+        None
     }
 
     /// What a line's object goes on with, by json's reader.

@@ -32,7 +32,7 @@ fn all_digits(text: &[u8]) -> bool
 }
 
 /// Whether these are the digits of bytes: an even number of lower case hexadecimal ones.
-pub(crate) fn are_digits(text: &str) -> bool
+pub fn are_digits(text: &str) -> bool
     ensures { result ≡ is_some (bytes_of_digits text.now) }
 {
     if text.len() % 2 == 1 {
@@ -106,7 +106,11 @@ fn put_decoded(out: &mut Vec<u8>, limit: usize, digits: &str) -> Result<(), Code
 }
 
 /// Puts the bytes of the digits as a value at the end. After a fault a part of it may stand there.
-pub(crate) fn put_digits(out: &mut Vec<u8>, limit: usize, digits: &str) -> Result<(), CodecFault>
+///
+/// # Errors
+///
+/// `TooLong` if the bytes, spelled, don't fit below the limit; `Memory` if memory is refused.
+pub fn put_digits(out: &mut Vec<u8>, limit: usize, digits: &str) -> Result<(), CodecFault>
     requires room { length out.old.items ≤ limit }
     requires small { limit < 2 ^ 32 }
     requires hex { IsSome (bytes_of_digits digits.now) }

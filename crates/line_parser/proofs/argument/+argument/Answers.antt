@@ -1,6 +1,7 @@
 use Rattle.std.proofs.Common.{◌≡◌, ◌-◌, ◌++◌, ◌∷◌, [], ℕ, List, length, Some, None, to_z-of_z, ap, sym, subst, ◌∙◌, arith}
 use Rattle.std.proofs.lemmas.List.{length-append}
 use Rattle.json.specs.Json.{after_end_array, read_key}
+use Rattle.json.specs.Token.{Token, begin_object}
 use Rattle.json.specs.Reads.{token_of}
 use Rattle.request_codec.specs.Written.{text_spelling, spelling}
 use Rattle.request_codec.specs.Tree as tree
@@ -10,8 +11,8 @@ use Rattle.line_parser.specs.inside.Fields.{field_spelling, AreBehind, members_o
 use Rattle.line_parser.proofs.ItemsRead.{items_start, items_next, items_stop}
 use Rattle.line_parser.proofs.NoBytes.{none_told}
 use Rattle.line_parser.proofs.FieldsRead.{begun, last_bytes, last_count, fields_start, fields_next, fields_stop}
-use Rattle.line_parser.proofs.PutValues.{put_null, put_bool, put_string, put_number, put_other_number, put_list, put_map}
-use Rattle.line_parser.proofs.Results.{on_ok, on_ok₃}
+use Rattle.line_parser.proofs.PutValues.{put_null, put_bool, put_string, put_number, put_other_number, put_list, put_map, put_bytes}
+use Rattle.line_parser.proofs.Results.{on_ok, on_ok₂, on_ok₃}
 use Rattle.line_parser.proofs.argument.+argument.Goals as goal
 
 pub put_items-items-init : goal.put_items-items-init
@@ -127,8 +128,16 @@ put_value-returns-in-BeginArray-clause-value t c =
     on_ok c.put_items.result c.put_items.ensures.value
     (put_list c.args.depth c.args.reader.now c.next.new.self c.put_items.new.reader c.args.out.now.items c.put_items.new.out.items c.args.faults.now c.note_depth.new.faults c.put_items.new.faults (omega arith) c.note_depth.ensures (first ∙ ap (λ k. token_of k ∷ c.next.new.self) c.in-BeginArray.is))
 
-pub put_value-returns-in-BeginObject-clause-value : goal.put_value-returns-in-BeginObject-clause-value
-put_value-returns-in-BeginObject-clause-value t c =
+pub put_value-returns-in-Some-take_hex-clause-value : goal.put_value-returns-in-Some-take_hex-clause-value
+put_value-returns-in-Some-take_hex-clause-value t c =
     let first : c.args.reader.now ≡ token_of c.in_ok-token.token ∷ c.next.new.self = grind arith in
+    let put = c.put_hex.ensures in
+    on_ok₂ c.put_hex.result put.hex put.bytes
+    (put_bytes c.args.depth c.args.reader.now c.next.new.self c.take_hex.new.self c.args.out.now.items c.put_hex.new.out.items c.args.faults.now c.note_depth.new.faults c.in-Some-take_hex.digits.now (omega arith) c.note_depth.ensures (first ∙ ap (λ k. token_of k ∷ c.next.new.self) c.in-BeginObject.is) c.in-Some-take_hex.ensures)
+
+pub put_value-returns-in-None-take_hex-clause-value : goal.put_value-returns-in-None-take_hex-clause-value
+put_value-returns-in-None-take_hex-clause-value t c =
+    let first : c.args.reader.now ≡ token_of c.in_ok-token.token ∷ c.next.new.self = grind arith in
+    let begun = first ∙ ap (λ k. token_of k ∷ c.next.new.self) c.in-BeginObject.is ∙ ap (λ (ts : List Token). begin_object ∷ ts) (sym c.in-None-take_hex.ensures) in
     on_ok c.put_fields.result c.put_fields.ensures.value
-    (put_map c.args.depth c.args.reader.now c.next.new.self c.put_fields.new.reader c.args.out.now.items c.put_fields.new.out.items c.args.faults.now c.note_depth.new.faults c.put_fields.new.faults (omega arith) c.note_depth.ensures (first ∙ ap (λ k. token_of k ∷ c.next.new.self) c.in-BeginObject.is))
+    (put_map c.args.depth c.args.reader.now c.take_hex.new.self c.put_fields.new.reader c.args.out.now.items c.put_fields.new.out.items c.args.faults.now c.note_depth.new.faults c.put_fields.new.faults (omega arith) c.note_depth.ensures begun)
