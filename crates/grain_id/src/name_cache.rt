@@ -25,20 +25,37 @@ fn stirred(sum: u64, word: u64) -> u64 {
     (sum.rotate_left(5) ^ word).wrapping_mul(0x517c_c1b7_2722_0a95)
 }
 
-/// The place of a text, by its hash.
+/// A few bytes in one word.
+fn packed(bytes: &[u8]) -> u64 {
+    let mut word = 0;
+    'bytes: for byte in bytes {
+        word = (word << 8) | u64::from(*byte);
+    }
+    word
+}
+
+/// The last eight bytes in one word, or all of fewer.
+fn last_word(bytes: &[u8]) -> u64 {
+    if let Some(last) = bytes.last_chunk::<8>() {
+        return u64::from_be_bytes(*last);
+    }
+    if let Some((front, last)) = bytes.split_last_chunk::<4>() {
+        return (packed(front) << 32) | u64::from(u32::from_be_bytes(*last));
+    }
+    packed(bytes)
+}
+
+/// The place of a text, by the hash of its length, of each eight bytes from the front on, and of its last eight.
 fn place_of(text: &str) -> usize
     ensures { result < 16384 }
 {
-    let (words, rest) = text.as_bytes().as_chunks::<8>();
-    let mut sum = 0;
+    let bytes = text.as_bytes();
+    let (words, _) = bytes.as_chunks::<8>();
+    let mut sum = bytes.len() as u64;
     'words: for word in words {
         sum = stirred(sum, u64::from_le_bytes(*word));
     }
-    let mut last = 0;
-    'rest: for byte in rest {
-        last = (last << 8) | u64::from(*byte);
-    }
-    (stirred(sum, last) >> 32) as usize % PLACES
+    (stirred(sum, last_word(bytes)) >> 50) as usize % PLACES
 }
 
 /// The grain at that place, if its text is this one.
