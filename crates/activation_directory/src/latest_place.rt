@@ -28,6 +28,14 @@ fn place_in(latest: &Option<LatestPlace>, id: &GrainId) -> Option<usize>
     None
 }
 
+/// The place to which the grain leads, by its hash.
+#[inline(never)]
+fn place_by_hash(places: &IndexMap<GrainId, usize, HashSeed>, id: &GrainId) -> Option<usize>
+    ensures { result ≡ lookup (grain_eq id.now) places.now.entries }
+{
+    places.get(id).copied()
+}
+
 /// The place to which the grain leads, with no look-up by hash if it was looked up last.
 pub fn place_of(
     latest: &Option<LatestPlace>,
@@ -40,7 +48,15 @@ pub fn place_of(
     if let Some(place) = place_in(latest, id) {
         return Some(place);
     }
-    places.get(id).copied()
+    place_by_hash(places, id)
+}
+
+/// Whether the grain that was looked up last leads to this place: no other does.
+fn is_place_of(latest: &Option<LatestPlace>, place: usize) -> bool {
+    match latest {
+        Some(found) => found.place == place,
+        None => false,
+    }
 }
 
 /// The grain was looked up, and leads to this place. If no clone of its name can be made, another
@@ -49,7 +65,7 @@ pub fn remember(latest: &mut Option<LatestPlace>, id: &GrainId, place: usize)
     ensures { (index : List (Grain × ℕ)) → LeadsTo latest.old index → lookup (grain_eq id.now) index ≡ Some place
         → LeadsTo latest.new index }
 {
-    if place_in(latest, id).is_some() {
+    if is_place_of(latest, place) {
         return;
     }
     if let Ok(id) = id.clone() {
