@@ -14,7 +14,7 @@ const MOST_DIGITS: usize = 18;
 
 /// The number that a text spells, if it is digits alone, and not too many.
 #[inline(always)]
-fn natural_of(text: &str) -> Option<u64>
+pub(crate) fn natural_of(text: &str) -> Option<u64>
     ensures read { IfSome result (λ n. number_of text.now ≡ Some (unsigned n)) }
     ensures within { IfSome result (λ n. n < 2 ^ 63) }
 {
@@ -58,13 +58,11 @@ fn negative_of(numeral: &Numeral<'_>) -> Option<i64>
     if number < 0 { Some(number) } else { None }
 }
 
-/// The number, if it is written as a whole one and has 64 bits: `1.0` and `-0` are none.
-pub(crate) fn whole_number(text: &str) -> Option<i64>
+/// The number, if it is written as a whole one and has 64 bits, by its numeral.
+#[inline(never)]
+fn whole_number_of_any(text: &str) -> Option<i64>
     ensures { IfSome result (λ n. IsWhole text.now n) }
 {
-    if let Some(n) = natural_of(text) {
-        return Some(n as i64);
-    }
     let bytes = text.as_bytes();
     if has_minus(bytes) {
         let number = negative_of(&Numeral::scan(&bytes[1..]))?;
@@ -77,6 +75,17 @@ pub(crate) fn whole_number(text: &str) -> Option<i64>
             None
         }
     }
+}
+
+/// The number, if it is written as a whole one and has 64 bits: `1.0` and `-0` are none.
+#[inline(always)]
+pub(crate) fn whole_number(text: &str) -> Option<i64>
+    ensures { IfSome result (λ n. IsWhole text.now n) }
+{
+    if let Some(n) = natural_of(text) {
+        return Some(n as i64);
+    }
+    whole_number_of_any(text)
 }
 
 /// Whether the number is within a float's range.
