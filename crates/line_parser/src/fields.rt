@@ -13,7 +13,7 @@ use request_codec::bytes::may_follow;
 use std::alloc::{AllocError, Global};
 
 /// So many fields of a map are noted in place; the more there are, the longer it takes to make the place ready.
-const FEW_FIELDS: usize = 12;
+const FEW_FIELDS: usize = 4;
 
 /// What is kept of a field: its name, where its bytes begin, and how many they are.
 #[derive(Clone, Copy, Default, PartialEq, Eq, PartialOrd, Ord)]
