@@ -2,7 +2,7 @@
 
 use crate::compare::same;
 use crate::values::grain;
-use grain_id::GrainId;
+use grain_id::{GrainId, HashSeed};
 use idle_collector::Collector;
 use std::alloc::Global;
 use std::test::Fail;
@@ -13,6 +13,8 @@ enum Call {
     /// A grain is due from that moment on.
     Note(&'static str, u64),
     Forget(&'static str),
+    /// The same, if it is the note that came last: whether it is.
+    ForgetLatest(&'static str, bool),
     /// The grains that are due at a moment, each with a space behind it.
     Due(u64, &'static str),
 }
@@ -35,6 +37,9 @@ fn make(alloc: Global, collector: &mut Collector, call: Call) -> Result<(), Fail
     match call {
         Call::Note(text, moment) => Ok(collector.note(grain(alloc, text)?, moment)?),
         Call::Forget(text) => Ok(collector.forget(&grain(alloc, text)?)),
+        Call::ForgetLatest(text, wanted) => {
+            same(collector.forget_latest(&grain(alloc, text)?), wanted)
+        }
         Call::Due(now, wanted) => same(due(alloc, collector, now)?.as_str(), wanted),
     }
 }
@@ -46,10 +51,12 @@ fn make_each(alloc: Global, collector: &mut Collector, calls: &[Call]) -> Result
     Ok(())
 }
 
-/// Makes the calls, of a new collector.
+/// Makes the calls, of a new collector and of one with another seed.
 fn run(alloc: Global, calls: &[Call]) -> Result<(), Fail> {
     let mut collector = Collector::new(alloc);
-    make_each(alloc, &mut collector, calls)
+    make_each(alloc, &mut collector, calls)?;
+    let mut seeded = Collector::seeded(alloc, HashSeed::new(7));
+    make_each(alloc, &mut seeded, calls)
 }
 
 /// A later note takes the place of an earlier one.
@@ -87,6 +94,28 @@ static ONE_MOMENT: [Call; 11] = [
     Call::Forget("counter/red:a"),
     Call::Due(7, "counter/red:c "),
 ];
+
+/// Notes of two moments in turn, as where two kinds have an age of their own.
+static IN_TURN: [Call; 13] = [
+    Call::Note("counter/red:a", 7),
+    Call::Note("sheet/red:a", 9),
+    Call::Note("counter/red:b", 7),
+    Call::Note("sheet/red:b", 9),
+    Call::Due(6, ""),
+    Call::Due(7, "counter/red:a counter/red:b "),
+    Call::Due(9, "counter/red:a counter/red:b sheet/red:a sheet/red:b "),
+    Call::ForgetLatest("sheet/red:a", false),
+    Call::ForgetLatest("sheet/red:b", true),
+    Call::ForgetLatest("sheet/red:b", false),
+    Call::Forget("counter/red:a"),
+    Call::Note("counter/red:b", 9),
+    Call::Due(9, "counter/red:b sheet/red:a "),
+];
+
+#[test]
+fn notes_of_two_moments_in_turn(rt: HostRuntime) -> Result<(), Fail> {
+    run(rt.alloc(), &IN_TURN)
+}
 
 #[test]
 fn grains_are_due_by_their_last_notes(rt: HostRuntime) -> Result<(), Fail> {

@@ -3,7 +3,7 @@
 use crate::compare::same;
 use crate::values::grain;
 use activation_directory::{Activation, Directory, Phase};
-use grain_id::GrainId;
+use grain_id::{GrainId, HashSeed};
 use silo_event::Moment;
 use std::alloc::{AllocError, Global};
 use std::test::Fail;
@@ -139,10 +139,12 @@ fn answers_each(
     Ok(())
 }
 
-/// Makes the calls, of a new directory.
+/// Makes the calls, of a new directory and of one with another seed.
 fn run(alloc: Global, calls: &[(Call, u64)]) -> Result<(), Fail> {
     let mut directory = Directory::new(alloc);
-    answers_each(alloc, &mut directory, calls)
+    answers_each(alloc, &mut directory, calls)?;
+    let mut seeded = Directory::seeded(alloc, HashSeed::new(7));
+    answers_each(alloc, &mut seeded, calls)
 }
 
 /// Each tenant has its own number.

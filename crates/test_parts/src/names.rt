@@ -1,11 +1,11 @@
-//! Names of kinds, tenants, clients and grains: their faults and lengths, as keys, and names read before.
+//! Names of kinds, tenants, clients and grains: their faults and lengths, as keys, names read before, and their hashes by a seed.
 
 use crate::compare::{same, same_at, same_copy};
 use crate::values::{caller, grain, kind, tenant};
-use grain_id::{Caller, GrainId, IdFault, Kind, NameCache, Tenant};
+use grain_id::{Caller, GrainId, HashSeed, IdFault, Kind, NameCache, Tenant};
 use std::alloc::{AllocError, Global};
-use std::collections::{BTreeMap, HashMap};
-use std::hash::Hash;
+use std::collections::{BTreeMap, BTreeSet, HashMap};
+use std::hash::{BuildHasher, Hash};
 use std::test::Fail;
 
 /// What a text is read as.
@@ -250,4 +250,45 @@ fn names_read_lately(rt: HostRuntime) -> Result<(), Fail> {
     reads_many(&mut names, rt.alloc())?;
     reads_client(&mut names, rt.alloc())?;
     reads_client(&mut names, rt.alloc())
+}
+
+/// The hash of a grain, by a seed.
+fn hashed(alloc: Global, seed: HashSeed, text: &str) -> Result<u64, Fail> {
+    let grain = grain(alloc, text)?;
+    Ok(seed.hash_one(&grain))
+}
+
+/// The hashes were computed by another program.
+#[test]
+fn hashes_by_a_seed(rt: HostRuntime) -> Result<(), Fail> {
+    same(
+        hashed(rt.alloc(), HashSeed::fixed(), "counter/red:a")?,
+        6_341_382_374_643_041_536,
+    )?;
+    same(
+        hashed(rt.alloc(), HashSeed::new(7), "counter/red:a")?,
+        17_233_714_272_596_419_755,
+    )
+}
+
+/// The text of a grain, by number. By the fixed seed all of these have one hash: the eight bytes before the number are what the
+/// sixteen before them lead to, so that a product is 0.
+fn of_one_hash(alloc: Global, number: u32) -> Result<String, AllocError> {
+    format!(in alloc; "counter/red:nfnb0vHDf,J7{number:08}0123456789abcdef")
+}
+
+/// How many hashes a thousand such grains have.
+fn hashes_of_a_thousand(alloc: Global, seed: HashSeed) -> Result<usize, Fail> {
+    let mut found = BTreeSet::new(alloc);
+    for number in 0..1000 {
+        let text = of_one_hash(alloc, number)?;
+        found.insert(hashed(alloc, seed, &text)?)?;
+    }
+    Ok(found.len())
+}
+
+#[test]
+fn grains_of_one_hash_have_others_by_another_seed(rt: HostRuntime) -> Result<(), Fail> {
+    same(hashes_of_a_thousand(rt.alloc(), HashSeed::fixed())?, 1)?;
+    same(hashes_of_a_thousand(rt.alloc(), HashSeed::new(7))?, 1000)
 }

@@ -2,7 +2,7 @@
 
 use crate::compare::{same, same_copy};
 use crate::values::grain;
-use grain_id::GrainId;
+use grain_id::{GrainId, HashSeed};
 use grain_storage::{FusedStorage, GrainStorage, MemoryStorage, Row, StoreFault};
 use request_codec::{CodecFault, StateBytes};
 use std::alloc::Global;
@@ -175,7 +175,9 @@ fn keeps_rows(alloc: Global, storage: &mut MemoryStorage) -> Result<(), Fail> {
 #[test]
 fn rows_have_versions_and_are_listed(rt: HostRuntime) -> Result<(), Fail> {
     let mut storage = MemoryStorage::new(rt.alloc());
-    keeps_rows(rt.alloc(), &mut storage)
+    keeps_rows(rt.alloc(), &mut storage)?;
+    let mut seeded = MemoryStorage::seeded(rt.alloc(), HashSeed::new(7));
+    keeps_rows(rt.alloc(), &mut seeded)
 }
 
 /// A row with the number 3 under a version.
