@@ -101,7 +101,7 @@ impl NameCache {
         Ok(NameCache { grains, callers })
     }
 
-    /// Reads a grain, as `GrainId::read` does, and shares one that was read name_cache.
+    /// Reads a grain, as `GrainId::read` does, and shares one that was read lately.
     ///
     /// # Errors
     ///
@@ -122,7 +122,7 @@ impl NameCache {
         Ok(grain)
     }
 
-    /// Reads a caller, as `Caller::read` does, and shares one that was read name_cache.
+    /// Reads a caller, as `Caller::read` does, and shares one that was read lately.
     ///
     /// # Errors
     ///
