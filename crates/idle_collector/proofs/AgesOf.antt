@@ -1,7 +1,7 @@
 -- Ages that are put in order, what is found in them, and why a list is no table.
 use Rattle.std.proofs.Common.{◌≡◌, ℕ, suc, ◌+◌, ◌<◌, ◌≤◌, Bool, true, false, cond, not, ◌||◌, List, [], ◌∷◌, ◌++◌, length, get_or, take, drop}
 use Rattle.std.proofs.Common.{Option, Some, None, is_some, option_map, refl, ap, sym, ◌∙◌, arith, add-one, true≢false, nat_lt, if◌then◌else◌}
-use Rattle.std.specs.Prelude.{Err, IfSome, find, nat_le, ◌&&◌}
+use Rattle.std.specs.Prelude.{Err, IfSome, find, nat_le}
 use Rattle.std.specs.Cmp.{first_so, second_so, tied_itself}
 use Rattle.std.specs.List.{AllByRecursion, AllZip, insert, list_any}
 use Rattle.std.specs.List.Sorted.{IsStrictlySortedBy}
@@ -19,7 +19,7 @@ use Rattle.tenant_gate.specs.Age.{IsAge}
 use Rattle.tenant_gate.specs.Table.{first_repeat}
 use Rattle.idle_collector.specs.declared.ages.AgeFault.{AgeFault}
 use Rattle.idle_collector.specs.declared.ages.AgeFault.TheVariants as faults
-use Rattle.idle_collector.specs.Ages.{Ages, kinds_of, most_ages, is_age, first_out_of_range, ages_fault, age_for, AreAscending, IsTable, IsInOrder, AgesAnswers}
+use Rattle.idle_collector.specs.Ages.{Ages, kinds_of, most_ages, is_age, first_out_of_range, ages_fault, age_for, AreAscending, IsTable, AgesAnswers}
 use Rattle.idle_collector.specs.inside.AgesInOrder.{place_in, put_in, IsSorted, SortRefused}
 
 abbrev Entry : Type 0

@@ -3,3 +3,4 @@ pub mod Aside
 pub mod OneMoment
 pub mod Sets
 pub mod AgesOf
+pub mod AgeTables

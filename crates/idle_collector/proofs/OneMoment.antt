@@ -1,18 +1,14 @@
 -- Grains that are due from one moment on, beside other notes.
-use Rattle.std.proofs.Common.{◌≡◌, ℕ, ◌+◌, ◌-◌, Bool, true, false, ◌||◌, cond, List, [], ◌∷◌, ◌++◌, Option, Some, None, refl, ap, sym, ◌∙◌, subst, true≢false, length, length-append, arith}
-use Rattle.std.specs.Prelude.{nat_le, count_by, option_to_list, IsSome, ◌<◌}
-use Rattle.std.specs.List.{list_any, slice_get, IsDistinct, AllByRecursion}
+use Rattle.std.proofs.Common.{◌≡◌, ℕ, ◌+◌, Bool, true, false, ◌||◌, cond, List, [], ◌∷◌, ◌++◌, Option, Some, None, refl, ap, sym, ◌∙◌, arith}
+use Rattle.std.specs.Prelude.{nat_le, count_by}
+use Rattle.std.specs.List.{list_any, IsDistinct, AllByRecursion}
 use Rattle.std.proofs.lemmas.List.Sums.{sum_by-append}
-use Rattle.std.proofs.lemmas.Option.{same_Some}
-use Rattle.std.specs.Ordering.{eq_by_cmp}
 use Rattle.std.specs.FinMap as map
-use Rattle.std.specs.Cmp.{eq_by_cmp_equiv}
 use Rattle.grain_id.proofs.Keys.{grains}
 use Rattle.finite_maps.proofs.Keys.{key_turned}
 use Rattle.finite_maps.proofs.Entries.{get-insert_key, get-remove_key}
-use Rattle.grain_id.specs.Names.{Grain, grain_cmp, grain_eq}
-use Rattle.grain_id.proofs.Order.{grain_cmp_total, grain_cmp_exact, grain_eq_decides, grain_ties}
-use Rattle.finite_maps.proofs.Maps as maps
+use Rattle.grain_id.specs.Names.{Grain, grain_eq}
+use Rattle.grain_id.proofs.Order.{grain_eq_decides, grain_ties}
 use Rattle.idle_collector.specs.Notes.{Notes, noted, forgotten, is_due, HoldsDue}
 use Rattle.idle_collector.specs.inside.Sets.{all_noted}
 use Rattle.idle_collector.proofs.Due.{tie, count, count_is}

@@ -1,13 +1,12 @@
 -- Notes by sets of grains, each of one moment: what is noted when one of the sets changes, and what is due.
-use Rattle.std.proofs.Common.{◌≡◌, ℕ, ◌==◌, ◌<◌, ◌≤◌, Bool, true, false, ◌||◌, cond, List, [], ◌∷◌, ◌++◌, Option, Some, None, is_some, refl, ap, sym, ◌∙◌, subst, true≢false, arith}
+use Rattle.std.proofs.Common.{◌≡◌, ℕ, ◌<◌, Bool, true, false, cond, List, [], ◌∷◌, ◌++◌, Option, Some, None, is_some, refl, ap, sym, ◌∙◌, subst, true≢false, arith}
 use Rattle.std.specs.Prelude.{nat_le, IfSome}
 use Rattle.std.specs.BTreeMap as tree
 use Rattle.std.specs.BTreeMap.{BTreeMap}
 use Rattle.std.specs.Map.{lookup, keys_of}
 use Rattle.std.specs.FinMap as map
 use Rattle.std.specs.FinMap.{nat_cmp-IsAntisymmetric}
-use Rattle.std.specs.declared.cmp.Ordering.{Ordering}
-use Rattle.std.specs.declared.cmp.Ordering.TheVariants.{Less, Equal, Greater}
+use Rattle.std.specs.declared.cmp.Ordering.TheVariants.{Less, Equal}
 use Rattle.std.specs.Cmp.{Equal-is, nat_cmp_total, tied_itself, ranked}
 use Rattle.std.specs.List.{list_any, IsDistinct, AllByRecursion}
 use Rattle.std.specs.List.Sorted.{IsStrictlySortedBy}
@@ -19,7 +18,7 @@ use Rattle.finite_maps.proofs.Maps as maps
 use Rattle.grain_id.specs.Names.{Grain, grain_cmp, grain_eq}
 use Rattle.grain_id.proofs.Order.{grain_cmp_total, grain_cmp_exact, grain_eq_decides}
 use Rattle.idle_collector.specs.Notes.{Notes, noted, forgotten, is_due, HoldsDue}
-use Rattle.idle_collector.specs.inside.Sets.{all_noted, notes_of, has, is_at, AreApart, first_due}
+use Rattle.idle_collector.specs.inside.Sets.{notes_of, has, is_at, AreApart, LeavesNotes, first_due}
 use Rattle.idle_collector.proofs.OneMoment.{get-noted, get-forgotten, get-all, due-all}
 
 -- ---- moments
@@ -207,6 +206,41 @@ module _ {S : Type 0} (sets : BTreeMap ℕ (IndexSet Grain S)) (apart : AreApart
       by : (b : Bool) → grain_eq id q ≡ b → is_at sets m q ≡ cond b false (is_at sets m q)
       by true t = refused (is_at sets m q) (λ here. let noted_then : None ≡ Some m = sym none ∙ ap (map.get (notes_of sets.entries)) ((grain_eq_decides id q).0 t) ∙ apart.alone m q here in cc)
       by false t = refl
+
+-- a set that has no grain goes
+module _ {S : Type 0} (old new : BTreeMap ℕ (IndexSet Grain S)) (apart : AreApart old) (ordered : tree.IsOrdered nat_cmp new) (m : ℕ) (set : IndexSet Grain S)
+    (is : tree.get nat_cmp old m ≡ Some set) (empty : set.keys ≡ [])
+    (puts : (k : ℕ) → tree.get nat_cmp new k ≡ cond (is_eq (nat_cmp m k)) None (tree.get nat_cmp old k)) where
+  same_at : (k : ℕ) (q : Grain) → is_at new k q ≡ is_at old k q
+  same_at k q = ap (has q) (puts k) ∙ by (is_eq (nat_cmp m k)) refl
+    where
+      by : (b : Bool) → is_eq (nat_cmp m k) ≡ b → has q (cond b None (tree.get nat_cmp old k)) ≡ is_at old k q
+      by true e = sym (ap (λ n. is_at old n q) (sym (same_moment m k e)) ∙ ap (has q) is ∙ ap (list_any (grain_eq q)) empty)
+      by false e = refl
+
+  same_notes : notes_of new.entries ≡ notes_of old.entries
+  same_notes = maps.alike grain_cmp_total grain_cmp_exact _ _ (λ q. get-notes new.entries q ∙ found_is new.entries ordered (map.get (notes_of old.entries))
+      (λ k q here. apart.alone k q (sym (same_at k q) ∙ here))
+      (λ k q noted. same_at k q ∙ found_at old.entries apart.ordered k q (sym (get-notes old.entries q) ∙ noted)) q)
+
+  pub leaves_notes : LeavesNotes old new
+  leaves_notes = record {
+    apart = record {
+      ordered = ordered;
+      once = λ k s here. was k s (is_eq (nat_cmp m k)) (sym (puts k) ∙ here);
+      alone = λ k q here. ap (λ (n : Notes). map.get n q) same_notes ∙ apart.alone k q (sym (same_at k q) ∙ here);
+    };
+    notes = same_notes;
+    none = λ k none. puts k ∙ either (is_eq (nat_cmp m k)) none;
+  }
+    where
+      was : (k : ℕ) (s : IndexSet Grain S) (b : Bool) → cond b None (tree.get nat_cmp old k) ≡ Some s → IsDistinct grain_eq s.keys
+      was k s true here = absurd cc
+      was k s false here = apart.once k s here
+
+      either : {o : Option (IndexSet Grain S)} (b : Bool) → o ≡ None → cond b None o ≡ None
+      either true none = refl
+      either false none = none
 
 module _ {S : Type 0} (sets : BTreeMap ℕ (IndexSet Grain S)) (apart : AreApart sets) (id : Grain) (m : ℕ) (own : IfSome (map.get (notes_of sets.entries) id) (λ k. k ≡ m)) where
   -- where no set is of its moment, it has no note

@@ -1,8 +1,9 @@
 //! The notes that are filed: the grains of each moment.
 
-ghost use Rattle.std.specs.Prelude.{◌≡◌, ◌++◌, None, OnOk, OnErr, IfOk, IfSome};
+ghost use Rattle.std.specs.Prelude.{◌≡◌, [], ◌++◌, None, OnOk, OnErr, IfOk, IfSome};
 ghost use Rattle.std.specs.FinMap as map;
 ghost use Rattle.idle_collector.specs.Notes.{noted, forgotten, HoldsDue};
+ghost use Rattle.idle_collector.specs.inside.Sets.{AreApart, LeavesNotes};
 
 use grain_id::{GrainId, HashSeed};
 use indexmap::IndexSet;
@@ -12,9 +13,12 @@ use std::marker::Model;
 
 /// The notes that are filed. The grains that are due from one moment on are in one set, and the sets stand in the order of
 /// time. So a note is made, or dropped by its moment, by one look-up among the moments and one among the moment's grains.
+/// The set that was emptied last stays, with its room: the next note of its moment finds it there, and the first note of
+/// another moment takes it.
 #[derive(Drop)]
 pub struct ByMoment {
     sets: BTreeMap<u64, IndexSet<GrainId, HashSeed>>,
+    emptied: Option<u64>,
     alloc: Global,
     seed: HashSeed,
 }
@@ -39,6 +43,7 @@ impl ByMoment {
     {
         ByMoment {
             sets: BTreeMap::new(alloc),
+            emptied: None,
             alloc,
             seed,
         }
@@ -58,7 +63,7 @@ impl ByMoment {
             grains.insert(id)?;
             return Ok(());
         }
-        let mut grains = IndexSet::with_hasher(self.alloc, self.seed);
+        let mut grains = empty_set(&mut self.sets, self.emptied.take(), self.alloc, self.seed);
         grains.insert(id)?;
         self.sets.insert(moment, grains)?;
         Ok(())
@@ -86,11 +91,12 @@ impl ByMoment {
         };
         grains.swap_remove(id);
         if grains.is_empty() {
-            drop(self.sets.remove(&moment));
+            let earlier = self.emptied.replace(moment);
+            let_go(&mut self.sets, earlier, moment);
         }
     }
 
-    /// The grains that are due, those of the earliest moment first. Looks at these and at one moment more.
+    /// The grains that are due, those of the earliest moment first. Looks at these, and at two moments more at most.
     ///
     /// # Errors
     ///
@@ -107,6 +113,55 @@ impl ByMoment {
         }
         Ok(due)
     }
+}
+
+/// A set with no grain: the one that was emptied last, which is of no moment then, or a new one.
+fn empty_set(
+    sets: &mut BTreeMap<u64, IndexSet<GrainId, HashSeed>>,
+    emptied: Option<u64>,
+    alloc: Global,
+    seed: HashSeed,
+) -> IndexSet<GrainId, HashSeed>
+    requires { AreApart sets.old }
+    ensures empty { result.keys ≡ [] }
+    ensures notes { LeavesNotes sets.old sets.new }
+{
+    let Some(moment) = emptied else {
+        return IndexSet::with_hasher(alloc, seed);
+    };
+    match take_empty(sets, moment) {
+        Some(grains) => grains,
+        None => IndexSet::with_hasher(alloc, seed),
+    }
+}
+
+/// Lets the set of an earlier moment go, if it has no grain. That of this moment stays.
+fn let_go(sets: &mut BTreeMap<u64, IndexSet<GrainId, HashSeed>>, earlier: Option<u64>, moment: u64)
+    requires { AreApart sets.old }
+    ensures { LeavesNotes sets.old sets.new }
+{
+    let Some(earlier) = earlier else {
+        return;
+    };
+    if earlier != moment {
+        drop(take_empty(sets, earlier));
+    }
+}
+
+/// Takes the set of a moment out, if it has no grain.
+fn take_empty(
+    sets: &mut BTreeMap<u64, IndexSet<GrainId, HashSeed>>,
+    moment: u64,
+) -> Option<IndexSet<GrainId, HashSeed>>
+    requires { AreApart sets.old }
+    ensures empty { IfSome result (λ grains. grains.keys ≡ []) }
+    ensures notes { LeavesNotes sets.old sets.new }
+{
+    let grains = sets.get(&moment)?;
+    if !grains.is_empty() {
+        return None;
+    }
+    sets.remove(&moment)
 }
 
 /// Adds the grains to others.

@@ -9,7 +9,6 @@ pub mod LinesBack
 pub mod OwnText
 pub mod Drafts
 pub mod AgesKept
-pub mod AgeTables
 pub mod Added
 pub mod DraftJournals
 pub mod LinesCut

@@ -35,6 +35,12 @@ module _ {S : Type 0} where
     pub once : (moment : ℕ) (set : IndexSet Grain S) → tree.get nat_cmp sets moment ≡ Some set → IsDistinct grain_eq set.keys
     pub alone : (moment : ℕ) (grain : Grain) → is_at sets moment grain ≡ true → map.get (notes_of sets.entries) grain ≡ Some moment
 
+  -- Each grain is noted as before, and no moment has a set that had none.
+  pub record LeavesNotes (old new : BTreeMap ℕ (IndexSet Grain S)) : Type 0 where
+    pub apart : AreApart new
+    pub notes : notes_of new.entries ≡ notes_of old.entries
+    pub none : (moment : ℕ) → tree.get nat_cmp old moment ≡ None → tree.get nat_cmp new moment ≡ None
+
   -- the grains of the first moments, as far as these have come
   abbrev pub first_due : ℕ → List (ℕ × IndexSet Grain S) → List Grain
   first_due now [] = []

@@ -1,4 +1,4 @@
-use Rattle.std.proofs.Common.{◌≡◌, true, false, None, Some, is_some, take, get_or, refl, ap, sym, ◌∙◌, ◌∷◌, [], ◌++◌, subst, ◌+◌}
+use Rattle.std.proofs.Common.{◌≡◌, true, false, Some, is_some, take, get_or, refl, ap, sym, ◌∙◌, ◌∷◌, [], ◌++◌, subst, ◌+◌}
 use Rattle.std.specs.List.{list_any}
 use Rattle.std.proofs.lemmas.List.{take_more}
 use Rattle.grain_id.specs.Names.{same_text}

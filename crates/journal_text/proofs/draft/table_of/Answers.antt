@@ -1,4 +1,4 @@
-use Rattle.journal_text.proofs.AgeTables.{same_table, only_memory}
+use Rattle.idle_collector.proofs.AgeTables.{same_table, only_memory}
 use Rattle.journal_text.proofs.draft.table_of.Goals as goal
 
 pub returns-in-Ok : goal.returns-in-Ok

@@ -1,4 +1,4 @@
-use Rattle.std.proofs.Common.{◌≡◌, Some, None, cond, ap, sym, ◌∙◌}
+use Rattle.std.proofs.Common.{◌≡◌, Some, cond, ap, sym, ◌∙◌}
 use Rattle.std.specs.FinMap as map
 use Rattle.idle_collector.specs.Notes.{Notes}
 use Rattle.idle_collector.proofs.Sets.{moment_in, get-notes}

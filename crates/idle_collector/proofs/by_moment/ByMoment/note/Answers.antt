@@ -1,14 +1,14 @@
-use Rattle.std.proofs.Common.{◌≡◌, ◌∷◌, [], true, false, cond, List, Some, None, Option, ℕ, refl, ap, sym, ◌∙◌, subst}
+use Rattle.std.proofs.Common.{◌≡◌, true, false, cond, List, Some, None, Option, ℕ, refl, ap, sym, ◌∙◌}
 use Rattle.std.specs.Prelude.{IfSome, Result, Ok, Err, OnErr}
 use Rattle.std.specs.BTreeMap as tree
 use Rattle.std.specs.FinMap as map
 use Rattle.std.specs.List.{list_any}
-use Rattle.std.specs.Ordering.{nat_cmp, is_eq}
+use Rattle.std.specs.Ordering.{nat_cmp}
 use Rattle.finite_maps.proofs.Maps as maps
 use Rattle.grain_id.specs.Names.{Grain, grain_eq}
 use Rattle.grain_id.proofs.Order.{grain_cmp_total, grain_cmp_exact}
 use Rattle.idle_collector.specs.Notes.{Notes, noted}
-use Rattle.idle_collector.specs.inside.Sets.{has}
+use Rattle.idle_collector.specs.inside.Sets.{has, notes_of}
 use Rattle.idle_collector.proofs.Sets.{changed_apart, now_noted, now_forgotten, not_there}
 use Rattle.idle_collector.proofs.by_moment.ByMoment.note.Goals as goal
 
@@ -69,18 +69,22 @@ returns-in_err-insert-clause-unchanged c =
 pub invariant_of-self-2 : goal.invariant_of-self-2
 invariant_of-self-2 c =
     let set = c.insert-2.new.self in
-    changed_apart c.self.inside.sets c.insert-3.new.self c.self.invariant c.insert-3.ensures.ordered c.args.moment (Some set)
-    (λ k. c.in_ok-insert-3.ensures.updates.0 k ∙ ap (λ sets. cond (is_eq (nat_cmp c.args.moment k)) (Some set) (tree.get nat_cmp sets k)) c.get_mut.follows.holds-at-none)
+    let left = c.empty_set-grains.ensures.notes in
+    let before = left.notes ∙ ap (λ sets. notes_of sets.entries) c.get_mut.follows.holds-at-none ∙ c.self.view_is in
+    let none = left.none c.args.moment (ap (λ sets. tree.get nat_cmp sets c.args.moment) c.get_mut.follows.holds-at-none ∙ sym c.in_default.ensures.value) in
+    changed_apart c.empty_set-grains.new.sets c.insert-3.new.self left.apart c.insert-3.ensures.ordered c.args.moment (Some set) c.in_ok-insert-3.ensures.updates.0
     c.insert-2.ensures.unique c.args.id true
-    (λ q. c.in_ok-insert-2.ensures.updates.0 q ∙ ap (λ (gs : List Grain). cond (grain_eq c.args.id q) true (list_any (grain_eq q) gs)) c.with_hasher-grains.ensures.empty ∙ ap (λ o. cond (grain_eq c.args.id q) true (has q o)) c.in_default.ensures.value)
-    (unnoted _ c.args.moment (ap (λ (n : Notes). map.get n c.args.id) c.self.view_is ∙ c.requires))
+    (λ q. c.in_ok-insert-2.ensures.updates.0 q ∙ ap (λ (gs : List Grain). cond (grain_eq c.args.id q) true (list_any (grain_eq q) gs)) c.empty_set-grains.ensures.empty ∙ ap (λ o. cond (grain_eq c.args.id q) true (has q o)) (sym none))
+    (unnoted _ c.args.moment (ap (λ (n : Notes). map.get n c.args.id) before ∙ c.requires))
 
 pub returns-clause-noted : goal.returns-clause-noted
 returns-clause-noted c =
     let set = c.insert-2.new.self in
-    now_noted c.self.inside.sets c.insert-3.new.self c.self.invariant c.insert-3.ensures.ordered c.args.moment (Some set)
-    (λ k. c.in_ok-insert-3.ensures.updates.0 k ∙ ap (λ sets. cond (is_eq (nat_cmp c.args.moment k)) (Some set) (tree.get nat_cmp sets k)) c.get_mut.follows.holds-at-none)
+    let left = c.empty_set-grains.ensures.notes in
+    let before = left.notes ∙ ap (λ sets. notes_of sets.entries) c.get_mut.follows.holds-at-none ∙ c.self.view_is in
+    let none = left.none c.args.moment (ap (λ sets. tree.get nat_cmp sets c.args.moment) c.get_mut.follows.holds-at-none ∙ sym c.in_default.ensures.value) in
+    now_noted c.empty_set-grains.new.sets c.insert-3.new.self left.apart c.insert-3.ensures.ordered c.args.moment (Some set) c.in_ok-insert-3.ensures.updates.0
     c.insert-2.ensures.unique c.args.id true
-    (λ q. c.in_ok-insert-2.ensures.updates.0 q ∙ ap (λ (gs : List Grain). cond (grain_eq c.args.id q) true (list_any (grain_eq q) gs)) c.with_hasher-grains.ensures.empty ∙ ap (λ o. cond (grain_eq c.args.id q) true (has q o)) c.in_default.ensures.value)
-    (unnoted _ c.args.moment (ap (λ (n : Notes). map.get n c.args.id) c.self.view_is ∙ c.requires)) refl
-    ∙ ap (λ (n : Notes). noted n c.args.id c.args.moment) c.self.view_is
+    (λ q. c.in_ok-insert-2.ensures.updates.0 q ∙ ap (λ (gs : List Grain). cond (grain_eq c.args.id q) true (list_any (grain_eq q) gs)) c.empty_set-grains.ensures.empty ∙ ap (λ o. cond (grain_eq c.args.id q) true (has q o)) (sym none))
+    (unnoted _ c.args.moment (ap (λ (n : Notes). map.get n c.args.id) before ∙ c.requires)) refl
+    ∙ ap (λ (n : Notes). noted n c.args.id c.args.moment) before

@@ -1,7 +1,5 @@
-use Rattle.std.proofs.Common.{◌≡◌, ◌++◌, ap, sym, ◌∙◌, subst}
-use Rattle.std.proofs.Common.{List}
-use Rattle.grain_id.specs.Names.{Grain}
-use Rattle.idle_collector.specs.inside.Aside.{with_latest, due_of}
+use Rattle.std.proofs.Common.{sym, subst}
+use Rattle.idle_collector.specs.inside.Aside.{with_latest}
 use Rattle.idle_collector.specs.Notes.{Collection, HoldsDue}
 use Rattle.idle_collector.proofs.Due.{holds-due}
 use Rattle.idle_collector.proofs.Aside.{latest-due}
