@@ -131,7 +131,12 @@ fn renewed(alloc: Global, bytes: &[u8]) -> Result<Vec<u8>, AllocError>
 }
 
 /// The message of the method and the value that bytes of the form before spell: its first byte is another one, and
-/// the others are the same. `NotAMessage` where they spell none in that form, in which no bytes are among the values.
+/// the others are the same.
+///
+/// # Errors
+///
+/// `NotAMessage` where they spell none in that form, in which no bytes are among the values. `Memory` if memory was
+/// refused.
 pub fn migrate_message(alloc: Global, bytes: &[u8]) -> Result<Message, CodecFault>
     ensures reads { Reads (λ made. made) result (old_call bytes.now) }
     ensures exact { IfOk result (λ made. old_spelling made ≡ bytes.now) }
@@ -154,7 +159,11 @@ fn is_old_state(bytes: &[u8]) -> bool
 }
 
 /// The state whose bytes these are, if its value holds no bytes, as none did before there were any. It keeps the very
-/// bytes. `NotAMessage` where they spell no such state.
+/// bytes.
+///
+/// # Errors
+///
+/// `NotAMessage` where they spell no such state. `Memory` if memory was refused.
 pub fn read_old_state(alloc: Global, bytes: &[u8]) -> Result<StateBytes, CodecFault>
     ensures reads { Reads (λ read. read) result (old_state bytes.now) }
     ensures exact { IfOk result (λ read. spelling read ≡ bytes.now) }
