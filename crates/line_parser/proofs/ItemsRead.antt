@@ -17,6 +17,7 @@ use Rattle.request_codec.specs.Written.{spelling, members_spelling}
 use Rattle.request_codec.proofs.Spelled.{length-spelling, some_length}
 use Rattle.line_parser.specs.inside.Argument.{too_deep, is_deep, AddsFaults, PutsValue, PutsItems}
 use Rattle.line_parser.specs.inside.LineMembers.{name_text, HoldsLineMembers, TakesMember, HasLineMembers}
+pub use Rattle.line_parser.specs.inside.PassedMembers.{MembersRead}
 use Rattle.line_parser.specs.declared.line_members.Name.{Name}
 use Rattle.line_parser.specs.declared.line_members.LineMembers.{LineMembers}
 use Rattle.line_parser.specs.declared.faults.Faults.{Faults}
@@ -133,13 +134,6 @@ items_stop depth initial ts r before after new at count first noted s over is se
     }
 
 -- ---- the members of a line
-
-pub record MembersRead (initial now : List Token) (line : LineMembers) (bytes : List ℕ) : Type 0 where
-  pub found : Members
-  pub turns : ℕ
-  pub enough : length now ≤ turns
-  pub read : converted (λ ms. of_members ms no_members) (members (value 126) (length initial) initial) ≡ converted (λ ms. of_members ms found) (members (value 126) turns now)
-  pub holds : HoldsLineMembers found line bytes
 
 pub members_start : (ts : List Token) (line : LineMembers) (bytes : List ℕ) → HoldsLineMembers no_members line bytes → MembersRead ts ts line bytes
 members_start ts line bytes h = record {

@@ -172,6 +172,18 @@ text_put given name f make was (Some t) (Ok x) old l ts rest is empty full token
     subst (λ n. TakesMember n ts rest old l (make (Some t)) l) (sym is) (text_taken name (f t) old (make (Some t)) l ts rest token (none empty) (fills t) (more (Some t)))
 text_put given name f make was slot (Err e) old l ts rest is empty full token none fills more = tt
 
+pub text_filled : {A : Type 0} (given name : Name) (f : A → List ℕ) (make : Option A → LineMembers) (was slot : Option A) (x : A) (old : LineMembers) (ts rest : List Token) → given ≡ name
+    → was ≡ None → slot ≡ Some x → ts ≡ Token.string (f x) ∷ rest → ((l : List ℕ) → was ≡ None → slot_of name old l ≡ None) → ((l : List ℕ) → Fills name (a_text (f x)) old l (make (Some x)) l)
+    → (make (Some x)).count ≡ old.count + 1 → (l : List ℕ) → TakesMember given ts rest old l (make slot) l
+text_filled given name f make was slot x old ts rest is empty full token none fills more l =
+    subst (λ n. TakesMember n ts rest old l (make slot) l) (sym is) (subst (λ s. TakesMember name ts rest old l (make s) l) (sym full) (text_taken name (f x) old (make (Some x)) l ts rest token (none l empty) (fills l) more))
+
+pub natural_filled : (given name : Name) (make : Option ℕ → LineMembers) (was slot : Option ℕ) (x : ℕ) (old : LineMembers) (ts rest : List Token) → given ≡ name
+    → was ≡ None → slot ≡ Some x → IsNatural ts x rest → ((l : List ℕ) → was ≡ None → slot_of name old l ≡ None) → ((l : List ℕ) → Fills name (a_number x) old l (make (Some x)) l)
+    → (make (Some x)).count ≡ old.count + 1 → (l : List ℕ) → TakesMember given ts rest old l (make slot) l
+natural_filled given name make was slot x old ts rest is empty full token none fills more l =
+    subst (λ n. TakesMember n ts rest old l (make slot) l) (sym is) (subst (λ s. TakesMember name ts rest old l (make s) l) (sym full) (natural_taken name x old (make (Some x)) l ts rest token (none l empty) (fills l) more))
+
 pub natural_put : {T E : Type 0} (given name : Name) (make : Option ℕ → LineMembers) (was slot : Option ℕ) (r : Result T E) (old : LineMembers) (l : List ℕ) (ts rest : List Token) → given ≡ name
     → OnOk r (was ≡ None) → OnOk r (IsSome slot) → OnOk r (IfSome slot (λ t. IsNatural ts t rest)) → (was ≡ None → slot_of name old l ≡ None) → ((t : ℕ) → Fills name (a_number t) old l (make (Some t)) l)
     → ((o : Option ℕ) → (make o).count ≡ old.count + 1) → OnOk r (TakesMember given ts rest old l (make slot) l)

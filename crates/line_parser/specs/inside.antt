@@ -3,6 +3,7 @@ pub mod Argument
 pub mod Fields
 pub mod LineMembers
 pub mod Number
+pub mod PassedMembers
 pub mod Plain
 pub mod QuickFault
 pub mod Step

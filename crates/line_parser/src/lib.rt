@@ -15,6 +15,7 @@ mod members;
 mod named;
 mod number;
 mod plain;
+mod plain_members;
 mod quick_fault;
 mod reading;
 mod request;

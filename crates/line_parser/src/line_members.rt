@@ -2,18 +2,22 @@
 
 ghost use Rattle.std.specs.Prelude.{◌≡◌, ◌<◌, ◌^◌, ◌||◌, ℕ, List, [], ◌∷◌, false, None, IsSome, IfSome, IfOk, OnOk, option_map};
 ghost use Rattle.std.specs.Bool.{MatchBool};
-ghost use Rattle.json.specs.Token.{string, boolean};
+ghost use Rattle.json.specs.Token.{Token as SpecToken, string, boolean, begin_object};
+ghost use Rattle.json.specs.Lex.{tokens};
 ghost use Rattle.serde_json.specs.Data.{no_members};
 ghost use Rattle.line_parser.specs.inside.LineMembers.{name_text, named, TakesMember, TakesValue, asked_by, HoldsLineMembers};
 ghost use Rattle.line_parser.specs.inside.LineMembers.{HasLineMembers};
 ghost use Rattle.line_parser.specs.inside.LineMembers.{IsNatural};
+ghost use Rattle.line_parser.specs.inside.PassedMembers.{MembersRead};
 
 use crate::argument::put_value;
 use crate::faults::Faults;
 use crate::number::whole_number;
+use crate::plain::map_start;
+use crate::plain_members::{ends_line, past_plain_members};
 use crate::quick_fault::QuickFault;
 use crate::tokens::Tokens;
-use json::Token;
+use json::{Scratch, Token};
 use serde_json::Value;
 use silo_event::Refusal;
 
@@ -229,20 +233,18 @@ fn take_member<'a>(
     }
 }
 
-/// Takes the members of the object that the tokens are, and answers whether it did: each is known and stands once.
-/// If not, the tokens are surely no request.
-pub(crate) fn read_members<'a>(
+/// Takes the members that are left of the object that was begun, and answers whether it did: each is known and stands
+/// once. If not, the tokens are surely no request.
+fn read_further<'a>(
     reader: &mut Tokens<'a>,
     members: &mut LineMembers<'a>,
     bytes: &mut Vec<u8>,
 ) -> Result<bool, QuickFault>
-    requires { (l : List ℕ) → HoldsLineMembers no_members members.old l }
-    ensures { IfOk result (λ all. MatchBool all (HasLineMembers reader.old members.new bytes.new.items) (asked_by reader.old ≡ None)) }
+    requires { (begun : List SpecToken) × MembersRead begun reader.old members.old bytes.old.items }
+    ensures { (begun : List SpecToken) → MembersRead begun reader.old members.old bytes.old.items
+        → IfOk result (λ all. MatchBool all (HasLineMembers (begin_object ∷ begun) members.new bytes.new.items)
+        (asked_by (begin_object ∷ begun) ≡ None)) }
 {
-    let begins = reader.take_begin_map()?;
-    if !begins {
-        return Ok(false);
-    }
     'further: loop {
         match reader.next_member()? {
             Next::Member(name) => take_member(members, bytes, reader, name)?,
@@ -251,4 +253,64 @@ pub(crate) fn read_members<'a>(
         }
     }
     reader.ends()
+}
+
+/// The same of the object's text behind the members that were passed.
+#[inline(never)]
+fn read_rest<'a>(
+    rest: &'a str,
+    scratch: &'a mut Scratch,
+    members: &mut LineMembers<'a>,
+    bytes: &mut Vec<u8>,
+) -> Result<bool, QuickFault>
+    requires { (begun : List SpecToken) × MembersRead begun (tokens rest.now) members.old bytes.old.items }
+    ensures { (begun : List SpecToken) → MembersRead begun (tokens rest.now) members.old bytes.old.items
+        → IfOk result (λ all. MatchBool all (HasLineMembers (begin_object ∷ begun) members.new bytes.new.items)
+        (asked_by (begin_object ∷ begun) ≡ None)) }
+{
+    let mut reader = Tokens::new(rest, scratch);
+    read_further(&mut reader, members, bytes)
+}
+
+/// Takes the members of the object that a text is, if it begins one, by the way of any object.
+#[inline(never)]
+fn read_any_members<'a>(
+    text: &'a str,
+    scratch: &'a mut Scratch,
+    members: &mut LineMembers<'a>,
+    bytes: &mut Vec<u8>,
+) -> Result<bool, QuickFault>
+    requires { (l : List ℕ) → HoldsLineMembers no_members members.old l }
+    ensures { IfOk result (λ all. MatchBool all (HasLineMembers (tokens text.now) members.new bytes.new.items)
+        (asked_by (tokens text.now) ≡ None)) }
+{
+    let mut reader = Tokens::new(text, scratch);
+    let begins = reader.take_begin_map()?;
+    if !begins {
+        return Ok(false);
+    }
+    read_further(&mut reader, members, bytes)
+}
+
+/// Takes the members of the object that a text is, and answers whether it did: each is known and stands once. If not,
+/// the text is surely no request.
+#[inline(always)]
+pub(crate) fn read_members<'a>(
+    text: &'a str,
+    scratch: &'a mut Scratch,
+    members: &mut LineMembers<'a>,
+    bytes: &mut Vec<u8>,
+) -> Result<bool, QuickFault>
+    requires { (l : List ℕ) → HoldsLineMembers no_members members.old l }
+    ensures { IfOk result (λ all. MatchBool all (HasLineMembers (tokens text.now) members.new bytes.new.items)
+        (asked_by (tokens text.now) ≡ None)) }
+{
+    let Some(begun) = map_start(text) else {
+        return read_any_members(text, scratch, members, bytes);
+    };
+    let rest = past_plain_members(members, begun);
+    if ends_line(rest) {
+        return Ok(true);
+    }
+    read_rest(rest, scratch, members, bytes)
 }

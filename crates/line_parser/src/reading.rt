@@ -12,7 +12,6 @@ use crate::line_members::{LineMembers, ValueIn, read_members};
 use crate::members::members_of_json;
 use crate::quick_fault::QuickFault;
 use crate::step::step_from;
-use crate::tokens::Tokens;
 use grain_id::NameCache;
 use json::Scratch;
 use serde_json::Value;
@@ -141,9 +140,8 @@ fn read_text_step(
 ) -> Result<Option<Step>, QuickFault>
     ensures { IfOk result (λ step. option_and_then step_of_json (read text.now) ≡ step) }
 {
-    let mut tokens = Tokens::new(text, &mut scratch.texts);
     let mut members = LineMembers::none();
-    let all = read_members(&mut tokens, &mut members, &mut scratch.args)?;
+    let all = read_members(text, &mut scratch.texts, &mut members, &mut scratch.args)?;
     if !all {
         return Ok(None);
     }

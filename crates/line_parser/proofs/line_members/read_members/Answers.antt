@@ -1,48 +1,29 @@
-use Rattle.std.proofs.Common.{Bool, true, false, inl, inr, Some, None, refl, ap, ◌∙◌, arith}
+use Rattle.std.proofs.Common.{◌≡◌, None, ◌∷◌, ap, sym, subst}
+use Rattle.std.specs.Prelude.{IfOk}
 use Rattle.std.specs.Bool.{MatchBool}
-use Rattle.line_parser.specs.inside.LineMembers.{name_text}
-use Rattle.line_parser.proofs.ItemsRead.{members_start, members_next, members_stop}
-use Rattle.line_parser.proofs.NoRequest.{members_broken, other_member, text_behind}
-use Rattle.line_parser.proofs.NoObject.{asked_by-no_object}
-use Rattle.line_parser.proofs.Results.{if_ok_as}
+use Rattle.json.specs.Json.{read_key}
+use Rattle.json.specs.Lex.{tokens}
+use Rattle.line_parser.specs.inside.LineMembers.{HasLineMembers, asked_by}
+use Rattle.line_parser.proofs.ItemsRead.{members_start, members_stop}
 use Rattle.line_parser.proofs.line_members.read_members.Goals as goal
 
-pub returns-then-not-begins : goal.returns-then-not-begins
-returns-then-not-begins c = asked_by-no_object c.args.reader.now (rw c.if-not-begins.true at c.in_ok-begins.ensures)
+pub returns-then-ends_line : goal.returns-then-ends_line
+returns-then-ends_line c =
+    let begun = tokens c.in-Some.begun.now in
+    let b = c.args.bytes.now.items in
+    let read = c.past_plain_members-rest.ensures begun b (members_start begun _ b (c.requires b)) in
+    members_stop begun (tokens c.past_plain_members-rest.result.now) _ b (tokens c.args.text.now) c.in-Some.ensures read (ap read_key (c.ends_line.ensures c.if-ends_line.true))
 
-pub further-init : goal.further-init
-further-init c = record {
-  so_far = members_start c.take_begin_map.new.self _ c.args.bytes.now.items (c.requires c.args.bytes.now.items);
-  first = grind arith;
-}
-
-pub further-preserved : goal.further-preserved
-further-preserved c =
-    let l = c.further in
-    let name = c.in-Member.name in
-    record {
-      so_far = members_next c.take_begin_map.new.self l.reader c.next_member.new.self c.take_member.new.reader l.members c.take_member.new.members l.bytes.items c.take_member.new.bytes.items name (name_text name) l.invariant.so_far (rw c.in-Member.is at c.in_ok-name.ensures) refl c.in_ok-take_member-in-Member.ensures;
-      first = l.invariant.first;
-    }
-
-pub returns-in-Other : goal.returns-in-Other
-returns-in-Other c =
-    let l = c.further in
-    let begun = c.take_begin_map.new.self in
-    elim c.in-Other.is [
-      | inl is ↦ (let other = rw is at c.in_ok-name.ensures in other_member begun l.reader l.members l.bytes.items c.args.reader.now l.invariant.first l.invariant.so_far other.0 _ other.1 other.2)
-      | inr is ↦ members_broken begun l.reader l.members l.bytes.items c.args.reader.now l.invariant.first l.invariant.so_far (rw is at c.in_ok-name.ensures)
-    ]
-
-match_bool-map : {A B C D : Type 0} (b : Bool) → MatchBool b A B → (A → C) → (B → D) → MatchBool b C D
-match_bool-map true x f g = f x
-match_bool-map false x f g = g x
+pub read_rest-requires : goal.read_rest-requires
+read_rest-requires c =
+    let begun = tokens c.in-Some.begun.now in
+    let b = c.args.bytes.now.items in
+    (begun, c.past_plain_members-rest.ensures begun b (members_start begun _ b (c.requires b)))
 
 pub returns : goal.returns
 returns c =
-    let l = c.further in
-    let begun = c.take_begin_map.new.self in
-    let next = rw c.in-End.is at c.in_ok-name.ensures in
-    if_ok_as c.ends.result c.ends.ensures λ over ends. match_bool-map over ends
-    (λ last. members_stop begun l.reader l.members l.bytes.items c.args.reader.now l.invariant.first l.invariant.so_far (next ∙ ap (λ ts. Some (None, ts)) last))
-    (text_behind begun l.reader l.members l.bytes.items c.args.reader.now l.invariant.first l.invariant.so_far _ next)
+    let begun = tokens c.in-Some.begun.now in
+    let b = c.args.bytes.now.items in
+    let read = c.past_plain_members-rest.ensures begun b (members_start begun _ b (c.requires b)) in
+    subst (λ ts. IfOk c.read_rest.result (λ all. MatchBool all (HasLineMembers ts c.read_rest.new.members c.read_rest.new.bytes.items) (asked_by ts ≡ None))) (sym c.in-Some.ensures)
+    (c.read_rest.ensures begun read)
