@@ -10,8 +10,8 @@ use Rattle.finite_maps.proofs.Maps as maps
 use Rattle.grain_id.specs.Names.{Grain, grain_cmp, grain_eq}
 use Rattle.grain_id.proofs.Order.{grain_cmp_total, grain_cmp_exact, grain_eq_decides, eq_by_cmp-Decides}
 use Rattle.idle_collector.specs.declared.latest.Latest.{Latest}
-use Rattle.idle_collector.specs.declared.latest.Latest.TheVariants.{Nobody, Expected, Noted}
-use Rattle.idle_collector.specs.inside.Aside.{is_of, with_latest, expected_of, held_with, IsApart, due_of}
+use Rattle.idle_collector.specs.declared.latest.Latest.TheVariants.{Nobody, Left, Expected, Noted}
+use Rattle.idle_collector.specs.inside.Aside.{is_of, left, with_latest, expected_of, held_with, IsApart, due_of}
 use Rattle.idle_collector.specs.Notes.{Notes, Collection, noted, forgotten, is_due, HoldsDue}
 use Rattle.idle_collector.proofs.OneMoment.{get-noted, get-forgotten}
 
@@ -19,8 +19,9 @@ use Rattle.idle_collector.proofs.OneMoment.{get-noted, get-forgotten}
 
 -- the latest one
 pub latest-forgotten : (latest : Latest) (n : Notes) (id : Grain) → IsApart latest n → is_of id latest ≡ true
-    → held_with Nobody n ≡ record { notes = forgotten (with_latest latest n) id; expected = expected_of latest }
+    → held_with (left latest) n ≡ record { notes = forgotten (with_latest latest n) id; expected = expected_of latest }
 latest-forgotten Nobody n id apart e = absurd (true≢false (sym e))
+latest-forgotten (Left other) n id apart e = absurd (true≢false (sym e))
 latest-forgotten (Expected other) n id apart e = absurd (true≢false (sym e))
 latest-forgotten (Noted other moment) n id apart e =
     let same = sym (maps.taken_back grain_cmp_total grain_cmp_exact n other moment apart) ∙ ap (forgotten (noted n other moment)) ((grain_eq_decides other id).0 e) in
@@ -32,12 +33,14 @@ none_either false = refl
 
 pub apart-forgotten : (latest : Latest) (n : Notes) (id : Grain) → IsApart latest n → IsApart latest (forgotten n id)
 apart-forgotten Nobody n id apart = tt
+apart-forgotten (Left other) n id apart = tt
 apart-forgotten (Expected other) n id apart = tt
 apart-forgotten (Noted other moment) n id apart = get-forgotten n id other ∙ ap (cond (grain_eq id other) None) apart ∙ none_either (grain_eq id other)
 
 -- another one
 others-forgotten : (latest : Latest) (n : Notes) (id : Grain) → is_of id latest ≡ false → with_latest latest (forgotten n id) ≡ forgotten (with_latest latest n) id
 others-forgotten Nobody n id e = refl
+others-forgotten (Left other) n id e = refl
 others-forgotten (Expected other) n id e = refl
 others-forgotten (Noted other moment) n id e = maps.alike grain_cmp_total grain_cmp_exact _ _ (λ q.
     get-noted (forgotten n id) other moment q
@@ -53,6 +56,7 @@ latest-stays latest n m id e same = ap (held_with latest) same ∙ ap (λ notes.
 -- another one is filed with the moment with which it is noted
 pub filed_at : (latest : Latest) (n : Notes) (id : Grain) (moment : ℕ) → is_of id latest ≡ false → IfSome (map.get (with_latest latest n) id) (λ noted. noted ≡ moment) → IfSome (map.get n id) (λ noted. noted ≡ moment)
 filed_at Nobody n id moment e own = own
+filed_at (Left other) n id moment e own = own
 filed_at (Expected other) n id moment e own = own
 filed_at (Noted other last) n id moment e own = subst (λ o. IfSome o (λ noted. noted ≡ moment)) (get-noted n other last id ∙ ap (λ b. cond b (Some last) (map.get n id)) e) own
 
@@ -72,6 +76,7 @@ one_more now moment false false o h e = omega arith
 
 pub latest-due : (latest : Latest) (n : Notes) (now : ℕ) (held : List Grain) → IsApart latest n → HoldsDue n now held → HoldsDue (with_latest latest n) now (held ++ due_of now latest)
 latest-due Nobody n now held apart holds q = ap (count_by (eq_by_cmp grain_cmp q)) (append-nil held) ∙ holds q
+latest-due (Left id) n now held apart holds q = ap (count_by (eq_by_cmp grain_cmp q)) (append-nil held) ∙ holds q
 latest-due (Expected id) n now held apart holds q = ap (count_by (eq_by_cmp grain_cmp q)) (append-nil held) ∙ holds q
 latest-due (Noted id moment) n now held apart holds q =
     let due = nat_le moment now in
@@ -84,6 +89,6 @@ latest-due (Noted id moment) n now held apart holds q =
 
 -- ---- a grain that is expected, and whose note was dropped
 
-pub forgotten_then_expected : (old mid new : Collection) (id clone : Grain) → clone ≡ id → mid ≡ record old { expected = Some clone } → new ≡ record mid { notes = forgotten mid.notes id }
+pub expected_then_forgotten : (old mid new : Collection) (id : Grain) → mid ≡ record old { expected = Some id } → new ≡ record mid { notes = forgotten mid.notes id }
     → new ≡ record { notes = forgotten old.notes id; expected = Some id }
-forgotten_then_expected old mid new id clone same m n = n ∙ ap (λ (held : Collection). record held { notes = forgotten held.notes id }) (m ∙ ap (λ g. record old { expected = Some g }) same)
+expected_then_forgotten old mid new id m n = n ∙ ap (λ (held : Collection). record held { notes = forgotten held.notes id }) m

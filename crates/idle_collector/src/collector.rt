@@ -50,17 +50,23 @@ impl Collector {
         }
     }
 
-    /// Makes room for the note of a grain that may be idle soon. There is room for one note alone.
+    /// Makes room for the note of a grain that may be idle soon. There is room for one note alone. Takes no memory if
+    /// the grain is the one that came last, and its note was dropped.
     ///
     /// # Errors
     ///
     /// Out of memory: nothing changed.
-    pub fn expect(&mut self, id: GrainId) -> Result<(), AllocError>
-        ensures expected { OnOk result (self.new ≡ record self.old { expected = Some id }) }
+    pub fn expect(&mut self, id: &GrainId) -> Result<(), AllocError>
+        ensures expected { OnOk result (self.new ≡ record self.old { expected = Some id.now }) }
         ensures unchanged { OnErr result (self.new ≡ self.old) }
     {
+        if latest::is_free(&self.latest, id) {
+            latest::call_back(&mut self.latest);
+            return Ok(());
+        }
+        let named = id.clone()?;
         latest::put_by(&self.latest, &mut self.filed)?;
-        self.latest = Latest::Expected(id);
+        self.latest = Latest::Expected(named);
         Ok(())
     }
 
@@ -84,7 +90,7 @@ impl Collector {
         ensures noted { OnOk result (self.new ≡ record { notes = noted self.old.notes id moment; expected = None }) }
         ensures unchanged { OnErr result (self.new ≡ self.old) }
     {
-        self.expect(id.clone()?)?;
+        self.expect(&id)?;
         self.forget(&id);
         self.note_expected(moment);
         Ok(())
@@ -96,7 +102,7 @@ impl Collector {
         ensures { self.new ≡ record self.old { notes = forgotten self.old.notes id.now } }
     {
         if latest::is_of(&self.latest, id) {
-            self.latest = Latest::Nobody;
+            latest::leave(&mut self.latest);
             return;
         }
         let Some(noted_at) = self.filed.moment_of(id) else {
@@ -111,7 +117,7 @@ impl Collector {
         ensures unchanged { result ≡ false → self.new ≡ self.old }
     {
         if latest::is_of(&self.latest, id) {
-            self.latest = Latest::Nobody;
+            latest::leave(&mut self.latest);
             return true;
         }
         false
@@ -123,7 +129,7 @@ impl Collector {
         ensures { self.new ≡ record self.old { notes = forgotten self.old.notes id.now } }
     {
         if latest::is_of(&self.latest, id) {
-            self.latest = Latest::Nobody;
+            latest::leave(&mut self.latest);
             return;
         }
         self.filed.forget(id, moment);

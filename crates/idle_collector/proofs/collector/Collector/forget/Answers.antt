@@ -2,14 +2,14 @@ use Rattle.std.proofs.Common.{ap, sym, ◌∙◌, subst}
 use Rattle.finite_maps.proofs.Maps as maps
 use Rattle.grain_id.proofs.Order.{grain_cmp_total, grain_cmp_exact}
 use Rattle.idle_collector.specs.Notes.{Collection, forgotten}
-use Rattle.idle_collector.specs.inside.Aside.{IsApart}
+use Rattle.idle_collector.specs.inside.Aside.{held_with, IsApart}
 use Rattle.idle_collector.proofs.Aside.{latest-forgotten, latest-stays, apart-forgotten}
 use Rattle.idle_collector.proofs.collector.Collector.forget.Goals as goal
 
 pub returns-then-is_of : goal.returns-then-is_of
 returns-then-is_of c =
     let inside = c.self.inside in
-    latest-forgotten inside.latest inside.filed c.args.id.now c.self.invariant (sym c.is_of.ensures ∙ c.if-is_of.true)
+    ap (λ latest. held_with latest inside.filed) c.leave.ensures ∙ latest-forgotten inside.latest inside.filed c.args.id.now c.self.invariant (sym c.is_of.ensures ∙ c.if-is_of.true)
     ∙ ap (λ (held : Collection). record held { notes = forgotten held.notes c.args.id.now }) c.self.view_is
 
 pub invariant_of-self-2 : goal.invariant_of-self-2
