@@ -1,190 +1,98 @@
 -- Ages that are put in order, what is found in them, and why a list is no table.
-use Rattle.std.proofs.Common.{◌≡◌, ℕ, suc, ◌+◌, ◌<◌, ◌≤◌, Bool, true, false, cond, not, ◌||◌, List, [], ◌∷◌, ◌++◌, length, get_or, take, drop}
-use Rattle.std.proofs.Common.{Option, Some, None, is_some, option_map, refl, ap, sym, ◌∙◌, arith, add-one, true≢false, nat_lt, if◌then◌else◌}
-use Rattle.std.specs.Prelude.{Err, IfSome, find, nat_le}
-use Rattle.std.specs.Cmp.{first_so, second_so, tied_itself}
+use Rattle.std.proofs.Common.{◌≡◌, ℕ, suc, ◌+◌, ◌<◌, ◌≤◌, Bool, true, false, cond, not, List, [], ◌∷◌, ◌++◌, length, get_or, take, drop}
+use Rattle.std.proofs.Common.{Option, Some, None, option_map, refl, ap, sym, ◌∙◌, subst, arith, add-one, true≢false, nat_lt, if◌then◌else◌}
+use Rattle.std.specs.Prelude.{Err, IfSome, find, nat_le, ◌&&◌}
+use Rattle.std.specs.Bool.{Decides}
+use Rattle.std.specs.FinMap as map
+use Rattle.std.specs.FinMap.{put}
+use Rattle.std.specs.FinMap.Entries.{by_order}
+use Rattle.std.specs.Cmp.{first_so, second_so}
 use Rattle.std.specs.List.{AllByRecursion, AllZip, insert, list_any}
 use Rattle.std.specs.List.Sorted.{IsStrictlySortedBy}
 use Rattle.std.specs.Option.{option_or}
-use Rattle.std.specs.Ordering.{is_lt, ordering_reverse}
+use Rattle.std.specs.Ordering.{is_gt}
 use Rattle.std.specs.declared.cmp.Ordering.{Ordering}
 use Rattle.std.specs.declared.cmp.Ordering.TheVariants.{Less, Equal, Greater}
 use Rattle.std.proofs.lemmas.Bool.{leb-true}
 use Rattle.std.proofs.lemmas.Bool.Decides.{nat_tests}
-use Rattle.std.proofs.lemmas.List.{length-append, map-append, take_more}
+use Rattle.std.proofs.lemmas.List.{map-append, take_more}
 use Rattle.std.proofs.Math.Seq.{drop-cons}
+use Rattle.finite_maps.proofs.Ascending.{keys_ascend}
+use Rattle.finite_maps.proofs.Entries.{find-lookup, get-lookup}
+use Rattle.finite_maps.proofs.Lists.{all_weaker}
+use Rattle.finite_maps.proofs.Maps.{entries-none}
+use Rattle.finite_maps.proofs.Options.{none_from_cond, none_from_option_map}
+use Rattle.finite_maps.proofs.Values.{found_entries}
 use Rattle.grain_id.specs.Names.{same_text, text_cmp}
 use Rattle.grain_id.specs.Order.{same_text_decides, text_cmp_total, text_cmp_exact}
+use Rattle.grain_id.proofs.Keys.{texts}
 use Rattle.tenant_gate.specs.Age.{IsAge}
 use Rattle.tenant_gate.specs.Table.{first_repeat}
 use Rattle.idle_collector.specs.declared.ages.AgeFault.{AgeFault}
 use Rattle.idle_collector.specs.declared.ages.AgeFault.TheVariants as faults
-use Rattle.idle_collector.specs.Ages.{Ages, kinds_of, most_ages, is_age, first_out_of_range, ages_fault, age_for, AreAscending, IsTable, AgesAnswers}
-use Rattle.idle_collector.specs.inside.AgesInOrder.{place_in, put_in, IsSorted, SortRefused}
+use Rattle.idle_collector.specs.Ages.{Ages, kinds_of, most_ages, is_age, first_out_of_range, ages_fault, age_for, AreAscending, IsTable, IsInOrder, AgesAnswers}
+use Rattle.idle_collector.specs.inside.AgesInOrder.{place_in, sorted_ages, SortRefused}
 
 abbrev Entry : Type 0
 Entry = List ℕ × ℕ
 
-if_holds : {A : Type 0} (P : A → Type 0) (b : Bool) (x y : A) → (b ≡ true → P x) → (b ≡ false → P y) → P (if b then x else y)
-if_holds P true x y so otherwise = so refl
-if_holds P false x y so otherwise = otherwise refl
-
--- ---- texts
-
-same_from : (a b : List ℕ) → same_text a b ≡ true → a ≡ b
-same_from a b e = (same_text_decides a b).0 e
-
--- a kind that is below another is another one
-below_apart : (a b : List ℕ) → is_lt (text_cmp a b) ≡ true → a ≡ b → ⊥
-below_apart a b below same = true≢false (sym below ∙ ap is_lt (ap (text_cmp a) (sym same) ∙ tied_itself text_cmp_total a))
-
-is_less : (o : Ordering) → is_lt o ≡ true → o ≡ Less
-is_less Less e = refl
-is_less Equal e = absurd (true≢false (sym e))
-is_less Greater e = absurd (true≢false (sym e))
-
--- one of two kinds is below the other, or they are the same
-else_above : (a b : List ℕ) (o : Ordering) → text_cmp a b ≡ o → is_lt o ≡ false → (a ≡ b → ⊥) → text_cmp b a ≡ Less
-else_above a b Less is e apart = absurd (true≢false e)
-else_above a b Equal is e apart = absurd (apart (text_cmp_exact a b is))
-else_above a b Greater is e apart = text_cmp_total.antisymm b a ∙ ap ordering_reverse is
-
--- ---- an age is put in its place
-
-pub insert_at_place : (entry : Entry) (ages : Ages) → insert ages (place_in entry.0 ages) entry ≡ put_in entry ages
-insert_at_place entry [] = refl
-insert_at_place entry (e ∷ ages) = at (is_lt (text_cmp e.0 entry.0)) (insert_at_place entry ages)
-  where
-    at : (b : Bool) → insert ages (place_in entry.0 ages) entry ≡ put_in entry ages
-        → insert (e ∷ ages) (if b then suc (place_in entry.0 ages) else 0) entry ≡ (if b then e ∷ put_in entry ages else entry ∷ e ∷ ages)
-    at true more = ap (λ (rest : Ages). e ∷ rest) more
-    at false more = refl
-
-length-put : (entry : Entry) (ages : Ages) → length (put_in entry ages) ≡ suc (length ages)
-length-put entry [] = refl
-length-put entry (e ∷ ages) =
-    if_holds (λ (made : Ages). length made ≡ suc (suc (length ages))) (is_lt (text_cmp e.0 entry.0)) (e ∷ put_in entry ages) (entry ∷ e ∷ ages)
-    (λ b. ap suc (length-put entry ages)) (λ b. refl)
-
 abbrev InRange : Ages → Type 0
 InRange ages = AllByRecursion (λ entry. IsAge entry.1) ages
 
-range-put : (entry : Entry) (ages : Ages) → IsAge entry.1 → InRange ages → InRange (put_in entry ages)
-range-put entry [] is all = (is, tt)
-range-put entry (e ∷ ages) is all =
-    if_holds InRange (is_lt (text_cmp e.0 entry.0)) (e ∷ put_in entry ages) (entry ∷ e ∷ ages)
-    (λ b. (all.0, range-put entry ages is all.1)) (λ b. (is, all))
+-- ---- an age is put in its place
 
--- ---- what is found
-
-swap : (a d : Bool) (m n : ℕ) (o : Option ℕ) → (a ≡ true → d ≡ true → ⊥) → cond d (Some n) (cond a (Some m) o) ≡ cond a (Some m) (cond d (Some n) o)
-swap true true m n o apart = absurd (apart refl refl)
-swap true false m n o apart = refl
-swap false d m n o apart = refl
-
-not_both : (q a b : List ℕ) → (a ≡ b → ⊥) → same_text q b ≡ true → same_text q a ≡ true → ⊥
-not_both q a b apart with_b with_a = apart (sym (same_from q a with_a) ∙ same_from q b with_b)
-
-age_for-put : (entry : Entry) (ages : Ages) (q : List ℕ) → age_for (put_in entry ages) q ≡ cond (same_text q entry.0) (Some entry.1) (age_for ages q)
-age_for-put entry [] q = refl
-age_for-put entry (e ∷ ages) q =
-    if_holds (λ (made : Ages). age_for made q ≡ cond (same_text q entry.0) (Some entry.1) (age_for (e ∷ ages) q))
-    (is_lt (text_cmp e.0 entry.0)) (e ∷ put_in entry ages) (entry ∷ e ∷ ages)
-    (λ b. ap (cond (same_text q e.0) (Some e.1)) (age_for-put entry ages q)
-    ∙ swap (same_text q entry.0) (same_text q e.0) entry.1 e.1 (age_for ages q) (not_both q e.0 entry.0 (below_apart e.0 entry.0 b)))
-    (λ b. refl)
-
--- a kind that isn't found is another than the first, and isn't found behind it
-record IsAbsent (kind : List ℕ) (e : Entry) (ages : Ages) : Type 0 where
-  other : e.0 ≡ kind → ⊥
-  behind : age_for ages kind ≡ None
-
-absent : (kind : List ℕ) (e : Entry) (ages : Ages) → age_for (e ∷ ages) kind ≡ None → IsAbsent kind e ages
-absent kind e ages none = at (same_text kind e.0) refl none
+pub insert_at_place : (kind : List ℕ) (age : ℕ) (ages : Ages) → age_for ages kind ≡ None → insert ages (place_in kind ages) (kind, age) ≡ put text_cmp kind age ages
+insert_at_place kind age [] none = refl
+insert_at_place kind age (e ∷ ages) none = at (text_cmp kind e.0) refl (insert_at_place kind age ages (none_from_cond (same_text kind e.0) e.1 (age_for ages kind) none).1)
   where
-    at : (b : Bool) → same_text kind e.0 ≡ b → cond b (Some e.1) (age_for ages kind) ≡ None → IsAbsent kind e ages
-    at true is found = absurd cc
-    at false is found = record {
-      other = λ same. true≢false (sym ((same_text_decides kind e.0).1 (sym same)) ∙ is);
-      behind = found;
-    }
+    at : (o : Ordering) → text_cmp kind e.0 ≡ o → insert ages (place_in kind ages) (kind, age) ≡ put text_cmp kind age ages
+        → insert (e ∷ ages) (if is_gt o then suc (place_in kind ages) else 0) (kind, age) ≡ by_order o ((kind, age) ∷ e ∷ ages) ((e.0, age) ∷ ages) (e ∷ put text_cmp kind age ages)
+    at Less is more = refl
+    at Equal is more =
+        absurd (true≢false (sym ((same_text_decides kind e.0).1 (text_cmp_exact kind e.0 is)) ∙ (none_from_cond (same_text kind e.0) e.1 (age_for ages kind) none).0))
+    at Greater is more = ap (λ (rest : Ages). e ∷ rest) more
 
-age_for-push : (entry : Entry) (ages : Ages) (q : List ℕ) → age_for ages entry.0 ≡ None
-    → age_for (ages ++ entry ∷ []) q ≡ cond (same_text q entry.0) (Some entry.1) (age_for ages q)
-age_for-push entry [] q none = refl
-age_for-push entry (e ∷ ages) q none =
-    let away = absent entry.0 e ages none in
-    ap (cond (same_text q e.0) (Some e.1)) (age_for-push entry ages q away.behind)
-    ∙ swap (same_text q entry.0) (same_text q e.0) entry.1 e.1 (age_for ages q) (not_both q e.0 entry.0 away.other)
+-- ---- a list in order
 
--- ---- the kinds ascend
+pub age_for-sorted : (list : Ages) (kind : List ℕ) → age_for (sorted_ages list) kind ≡ age_for list kind
+age_for-sorted list kind = sym (find-lookup texts (sorted_ages list) kind) ∙ sym (map.get-entries (map.from_entries list) kind) ∙ get-lookup texts list kind
 
-abbrev AllAbove : List ℕ → Ages → Type 0
-AllAbove kind ages = AllByRecursion (λ other. text_cmp kind other ≡ Less) (kinds_of ages)
+-- one kind more
+pub sorted-push : (list : Ages) (kind : List ℕ) (age : ℕ) → age_for (sorted_ages list) kind ≡ None → sorted_ages (list ++ (kind, age) ∷ []) ≡ put text_cmp kind age (sorted_ages list)
+sorted-push list kind age none =
+    ap map.entries (map.from_entries_push text_cmp_total text_cmp_exact list kind age (find-lookup texts list kind ∙ sym (age_for-sorted list kind) ∙ none))
+    ∙ map.entries-insert text_cmp_total (map.from_entries list) kind age
 
-above-put : (kind : List ℕ) (entry : Entry) (ages : Ages) → text_cmp kind entry.0 ≡ Less → AllAbove kind ages → AllAbove kind (put_in entry ages)
-above-put kind entry [] below all = (below, tt)
-above-put kind entry (e ∷ ages) below all =
-    if_holds (AllAbove kind) (is_lt (text_cmp e.0 entry.0)) (e ∷ put_in entry ages) (entry ∷ e ∷ ages)
-    (λ b. (all.0, above-put kind entry ages below all.1)) (λ b. (below, all))
+pub sorted_nothing : sorted_ages [] ≡ []
+sorted_nothing = entries-none map.empty (map.len-empty text_cmp ℕ)
 
-above_too : (kind other : List ℕ) (ages : Ages) → text_cmp kind other ≡ Less → AllAbove other ages → AllAbove kind ages
-above_too kind other [] below all = tt
-above_too kind other (e ∷ ages) below all = (text_cmp_total.trans kind other e.0 below all.0, above_too kind other ages below all.1)
+pub sorted-in_order : (list table : Ages) → table ≡ sorted_ages list → length table ≡ length list → IsInOrder list table
+sorted-in_order list table is as_many = record {
+  ascending = subst AreAscending (sym is) (keys_ascend text_cmp (map.from_entries list));
+  as_many = as_many;
+  each = λ kind. ap (λ ages. age_for ages kind) is ∙ age_for-sorted list kind;
+}
 
-ascending-put : (entry : Entry) (ages : Ages) → AreAscending ages → age_for ages entry.0 ≡ None → AreAscending (put_in entry ages)
-unfolding IsStrictlySortedBy
-ascending-put entry [] ascends none = (tt, tt)
-ascending-put entry (e ∷ ages) ascends none =
-    let away = absent entry.0 e ages none in
-    if_holds AreAscending (is_lt (text_cmp e.0 entry.0)) (e ∷ put_in entry ages) (entry ∷ e ∷ ages)
-    (λ b. (above-put e.0 entry ages (is_less (text_cmp e.0 entry.0) b) ascends.0, ascending-put entry ages ascends.1 away.behind))
-    (λ b. let above = else_above e.0 entry.0 (text_cmp e.0 entry.0) refl b away.other in
-    ((above, above_too entry.0 e.0 ages above ascends.0), ascends))
+-- an age that is found is in its range
+pub found_in_range : (ages : Ages) (kind : List ℕ) → InRange ages → IfSome (age_for ages kind) IsAge
+found_in_range [] kind all = tt
+found_in_range (e ∷ ages) kind all = at (same_text kind e.0) (found_in_range ages kind all.1)
+  where
+    at : (b : Bool) → IfSome (age_for ages kind) IsAge → IfSome (cond b (Some e.1) (age_for ages kind)) IsAge
+    at true behind = all.0
+    at false behind = behind
 
--- ---- one more age of a list
+pub sorted-in_range : (list : Ages) → InRange list → InRange (sorted_ages list)
+sorted-in_range list all =
+    all_weaker (λ e. map.get (map.from_entries {R = text_cmp} list) e.0 ≡ Some e.1) (λ e. IsAge e.1) (sorted_ages list)
+    (λ e found. subst (λ o. IfSome o IsAge) (sym (get-lookup texts list e.0) ∙ found) (found_in_range list e.0 all))
+    (found_entries text_cmp_total (map.from_entries list))
 
 pub none_is_table : IsTable []
 unfolding IsStrictlySortedBy
 none_is_table = record { ascending = tt; few = omega arith; in_range = tt }
 
-pub none_sorted : IsSorted [] []
-unfolding IsStrictlySortedBy
-none_sorted = record { in_order = record { ascending = tt; as_many = refl; each = λ kind. refl }; in_range = λ all. tt }
-
-all_front : (list : Ages) (entry : Entry) → InRange (list ++ entry ∷ []) → InRange list × IsAge entry.1
-all_front [] entry all = (tt, all.0)
-all_front (e ∷ list) entry all = let rest = all_front list entry all.1 in ((all.0, rest.0), rest.1)
-
-pub sorted-put : (list table : Ages) (entry : Entry) → IsSorted list table → age_for table entry.0 ≡ None → IsSorted (list ++ entry ∷ []) (put_in entry table)
-sorted-put list table entry sorted none =
-    let order = sorted.in_order in
-    let away : age_for list entry.0 ≡ None = sym (order.each entry.0) ∙ none in
-    record {
-      in_order = record {
-        ascending = ascending-put entry table order.ascending none;
-        as_many = omega (arith, length-put entry table, order.as_many, length-append list (entry ∷ []));
-        each = λ q.
-            age_for-put entry table q ∙ ap (cond (same_text q entry.0) (Some entry.1)) (order.each q) ∙ sym (age_for-push entry list q away);
-      };
-      in_range = λ all. let parts = all_front list entry all in range-put entry table parts.1 (sorted.in_range parts.0);
-    }
-
 -- ---- repeats
-
-some_or : {A : Type 0} (b : Bool) (x : A) (o : Option A) → is_some (cond b (Some x) o) ≡ b || is_some o
-some_or true x o = refl
-some_or false x o = refl
-
--- a kind stands there where its age is found
-pub is_some-age_for : (ages : Ages) (kind : List ℕ) → is_some (age_for ages kind) ≡ list_any (same_text kind) (kinds_of ages)
-is_some-age_for [] kind = refl
-is_some-age_for (e ∷ ages) kind =
-    some_or (same_text kind e.0) e.1 (age_for ages kind) ∙ ap (λ b. same_text kind e.0 || b) (is_some-age_for ages kind)
-
-pub none_is : {A : Type 0} (o : Option A) → is_some o ≡ false → o ≡ None
-none_is None e = refl
-none_is (Some x) e = absurd cc
 
 module _ (ages : Ages) (i : ℕ) (d : Entry) (inside : i < length ages) where
   abbrev next : List ℕ
@@ -239,15 +147,13 @@ module _ (list : Ages) where
 
 -- ---- ages in their range
 
-age_within : (age : ℕ) → is_age age ≡ true → IsAge age
-age_within age is = (
-  leb-true 1 age (first_so (nat_le 1 age) (nat_le age 86400000) is),
-  leb-true age 86400000 (second_so (nat_le 1 age) (nat_le age 86400000) is),
+pub age_tested : (age : ℕ) → Decides (is_age age) (IsAge age)
+age_tested age = (
+  λ is. (leb-true 1 age (first_so (nat_le 1 age) (nat_le age 86400000) is), leb-true age 86400000 (second_so (nat_le 1 age) (nat_le age 86400000) is)),
+  λ is. let low : nat_le 1 age ≡ true = grind (arith, nat_tests, is.0) in
+      let high : nat_le age 86400000 ≡ true = grind (arith, nat_tests, is.1) in
+      λ i. low i && high i,
 )
-
-none_under : {A B : Type 0} (f : A → B) (o : Option A) → option_map f o ≡ None → o ≡ None
-none_under f None e = refl
-none_under f (Some x) e = absurd cc
 
 abbrev misfit : Ages → Option Entry
 misfit ages = find (λ entry. not (is_age entry.1)) ages
@@ -257,21 +163,17 @@ all_within [] none = tt
 all_within (e ∷ ages) none = at (is_age e.1) refl none (all_within ages)
   where
     at : (b : Bool) → is_age e.1 ≡ b → cond (not b) (Some e) (misfit ages) ≡ None → (misfit ages ≡ None → InRange ages) → InRange (e ∷ ages)
-    at true is found behind = (age_within e.1 is, behind found)
+    at true is found behind = ((age_tested e.1).0 is, behind found)
     at false is found behind = absurd cc
 
 -- where no age is out of range, all are in it
 pub all_in_range : (ages : Ages) → None ≡ first_out_of_range ages → InRange ages
-all_in_range ages none = all_within ages (none_under (λ entry. entry.0) (misfit ages) (sym none))
+all_in_range ages none = all_within ages (none_from_option_map (λ entry. entry.0) (misfit ages) (sym none))
 
--- an age that is found is in its range
-pub found_in_range : (ages : Ages) (kind : List ℕ) → InRange ages → IfSome (age_for ages kind) IsAge
-found_in_range [] kind all = tt
-found_in_range (e ∷ ages) kind all = at (same_text kind e.0) (found_in_range ages kind all.1)
-  where
-    at : (b : Bool) → IfSome (age_for ages kind) IsAge → IfSome (cond b (Some e.1) (age_for ages kind)) IsAge
-    at true behind = all.0
-    at false behind = behind
+-- and if all are, none is out of it
+pub none_misfits : (ages : Ages) → InRange ages → misfit ages ≡ None
+none_misfits [] all = refl
+none_misfits (e ∷ ages) all = ap (λ b. cond (not b) (Some e) (misfit ages)) ((age_tested e.1).1 all.0) ∙ none_misfits ages all.1
 
 -- ---- copies
 

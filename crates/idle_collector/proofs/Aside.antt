@@ -1,19 +1,21 @@
 -- The note of the latest grain, beside the others.
-use Rattle.std.proofs.Common.{◌≡◌, ℕ, ◌+◌, Bool, true, false, cond, List, [], ◌∷◌, ◌++◌, Option, Some, None, refl, ap, sym, ◌∙◌, subst, true≢false, arith}
+use Rattle.std.proofs.Common.{◌≡◌, ℕ, Bool, true, false, cond, List, [], ◌∷◌, ◌++◌, Option, Some, None, refl, ap, sym, ◌∙◌, subst, true≢false}
 use Rattle.std.proofs.lemmas.List.{append-nil}
-use Rattle.std.proofs.lemmas.List.Sums.{sum_by-append}
-use Rattle.std.specs.Prelude.{nat_le, count_by, IfSome}
-use Rattle.std.specs.Ordering.{eq_by_cmp}
+use Rattle.std.specs.Prelude.{IfSome, ◌||◌}
 use Rattle.std.specs.FinMap as map
 use Rattle.finite_maps.proofs.Choices.{cond-apart}
+use Rattle.finite_maps.proofs.Entries.{get-remove_key}
 use Rattle.finite_maps.proofs.Maps as maps
-use Rattle.grain_id.specs.Names.{Grain, grain_cmp, grain_eq}
-use Rattle.grain_id.proofs.Order.{grain_cmp_total, grain_cmp_exact, grain_eq_decides, eq_by_cmp-Decides}
+use Rattle.grain_id.proofs.Keys.{grains}
+use Rattle.grain_id.specs.Names.{Grain, grain_eq}
+use Rattle.grain_id.proofs.Order.{grain_cmp_total, grain_cmp_exact, grain_eq_decides}
 use Rattle.idle_collector.specs.declared.latest.Latest.{Latest}
 use Rattle.idle_collector.specs.declared.latest.Latest.TheVariants.{Nobody, Left, Expected, Noted}
 use Rattle.idle_collector.specs.inside.Aside.{is_of, left, with_latest, expected_of, held_with, IsApart, due_of}
-use Rattle.idle_collector.specs.Notes.{Notes, Collection, noted, forgotten, is_due, HoldsDue}
-use Rattle.idle_collector.proofs.OneMoment.{get-noted, get-forgotten}
+use Rattle.idle_collector.specs.Notes.{Notes, Collection, noted, forgotten}
+use Rattle.idle_collector.specs.inside.Sets.{HoldsDue}
+use Rattle.idle_collector.proofs.Due.{get-noted, due-behind}
+use Rattle.std.specs.List.{IsDistinct}
 
 -- ---- a note that is dropped
 
@@ -35,7 +37,7 @@ pub apart-forgotten : (latest : Latest) (n : Notes) (id : Grain) → IsApart lat
 apart-forgotten Nobody n id apart = tt
 apart-forgotten (Left other) n id apart = tt
 apart-forgotten (Expected other) n id apart = tt
-apart-forgotten (Noted other moment) n id apart = get-forgotten n id other ∙ ap (cond (grain_eq id other) None) apart ∙ none_either (grain_eq id other)
+apart-forgotten (Noted other moment) n id apart = get-remove_key grains n id other ∙ ap (cond (grain_eq id other) None) apart ∙ none_either (grain_eq id other)
 
 -- another one
 others-forgotten : (latest : Latest) (n : Notes) (id : Grain) → is_of id latest ≡ false → with_latest latest (forgotten n id) ≡ forgotten (with_latest latest n) id
@@ -44,11 +46,11 @@ others-forgotten (Left other) n id e = refl
 others-forgotten (Expected other) n id e = refl
 others-forgotten (Noted other moment) n id e = maps.alike grain_cmp_total grain_cmp_exact _ _ (λ q.
     get-noted (forgotten n id) other moment q
-    ∙ ap (cond (grain_eq other q) (Some moment)) (get-forgotten n id q)
+    ∙ ap (cond (grain_eq other q) (Some moment)) (get-remove_key grains n id q)
     ∙ cond-apart (grain_eq other q) (grain_eq id q) (Some moment) None (map.get n q)
     (λ a b. true≢false (sym ((grain_eq_decides other id).1 ((grain_eq_decides other q).0 a ∙ sym ((grain_eq_decides id q).0 b))) ∙ e))
     ∙ ap (cond (grain_eq id q) None) (sym (get-noted n other moment q))
-    ∙ sym (get-forgotten (noted n other moment) id q))
+    ∙ sym (get-remove_key grains (noted n other moment) id q))
 
 pub latest-stays : (latest : Latest) (n m : Notes) (id : Grain) → is_of id latest ≡ false → m ≡ forgotten n id → held_with latest m ≡ record { notes = forgotten (with_latest latest n) id; expected = expected_of latest }
 latest-stays latest n m id e same = ap (held_with latest) same ∙ ap (λ notes. record { notes = notes; expected = expected_of latest }) (others-forgotten latest n id e)
@@ -62,30 +64,16 @@ filed_at (Noted other last) n id moment e own = subst (λ o. IfSome o (λ noted.
 
 -- ---- what is due
 
-count_one : (p : Grain → Bool) (g : Grain) (due t : Bool) → p g ≡ t → count_by p (cond due (g ∷ []) []) ≡ cond due (cond t 1 0) 0
-count_one p g true t e = ap (λ b. 0 + cond b 1 0) e ∙ (omega arith)
-count_one p g false t e = refl
-
-one_more : (now moment : ℕ) (t due : Bool) (o : Option ℕ) → (t ≡ true → o ≡ None) → nat_le moment now ≡ due
-    → cond (is_due now o) 1 0 + cond due (cond t 1 0) 0 ≡ cond (is_due now (cond t (Some moment) o)) 1 0
-one_more now moment true true None h e = ap (λ b. cond b 1 0) (sym e)
-one_more now moment true false None h e = ap (λ b. cond b 1 0) (sym e)
-one_more now moment true due (Some x) h e = absurd (let none : Some x ≡ None = h refl in cc)
-one_more now moment false true o h e = omega arith
-one_more now moment false false o h e = omega arith
-
 pub latest-due : (latest : Latest) (n : Notes) (now : ℕ) (held : List Grain) → IsApart latest n → HoldsDue n now held → HoldsDue (with_latest latest n) now (held ++ due_of now latest)
-latest-due Nobody n now held apart holds q = ap (count_by (eq_by_cmp grain_cmp q)) (append-nil held) ∙ holds q
-latest-due (Left id) n now held apart holds q = ap (count_by (eq_by_cmp grain_cmp q)) (append-nil held) ∙ holds q
-latest-due (Expected id) n now held apart holds q = ap (count_by (eq_by_cmp grain_cmp q)) (append-nil held) ∙ holds q
-latest-due (Noted id moment) n now held apart holds q =
-    let due = nat_le moment now in
-    let t = eq_by_cmp grain_cmp q id in
-    let tied = (eq_by_cmp-Decides grain_cmp_total grain_cmp_exact q id).0 in
-    sum_by-append (λ y. cond (eq_by_cmp grain_cmp q y) 1 0) held (cond due (id ∷ []) [])
-    ∙ (λ i. holds q i + count_one (eq_by_cmp grain_cmp q) id due t refl i)
-    ∙ one_more now moment t due (map.get n q) (λ e. ap (map.get n) (tied e) ∙ apart) refl
-    ∙ ap (λ o. cond (is_due now o) 1 0) (sym (map.get-insert grain_cmp_total n id moment q))
+unfolding IsDistinct
+latest-due Nobody n now held apart holds = subst (HoldsDue n now) (sym (append-nil held)) holds
+latest-due (Left id) n now held apart holds = subst (HoldsDue n now) (sym (append-nil held)) holds
+latest-due (Expected id) n now held apart holds = subst (HoldsDue n now) (sym (append-nil held)) holds
+latest-due (Noted id moment) n now held apart holds = due-behind n (id ∷ []) moment now held (λ q here. by q (grain_eq q id) refl here) (tt, tt) holds
+  where
+    by : (q : Grain) (b : Bool) → grain_eq q id ≡ b → b || false ≡ true → map.get n q ≡ None
+    by q true same here = ap (map.get n) ((grain_eq_decides q id).0 same) ∙ apart
+    by q false same here = absurd (true≢false (sym here))
 
 -- ---- a grain that is expected, and whose note was dropped
 

@@ -14,12 +14,14 @@ use Rattle.std.specs.Ordering.{nat_cmp, is_eq}
 use Rattle.std.proofs.lemmas.Bool.{lt-leb, leb-false}
 use Rattle.std.proofs.lemmas.Option.{same_Some}
 use Rattle.indexmap.specs.IndexSet.{IndexSet}
+use Rattle.finite_maps.proofs.Entries.{get-remove_key}
 use Rattle.finite_maps.proofs.Maps as maps
+use Rattle.grain_id.proofs.Keys.{grains}
 use Rattle.grain_id.specs.Names.{Grain, grain_cmp, grain_eq}
 use Rattle.grain_id.proofs.Order.{grain_cmp_total, grain_cmp_exact, grain_eq_decides}
-use Rattle.idle_collector.specs.Notes.{Notes, noted, forgotten, is_due, HoldsDue}
-use Rattle.idle_collector.specs.inside.Sets.{notes_of, has, is_at, AreApart, LeavesNotes, first_due}
-use Rattle.idle_collector.proofs.OneMoment.{get-noted, get-forgotten, get-all, due-all}
+use Rattle.idle_collector.specs.Notes.{Notes, noted, forgotten, is_due}
+use Rattle.idle_collector.specs.inside.Sets.{notes_of, has, is_at, AreApart, HoldsDue, LeavesNotes, first_due}
+use Rattle.idle_collector.proofs.Due.{get-noted, get-all, due-all}
 
 -- ---- moments
 
@@ -195,7 +197,7 @@ module _ {S : Type 0} (old new : BTreeMap ℕ (IndexSet Grain S)) (apart : AreAp
   pub now_forgotten : there ≡ false → notes_of new.entries ≡ forgotten (notes_of old.entries) id
   now_forgotten t = maps.alike grain_cmp_total grain_cmp_exact _ _ (λ q.
       get-changed q ∙ ap (λ b. cond (grain_eq id q) (cond b (Some m) None) (map.get (notes_of old.entries) q)) t
-      ∙ sym (get-forgotten (notes_of old.entries) id q))
+      ∙ sym (get-remove_key grains (notes_of old.entries) id q))
 
 -- ---- no set changes, but for its room
 
@@ -253,9 +255,6 @@ module _ {S : Type 0} (sets : BTreeMap ℕ (IndexSet Grain S)) (apart : AreApart
 
 -- ---- what is due
 
-none_of : (b : Bool) → b ≡ false → ◌≡◌ {A = ℕ} 0 (cond b 1 0)
-none_of b e = ap (λ b. cond b 1 0) (sym e)
-
 module _ {S : Type 0} where
   -- what is behind the first set
   rest_alone : (e : ℕ × IndexSet Grain S) (es : List (ℕ × IndexSet Grain S)) → IsStrictlySortedBy nat_cmp (keys_of (e ∷ es))
@@ -288,8 +287,8 @@ module _ {S : Type 0} where
   pub first_holds : (now : ℕ) (es : List (ℕ × IndexSet Grain S)) → IsStrictlySortedBy nat_cmp (keys_of es)
       → ((m : ℕ) (s : IndexSet Grain S) → set_of es m ≡ Some s → IsDistinct grain_eq s.keys)
       → ((m : ℕ) (q : Grain) → has q (set_of es m) ≡ true → moment_in es q ≡ Some m) → HoldsDue (notes_of es) now (first_due now es)
-  unfolding IsStrictlySortedBy
-  first_holds now [] ascend once alone = λ q. ap (λ o. cond (is_due now o) 1 0) (sym (map.get-empty grain_cmp q))
+  unfolding IsStrictlySortedBy IsDistinct
+  first_holds now [] ascend once alone = record { once = tt; each = λ q. ap (is_due now) (sym (map.get-empty grain_cmp q)) }
   first_holds now (e ∷ es) ascend once alone = by (nat_le e.0 now) refl (first_holds now es ascend.1 once_behind (λ m q there. (rest m q there).1))
     where
       rest : (m : ℕ) (q : Grain) → has q (set_of es m) ≡ true → (list_any (grain_eq q) e.1.keys ≡ false) × (moment_in es q ≡ Some m)
@@ -316,7 +315,7 @@ module _ {S : Type 0} where
 
       by : (b : Bool) → nat_le e.0 now ≡ b → HoldsDue (notes_of es) now (first_due now es) → HoldsDue (notes_of (e ∷ es)) now (cond b (e.1.keys ++ first_due now es) [])
       by true t behind = subst (λ b. HoldsDue (notes_of (e ∷ es)) now (cond b e.1.keys [] ++ first_due now es)) t (all behind)
-      by false f behind = λ q. none_of (is_due now (map.get (notes_of (e ∷ es)) q)) (none_now f q)
+      by false f behind = record { once = tt; each = λ q. sym (none_now f q) }
 
   pub first_due-holds : (sets : BTreeMap ℕ (IndexSet Grain S)) → AreApart sets → (now : ℕ) → HoldsDue (notes_of sets.entries) now (first_due now sets.entries)
   first_due-holds sets apart now = first_holds now sets.entries apart.ordered apart.once (λ m q there. sym (get-notes sets.entries q) ∙ apart.alone m q there)

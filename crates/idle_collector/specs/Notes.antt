@@ -1,6 +1,5 @@
 -- The moments from which grains are due to go, and which of them are due.
-use Rattle.std.specs.Prelude.{◌≡◌, ℕ, Bool, false, nat_le, List, Option, Some, None, if◌then◌else◌, count_by, refl}
-use Rattle.std.specs.Ordering.{eq_by_cmp}
+use Rattle.std.specs.Prelude.{ℕ, Bool, false, nat_le, List, Option, Some, None, refl}
 use Rattle.std.specs.Coded.{Coded, code_by, coded×, coded_ℕ, coded_option}
 use Rattle.std.specs.FinMap as map
 use Rattle.std.specs.FinMap.{FinMap}
@@ -44,8 +43,3 @@ is_due now (Some moment) = nat_le moment now
 -- the grains that are due, ascending
 abbrev pub due : Notes → ℕ → List Grain
 due notes now = map.keys (map.retain_keys notes (λ grain. is_due now (map.get notes grain)))
-
--- Each grain that is due stands in the list once, and no other grain does.
-abbrev pub HoldsDue : Notes → ℕ → List Grain → Type 0
-HoldsDue notes now grains =
-    (grain : Grain) → count_by (eq_by_cmp grain_cmp grain) grains ≡ (if is_due now (map.get notes grain) then 1 else 0)

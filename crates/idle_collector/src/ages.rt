@@ -1,13 +1,14 @@
 //! The ages of the kinds that have one of their own: `specs/Ages.antt`, and how they are put in order,
 //! `specs/AgesInOrder.antt`.
 
-ghost use Rattle.std.specs.Prelude.{◌≡◌, ◌≤◌, ℕ, length, List, [], None, MatchResult, OnOk, option_map};
-ghost use Rattle.std.specs.Ordering.{is_lt};
+ghost use Rattle.std.specs.Prelude.{◌≡◌, ◌+◌, ◌≤◌, ℕ, length, List, [], None, MatchResult, OnOk, option_map};
+ghost use Rattle.std.specs.FinMap.{put};
+ghost use Rattle.std.specs.Ordering.{is_gt};
 ghost use Rattle.grain_id.specs.Names.{text_cmp};
 ghost use Rattle.tenant_gate.specs.Age.{IsAge};
 ghost use Rattle.tenant_gate.specs.Table.{first_repeat};
 ghost use Rattle.idle_collector.specs.Ages.{AgesAnswers, IsTable, age_for, first_out_of_range, is_age, kind_age, kinds_of};
-ghost use Rattle.idle_collector.specs.inside.AgesInOrder.{IsSorted, SortRefused, place_in, put_in};
+ghost use Rattle.idle_collector.specs.inside.AgesInOrder.{SortRefused, place_in, sorted_ages};
 ghost use Rattle.idle_collector.specs.declared.ages.AgeFault.TheVariants as faults;
 
 use grain_id::Kind;
@@ -152,14 +153,14 @@ fn out_of_range(ages: &[(Kind, u64)]) -> Option<&Kind>
         .map(|entry| &entry.0)
 }
 
-/// Whether the kind is below the other.
-fn is_below(kind: &Kind, other: &Kind) -> bool
-    ensures { result ≡ is_lt (text_cmp kind.now other.now) }
+/// Whether the kind is above the other.
+fn is_above(kind: &Kind, other: &Kind) -> bool
+    ensures { result ≡ is_gt (text_cmp kind.now other.now) }
 {
     match kind.cmp(other) {
-        Ordering::Less => true,
+        Ordering::Less => false,
         Ordering::Equal => false,
-        Ordering::Greater => false,
+        Ordering::Greater => true,
     }
 }
 
@@ -169,16 +170,18 @@ fn place_in(ages: &[(Kind, u64)], kind: &Kind) -> usize
     ensures within { result ≤ length ages.now }
 {
     'ages: for at in 0..ages.len() {
-        if !is_below(&ages[at].0, kind) {
+        if !is_above(kind, &ages[at].0) {
             return at;
         }
     }
     ages.len()
 }
 
-/// One more age, in its place.
+/// The age of one more kind, in its place.
 fn put_in(ages: &mut Vec<(Kind, u64)>, kind: Kind, age: u64) -> Result<(), AllocError>
-    ensures { OnOk result (ages.new.items ≡ put_in (kind, age) ages.old.items) }
+    requires { age_for ages.old.items kind ≡ None }
+    ensures put { OnOk result (ages.new.items ≡ put text_cmp kind age ages.old.items) }
+    ensures len { OnOk result (length ages.new.items ≡ length ages.old.items + 1) }
 {
     let place = place_in(ages.as_slice(), &kind);
     ages.insert(place, (kind, age))?;
@@ -188,7 +191,8 @@ fn put_in(ages: &mut Vec<(Kind, u64)>, kind: Kind, age: u64) -> Result<(), Alloc
 /// The ages in order, if no kind repeats an earlier one.
 fn in_order(alloc: Global, list: &[(Kind, u64)]) -> Result<Vec<(Kind, u64)>, AgeFault>
     ensures { MatchResult result
-        (λ table. (first_repeat [] (kinds_of list.now) ≡ None) × IsSorted list.now table.items)
+        (λ table. (first_repeat [] (kinds_of list.now) ≡ None) × (table.items ≡ sorted_ages list.now)
+        × (length table.items ≡ length list.now))
         (SortRefused list.now) }
 {
     let mut table = Vec::with_capacity(alloc, list.len())?;

@@ -2,8 +2,8 @@
 
 ghost use Rattle.std.specs.Prelude.{◌≡◌, [], ◌++◌, None, OnOk, OnErr, IfOk, IfSome};
 ghost use Rattle.std.specs.FinMap as map;
-ghost use Rattle.idle_collector.specs.Notes.{noted, forgotten, HoldsDue};
-ghost use Rattle.idle_collector.specs.inside.Sets.{AreApart, LeavesNotes};
+ghost use Rattle.idle_collector.specs.Notes.{noted, forgotten};
+ghost use Rattle.idle_collector.specs.inside.Sets.{AreApart, HoldsDue, LeavesNotes};
 
 use grain_id::{GrainId, HashSeed};
 use indexmap::IndexSet;

@@ -1,6 +1,7 @@
 use Rattle.std.proofs.Common.{sym, subst}
 use Rattle.idle_collector.specs.inside.Aside.{with_latest}
-use Rattle.idle_collector.specs.Notes.{Collection, HoldsDue}
+use Rattle.idle_collector.specs.Notes.{Collection}
+use Rattle.idle_collector.specs.inside.Sets.{HoldsDue}
 use Rattle.idle_collector.proofs.Due.{holds-due}
 use Rattle.idle_collector.proofs.Aside.{latest-due}
 use Rattle.idle_collector.proofs.collector.Collector.due.Goals as goal
