@@ -26,4 +26,3 @@ pub mod JsonDepths
 pub mod JsonShown
 pub mod BytesFound
 pub mod Migrated
-pub mod ValueEnds
