@@ -1,12 +1,13 @@
 -- Bytes as digits.
-use Rattle.std.proofs.Common.{◌≡◌, ℕ, zero, suc, inl, inr, ◌%◌, ◌/◌, ◌+◌, ◌*◌, ◌<◌, Bool, true, false, ◌&&◌, List, [], ◌∷◌, ◌++◌, length, slice_index, Option, Some, None, Result, Ok, Err, is_some, refl, ap, arith}
-use Rattle.std.specs.Prelude.{if◌then◌else◌, unwrap_or, IsSome}
+use Rattle.std.proofs.Common.{◌≡◌, ℕ, suc, ◌%◌, ◌/◌, ◌+◌, ◌*◌, ◌<◌, Bool, true, false, List, [], ◌∷◌, ◌++◌, length, slice_index, Option, Some, None, Result, Ok, Err, is_some, refl, ap, arith}
+use Rattle.std.specs.Prelude.{if◌then◌else◌, unwrap_or, IsSome, IsAscii}
 use Rattle.std.specs.Int.{w32, to_be_bytes}
 use Rattle.std.specs.List.{list_all, AllPass}
 use Rattle.std.specs.Result.{result_ok}
 use Rattle.std.proofs.lemmas.Bool.Decides.{nat_tests}
-use Rattle.std.proofs.lemmas.Bool.{and_parts, cases_lt}
+use Rattle.std.proofs.lemmas.Bool.{and_parts}
 use Rattle.std.proofs.lemmas.List.Elements.{All-cons, All-nil}
+use Rattle.std.proofs.lemmas.Str.Ascii.{IsAscii-nil, IsAscii-cons}
 use Rattle.std.proofs.lemmas.List.Sums.{AllPass-from_list_all}
 use Rattle.hex.specs.Hex.{IsBytes, decode_of, digit_or_error, encode_with, hex_digit_value, lower_digits, is_hex_digit, pair_value, value_at}
 use Rattle.hex.specs.declared.error.FromHexError.{FromHexError}
@@ -85,24 +86,12 @@ digits_spelled s some = rw (digits_known s some).1.found refl
 
 -- ---- the digits of bytes
 
--- the first n digits of the table are digits, which computes
-abbrev are_digits_to : ℕ → Bool
-are_digits_to zero = true
-are_digits_to (suc n) = is_digit (slice_index lower_digits n) && are_digits_to n
-
-digit_to : (n d : ℕ) → are_digits_to n ≡ true → d < n → is_digit (slice_index lower_digits d) ≡ true
-digit_to zero d all lt = absurd (omega arith)
-digit_to (suc n) d all lt =
-    let parts = and_parts (is_digit (slice_index lower_digits n)) (are_digits_to n) all in
-    elim (cases_lt d n) [
-      | inl below ↦ digit_to n d parts.1 below
-      | inr top ↦
-          let e : d ≡ n = omega arith in
-          rw e parts.0
-    ]
+-- each digit of a text is one
+pub digit_there : (s : List ℕ) (k : ℕ) → list_all is_digit s ≡ true → k < length s → is_digit (slice_index s k) ≡ true
+digit_there s k all lt = AllPass-from_list_all is_digit s all k 0 lt
 
 digit_at : (d : ℕ) → d < 16 → is_digit (slice_index lower_digits d) ≡ true
-digit_at d lt = digit_to 16 d refl lt
+digit_at d lt = digit_there lower_digits d refl lt
 
 all_digits_of : (b : List ℕ) → IsBytes b → list_all is_digit (digits_of b) ≡ true
 unfolding encode_with
@@ -117,11 +106,20 @@ all_digits_of (x ∷ b) h =
 pub digits_again : (b : List ℕ) → IsBytes b → bytes_of_digits (digits_of b) ≡ Some b
 digits_again b h = rw (all_digits_of b h, decode_of-encode_lower b h) refl
 
--- ---- writing bytes one pair of digits after another
+-- each is ASCII
+digit_low : (c : ℕ) → is_digit c ≡ true → c < 128
+digit_low c h = grind (arith, nat_tests)
 
--- each digit of a text is one
-pub digit_there : (s : List ℕ) (k : ℕ) → list_all is_digit s ≡ true → k < length s → is_digit (slice_index s k) ≡ true
-digit_there s k all lt = AllPass-from_list_all is_digit s all k 0 lt
+ascii_by : (s : List ℕ) → list_all is_digit s ≡ true → IsAscii s
+ascii_by [] h = IsAscii-nil
+ascii_by (c ∷ s) h =
+    let parts = and_parts (is_digit c) (list_all is_digit s) h in
+    IsAscii-cons c s (digit_low c parts.0) (ascii_by s parts.1)
+
+pub digits_ascii : IsAscii lower_digits
+digits_ascii = ascii_by lower_digits refl
+
+-- ---- writing bytes one pair of digits after another
 
 -- two digits side by side are a byte
 pub pair_is : (high low i x y : ℕ) → hex_digit_value high ≡ Some x → hex_digit_value low ≡ Some y → pair_value high low i ≡ Ok (x * 16 + y)

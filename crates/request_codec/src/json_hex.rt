@@ -7,7 +7,7 @@ ghost use Rattle.request_codec.specs.Hex.{digits_of, bytes_of_digits};
 ghost use Rattle.request_codec.specs.Json.{hex_name, hex_of, hex_bytes};
 ghost use Rattle.request_codec.specs.inside.Converted.{Gives};
 
-use crate::bytes::{are_digits, decode_digits};
+use crate::bytes::{are_digits, decode_digits, encode_digits};
 use crate::fault::CodecFault;
 use serde_json::{Map, Value};
 use std::alloc::{AllocError, Global};
@@ -63,7 +63,7 @@ pub fn bytes_of_json(alloc: Global, beside: &Value) -> Result<Vec<u8>, CodecFaul
 pub fn hex_to_json(alloc: Global, bytes: &[u8]) -> Result<Map<String, Value>, AllocError>
     ensures { IfOk result (λ m. members_view m.entries ≡ json.member hex_name (json.string (digits_of bytes.now)) json.no_members) }
 {
-    let digits = hex::encode(alloc, bytes)?;
+    let digits = encode_digits(alloc, bytes)?;
     let name = String::from_str(alloc, "$hex")?;
     let mut members = Map::new(alloc);
     drop(members.insert(name, Value::String(digits))?);

@@ -1,8 +1,8 @@
 //! Bytes as digits: two lower case hexadecimal ones for each byte.
 
 ghost use Rattle.std.specs.Prelude.{◌≡◌, ◌++◌, [], ◌<◌, ◌≤◌, ◌^◌, ◌*◌};
-ghost use Rattle.std.specs.Prelude.{length, unwrap_or, is_some, string_bytes, IsSome, IsTrue, OnOk, Some, Ok};
-ghost use Rattle.hex.specs.Hex.{decode_of, hex_digit_value};
+ghost use Rattle.std.specs.Prelude.{length, slice_index, unwrap_or, is_some, string_bytes, IsSome, IsTrue, IfOk, OnOk, Some, Ok};
+ghost use Rattle.hex.specs.Hex.{decode_of, hex_digit_value, lower_digits};
 ghost use Rattle.std.specs.List.{list_all};
 ghost use Rattle.request_codec.specs.Hex.{digits_of, is_digit, bytes_of_digits};
 ghost use Rattle.request_codec.specs.Lenient.{bytes_or_null};
@@ -121,6 +121,44 @@ pub fn put_digits(out: &mut Vec<u8>, limit: usize, digits: &str) -> Result<(), C
     put_decoded(out, limit, digits)
 }
 
+/// The digit of a value.
+#[inline(always)]
+fn digit_of(value: u8) -> u8
+    requires { value < 16 }
+    ensures { result ≡ slice_index lower_digits value }
+{
+    if value < 10 {
+        b'0' + value
+    } else {
+        b'a' + (value - 10)
+    }
+}
+
+/// Writes the digits of the bytes. Each is computed, so that the loop writes many at a time: a table, as the `hex` crate has it, is
+/// looked into once for each digit.
+fn encode_into(out: &mut [u8], bytes: &[u8])
+    requires { length out.old ≡ 2 * length bytes.now }
+    ensures { out.new ≡ digits_of bytes.now }
+{
+    'bytes: for i in 0..bytes.len() {
+        out[2 * i] = digit_of(bytes[i] / 16);
+        out[2 * i + 1] = digit_of(bytes[i] % 16);
+    }
+}
+
+/// The digits of the bytes, as a text.
+pub(crate) fn encode_digits(alloc: Global, bytes: &[u8]) -> Result<String, AllocError>
+    ensures { IfOk result (λ text. string_bytes text ≡ digits_of bytes.now) }
+{
+    let Some(len) = bytes.len().checked_mul(2) else {
+        return Err(AllocError);
+    };
+    let mut digits = vec![in alloc; 0u8; len]?;
+    encode_into(digits.as_mut_slice(), bytes);
+    // all of them are digits, which is proved
+    Ok(unsafe { String::from_utf8_unchecked(digits) })
+}
+
 /// Adds the digits of the bytes at the end of the text. All of them are made before, so that there is room for them at once.
 ///
 /// # Errors
@@ -129,6 +167,6 @@ pub fn put_digits(out: &mut Vec<u8>, limit: usize, digits: &str) -> Result<(), C
 pub fn push_digits(text: &mut String, bytes: &[u8]) -> Result<(), AllocError>
     ensures { OnOk result (string_bytes text.new ≡ string_bytes text.old ++ digits_of bytes.now) }
 {
-    let digits = hex::encode(*text.allocator(), bytes)?;
+    let digits = encode_digits(*text.allocator(), bytes)?;
     text.push_str(digits.as_str())
 }
