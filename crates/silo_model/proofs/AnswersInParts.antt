@@ -14,6 +14,7 @@ use Rattle.silo_model.specs.Whole.{Whole, shown_to, whole_step}
 use Rattle.silo_model.specs.Run.{answer_of, answers_by, machine_run, concerns_by, concerns, restricted_to, answers_to, marked}
 use Rattle.silo_model.specs.Answers.{IsAnswer, IsAnswerBy, AreAnswers, AreMachineAnswers}
 use Rattle.silo_model.specs.Parts.{StepAnswersInParts, RunsAnswer}
+use Rattle.silo_model.proofs.Tests.{on_test, on_found}
 use Rattle.silo_model.proofs.Sound.{IsSound}
 use Rattle.silo_model.proofs.Isolation.{own_part, not_now}
 use Rattle.silo_model.proofs.Runs.{whole_after, machine_after, run_shown, next_shown, next_sound}
@@ -55,20 +56,17 @@ restricted-marked tenant (s ∷ steps) (a ∷ answers) =
 -- ---- one step
 
 module _ (logic : Logic) (w : Whole) (sound : IsSound w) (tenant : List ℕ) where
-  possible : (s : Step) → concerns tenant s ≡ true → (r : Option Whole) → whole_step logic w s ≡ r → (q : Option Machine) → machine_step logic (shown_to tenant w) s ≡ q → answer_of r ≡ answer_of q
-  possible s concerned None e q is = ap answer_of (sym (not_now logic w s tenant concerned e) ∙ is)
-  possible s concerned (Some after) e q is = ap answer_of (sym (own_part logic w s tenant after sound concerned e) ∙ is)
-
   -- the tenant's machine answers as the whole does
   pub same_answer : (s : Step) → concerns tenant s ≡ true → answer_of (whole_step logic w s) ≡ answer_of (machine_step logic (shown_to tenant w) s)
-  same_answer s concerned = possible s concerned (whole_step logic w s) refl (machine_step logic (shown_to tenant w) s) refl
+  same_answer s concerned =
+      on_found (λ r. answer_of r ≡ answer_of (machine_step logic (shown_to tenant w) s)) (whole_step logic w s)
+      (λ e. ap answer_of (sym (not_now logic w s tenant concerned e)))
+      (λ after e. ap answer_of (sym (own_part logic w s tenant after sound concerned e)))
 
   not_none : (s : Step) → concerns tenant s ≡ true → (whole_step logic w s ≡ None → ⊥) → machine_step logic (shown_to tenant w) s ≡ None → ⊥
-  not_none s concerned done none = by_step (whole_step logic w s) refl
-    where
-      by_step : (r : Option Whole) → whole_step logic w s ≡ r → ⊥
-      by_step None e = done e
-      by_step (Some after) e = none-some (shown_to tenant after) (sym none ∙ own_part logic w s tenant after sound concerned e)
+  not_none s concerned done none =
+      on_found (λ _. ⊥) (whole_step logic w s) done
+      (λ after e. none-some (shown_to tenant after) (sym none ∙ own_part logic w s tenant after sound concerned e))
 
   own_answer : (s : Step) (a : Answer) → concerns tenant s ≡ true → IsAnswer logic w s a → IsAnswerBy (machine_step logic) (shown_to tenant w) s a
   own_answer s answer.Done concerned is = not_none s concerned is
@@ -86,18 +84,17 @@ answered_alone logic tenant w (s ∷ steps) [] sound are = none_given (restricte
     none_given (r ∷ struck) = tt
 answered_alone logic tenant w (s ∷ steps) (a ∷ answers) sound are =
     let taken = marked_step s a in
-    by_concern (concerns tenant s) refl
-    (subst (λ m. AreMachineAnswers logic m (restricted_to tenant steps) (answers_to tenant steps answers)) (next_shown logic w taken sound tenant)
-    (answered_alone logic tenant (whole_after logic w taken) steps answers (next_sound logic w taken sound) are.1))
-  where
-    by_concern : (b : Bool) → concerns tenant s ≡ b
-        → AreMachineAnswers logic (cond (concerns tenant (marked_step s a)) (machine_after logic (shown_to tenant w) (marked_step s a)) (shown_to tenant w)) (restricted_to tenant steps) (answers_to tenant steps answers)
-        → AreMachineAnswers logic (shown_to tenant w) (cond b (s ∷ restricted_to tenant steps) (restricted_to tenant steps)) (cond b (a ∷ answers_to tenant steps answers) (answers_to tenant steps answers))
-    by_concern true is rest = (
-      own_answer logic w sound tenant s a is are.0,
-      subst (λ b. AreMachineAnswers logic (cond b (machine_after logic (shown_to tenant w) (marked_step s a)) (shown_to tenant w)) (restricted_to tenant steps) (answers_to tenant steps answers)) (concerns_marked tenant s a ∙ is) rest,
-    )
-    by_concern false is rest = subst (λ b. AreMachineAnswers logic (cond b (machine_after logic (shown_to tenant w) (marked_step s a)) (shown_to tenant w)) (restricted_to tenant steps) (answers_to tenant steps answers)) (concerns_marked tenant s a ∙ is) rest
+    let m : Machine = shown_to tenant w in
+    let own : List Step = restricted_to tenant steps in
+    let told : List Answer = answers_to tenant steps answers in
+    let rest : AreMachineAnswers logic (cond (concerns tenant s) (machine_after logic m taken) m) own told =
+    subst (λ x. AreMachineAnswers logic x own told)
+    (next_shown logic w taken sound tenant ∙ ap (λ b. cond b (machine_after logic m taken) m) (concerns_marked tenant s a))
+    (answered_alone logic tenant (whole_after logic w taken) steps answers (next_sound logic w taken sound) are.1) in
+    on_test
+    (λ b. AreMachineAnswers logic (cond b (machine_after logic m taken) m) own told
+    → AreMachineAnswers logic m (cond b (s ∷ own) own) (cond b (a ∷ told) told))
+    (concerns tenant s) (λ is next. (own_answer logic w sound tenant s a is are.0, next)) (λ _ next. next) rest
 
 pub answered_in_parts : StepAnswersInParts
 answered_in_parts logic setup journal w tenant steps answers leads are =

@@ -1,23 +1,23 @@
 -- What holds of every entry along a run: of each that a step puts, where it held of the entry that the step sees.
 use Rattle.std.proofs.Common.{◌≡◌, ℕ, List, [], ◌∷◌, Option, Some, None, refl, sym, ◌∙◌, subst}
 use Rattle.std.specs.FinMap as map
-use Rattle.std.proofs.lemmas.Option.{same_Some, none-some}
-use Rattle.finite_maps.proofs.Options.{some_if_passes, some_from_and_then}
+use Rattle.std.proofs.lemmas.Option.{none-some}
+use Rattle.finite_maps.proofs.Options.{some_if_passes}
 use Rattle.grain_id.specs.Names.{Grain, grain_cmp}
 use Rattle.grain_id.proofs.ByGrain.{get-part}
 use Rattle.grain_id.proofs.Order.{grain_cmp_total, grain_cmp_exact}
-use Rattle.silo_event.specs.Owner.{owner_of}
 use Rattle.silo_event.specs.declared.step.Step.{Step}
 use Rattle.grain_kinds.specs.Logic.{Logic}
 use Rattle.silo_model.specs.Machine.{Entry}
 use Rattle.silo_model.specs.Effect.{Context, Effect, Change, keep, put, drop, context_at}
 use Rattle.silo_model.specs.Whole.{Whole, is_of, shown_to, spread, whole_step}
 use Rattle.silo_model.specs.Opening.{Setup, opening}
-use Rattle.silo_model.specs.Journal.{all_done, LeadsTo}
+use Rattle.silo_model.specs.Journal.{LeadsTo}
 use Rattle.silo_model.proofs.Changes.{OfPut, OfPutAt, changed_all}
 use Rattle.silo_model.proofs.SharedSteps.{shared_leaves}
 use Rattle.silo_model.proofs.EffectKinds.{Role, role_of, Does}
-use Rattle.silo_model.proofs.Isolation.{place_in, did, did_does, shared_by}
+use Rattle.silo_model.proofs.Isolation.{place_in, by_owner, did_does}
+use Rattle.silo_model.proofs.Journals.{all_keep}
 
 -- what an owner sees at a grain is an entry there
 pub seen_there : (w : Whole) (owner : List ℕ) (g : Grain) (e : Entry) → (context_at (shown_to owner w) (Some g)).entry ≡ Some e → map.get w.entries g ≡ Some e
@@ -45,27 +45,20 @@ module _ (P : Entry → Type 0) where
   put_at grain drop h = tt
 
   module _ (logic : Logic) (puts : Puts logic) where
-    step_each_by : (w after : Whole) (s : Step) (o : Option (List ℕ)) → owner_of s ≡ o → Each w → whole_step logic w s ≡ Some after → Each after
-    unfolding spread
-    step_each_by w after s None is each h = λ g e found. each g e ((shared_leaves w after s (sym (shared_by logic w s is) ∙ h)).entries g e found)
-    step_each_by w after s (Some owner) is each h =
-        let d = did logic w after s owner is h in
-        let place = place_in w owner s in
-        let put = puts (context_at (shown_to owner w) place) s (role_of s) place d.what (sees w owner place each) (did_does logic w after s owner d) in
-        subst Each d.leaves (changed_all grain_cmp_total grain_cmp_exact (λ (g : Grain). P) w.entries place d.what.entry each (put_at place d.what.entry put))
-
     pub step_each : (w after : Whole) (s : Step) → Each w → whole_step logic w s ≡ Some after → Each after
-    step_each w after s each h = step_each_by w after s (owner_of s) refl each h
-
-    all_done_each : (w after : Whole) (steps : List Step) → Each w → all_done logic w steps ≡ Some after → Each after
-    all_done_each w after [] each h = subst Each (same_Some w after h) each
-    all_done_each w after (s ∷ steps) each h =
-        let next = some_from_and_then (λ x. all_done logic x steps) (whole_step logic w s) after h in
-        all_done_each next.0 after steps (step_each w next.0 s each next.1) next.2
+    unfolding spread
+    step_each w after s each h =
+        by_owner logic w after s (Each after) h (λ nobodys g e found. each g e ((shared_leaves w after s nobodys).entries g e found))
+        (λ owner is d.
+        let place = place_in w owner s in
+        let seen = sees w owner place each in
+        let put = puts (context_at (shown_to owner w) place) s (role_of s) place d.what seen (did_does logic w after s owner d) in
+        subst Each d.leaves
+        (changed_all grain_cmp_total grain_cmp_exact (λ (g : Grain). P) w.entries place d.what.entry each (put_at place d.what.entry put)))
 
     none_at_first : (setup : Setup) → Each (opening setup)
     unfolding opening
     none_at_first setup g e found = absurd (none-some e (sym (map.get-empty grain_cmp g) ∙ found))
 
     pub journal_each : (setup : Setup) (journal : List Step) (w : Whole) → LeadsTo logic setup journal w → Each w
-    journal_each setup journal w leads = all_done_each (opening setup) w journal (none_at_first setup) leads
+    journal_each setup journal w leads = all_keep (whole_step logic) Each step_each (opening setup) w journal (none_at_first setup) leads

@@ -30,6 +30,7 @@ use Rattle.silo_model.specs.Step.{grain_of, at_turn, effect_of}
 use Rattle.silo_model.specs.Saved.{touches_row}
 use Rattle.silo_model.specs.Todo.{sender_by}
 use Rattle.silo_model.proofs.TurnMaps.{Turns}
+use Rattle.silo_model.proofs.Tests.{on_test, on_found}
 use Rattle.silo_model.proofs.Leaving.{idle_parts, stays_or_goes_by}
 
 -- ---- what a step is to its owner
@@ -151,31 +152,23 @@ abbrev Passes : Context → Grain → Result Account Fault → Type 0
 Passes s g (Ok a) = (s.account ≡ Some a) × (g.tenant ≡ s.tenant)
 Passes s g (Err why) = Unit {0}
 
-where_test : (s : Context) (g : Grain) (a : Account) (b : Bool) (why : Fault) → (b ≡ true → Passes s g (Ok a))
-    → Passes s g (if b then Ok a else Err why)
-where_test s g a true why h = h refl
+where_test : (s : Context) (g : Grain) (a : Account) (b : Bool) (why : Fault) → Passes s g (Ok a) → Passes s g (if b then Ok a else Err why)
+where_test s g a true why h = h
 where_test s g a false why h = tt
 
 gate_passes : (logic : Logic) (s : Context) (g : Grain) (found : Option Account) → s.account ≡ found → Passes s g (gate logic s found g)
 gate_passes logic s g None is = tt
-gate_passes logic s g (Some a) is = by_own (same_text g.tenant s.tenant) refl
-  where
-    by_own : (b : Bool) → same_text g.tenant s.tenant ≡ b
-        → Passes s g (if b then kind_gate logic a g else Err (AcrossTenants s.tenant g.tenant))
-    by_own true own = where_test s g a (logic.knows g.kind) (UnknownKind g.kind) (λ _. (is, (same_text_decides g.tenant s.tenant).0 own))
-    by_own false own = tt
+gate_passes logic s g (Some a) is =
+    on_test (λ b. Passes s g (if b then kind_gate logic a g else Err (AcrossTenants s.tenant g.tenant))) (same_text g.tenant s.tenant)
+    (λ own. where_test s g a (logic.knows g.kind) (UnknownKind g.kind) (is, (same_text_decides g.tenant s.tenant).0 own)) (λ _. tt)
 
 admitted_passes : (s : Context) (g : Grain) (r : Result Account Fault) → Passes s g r → Passes s g (admitted s g r)
 admitted_passes s g (Err why) h = tt
-admitted_passes s g (Ok a) h = by_number (a.count == last_number)
-  where
-    by_room : (found : Option Entry) → Passes s g (room s a g found)
-    by_room None = where_test s g a (nat_lt s.active a.limits.activations) (NoActivation s.tenant) (λ _. h)
-    by_room (Some e) = where_test s g a (nat_lt (length e.queue) a.limits.mailbox) (MailboxFull g) (λ _. h)
-
-    by_number : (b : Bool) → Passes s g (if b then Err (NoNumber s.tenant) else room s a g s.entry)
-    by_number true = tt
-    by_number false = by_room s.entry
+admitted_passes s g (Ok a) h =
+    on_test (λ b. Passes s g (if b then Err (NoNumber s.tenant) else room s a g s.entry)) (a.count == last_number) (λ _. tt) (λ _.
+    on_found (λ found. Passes s g (room s a g found)) s.entry
+    (λ _. where_test s g a (nat_lt s.active a.limits.activations) (NoActivation s.tenant) h)
+    (λ e _. where_test s g a (nat_lt (length e.queue) a.limits.mailbox) (MailboxFull g) h))
 
 call_passes : (logic : Logic) (s : Context) (g : Grain) → Passes s g (admitted s g (gate logic s s.account g))
 call_passes logic s g = admitted_passes s g (gate logic s s.account g) (gate_passes logic s g s.account refl)
@@ -261,12 +254,10 @@ module _ (logic : Logic) (s : Context) (step : Step) where
 
     opened_does : (queue : List Request) → e.queue ≡ queue → is_ready e.phase ≡ true → Beginning (opened logic g e queue)
     opened_does [] queue phase = tt
-    opened_does (first ∷ others) queue phase = by_test (may_open logic g e first) refl
-      where
-        by_test : (b : Bool) → may_open logic g e first ≡ b
-            → Beginning (if b then Some (on_entry (record e { queue = others; turns = map.insert e.turns first.number first })) else None)
-        by_test true may = opens g e first others is phase queue may
-        by_test false may = tt
+    opened_does (first ∷ others) queue phase =
+        let new : Entry = record e { queue = others; turns = map.insert e.turns first.number first } in
+        on_test (λ b. Beginning (if b then Some (on_entry new) else None)) (may_open logic g e first)
+        (λ may. opens g e first others is phase queue may) (λ _. tt)
 
     begun_does : (p : Phase) → e.phase ≡ p → Beginning (opened_if_ready logic g e p)
     begun_does waiting phase = tt

@@ -20,6 +20,7 @@ use Rattle.silo_model.specs.Machine.{Entry, Entries, Request}
 use Rattle.silo_model.specs.Turns.{reads, may_open}
 use Rattle.silo_model.specs.Idle.{is_ready}
 use Rattle.silo_model.proofs.TurnMaps.{Turns}
+use Rattle.silo_model.proofs.Tests.{on_test, either_way}
 
 -- the weight of an entry's requests, and of all requests that wait or are open
 abbrev pub held : (Request → ℕ) → Entry → ℕ
@@ -55,10 +56,7 @@ pub one_less : (f : Request → ℕ) (t : Turns) (n : ℕ) (q : Request) → map
 one_less f t n q found = ap (λ o. total f (map.remove t n) + at f o) (sym found) ∙ total-remove nat_cmp_total nat_cmp-IsAntisymmetric f t n
 
 pub one_more : (f : Request → ℕ) (t : Turns) (n : ℕ) (q : Request) → map.get t n ≡ None → total f (map.insert t n q) ≡ total f t + f q
-one_more f t n q none = counted (total-insert nat_cmp_total f t n q) (ap (at f) none)
-  where
-    counted : total f (map.insert t n q) + at f (map.get t n) ≡ total f t + f q → at f (map.get t n) ≡ 0 → total f (map.insert t n q) ≡ total f t + f q
-    counted law nothing = omega arith
+one_more f t n q none = omega (arith, total-insert nat_cmp_total f t n q, ap (at f) none)
 
 len_less : (t : Turns) (n : ℕ) (q : Request) → map.get t n ≡ Some q → map.len (map.remove t n) + 1 ≡ map.len t
 len_less t n q found = ap (λ l. l + 1) (sym (total-len (map.remove t n))) ∙ one_less (λ x. 1) t n q found ∙ total-len t
@@ -75,11 +73,9 @@ no_turns f = total-none f map.empty (map.len-empty nat_cmp Request)
 
 -- another turn than the one that was closed is still open
 pub still_open : (t : Turns) (k n : ℕ) (q : Request) → n ≢ k → map.get t n ≡ Some q → map.get (map.remove t k) n ≡ Some q
-still_open t k n q apart found = map.get-remove nat_cmp_total t k n ∙ past (eq_by_cmp nat_cmp n k) (λ tied. apart (same_number n k tied))
-  where
-    past : (b : Bool) → (b ≡ true → ⊥) → cond b None (map.get t n) ≡ Some q
-    past true none = absurd (none refl)
-    past false none = found
+still_open t k n q apart found =
+    map.get-remove nat_cmp_total t k n
+    ∙ on_test (λ b. cond b None (map.get t n) ≡ Some q) (eq_by_cmp nat_cmp n k) (λ tied. absurd (apart (same_number n k tied))) (λ _. found)
 
 -- ---- entries
 
@@ -120,23 +116,20 @@ where_reads false x y e is = absurd (true≢false (sym is))
 
 -- where no turn is open, any request may be
 pub may_open_alone : (logic : Logic) (g : Grain) (e : Entry) (first : Request) → map.len e.turns ≡ 0 → may_open logic g e first ≡ true
-may_open_alone logic g e first none = by_kind (reads logic g first)
-  where
-    by_kind : (b : Bool) → (if b then list_all (reads logic g) (map.values e.turns) else map.len e.turns == 0) ≡ true
-    by_kind true = ap (λ es. list_all (reads logic g) (map_list (λ d. d.1) es)) (entries-none e.turns none)
-    by_kind false = ap (λ n. n == 0) none
+may_open_alone logic g e first none =
+    on_test (λ b. (if b then list_all (reads logic g) (map.values e.turns) else map.len e.turns == 0) ≡ true) (reads logic g first)
+    (λ _. ap (λ es. list_all (reads logic g) (map_list (λ d. d.1) es)) (entries-none e.turns none)) (λ _. ap (λ n. n == 0) none)
 
 module _ (logic : Logic) (g : Grain) (e : Entry) (first : Request) (may : may_open logic g e first ≡ true) where
   none_open : reads logic g first ≡ false → map.len e.turns ≡ 0
-  none_open writes = eqb-true (map.len e.turns) 0 (where_writes (reads logic g first) (list_all (reads logic g) (map.values e.turns)) (map.len e.turns == 0) may writes)
+  none_open writes = eqb-true (map.len e.turns) 0 (where_writes (reads logic g first) _ _ may writes)
 
   -- the request may be open with each turn that is
   pub may_with : (n : ℕ) (q : Request) → map.get e.turns n ≡ Some q → (reads logic g first ≡ true) × (reads logic g q ≡ true)
-  may_with n q found = by_kind (reads logic g first) refl
-    where
-      by_kind : (b : Bool) → reads logic g first ≡ b → (reads logic g first ≡ true) × (reads logic g q ≡ true)
-      by_kind true is = (is, found_passes (reads logic g) e.turns n q found (where_reads (reads logic g first) (list_all (reads logic g) (map.values e.turns)) (map.len e.turns == 0) may is))
-      by_kind false is = absurd (none-some q (sym (get-none e.turns n (none_open is)) ∙ found))
+  may_with n q found =
+      either_way (reads logic g first)
+      (λ is. (is, found_passes (reads logic g) e.turns n q found (where_reads (reads logic g first) _ _ may is)))
+      (λ is. absurd (none-some q (sym (get-none e.turns n (none_open is)) ∙ found)))
 
   -- the first that waits becomes a turn
   pub opened_entry : (others : List Request) → IsFairEntry logic g e → is_ready e.phase ≡ true → map.get e.turns first.number ≡ None → IsFairEntry logic g (record e { queue = others; turns = map.insert e.turns first.number first })
@@ -166,9 +159,6 @@ FrontIsNew e = (first : Request) (others : List Request) → e.queue ≡ first �
 pub within_all : (f : Request → ℕ) (entries : Entries) (g : Grain) (e : Entry) → map.get entries g ≡ Some e → held f e ≤ pend f entries
 within_all f entries g e found = omega (arith, ap (λ o. pend f (map.remove entries g) + at (held f) o) (sym found) ∙ total-remove grain_cmp_total grain_cmp_exact (held f) entries g)
 
-itself_counts : (q : Request) → numbered q.number q ≡ 1
-itself_counts q = ap (λ b. cond b 1 0) (eq-eqb q.number q.number refl)
-
 pub front_is_new : (logic : Logic) (count : ℕ) (entries : Entries) (g : Grain) (e : Entry) → IsFair logic count entries → map.get entries g ≡ Some e → FrontIsNew e
 front_is_new logic count entries g e fair found first others is = by_found (map.get e.turns first.number) refl
   where
@@ -176,7 +166,7 @@ front_is_new logic count entries g e fair found first others is = by_found (map.
     in_queue = ap (sum_by (numbered first.number)) is ∙ sum_by-cons (numbered first.number) first others
 
     twice : (q : Request) → numbered first.number q ≡ 1 → total (numbered first.number) (map.remove e.turns first.number) + numbered first.number q ≡ total (numbered first.number) e.turns → ⊥
-    twice q counts law = omega (arith, in_queue, itself_counts first, within_all (numbered first.number) entries g e found, fair.once first.number)
+    twice q counts law = omega (arith, in_queue, ap one_if (eq-eqb first.number first.number refl), within_all (numbered first.number) entries g e found, fair.once first.number)
 
     by_found : (o : Option Request) → map.get e.turns first.number ≡ o → o ≡ None
     by_found None there = refl

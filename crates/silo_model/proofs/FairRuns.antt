@@ -24,6 +24,7 @@ use Rattle.silo_model.specs.Opening.{Setup, start_of}
 use Rattle.silo_model.specs.Settled.{asks, is_client_with, pending_at, all_pending, Settled, RunsSettle}
 use Rattle.silo_model.proofs.Opening.{replay_is_run}
 use Rattle.silo_model.proofs.Runs.{machine_after}
+use Rattle.silo_model.proofs.Tests.{on_found}
 use Rattle.silo_model.proofs.Fair.{held, pend, one_if, numbered}
 use Rattle.silo_model.proofs.Moves.{replied, sent, Quiet, asked_by}
 use Rattle.silo_model.proofs.StepMoves.{IsFairMachine, machine_moves}
@@ -62,25 +63,34 @@ asked_client w quiet (Deliver grain) = quiet grain
 asked_client w quiet _ = refl
 
 module _ (logic : Logic) (law : ReadersAskNothing logic) where
-  after_fair : (m : Machine) (s : Step) (r : Option Machine) → machine_step logic m s ≡ r → IsFairMachine logic m → IsFairMachine logic (unwrap_or r m)
-  after_fair m s None is fair = fair
-  after_fair m s (Some new) is fair = (machine_moves logic law m new s fair is).fair
+  after_fair : (m : Machine) (s : Step) → IsFairMachine logic m → IsFairMachine logic (machine_after logic m s)
+  after_fair m s fair =
+      on_found (λ r. IsFairMachine logic (unwrap_or r m)) (machine_step logic m s) (λ _. fair)
+      (λ new is. (machine_moves logic law m new s fair is).fair)
 
-  after_balance : (w : Party → ℕ) → Quiet w → (m : Machine) (s : Step) (r : Option Machine) → machine_step logic m s ≡ r → IsFairMachine logic m
-      → replied w (unwrap_or r m).replies + pend (sent w) (unwrap_or r m).entries ≡ replied w m.replies + pend (sent w) m.entries + asked_by w s
-  after_balance w quiet m s None is fair =
-      omega (arith, asked_client w quiet s, ap (at (λ asking. w (party.Client asking.0 asking.1))) (asks_always logic m s is))
-  after_balance w quiet m s (Some new) is fair = (machine_moves logic law m new s fair is).balance w quiet
+  after_balance : (w : Party → ℕ) → Quiet w → (m : Machine) (s : Step) → IsFairMachine logic m
+      → replied w (machine_after logic m s).replies + pend (sent w) (machine_after logic m s).entries
+      ≡ replied w m.replies + pend (sent w) m.entries + asked_by w s
+  after_balance w quiet m s fair =
+      let before = replied w m.replies + pend (sent w) m.entries in
+      on_found (λ r. replied w (unwrap_or r m).replies + pend (sent w) (unwrap_or r m).entries ≡ before + asked_by w s) (machine_step logic m s)
+      (λ is. omega (arith, asked_client w quiet s, ap (at (λ asking. w (party.Client asking.0 asking.1))) (asks_always logic m s is)))
+      (λ new is. (machine_moves logic law m new s fair is).balance w quiet)
 
   pub run_fair : (m : Machine) (steps : List Step) → IsFairMachine logic m → IsFairMachine logic (machine_run logic m steps)
   run_fair m [] fair = fair
-  run_fair m (s ∷ steps) fair = run_fair (machine_after logic m s) steps (after_fair m s (machine_step logic m s) refl fair)
+  run_fair m (s ∷ steps) fair = run_fair (machine_after logic m s) steps (after_fair m s fair)
 
   pub run_balance : (w : Party → ℕ) → Quiet w → (m : Machine) (steps : List Step) → IsFairMachine logic m
       → replied w (machine_run logic m steps).replies + pend (sent w) (machine_run logic m steps).entries ≡ replied w m.replies + pend (sent w) m.entries + sum_by (asked_by w) steps
   run_balance w quiet m [] fair = omega arith
   run_balance w quiet m (s ∷ steps) fair =
-      omega (arith, run_balance w quiet (machine_after logic m s) steps (after_fair m s (machine_step logic m s) refl fair), after_balance w quiet m s (machine_step logic m s) refl fair, sum_by-cons (asked_by w) s steps)
+      omega (
+        arith,
+        run_balance w quiet (machine_after logic m s) steps (after_fair m s fair),
+        after_balance w quiet m s fair,
+        sum_by-cons (asked_by w) s steps,
+      )
 
 -- ---- in the words of the definition
 
@@ -100,15 +110,12 @@ uncounted : (x : ℕ) (xs : List ℕ) → sum_by (λ y. one_if (nat_eq y x)) xs 
 uncounted x [] e = tt
 uncounted x (y ∷ ys) e = (
   false_from_ne_true (nat_eq x y) (λ same. heavy (nat_eq y x) (eq-eqb y x (sym (eqb-true x y same))) (sym (sum_by-cons (λ z. one_if (nat_eq z x)) y ys) ∙ e)),
-  uncounted x ys (rest (one_if (nat_eq y x)) (sym (sum_by-cons (λ z. one_if (nat_eq z x)) y ys) ∙ e)),
+  uncounted x ys (omega (arith, e, sum_by-cons (λ z. one_if (nat_eq z x)) y ys)),
 )
   where
     heavy : (b : Bool) → b ≡ true → one_if b + sum_by (λ z. one_if (nat_eq z x)) ys ≡ 0 → ⊥
     heavy true is none = omega arith
     heavy false is none = absurd cc
-
-    rest : (n : ℕ) → n + sum_by (λ z. one_if (nat_eq z x)) ys ≡ 0 → sum_by (λ z. one_if (nat_eq z x)) ys ≡ 0
-    rest n none = omega arith
 
 distinct : (xs : List ℕ) → ((n : ℕ) → sum_by (λ y. one_if (nat_eq y n)) xs ≤ 1) → IsDistinct nat_eq xs
 unfolding IsDistinct

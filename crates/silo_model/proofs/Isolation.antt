@@ -7,7 +7,7 @@ use Rattle.std.proofs.lemmas.List.{append-nil}
 use Rattle.std.proofs.lemmas.List.Elements.{filter-append}
 use Rattle.std.proofs.lemmas.Option.{same_Some, none-some}
 use Rattle.std.proofs.lemmas.Bool.{false_from_ne_true}
-use Rattle.finite_maps.proofs.Options.{none_from_option_map}
+use Rattle.finite_maps.proofs.Options.{none_from_option_map, some_if_passes}
 use Rattle.grain_id.specs.Names.{Grain, text_cmp}
 use Rattle.silo_event.specs.Owner.{owner_of, tenant_of}
 use Rattle.silo_event.specs.declared.reply.Reply.{Reply}
@@ -21,6 +21,7 @@ use Rattle.silo_model.specs.Whole.{Whole, is_of, is_to, shown_to, spread, whole_
 use Rattle.grain_id.proofs.Order.{eq_by_cmp-Decides, same_text_decides, text_cmp_total, text_cmp_exact, grain_cmp_total, grain_cmp_exact}
 use Rattle.grain_id.proofs.ByGrain.{get-part}
 use Rattle.silo_model.proofs.Changes.{WhereChanged, WhereChanged-map, OfPut, OfPutAt, TestsAt, get-change_same, get-change_other, part-changed_in, part-changed_out, changed_all}
+use Rattle.silo_model.proofs.Tests.{on_found}
 use Rattle.silo_model.proofs.Contexts.{same_text-apart, shown_account, step_by_context}
 use Rattle.silo_model.proofs.SharedSteps.{shared_shown, shared_not, shared_sound}
 use Rattle.silo_model.proofs.Sound.{IsEntryOf, IsSound}
@@ -98,23 +99,20 @@ pub record Did (logic : Logic) (w : Whole) (s : Step) (owner : List ℕ) (after 
   pub does : effect_of logic (context_at (shown_to owner w) (place_in w owner s)) s ≡ Some what
   pub leaves : spread w owner (place_in w owner s) what ≡ after
 
-did_by : (logic : Logic) (w after : Whole) (s : Step) (owner : List ℕ) (e : Option Effect) → effect_of logic (context_at (shown_to owner w) (place_in w owner s)) s ≡ e → option_map (spread w owner (place_in w owner s)) e ≡ Some after → Did logic w s owner after
-did_by logic w after s owner None does h = absurd (none-some after h)
-did_by logic w after s owner (Some what) does h = record { what = what; does = does; leaves = same_Some _ after h }
-
 pub did : (logic : Logic) (w after : Whole) (s : Step) (owner : List ℕ) → owner_of s ≡ Some owner → whole_step logic w s ≡ Some after → Did logic w s owner after
-did logic w after s owner is h = did_by logic w after s owner _ refl (sym (step_by_context logic w s owner (place_in w owner s) _ is refl refl) ∙ h)
-
-in_part : (b : Bool) (found : Option Entry) (e : Entry) → cond b found None ≡ Some e → (b ≡ true) × (found ≡ Some e)
-in_part true found e h = (refl, h)
-in_part false found e h = absurd (none-some e h)
+did logic w after s owner is h =
+    let place = place_in w owner s in
+    on_found (λ e. option_map (spread w owner place) e ≡ Some after → Did logic w s owner after)
+    (effect_of logic (context_at (shown_to owner w) place) s) (λ _ none. absurd (none-some after none))
+    (λ what does is_so. record { what = what; does = does; leaves = same_Some _ after is_so })
+    (sym (step_by_context logic w s owner place _ is refl refl) ∙ h)
 
 -- a tenant sees an entry of its own
 sees_own : (w : Whole) (tenant : List ℕ) (grain : Option Grain) → IsSound w → SeesOwn tenant (context_at (shown_to tenant w) grain).entry
 unfolding context_at shown_to
 sees_own w tenant None sound e found = absurd (none-some e found)
 sees_own w tenant (Some g) sound e found =
-    let part = in_part (is_of tenant g) (map.get w.entries g) e (sym (get-part w.entries (is_of tenant) g) ∙ found) in
+    let part = some_if_passes (is_of tenant g) (map.get w.entries g) e (sym (get-part w.entries (is_of tenant) g) ∙ found) in
     subst (λ (t : List ℕ). IsEntryOf t e) ((same_text_decides g.tenant tenant).0 part.0) (sound g e part.1)
 
 pub did_does : (logic : Logic) (w after : Whole) (s : Step) (owner : List ℕ) (d : Did logic w s owner after)
@@ -162,6 +160,13 @@ machine_shared_by : (logic : Logic) (m : Machine) (s : Step) → owner_of s ≡ 
 unfolding machine_step
 machine_shared_by logic m s is = ap (step_by logic m s) is
 
+-- what holds after a step of nobody, and after one of an owner, holds after every step that is done
+pub by_owner : (logic : Logic) (w after : Whole) (s : Step) (P : Type 0) → whole_step logic w s ≡ Some after
+    → (whole_shared_step w s ≡ Some after → P) → ((owner : List ℕ) → owner_of s ≡ Some owner → Did logic w s owner after → P) → P
+by_owner logic w after s P h nobodys owned =
+    on_found (λ _. P) (owner_of s) (λ is. nobodys (sym (shared_by logic w s is) ∙ h))
+    (λ owner is. owned owner is (did logic w after s owner is h))
+
 -- ---- every step, by whether it concerns the tenant
 
 module _ (logic : Logic) (w : Whole) (s : Step) (tenant : List ℕ) where
@@ -199,11 +204,7 @@ spread_sound : (w : Whole) (owner : List ℕ) (grain : Option Grain) (e : Effect
 unfolding spread
 spread_sound w owner grain e sound proper = changed_all grain_cmp_total grain_cmp_exact (λ (g : Grain). IsEntryOf g.tenant) w.entries grain e.entry sound (left_at owner grain e.entry proper.entry proper.left)
 
-sound_by : (logic : Logic) (w after : Whole) (s : Step) (o : Option (List ℕ)) → owner_of s ≡ o → IsSound w → whole_step logic w s ≡ Some after → IsSound after
-sound_by logic w after s None is sound h = shared_sound w after s sound (sym (shared_by logic w s is) ∙ h)
-sound_by logic w after s (Some owner) is sound h =
-    let d = did logic w after s owner is h in
-    subst IsSound d.leaves (spread_sound w owner (place_in w owner s) d.what sound (did_proper logic w after s owner is sound d))
-
 pub step_sound : (logic : Logic) (w after : Whole) (s : Step) → IsSound w → whole_step logic w s ≡ Some after → IsSound after
-step_sound logic w after s sound h = sound_by logic w after s (owner_of s) refl sound h
+step_sound logic w after s sound h =
+    by_owner logic w after s (IsSound after) h (shared_sound w after s sound)
+    (λ owner is d. subst IsSound d.leaves (spread_sound w owner (place_in w owner s) d.what sound (did_proper logic w after s owner is sound d)))

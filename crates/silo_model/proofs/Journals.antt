@@ -14,8 +14,9 @@ use Rattle.silo_model.specs.Effect.{applied}
 use Rattle.silo_model.specs.Whole.{Whole, shown_to, spread, whole_step}
 use Rattle.silo_model.specs.Run.{whole_run, concerns, restricted_to}
 use Rattle.silo_model.specs.Opening.{Setup, opening}
-use Rattle.silo_model.specs.Journal.{machine_all_done, all_done, LeadsTo}
+use Rattle.silo_model.specs.Journal.{all_done_by, machine_all_done, all_done, LeadsTo}
 use Rattle.silo_model.specs.Laws.{OwnPart, OtherParts, NotNow, RunsOn, JournalsReplay, JournalsGrow, PartsLead}
+use Rattle.silo_model.proofs.Tests.{on_test}
 use Rattle.silo_model.proofs.Sound.{IsSound}
 use Rattle.silo_model.proofs.Proper.{AllTo}
 use Rattle.silo_model.proofs.SharedSteps.{shared_leaves}
@@ -25,11 +26,13 @@ use Rattle.silo_model.proofs.Opening.{opening_sound, opening_shown}
 
 -- ---- from any whole
 
-all_done_sound : (logic : Logic) (w after : Whole) (steps : List Step) → IsSound w → all_done logic w steps ≡ Some after → IsSound after
-all_done_sound logic w after [] sound e = subst IsSound (same_Some w after e) sound
-all_done_sound logic w after (s ∷ steps) sound e =
-    let next = some_from_and_then (λ x. all_done logic x steps) (whole_step logic w s) after e in
-    all_done_sound logic next.0 after steps (isolation.step_sound logic w next.0 s sound next.1) next.2
+-- what each step that is done keeps is kept by all of them
+pub all_keep : {M : Type 0} (step : M → Step → Option M) (P : M → Type 0) → ((m next : M) (s : Step) → P m → step m s ≡ Some next → P next)
+    → (m after : M) (steps : List Step) → P m → all_done_by step m steps ≡ Some after → P after
+all_keep step P keeps m after [] holds e = subst P (same_Some m after e) holds
+all_keep step P keeps m after (s ∷ steps) holds e =
+    let next = some_from_and_then (λ x. all_done_by step x steps) (step m s) after e in
+    all_keep step P keeps next.0 after steps (keeps m next.0 s holds next.1) next.2
 
 all_done_run : (logic : Logic) (w after : Whole) (steps : List Step) → all_done logic w steps ≡ Some after → whole_run logic w steps ≡ after
 all_done_run logic w after [] e = same_Some w after e
@@ -46,7 +49,8 @@ all_done_grown logic first w after (r ∷ journal) s e step =
 -- ---- from the opening
 
 pub journal_sound : (logic : Logic) (setup : Setup) (journal : List Step) (w : Whole) → LeadsTo logic setup journal w → IsSound w
-journal_sound logic setup journal w leads = all_done_sound logic (opening setup) w journal (opening_sound setup) leads
+journal_sound logic setup journal w leads =
+    all_keep (whole_step logic) IsSound (isolation.step_sound logic) (opening setup) w journal (opening_sound setup) leads
 
 -- no step is done yet
 pub journals_begin : (logic : Logic) (setup : Setup) → LeadsTo logic setup [] (opening setup)
@@ -84,12 +88,11 @@ struck_done : (logic : Logic) (tenant : List ℕ) (w after : Whole) (steps : Lis
 struck_done logic tenant w after [] sound e = ap (λ (x : Whole). Some (shown_to tenant x)) (same_Some w after e)
 struck_done logic tenant w after (s ∷ steps) sound e =
     let next = some_from_and_then (λ x. all_done logic x steps) (whole_step logic w s) after e in
-    by_concern (concerns tenant s) refl next.0 next.1 (struck_done logic tenant next.0 after steps (isolation.step_sound logic w next.0 s sound next.1) next.2)
-  where
-    by_concern : (b : Bool) → concerns tenant s ≡ b → (next : Whole) → whole_step logic w s ≡ Some next → machine_all_done logic (shown_to tenant next) (restricted_to tenant steps) ≡ Some (shown_to tenant after)
-        → machine_all_done logic (shown_to tenant w) (cond b (s ∷ restricted_to tenant steps) (restricted_to tenant steps)) ≡ Some (shown_to tenant after)
-    by_concern true is next step rest = ap (option_and_then (λ m. machine_all_done logic m (restricted_to tenant steps))) (isolation.own_part logic w s tenant next sound is step) ∙ rest
-    by_concern false is next step rest = ap (λ m. machine_all_done logic m (restricted_to tenant steps)) (sym (isolation.other_parts logic w s tenant next sound is step)) ∙ rest
+    let rest = struck_done logic tenant next.0 after steps (isolation.step_sound logic w next.0 s sound next.1) next.2 in
+    let own : List Step = restricted_to tenant steps in
+    on_test (λ b. machine_all_done logic (shown_to tenant w) (cond b (s ∷ own) own) ≡ Some (shown_to tenant after)) (concerns tenant s)
+    (λ is. ap (option_and_then (λ m. machine_all_done logic m own)) (isolation.own_part logic w s tenant next.0 sound is next.1) ∙ rest)
+    (λ is. ap (λ m. machine_all_done logic m own) (sym (isolation.other_parts logic w s tenant next.0 sound is next.1)) ∙ rest)
 
 pub parts_lead : PartsLead
 parts_lead logic setup journal w tenant leads =

@@ -8,6 +8,7 @@ use Rattle.silo_model.specs.Machine.{Entry}
 use Rattle.silo_model.specs.Effect.{Change, put, drop}
 use Rattle.silo_model.specs.Idle.{is_ready, is_idle}
 use Rattle.silo_model.specs.Turns.{stays_or_goes}
+use Rattle.silo_model.proofs.Tests.{on_test}
 
 module _ (e : Entry) where
   -- an idle entry is ready, no request waits, and no turn is open
@@ -22,11 +23,7 @@ module _ (e : Entry) where
 
   -- what holds where it goes and where it stays
   pub stays_or_goes_by : (P : Change Entry → Type 0) → (e.resting && is_idle e ≡ true → P drop) → (e.resting && is_idle e ≡ false → P (put e)) → P (stays_or_goes e)
-  stays_or_goes_by P goes stays = by_case (e.resting && is_idle e) refl
-    where
-      by_case : (b : Bool) → e.resting && is_idle e ≡ b → P (by_test b)
-      by_case true is = goes is
-      by_case false is = stays is
+  stays_or_goes_by P goes stays = on_test (λ b. P (by_test b)) (e.resting && is_idle e) goes stays
 
   pub resting_goes : e.resting ≡ true → is_idle e ≡ true → stays_or_goes e ≡ drop
   resting_goes rests idle = ap by_test (and_from e.resting (is_idle e) rests idle)

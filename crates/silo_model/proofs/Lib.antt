@@ -1,3 +1,4 @@
+pub mod Tests
 pub mod Changes
 pub mod Contexts
 pub mod TurnMaps

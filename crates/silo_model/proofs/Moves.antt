@@ -9,6 +9,7 @@ use Rattle.finite_maps.proofs.Maps.{get-none, get-insert_same}
 use Rattle.std.specs.FinMap as map
 use Rattle.std.proofs.lemmas.List.Sums.{sum_by-cons, sum_by-append, sum_by_push}
 use Rattle.std.proofs.lemmas.Option.{none-some}
+use Rattle.std.proofs.lemmas.Bool.{false_from_ne_true}
 use Rattle.grain_id.specs.Names.{Grain}
 use Rattle.request_codec.specs.Tree.{Tree}
 use Rattle.request_codec.specs.Call as codec
@@ -29,6 +30,7 @@ use Rattle.silo_model.specs.Idle.{is_ready}
 use Rattle.silo_model.specs.Exclusive.{turn_of_first, first_waiting}
 use Rattle.silo_model.proofs.Changes.{OfPut}
 use Rattle.silo_model.proofs.TurnMaps.{Turns}
+use Rattle.silo_model.proofs.Tests.{on_test}
 use Rattle.silo_model.proofs.EffectKinds.{Role, asks, enters, begins, ends, role_of, Remains, untouched, without, Stores, IsLeft, stays, goes, Does, tells, pokes, accepts, goes_on, unloads, opens, closes}
 use Rattle.silo_model.proofs.Fair.{held, IsFairEntry, FrontIsNew, same_number, one_less, one_more, none_left, no_turns, still_open, idle_entry, closed_entry, may_with, opened_entry}
 
@@ -240,11 +242,10 @@ module _ (logic : Logic) (s : Context) (g : Grain) (e : Entry) (is : s.entry ≡
     where
       -- the number is new, so no turn that is open goes
       kept : (n : ℕ) (q : Request) → map.get e.turns n ≡ Some q → map.get (map.insert e.turns first.number first) n ≡ Some q
-      kept n q open_turn = map.get-insert nat_cmp_total e.turns first.number first n ∙ past (eq_by_cmp nat_cmp n first.number) refl
-        where
-          past : (b : Bool) → eq_by_cmp nat_cmp n first.number ≡ b → cond b (Some first) (map.get e.turns n) ≡ Some q
-          past true tied = absurd (none-some q (sym (sym (ap (map.get e.turns) (sym (same_number n first.number tied)) ∙ open_turn) ∙ new)))
-          past false tied = open_turn
+      kept n q open_turn =
+          map.get-insert nat_cmp_total e.turns first.number first n
+          ∙ on_test (λ b. cond b (Some first) (map.get e.turns n) ≡ Some q) (eq_by_cmp nat_cmp n first.number)
+          (λ tied. absurd (none-some q (sym new ∙ ap (map.get e.turns) (sym (same_number n first.number tied)) ∙ open_turn))) (λ _. open_turn)
 
   -- ---- closing a turn
 
@@ -272,11 +273,9 @@ module _ (logic : Logic) (s : Context) (g : Grain) (e : Entry) (is : s.entry ≡
     -- a turn that asks for the storage isn't one that only reads, and so was alone
     was_alone : ReadersAskNothing logic → Stores logic g request → map.len (map.remove e.turns request.number) ≡ 0
     was_alone law stores =
-        none_left e.turns request.number request there (fair.alone request.number request there (by_kind (reads logic g request) refl))
-      where
-        by_kind : (b : Bool) → reads logic g request ≡ b → b ≡ false
-        by_kind true only = absurd (stores.1 (law g.kind request.call.method stores.0 request.call.argument only))
-        by_kind false only = refl
+        none_left e.turns request.number request there
+        (fair.alone request.number request there
+        (false_from_ne_true (reads logic g request) (λ only. stores.1 (law g.kind request.call.method stores.0 request.call.argument only))))
 
     none_open : ReadersAskNothing logic → (map.len (map.remove e.turns request.number) ≡ 0) ⊎ Stores logic g request
         → map.len (map.remove e.turns request.number) ≡ 0

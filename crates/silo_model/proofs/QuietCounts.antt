@@ -2,7 +2,7 @@
 use Rattle.std.proofs.Common.{◌≡◌, ℕ, ◌+◌, ◌≤◌, Bool, true, false, cond, List, [], length, Option, Some, None, refl, ap, sym, ◌∙◌, arith}
 use Rattle.std.proofs.lemmas.List.{nil_from_length}
 use Rattle.std.proofs.lemmas.List.Sums.{sum_by-append}
-use Rattle.std.proofs.lemmas.Option.{none-some}
+use Rattle.finite_maps.proofs.Options.{some_if_passes}
 use Rattle.std.specs.FinMap as map
 use Rattle.finite_maps.proofs.Totals.{at, total, total-remove, total_alike}
 use Rattle.finite_maps.proofs.Sums.{sum_zero, sum_one, sum_alike}
@@ -14,6 +14,7 @@ use Rattle.silo_model.specs.Whole.{Whole, is_of, shown_to}
 use Rattle.silo_model.specs.Settled.{pending_at, all_pending}
 use Rattle.silo_model.specs.Pending.{sends_of, AllQuiet, pending_in, sent_in, QuietByCounts}
 use Rattle.silo_model.proofs.Contexts.{get-own, shown_account}
+use Rattle.silo_model.proofs.Tests.{on_found}
 use Rattle.silo_model.proofs.Fair.{held, pend, within_all}
 use Rattle.silo_model.proofs.FairRuns.{pending_weight}
 
@@ -35,11 +36,8 @@ shown_entry w g e found = get-own w.entries g.tenant g refl ∙ found
 
 entry_shown : (w : Whole) (tenant : List ℕ) (g : Grain) (e : Entry) → map.get (shown_to tenant w).entries g ≡ Some e → map.get w.entries g ≡ Some e
 unfolding shown_to
-entry_shown w tenant g e found = kept (is_of tenant g) (map.get w.entries g) (sym (get-part w.entries (is_of tenant) g) ∙ found)
-  where
-    kept : (b : Bool) (o : Option Entry) → cond b o None ≡ Some e → o ≡ Some e
-    kept true o h = h
-    kept false o h = absurd (none-some e h)
+entry_shown w tenant g e found =
+    (some_if_passes (is_of tenant g) (map.get w.entries g) e (sym (get-part w.entries (is_of tenant) g) ∙ found)).1
 
 entries_quiet : (w : Whole) → AllQuiet w → pending_in w ≡ 0
 entries_quiet w quiet = in_weighs w ∙ zero_entries (held (λ q. 1)) w.entries (λ g e found.
@@ -57,9 +55,10 @@ within_accounts w tenant a found =
     let f : Account → ℕ = λ x. length x.sends in
     omega (arith, ap (λ o. total f (map.remove w.accounts tenant) + at f o) (sym found) ∙ total-remove text_cmp_total text_cmp_exact f w.accounts tenant)
 
-account_quiet : (w : Whole) → sent_in w ≡ 0 → (tenant : List ℕ) (account : Option Account) → map.get w.accounts tenant ≡ account → sends_of account ≡ []
-account_quiet w none tenant None found = refl
-account_quiet w none tenant (Some a) found = nil_from_length a.sends (omega (arith, none, within_accounts w tenant a found))
+account_quiet : (w : Whole) → sent_in w ≡ 0 → (tenant : List ℕ) → sends_of (map.get w.accounts tenant) ≡ []
+account_quiet w none tenant =
+    on_found (λ account. sends_of account ≡ []) (map.get w.accounts tenant) (λ _. refl)
+    (λ a found. nil_from_length a.sends (omega (arith, none, within_accounts w tenant a found)))
 
 part_quiet : (w : Whole) → pending_in w ≡ 0 → (tenant : List ℕ) → all_pending (shown_to tenant w) ≡ []
 part_quiet w none tenant =
@@ -72,6 +71,6 @@ quiet_by_counts w = (
   λ quiet. (entries_quiet w quiet, sends_quiet w quiet),
   λ none tenant. record {
     nothing_pending = part_quiet w none.0 tenant;
-    nothing_sent = ap sends_of (shown_account w tenant) ∙ account_quiet w none.1 tenant (map.get w.accounts tenant) refl;
+    nothing_sent = ap sends_of (shown_account w tenant) ∙ account_quiet w none.1 tenant;
   },
 )

@@ -9,7 +9,7 @@ use Rattle.std.proofs.lemmas.Option.{none-some}
 use Rattle.finite_maps.proofs.Maps.{get-none, get-insert_same, get-remove_same}
 use Rattle.grain_id.specs.Names.{Grain}
 use Rattle.grain_id.proofs.Order.{grain_cmp_total, grain_cmp_exact}
-use Rattle.grain_kinds.specs.Logic.{Logic, Plan, rest}
+use Rattle.grain_kinds.specs.Logic.{Logic, Plan, Keep, rest}
 use Rattle.silo_event.specs.declared.step.Step.TheVariants.{End}
 use Rattle.silo_model.specs.Machine.{Entry, Phase, Request}
 use Rattle.silo_model.specs.Calls.{reply_to, with_request}
@@ -78,14 +78,30 @@ pub resting_is_used : RestingIsUsed
 resting_is_used logic setup journal w grain e leads found rests idle =
     true≢false (sym (and_from e.resting (is_idle e) rests (idle_is e idle)) ∙ journal_each IsUsed logic (puts_used logic) setup journal w leads grain e found)
 
--- ---- the end of the last turn
+-- ---- the end of a turn that says something of the activation
 
-module _ (logic : Logic) (w : Whole) (g : Grain) (turn : ℕ) (ending : IsEnding logic w g turn rest) (last : IsLast ending.entry ending.request) where
+module _ (logic : Logic) (w : Whole) (g : Grain) (turn : ℕ) (said : Keep) (ending : IsEnding logic w g turn said) where
   abbrev plan : Plan
   plan = plan_of logic g ending.state ending.request
 
+  abbrev pub entry_left : Entry
+  entry_left = closed_entry w.clock ending.entry ending.request plan.state ending.version plan.keep
+
+  abbrev pub ended : Whole
+  ended = record w {
+    accounts = change_at w.accounts g.tenant (with_sends g (map.get w.accounts g.tenant) plan.sends);
+    entries = change_at w.entries g (stays_or_goes entry_left);
+    replies = w.replies ++ reply_to ending.request.sender (outcome_of plan.outcome);
+  }
+
+  pub end_is : whole_step logic w (End g turn) ≡ Some ended
+  end_is = end_turn logic w g turn ending.entry ending.found ending.request ending.open_turn ending.state ending.version ending.phase plan refl ending.asks
+
+-- ---- the end of the last turn
+
+module _ (logic : Logic) (w : Whole) (g : Grain) (turn : ℕ) (ending : IsEnding logic w g turn rest) (last : IsLast ending.entry ending.request) where
   abbrev left : Entry
-  left = closed_entry w.clock ending.entry ending.request plan.state ending.version plan.keep
+  left = entry_left logic w g turn rest ending
 
   left_idle : is_idle left ≡ true
   left_idle =
@@ -95,20 +111,10 @@ module _ (logic : Logic) (w : Whole) (g : Grain) (turn : ℕ) (ending : IsEnding
   left_goes : stays_or_goes left ≡ drop
   left_goes = resting_goes left (ap (λ said. resting_by said ending.entry.resting) ending.says) left_idle
 
-  abbrev gone : Whole
-  gone = record w {
-    accounts = change_at w.accounts g.tenant (with_sends g (map.get w.accounts g.tenant) plan.sends);
-    entries = change_at w.entries g (stays_or_goes left);
-    replies = w.replies ++ reply_to ending.request.sender (outcome_of plan.outcome);
-  }
-
-  end_is : whole_step logic w (End g turn) ≡ Some gone
-  end_is = end_turn logic w g turn ending.entry ending.found ending.request ending.open_turn ending.state ending.version ending.phase plan refl ending.asks
-
-  gone_is : map.get gone.entries g ≡ None
+  gone_is : map.get (ended logic w g turn rest ending).entries g ≡ None
   gone_is = ap (λ c. map.get (change_at w.entries g c) g) left_goes ∙ get-remove_same grain_cmp_total grain_cmp_exact w.entries g
 
 pub resting_goes_at_end : RestingGoes
 resting_goes_at_end logic w g turn ending last =
-    let after = gone logic w g turn ending last in
-    (after, end_is logic w g turn ending last, gone_is logic w g turn ending last, refl, loads_row logic after g)
+    let after = ended logic w g turn rest ending in
+    (after, end_is logic w g turn rest ending, gone_is logic w g turn ending last, refl, loads_row logic after g)

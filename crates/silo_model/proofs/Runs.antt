@@ -6,6 +6,7 @@ use Rattle.silo_model.specs.Machine.{Machine}
 use Rattle.silo_model.specs.Step.{machine_step}
 use Rattle.silo_model.specs.Whole.{Whole, shown_to, whole_step}
 use Rattle.silo_model.specs.Run.{run_by, done_by, if_possible, machine_run, whole_run, concerns, restricted_to}
+use Rattle.silo_model.proofs.Tests.{on_test, on_found}
 use Rattle.silo_model.proofs.Sound.{IsSound}
 use Rattle.silo_model.proofs.Isolation.{own_part, other_parts, not_now, step_sound}
 
@@ -17,28 +18,21 @@ abbrev pub machine_after : Logic → Machine → Step → Machine
 machine_after logic m s = unwrap_or (machine_step logic m s) m
 
 module _ (logic : Logic) (w : Whole) (s : Step) (sound : IsSound w) where
-  own_next : (tenant : List ℕ) → concerns tenant s ≡ true → (r : Option Whole) → whole_step logic w s ≡ r → shown_to tenant (unwrap_or r w) ≡ machine_after logic (shown_to tenant w) s
-  own_next tenant concerned None e = sym (ap (λ o. unwrap_or o (shown_to tenant w)) (not_now logic w s tenant concerned e))
-  own_next tenant concerned (Some after) e = sym (ap (λ o. unwrap_or o (shown_to tenant w)) (own_part logic w s tenant after sound concerned e))
-
-  other_next : (tenant : List ℕ) → concerns tenant s ≡ false → (r : Option Whole) → whole_step logic w s ≡ r → shown_to tenant (unwrap_or r w) ≡ shown_to tenant w
-  other_next tenant apart None e = refl
-  other_next tenant apart (Some after) e = other_parts logic w s tenant after sound apart e
-
-  next_by : (tenant : List ℕ) (b : Bool) → concerns tenant s ≡ b → shown_to tenant (whole_after logic w s) ≡ cond b (machine_after logic (shown_to tenant w) s) (shown_to tenant w)
-  next_by tenant true is = own_next tenant is (whole_step logic w s) refl
-  next_by tenant false is = other_next tenant is (whole_step logic w s) refl
-
   -- what a tenant is shown after a step
   pub next_shown : (tenant : List ℕ) → shown_to tenant (whole_after logic w s) ≡ cond (concerns tenant s) (machine_after logic (shown_to tenant w) s) (shown_to tenant w)
-  next_shown tenant = next_by tenant (concerns tenant s) refl
-
-  next_sound_by : (r : Option Whole) → whole_step logic w s ≡ r → IsSound (unwrap_or r w)
-  next_sound_by None e = sound
-  next_sound_by (Some after) e = step_sound logic w after s sound e
+  next_shown tenant =
+      let m : Machine = shown_to tenant w in
+      on_test (λ b. shown_to tenant (whole_after logic w s) ≡ cond b (machine_after logic m s) m) (concerns tenant s)
+      (λ is.
+      on_found (λ r. shown_to tenant (unwrap_or r w) ≡ machine_after logic m s) (whole_step logic w s)
+      (λ e. sym (ap (λ o. unwrap_or o m) (not_now logic w s tenant is e)))
+      (λ after e. sym (ap (λ o. unwrap_or o m) (own_part logic w s tenant after sound is e))))
+      (λ is.
+      on_found (λ r. shown_to tenant (unwrap_or r w) ≡ m) (whole_step logic w s) (λ _. refl)
+      (λ after e. other_parts logic w s tenant after sound is e))
 
   pub next_sound : IsSound (whole_after logic w s)
-  next_sound = next_sound_by (whole_step logic w s) refl
+  next_sound = on_found (λ r. IsSound (unwrap_or r w)) (whole_step logic w s) (λ _. sound) (λ after e. step_sound logic w after s sound e)
 
 run_of_cond : (logic : Logic) (b : Bool) (m : Machine) (s : Step) (steps : List Step) → machine_run logic (cond b (machine_after logic m s) m) steps ≡ machine_run logic m (cond b (s ∷ steps) steps)
 run_of_cond logic true m s steps = refl

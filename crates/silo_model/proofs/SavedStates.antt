@@ -1,5 +1,5 @@
 -- Which steps leave a grain's row, and so that a saved state comes back.
-use Rattle.std.proofs.Common.{◌≡◌, ℕ, false, List, [], ◌∷◌, Option, Some, None, refl, ap, sym, ◌∙◌, true≢false, inl, inr}
+use Rattle.std.proofs.Common.{◌≡◌, ℕ, false, List, [], ◌∷◌, Option, Some, None, refl, ap, sym, ◌∙◌, true≢false, inl, inr, ⊎_elim}
 use Rattle.std.specs.Prelude.{◌⊎◌, Ok, Err, if◌then◌else◌}
 use Rattle.std.specs.List.{list_any}
 use Rattle.std.specs.Ordering.{eq_by_cmp}
@@ -13,7 +13,6 @@ use Rattle.grain_id.proofs.Order.{eq_by_cmp-Decides, grain_cmp_total, grain_cmp_
 use Rattle.request_codec.specs.Tree.{Tree}
 use Rattle.grain_storage.specs.declared.row.Row.{Row}
 use Rattle.grain_storage.specs.Rows.{Rows, stale, spent, next_version, version_of, content_or, is_stale, is_spent, changed}
-use Rattle.silo_event.specs.Owner.{owner_of}
 use Rattle.silo_event.specs.declared.step.Step.{Step}
 use Rattle.silo_event.specs.declared.step.Step.TheVariants.{Load, Store}
 use Rattle.grain_kinds.specs.Logic.{Logic, writes_row, same}
@@ -28,7 +27,7 @@ use Rattle.silo_model.specs.Resting.{ComesBack}
 use Rattle.silo_model.proofs.Changes.{get-change_other}
 use Rattle.silo_model.proofs.EffectKinds.{Role, Touches, Does, pokes, closes}
 use Rattle.silo_model.proofs.SharedSteps.{shared_leaves}
-use Rattle.silo_model.proofs.Isolation.{place_in, did, did_does, shared_by}
+use Rattle.silo_model.proofs.Isolation.{place_in, by_owner, did_does}
 use Rattle.silo_model.proofs.EntrySteps.{load_loading}
 use Rattle.silo_model.proofs.TurnSteps.{seen_at, store_done}
 
@@ -42,11 +41,8 @@ Misses grain g e = (e.row ≡ keep) ⊎ ((q : Grain) × (grain ≡ Some q) × (g
 does_miss : (logic : Logic) (s : Context) (step : Step) (g : Grain) → touches_row g step ≡ false
     → {role : Role} {grain : Option Grain} {e : Effect} → Does logic s step role grain e → Misses grain g e
 does_miss logic s step g apart (pokes p q row outcome own touches) = inr (q, refl, sym (touches g) ∙ apart)
-does_miss logic s step g apart (closes q turn e request left sends row outcome found open_turn is_left by_sends by_row) = by_case by_row
-  where
-    by_case : (row ≡ keep) ⊎ Touches step q → (row ≡ keep) ⊎ ((r : Grain) × (Some q ≡ Some r) × (grain_eq r g ≡ false))
-    by_case (inl keeps) = inl keeps
-    by_case (inr touches) = inr (q, refl, sym (touches g) ∙ apart)
+does_miss logic s step g apart (closes q turn e request left sends row outcome found open_turn is_left by_sends by_row) =
+    ⊎_elim (λ keeps. inl keeps) (λ touches. inr (q, refl, sym (touches g) ∙ apart)) by_row
 does_miss logic s step g apart _ = inl refl
 
 -- ---- rows of the whole
@@ -63,19 +59,16 @@ missed_at rows (Some q) g e (inr other) =
     ap (λ p. map.get (changed_at rows p e.row) g) other.1
     ∙ get-change_other grain_cmp_total grain_cmp_exact rows other.0 g e.row (another_key g other.0 other.2)
 
-row_stays_by : (logic : Logic) (w after : Whole) (s : Step) (g : Grain) (o : Option (List ℕ)) → owner_of s ≡ o → whole_step logic w s ≡ Some after → touches_row g s ≡ false → map.get after.rows g ≡ map.get w.rows g
-unfolding spread
-row_stays_by logic w after s g None is step apart =
-    ap (λ (r : Rows). map.get r g) (shared_leaves w after s (sym (shared_by logic w s is) ∙ step)).rows
-row_stays_by logic w after s g (Some owner) is step apart =
-    let d = did logic w after s owner is step in
-    let place = place_in w owner s in
-    let misses = does_miss logic (context_at (shown_to owner w) place) s g apart (did_does logic w after s owner d) in
-    sym (ap (λ (x : Whole). map.get x.rows g) d.leaves) ∙ missed_at w.rows place g d.what misses
-
 -- a step that may not change the grain's row leaves it
 pub row_stays : (logic : Logic) (w after : Whole) (s : Step) (g : Grain) → whole_step logic w s ≡ Some after → touches_row g s ≡ false → map.get after.rows g ≡ map.get w.rows g
-row_stays logic w after s g step apart = row_stays_by logic w after s g (owner_of s) refl step apart
+unfolding spread
+row_stays logic w after s g step apart =
+    by_owner logic w after s (map.get after.rows g ≡ map.get w.rows g) step
+    (λ nobodys. ap (λ (r : Rows). map.get r g) (shared_leaves w after s nobodys).rows)
+    (λ owner is d.
+    let place = place_in w owner s in
+    let misses = does_miss logic (context_at (shown_to owner w) place) s g apart (did_does logic w after s owner d) in
+    sym (ap (λ (x : Whole). map.get x.rows g) d.leaves) ∙ missed_at w.rows place g d.what misses)
 
 rows_stay : (logic : Logic) (w after : Whole) (steps : List Step) (g : Grain) → all_done logic w steps ≡ Some after → list_any (touches_row g) steps ≡ false → map.get after.rows g ≡ map.get w.rows g
 rows_stay logic w after [] g e apart = ap (λ (x : Whole). map.get x.rows g) (sym (same_Some w after e))

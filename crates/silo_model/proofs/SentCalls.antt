@@ -4,7 +4,7 @@ use Rattle.std.specs.Prelude.{nat_lt, option_map, if◌then◌else◌}
 use Rattle.std.specs.List.{list_any}
 use Rattle.std.specs.Ordering.{eq_by_cmp}
 use Rattle.std.specs.FinMap as map
-use Rattle.std.proofs.lemmas.Bool.{or_parts, lt-ltb, ltb-true}
+use Rattle.std.proofs.lemmas.Bool.{or_parts, lt-ltb, ltb-true, false_from_ne_true}
 use Rattle.finite_maps.proofs.Maps.{get-insert_same}
 use Rattle.grain_id.specs.Names.{Grain, grain_cmp, grain_eq}
 use Rattle.grain_id.proofs.Order.{eq_by_cmp-Decides, grain_cmp_total, grain_cmp_exact, grain_eq_decides, text_cmp_total, text_cmp_exact}
@@ -64,11 +64,9 @@ module _ (logic : Logic) (w : Whole) (g : Grain) (turn : ℕ) (a : Account) (o :
       }))
 
   apart : eq_by_cmp grain_cmp o.target g ≡ false
-  apart = by_test (eq_by_cmp grain_cmp o.target g) refl
-    where
-      by_test : (b : Bool) → eq_by_cmp grain_cmp o.target g ≡ b → b ≡ false
-      by_test true tied = absurd (sending.another ((eq_by_cmp-Decides grain_cmp_total grain_cmp_exact o.target g).0 tied))
-      by_test false tied = refl
+  apart =
+      false_from_ne_true (eq_by_cmp grain_cmp o.target g)
+      (λ tied. sending.another ((eq_by_cmp-Decides grain_cmp_total grain_cmp_exact o.target g).0 tied))
 
   -- there is room also if the sender goes
   room_left : nat_lt (active_of sent g.tenant) a.limits.activations ≡ true

@@ -11,7 +11,6 @@ use Rattle.finite_maps.proofs.Options.{some_from_and_then}
 use Rattle.grain_id.specs.Names.{Grain, grain_cmp}
 use Rattle.grain_id.proofs.Order.{eq_by_cmp-Decides, grain_cmp_total, grain_cmp_exact, grain_eq_decides}
 use Rattle.idle_collector.specs.Ages.{kind_age}
-use Rattle.silo_event.specs.Owner.{owner_of}
 use Rattle.silo_event.specs.declared.step.Step.{Step}
 use Rattle.silo_event.specs.declared.step.Step.TheVariants.{Store, End, Abandon, Tick, Sweep}
 use Rattle.grain_kinds.specs.Logic.{Logic, Plan, stay}
@@ -28,11 +27,13 @@ use Rattle.silo_model.proofs.ClockSteps.{sweep_is}
 use Rattle.silo_model.proofs.Contexts.{get-own}
 use Rattle.silo_model.proofs.EffectKinds.{Role, asks, ends, role_of, owner_is, Does, tells, pokes, accepts, goes_on, unloads, opens, closes}
 use Rattle.silo_model.proofs.IdleEntries.{due_goes, used_stays}
-use Rattle.silo_model.proofs.Isolation.{place_in, did, did_does, shared_by}
+use Rattle.silo_model.proofs.Isolation.{place_in, by_owner, did_does}
 use Rattle.silo_model.proofs.Leaving.{awake_stays}
 use Rattle.silo_model.proofs.Proper.{IsAt, does_placed}
 use Rattle.silo_model.proofs.SameAges.{step_on}
-use Rattle.silo_model.proofs.TurnSteps.{end_turn}
+use Rattle.silo_model.proofs.RestingEntries.{entry_left, ended, end_is}
+use Rattle.silo_model.proofs.SharedSteps.{after_shared}
+use Rattle.silo_model.proofs.Tests.{either_way}
 
 -- ---- an entry that is ready and stays
 
@@ -118,38 +119,28 @@ module _ (moment : ℕ) (g : Grain) where
 
     taken_at : (owner : List ℕ) (e : Effect) (place : Option Grain) → TakenAt owner e place
     unfolding spread
-    taken_at owner e None own does = stays
-    taken_at owner e (Some q) own does = by_key (eq_by_cmp grain_cmp g q) refl own does
-      where
-        by_key : (b : Bool) → eq_by_cmp grain_cmp g q ≡ b → TakenAt owner e (Some q)
-        by_key true tied =
-            subst (λ (k : Grain). TakenAt owner e (Some k)) ((eq_by_cmp-Decides grain_cmp_total grain_cmp_exact g q).0 tied)
-            (λ own does. at_grain owner e e.entry refl own does)
-        by_key false other =
-            λ own does. (stays.0, get-change_other grain_cmp_total grain_cmp_exact w.entries q g e.entry other ∙ stays.1, stays.2)
-
-    tick_stays : (now : ℕ) (b : Bool) → (if b then Some (record w { clock = now }) else None) ≡ Some after → StaysIn after
-    tick_stays now true h = subst StaysIn (same_Some (record w { clock = now }) after h) stays
-    tick_stays now false h = absurd (none-some after h)
+    taken_at owner e None = λ own does. stays
+    taken_at owner e (Some q) =
+        either_way (eq_by_cmp grain_cmp g q)
+        (λ tied.
+        subst (λ (k : Grain). TakenAt owner e (Some k)) ((eq_by_cmp-Decides grain_cmp_total grain_cmp_exact g q).0 tied)
+        (λ own does. at_grain owner e e.entry refl own does))
+        (λ other own does. (stays.0, get-change_other grain_cmp_total grain_cmp_exact w.entries q g e.entry other ∙ stays.1, stays.2))
 
     module _ (before : w.clock < moment) where
       not_due : (age : ℕ) (e : Entry) → e.until ≡ moment → w.clock < due_moment age e
       not_due age e until = omega (arith, before, until)
 
-      shared_stays : (t : Step) → whole_shared_step w t ≡ Some after → StaysIn after
-      shared_stays (Tick now) h = tick_stays now (nat_le w.clock now) h
-      shared_stays Sweep h =
-          subst StaysIn (same_Some (whole_swept w) after h)
-          (stays.0, used_stays w g stays.0 stays.1 (λ idle. not_due _ stays.0 stays.2.until.until), stays.2)
-      shared_stays _ h = absurd (none-some after h)
-
-      step_stays : (o : Option (List ℕ)) → owner_of s ≡ o → whole_step logic w s ≡ Some after → StaysIn after
-      step_stays None is h = shared_stays s (sym (shared_by logic w s is) ∙ h)
-      step_stays (Some owner) is h =
-          let d = did logic w after s owner is h in
+      step_stays : whole_step logic w s ≡ Some after → StaysIn after
+      step_stays h =
+          by_owner logic w after s (StaysIn after) h
+          (after_shared w after StaysIn (λ now on. stays)
+          (stays.0, used_stays w g stays.0 stays.1 (λ idle. not_due _ stays.0 stays.2.until.until), stays.2) s)
+          (λ owner is d.
           let place = place_in w owner s in
           let does = did_does logic w after s owner d in
-          subst StaysIn d.leaves (taken_at owner d.what place (does_placed logic _ s owner (owner_is s ∙ is) (shown_tenant w owner place) does) does)
+          subst StaysIn d.leaves
+          (taken_at owner d.what place (does_placed logic _ s owner (owner_is s ∙ is) (shown_tenant w owner place) does) does))
 
   -- ---- a run
 
@@ -166,27 +157,14 @@ module _ (moment : ℕ) (g : Grain) where
       let on = step_on logic w next.0 s next.1 in
       let held : HoldsOn next.0 = λ before.
       let first : w.clock < moment = omega (arith, on.clock, before) in
-      step_stays logic w next.0 s tests.0 (holds first) first (owner_of s) refl next.1 in
+      step_stays logic w next.0 s tests.0 (holds first) first next.1 in
       holds_on logic next.0 after steps held next.2 tests.1
 
 -- ---- the laws
 
 module _ (logic : Logic) (w : Whole) (g : Grain) (turn time : ℕ) (ending : IsEnding logic w g turn (stay time)) where
-  abbrev plan : Plan
-  plan = plan_of logic g ending.state ending.request
-
   abbrev left : Entry
-  left = closed_entry w.clock ending.entry ending.request plan.state ending.version plan.keep
-
-  abbrev ended : Whole
-  ended = record w {
-    accounts = change_at w.accounts g.tenant (with_sends g (map.get w.accounts g.tenant) plan.sends);
-    entries = change_at w.entries g (stays_or_goes left);
-    replies = w.replies ++ reply_to ending.request.sender (outcome_of plan.outcome);
-  }
-
-  end_is : whole_step logic w (End g turn) ≡ Some ended
-  end_is = end_turn logic w g turn ending.entry ending.found ending.request ending.open_turn ending.state ending.version ending.phase plan refl ending.asks
+  left = entry_left logic w g turn (stay time) ending
 
   left_until : StaysUntil (w.clock + time) left
   left_until = record {
@@ -194,7 +172,7 @@ module _ (logic : Logic) (w : Whole) (g : Grain) (turn time : ℕ) (ending : IsE
     awake = ap (λ said. resting_by said ending.entry.resting) ending.says;
   }
 
-  left_stays : HoldsOn (w.clock + time) g ended
+  left_stays : HoldsOn (w.clock + time) g (ended logic w g turn (stay time) ending)
   left_stays before = (
     left,
     ap (λ c. map.get (change_at w.entries g c) g) (awake_stays left left_until.awake) ∙ get-insert_same grain_cmp_total grain_cmp_exact w.entries g left,
@@ -203,10 +181,12 @@ module _ (logic : Logic) (w : Whole) (g : Grain) (turn time : ℕ) (ending : IsE
 
 pub staying_stays : StayingStays
 staying_stays logic w g turn time ending = (
-  ended logic w g turn time ending,
-  end_is logic w g turn time ending,
+  ended logic w g turn (stay time) ending,
+  end_is logic w g turn (stay time) ending,
   λ steps later done apart before.
-      let held = holds_on (w.clock + time) g logic (ended logic w g turn time ending) later steps (left_stays logic w g turn time ending) done apart before in
+      let held =
+      holds_on (w.clock + time) g logic (ended logic w g turn (stay time) ending) later steps
+      (left_stays logic w g turn time ending) done apart before in
       (held.0, held.1, held.2.until),
 )
 

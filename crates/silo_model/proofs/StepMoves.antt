@@ -22,6 +22,7 @@ use Rattle.silo_model.specs.Effect.{Effect, Change, keep, put, drop, change_opti
 use Rattle.silo_model.specs.Idle.{is_ready, is_kept, kept_entries}
 use Rattle.silo_model.specs.Step.{grain_of, effect_of, shared_step, step_by, machine_step}
 use Rattle.silo_model.proofs.Changes.{OfPut, OfPutAt, changed_all}
+use Rattle.silo_model.proofs.Tests.{on_test}
 use Rattle.silo_model.proofs.Fair.{held, pend, one_if, numbered, IsFairEntry, IsFair, front_is_new}
 use Rattle.silo_model.proofs.EffectKinds.{role_of, effect_kind}
 use Rattle.silo_model.proofs.Moves.{replied, sent, Quiet, asked_by, count_of, IsPlaced, IsFairAt, SeesFair, Counted, NumbersMove, Moves, does_moves}
@@ -52,19 +53,16 @@ module _ (logic : Logic) (entries : Entries) (grain : Option Grain) (c : Change 
   -- the request's number is the next, where there is one
   new_number : (n : ℕ) (o : Option Request) → Counted o count after → ((at (numbered n) o ≡ 0) ⊎ ((at (numbered n) o ≡ 1) × (count < n))) × (count ≤ after)
   new_number n None same = (inl refl, omega arith)
-  new_number n (Some q) next = (by_test (nat_eq q.number n) refl, omega arith)
-    where
-      by_test : (b : Bool) → nat_eq q.number n ≡ b → (one_if b ≡ 0) ⊎ ((one_if b ≡ 1) × (count < n))
-      by_test true is = inr (refl, omega (arith, eqb-true q.number n is))
-      by_test false is = inl refl
+  new_number n (Some q) next = (
+    on_test (λ b. (one_if b ≡ 0) ⊎ ((one_if b ≡ 1) × (count < n))) (nat_eq q.number n)
+        (λ is. inr (refl, omega (arith, next, eqb-true q.number n is))) (λ _. inl refl),
+    omega arith,
+  )
 
   at_most_number : (n : ℕ) (o : Option Request) → Counted o count after → after < n → at (numbered n) o ≡ 0
   at_most_number n None same above = refl
-  at_most_number n (Some q) next above = by_test (nat_eq q.number n) refl
-    where
-      by_test : (b : Bool) → nat_eq q.number n ≡ b → one_if b ≡ 0
-      by_test true is = absurd (omega (arith, eqb-true q.number n is))
-      by_test false is = refl
+  at_most_number n (Some q) next above =
+      on_test (λ b. one_if b ≡ 0) (nat_eq q.number n) (λ is. absurd (omega (arith, next, above, eqb-true q.number n is))) (λ _. refl)
 
   changed_fair : OfPut (IsFairAt logic grain) c → IsFair logic after (changed_at entries grain c)
   changed_fair left = record {

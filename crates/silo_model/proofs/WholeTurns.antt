@@ -1,5 +1,5 @@
 -- How the open turns of all grains change where a step is done.
-use Rattle.std.proofs.Common.{◌≡◌, ◌≢◌, ℕ, Bool, true, false, cond, List, Option, Some, None, refl, ap, sym, ◌∙◌, subst, inl, inr}
+use Rattle.std.proofs.Common.{◌≡◌, ◌≢◌, ℕ, Bool, true, false, cond, List, Option, Some, None, refl, ap, sym, ◌∙◌, subst, inl, inr, ⊎_elim}
 use Rattle.std.specs.Prelude.{◌⊎◌, nat_le, if◌then◌else◌}
 use Rattle.std.specs.Ordering.{eq_by_cmp}
 use Rattle.std.specs.FinMap as map
@@ -22,10 +22,11 @@ use Rattle.silo_model.proofs.Changes.{WhereChanged, get-change_same, get-change_
 use Rattle.silo_model.proofs.Moves.{turn_in, KeepsTurns, ClosesTurn, OpensTurn, TurnsMove, does_moves}
 use Rattle.silo_model.proofs.StepMoves.{IsFairMachine, sees_fair, due_is_bare}
 use Rattle.silo_model.proofs.Contexts.{get-own}
-use Rattle.silo_model.proofs.SharedSteps.{AgeOf, get-kept}
+use Rattle.silo_model.proofs.SharedSteps.{AgeOf, get-kept, after_shared}
 use Rattle.silo_model.proofs.Sound.{IsSound}
+use Rattle.silo_model.proofs.Tests.{either_way}
 use Rattle.silo_model.proofs.Proper.{IsAt}
-use Rattle.silo_model.proofs.Isolation.{place_in, Did, did, did_does, did_proper, shared_by}
+use Rattle.silo_model.proofs.Isolation.{place_in, Did, did, did_does, did_proper, by_owner}
 
 abbrev pub AllFair : Logic → Whole → Type 0
 AllFair logic w = (tenant : List ℕ) → IsFairMachine logic (shown_to tenant w)
@@ -81,11 +82,10 @@ module _ (logic : Logic) (s : Step) (w : Whole) (owner : List ℕ) (e : Effect) 
         → MovesSeen place → TurnedBy place
     unfolding spread
     turned_at a None at own moves = inl (stays refl)
-    turned_at a (Some g) at own moves = by_key (eq_by_cmp grain_cmp h g) refl
-      where
-        by_key : (b : Bool) → eq_by_cmp grain_cmp h g ≡ b → TurnedBy (Some g)
-        by_key true tied = by_change a g e.entry at refl ((eq_by_cmp-Decides grain_cmp_total grain_cmp_exact h g).0 tied) own moves
-        by_key false apart = inl (stays (get-change_other grain_cmp_total grain_cmp_exact w.entries g h e.entry apart))
+    turned_at a (Some g) at own moves =
+        either_way (eq_by_cmp grain_cmp h g)
+        (λ tied. by_change a g e.entry at refl ((eq_by_cmp-Decides grain_cmp_total grain_cmp_exact h g).0 tied) own moves)
+        (λ apart. inl (stays (get-change_other grain_cmp_total grain_cmp_exact w.entries g h e.entry apart)))
 
 module _ (logic : Logic) (law : ReadersAskNothing logic) (w after : Whole) (s : Step) (sound : IsSound w) (fair : AllFair logic w)
     (step : whole_step logic w s ≡ Some after) where
@@ -107,44 +107,31 @@ module _ (logic : Logic) (law : ReadersAskNothing logic) (w after : Whole) (s : 
       ap (λ o. turn_in o n) (get-kept w.clock age_of w.entries h)
       ∙ kept_turn w.clock (age_of h.kind) (map.get w.entries h) (is_kept w.clock (age_of h.kind) (map.get w.entries h)) refl n q open_turn
 
-  tick_keeps : (now : ℕ) (b : Bool) → (if b then Some (record w { clock = now }) else None) ≡ Some after → (h : Grain) → KeepsTurns (map.get w.entries h) (map.get after.entries h)
-  tick_keeps now true is h = stays (ap (λ (x : Whole). map.get x.entries h) (sym (same_Some (record w { clock = now }) after is)))
-  tick_keeps now false is h = absurd (none-some after is)
-
-  shared_keep : (t : Step) → whole_shared_step w t ≡ Some after → (h : Grain) → KeepsTurns (map.get w.entries h) (map.get after.entries h)
-  shared_keep (Tick now) is h = tick_keeps now (nat_le w.clock now) is h
-  shared_keep Sweep is h = subst (λ (x : Whole). KeepsTurns (map.get w.entries h) (map.get x.entries h)) (same_Some (whole_swept w) after is) (sweep_keeps (kind_age w.ages w.age) h)
-  shared_keep _ is h = absurd (none-some after is)
-
   -- ---- every step
 
-  turned : (h : Grain) (o : Option (List ℕ)) → owner_of s ≡ o → Turned logic s h (map.get w.entries h) (map.get after.entries h)
-  turned h None is = inl (shared_keep s (sym (shared_by logic w s is) ∙ step) h)
-  turned h (Some owner) is =
-      let d = did logic w after s owner is step in
+  turned : (h : Grain) → Turned logic s h (map.get w.entries h) (map.get after.entries h)
+  turned h =
+      by_owner logic w after s (Turned logic s h (map.get w.entries h) (map.get after.entries h)) step
+      (λ nobodys.
+      inl (after_shared w after (λ x. KeepsTurns (map.get w.entries h) (map.get x.entries h)) (λ now on n q open_turn. open_turn)
+      (sweep_keeps (kind_age w.ages w.age) h) s nobodys))
+      (λ owner is d.
       subst (λ (x : Whole). Turned logic s h (map.get w.entries h) (map.get x.entries h)) d.leaves
       (turned_at logic s w owner d.what h (map.get w.accounts owner) (place_in w owner s) refl
-      (did_proper logic w after s owner is sound d).entry (moves_seen owner d))
+      (did_proper logic w after s owner is sound d).entry (moves_seen owner d)))
 
   -- a step that closes no turn leaves each open
   pub keeps_turns : ((old new : Option Entry) → TurnsMove logic s old new → KeepsTurns old new) → (h : Grain) → KeepsTurns (map.get w.entries h) (map.get after.entries h)
-  keeps_turns keeps h = by_case (turned h (owner_of s) refl)
-    where
-      by_case : Turned logic s h (map.get w.entries h) (map.get after.entries h)
-          → KeepsTurns (map.get w.entries h) (map.get after.entries h)
-      by_case (inl same) = same
-      by_case (inr moved) = keeps _ _ moved.1
+  keeps_turns keeps h = ⊎_elim (λ same. same) (λ moved. keeps _ _ moved.1) (turned h)
 
   -- and one that closes a turn each other
   pub closes_turn : (g : Grain) (turn : ℕ) → ((a : Option Account) → grain_of a s ≡ Some g)
       → ((old new : Option Entry) → TurnsMove logic s old new → ClosesTurn turn old new)
       → (h : Grain) (n : ℕ) (q : Request) → (h ≡ g → n ≢ turn) → turn_in (map.get w.entries h) n ≡ Some q
       → turn_in (map.get after.entries h) n ≡ Some q
-  closes_turn g turn at closes h n q apart open_turn = by_case (turned h (owner_of s) refl)
-    where
-      by_case : Turned logic s h (map.get w.entries h) (map.get after.entries h) → turn_in (map.get after.entries h) n ≡ Some q
-      by_case (inl same) = same n q open_turn
-      by_case (inr moved) = closes _ _ moved.1 n q (apart (same_Some h g (sym moved.0.1 ∙ at moved.0.0))) open_turn
+  closes_turn g turn at closes h n q apart open_turn =
+      ⊎_elim (λ same. same n q open_turn)
+      (λ moved. closes _ _ moved.1 n q (apart (same_Some h g (sym moved.0.1 ∙ at moved.0.0))) open_turn) (turned h)
 
 -- a Begin that is done opens the turn of the first that waits
 pub begin_opens : (logic : Logic) → ReadersAskNothing logic → (w after : Whole) (g : Grain) → IsSound w → AllFair logic w → whole_step logic w (Begin g) ≡ Some after → OpensTurn logic g (map.get w.entries g) (map.get after.entries g)

@@ -1,5 +1,5 @@
 -- What there is to do at a grain, and where there is nothing.
-use Rattle.std.proofs.Common.{◌≡◌, ℕ, Bool, true, false, cond, List, [], ◌∷◌, Option, Some, None, refl, sym, ◌∙◌, subst}
+use Rattle.std.proofs.Common.{◌≡◌, ℕ, Bool, true, false, cond, List, [], ◌∷◌, Option, Some, None, refl, ap, sym, ◌∙◌, subst}
 use Rattle.std.specs.Prelude.{option_map, option_and_then}
 use Rattle.std.proofs.lemmas.Option.{same_Some, none-some}
 use Rattle.std.specs.FinMap as map
@@ -16,42 +16,47 @@ use Rattle.silo_model.specs.Step.{grain_of, effect_of}
 use Rattle.silo_model.specs.Turns.{activated, loaded, may_open, opened, opened_if_ready}
 use Rattle.silo_model.specs.Sends.{first_from}
 use Rattle.silo_model.specs.Whole.{Whole, whole_step}
+use Rattle.finite_maps.proofs.Options.{none_from_option_map, none_from_cond}
 use Rattle.silo_model.proofs.Contexts.{step_at_own}
+use Rattle.silo_model.proofs.Tests.{on_test, on_found}
 use Rattle.silo_model.proofs.EntrySteps.{activate_waiting, load_loading, begin_first}
 use Rattle.silo_model.proofs.SendSteps.{deliver_unknown, deliver_nothing, by_called}
 use Rattle.silo_model.specs.Todo.{is_work, IsTodo, begin_at, work_by, work_on, delivery_of, WorkIsDone}
-
-is_done : (logic : Logic) (w after : Whole) (s : Step) → is_work s ≡ true → whole_step logic w s ≡ Some after → IsTodo logic w (Some s)
-is_done logic w after s work step = (work, λ none. none-some after (sym none ∙ step))
 
 module _ (logic : Logic) (w : Whole) (g : Grain) where
   -- ---- something is to do
 
   module _ (s : Step) where
+    -- such a step that is done
+    done_by : (after : Whole) (r : Step) → is_work r ≡ true → whole_step logic w r ≡ Some after → Some r ≡ Some s → IsTodo logic w (Some s)
+    done_by after r work step h =
+        subst (λ x. IsTodo logic w (Some x)) (same_Some r s h) (work, λ none. none-some after (sym none ∙ step))
+
     begin_done : (e : Entry) (state : Tree) (version : Option ℕ) → map.get w.entries g ≡ Some e → e.phase ≡ ready state version → (queue : List Request) → e.queue ≡ queue → begin_at logic g e queue ≡ Some s → IsTodo logic w (Some s)
-    begin_done e state version found phase [] is h = absurd (none-some s h)
-    begin_done e state version found phase (first ∷ others) is h = by_test (may_open logic g e first) refl h
-      where
-        by_test : (b : Bool) → may_open logic g e first ≡ b → cond b (Some (Begin g)) None ≡ Some s → IsTodo logic w (Some s)
-        by_test true may h = subst (λ r. IsTodo logic w (Some r)) (same_Some (Begin g) s h) (is_done logic w _ (Begin g) refl (begin_first logic w g e found state version first others phase is may))
-        by_test false may h = absurd (none-some s h)
+    begin_done e state version found phase [] is = λ h. absurd (none-some s h)
+    begin_done e state version found phase (first ∷ others) is =
+        on_test (λ b. cond b (Some (Begin g)) None ≡ Some s → IsTodo logic w (Some s)) (may_open logic g e first)
+        (λ may. done_by _ (Begin g) refl (begin_first logic w g e found state version first others phase is may)) (λ _ h. absurd (none-some s h))
 
     phase_done : (e : Entry) → map.get w.entries g ≡ Some e → (p : Phase) → e.phase ≡ p → work_by logic g e p ≡ Some s → IsTodo logic w (Some s)
-    phase_done e found waiting is h = subst (λ r. IsTodo logic w (Some r)) (same_Some (Activate g) s h) (is_done logic w _ (Activate g) refl (activate_waiting logic w g e found is))
-    phase_done e found loading is h = subst (λ r. IsTodo logic w (Some r)) (same_Some (Load g false) s h) (is_done logic w _ (Load g false) refl (load_loading logic w g e found is))
-    phase_done e found (ready state version) is h = begin_done e state version found is e.queue refl h
+    phase_done e found waiting is = done_by _ (Activate g) refl (activate_waiting logic w g e found is)
+    phase_done e found loading is = done_by _ (Load g false) refl (load_loading logic w g e found is)
+    phase_done e found (ready state version) is = begin_done e state version found is e.queue refl
 
-    entry_done : (found : Option Entry) → map.get w.entries g ≡ found → work_on logic g found ≡ Some s → IsTodo logic w (Some s)
-    entry_done None is h = absurd (none-some s h)
-    entry_done (Some e) is h = phase_done e is e.phase refl h
+    entry_done : work_on logic g (map.get w.entries g) ≡ Some s → IsTodo logic w (Some s)
+    entry_done =
+        on_found (λ found. work_on logic g found ≡ Some s → IsTodo logic w (Some s)) (map.get w.entries g)
+        (λ _ h. absurd (none-some s h)) (λ e is. phase_done e is e.phase refl)
 
-    sent_done : (a : Account) → map.get w.accounts g.tenant ≡ Some a → (found : Option (Send × List Send)) → first_from g a.sends ≡ found → option_map (λ f. Deliver g) found ≡ Some s → IsTodo logic w (Some s)
-    sent_done a known None first h = absurd (none-some s h)
-    sent_done a known (Some found) first h = subst (λ r. IsTodo logic w (Some r)) (same_Some (Deliver g) s h) (is_done logic w _ (Deliver g) refl (by_called logic w g a known found.0 found.1 first _ refl))
+    sent_done : (a : Account) → map.get w.accounts g.tenant ≡ Some a → delivery_of g (Some a) ≡ Some s → IsTodo logic w (Some s)
+    sent_done a known =
+        on_found (λ found. option_map (λ f. Deliver g) found ≡ Some s → IsTodo logic w (Some s)) (first_from g a.sends)
+        (λ _ h. absurd (none-some s h)) (λ found first. done_by _ (Deliver g) refl (by_called logic w g a known found.0 found.1 first _ refl))
 
-    delivery_done : (account : Option Account) → map.get w.accounts g.tenant ≡ account → delivery_of g account ≡ Some s → IsTodo logic w (Some s)
-    delivery_done None known h = absurd (none-some s h)
-    delivery_done (Some a) known h = sent_done a known (first_from g a.sends) refl h
+    delivery_done : delivery_of g (map.get w.accounts g.tenant) ≡ Some s → IsTodo logic w (Some s)
+    delivery_done =
+        on_found (λ account. delivery_of g account ≡ Some s → IsTodo logic w (Some s)) (map.get w.accounts g.tenant)
+        (λ _ h. absurd (none-some s h)) sent_done
 
   -- ---- nothing is to do
 
@@ -63,12 +68,9 @@ module _ (logic : Logic) (w : Whole) (g : Grain) where
 
   queue_none : (e : Entry) (queue : List Request) → begin_at logic g e queue ≡ None → opened logic g e queue ≡ None
   queue_none e [] h = refl
-  queue_none e (first ∷ others) h = by_test (may_open logic g e first) h
-    where
-      by_test : (b : Bool) → cond b (Some (Begin g)) None ≡ None
-          → cond b (Some (on_entry (record e { queue = others; turns = map.insert e.turns first.number first }))) None ≡ None
-      by_test true h = absurd (none-some (Begin g) (sym h))
-      by_test false h = refl
+  queue_none e (first ∷ others) h =
+      ap (λ b. cond b (Some (on_entry (record e { queue = others; turns = map.insert e.turns first.number first }))) None)
+      (none_from_cond (may_open logic g e first) (Begin g) None h).0
 
   abbrev NoneBy : Bool → Entry → Phase → Type 0
   NoneBy failed e p = (activated e p ≡ None) × (loaded logic seen g failed e p ≡ None) × (opened_if_ready logic g e p ≡ None)
@@ -102,19 +104,14 @@ module _ (logic : Logic) (w : Whole) (g : Grain) where
         not_now (Begin g) refl refl (none false).2,
       )
 
-  sent_none : (a : Account) → map.get w.accounts g.tenant ≡ Some a → (found : Option (Send × List Send)) → first_from g a.sends ≡ found → option_map (λ f. Deliver g) found ≡ None → whole_step logic w (Deliver g) ≡ None
-  sent_none a known None first h = deliver_nothing logic w g a known first
-  sent_none a known (Some found) first h = absurd (none-some (Deliver g) (sym h))
-
-  delivery_none : (account : Option Account) → map.get w.accounts g.tenant ≡ account → delivery_of g account ≡ None → whole_step logic w (Deliver g) ≡ None
-  delivery_none None known h = deliver_unknown logic w g known
-  delivery_none (Some a) known h = sent_none a known (first_from g a.sends) refl h
-
   pub nothing_to_deliver : delivery_of g (map.get w.accounts g.tenant) ≡ None → whole_step logic w (Deliver g) ≡ None
-  nothing_to_deliver h = delivery_none (map.get w.accounts g.tenant) refl h
+  nothing_to_deliver =
+      on_found (λ account. delivery_of g account ≡ None → whole_step logic w (Deliver g) ≡ None) (map.get w.accounts g.tenant)
+      (λ known _. deliver_unknown logic w g known)
+      (λ a known h. deliver_nothing logic w g a known (none_from_option_map (λ f. Deliver g) (first_from g a.sends) h))
 
 pub work_is_done : WorkIsDone
 work_is_done = record {
-  entries = λ logic w g s h. entry_done logic w g s (map.get w.entries g) refl h;
-  senders = λ logic w g s h. delivery_done logic w g s (map.get w.accounts g.tenant) refl h;
+  entries = entry_done;
+  senders = delivery_done;
 }
