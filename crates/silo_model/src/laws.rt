@@ -21,34 +21,40 @@ ghost use Rattle.silo_model.specs.Todo.{SendsAreOwn, WorkIsDone};
 
 /// What a run of the whole shows to each tenant is the run of the tenant's own machine, with the
 /// other tenants' steps struck out.
+#[tactic(auto, using(crate::proofs::Opening::replay_is_run))]
 pub fn replay_is_run()
     ensures { ReplayIsRun }
 {}
 
 /// Lists that have the same steps for a tenant give it equal parts, whatever tenants, rows and
 /// steps stand beside it.
+#[tactic(auto, using(crate::proofs::Opening::agreeing_lists))]
 pub fn agreeing_lists()
     ensures { AgreeingLists }
 {}
 
 /// A step that is done and concerns a tenant, as its own or as nobody's, is the machine's on the
 /// tenant's part.
+#[tactic(auto, using(crate::proofs::Journals::own_part))]
 pub fn own_part()
     ensures { OwnPart }
 {}
 
 /// A step that is done leaves the part of a tenant that it doesn't concern.
+#[tactic(auto, using(crate::proofs::Journals::other_parts))]
 pub fn other_parts()
     ensures { OtherParts }
 {}
 
 /// A step that isn't possible for the whole isn't possible for the machine of a tenant that it
 /// concerns.
+#[tactic(auto, using(crate::proofs::Journals::not_now))]
 pub fn not_now()
     ensures { NotNow }
 {}
 
 /// From where a journal leads, a run shows to each tenant the run of the tenant's own machine.
+#[tactic(auto, using(crate::proofs::Journals::runs_on))]
 pub fn runs_on()
     ensures { RunsOn }
 {}
@@ -61,48 +67,57 @@ pub fn answered_in_parts()
 
 /// If no storage call fails, the answers are told by the steps: by the whole and by each tenant's
 /// machine alike.
+#[tactic(auto, using(crate::proofs::AnswersInParts::runs_answer))]
 pub fn runs_answer()
     ensures { RunsAnswer }
 {}
 
 /// The replies after a list are those before it, and then, step by step, what each step's owner's
 /// machine adds.
+#[tactic(auto, using(crate::proofs::RepliesInOrder::replies_in_order))]
 pub fn replies_in_order()
     ensures { RepliesInOrder }
 {}
 
 /// A journal leads where the run of its steps leads.
+#[tactic(auto, using(crate::proofs::Journals::journals_replay))]
 pub fn journals_replay()
     ensures { JournalsReplay }
 {}
 
 /// A journal grows by a step that is done.
+#[tactic(auto, using(crate::proofs::Journals::journals_grow))]
 pub fn journals_grow()
     ensures { JournalsGrow }
 {}
 
 /// The steps of a journal that concern a tenant are all done in the tenant's own machine, and lead
 /// to the tenant's part.
+#[tactic(auto, using(crate::proofs::Journals::parts_lead))]
 pub fn parts_lead()
     ensures { PartsLead }
 {}
 
 /// Whatever the steps and whoever's, a turn that may write is the only open turn of its grain.
+#[tactic(auto, using(crate::proofs::ExclusiveRuns::runs_are_exclusive))]
 pub fn runs_are_exclusive()
     ensures { RunsAreExclusive }
 {}
 
 /// So it is at every prefix of a journal.
+#[tactic(auto, using(crate::proofs::FairJournals::journals_are_exclusive))]
 pub fn journals_are_exclusive()
     ensures { JournalsAreExclusive }
 {}
 
 /// What a client asked is answered once, or waits, or is open; and no number stands twice.
+#[tactic(auto, using(crate::proofs::FairRuns::runs_settle))]
 pub fn runs_settle()
     ensures { RunsSettle }
 {}
 
 /// So it is in each part of a whole that a journal leads to.
+#[tactic(auto, using(crate::proofs::FairJournals::journals_settle))]
 pub fn journals_settle()
     ensures { JournalsSettle }
 {}
@@ -114,22 +129,26 @@ pub fn first_call_answered()
 {}
 
 /// A step is possible exactly if it is possible as one whose storage call failed.
+#[tactic(auto, using(crate::proofs::FailedSteps::failing_is_possible))]
 pub fn failing_is_possible()
     ensures { FailingIsPossible }
 {}
 
 /// The gate of calls and pokes refuses what the table of tenants refuses, for the same reason.
+#[tactic(auto, using(crate::proofs::TableGate::gate_is_tables))]
 pub fn gate_is_tables()
     ensures { GateIsTables }
 {}
 
 /// What the storage's calls answer of all rows is what a step does to the one row that it sees.
+#[tactic(auto, using(crate::proofs::Stored::stores_at_one_row))]
 pub fn stores_at_one_row()
     ensures { StoresAtOneRow }
 {}
 
 /// A state that was saved comes back if the grain is loaded again: so the laws are said of a
 /// silo that stores something.
+#[tactic(auto, using(crate::proofs::SavedStates::saved_comes_back))]
 pub fn saved_comes_back()
     ensures { SavedComesBack }
 {}
@@ -179,11 +198,13 @@ pub fn one_age_counts()
 {}
 
 /// What is to do with a grain's entry, or is to be delivered of what it sent, would be done now.
+#[tactic(auto, using(crate::proofs::WorkAtGrains::work_is_done))]
 pub fn work_is_done()
     ensures { WorkIsDone }
 {}
 
 /// What a grain sent is in the account of its own tenant, in every whole that a journal leads to.
+#[tactic(auto, using(crate::proofs::OwnSends::sends_are_own))]
 pub fn sends_are_own()
     ensures { SendsAreOwn }
 {}
@@ -196,6 +217,7 @@ pub fn quiet_by_counts()
 
 /// Requests of one grain begin in the order in which they were accepted: what waits stands in that
 /// order, and what is open was accepted before all that waits.
+#[tactic(auto, using(crate::proofs::Order::begin_in_order))]
 pub fn begin_in_order()
     ensures { BeginInOrder }
 {}
