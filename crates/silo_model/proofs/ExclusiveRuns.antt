@@ -1,9 +1,11 @@
 -- Along every list of answered steps the turns that are open are among those of the whole's entries, and so a turn that may write is alone.
 use Rattle.std.proofs.Common.{◌≡◌, ◌≢◌, ℕ, ◌==◌, Bool, true, false, cond, List, [], ◌∷◌, ◌++◌, Option, Some, None, unwrap_or, refl, ap, sym, ◌∙◌, subst, true≢false}
 use Rattle.std.specs.Prelude.{◌&&◌, not, filter}
-use Rattle.std.specs.List.{list_any}
+use Rattle.std.specs.List.{list_any, AllByRecursion}
+use Rattle.finite_maps.proofs.Lists.{all_weaker, all_append, all_at}
+use Rattle.silo_model.proofs.Tests.{on_test, on_found}
 use Rattle.std.specs.FinMap as map
-use Rattle.std.proofs.lemmas.Bool.{eq-eqb, or_from}
+use Rattle.std.proofs.lemmas.Bool.{eq-eqb, or_from, false_from_ne_true}
 use Rattle.grain_id.specs.Names.{Grain, grain_eq}
 use Rattle.grain_id.proofs.Order.{grain_eq_decides}
 use Rattle.silo_event.specs.Failed.{as_failed, marked_step}
@@ -36,16 +38,15 @@ abbrev IsListed : Whole → OpenTurn → Type 0
 IsListed w t = turn_in (map.get w.entries t.grain) t.request.number ≡ Some t.request
 
 abbrev AreListed : Whole → List OpenTurn → Type 0
-AreListed w [] = Unit {0}
-AreListed w (t ∷ turns) = IsListed w t × AreListed w turns
+AreListed w turns = AllByRecursion (IsListed w) turns
 
-listed_all : (w after : Whole) (turns : List OpenTurn) → ((t : OpenTurn) → IsListed w t → IsListed after t) → AreListed w turns → AreListed after turns
-listed_all w after [] keeps listed = tt
-listed_all w after (t ∷ turns) keeps listed = (keeps t listed.0, listed_all w after turns keeps listed.1)
-
-listed_push : (w : Whole) (turns : List OpenTurn) (t : OpenTurn) → AreListed w turns → IsListed w t → AreListed w (turns ++ t ∷ [])
-listed_push w [] t listed last = (last, tt)
-listed_push w (u ∷ turns) t listed last = (listed.0, listed_push w turns t listed.1 last)
+-- what passes a test, of what all have
+all_filtered : {A : Type 0} (P Q : A → Type 0) (p : A → Bool) (xs : List A) → ((x : A) → p x ≡ true → P x → Q x)
+    → AllByRecursion P xs → AllByRecursion Q (filter p xs)
+all_filtered P Q p [] keeps all = tt
+all_filtered P Q p (x ∷ xs) keeps all =
+    on_test (λ b. AllByRecursion Q (cond b (x ∷ filter p xs) (filter p xs))) (p x)
+    (λ is. (keeps x is all.0, all_filtered P Q p xs keeps all.1)) (λ _. all_filtered P Q p xs keeps all.1)
 
 not_that : (a b : Bool) → not (a && b) ≡ true → a ≡ true → b ≡ true → ⊥
 not_that true true is p q = true≢false (sym is)
@@ -56,15 +57,12 @@ not_that false b is p q = true≢false (sym p)
 listed_without : (w after : Whole) (g : Grain) (turn : ℕ) (turns : List OpenTurn)
     → ((h : Grain) (n : ℕ) (q : Request) → (h ≡ g → n ≢ turn) → turn_in (map.get w.entries h) n ≡ Some q → turn_in (map.get after.entries h) n ≡ Some q)
     → AreListed w turns → AreListed after (turns_without g turn turns)
-listed_without w after g turn [] closes listed = tt
-listed_without w after g turn (t ∷ turns) closes listed = by_test (not (is_turn g turn t)) refl (listed_without w after g turn turns closes listed.1)
-  where
-    another : not (is_turn g turn t) ≡ true → t.grain ≡ g → t.request.number ≢ turn
-    another is same number = not_that (grain_eq t.grain g) (t.request.number == turn) is ((grain_eq_decides t.grain g).1 same) (eq-eqb t.request.number turn number)
-
-    by_test : (b : Bool) → not (is_turn g turn t) ≡ b → AreListed after (turns_without g turn turns) → AreListed after (cond b (t ∷ turns_without g turn turns) (turns_without g turn turns))
-    by_test true is rest = (closes t.grain t.request.number t.request (another is) listed.0, rest)
-    by_test false is rest = rest
+listed_without w after g turn turns closes =
+    all_filtered (IsListed w) (IsListed after) (λ t. not (is_turn g turn t)) turns (λ t is.
+    closes t.grain t.request.number t.request
+    (λ same number.
+    not_that (grain_eq t.grain g) (t.request.number == turn) is ((grain_eq_decides t.grain g).1 same)
+    (eq-eqb t.request.number turn number)))
 
 -- ---- writers stay alone
 
@@ -73,8 +71,7 @@ abbrev MayBeTogether : Logic → OpenTurn → OpenTurn → Type 0
 MayBeTogether logic t u = t.grain ≡ u.grain → (reads logic t.grain t.request ≡ true) × (reads logic u.grain u.request ≡ true)
 
 abbrev MayBeWith : Logic → OpenTurn → List OpenTurn → Type 0
-MayBeWith logic t [] = Unit {0}
-MayBeWith logic t (u ∷ turns) = MayBeTogether logic t u × MayBeWith logic t turns
+MayBeWith logic t turns = AllByRecursion (MayBeTogether logic t) turns
 
 -- any two turns of one grain only read
 abbrev AreTogether : Logic → List OpenTurn → Type 0
@@ -82,52 +79,33 @@ AreTogether logic [] = Unit {0}
 AreTogether logic (t ∷ turns) = MayBeWith logic t turns × AreTogether logic turns
 
 not_same : (logic : Logic) (t u : OpenTurn) → reads logic t.grain t.request ≡ false → ((u.grain ≡ t.grain) → reads logic t.grain t.request ≡ true) → grain_eq u.grain t.grain ≡ false
-not_same logic t u writes both = by_test (grain_eq u.grain t.grain) refl
-  where
-    by_test : (b : Bool) → grain_eq u.grain t.grain ≡ b → b ≡ false
-    by_test true same = absurd (true≢false (sym (both ((grain_eq_decides u.grain t.grain).0 same)) ∙ writes))
-    by_test false same = refl
+not_same logic t u writes both =
+    false_from_ne_true (grain_eq u.grain t.grain) (λ same. true≢false (sym (both ((grain_eq_decides u.grain t.grain).0 same)) ∙ writes))
 
 -- none of the turns beside one that may write is of its grain
 none_beside : (logic : Logic) (t : OpenTurn) (after : List OpenTurn) → MayBeWith logic t after → reads logic t.grain t.request ≡ false → list_any (λ u. grain_eq u.grain t.grain) after ≡ false
 none_beside logic t [] h writes = refl
 none_beside logic t (u ∷ after) h writes = or_from (grain_eq u.grain t.grain) _ (not_same logic t u writes (λ same. (h.0 (sym same)).0)) (none_beside logic t after h.1 writes)
 
-with_that : (logic : Logic) (u t : OpenTurn) (before after : List OpenTurn) → MayBeWith logic u (before ++ t ∷ after) → MayBeTogether logic u t
-with_that logic u t [] after h = h.0
-with_that logic u t (v ∷ before) after h = with_that logic u t before after h.1
-
 writer_alone : (logic : Logic) (before after : List OpenTurn) (t : OpenTurn) → AreTogether logic (before ++ t ∷ after) → reads logic t.grain t.request ≡ false → list_any (λ u. grain_eq u.grain t.grain) (before ++ after) ≡ false
 writer_alone logic [] after t h writes = none_beside logic t after h.0 writes
-writer_alone logic (u ∷ before) after t h writes = or_from (grain_eq u.grain t.grain) _ (not_same logic t u writes (λ same. (with_that logic u t before after h.0 same).1)) (writer_alone logic before after t h.1 writes)
+writer_alone logic (u ∷ before) after t h writes = or_from (grain_eq u.grain t.grain) _ (not_same logic t u writes (λ same. (all_at (MayBeTogether logic u) before after t h.0 same).1)) (writer_alone logic before after t h.1 writes)
 
 writers_alone : (logic : Logic) (turns : List OpenTurn) → AreTogether logic turns → WritersAlone logic turns
 writers_alone logic turns h before after t is writes = writer_alone logic before after t (subst (AreTogether logic) is h) writes
 
-with_filtered : (logic : Logic) (t : OpenTurn) (p : OpenTurn → Bool) (turns : List OpenTurn) → MayBeWith logic t turns → MayBeWith logic t (filter p turns)
-with_filtered logic t p [] h = tt
-with_filtered logic t p (u ∷ turns) h = by_test (p u) (with_filtered logic t p turns h.1)
-  where
-    by_test : (b : Bool) → MayBeWith logic t (filter p turns) → MayBeWith logic t (cond b (u ∷ filter p turns) (filter p turns))
-    by_test true rest = (h.0, rest)
-    by_test false rest = rest
-
 alone_filtered : (logic : Logic) (p : OpenTurn → Bool) (turns : List OpenTurn) → AreTogether logic turns → AreTogether logic (filter p turns)
 alone_filtered logic p [] h = tt
-alone_filtered logic p (t ∷ turns) h = by_test (p t) (alone_filtered logic p turns h.1)
-  where
-    by_test : (b : Bool) → AreTogether logic (filter p turns) → AreTogether logic (cond b (t ∷ filter p turns) (filter p turns))
-    by_test true rest = (with_filtered logic t p turns h.0, rest)
-    by_test false rest = rest
-
-with_push : (logic : Logic) (t new : OpenTurn) (turns : List OpenTurn) → MayBeWith logic t turns → MayBeTogether logic t new → MayBeWith logic t (turns ++ new ∷ [])
-with_push logic t new [] h last = (last, tt)
-with_push logic t new (u ∷ turns) h last = (h.0, with_push logic t new turns h.1 last)
+alone_filtered logic p (t ∷ turns) h =
+    let P = MayBeTogether logic t in
+    on_test (λ b. AreTogether logic (cond b (t ∷ filter p turns) (filter p turns))) (p t)
+    (λ _. (all_filtered P P p turns (λ u is may. may) h.0, alone_filtered logic p turns h.1)) (λ _. alone_filtered logic p turns h.1)
 
 -- a turn that may be open with each of them
 alone_push : (logic : Logic) (w : Whole) (new : OpenTurn) (turns : List OpenTurn) → AreListed w turns → ((t : OpenTurn) → IsListed w t → MayBeTogether logic t new) → AreTogether logic turns → AreTogether logic (turns ++ new ∷ [])
 alone_push logic w new [] listed may h = (tt, tt)
-alone_push logic w new (t ∷ turns) listed may h = (with_push logic t new turns h.0 (may t listed.0), alone_push logic w new turns listed.1 may h.1)
+alone_push logic w new (t ∷ turns) listed may h =
+    (all_append (MayBeTogether logic t) turns (new ∷ []) h.0 (may t listed.0, tt), alone_push logic w new turns listed.1 may h.1)
 
 -- ---- one more step
 
@@ -158,6 +136,20 @@ module _ (logic : Logic) (law : ReadersAskNothing logic) (setup : Setup) (before
   begun_is : (g : Grain) → turn_begun logic setup before g ≡ first_waiting g (map.get w.entries g)
   begun_is g = ap (first_waiting g) (ap (λ m. map.get m.entries g) (sym (part_is g.tenant)) ∙ shown_entries g.tenant g refl)
 
+  -- by whether the step is possible
+  by_step : (s : Step) (us : List OpenTurn) → (whole_step logic w s ≡ None → State logic setup (before ++ s ∷ []) (whole_after logic w s) us)
+      → ((after : Whole) → whole_step logic w s ≡ Some after → State logic setup (before ++ s ∷ []) after us)
+      → State logic setup (before ++ s ∷ []) (whole_after logic w s) us
+  by_step s us none some =
+      on_found (λ _. State logic setup (before ++ s ∷ []) (whole_after logic w s) us) (whole_step logic w s) none
+      (λ after is. subst (λ o. State logic setup (before ++ s ∷ []) (unwrap_or o w) us) (sym is) (some after is))
+
+  still_listed : (after : Whole) (s : Step) → whole_step logic w s ≡ Some after
+      → ((old new : Option Entry) → TurnsMove logic s old new → KeepsTurns old new) → AreListed after turns
+  still_listed after s is keeps =
+      all_weaker (IsListed w) (IsListed after) turns
+      (λ t. keeps_turns logic law w after s sound fair is keeps t.grain t.request.number t.request) state.listed
+
   -- a step that wasn't possible
   idle_next : (s : Step) → whole_step logic w s ≡ None → State logic setup (before ++ s ∷ []) (whole_after logic w s) turns
   idle_next s none =
@@ -165,37 +157,34 @@ module _ (logic : Logic) (law : ReadersAskNothing logic) (setup : Setup) (before
       record { at = next_at s; listed = subst (λ x. AreListed x turns) same state.listed; alone = state.alone }
 
   -- a step that closes no turn
-  keeping_next : (s : Step) → ((old new : Option Entry) → TurnsMove logic s old new → KeepsTurns old new) → (r : Option Whole) → whole_step logic w s ≡ r → State logic setup (before ++ s ∷ []) (unwrap_or r w) turns
-  keeping_next s keeps None is = record { at = next_at s ∙ ap (λ o. unwrap_or o w) is; listed = state.listed; alone = state.alone }
-  keeping_next s keeps (Some after) is = record {
+  keeping_next : (s : Step) → ((old new : Option Entry) → TurnsMove logic s old new → KeepsTurns old new) → State logic setup (before ++ s ∷ []) (whole_after logic w s) turns
+  keeping_next s keeps = by_step s turns (idle_next s) (λ after is. record {
     at = next_at s ∙ ap (λ o. unwrap_or o w) is;
-    listed = listed_all w after turns (λ t open_turn. keeps_turns logic law w after s sound fair is keeps t.grain t.request.number t.request open_turn) state.listed;
+    listed = still_listed after s is keeps;
     alone = state.alone;
-  }
+  })
 
   -- a step that closes a turn
   closing_next : (s : Step) (g : Grain) (turn : ℕ) → ((a : Option Account) → grain_of a s ≡ Some g)
       → ((old new : Option Entry) → TurnsMove logic s old new → ClosesTurn turn old new)
-      → (r : Option Whole) → whole_step logic w s ≡ r → whole_step logic w s ≢ None → State logic setup (before ++ s ∷ []) (unwrap_or r w) (turns_without g turn turns)
-  closing_next s g turn place closes None is done = absurd (done is)
-  closing_next s g turn place closes (Some after) is done = record {
+      → whole_step logic w s ≢ None → State logic setup (before ++ s ∷ []) (whole_after logic w s) (turns_without g turn turns)
+  closing_next s g turn place closes done = by_step s (turns_without g turn turns) (λ none. absurd (done none)) (λ after is. record {
     at = next_at s ∙ ap (λ o. unwrap_or o w) is;
     listed = listed_without w after g turn turns (closes_turn logic law w after s sound fair is g turn place closes) state.listed;
     alone = alone_filtered logic _ turns state.alone;
-  }
+  })
 
   -- a Begin that was done
-  opening_next : (g : Grain) (r : Option Whole) → whole_step logic w (Begin g) ≡ r → whole_step logic w (Begin g) ≢ None → State logic setup (before ++ Begin g ∷ []) (unwrap_or r w) (turns ++ turn_begun logic setup before g)
-  opening_next g None is done = absurd (done is)
-  opening_next g (Some after) is done =
+  opening_next : (g : Grain) → whole_step logic w (Begin g) ≢ None → State logic setup (before ++ Begin g ∷ []) (whole_after logic w (Begin g)) (turns ++ turn_begun logic setup before g)
+  opening_next g done = by_step (Begin g) (turns ++ turn_begun logic setup before g) (λ none. absurd (done none)) (λ after is.
       let opens = begin_opens logic law w after g sound fair is in
       let new : OpenTurn = record { grain = g; request = opens.first } in
       let begun : turn_begun logic setup before g ≡ new ∷ [] = begun_is g ∙ opens.waits in
       subst (λ us. State logic setup (before ++ Begin g ∷ []) after (turns ++ us)) (sym begun) (record {
         at = next_at (Begin g) ∙ ap (λ o. unwrap_or o w) is;
-        listed = listed_push after turns new (listed_all w after turns (λ t open_turn. keeps_turns logic law w after (Begin g) sound fair is (λ old other moves. moves.others) t.grain t.request.number t.request open_turn) state.listed) opens.there;
+        listed = all_append (IsListed after) turns (new ∷ []) (still_listed after (Begin g) is (λ old other moves. moves.others)) (opens.there, tt);
         alone = alone_push logic w new turns state.listed (λ t open_turn same. together after opens t open_turn same) state.alone;
-      })
+      }))
     where
       together : (after : Whole) (opens : OpensTurn logic g (map.get w.entries g) (map.get after.entries g)) (t : OpenTurn) → IsListed w t → t.grain ≡ g → (reads logic t.grain t.request ≡ true) × (reads logic g opens.first ≡ true)
       together after opens t open_turn same =
@@ -203,24 +192,21 @@ module _ (logic : Logic) (law : ReadersAskNothing logic) (setup : Setup) (before
           (ap (λ h. reads logic h t.request) same ∙ both.1, both.0)
 
   next : (s : Step) (a : Answer) → IsAnswer logic w s a → State logic setup (before ++ marked_step s a ∷ []) (whole_after logic w (marked_step s a)) (turns_after logic setup before turns s a)
-  next (Begin g) answer.Done is = opening_next g (whole_step logic w (Begin g)) refl is
+  next (Begin g) answer.Done is = opening_next g is
   next (Begin g) answer.Failed is = absurd (true≢false (sym is.0))
   next (Begin g) answer.NotNow is = idle_next (Begin g) is
-  next (Store g n failed) answer.Done is =
-      closing_next (Store g n failed) g n (λ a. refl) (λ old new moves. moves) (whole_step logic w (Store g n failed)) refl is
-  next (Store g n failed) answer.Failed is =
-      closing_next (Store g n true) g n (λ a. refl) (λ old new moves. moves) (whole_step logic w (Store g n true)) refl is.1
+  next (Store g n failed) answer.Done is = closing_next (Store g n failed) g n (λ a. refl) (λ old new moves. moves) is
+  next (Store g n failed) answer.Failed is = closing_next (Store g n true) g n (λ a. refl) (λ old new moves. moves) is.1
   next (Store g n failed) answer.NotNow is = idle_next (Store g n failed) is
-  next (End g n) answer.Done is = closing_next (End g n) g n (λ a. refl) (λ old new moves. moves) (whole_step logic w (End g n)) refl is
+  next (End g n) answer.Done is = closing_next (End g n) g n (λ a. refl) (λ old new moves. moves) is
   next (End g n) answer.Failed is = absurd (true≢false (sym is.0))
   next (End g n) answer.NotNow is = idle_next (End g n) is
-  next (Abandon g n) answer.Done is =
-      closing_next (Abandon g n) g n (λ a. refl) (λ old new moves. moves) (whole_step logic w (Abandon g n)) refl is
+  next (Abandon g n) answer.Done is = closing_next (Abandon g n) g n (λ a. refl) (λ old new moves. moves) is
   next (Abandon g n) answer.Failed is = absurd (true≢false (sym is.0))
   next (Abandon g n) answer.NotNow is = idle_next (Abandon g n) is
-  next s answer.Done is = keeping_next s (λ old new moves. moves) (whole_step logic w s) refl
-  next s answer.Failed is = keeping_next (as_failed s) (λ old new moves. moves) (whole_step logic w (as_failed s)) refl
-  next s answer.NotNow is = keeping_next s (λ old new moves. moves) (whole_step logic w s) refl
+  next s answer.Done is = keeping_next s (λ old new moves. moves)
+  next s answer.Failed is = keeping_next (as_failed s) (λ old new moves. moves)
+  next s answer.NotNow is = idle_next s is
 
 -- ---- every list
 

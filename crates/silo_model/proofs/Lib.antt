@@ -13,6 +13,7 @@ pub mod Opening
 pub mod Journals
 pub mod Fair
 pub mod Moves
+pub mod MachineSteps
 pub mod StepMoves
 pub mod FairRuns
 pub mod WholeTurns

@@ -5,7 +5,6 @@ use Rattle.std.specs.Ordering.{nat_cmp, eq_by_cmp}
 use Rattle.std.specs.Cmp.{nat_cmp_total}
 use Rattle.std.specs.FinMap as map
 use Rattle.std.proofs.lemmas.Option.{same_Some, none-some}
-use Rattle.finite_maps.proofs.Options.{some_from_and_then}
 use Rattle.grain_id.specs.Names.{Grain, grain_cmp}
 use Rattle.grain_id.proofs.Order.{grain_cmp_total, grain_cmp_exact}
 use Rattle.idle_collector.specs.Ages.{kind_age}
@@ -25,7 +24,9 @@ use Rattle.silo_model.specs.Order.{AllBehind, Ascend, BeginInOrder}
 use Rattle.silo_model.proofs.Changes.{OfPutAt, changed_all}
 use Rattle.silo_model.proofs.EffectKinds.{Role, role_of, Does, tells, pokes, accepts, goes_on, unloads, opens, closes, IsLeft, stays, goes, effect_kind}
 use Rattle.silo_model.proofs.Moves.{count_of, count-with_sends, remains_count}
-use Rattle.silo_model.proofs.Journals.{parts_lead}
+use Rattle.silo_model.proofs.Journals.{all_keep, parts_lead}
+use Rattle.silo_model.proofs.MachineSteps.{by_machine_step}
+use Rattle.silo_model.proofs.Tests.{on_test}
 use Rattle.silo_model.proofs.QuietCounts.{shown_entry}
 use Rattle.silo_model.proofs.SharedSteps.{get-kept_there}
 use Rattle.silo_model.proofs.TurnMaps.{Turns, get-remove_open}
@@ -102,16 +103,15 @@ module _ (count : ℕ) (e : Entry) (first : Request) (others : List Request) (wa
   counts : (first.number ≤ count) × AllUpTo count others
   counts = subst (AllUpTo count) waits is.counted
 
-  turn_is : (n : ℕ) (turn : Request) (same : Bool) → (if same then Some first else map.get e.turns n) ≡ Some turn → Rest turn
-  turn_is n turn true found = subst Rest (same_Some first turn found) (counts.0, front.0)
-  turn_is n turn false found = let law = is.turns n turn found in (law.0, (subst (AllBehind turn.number) waits law.1).1)
-
   begun : IsOrdered count (record e { queue = others; turns = map.insert e.turns first.number first })
   begun = record {
     queue = front.1;
     counted = counts.1;
     turns = λ n turn found.
-        turn_is n turn (eq_by_cmp nat_cmp n first.number) (sym (map.get-insert nat_cmp_total e.turns first.number first n) ∙ found);
+        on_test (λ same. (if same then Some first else map.get e.turns n) ≡ Some turn → Rest turn) (eq_by_cmp nat_cmp n first.number)
+        (λ _ h. subst Rest (same_Some first turn h) (counts.0, front.0))
+        (λ _ h. let law = is.turns n turn h in (law.0, (subst (AllBehind turn.number) waits law.1).1))
+        (sym (map.get-insert nat_cmp_total e.turns first.number first n) ∙ found);
   }
 
 -- ---- what a step does
@@ -136,10 +136,7 @@ module _ (logic : Logic) (s : Context) (step : Step) (old : (x : Entry) → s.en
   by_left g e request _ after is same (goes none stores) = tt
 
   by_kind : (role : Role) (grain : Option Grain) (e : Effect) → Does logic s step role grain e → Orders s grain e
-  by_kind _ _ _ (tells p grain left outcome remains) = record { counts = omega (arith, remains_count remains); left = nothing_put grain }
-    where
-      nothing_put : (grain : Option Grain) → OfPutAt (λ (g : Grain). IsOrdered (count_of (change_option s.account left))) grain keep
-      nothing_put grain = tt
+  by_kind _ _ _ (tells p grain left outcome remains) = record { counts = omega (arith, remains_count remains); left = tt }
   by_kind _ _ _ (pokes p g row outcome own touches) = record { counts = omega arith; left = tt }
   by_kind _ _ _ (accepts p g call left a own remains is) =
       let same : a.count ≡ count_of s.account = ap count_of (sym is) ∙ remains_count remains in
@@ -161,7 +158,7 @@ module _ (logic : Logic) (s : Context) (step : Step) (old : (x : Entry) → s.en
 abbrev pub IsOrderedMachine : Machine → Type 0
 IsOrderedMachine m = (g : Grain) (e : Entry) → map.get m.entries g ≡ Some e → IsOrdered (count_of m.account) e
 
-module _ (logic : Logic) (m new : Machine) (s : Step) (ordered : IsOrderedMachine m) where
+module _ (logic : Logic) (m : Machine) (s : Step) (ordered : IsOrderedMachine m) where
   abbrev place : Option Grain
   place = grain_of m.account s
 
@@ -177,36 +174,14 @@ module _ (logic : Logic) (m new : Machine) (s : Step) (ordered : IsOrderedMachin
       m.entries place e.entry
       (λ g x found. grown _ _ x orders.counts (ordered g x found)) orders.left
 
-  by_effect : (r : Option Effect) → effect_of logic (context_at m place) s ≡ r → option_map (applied m place) r ≡ Some new → IsOrderedMachine new
-  unfolding context_at
-  by_effect None is h = absurd (none-some new h)
-  by_effect (Some e) is h =
-      subst IsOrderedMachine (same_Some (applied m place e) new h)
-      (done_at e (by_kind logic (context_at m place) s (sees place) (role_of s) place e (effect_kind logic (context_at m place) s e is)))
-
-  ticked_so : (now : ℕ) (b : Bool) → (if b then Some (record m { clock = now }) else None) ≡ Some new → IsOrderedMachine new
-  ticked_so now true h = subst IsOrderedMachine (same_Some (record m { clock = now }) new h) ordered
-  ticked_so now false h = absurd (none-some new h)
-
-  shared_so : (s : Step) → shared_step m s ≡ Some new → IsOrderedMachine new
-  shared_so (Tick now) h = ticked_so now (nat_le m.clock now) h
-  shared_so Sweep h = subst IsOrderedMachine (same_Some _ new h) (λ g e found. ordered g e (get-kept_there m.clock (kind_age m.ages m.age) m.entries g e found))
-  shared_so _ h = absurd (none-some new h)
-
-  by_owner : (o : Option (List ℕ)) → step_by logic m s o ≡ Some new → IsOrderedMachine new
-  by_owner None h = shared_so s h
-  by_owner (Some owner) h = by_effect (effect_of logic (context_at m place) s) refl h
-
-  stays_ordered : machine_step logic m s ≡ Some new → IsOrderedMachine new
-  unfolding machine_step
-  stays_ordered h = by_owner (owner_of s) h
-
-all_ordered : (logic : Logic) (m after : Machine) (steps : List Step) → IsOrderedMachine m
-    → machine_all_done logic m steps ≡ Some after → IsOrderedMachine after
-all_ordered logic m after [] ordered e = subst IsOrderedMachine (same_Some m after e) ordered
-all_ordered logic m after (s ∷ steps) ordered e =
-    let next = some_from_and_then (λ x. machine_all_done logic x steps) (machine_step logic m s) after e in
-    all_ordered logic next.0 after steps (stays_ordered logic m next.0 s ordered next.1) next.2
+stays_ordered : (logic : Logic) (m new : Machine) (s : Step) → IsOrderedMachine m → machine_step logic m s ≡ Some new → IsOrderedMachine new
+unfolding context_at
+stays_ordered logic m new s ordered =
+    by_machine_step logic m new (λ _. IsOrderedMachine) (λ now. ordered)
+    (λ g e found. ordered g e (get-kept_there m.clock (kind_age m.ages m.age) m.entries g e found)) s
+    (λ e does.
+    let place = grain_of m.account s in
+    done_at logic m s ordered e (by_kind logic (context_at m place) s (sees logic m s ordered place) (role_of s) place e does))
 
 starts_ordered : (setup : Setup) (tenant : List ℕ) → IsOrderedMachine (start_of setup tenant)
 unfolding start_of
@@ -214,7 +189,8 @@ starts_ordered setup tenant g e found = absurd (none-some e (sym (map.get-empty 
 
 pub begin_in_order : BeginInOrder
 begin_in_order logic setup journal w g e leads found =
-    let ordered = all_ordered logic (start_of setup g.tenant) (shown_to g.tenant w) (restricted_to g.tenant journal)
-    (starts_ordered setup g.tenant) (parts_lead logic setup journal w g.tenant leads) in
+    let ordered =
+    all_keep (machine_step logic) IsOrderedMachine (stays_ordered logic) (start_of setup g.tenant) (shown_to g.tenant w)
+    (restricted_to g.tenant journal) (starts_ordered setup g.tenant) (parts_lead logic setup journal w g.tenant leads) in
     let is = ordered g e (shown_entry w g e found) in
     record { queue = is.queue; turns = λ n turn at. (is.turns n turn at).1 }

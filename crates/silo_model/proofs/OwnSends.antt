@@ -26,6 +26,8 @@ use Rattle.silo_model.specs.Todo.{delivery_of, is_among, sender_by, OwnSends, Se
 use Rattle.silo_model.proofs.Changes.{get-change_same, get-change_other}
 use Rattle.silo_model.proofs.Isolation.{Did, did, did_does, shared_by}
 use Rattle.silo_model.proofs.Opening.{get-fresh_accounts}
+use Rattle.silo_model.proofs.Journals.{all_keep}
+use Rattle.silo_model.proofs.Tests.{either_way}
 use Rattle.silo_model.proofs.Sends.{has_sent, Less, does_less}
 use Rattle.silo_model.proofs.SharedSteps.{shared_leaves}
 
@@ -55,19 +57,18 @@ pub sends_stay : (logic : Logic) (w after : Whole) (s : Step) (g : Grain) (tenan
     → has_sent g (sends_of (map.get after.accounts tenant)) ≡ true → has_sent g (sends_of (map.get w.accounts tenant)) ≡ true
 sends_stay logic w after s g tenant None is step apart h =
     ap (λ accounts. has_sent g (sends_of (map.get accounts tenant))) (sym (shared_leaves w after s (sym (shared_by logic w s is) ∙ step)).accounts) ∙ h
-sends_stay logic w after s g tenant (Some owner) is step apart h = by_tenant (eq_by_cmp text_cmp tenant owner) refl
-  where
-    d : Did logic w s owner after
-    d = did logic w after s owner is step
-
-    by_tenant : (b : Bool) → eq_by_cmp text_cmp tenant owner ≡ b → has_sent g (sends_of (map.get w.accounts tenant)) ≡ true
-    by_tenant true tied =
-        let own : tenant ≡ owner = text_cmp_exact tenant owner ((Equal-is (text_cmp tenant owner)).0 tied) in
-        let there : map.get after.accounts tenant ≡ change_option (map.get w.accounts owner) d.what.account = changed_account logic w after s step tenant owner is
-        ∙ ap (map.get (change_at w.accounts owner d.what.account)) own
-        ∙ get-change_same text_cmp_total text_cmp_exact w.accounts owner d.what.account in
-        ap (λ t. has_sent g (sends_of (map.get w.accounts t))) own ∙ did_less logic w after s g owner apart d (ap (λ o. has_sent g (sends_of o)) (sym there) ∙ h)
-    by_tenant false other = ap (λ o. has_sent g (sends_of o)) (sym (account_stays logic w after s step tenant owner is other)) ∙ h
+sends_stay logic w after s g tenant (Some owner) is step apart h =
+    let d : Did logic w s owner after = did logic w after s owner is step in
+    either_way (eq_by_cmp text_cmp tenant owner)
+    (λ tied.
+    let own : tenant ≡ owner = text_cmp_exact tenant owner ((Equal-is (text_cmp tenant owner)).0 tied) in
+    let there : map.get after.accounts tenant ≡ change_option (map.get w.accounts owner) d.what.account =
+    changed_account logic w after s step tenant owner is
+    ∙ ap (map.get (change_at w.accounts owner d.what.account)) own
+    ∙ get-change_same text_cmp_total text_cmp_exact w.accounts owner d.what.account in
+    ap (λ t. has_sent g (sends_of (map.get w.accounts t))) own
+    ∙ did_less logic w after s g owner apart d (ap (λ o. has_sent g (sends_of o)) (sym there) ∙ h))
+    (λ other. ap (λ o. has_sent g (sends_of o)) (sym (account_stays logic w after s step tenant owner is other)) ∙ h)
 
 -- ---- whose account has it
 
@@ -76,16 +77,19 @@ sender_owns (End grain turn) g is = ap (λ (x : Grain). Some x.tenant) ((grain_e
 sender_owns _ g is = absurd (true≢false (sym is))
 
 module _ (logic : Logic) (w after : Whole) (s : Step) (step : whole_step logic w s ≡ Some after) (own : OwnSends w) (tenant : List ℕ) (g : Grain) (some : is_some (delivery_of g (map.get after.accounts tenant)) ≡ true) where
-  own_sent : is_among (sender_by s) g ≡ true → (b : Bool) → eq_by_cmp text_cmp tenant g.tenant ≡ b → g.tenant ≡ tenant
-  own_sent is true tied = sym (text_cmp_exact tenant g.tenant ((Equal-is (text_cmp tenant g.tenant)).0 tied))
-  own_sent is false apart = own tenant g (ap (λ o. is_some (delivery_of g o)) (sym (account_stays logic w after s step tenant g.tenant (sender_owns s g is) apart)) ∙ some)
-
-  own_by : (b : Bool) → is_among (sender_by s) g ≡ b → g.tenant ≡ tenant
-  own_by true is = own_sent is (eq_by_cmp text_cmp tenant g.tenant) refl
-  own_by false apart = own tenant g (delivers g (map.get w.accounts tenant) ∙ sends_stay logic w after s g tenant (owner_of s) refl step apart (sym (delivers g (map.get after.accounts tenant)) ∙ some))
-
-own_grow : (logic : Logic) (w after : Whole) (s : Step) → whole_step logic w s ≡ Some after → OwnSends w → OwnSends after
-own_grow logic w after s step own tenant g some = own_by logic w after s step own tenant g some (is_among (sender_by s) g) refl
+  own_sent : g.tenant ≡ tenant
+  own_sent =
+      either_way (is_among (sender_by s) g)
+      (λ is.
+      either_way (eq_by_cmp text_cmp tenant g.tenant)
+      (λ tied. sym (text_cmp_exact tenant g.tenant ((Equal-is (text_cmp tenant g.tenant)).0 tied)))
+      (λ apart.
+      let stays = account_stays logic w after s step tenant g.tenant (sender_owns s g is) apart in
+      own tenant g (ap (λ o. is_some (delivery_of g o)) (sym stays) ∙ some)))
+      (λ apart.
+      own tenant g
+      (delivers g (map.get w.accounts tenant)
+      ∙ sends_stay logic w after s g tenant (owner_of s) refl step apart (sym (delivers g (map.get after.accounts tenant)) ∙ some)))
 
 -- ---- where a silo opens
 
@@ -97,11 +101,7 @@ own_at_opening : (setup : Setup) → OwnSends (opening setup)
 unfolding opening
 own_at_opening setup tenant g some = absurd (true≢false (sym (none_there g (map.get (opening setup).accounts tenant) (limits_of setup.tenants tenant) (get-fresh_accounts setup.tenants tenant) some)))
 
-all_done_own : (logic : Logic) (w after : Whole) (steps : List Step) → OwnSends w → all_done logic w steps ≡ Some after → OwnSends after
-all_done_own logic w after [] own e = subst OwnSends (same_Some w after e) own
-all_done_own logic w after (s ∷ steps) own e =
-    let next = some_from_and_then (λ x. all_done logic x steps) (whole_step logic w s) after e in
-    all_done_own logic next.0 after steps (own_grow logic w next.0 s next.1 own) next.2
-
 pub sends_are_own : SendsAreOwn
-sends_are_own logic setup journal w leads = all_done_own logic (opening setup) w journal (own_at_opening setup) leads
+sends_are_own logic setup journal w leads =
+    all_keep (whole_step logic) OwnSends (λ m next s own step. own_sent logic m next s step own) (opening setup) w journal
+    (own_at_opening setup) leads

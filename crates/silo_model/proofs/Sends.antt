@@ -13,6 +13,7 @@ use Rattle.silo_model.specs.Sends.{first_from}
 use Rattle.silo_model.specs.Turns.{with_sends}
 use Rattle.silo_model.specs.Pending.{sends_of}
 use Rattle.silo_model.specs.Todo.{is_among, sender_by}
+use Rattle.silo_model.proofs.Tests.{on_test, on_found}
 use Rattle.silo_model.proofs.EffectKinds.{Role, Remains, untouched, without, Does, tells, accepts, closes}
 
 abbrev pub has_sent : Grain → List Send → Bool
@@ -20,12 +21,14 @@ has_sent g sends = is_some (first_from g sends)
 
 -- ---- lists of sends
 
+-- what is found, and what is left behind another
+abbrev behind : Send → Send × List Send → Send × List Send
+behind sent f = (f.0, sent ∷ f.1)
+
 has-cons : (g : Grain) (sent : Send) (sends : List Send) → has_sent g (sent ∷ sends) ≡ (grain_eq sent.source g || has_sent g sends)
-has-cons g sent sends = by_first (grain_eq sent.source g)
-  where
-    by_first : (b : Bool) → is_some {T = Send × List Send} (cond b (Some (sent, sends)) (option_map (λ (f : Send × List Send). (f.0, sent ∷ f.1)) (first_from g sends))) ≡ (b || has_sent g sends)
-    by_first true = refl
-    by_first false = is_some-option_map (λ (f : Send × List Send). (f.0, sent ∷ f.1)) (first_from g sends)
+has-cons g sent sends =
+    on_test (λ b. is_some {T = Send × List Send} (cond b (Some (sent, sends)) (option_map (behind sent) (first_from g sends))) ≡ (b || has_sent g sends))
+    (grain_eq sent.source g) (λ _. refl) (λ _. is_some-option_map (behind sent) (first_from g sends))
 
 or_instead : (a b c : Bool) → (b ≡ true → c ≡ true) → (a || b) ≡ true → (a || c) ≡ true
 or_instead true b c h e = refl
@@ -34,18 +37,18 @@ or_instead false b c h e = h e
 -- what is left without one has none of whom the whole list has none
 has_rest : (grain g : Grain) (sends : List Send) (found : Send × List Send) → first_from grain sends ≡ Some found → has_sent g found.1 ≡ true → has_sent g sends ≡ true
 has_rest grain g [] found is h = absurd (none-some found is)
-has_rest grain g (sent ∷ sends) found is h = has-cons g sent sends ∙ by_first (grain_eq sent.source grain) is (λ rest. has_rest grain g sends rest)
-  where
-    later : (o : Option (Send × List Send)) → option_map (λ (f : Send × List Send). (f.0, sent ∷ f.1)) o ≡ Some found → first_from grain sends ≡ o → ((rest : Send × List Send) → first_from grain sends ≡ Some rest → has_sent g rest.1 ≡ true → has_sent g sends ≡ true)
-        → (grain_eq sent.source g || has_sent g sends) ≡ true
-    later None e there smaller = absurd (none-some found e)
-    later (Some f) e there smaller =
-        or_instead (grain_eq sent.source g) (has_sent g f.1) (has_sent g sends) (smaller f there) (sym (has-cons g sent f.1) ∙ ap (λ (x : Send × List Send). has_sent g x.1) (same_Some (f.0, sent ∷ f.1) found e) ∙ h)
-
-    by_first : (b : Bool) → cond b (Some (sent, sends)) (option_map (λ (f : Send × List Send). (f.0, sent ∷ f.1)) (first_from grain sends)) ≡ Some found → ((rest : Send × List Send) → first_from grain sends ≡ Some rest → has_sent g rest.1 ≡ true → has_sent g sends ≡ true)
-        → (grain_eq sent.source g || has_sent g sends) ≡ true
-    by_first true e smaller = or_right (grain_eq sent.source g) (has_sent g sends) (ap (λ (x : Send × List Send). has_sent g x.1) (same_Some (sent, sends) found e) ∙ h)
-    by_first false e smaller = later (first_from grain sends) e refl smaller
+has_rest grain g (sent ∷ sends) found is h =
+    let here : Bool = grain_eq sent.source g in
+    let found_has : (f : Send × List Send) → Some f ≡ Some found → has_sent g f.1 ≡ true =
+    λ f e. ap (λ (x : Send × List Send). has_sent g x.1) (same_Some f found e) ∙ h in
+    has-cons g sent sends
+    ∙ on_test (λ b. cond b (Some (sent, sends)) (option_map (behind sent) (first_from grain sends)) ≡ Some found → (here || has_sent g sends) ≡ true)
+    (grain_eq sent.source grain) (λ _ e. or_right here (has_sent g sends) (found_has (sent, sends) e))
+    (λ _. on_found (λ o. option_map (behind sent) o ≡ Some found → (here || has_sent g sends) ≡ true) (first_from grain sends)
+    (λ _ e. absurd (none-some found e))
+    (λ f there e.
+    or_instead here (has_sent g f.1) (has_sent g sends) (has_rest grain g sends f there)
+    (sym (has-cons g sent f.1) ∙ found_has (behind sent f) e))) is
 
 abbrev sends_by : Grain → List Outgoing → List Send
 sends_by grain os = map_list (λ m. record { source = grain; message = m }) os

@@ -24,7 +24,8 @@ use Rattle.silo_model.specs.Step.{grain_of, effect_of, shared_step, step_by, mac
 use Rattle.silo_model.proofs.Changes.{OfPut, OfPutAt, changed_all}
 use Rattle.silo_model.proofs.Tests.{on_test}
 use Rattle.silo_model.proofs.Fair.{held, pend, one_if, numbered, IsFairEntry, IsFair, front_is_new}
-use Rattle.silo_model.proofs.EffectKinds.{role_of, effect_kind}
+use Rattle.silo_model.proofs.EffectKinds.{role_of}
+use Rattle.silo_model.proofs.MachineSteps.{by_machine_step}
 use Rattle.silo_model.proofs.Moves.{replied, sent, Quiet, asked_by, count_of, IsPlaced, IsFairAt, SeesFair, Counted, NumbersMove, Moves, does_moves}
 use Rattle.silo_model.proofs.SharedSteps.{AgeOf, get-kept_there}
 
@@ -106,12 +107,6 @@ applied_moves logic m s grain e fair moves = record {
 
 -- ---- steps of nobody
 
-tick_moves : (logic : Logic) (m new : Machine) (now : ℕ) (b : Bool) → IsFairMachine logic m → (if b then Some (record m { clock = now }) else None) ≡ Some new → MachineMoves logic m (Tick now) new
-tick_moves logic m new now true fair h =
-    subst (MachineMoves logic m (Tick now)) (same_Some (record m { clock = now }) new h)
-    (record { added = []; replies = sym (append-nil m.replies); fair = fair; balance = λ w quiet. omega arith })
-tick_moves logic m new now false fair h = absurd (none-some new h)
-
 due_parts : (a b c d : Bool) → not (a && b && c && d) ≡ false → (b ≡ true) × (c ≡ true)
 due_parts false b c d e = absurd (true≢false e)
 due_parts true false c d e = absurd (true≢false e)
@@ -146,30 +141,13 @@ sweep_moves logic m age_of fair = record {
   balance = λ w quiet. omega (arith, kept_weight (sent w) m.clock age_of m.entries);
 }
 
-shared_moves : (logic : Logic) (m new : Machine) (s : Step) → IsFairMachine logic m → shared_step m s ≡ Some new → MachineMoves logic m s new
-shared_moves logic m new (Tick now) fair h = tick_moves logic m new now (nat_le m.clock now) fair h
-shared_moves logic m new Sweep fair h = subst (MachineMoves logic m Sweep) (same_Some _ new h) (sweep_moves logic m (kind_age m.ages m.age) fair)
-shared_moves logic m new _ fair h = absurd (none-some new h)
-
 -- ---- every step
 
-module _ (logic : Logic) (law : ReadersAskNothing logic) (m new : Machine) (s : Step) (fair : IsFairMachine logic m) where
-  abbrev place : Option Grain
-  place = grain_of m.account s
-
-  by_effect : (r : Option Effect) → effect_of logic (context_at m place) s ≡ r → option_map (applied m place) r ≡ Some new
-      → MachineMoves logic m s new
-  unfolding context_at
-  by_effect None is h = absurd (none-some new h)
-  by_effect (Some e) is h =
-      subst (MachineMoves logic m s) (same_Some (applied m place e) new h)
-      (applied_moves logic m s place e fair
-      (does_moves logic law (context_at m place) s (sees_fair logic m place fair) (effect_kind logic (context_at m place) s e is)))
-
-  by_owner : (o : Option (List ℕ)) → step_by logic m s o ≡ Some new → MachineMoves logic m s new
-  by_owner None h = shared_moves logic m new s fair h
-  by_owner (Some owner) h = by_effect (effect_of logic (context_at m place) s) refl h
-
-  pub machine_moves : machine_step logic m s ≡ Some new → MachineMoves logic m s new
-  unfolding machine_step
-  machine_moves h = by_owner (owner_of s) h
+pub machine_moves : (logic : Logic) → ReadersAskNothing logic → (m new : Machine) (s : Step) → IsFairMachine logic m
+    → machine_step logic m s ≡ Some new → MachineMoves logic m s new
+machine_moves logic law m new s fair =
+    by_machine_step logic m new (MachineMoves logic m)
+    (λ now. record { added = []; replies = sym (append-nil m.replies); fair = fair; balance = λ w quiet. omega arith })
+    (sweep_moves logic m (kind_age m.ages m.age) fair) s (λ e does.
+    let place = grain_of m.account s in
+    applied_moves logic m s place e fair (does_moves logic law (context_at m place) s (sees_fair logic m place fair) does))
