@@ -1,23 +1,17 @@
 -- The answers at a tenant's steps in a list of many tenants' steps.
-use Rattle.std.proofs.Common.{◌≡◌, ℕ, Bool, true, false, cond, List, [], ◌∷◌, Option, Some, None, refl, ap, sym, ◌∙◌, subst}
-use Rattle.std.proofs.lemmas.Option.{none-some}
-use Rattle.silo_event.specs.Failed.{as_failed, marked_step}
-use Rattle.silo_event.specs.Owner.{owner_of}
-use Rattle.silo_event.specs.declared.step.Step.{Step}
-use Rattle.silo_event.specs.declared.step.Step.TheVariants.{Poke, Load, Store}
+use Rattle.silo_model.proofs.Common.{◌∙◌, ◌∷◌, ◌≡◌, AreAnswers, Bool, List, Load, Logic, Machine, None, Poke, Step, Store, Whole, [], ap}
+use Rattle.silo_model.proofs.Common.{as_failed, concerns, concerns_by, cond, false, machine_run, machine_step, none-some, owner_of, refl}
+use Rattle.silo_model.proofs.Common.{restricted_to, shown_to, subst, sym, true, whole_step, ℕ}
+use Rattle.silo_event.specs.Failed.{marked_step}
 use Rattle.silo_event.specs.declared.step.Answer.{Answer}
 use Rattle.silo_event.specs.declared.step.Answer.TheVariants as answer
-use Rattle.grain_kinds.specs.Logic.{Logic}
-use Rattle.silo_model.specs.Machine.{Machine}
-use Rattle.silo_model.specs.Step.{machine_step}
-use Rattle.silo_model.specs.Whole.{Whole, shown_to, whole_step}
-use Rattle.silo_model.specs.Run.{answer_of, answers_by, machine_run, concerns_by, concerns, restricted_to, answers_to, marked}
-use Rattle.silo_model.specs.Answers.{IsAnswer, IsAnswerBy, AreAnswers, AreMachineAnswers}
-use Rattle.silo_model.specs.Parts.{StepAnswersInParts, RunsAnswer}
-use Rattle.silo_model.proofs.Tests.{on_test, on_found}
+use Rattle.silo_model.specs.Run.{answer_of, answers_by, answers_to, marked}
+use Rattle.silo_model.specs.Answers.{AreMachineAnswers, IsAnswer, IsAnswerBy}
+use Rattle.silo_model.specs.Parts.{RunsAnswer, StepAnswersInParts}
+use Rattle.silo_model.proofs.Tests.{on_found, on_test}
 use Rattle.silo_model.proofs.Sound.{IsSound}
-use Rattle.silo_model.proofs.Isolation.{own_part, not_now}
-use Rattle.silo_model.proofs.Runs.{whole_after, machine_after, run_shown, next_shown, next_sound}
+use Rattle.silo_model.proofs.Isolation.{not_now, own_part}
+use Rattle.silo_model.proofs.Runs.{machine_after, next_shown, next_sound, run_shown, whole_after}
 use Rattle.silo_model.proofs.Journals.{journal_sound}
 
 -- ---- a step is its tenant's also where its storage call failed

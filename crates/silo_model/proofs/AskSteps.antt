@@ -1,29 +1,16 @@
 -- What a refused line, a poke and a status come to: by what the whole has of the asker's tenant and at the grain.
-use Rattle.std.proofs.Common.{◌≡◌, ◌≢◌, ℕ, Bool, true, false, ◌++◌, Option, Some, None, refl, ap, ◌∙◌}
-use Rattle.std.specs.Prelude.{Result, Ok, Err, if◌then◌else◌}
+use Rattle.silo_model.proofs.Common.{if◌then◌else◌, ◌++◌, ◌∙◌, ◌≡◌, ◌≢◌, Account, AcrossTenants, Bool, Change, Client, Context, Err, Fault}
+use Rattle.silo_model.proofs.Common.{Grain, Logic, None, Ok, Option, Party, Poke, Refuse, Result, Row, RowFault, Some, Status}
+use Rattle.silo_model.proofs.Common.{StorageFailed, Tree, UnknownKind, UnknownTenant, VersionsSpent, Whole, active_of, ap, change_at}
+use Rattle.silo_model.proofs.Common.{context_at, context_of, effect_of, false, gate, only_replies, poke_settled, poked, refl, row_poked}
+use Rattle.silo_model.proofs.Common.{row_told, shown_to, spent, spread, told, true, version_value, whole_step, ℕ}
 use Rattle.std.specs.FinMap as map
-use Rattle.grain_id.specs.Names.{Grain, Client}
-use Rattle.request_codec.specs.Tree.{Tree}
-use Rattle.grain_storage.specs.declared.row.Row.{Row}
-use Rattle.grain_storage.specs.Rows.{RowFault, spent}
 use Rattle.silo_event.specs.Fault.{refusal_fault}
-use Rattle.silo_event.specs.declared.fault.Fault.{Fault}
-use Rattle.silo_event.specs.declared.fault.Fault.TheVariants.{UnknownTenant, UnknownKind, AcrossTenants, StorageFailed, VersionsSpent}
 use Rattle.silo_event.specs.declared.refusal.Refusal.{Refusal}
-use Rattle.silo_event.specs.declared.reply.Party.{Party}
 use Rattle.silo_event.specs.declared.reply.Party.TheVariants as party
-use Rattle.silo_event.specs.declared.step.Step.TheVariants.{Refuse, Poke, Status}
-use Rattle.grain_kinds.specs.Logic.{Logic}
-use Rattle.silo_model.specs.Machine.{Account}
-use Rattle.silo_model.specs.Effect.{Context, Change, context_at, change_at, only_replies}
-use Rattle.silo_model.specs.Calls.{told, gate}
-use Rattle.silo_model.specs.Stores.{row_poked, version_value}
-use Rattle.silo_model.specs.Asks.{refused, row_told, poke_settled, poked, status_of, status_told}
-use Rattle.silo_model.specs.Step.{effect_of}
-use Rattle.silo_model.specs.Whole.{Whole, shown_to, spread, whole_step}
-use Rattle.silo_model.specs.Contexts.{active_of, context_of}
-use Rattle.silo_model.proofs.Contexts.{step_by_context, step_at_own}
-use Rattle.silo_model.proofs.CallRule.{gate_unknown_tenant, gate_across, gate_unknown_kind, gate_passed}
+use Rattle.silo_model.specs.Asks.{refused, status_of, status_told}
+use Rattle.silo_model.proofs.Contexts.{step_at_own, step_by_context}
+use Rattle.silo_model.proofs.CallRule.{gate_across, gate_passed, gate_unknown_kind, gate_unknown_tenant}
 use Rattle.silo_model.proofs.CallSteps.{spread-only_replies}
 
 module _ (logic : Logic) (w : Whole) (caller : Client) (id : ℕ) where

@@ -1,16 +1,10 @@
 -- What the call rule answers, by what is seen: for a call of a client, and for one that a grain sent.
-use Rattle.std.proofs.Common.{◌≡◌, ◌≢◌, ◌==◌, Bool, true, false, Option, Some, None, refl, ap, ◌∙◌}
-use Rattle.std.specs.Prelude.{Result, Ok, Err, nat_lt, length, if◌then◌else◌}
-use Rattle.grain_id.specs.Names.{Grain, same_text}
-use Rattle.grain_id.proofs.Order.{same_text_decides}
+use Rattle.silo_model.proofs.Common.{if◌then◌else◌, ◌==◌, ◌∙◌, ◌≡◌, ◌≢◌, Account, AcrossTenants, Bool, Context, Entry, Err, Fault, Grain}
+use Rattle.silo_model.proofs.Common.{Logic, MailboxFull, NoActivation, NoNumber, None, Ok, Option, Party, Result, Some, UnknownKind}
+use Rattle.silo_model.proofs.Common.{UnknownTenant, accepted, ap, called, false, gate, last_number, length, nat_lt, only_replies, refl}
+use Rattle.silo_model.proofs.Common.{same_text, same_text_decides, told, true}
 use Rattle.request_codec.specs.Call as codec
-use Rattle.silo_event.specs.declared.fault.Fault.{Fault}
-use Rattle.silo_event.specs.declared.fault.Fault.TheVariants.{UnknownTenant, UnknownKind, AcrossTenants, NoActivation, MailboxFull, NoNumber}
-use Rattle.silo_event.specs.declared.reply.Party.{Party}
-use Rattle.grain_kinds.specs.Logic.{Logic}
-use Rattle.silo_model.specs.Machine.{Account, Entry}
-use Rattle.silo_model.specs.Effect.{Context, only_replies}
-use Rattle.silo_model.specs.Calls.{told, last_number, kind_gate, gate, room, admitted, accepted, call_settled, called}
+use Rattle.silo_model.specs.Calls.{admitted, call_settled, kind_gate, room}
 use Rattle.silo_model.proofs.Contexts.{same_text-apart}
 
 module _ (logic : Logic) (s : Context) (g : Grain) where

@@ -1,25 +1,15 @@
 -- How a call is accepted or refused: by what the whole has of the caller's tenant and at the grain.
-use Rattle.std.proofs.Common.{◌≡◌, ◌≢◌, ℕ, ◌+◌, ◌==◌, true, false, List, [], ◌∷◌, ◌++◌, Option, Some, None, refl, ap, ◌∙◌}
-use Rattle.std.specs.Prelude.{Result, Ok, Err, nat_lt, length}
+use Rattle.silo_model.proofs.Common.{◌++◌, ◌+◌, ◌==◌, ◌∙◌, ◌∷◌, ◌≡◌, ◌≢◌, Account, AcrossTenants, Call, Client, Context, Effect, Entry, Err}
+use Rattle.silo_model.proofs.Common.{Fault, Grain, List, Logic, MailboxFull, NoActivation, NoNumber, None, Ok, Option, Party, Request}
+use Rattle.silo_model.proofs.Common.{Result, Some, Tree, UnknownKind, UnknownTenant, Whole, [], accepted, active_of, ap, append-nil, called}
+use Rattle.silo_model.proofs.Common.{context_at, context_of, effect_of, false, gate, last_number, length, nat_lt, only_replies, refl}
+use Rattle.silo_model.proofs.Common.{shown_to, spread, told, true, waiting, whole_step, with_request, ℕ}
 use Rattle.std.specs.FinMap as map
-use Rattle.std.proofs.lemmas.List.{append-nil}
-use Rattle.grain_id.specs.Names.{Grain, Client}
-use Rattle.request_codec.specs.Tree.{Tree}
 use Rattle.request_codec.specs.Call as codec
-use Rattle.silo_event.specs.declared.fault.Fault.{Fault}
-use Rattle.silo_event.specs.declared.fault.Fault.TheVariants.{UnknownTenant, UnknownKind, AcrossTenants, NoActivation, MailboxFull, NoNumber}
-use Rattle.silo_event.specs.declared.reply.Party.{Party}
 use Rattle.silo_event.specs.declared.reply.Party.TheVariants as party
-use Rattle.silo_event.specs.declared.step.Step.TheVariants.{Call}
-use Rattle.grain_kinds.specs.Logic.{Logic}
-use Rattle.silo_model.specs.Machine.{Account, Entry, Request, waiting}
-use Rattle.silo_model.specs.Effect.{Context, Effect, context_at, only_replies}
-use Rattle.silo_model.specs.Calls.{told, last_number, gate, with_request, accepted, called}
-use Rattle.silo_model.specs.Step.{effect_of}
-use Rattle.silo_model.specs.Whole.{Whole, shown_to, spread, whole_step}
-use Rattle.silo_model.specs.Contexts.{active_of, context_of}
-use Rattle.silo_model.proofs.Contexts.{step_by_context, step_at_own}
-use Rattle.silo_model.proofs.CallRule.{gate_unknown_tenant, gate_across, gate_unknown_kind, gate_passed, called_refused, called_no_number, called_no_activation, called_new, called_full, called_again}
+use Rattle.silo_model.proofs.Contexts.{step_at_own, step_by_context}
+use Rattle.silo_model.proofs.CallRule.{called_again, called_full, called_new, called_no_activation, called_no_number, called_refused}
+use Rattle.silo_model.proofs.CallRule.{gate_across, gate_passed, gate_unknown_kind, gate_unknown_tenant}
 
 -- the request that a call becomes, next after the account's last
 abbrev pub next_request : Account → Party → codec.Call → Request

@@ -1,11 +1,6 @@
 -- What a tick and a sweep come to.
-use Rattle.std.proofs.Common.{◌≡◌, ℕ, true, false, Some, None, refl, ap}
-use Rattle.std.specs.Prelude.{nat_le, if◌then◌else◌}
-use Rattle.idle_collector.specs.Ages.{kind_age}
-use Rattle.silo_event.specs.declared.step.Step.TheVariants.{Tick, Sweep}
-use Rattle.grain_kinds.specs.Logic.{Logic}
-use Rattle.silo_model.specs.Idle.{kept_entries}
-use Rattle.silo_model.specs.Whole.{Whole, whole_step}
+use Rattle.silo_model.proofs.Common.{if◌then◌else◌, ◌≡◌, Logic, None, Some, Sweep, Tick, Whole, ap, false, kept_entries, kind_age, nat_le}
+use Rattle.silo_model.proofs.Common.{refl, true, whole_step, ℕ}
 
 module _ (logic : Logic) (w : Whole) where
   -- the clock goes on

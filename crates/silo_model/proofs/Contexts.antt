@@ -1,19 +1,10 @@
 -- What a step's owner sees at its own grain is what the whole has there.
-use Rattle.std.proofs.Common.{◌≡◌, ◌≢◌, ℕ, true, false, cond, List, Option, Some, None, refl, ap, ◌∙◌}
-use Rattle.std.specs.Prelude.{option_map}
+use Rattle.silo_model.proofs.Common.{◌∙◌, ◌≡◌, ◌≢◌, Effect, FinMap, Grain, List, Logic, None, Option, Some, Step, Whole, ap, cond}
+use Rattle.silo_model.proofs.Common.{context_at, effect_of, false, false_from_ne_true, get-part, grain_cmp, grain_of, is_of, option_map}
+use Rattle.silo_model.proofs.Common.{owner_of, refl, same_text, same_text_decides, shown_to, spread, true, whole_step, ℕ}
 use Rattle.std.specs.FinMap as map
-use Rattle.std.specs.FinMap.{FinMap}
-use Rattle.std.proofs.lemmas.Bool.{false_from_ne_true}
-use Rattle.grain_id.specs.Names.{Grain, grain_cmp, same_text}
-use Rattle.silo_event.specs.Owner.{owner_of}
-use Rattle.silo_event.specs.declared.step.Step.{Step}
-use Rattle.grain_kinds.specs.Logic.{Logic}
-use Rattle.silo_model.specs.Effect.{Effect, context_at}
-use Rattle.silo_model.specs.Step.{grain_of, effect_of}
 pub use Rattle.silo_model.specs.Contexts.{active_of, context_of}
-use Rattle.silo_model.specs.Whole.{Whole, is_of, shown_to, spread, whole_owned_step, whole_step_by, whole_step}
-use Rattle.grain_id.proofs.Order.{same_text_decides}
-use Rattle.grain_id.proofs.ByGrain.{get-part}
+use Rattle.silo_model.specs.Whole.{whole_owned_step, whole_step_by}
 
 pub same_text-itself : (t : List ℕ) → same_text t t ≡ true
 same_text-itself t = (same_text_decides t t).1 refl

@@ -1,22 +1,14 @@
 -- A counter's turn asks nothing of the storage, sends nothing and says nothing of the activation, so every End of an open turn closes it.
-use Rattle.std.proofs.Common.{◌≡◌, ℕ, Bool, true, false, List, [], Option, Some, None, refl, ap, ◌∙◌}
-use Rattle.std.specs.Prelude.{codes, if◌then◌else◌, Result, Ok, Err, ℤ, ◌+ℤ◌, ◌++◌}
+use Rattle.silo_model.proofs.Common.{if◌then◌else◌, ◌++◌, ◌∙◌, ◌≡◌, Bool, End, Entry, Err, Grain, List, None, Ok, Option, Plan, Request}
+use Rattle.silo_model.proofs.Common.{Result, Some, Tree, Whole, [], ap, asks_nothing, change_at, closed_entry, counters, false, integer}
+use Rattle.silo_model.proofs.Common.{outcome_of, plan_of, ready, refl, reply_to, same, same_text, stays_or_goes, true, whole_step, ℕ, ℤ}
+use Rattle.std.specs.Prelude.{◌+ℤ◌, codes}
 use Rattle.std.specs.FinMap as map
-use Rattle.grain_id.specs.Names.{Grain, same_text}
-use Rattle.request_codec.specs.Tree.{Tree, integer}
 use Rattle.grain_kinds.specs.declared.fault.MethodFault.{MethodFault}
-use Rattle.grain_kinds.specs.declared.fault.MethodFault.TheVariants.{UnknownMethod, Misfit, OutOfRange}
-use Rattle.grain_kinds.specs.Logic.{Plan, asks_nothing, same}
-use Rattle.grain_kinds.specs.Shared.{keeps, becomes, is_null, for_shape, for_null, integer_field}
-use Rattle.grain_kinds.specs.Counter.{add_plan, get_plan, fits_64, number_of, number_plan}
-use Rattle.grain_kinds.specs.Counters.{counters}
+use Rattle.grain_kinds.specs.declared.fault.MethodFault.TheVariants.{Misfit, OutOfRange, UnknownMethod}
+use Rattle.grain_kinds.specs.Shared.{becomes, for_null, for_shape, integer_field, is_null, keeps}
+use Rattle.grain_kinds.specs.Counter.{add_plan, fits_64, get_plan, number_of, number_plan}
 use Rattle.grain_kinds.proofs.KeepSame.{counters_keep_same}
-use Rattle.silo_event.specs.declared.step.Step.TheVariants.{End}
-use Rattle.silo_model.specs.Machine.{Entry, Request, ready}
-use Rattle.silo_model.specs.Calls.{reply_to}
-use Rattle.silo_model.specs.Effect.{change_at}
-use Rattle.silo_model.specs.Turns.{plan_of, stays_or_goes, closed_entry, outcome_of}
-use Rattle.silo_model.specs.Whole.{Whole, whole_step}
 use Rattle.silo_model.proofs.TurnSteps.{end_silent_turn}
 use Rattle.silo_model.proofs.Leaving.{awake_stays}
 

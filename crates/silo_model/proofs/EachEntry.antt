@@ -1,22 +1,12 @@
 -- What holds of every entry along a run: of each that a step puts, where it held of the entry that the step sees.
-use Rattle.std.proofs.Common.{◌≡◌, ℕ, List, [], ◌∷◌, Option, Some, None, refl, sym, ◌∙◌, subst}
+use Rattle.silo_model.proofs.Common.{◌∙◌, ◌≡◌, Change, Context, Effect, Entry, Grain, LeadsTo, List, Logic, None, Option, Setup, Some, Step}
+use Rattle.silo_model.proofs.Common.{Whole, context_at, drop, get-part, grain_cmp, grain_cmp_exact, grain_cmp_total, is_of, keep, none-some}
+use Rattle.silo_model.proofs.Common.{opening, put, shown_to, some_if_passes, spread, subst, sym, whole_step, ℕ}
 use Rattle.std.specs.FinMap as map
-use Rattle.std.proofs.lemmas.Option.{none-some}
-use Rattle.finite_maps.proofs.Options.{some_if_passes}
-use Rattle.grain_id.specs.Names.{Grain, grain_cmp}
-use Rattle.grain_id.proofs.ByGrain.{get-part}
-use Rattle.grain_id.proofs.Order.{grain_cmp_total, grain_cmp_exact}
-use Rattle.silo_event.specs.declared.step.Step.{Step}
-use Rattle.grain_kinds.specs.Logic.{Logic}
-use Rattle.silo_model.specs.Machine.{Entry}
-use Rattle.silo_model.specs.Effect.{Context, Effect, Change, keep, put, drop, context_at}
-use Rattle.silo_model.specs.Whole.{Whole, is_of, shown_to, spread, whole_step}
-use Rattle.silo_model.specs.Opening.{Setup, opening}
-use Rattle.silo_model.specs.Journal.{LeadsTo}
 use Rattle.silo_model.proofs.Changes.{OfPut, OfPutAt, changed_all}
 use Rattle.silo_model.proofs.SharedSteps.{shared_leaves}
-use Rattle.silo_model.proofs.EffectKinds.{Role, role_of, Does}
-use Rattle.silo_model.proofs.Isolation.{place_in, by_owner, did_does}
+use Rattle.silo_model.proofs.EffectKinds.{Does, Role, role_of}
+use Rattle.silo_model.proofs.Isolation.{by_owner, did_does, place_in}
 use Rattle.silo_model.proofs.Journals.{all_keep}
 
 -- what an owner sees at a grain is an entry there

@@ -1,36 +1,28 @@
 -- What an effect can be: each step's is one of a few, so that what holds of each of these holds of every step.
-use Rattle.std.proofs.Common.{◌≡◌, ℕ, ◌==◌, Bool, true, false, List, [], ◌∷◌, Option, Some, None, refl, ap, sym, ◌∙◌, subst, true≢false, inl, inr}
-use Rattle.std.specs.Prelude.{◌⊎◌, ◌&&◌, Result, Ok, Err, option_map, option_and_then, nat_lt, length, if◌then◌else◌}
+use Rattle.silo_model.proofs.Common.{if◌then◌else◌, ◌&&◌, ◌==◌, ◌∙◌, ◌∷◌, ◌≡◌, ◌⊎◌, Abandon, Account, AcrossTenants, Activate, Begin, Bool}
+use Rattle.silo_model.proofs.Common.{Call, Change, Context, Deliver, Effect, End, Entry, Err, Fault, Grain, Keep, List, Load, Logic}
+use Rattle.silo_model.proofs.Common.{MailboxFull, NoActivation, NoMemory, NoNumber, None, Ok, Option, Outgoing, Party, Phase, Plan, Poke}
+use Rattle.silo_model.proofs.Common.{Refuse, Request, Result, Row, RowFault, Send, Some, StateChanged, Status, Step, StorageCall}
+use Rattle.silo_model.proofs.Common.{StorageFailed, Store, Sweep, Tick, Tree, UnknownKind, [], abandoned_entry, accepted, activated}
+use Rattle.silo_model.proofs.Common.{and_parts, and_right, ap, asks_nothing, called, change_option, clears_row, closed, closed_entry}
+use Rattle.silo_model.proofs.Common.{content_or, drop, effect_of, ends_activation, false, first_from, first_target, gate, grain_eq}
+use Rattle.silo_model.proofs.Common.{grain_of, inl, inr, is_idle, is_ready, keep, last_number, length, loaded, loading, may_open, nat_lt}
+use Rattle.silo_model.proofs.Common.{on_entry, opened, opened_if_ready, option_and_then, option_map, owner_of, plan_of, poke_settled, poked}
+use Rattle.silo_model.proofs.Common.{put, reads_row, ready, refl, reply_to, resting_by, row_changed, row_poked, row_told, row_written, same}
+use Rattle.silo_model.proofs.Common.{same_text, same_text_decides, sender_by, spent, stale, stays_or_goes, stored, stored_by, subst, sym}
+use Rattle.silo_model.proofs.Common.{tenant_of, told, true, true≢false, unloaded, until_by, version_of, waiting, with_sends, writes_row, ℕ}
 use Rattle.std.specs.FinMap as map
-use Rattle.std.proofs.lemmas.Bool.{and_parts, and_right}
-use Rattle.grain_id.specs.Names.{Grain, grain_eq, same_text}
-use Rattle.grain_id.proofs.Order.{same_text_decides}
-use Rattle.request_codec.specs.Tree.{Tree}
 use Rattle.request_codec.specs.Call as codec
-use Rattle.grain_storage.specs.declared.row.Row.{Row}
-use Rattle.grain_storage.specs.Rows.{RowFault, stale, spent, version_of, content_or}
-use Rattle.silo_event.specs.Owner.{owner_of, tenant_of}
-use Rattle.silo_event.specs.declared.fault.Fault.{Fault}
-use Rattle.silo_event.specs.declared.fault.Fault.TheVariants.{AcrossTenants, NoActivation, MailboxFull, NoNumber, UnknownKind, StorageFailed, StateChanged, NoMemory}
-use Rattle.silo_event.specs.declared.reply.Party.{Party}
 use Rattle.silo_event.specs.declared.reply.Party.TheVariants as party
-use Rattle.silo_event.specs.declared.step.Step.{Step}
-use Rattle.silo_event.specs.declared.step.Step.TheVariants.{Refuse, Call, Poke, Status, Deliver, Activate, Load, Begin, Store, End, Abandon, Tick, Sweep}
-use Rattle.grain_kinds.specs.Logic.{Logic, Plan, Outgoing, StorageCall, asks_nothing, reads_row, writes_row, clears_row, Keep, same}
-use Rattle.silo_model.specs.Machine.{Account, Entry, Request, Send, Phase, waiting, loading, ready}
-use Rattle.silo_model.specs.Effect.{Context, Effect, Change, keep, put, drop, on_entry, change_option}
-use Rattle.silo_model.specs.Calls.{reply_to, told, kind_gate, gate, room, admitted, accepted, last_number, call_settled, called}
-use Rattle.silo_model.specs.Asks.{row_told, poke_settled, poked, status_told}
-use Rattle.silo_model.specs.Sends.{first_from, first_target, on_account, delivered_to, delivered}
-use Rattle.silo_model.specs.Stores.{row_poked, row_written, row_cleared}
-use Rattle.silo_model.specs.Turns.{activated, unloaded, loaded, may_open, opened, opened_if_ready, plan_of, without_turn, until_by, resting_by, stays_or_goes, closed_entry, closed, with_sends}
-use Rattle.silo_model.specs.Turns.{ended_by, ended, ends_activation, row_changed, stored_by, stored, abandoned_entry, abandoned}
-use Rattle.silo_model.specs.Idle.{is_ready, is_idle}
-use Rattle.silo_model.specs.Step.{grain_of, at_turn, effect_of}
+use Rattle.silo_model.specs.Calls.{admitted, call_settled, kind_gate, room}
+use Rattle.silo_model.specs.Asks.{status_told}
+use Rattle.silo_model.specs.Sends.{delivered, delivered_to, on_account}
+use Rattle.silo_model.specs.Stores.{row_cleared}
+use Rattle.silo_model.specs.Turns.{abandoned, ended, ended_by, without_turn}
+use Rattle.silo_model.specs.Step.{at_turn}
 use Rattle.silo_model.specs.Saved.{touches_row}
-use Rattle.silo_model.specs.Todo.{sender_by}
 use Rattle.silo_model.proofs.TurnMaps.{Turns}
-use Rattle.silo_model.proofs.Tests.{on_test, on_found}
+use Rattle.silo_model.proofs.Tests.{on_found, on_test}
 use Rattle.silo_model.proofs.Leaving.{idle_parts, stays_or_goes_by}
 
 -- ---- what a step is to its owner

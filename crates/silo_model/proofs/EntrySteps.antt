@@ -1,21 +1,10 @@
 -- When an entry is activated, loaded, and a turn of it begun: by what the whole has at the grain.
-use Rattle.std.proofs.Common.{◌≡◌, ℕ, Bool, true, false, List, ◌∷◌, ◌++◌, Option, Some, None, refl, ap, ◌∙◌}
-use Rattle.std.specs.Prelude.{Err, flat_map, option_map, option_and_then, if◌then◌else◌}
+use Rattle.silo_model.proofs.Common.{if◌then◌else◌, ◌++◌, ◌∙◌, ◌∷◌, ◌≡◌, Activate, Begin, Bool, Effect, Entry, Err, Grain, List, Load}
+use Rattle.silo_model.proofs.Common.{Logic, None, Option, Request, Some, StorageFailed, Tree, Whole, activated, ap, append-nil, content_or}
+use Rattle.silo_model.proofs.Common.{context_of, effect_of, false, flat_map, loaded, loading, may_open, on_entry, opened, opened_if_ready}
+use Rattle.silo_model.proofs.Common.{option_and_then, option_map, ready, refl, reply_to, spread, true, unloaded, version_of, waiting}
+use Rattle.silo_model.proofs.Common.{whole_step, ℕ}
 use Rattle.std.specs.FinMap as map
-use Rattle.std.proofs.lemmas.List.{append-nil}
-use Rattle.grain_id.specs.Names.{Grain}
-use Rattle.grain_storage.specs.Rows.{version_of, content_or}
-use Rattle.request_codec.specs.Tree.{Tree}
-use Rattle.silo_event.specs.declared.fault.Fault.TheVariants.{StorageFailed}
-use Rattle.silo_event.specs.declared.step.Step.TheVariants.{Activate, Load, Begin}
-use Rattle.grain_kinds.specs.Logic.{Logic}
-use Rattle.silo_model.specs.Machine.{Entry, Request, waiting, loading, ready}
-use Rattle.silo_model.specs.Effect.{Effect, on_entry}
-use Rattle.silo_model.specs.Calls.{reply_to}
-use Rattle.silo_model.specs.Turns.{activated, unloaded, loaded, may_open, opened_if_ready, opened}
-use Rattle.silo_model.specs.Step.{effect_of}
-use Rattle.silo_model.specs.Whole.{Whole, spread, whole_step}
-use Rattle.silo_model.specs.Contexts.{context_of}
 use Rattle.silo_model.proofs.Contexts.{step_at_own}
 
 -- what is done to an entry that is there

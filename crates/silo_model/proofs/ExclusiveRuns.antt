@@ -1,36 +1,27 @@
 -- Along every list of answered steps the turns that are open are among those of the whole's entries, and so a turn that may write is alone.
-use Rattle.std.proofs.Common.{◌≡◌, ◌≢◌, ℕ, ◌==◌, Bool, true, false, cond, List, [], ◌∷◌, ◌++◌, Option, Some, None, unwrap_or, refl, ap, sym, ◌∙◌, subst, true≢false}
-use Rattle.std.specs.Prelude.{◌&&◌, not, filter}
-use Rattle.std.specs.List.{list_any, AllByRecursion}
-use Rattle.finite_maps.proofs.Lists.{all_weaker, all_append, all_at}
-use Rattle.silo_model.proofs.Tests.{on_test, on_found}
+use Rattle.silo_model.proofs.Common.{◌&&◌, ◌++◌, ◌==◌, ◌∙◌, ◌∷◌, ◌≡◌, ◌≢◌, Abandon, Account, AllByRecursion, AreAnswers, Begin, Bool, End}
+use Rattle.silo_model.proofs.Common.{Entry, Grain, List, Logic, None, Option, ReadersAskNothing, Request, Setup, Some, Step, Store, Whole}
+use Rattle.silo_model.proofs.Common.{[], all_weaker, ap, as_failed, cond, eq-eqb, false, false_from_ne_true, filter, grain_eq}
+use Rattle.silo_model.proofs.Common.{grain_eq_decides, grain_of, list_any, machine_run, not, opening, reads, refl, restricted_to, shown_to}
+use Rattle.silo_model.proofs.Common.{start_of, subst, sym, true, true≢false, unwrap_or, whole_run, whole_step, ℕ}
+use Rattle.finite_maps.proofs.Lists.{all_append, all_at}
+use Rattle.silo_model.proofs.Tests.{on_found, on_test}
 use Rattle.std.specs.FinMap as map
-use Rattle.std.proofs.lemmas.Bool.{eq-eqb, or_from, false_from_ne_true}
-use Rattle.grain_id.specs.Names.{Grain, grain_eq}
-use Rattle.grain_id.proofs.Order.{grain_eq_decides}
-use Rattle.silo_event.specs.Failed.{as_failed, marked_step}
-use Rattle.silo_event.specs.declared.step.Step.{Step}
-use Rattle.silo_event.specs.declared.step.Step.TheVariants.{Begin, Store, End, Abandon}
+use Rattle.std.proofs.lemmas.Bool.{or_from}
+use Rattle.silo_event.specs.Failed.{marked_step}
 use Rattle.silo_event.specs.declared.step.Answer.{Answer}
 use Rattle.silo_event.specs.declared.step.Answer.TheVariants as answer
-use Rattle.grain_kinds.specs.Logic.{Logic}
-use Rattle.grain_kinds.specs.Laws.{ReadersAskNothing}
-use Rattle.silo_model.specs.Machine.{Account, Entry, Request}
-use Rattle.silo_model.specs.Turns.{reads}
-use Rattle.silo_model.specs.Step.{grain_of}
-use Rattle.silo_model.specs.Whole.{Whole, shown_to, whole_step}
-use Rattle.silo_model.specs.Run.{machine_run, whole_run, restricted_to}
-use Rattle.silo_model.specs.Opening.{Setup, opening, start_of}
-use Rattle.silo_model.specs.Answers.{IsAnswer, AreAnswers}
-use Rattle.silo_model.specs.Exclusive.{OpenTurn, first_waiting, turn_begun, is_turn, turns_without, turns_after, WritersAlone, ExclusiveFrom, RunsAreExclusive}
-use Rattle.silo_model.proofs.Moves.{turn_in, KeepsTurns, ClosesTurn, OpensTurn, TurnsMove}
+use Rattle.silo_model.specs.Answers.{IsAnswer}
+use Rattle.silo_model.specs.Exclusive.{ExclusiveFrom, OpenTurn, RunsAreExclusive, WritersAlone, first_waiting, is_turn, turn_begun}
+use Rattle.silo_model.specs.Exclusive.{turns_after, turns_without}
+use Rattle.silo_model.proofs.Moves.{ClosesTurn, KeepsTurns, OpensTurn, TurnsMove, turn_in}
 use Rattle.silo_model.proofs.Contexts.{get-own}
 use Rattle.silo_model.proofs.Sound.{IsSound}
-use Rattle.silo_model.proofs.Runs.{whole_after, whole_run-append, run_sound}
+use Rattle.silo_model.proofs.Runs.{run_sound, whole_after, whole_run-append}
 use Rattle.silo_model.proofs.Opening.{opening_sound, replay_is_run}
 use Rattle.silo_model.proofs.StepMoves.{IsFairMachine}
-use Rattle.silo_model.proofs.FairRuns.{start_fair, run_fair}
-use Rattle.silo_model.proofs.WholeTurns.{AllFair, keeps_turns, closes_turn, begin_opens}
+use Rattle.silo_model.proofs.FairRuns.{run_fair, start_fair}
+use Rattle.silo_model.proofs.WholeTurns.{AllFair, begin_opens, closes_turn, keeps_turns}
 
 -- ---- the listed turns are open
 

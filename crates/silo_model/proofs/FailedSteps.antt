@@ -1,18 +1,9 @@
 -- A step is possible exactly where it is possible as one whose storage call failed.
-use Rattle.std.proofs.Common.{◌≡◌, ℕ, Bool, true, List, Option, Some, None, is_some, refl, ap, sym, ◌∙◌, true≢false}
-use Rattle.std.specs.Prelude.{option_map, option_and_then}
+use Rattle.silo_model.proofs.Common.{◌∙◌, ◌≡◌, Bool, Context, Effect, Entry, Grain, List, Load, Logic, None, Option, Phase, Poke, Request}
+use Rattle.silo_model.proofs.Common.{Some, Step, Store, Whole, ap, as_failed, context_at, effect_of, is_some, is_some-option_map, loaded}
+use Rattle.silo_model.proofs.Common.{loading, option_and_then, option_map, plan_of, ready, refl, shown_to, spread, stored, stored_by, sym}
+use Rattle.silo_model.proofs.Common.{true, true≢false, waiting, whole_step, ℕ}
 use Rattle.std.specs.FinMap as map
-use Rattle.finite_maps.proofs.Options.{is_some-option_map}
-use Rattle.grain_id.specs.Names.{Grain}
-use Rattle.silo_event.specs.Failed.{as_failed}
-use Rattle.silo_event.specs.declared.step.Step.{Step}
-use Rattle.silo_event.specs.declared.step.Step.TheVariants.{Poke, Load, Store}
-use Rattle.grain_kinds.specs.Logic.{Logic}
-use Rattle.silo_model.specs.Machine.{Entry, Request, Phase, waiting, loading, ready}
-use Rattle.silo_model.specs.Effect.{Context, Effect, context_at}
-use Rattle.silo_model.specs.Turns.{plan_of, loaded, stored_by, stored}
-use Rattle.silo_model.specs.Step.{effect_of}
-use Rattle.silo_model.specs.Whole.{Whole, shown_to, spread, whole_step}
 use Rattle.silo_model.specs.Laws.{FailingIsPossible}
 
 is_some-and_then : {A B C : Type 0} (f : A → Option B) (g : A → Option C) (o : Option A) → ((x : A) → is_some (f x) ≡ is_some (g x)) → is_some (option_and_then f o) ≡ is_some (option_and_then g o)

@@ -1,26 +1,14 @@
 -- What a machine's entries keep along every run: no number stands twice, a turn is open under its number and only where the entry is ready, and a turn that may write is alone.
-use Rattle.std.proofs.Common.{◌≡◌, ◌≢◌, ℕ, ◌+◌, ◌≤◌, ◌<◌, Bool, true, false, cond, List, ◌∷◌, Option, Some, None, refl, ap, sym, ◌∙◌, arith, true≢false}
-use Rattle.std.specs.Prelude.{◌==◌, nat_eq, sum_by, if◌then◌else◌, map as map_list}
-use Rattle.std.specs.List.{list_all}
-use Rattle.std.specs.Ordering.{nat_cmp, eq_by_cmp}
-use Rattle.std.specs.Cmp.{Equal-is, nat_cmp_total}
+use Rattle.silo_model.proofs.Common.{if◌then◌else◌, ◌+◌, ◌<◌, ◌==◌, ◌∙◌, ◌∷◌, ◌≡◌, ◌≢◌, ◌≤◌, Bool, Entries, Entry, Equal-is, Grain, List}
+use Rattle.silo_model.proofs.Common.{Logic, None, Option, Request, Some, ap, arith, at, cond, entries-none, eq-eqb, eq_by_cmp, eqb-true}
+use Rattle.silo_model.proofs.Common.{false, found_passes, get-none, grain_cmp_exact, grain_cmp_total, is_ready, list_all, map_list}
+use Rattle.silo_model.proofs.Common.{may_open, nat_cmp, nat_cmp-IsAntisymmetric, nat_cmp_total, nat_eq, none-some, reads, refl, same_Some}
+use Rattle.silo_model.proofs.Common.{sum_by, sum_by-cons, sym, total, total-none, total-remove, true, true≢false, ℕ}
 use Rattle.std.specs.FinMap as map
-use Rattle.std.specs.FinMap.{nat_cmp-IsAntisymmetric}
-use Rattle.std.proofs.lemmas.List.Sums.{sum_by-cons}
-use Rattle.std.proofs.lemmas.Option.{same_Some, none-some}
-use Rattle.std.proofs.lemmas.Bool.{eqb-true, eq-eqb}
-use Rattle.finite_maps.proofs.Totals.{at, total, total-insert, total-remove, total-len, total-none}
-use Rattle.finite_maps.proofs.Values.{found_passes}
-use Rattle.finite_maps.proofs.Maps.{entries-none, get-none}
+use Rattle.finite_maps.proofs.Totals.{total-insert, total-len}
 use Rattle.finite_maps.proofs.Options.{some_if_fails}
-use Rattle.grain_id.specs.Names.{Grain}
-use Rattle.grain_id.proofs.Order.{grain_cmp_total, grain_cmp_exact}
-use Rattle.grain_kinds.specs.Logic.{Logic}
-use Rattle.silo_model.specs.Machine.{Entry, Entries, Request}
-use Rattle.silo_model.specs.Turns.{reads, may_open}
-use Rattle.silo_model.specs.Idle.{is_ready}
 use Rattle.silo_model.proofs.TurnMaps.{Turns}
-use Rattle.silo_model.proofs.Tests.{on_test, either_way}
+use Rattle.silo_model.proofs.Tests.{either_way, on_test}
 
 -- the weight of an entry's requests, and of all requests that wait or are open
 abbrev pub held : (Request → ℕ) → Entry → ℕ

@@ -1,16 +1,8 @@
 -- What holds of every whole that a journal leads to, where methods that only read ask nothing of the storage.
-use Rattle.std.proofs.Common.{◌≡◌, ◌≢◌, List, [], ◌∷◌, Option, Some, None, unwrap_or, refl, sym, ◌∙◌, subst}
-use Rattle.std.specs.Prelude.{option_and_then}
-use Rattle.std.proofs.lemmas.Option.{none-some}
-use Rattle.silo_event.specs.declared.step.Step.{Step}
-use Rattle.grain_kinds.specs.Logic.{Logic}
-use Rattle.silo_model.specs.Whole.{Whole, shown_to, whole_step}
-use Rattle.silo_model.specs.Run.{restricted_to}
-use Rattle.silo_model.specs.Opening.{opening}
-use Rattle.silo_model.specs.Journal.{all_done}
-use Rattle.silo_model.specs.Answers.{AreAnswers}
-use Rattle.silo_model.specs.Exclusive.{done_answers, JournalsAreExclusive}
-use Rattle.silo_model.specs.Settled.{Settled, JournalsSettle}
+use Rattle.silo_model.proofs.Common.{◌∙◌, ◌∷◌, ◌≡◌, ◌≢◌, AreAnswers, List, Logic, None, Option, Some, Step, Whole, [], all_done, none-some}
+use Rattle.silo_model.proofs.Common.{opening, option_and_then, refl, restricted_to, shown_to, subst, sym, unwrap_or, whole_step}
+use Rattle.silo_model.specs.Exclusive.{JournalsAreExclusive, done_answers}
+use Rattle.silo_model.specs.Settled.{JournalsSettle, Settled}
 use Rattle.silo_model.proofs.Journals.{journals_replay}
 use Rattle.silo_model.proofs.FairRuns.{runs_settle}
 use Rattle.silo_model.proofs.ExclusiveRuns.{runs_are_exclusive}

@@ -1,32 +1,20 @@
 -- Along every run a machine stays fair, and each request is answered once, or waits, or is open.
-use Rattle.std.proofs.Common.{◌≡◌, ℕ, ◌+◌, ◌≤◌, Bool, true, false, List, [], ◌∷◌, Option, Some, None, unwrap_or, refl, ap, sym, ◌∙◌, subst, arith}
-use Rattle.std.specs.Prelude.{nat_eq, sum_by, map as map_list}
-use Rattle.std.specs.List.{AllByRecursion, IsDistinct}
+use Rattle.silo_model.proofs.Common.{◌+◌, ◌∙◌, ◌∷◌, ◌≡◌, ◌≤◌, AllByRecursion, Bool, Call, Client, Deliver, Entry, List, Logic, Machine}
+use Rattle.silo_model.proofs.Common.{None, Party, Poke, ReadersAskNothing, Refuse, Request, Setup, Status, Step, Sweep, [], all_pending, ap}
+use Rattle.silo_model.proofs.Common.{arith, asking_of, at, effect_of, eq-eqb, eqb-true, false, false_from_ne_true, grain_cmp, machine_run}
+use Rattle.silo_model.proofs.Common.{machine_step, map_list, nat_eq, none-some, pending_at, refl, restricted_to, start_of, subst, sum_alike}
+use Rattle.silo_model.proofs.Common.{sum_by, sum_by-append, sum_by-cons, sum_flat, sym, total-none, true, unwrap_or, ℕ}
+use Rattle.std.specs.List.{IsDistinct}
 use Rattle.std.specs.FinMap as map
-use Rattle.std.proofs.lemmas.Bool.{eqb-true, eq-eqb, false_from_ne_true}
-use Rattle.std.proofs.lemmas.List.Sums.{sum_by-cons, sum_by-append}
 use Rattle.std.proofs.lemmas.Map.Keys.{IsDistinct-cons}
-use Rattle.std.proofs.lemmas.Option.{none-some}
-use Rattle.finite_maps.proofs.Totals.{at, total-none}
-use Rattle.finite_maps.proofs.Sums.{sum_alike, sum_flat, sum_map}
-use Rattle.grain_id.specs.Names.{Client, grain_cmp}
-use Rattle.silo_event.specs.Asker.{asking_of}
-use Rattle.silo_event.specs.declared.reply.Party.{Party}
+use Rattle.finite_maps.proofs.Sums.{sum_map}
 use Rattle.silo_event.specs.declared.reply.Party.TheVariants as party
-use Rattle.silo_event.specs.declared.step.Step.{Step}
-use Rattle.silo_event.specs.declared.step.Step.TheVariants.{Refuse, Call, Poke, Status, Deliver, Sweep}
-use Rattle.grain_kinds.specs.Logic.{Logic}
-use Rattle.grain_kinds.specs.Laws.{ReadersAskNothing}
-use Rattle.silo_model.specs.Machine.{Machine, Entry, Request}
-use Rattle.silo_model.specs.Step.{effect_of, machine_step}
-use Rattle.silo_model.specs.Run.{machine_run, restricted_to}
-use Rattle.silo_model.specs.Opening.{Setup, start_of}
-use Rattle.silo_model.specs.Settled.{asks, is_client_with, pending_at, all_pending, Settled, RunsSettle}
+use Rattle.silo_model.specs.Settled.{RunsSettle, Settled, asks, is_client_with}
 use Rattle.silo_model.proofs.Opening.{replay_is_run}
 use Rattle.silo_model.proofs.Runs.{machine_after}
 use Rattle.silo_model.proofs.Tests.{on_found}
-use Rattle.silo_model.proofs.Fair.{held, pend, one_if, numbered}
-use Rattle.silo_model.proofs.Moves.{replied, sent, Quiet, asked_by}
+use Rattle.silo_model.proofs.Fair.{held, numbered, one_if, pend}
+use Rattle.silo_model.proofs.Moves.{Quiet, asked_by, replied, sent}
 use Rattle.silo_model.proofs.StepMoves.{IsFairMachine, machine_moves}
 
 -- ---- the start

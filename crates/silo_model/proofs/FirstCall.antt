@@ -1,40 +1,23 @@
 -- A counter's first call, step by step.
-use Rattle.std.proofs.Common.{◌≡◌, ℕ, ◌+◌, ◌<◌, ◌==◌, true, false, List, [], ◌∷◌, ◌++◌, Some, None, refl, ap, ◌∙◌}
+use Rattle.silo_model.proofs.Common.{if◌then◌else◌, ◌++◌, ◌+◌, ◌<◌, ◌==◌, ◌∙◌, ◌∷◌, ◌≡◌, Account, Activate, Begin, Call, Client, End, Entry}
+use Rattle.silo_model.proofs.Common.{Err, FinMap, Grain, LeadsTo, Limits, List, Load, Logic, None, Ok, Plan, Request, Setup, Some, Step}
+use Rattle.silo_model.proofs.Common.{Tree, Whole, [], active_of, all_done, ap, closed_entry, content_or, counters, false, fresh_account}
+use Rattle.silo_model.proofs.Common.{get-insert_same, grain_cmp, grain_cmp_exact, grain_cmp_total, integer, last_number, limits_of, loading}
+use Rattle.silo_model.proofs.Common.{lt-ltb, nat_cmp, nat_cmp-IsAntisymmetric, nat_cmp_total, nat_lt, opening, option_and_then, option_map}
+use Rattle.silo_model.proofs.Common.{outcome_of, plan_of, ready, refl, reply_to, same, told, true, version_of, waiting, whole_step, ℕ, ℤ}
 use Rattle.std.proofs.Math.IntN.{+ℤ_idl}
-use Rattle.std.proofs.lemmas.Bool.{lt-ltb}
-use Rattle.std.specs.Prelude.{Ok, Err, ℤ, pos, codes, option_map, option_and_then, nat_lt, if◌then◌else◌}
-use Rattle.std.specs.Ordering.{nat_cmp}
-use Rattle.std.specs.Cmp.{nat_cmp_total}
+use Rattle.std.specs.Prelude.{codes, pos}
 use Rattle.std.specs.FinMap as map
-use Rattle.std.specs.FinMap.{FinMap, nat_cmp-IsAntisymmetric}
-use Rattle.finite_maps.proofs.Maps.{get-insert_same}
-use Rattle.grain_id.specs.Names.{Grain, Client, grain_cmp}
-use Rattle.grain_id.proofs.Order.{grain_cmp_total, grain_cmp_exact}
-use Rattle.tenant_gate.specs.declared.limits.Limits.{Limits}
-use Rattle.tenant_gate.specs.Table.{limits_of}
-use Rattle.grain_storage.specs.Rows.{version_of, content_or}
-use Rattle.request_codec.specs.Tree.{Tree, integer}
 use Rattle.grain_kinds.specs.Shared.{becomes, keeps}
 use Rattle.grain_kinds.specs.Counter.{add_to, fits_64, number_plan}
-use Rattle.grain_kinds.specs.Counters.{counters}
 use Rattle.grain_kinds.specs.declared.fault.MethodFault.TheVariants.{OutOfRange}
 use Rattle.silo_event.specs.declared.reply.Party.TheVariants as party
-use Rattle.silo_event.specs.declared.step.Step.{Step}
-use Rattle.silo_event.specs.declared.step.Step.TheVariants.{Call, Activate, Load, Begin, End}
-use Rattle.silo_model.specs.Machine.{Account, Entry, Request, loading, waiting, ready}
-use Rattle.silo_model.specs.Calls.{told, reply_to, last_number}
-use Rattle.silo_model.specs.Turns.{plan_of, closed_entry, outcome_of}
-use Rattle.grain_kinds.specs.Logic.{Logic, Plan, same}
-use Rattle.silo_model.specs.Whole.{Whole, whole_step}
-use Rattle.silo_model.specs.Opening.{Setup, fresh_account, opening}
-use Rattle.silo_model.specs.Journal.{all_done, LeadsTo}
-use Rattle.silo_model.specs.FirstCall.{add_call, first_call, FirstCallAnswered}
-use Rattle.silo_model.proofs.CallSteps.{next_request, call_new}
-use Rattle.silo_model.proofs.EntrySteps.{activate_waiting, load_loading, begin_first}
+use Rattle.silo_model.specs.FirstCall.{FirstCallAnswered, add_call, first_call}
+use Rattle.silo_model.proofs.CallSteps.{call_new, next_request}
+use Rattle.silo_model.proofs.EntrySteps.{activate_waiting, begin_first, load_loading}
 use Rattle.silo_model.proofs.Counters.{end_counter}
 use Rattle.silo_model.proofs.Opening.{get-fresh_accounts, no_entry_of}
 use Rattle.silo_model.proofs.Fair.{may_open_alone}
-use Rattle.silo_model.specs.Contexts.{active_of}
 
 then_done : (logic : Logic) (w next after : Whole) (s : Step) (steps : List Step) → whole_step logic w s ≡ Some next → all_done logic next steps ≡ Some after → all_done logic w (s ∷ steps) ≡ Some after
 then_done logic w next after s steps step rest = ap (option_and_then (λ x. all_done logic x steps)) step ∙ rest

@@ -1,18 +1,14 @@
 -- Which entries a sweep takes.
-use Rattle.std.proofs.Common.{◌≡◌, ℕ, ◌≤◌, ◌<◌, ◌==◌, Bool, true, false, not, cond, length, Option, Some, None, refl, ap, sym, ◌∙◌, arith, true≢false}
-use Rattle.std.specs.Prelude.{◌&&◌, nat_le}
+use Rattle.silo_model.proofs.Common.{◌&&◌, ◌<◌, ◌==◌, ◌∙◌, ◌≡◌, ◌≤◌, Bool, Entry, Grain, IsIdle, None, Option, Phase, Some, Whole, and_from}
+use Rattle.silo_model.proofs.Common.{ap, arith, cond, due_moment, eq-eqb, eqb-true, false, is_idle, is_kept, is_ready, kept_entries}
+use Rattle.silo_model.proofs.Common.{kind_age, length, loading, nat_le, nil_from_length, not, ready, refl, sym, true, true≢false, waiting}
+use Rattle.silo_model.proofs.Common.{whole_swept, ℕ}
 use Rattle.std.specs.FinMap as map
-use Rattle.std.proofs.lemmas.Bool.{eqb-true, eq-eqb, and_from}
 use Rattle.std.proofs.lemmas.Bool.Decides.{nat_tests}
-use Rattle.grain_id.specs.Names.{Grain}
-use Rattle.idle_collector.specs.Ages.{kind_age}
-use Rattle.silo_model.specs.Machine.{Entry, Phase, waiting, loading, ready}
-use Rattle.silo_model.specs.Idle.{is_ready, is_idle, due_moment, is_due, is_kept, kept_entries}
-use Rattle.silo_model.specs.Whole.{Whole, whole_swept}
-use Rattle.silo_model.specs.Collected.{IsIdle, IdleGoes}
+use Rattle.silo_model.specs.Idle.{is_due}
+use Rattle.silo_model.specs.Collected.{IdleGoes}
 use Rattle.silo_model.proofs.SharedSteps.{get-kept}
 use Rattle.silo_model.proofs.ClockSteps.{sweep_is}
-use Rattle.std.proofs.lemmas.List.{nil_from_length}
 
 -- ---- one entry
 

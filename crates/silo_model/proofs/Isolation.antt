@@ -1,31 +1,22 @@
 -- A step that is done is the machine's on the part of each tenant that it concerns, and leaves every other part as it was.
-use Rattle.std.proofs.Common.{◌≡◌, ◌≢◌, ℕ, Bool, true, false, cond, List, [], ◌∷◌, ◌++◌, Option, Some, None, refl, ap, sym, ◌∙◌, subst, true≢false}
-use Rattle.std.specs.Prelude.{option_map, filter}
-use Rattle.std.specs.Ordering.{eq_by_cmp}
+use Rattle.silo_model.proofs.Common.{◌++◌, ◌∙◌, ◌∷◌, ◌≡◌, ◌≢◌, Change, Effect, Entry, Grain, List, Logic, Machine, None, Option, Reply}
+use Rattle.silo_model.proofs.Common.{Some, Step, Whole, [], ap, append-nil, applied, concerns, concerns_by, cond, context_at, drop}
+use Rattle.silo_model.proofs.Common.{effect_of, eq_by_cmp, eq_by_cmp-Decides, false, false_from_ne_true, filter, get-part, grain_cmp_exact}
+use Rattle.silo_model.proofs.Common.{grain_cmp_total, grain_of, is_of, is_to, keep, machine_step, none-some, none_from_option_map}
+use Rattle.silo_model.proofs.Common.{option_map, owner_of, put, refl, same_Some, same_text_decides, shared_step, shown_to, some_if_passes}
+use Rattle.silo_model.proofs.Common.{spread, subst, sym, tenant_of, text_cmp, text_cmp_exact, text_cmp_total, true, true≢false, whole_step}
+use Rattle.silo_model.proofs.Common.{ℕ}
 use Rattle.std.specs.FinMap as map
-use Rattle.std.proofs.lemmas.List.{append-nil}
 use Rattle.std.proofs.lemmas.List.Elements.{filter-append}
-use Rattle.std.proofs.lemmas.Option.{same_Some, none-some}
-use Rattle.std.proofs.lemmas.Bool.{false_from_ne_true}
-use Rattle.finite_maps.proofs.Options.{none_from_option_map, some_if_passes}
-use Rattle.grain_id.specs.Names.{Grain, text_cmp}
-use Rattle.silo_event.specs.Owner.{owner_of, tenant_of}
-use Rattle.silo_event.specs.declared.reply.Reply.{Reply}
-use Rattle.silo_event.specs.declared.step.Step.{Step}
-use Rattle.grain_kinds.specs.Logic.{Logic}
-use Rattle.silo_model.specs.Machine.{Machine, Entry}
-use Rattle.silo_model.specs.Effect.{Effect, Change, keep, put, drop, context_at, applied}
-use Rattle.silo_model.specs.Step.{grain_of, effect_of, owned_step, shared_step, step_by, machine_step}
-use Rattle.silo_model.specs.Run.{concerns_by, concerns}
-use Rattle.silo_model.specs.Whole.{Whole, is_of, is_to, shown_to, spread, whole_shared_step, whole_step_by, whole_step}
-use Rattle.grain_id.proofs.Order.{eq_by_cmp-Decides, same_text_decides, text_cmp_total, text_cmp_exact, grain_cmp_total, grain_cmp_exact}
-use Rattle.grain_id.proofs.ByGrain.{get-part}
-use Rattle.silo_model.proofs.Changes.{WhereChanged, WhereChanged-map, OfPut, OfPutAt, TestsAt, get-change_same, get-change_other, part-changed_in, part-changed_out, changed_all}
+use Rattle.silo_model.specs.Step.{owned_step, step_by}
+use Rattle.silo_model.specs.Whole.{whole_shared_step, whole_step_by}
+use Rattle.silo_model.proofs.Changes.{OfPut, OfPutAt, TestsAt, WhereChanged, WhereChanged-map, changed_all, get-change_other}
+use Rattle.silo_model.proofs.Changes.{get-change_same, part-changed_in, part-changed_out}
 use Rattle.silo_model.proofs.Tests.{on_found}
 use Rattle.silo_model.proofs.Contexts.{same_text-apart, shown_account, step_by_context}
-use Rattle.silo_model.proofs.SharedSteps.{shared_shown, shared_not, shared_sound}
+use Rattle.silo_model.proofs.SharedSteps.{shared_not, shared_shown, shared_sound}
 use Rattle.silo_model.proofs.Sound.{IsEntryOf, IsSound}
-use Rattle.silo_model.proofs.EffectKinds.{role_of, owner_is, Does, effect_kind}
+use Rattle.silo_model.proofs.EffectKinds.{Does, effect_kind, owner_is, role_of}
 use Rattle.silo_model.proofs.Proper.{AllTo, IsAt, IsProper, SeesOwn, does_proper}
 
 -- ---- replies

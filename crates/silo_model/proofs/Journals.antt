@@ -1,28 +1,17 @@
 -- What holds of every whole that a journal leads to.
-use Rattle.std.proofs.Common.{◌≡◌, ◌≢◌, ℕ, Bool, true, false, cond, List, [], ◌∷◌, ◌++◌, Option, Some, None, unwrap_or, refl, ap, sym, ◌∙◌, subst}
-use Rattle.std.specs.Prelude.{option_and_then}
-use Rattle.std.proofs.lemmas.List.{append-nil}
-use Rattle.std.proofs.lemmas.Option.{same_Some, none-some}
-use Rattle.finite_maps.proofs.Options.{some_from_and_then}
-use Rattle.silo_event.specs.Owner.{owner_of}
-use Rattle.silo_event.specs.declared.reply.Reply.{Reply}
-use Rattle.silo_event.specs.declared.step.Step.{Step}
-use Rattle.grain_kinds.specs.Logic.{Logic}
-use Rattle.silo_model.specs.Machine.{Machine}
-use Rattle.silo_model.specs.Step.{machine_step}
-use Rattle.silo_model.specs.Effect.{applied}
-use Rattle.silo_model.specs.Whole.{Whole, shown_to, spread, whole_step}
-use Rattle.silo_model.specs.Run.{whole_run, concerns, restricted_to}
-use Rattle.silo_model.specs.Opening.{Setup, opening}
-use Rattle.silo_model.specs.Journal.{all_done_by, machine_all_done, all_done, LeadsTo}
-use Rattle.silo_model.specs.Laws.{OwnPart, OtherParts, NotNow, RunsOn, JournalsReplay, JournalsGrow, PartsLead}
+use Rattle.silo_model.proofs.Common.{◌++◌, ◌∙◌, ◌∷◌, ◌≡◌, ◌≢◌, LeadsTo, List, Logic, Machine, None, Option, Reply, Setup, Some, Step, Whole}
+use Rattle.silo_model.proofs.Common.{[], all_done, ap, append-nil, applied, concerns, cond, machine_all_done, machine_step, none-some}
+use Rattle.silo_model.proofs.Common.{opening, option_and_then, owner_of, refl, restricted_to, same_Some, shown_to, some_from_and_then}
+use Rattle.silo_model.proofs.Common.{spread, subst, sym, unwrap_or, whole_run, whole_step, ℕ}
+use Rattle.silo_model.specs.Journal.{all_done_by}
+use Rattle.silo_model.specs.Laws.{JournalsGrow, JournalsReplay, NotNow, OtherParts, OwnPart, PartsLead, RunsOn}
 use Rattle.silo_model.proofs.Tests.{on_test}
 use Rattle.silo_model.proofs.Sound.{IsSound}
 use Rattle.silo_model.proofs.Proper.{AllTo}
 use Rattle.silo_model.proofs.SharedSteps.{shared_leaves}
 use Rattle.silo_model.proofs.Isolation as isolation
 use Rattle.silo_model.proofs.Runs.{run_shown}
-use Rattle.silo_model.proofs.Opening.{opening_sound, opening_shown}
+use Rattle.silo_model.proofs.Opening.{opening_shown, opening_sound}
 
 -- ---- from any whole
 

@@ -1,13 +1,8 @@
 -- Whether an entry goes as its turn closes: if it rests and is idle then.
-use Rattle.std.proofs.Common.{◌≡◌, ◌==◌, Bool, true, false, length, [], refl, ap}
-use Rattle.std.specs.Prelude.{◌&&◌, if◌then◌else◌}
+use Rattle.silo_model.proofs.Common.{if◌then◌else◌, ◌&&◌, ◌==◌, ◌≡◌, Bool, Change, Entry, [], and_from, and_parts, and_right, ap, drop}
+use Rattle.silo_model.proofs.Common.{eqb-true, false, is_idle, is_ready, length, nil_from_length, put, stays_or_goes, true}
 use Rattle.std.specs.FinMap as map
-use Rattle.std.proofs.lemmas.Bool.{eqb-true, and_parts, and_from, and_left, and_right}
-use Rattle.std.proofs.lemmas.List.{nil_from_length}
-use Rattle.silo_model.specs.Machine.{Entry}
-use Rattle.silo_model.specs.Effect.{Change, put, drop}
-use Rattle.silo_model.specs.Idle.{is_ready, is_idle}
-use Rattle.silo_model.specs.Turns.{stays_or_goes}
+use Rattle.std.proofs.lemmas.Bool.{and_left}
 use Rattle.silo_model.proofs.Tests.{on_test}
 
 module _ (e : Entry) where

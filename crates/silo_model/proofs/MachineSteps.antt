@@ -1,17 +1,10 @@
 -- What holds after a step of a machine, by whether its tenant takes it or nobody.
-use Rattle.std.proofs.Common.{◌≡◌, ℕ, true, false, List, Option, Some, None, refl, subst}
-use Rattle.std.specs.Prelude.{option_map, nat_le, if◌then◌else◌}
-use Rattle.std.proofs.lemmas.Option.{same_Some, none-some}
-use Rattle.grain_id.specs.Names.{Grain}
-use Rattle.silo_event.specs.Owner.{owner_of}
-use Rattle.silo_event.specs.declared.step.Step.{Step}
-use Rattle.silo_event.specs.declared.step.Step.TheVariants.{Tick, Sweep}
-use Rattle.grain_kinds.specs.Logic.{Logic}
-use Rattle.silo_model.specs.Machine.{Machine}
-use Rattle.silo_model.specs.Effect.{Effect, context_at, applied}
-use Rattle.silo_model.specs.Step.{grain_of, effect_of, swept, shared_step, step_by, machine_step}
-use Rattle.silo_model.proofs.EffectKinds.{role_of, Does, effect_kind}
-use Rattle.silo_model.proofs.Tests.{on_test, on_found}
+use Rattle.silo_model.proofs.Common.{if◌then◌else◌, ◌≡◌, Effect, Logic, Machine, None, Some, Step, Sweep, Tick, applied, context_at}
+use Rattle.silo_model.proofs.Common.{effect_of, grain_of, machine_step, nat_le, none-some, option_map, owner_of, same_Some, shared_step}
+use Rattle.silo_model.proofs.Common.{subst, ℕ}
+use Rattle.silo_model.specs.Step.{step_by, swept}
+use Rattle.silo_model.proofs.EffectKinds.{Does, effect_kind, role_of}
+use Rattle.silo_model.proofs.Tests.{on_found, on_test}
 
 module _ (logic : Logic) (m new : Machine) (P : Step → Machine → Type 0) (ticks : (now : ℕ) → P (Tick now) (record m { clock = now }))
     (sweeps : P Sweep (swept m)) where

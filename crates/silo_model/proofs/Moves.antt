@@ -1,38 +1,22 @@
 -- What each step does to the requests at its grain: their numbers stay apart, each is answered once or still waits or is open, and turns open and close as the step says.
-use Rattle.std.proofs.Common.{◌≡◌, ◌≢◌, ℕ, ◌+◌, ◌≤◌, Bool, true, false, cond, List, [], ◌∷◌, Option, Some, None, refl, ap, sym, ◌∙◌, arith, inl, inr}
-use Rattle.std.specs.Prelude.{◌⊎◌, Result, Err, flat_map, sum_by}
-use Rattle.std.specs.Ordering.{nat_cmp, eq_by_cmp}
-use Rattle.std.specs.Cmp.{nat_cmp_total}
-use Rattle.std.specs.FinMap.{nat_cmp-IsAntisymmetric}
-use Rattle.finite_maps.proofs.Totals.{at, total, total-none}
-use Rattle.finite_maps.proofs.Maps.{get-none, get-insert_same}
+use Rattle.silo_model.proofs.Common.{◌+◌, ◌∙◌, ◌∷◌, ◌≡◌, ◌≢◌, ◌≤◌, ◌⊎◌, Account, Change, Context, Effect, Entry, Err, Fault, Grain, List}
+use Rattle.silo_model.proofs.Common.{Logic, None, Option, Outgoing, Party, ReadersAskNothing, Reply, Request, Result, Row, Some, Step}
+use Rattle.silo_model.proofs.Common.{StorageFailed, Tree, [], accepted, ap, arith, at, change_option, cond, drop, eq_by_cmp, false}
+use Rattle.silo_model.proofs.Common.{false_from_ne_true, flat_map, get-insert_same, get-none, inl, inr, is_ready, keep, may_open, nat_cmp}
+use Rattle.silo_model.proofs.Common.{nat_cmp-IsAntisymmetric, nat_cmp_total, none-some, on_entry, put, reads, refl, reply_to, sum_by}
+use Rattle.silo_model.proofs.Common.{sum_by-append, sum_by-cons, sym, told, total, total-none, true, unloaded, with_request, with_sends, ℕ}
 use Rattle.std.specs.FinMap as map
-use Rattle.std.proofs.lemmas.List.Sums.{sum_by-cons, sum_by-append, sum_by_push}
-use Rattle.std.proofs.lemmas.Option.{none-some}
-use Rattle.std.proofs.lemmas.Bool.{false_from_ne_true}
-use Rattle.grain_id.specs.Names.{Grain}
-use Rattle.request_codec.specs.Tree.{Tree}
+use Rattle.std.proofs.lemmas.List.Sums.{sum_by_push}
 use Rattle.request_codec.specs.Call as codec
-use Rattle.grain_storage.specs.declared.row.Row.{Row}
-use Rattle.silo_event.specs.declared.fault.Fault.{Fault}
-use Rattle.silo_event.specs.declared.fault.Fault.TheVariants.{StorageFailed}
-use Rattle.silo_event.specs.declared.reply.Reply.{Reply}
-use Rattle.silo_event.specs.declared.reply.Party.{Party}
 use Rattle.silo_event.specs.declared.reply.Party.TheVariants as party
-use Rattle.silo_event.specs.declared.step.Step.{Step}
-use Rattle.grain_kinds.specs.Logic.{Logic, Outgoing}
-use Rattle.grain_kinds.specs.Laws.{ReadersAskNothing}
-use Rattle.silo_model.specs.Machine.{Account, Entry, Request}
-use Rattle.silo_model.specs.Effect.{Context, Effect, Change, keep, put, drop, on_entry, change_option}
-use Rattle.silo_model.specs.Calls.{reply_to, told, with_request, accepted}
-use Rattle.silo_model.specs.Turns.{unloaded, reads, may_open, with_sends}
-use Rattle.silo_model.specs.Idle.{is_ready}
-use Rattle.silo_model.specs.Exclusive.{turn_of_first, first_waiting}
+use Rattle.silo_model.specs.Exclusive.{first_waiting, turn_of_first}
 use Rattle.silo_model.proofs.Changes.{OfPut}
 use Rattle.silo_model.proofs.TurnMaps.{Turns}
 use Rattle.silo_model.proofs.Tests.{on_test}
-use Rattle.silo_model.proofs.EffectKinds.{Role, asks, enters, begins, ends, role_of, Remains, untouched, without, Stores, IsLeft, stays, goes, Does, tells, pokes, accepts, goes_on, unloads, opens, closes}
-use Rattle.silo_model.proofs.Fair.{held, IsFairEntry, FrontIsNew, same_number, one_less, one_more, none_left, no_turns, still_open, idle_entry, closed_entry, may_with, opened_entry}
+use Rattle.silo_model.proofs.EffectKinds.{Does, IsLeft, Remains, Role, Stores, accepts, asks, begins, closes, ends, enters, goes, goes_on}
+use Rattle.silo_model.proofs.EffectKinds.{opens, pokes, role_of, stays, tells, unloads, untouched, without}
+use Rattle.silo_model.proofs.Fair.{FrontIsNew, IsFairEntry, closed_entry, held, idle_entry, may_with, no_turns, none_left, one_less}
+use Rattle.silo_model.proofs.Fair.{one_more, opened_entry, same_number, still_open}
 
 -- ---- what is weighed
 

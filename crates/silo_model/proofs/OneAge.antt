@@ -1,21 +1,16 @@
 -- Where no plan says anything of the activation no entry stays or rests; and where no kind has an age of its own, one age counts.
-use Rattle.std.proofs.Common.{◌≡◌, ℕ, ◌+◌, ◌≤◌, ◌<◌, Bool, List, [], Option, Some, None, refl, ap, sym, ◌∙◌, subst, arith, inl, inr}
+use Rattle.silo_model.proofs.Common.{◌+◌, ◌<◌, ◌∙◌, ◌≡◌, ◌≤◌, Bool, Change, Entry, Grain, Keep, List, Logic, None, Option, Phase, Request}
+use Rattle.silo_model.proofs.Common.{Some, Whole, [], ap, arith, due_moment, inl, inr, kind_age, refl, resting_by, same, subst, sym}
+use Rattle.silo_model.proofs.Common.{until_by, whole_swept, with_request, ℕ}
 use Rattle.std.specs.FinMap as map
-use Rattle.grain_id.specs.Names.{Grain}
-use Rattle.idle_collector.specs.Ages.{Ages, kind_age}
-use Rattle.grain_kinds.specs.Logic.{Logic, Keep, same}
+use Rattle.idle_collector.specs.Ages.{Ages}
 use Rattle.grain_kinds.specs.Laws.{KeepsSame}
-use Rattle.silo_model.specs.Machine.{Entry, Phase, Request}
-use Rattle.silo_model.specs.Calls.{with_request}
-use Rattle.silo_model.specs.Effect.{Change}
-use Rattle.silo_model.specs.Idle.{due_moment}
-use Rattle.silo_model.specs.Turns.{until_by, resting_by}
-use Rattle.silo_model.specs.Whole.{Whole, whole_swept}
-use Rattle.silo_model.specs.Resting.{StaysUntil, LeavesYounger, OneAgeCounts}
+use Rattle.silo_model.specs.Resting.{LeavesYounger, OneAgeCounts, StaysUntil}
 use Rattle.silo_model.proofs.Changes.{OfPut}
 use Rattle.silo_model.proofs.ClockSteps.{sweep_is}
 use Rattle.silo_model.proofs.EachEntry.{Each, Puts, journal_each}
-use Rattle.silo_model.proofs.EffectKinds.{tells, pokes, accepts, goes_on, unloads, opens, closes, MaySay, IsAsSaid, IsLeft, stays, goes, IsEntered}
+use Rattle.silo_model.proofs.EffectKinds.{IsAsSaid, IsEntered, IsLeft, MaySay, accepts, closes, goes, goes_on, opens, pokes, stays, tells}
+use Rattle.silo_model.proofs.EffectKinds.{unloads}
 use Rattle.silo_model.proofs.IdleEntries.{due_goes, used_stays}
 use Rattle.silo_model.proofs.SameAges.{journal_ages}
 

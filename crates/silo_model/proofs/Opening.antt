@@ -1,19 +1,13 @@
 -- The opening whole is sound, and shows each tenant the start of its own machine.
-use Rattle.std.proofs.Common.{◌≡◌, ℕ, List, [], ap, sym, ◌∙◌}
-use Rattle.std.specs.Prelude.{option_map}
+use Rattle.silo_model.proofs.Common.{◌∙◌, ◌≡◌, Entry, List, Setup, [], ap, fresh_account, grain_cmp, grain_cmp_exact, grain_cmp_total}
+use Rattle.silo_model.proofs.Common.{is_of, limits_of, machine_run, none-some, opening, option_map, restricted_to, shown_to, start_of, sym}
+use Rattle.silo_model.proofs.Common.{texts, ℕ}
 use Rattle.std.specs.FinMap as map
-use Rattle.std.proofs.lemmas.Option.{none-some}
-use Rattle.grain_id.proofs.Keys.{texts}
 use Rattle.finite_maps.proofs.Entries.{get-lookup_seen}
 use Rattle.finite_maps.proofs.Maps.{part-empty}
-use Rattle.grain_id.specs.Names.{grain_cmp}
-use Rattle.tenant_gate.specs.Table.{Table, limits_of}
-use Rattle.silo_model.specs.Machine.{Entry}
-use Rattle.silo_model.specs.Whole.{is_of, shown_to}
-use Rattle.silo_model.specs.Run.{machine_run, restricted_to}
-use Rattle.silo_model.specs.Opening.{Setup, fresh_account, fresh_accounts, opening, start_of}
-use Rattle.silo_model.specs.Laws.{ReplayIsRun, AgreeingLists}
-use Rattle.grain_id.proofs.Order.{grain_cmp_total, grain_cmp_exact}
+use Rattle.tenant_gate.specs.Table.{Table}
+use Rattle.silo_model.specs.Opening.{fresh_accounts}
+use Rattle.silo_model.specs.Laws.{AgreeingLists, ReplayIsRun}
 use Rattle.silo_model.proofs.Sound.{IsSound}
 use Rattle.silo_model.proofs.Runs.{run_shown}
 

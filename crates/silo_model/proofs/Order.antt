@@ -1,29 +1,14 @@
 -- What waits at a grain stands in the order in which it was accepted, and what is open was accepted before it.
-use Rattle.std.proofs.Common.{◌≡◌, ℕ, ◌+◌, ◌<◌, ◌≤◌, Bool, true, false, List, [], ◌∷◌, ◌++◌, Option, Some, None, refl, ap, sym, ◌∙◌, subst, arith}
-use Rattle.std.specs.Prelude.{option_map, nat_le, if◌then◌else◌}
-use Rattle.std.specs.Ordering.{nat_cmp, eq_by_cmp}
-use Rattle.std.specs.Cmp.{nat_cmp_total}
+use Rattle.silo_model.proofs.Common.{if◌then◌else◌, ◌++◌, ◌+◌, ◌<◌, ◌∙◌, ◌∷◌, ◌≡◌, ◌≤◌, Change, Context, Effect, Entry, Grain, List, Logic}
+use Rattle.silo_model.proofs.Common.{Machine, None, Option, Request, Setup, Some, Step, [], ap, applied, arith, change_option, context_at}
+use Rattle.silo_model.proofs.Common.{eq_by_cmp, grain_cmp, grain_cmp_exact, grain_cmp_total, grain_of, kind_age, machine_step, nat_cmp}
+use Rattle.silo_model.proofs.Common.{nat_cmp_total, none-some, refl, restricted_to, same_Some, shown_to, start_of, subst, sym, with_request}
+use Rattle.silo_model.proofs.Common.{ℕ}
 use Rattle.std.specs.FinMap as map
-use Rattle.std.proofs.lemmas.Option.{same_Some, none-some}
-use Rattle.grain_id.specs.Names.{Grain, grain_cmp}
-use Rattle.grain_id.proofs.Order.{grain_cmp_total, grain_cmp_exact}
-use Rattle.idle_collector.specs.Ages.{kind_age}
-use Rattle.silo_event.specs.Owner.{owner_of}
-use Rattle.silo_event.specs.declared.step.Step.{Step}
-use Rattle.silo_event.specs.declared.step.Step.TheVariants.{Tick, Sweep}
-use Rattle.grain_kinds.specs.Logic.{Logic}
-use Rattle.silo_model.specs.Machine.{Machine, Entry, Request}
-use Rattle.silo_model.specs.Effect.{Context, Effect, Change, keep, change_option, context_at, applied}
-use Rattle.silo_model.specs.Calls.{with_request}
-use Rattle.silo_model.specs.Step.{grain_of, effect_of, shared_step, step_by, machine_step}
-use Rattle.silo_model.specs.Whole.{shown_to}
-use Rattle.silo_model.specs.Run.{restricted_to}
-use Rattle.silo_model.specs.Opening.{Setup, start_of}
-use Rattle.silo_model.specs.Journal.{machine_all_done}
 use Rattle.silo_model.specs.Order.{AllBehind, Ascend, BeginInOrder}
 use Rattle.silo_model.proofs.Changes.{OfPutAt, changed_all}
-use Rattle.silo_model.proofs.EffectKinds.{Role, role_of, Does, tells, pokes, accepts, goes_on, unloads, opens, closes, IsLeft, stays, goes, effect_kind}
-use Rattle.silo_model.proofs.Moves.{count_of, count-with_sends, remains_count}
+use Rattle.silo_model.proofs.EffectKinds.{Does, IsLeft, Role, accepts, closes, goes, goes_on, opens, pokes, role_of, stays, tells, unloads}
+use Rattle.silo_model.proofs.Moves.{count-with_sends, count_of, remains_count}
 use Rattle.silo_model.proofs.Journals.{all_keep, parts_lead}
 use Rattle.silo_model.proofs.MachineSteps.{by_machine_step}
 use Rattle.silo_model.proofs.Tests.{on_test}

@@ -1,34 +1,18 @@
 -- What a grain sent is in the account of its own tenant, and a step adds to it only what its own grain sends.
-use Rattle.std.proofs.Common.{◌≡◌, ℕ, Bool, true, false, List, [], ◌∷◌, Option, Some, None, refl, ap, sym, ◌∙◌, subst, true≢false}
-use Rattle.std.specs.Prelude.{is_some, option_map}
-use Rattle.std.specs.Ordering.{eq_by_cmp}
-use Rattle.std.specs.Cmp.{Equal-is}
+use Rattle.silo_model.proofs.Common.{◌∙◌, ◌≡◌, Account, Deliver, End, Equal-is, Grain, Limits, List, Logic, None, Option, Setup, Some, Step}
+use Rattle.silo_model.proofs.Common.{Whole, ap, change_at, change_option, context_at, delivery_of, eq_by_cmp, false, first_from}
+use Rattle.silo_model.proofs.Common.{fresh_account, grain_eq, grain_eq_decides, is_among, is_some, is_some-option_map, limits_of, opening}
+use Rattle.silo_model.proofs.Common.{option_map, owner_of, refl, sender_by, sends_of, shown_to, spread, sym, text_cmp, text_cmp_exact}
+use Rattle.silo_model.proofs.Common.{text_cmp_total, true, true≢false, whole_step, ℕ}
 use Rattle.std.specs.FinMap as map
-use Rattle.std.proofs.lemmas.Option.{same_Some}
-use Rattle.finite_maps.proofs.Options.{some_from_and_then, is_some-option_map}
 use Rattle.std.proofs.Math.Bool.{or-false}
-use Rattle.grain_id.specs.Names.{Grain, grain_eq, text_cmp}
-use Rattle.grain_id.proofs.Order.{grain_eq_decides, text_cmp_total, text_cmp_exact}
-use Rattle.tenant_gate.specs.declared.limits.Limits.{Limits}
-use Rattle.tenant_gate.specs.Table.{limits_of}
-use Rattle.silo_event.specs.Owner.{owner_of}
-use Rattle.silo_event.specs.declared.step.Step.{Step}
-use Rattle.silo_event.specs.declared.step.Step.TheVariants.{Deliver, End}
-use Rattle.grain_kinds.specs.Logic.{Logic}
-use Rattle.silo_model.specs.Machine.{Account}
-use Rattle.silo_model.specs.Effect.{change_option, change_at, context_at}
-use Rattle.silo_model.specs.Sends.{first_from}
-use Rattle.silo_model.specs.Whole.{Whole, shown_to, spread, whole_step}
-use Rattle.silo_model.specs.Opening.{Setup, fresh_account, opening}
-use Rattle.silo_model.specs.Journal.{all_done}
-use Rattle.silo_model.specs.Pending.{sends_of}
-use Rattle.silo_model.specs.Todo.{delivery_of, is_among, sender_by, OwnSends, SendsAreOwn}
-use Rattle.silo_model.proofs.Changes.{get-change_same, get-change_other}
+use Rattle.silo_model.specs.Todo.{OwnSends, SendsAreOwn}
+use Rattle.silo_model.proofs.Changes.{get-change_other, get-change_same}
 use Rattle.silo_model.proofs.Isolation.{Did, did, did_does, shared_by}
 use Rattle.silo_model.proofs.Opening.{get-fresh_accounts}
 use Rattle.silo_model.proofs.Journals.{all_keep}
 use Rattle.silo_model.proofs.Tests.{either_way}
-use Rattle.silo_model.proofs.Sends.{has_sent, Less, does_less}
+use Rattle.silo_model.proofs.Sends.{Less, does_less, has_sent}
 use Rattle.silo_model.proofs.SharedSteps.{shared_leaves}
 
 -- ---- what is to be delivered

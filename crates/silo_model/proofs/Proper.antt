@@ -1,23 +1,12 @@
 -- What a step does stays with its owner.
-use Rattle.std.proofs.Common.{◌≡◌, ℕ, List, [], ◌∷◌, ◌++◌, Option, Some, None, sym, ◌∙◌, subst}
-use Rattle.std.specs.Prelude.{Result, Err, flat_map}
-use Rattle.std.proofs.lemmas.Option.{same_Some}
-use Rattle.grain_id.specs.Names.{Grain}
-use Rattle.request_codec.specs.Tree.{Tree}
-use Rattle.silo_event.specs.Owner.{tenant_of}
-use Rattle.silo_event.specs.declared.fault.Fault.{Fault}
-use Rattle.silo_event.specs.declared.fault.Fault.TheVariants.{StorageFailed}
-use Rattle.silo_event.specs.declared.reply.Reply.{Reply}
-use Rattle.silo_event.specs.declared.reply.Party.{Party}
+use Rattle.silo_model.proofs.Common.{◌++◌, ◌∙◌, ◌∷◌, ◌≡◌, Change, Context, Effect, Entry, Err, Fault, Grain, List, Logic, None, Option}
+use Rattle.silo_model.proofs.Common.{Party, Reply, Request, Result, Some, Step, StorageFailed, Tree, [], flat_map, reply_to, same_Some}
+use Rattle.silo_model.proofs.Common.{subst, sym, tenant_of, ℕ}
 use Rattle.silo_event.specs.declared.reply.Party.TheVariants as party
-use Rattle.silo_event.specs.declared.step.Step.{Step}
-use Rattle.grain_kinds.specs.Logic.{Logic}
-use Rattle.silo_model.specs.Machine.{Entry, Request}
-use Rattle.silo_model.specs.Effect.{Context, Effect, Change}
-use Rattle.silo_model.specs.Calls.{reply_to}
-use Rattle.silo_model.proofs.Changes.{WhereChanged, WhereChanged-holds, OfPut}
-use Rattle.silo_model.proofs.EffectKinds.{Role, role_owner, IsLeft, stays, goes, Does, tells, pokes, accepts, goes_on, unloads, opens, closes}
-use Rattle.silo_model.proofs.Sound.{AllFrom, AreOpenFrom, IsEntryOf, with_request-IsEntryOf, insert-AreOpenFrom, remove-AreOpenFrom}
+use Rattle.silo_model.proofs.Changes.{OfPut, WhereChanged, WhereChanged-holds}
+use Rattle.silo_model.proofs.EffectKinds.{Does, IsLeft, Role, accepts, closes, goes, goes_on, opens, pokes, role_owner, stays, tells}
+use Rattle.silo_model.proofs.EffectKinds.{unloads}
+use Rattle.silo_model.proofs.Sound.{AllFrom, AreOpenFrom, IsEntryOf, insert-AreOpenFrom, remove-AreOpenFrom, with_request-IsEntryOf}
 
 -- each of the replies is to the tenant
 abbrev pub AllTo : List ℕ → List Reply → Type 0

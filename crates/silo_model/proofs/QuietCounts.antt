@@ -1,18 +1,12 @@
 -- A silo is quiet exactly if nothing waits or is open, and nothing is left of what was sent.
-use Rattle.std.proofs.Common.{◌≡◌, ℕ, ◌+◌, ◌≤◌, Bool, true, false, cond, List, [], length, Option, Some, None, refl, ap, sym, ◌∙◌, arith}
-use Rattle.std.proofs.lemmas.List.{nil_from_length}
-use Rattle.std.proofs.lemmas.List.Sums.{sum_by-append}
-use Rattle.finite_maps.proofs.Options.{some_if_passes}
+use Rattle.silo_model.proofs.Common.{◌+◌, ◌∙◌, ◌≡◌, ◌≤◌, Account, Entries, Entry, Grain, List, Machine, Request, Some, Whole, []}
+use Rattle.silo_model.proofs.Common.{all_pending, ap, arith, at, get-part, grain_cmp_total, is_of, length, nil_from_length, pending_at}
+use Rattle.silo_model.proofs.Common.{refl, sends_of, shown_to, some_if_passes, sum_alike, sum_by-append, sym, text_cmp_exact}
+use Rattle.silo_model.proofs.Common.{text_cmp_total, total, total-remove, ℕ}
 use Rattle.std.specs.FinMap as map
-use Rattle.finite_maps.proofs.Totals.{at, total, total-remove, total_alike}
-use Rattle.finite_maps.proofs.Sums.{sum_zero, sum_one, sum_alike}
-use Rattle.grain_id.specs.Names.{Grain}
-use Rattle.grain_id.proofs.Order.{grain_cmp_total, text_cmp_total, text_cmp_exact}
-use Rattle.grain_id.proofs.ByGrain.{get-part}
-use Rattle.silo_model.specs.Machine.{Machine, Account, Entry, Entries, Request}
-use Rattle.silo_model.specs.Whole.{Whole, is_of, shown_to}
-use Rattle.silo_model.specs.Settled.{pending_at, all_pending}
-use Rattle.silo_model.specs.Pending.{sends_of, AllQuiet, pending_in, sent_in, QuietByCounts}
+use Rattle.finite_maps.proofs.Totals.{total_alike}
+use Rattle.finite_maps.proofs.Sums.{sum_one, sum_zero}
+use Rattle.silo_model.specs.Pending.{AllQuiet, QuietByCounts, pending_in, sent_in}
 use Rattle.silo_model.proofs.Contexts.{get-own, shown_account}
 use Rattle.silo_model.proofs.Tests.{on_found}
 use Rattle.silo_model.proofs.Fair.{held, pend, within_all}

@@ -1,22 +1,11 @@
 -- Two turns that only read are open together.
-use Rattle.std.proofs.Common.{◌≡◌, ◌≢◌, true, cond, List, ◌∷◌, Some, refl, ap, ◌∙◌}
-use Rattle.std.specs.Prelude.{if◌then◌else◌, ◌==◌, map as map_list, ◌&&◌}
-use Rattle.std.specs.List.{list_all}
-use Rattle.std.specs.Ordering.{nat_cmp, eq_by_cmp}
-use Rattle.std.specs.Cmp.{nat_cmp_total}
+use Rattle.silo_model.proofs.Common.{if◌then◌else◌, ◌&&◌, ◌==◌, ◌∙◌, ◌∷◌, ◌≡◌, ◌≢◌, Entry, Grain, List, Logic, Request, Some, Whole, ap}
+use Rattle.silo_model.proofs.Common.{cond, entries-none, eq_by_cmp, false_from_ne_true, get-insert_same, grain_cmp_exact, grain_cmp_total}
+use Rattle.silo_model.proofs.Common.{list_all, map_list, may_open, nat_cmp, nat_cmp-IsAntisymmetric, nat_cmp_total, reads, refl, true}
 use Rattle.std.specs.FinMap as map
-use Rattle.std.specs.FinMap.{nat_cmp-IsAntisymmetric}
 use Rattle.std.specs.FinMap.Entries.{put}
-use Rattle.finite_maps.proofs.Maps.{entries-none, get-insert_same}
-use Rattle.std.proofs.lemmas.Bool.{false_from_ne_true}
-use Rattle.grain_id.specs.Names.{Grain}
-use Rattle.grain_id.proofs.Order.{grain_cmp_total, grain_cmp_exact}
-use Rattle.grain_kinds.specs.Logic.{Logic}
-use Rattle.silo_model.specs.Machine.{Entry, Request}
-use Rattle.silo_model.specs.Turns.{reads, may_open}
-use Rattle.silo_model.specs.Whole.{Whole}
 use Rattle.silo_model.specs.Readers.{ReadersTogether}
-use Rattle.silo_model.proofs.Fair.{same_number, may_open_alone}
+use Rattle.silo_model.proofs.Fair.{may_open_alone, same_number}
 use Rattle.silo_model.proofs.TurnMaps.{Turns}
 use Rattle.silo_model.proofs.EntrySteps.{begin_first}
 

@@ -1,21 +1,16 @@
 -- The replies of all tenants, step by step.
-use Rattle.std.proofs.Common.{◌≡◌, ℕ, true, List, [], ◌∷◌, ◌++◌, length, drop, Option, Some, None, unwrap_or, refl, ap, sym, ◌∙◌, subst, append_assoc, arith}
-use Rattle.std.proofs.lemmas.List.{append-nil, drop_all}
+use Rattle.silo_model.proofs.Common.{◌++◌, ◌∙◌, ◌∷◌, ◌≡◌, List, Logic, Machine, None, Option, Setup, Some, Step, Whole, [], ap, append-nil}
+use Rattle.silo_model.proofs.Common.{append_assoc, arith, concerns_by, length, machine_run, machine_step, opening, owner_of, refl}
+use Rattle.silo_model.proofs.Common.{restricted_to, shown_to, start_of, subst, sym, true, unwrap_or, whole_run, whole_step, ℕ}
+use Rattle.std.proofs.Common.{drop}
+use Rattle.std.proofs.lemmas.List.{drop_all}
 use Rattle.std.proofs.Math.Seq.{drop-append_seam}
-use Rattle.silo_event.specs.Owner.{owner_of}
-use Rattle.silo_event.specs.declared.step.Step.{Step}
-use Rattle.grain_kinds.specs.Logic.{Logic}
-use Rattle.silo_model.specs.Machine.{Machine}
-use Rattle.silo_model.specs.Step.{machine_step}
-use Rattle.silo_model.specs.Whole.{Whole, shown_to, whole_step}
-use Rattle.silo_model.specs.Run.{machine_run, whole_run, concerns_by, restricted_to}
-use Rattle.silo_model.specs.Opening.{Setup, opening, start_of}
-use Rattle.silo_model.specs.Replies.{replies_added, owner_adds, owners_add, RepliesInOrder}
+use Rattle.silo_model.specs.Replies.{RepliesInOrder, owner_adds, owners_add, replies_added}
 use Rattle.silo_model.proofs.Sound.{IsSound}
 use Rattle.silo_model.proofs.Contexts.{same_text-itself}
 use Rattle.silo_model.proofs.SharedSteps.{shared_leaves}
-use Rattle.silo_model.proofs.Isolation.{shared_by, owners_part, not_now}
-use Rattle.silo_model.proofs.Runs.{whole_after, whole_run-append, run_sound}
+use Rattle.silo_model.proofs.Isolation.{not_now, owners_part, shared_by}
+use Rattle.silo_model.proofs.Runs.{run_sound, whole_after, whole_run-append}
 use Rattle.silo_model.proofs.Opening.{opening_sound, replay_is_run}
 use Rattle.silo_model.proofs.Journals.{adds_owned, journals_replay}
 

@@ -1,27 +1,18 @@
 -- An entry that rests goes as soon as it is idle.
-use Rattle.std.proofs.Common.{◌≡◌, ℕ, ◌==◌, Bool, true, false, length, List, [], ◌∷◌, ◌++◌, Option, Some, None, refl, ap, sym, ◌∙◌, true≢false, inl, inr}
-use Rattle.std.specs.Prelude.{◌&&◌}
-use Rattle.std.specs.Cmp.{nat_cmp_total}
+use Rattle.silo_model.proofs.Common.{◌&&◌, ◌++◌, ◌==◌, ◌∙◌, ◌∷◌, ◌≡◌, Bool, Change, End, Entry, Grain, Keep, List, Logic, None, Option}
+use Rattle.silo_model.proofs.Common.{Phase, Plan, Request, Some, Whole, [], and_from, and_right, ap, change_at, closed_entry, drop, eq-eqb}
+use Rattle.silo_model.proofs.Common.{false, false_from_ne_true, get-insert_same, get-none, grain_cmp_exact, grain_cmp_total, inl, inr}
+use Rattle.silo_model.proofs.Common.{is_idle, length, nat_cmp-IsAntisymmetric, nat_cmp_total, none-some, outcome_of, plan_of, refl}
+use Rattle.silo_model.proofs.Common.{reply_to, resting_by, stays_or_goes, sym, true, true≢false, whole_step, with_request, with_sends, ℕ}
 use Rattle.std.specs.FinMap as map
-use Rattle.std.specs.FinMap.{nat_cmp-IsAntisymmetric}
-use Rattle.std.proofs.lemmas.Bool.{false_from_ne_true, eq-eqb, and_from, and_left, and_right}
-use Rattle.std.proofs.lemmas.Option.{none-some}
-use Rattle.finite_maps.proofs.Maps.{get-none, get-insert_same, get-remove_same}
-use Rattle.grain_id.specs.Names.{Grain}
-use Rattle.grain_id.proofs.Order.{grain_cmp_total, grain_cmp_exact}
-use Rattle.grain_kinds.specs.Logic.{Logic, Plan, Keep, rest}
-use Rattle.silo_event.specs.declared.step.Step.TheVariants.{End}
-use Rattle.silo_model.specs.Machine.{Entry, Phase, Request}
-use Rattle.silo_model.specs.Calls.{reply_to, with_request}
-use Rattle.silo_model.specs.Effect.{Change, drop, change_at}
-use Rattle.silo_model.specs.Idle.{is_idle}
-use Rattle.silo_model.specs.Turns.{plan_of, resting_by, stays_or_goes, closed_entry, with_sends, outcome_of}
-use Rattle.silo_model.specs.Whole.{Whole, whole_step}
+use Rattle.std.proofs.lemmas.Bool.{and_left}
+use Rattle.finite_maps.proofs.Maps.{get-remove_same}
+use Rattle.grain_kinds.specs.Logic.{rest}
 use Rattle.silo_model.specs.Resting.{IsEnding, IsLast, RestingGoes, RestingIsUsed}
 use Rattle.silo_model.proofs.Changes.{OfPut}
 use Rattle.silo_model.proofs.Leaving.{idle_parts, resting_goes}
 use Rattle.silo_model.proofs.IdleEntries.{idle_is}
-use Rattle.silo_model.proofs.EffectKinds.{tells, pokes, accepts, goes_on, unloads, opens, closes, IsLeft, stays, goes, IsEntered}
+use Rattle.silo_model.proofs.EffectKinds.{IsEntered, IsLeft, accepts, closes, goes, goes_on, opens, pokes, stays, tells, unloads}
 use Rattle.silo_model.proofs.EachEntry.{Puts, journal_each}
 use Rattle.silo_model.proofs.TurnSteps.{end_turn}
 use Rattle.silo_model.proofs.SavedStates.{loads_row}

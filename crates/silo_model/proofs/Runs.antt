@@ -1,14 +1,11 @@
 -- A run of the whole shows each tenant the run of its own machine over the steps that concern it.
-use Rattle.std.proofs.Common.{◌≡◌, ℕ, Bool, true, false, cond, List, [], ◌∷◌, ◌++◌, Option, Some, None, unwrap_or, refl, ap, sym, ◌∙◌, append_assoc}
-use Rattle.silo_event.specs.declared.step.Step.{Step}
-use Rattle.grain_kinds.specs.Logic.{Logic}
-use Rattle.silo_model.specs.Machine.{Machine}
-use Rattle.silo_model.specs.Step.{machine_step}
-use Rattle.silo_model.specs.Whole.{Whole, shown_to, whole_step}
-use Rattle.silo_model.specs.Run.{run_by, done_by, if_possible, machine_run, whole_run, concerns, restricted_to}
-use Rattle.silo_model.proofs.Tests.{on_test, on_found}
+use Rattle.silo_model.proofs.Common.{◌++◌, ◌∙◌, ◌∷◌, ◌≡◌, Bool, List, Logic, Machine, Option, Step, Whole, [], ap, append_assoc, concerns}
+use Rattle.silo_model.proofs.Common.{cond, done_by, false, if_possible, machine_run, machine_step, refl, restricted_to, shown_to, sym, true}
+use Rattle.silo_model.proofs.Common.{unwrap_or, whole_run, whole_step, ℕ}
+use Rattle.silo_model.specs.Run.{run_by}
+use Rattle.silo_model.proofs.Tests.{on_found, on_test}
 use Rattle.silo_model.proofs.Sound.{IsSound}
-use Rattle.silo_model.proofs.Isolation.{own_part, other_parts, not_now, step_sound}
+use Rattle.silo_model.proofs.Isolation.{not_now, other_parts, own_part, step_sound}
 
 -- the whole and the machine after a step, which leaves them where it isn't possible
 abbrev pub whole_after : Logic → Whole → Step → Whole

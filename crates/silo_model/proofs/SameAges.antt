@@ -1,14 +1,7 @@
 -- The ages are those of the setup along every run, and the clock goes on.
-use Rattle.std.proofs.Common.{◌≡◌, ℕ, ◌≤◌, Bool, true, false, List, [], ◌∷◌, Option, Some, None, refl, sym, ◌∙◌, subst, arith}
-use Rattle.std.specs.Prelude.{nat_le, if◌then◌else◌}
+use Rattle.silo_model.proofs.Common.{◌∙◌, ◌≡◌, ◌≤◌, LeadsTo, List, Logic, Setup, Some, Step, Whole, all_done, arith, opening, refl, spread}
+use Rattle.silo_model.proofs.Common.{subst, whole_step}
 use Rattle.std.proofs.lemmas.Bool.{leb-true}
-use Rattle.std.proofs.lemmas.Option.{same_Some, none-some}
-use Rattle.silo_event.specs.declared.step.Step.{Step}
-use Rattle.silo_event.specs.declared.step.Step.TheVariants.{Tick, Sweep}
-use Rattle.grain_kinds.specs.Logic.{Logic}
-use Rattle.silo_model.specs.Whole.{Whole, spread, whole_swept, whole_shared_step, whole_step}
-use Rattle.silo_model.specs.Opening.{Setup, opening}
-use Rattle.silo_model.specs.Journal.{all_done, LeadsTo}
 use Rattle.silo_model.proofs.Isolation.{by_owner}
 use Rattle.silo_model.proofs.Journals.{all_keep}
 use Rattle.silo_model.proofs.SharedSteps.{after_shared}

@@ -1,9 +1,7 @@
 -- Values that have codes are told apart by their codes.
-use Rattle.std.proofs.Common.{◌≡◌, Bool, true, false, refl, ap, sym, ◌∙◌, subst, true≢false}
-use Rattle.std.specs.Prelude.{◌&&◌, ◌==◌}
-use Rattle.std.specs.Bool.{Decides}
-use Rattle.std.proofs.lemmas.Bool.{eqb-true, eq-eqb, and_parts}
-use base.Stored.{Gv, gnil, gnum, gcons, Coded}
+use Rattle.silo_model.proofs.Common.{◌&&◌, ◌==◌, ◌∙◌, ◌≡◌, Bool, Decides, and_parts, ap, eq-eqb, eqb-true, false, refl, subst, sym, true}
+use Rattle.silo_model.proofs.Common.{true≢false}
+use base.Stored.{Coded, Gv, gcons, gnil, gnum}
 
 abbrev same_code : Gv → Gv → Bool
 same_code gnil gnil = true

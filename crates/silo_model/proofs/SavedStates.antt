@@ -1,33 +1,20 @@
 -- Which steps leave a grain's row, and so that a saved state comes back.
-use Rattle.std.proofs.Common.{◌≡◌, ℕ, false, List, [], ◌∷◌, Option, Some, None, refl, ap, sym, ◌∙◌, true≢false, inl, inr, ⊎_elim}
-use Rattle.std.specs.Prelude.{◌⊎◌, Ok, Err, if◌then◌else◌}
-use Rattle.std.specs.List.{list_any}
-use Rattle.std.specs.Ordering.{eq_by_cmp}
+use Rattle.silo_model.proofs.Common.{if◌then◌else◌, ◌∙◌, ◌∷◌, ◌≡◌, ◌⊎◌, Change, Context, Effect, Entry, Err, Grain, List, Load, Logic, None}
+use Rattle.silo_model.proofs.Common.{Ok, Option, Row, Rows, Some, Step, Store, Tree, Whole, [], all_done, ap, changed_at, closed}
+use Rattle.silo_model.proofs.Common.{content_or, context_at, eq_by_cmp, eq_by_cmp-Decides, false, false_from_ne_true, get-insert_same}
+use Rattle.silo_model.proofs.Common.{grain_cmp, grain_cmp_exact, grain_cmp_total, grain_eq, grain_eq_decides, inl, inr, keep, list_any}
+use Rattle.silo_model.proofs.Common.{loading, or_parts, put, ready, refl, row_changed, same, same_Some, shown_to, some_from_and_then, spent}
+use Rattle.silo_model.proofs.Common.{spread, stale, stored_by, sym, true≢false, version_of, version_value, whole_step, writes_row, ℕ}
+use Rattle.std.proofs.Common.{⊎_elim}
 use Rattle.std.specs.FinMap as map
-use Rattle.std.proofs.lemmas.Bool.{or_parts, false_from_ne_true}
-use Rattle.std.proofs.lemmas.Option.{same_Some}
-use Rattle.finite_maps.proofs.Options.{some_from_and_then}
-use Rattle.finite_maps.proofs.Maps.{get-insert_same}
-use Rattle.grain_id.specs.Names.{Grain, grain_cmp, grain_eq}
-use Rattle.grain_id.proofs.Order.{eq_by_cmp-Decides, grain_cmp_total, grain_cmp_exact, grain_eq_decides}
-use Rattle.request_codec.specs.Tree.{Tree}
-use Rattle.grain_storage.specs.declared.row.Row.{Row}
-use Rattle.grain_storage.specs.Rows.{Rows, stale, spent, next_version, version_of, content_or, is_stale, is_spent, changed}
-use Rattle.silo_event.specs.declared.step.Step.{Step}
-use Rattle.silo_event.specs.declared.step.Step.TheVariants.{Load, Store}
-use Rattle.grain_kinds.specs.Logic.{Logic, writes_row, same}
-use Rattle.silo_model.specs.Machine.{Entry, loading, ready}
-use Rattle.silo_model.specs.Effect.{Context, Effect, Change, keep, put, changed_at, context_at}
-use Rattle.silo_model.specs.Stores.{next_row, version_value}
-use Rattle.silo_model.specs.Turns.{closed, row_changed, stored_by}
-use Rattle.silo_model.specs.Whole.{Whole, shown_to, spread, whole_step}
-use Rattle.silo_model.specs.Journal.{all_done}
-use Rattle.silo_model.specs.Saved.{IsSaving, touches_row, SavedComesBack}
+use Rattle.grain_storage.specs.Rows.{changed, is_spent, is_stale, next_version}
+use Rattle.silo_model.specs.Stores.{next_row}
+use Rattle.silo_model.specs.Saved.{IsSaving, SavedComesBack, touches_row}
 use Rattle.silo_model.specs.Resting.{ComesBack}
 use Rattle.silo_model.proofs.Changes.{get-change_other}
-use Rattle.silo_model.proofs.EffectKinds.{Role, Touches, Does, pokes, closes}
+use Rattle.silo_model.proofs.EffectKinds.{Does, Role, closes, pokes}
 use Rattle.silo_model.proofs.SharedSteps.{shared_leaves}
-use Rattle.silo_model.proofs.Isolation.{place_in, by_owner, did_does}
+use Rattle.silo_model.proofs.Isolation.{by_owner, did_does, place_in}
 use Rattle.silo_model.proofs.EntrySteps.{load_loading}
 use Rattle.silo_model.proofs.TurnSteps.{seen_at, store_done}
 

@@ -1,23 +1,15 @@
 -- How what a grain sent is delivered: by what the whole has of the grain's tenant and at the target.
-use Rattle.std.proofs.Common.{◌≡◌, ◌≢◌, ◌+◌, ◌==◌, true, false, List, ◌++◌, Option, Some, None, refl, ap, ◌∙◌}
-use Rattle.std.specs.Prelude.{Ok, Err, option_map, option_and_then, nat_lt, length}
+use Rattle.silo_model.proofs.Common.{◌++◌, ◌+◌, ◌==◌, ◌∙◌, ◌≡◌, ◌≢◌, Account, AcrossTenants, Context, Deliver, Effect, Entry, Err, Fault}
+use Rattle.silo_model.proofs.Common.{Grain, List, Logic, MailboxFull, NoActivation, NoNumber, None, Ok, Option, Send, Some, UnknownKind}
+use Rattle.silo_model.proofs.Common.{Whole, accepted, active_of, ap, append-nil, called, context_at, context_of, effect_of, false}
+use Rattle.silo_model.proofs.Common.{first_from, first_target, gate, grain_of, last_number, length, nat_lt, only_replies, option_and_then}
+use Rattle.silo_model.proofs.Common.{option_map, refl, shown_to, spread, told, true, whole_step, with_request}
 use Rattle.std.specs.FinMap as map
-use Rattle.std.proofs.lemmas.List.{append-nil}
-use Rattle.grain_id.specs.Names.{Grain}
-use Rattle.silo_event.specs.declared.fault.Fault.{Fault}
-use Rattle.silo_event.specs.declared.fault.Fault.TheVariants.{UnknownKind, AcrossTenants, NoActivation, MailboxFull, NoNumber}
 use Rattle.silo_event.specs.declared.reply.Party.TheVariants as party
-use Rattle.silo_event.specs.declared.step.Step.TheVariants.{Deliver}
-use Rattle.grain_kinds.specs.Logic.{Logic}
-use Rattle.silo_model.specs.Machine.{Account, Entry, Send}
-use Rattle.silo_model.specs.Effect.{Context, Effect, context_at, only_replies}
-use Rattle.silo_model.specs.Calls.{told, last_number, gate, with_request, accepted, called}
-use Rattle.silo_model.specs.Sends.{first_from, first_target, on_account, delivered_to, delivered}
-use Rattle.silo_model.specs.Step.{grain_of, effect_of}
-use Rattle.silo_model.specs.Whole.{Whole, shown_to, spread, whole_step}
-use Rattle.silo_model.specs.Contexts.{active_of, context_of}
+use Rattle.silo_model.specs.Sends.{delivered, delivered_to, on_account}
 use Rattle.silo_model.proofs.Contexts.{own_context, step_by_context}
-use Rattle.silo_model.proofs.CallRule.{gate_across, gate_unknown_kind, gate_passed, called_refused, called_no_number, called_no_activation, called_new, called_full, called_again}
+use Rattle.silo_model.proofs.CallRule.{called_again, called_full, called_new, called_no_activation, called_no_number, called_refused}
+use Rattle.silo_model.proofs.CallRule.{gate_across, gate_passed, gate_unknown_kind}
 use Rattle.silo_model.proofs.CallSteps.{next_request}
 
 module _ (logic : Logic) (w : Whole) (g : Grain) where

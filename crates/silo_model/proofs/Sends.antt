@@ -1,20 +1,10 @@
 -- A step but an End adds nothing to what grains sent, and an End adds what its own grain sends.
-use Rattle.std.proofs.Common.{◌≡◌, Bool, true, false, cond, List, [], ◌∷◌, ◌++◌, Option, Some, None, refl, ap, sym, ◌∙◌, subst, inl, inr}
-use Rattle.std.specs.Prelude.{◌⊎◌, ◌||◌, option_map, is_some, map as map_list}
-use Rattle.std.proofs.lemmas.Option.{same_Some, none-some}
-use Rattle.std.proofs.lemmas.Bool.{or_parts, or_right}
-use Rattle.finite_maps.proofs.Options.{is_some-option_map}
-use Rattle.grain_id.specs.Names.{Grain, grain_eq}
-use Rattle.silo_event.specs.declared.step.Step.{Step}
-use Rattle.grain_kinds.specs.Logic.{Logic, Outgoing}
-use Rattle.silo_model.specs.Machine.{Account, Send}
-use Rattle.silo_model.specs.Effect.{Context, Effect, Change, change_option}
-use Rattle.silo_model.specs.Sends.{first_from}
-use Rattle.silo_model.specs.Turns.{with_sends}
-use Rattle.silo_model.specs.Pending.{sends_of}
-use Rattle.silo_model.specs.Todo.{is_among, sender_by}
-use Rattle.silo_model.proofs.Tests.{on_test, on_found}
-use Rattle.silo_model.proofs.EffectKinds.{Role, Remains, untouched, without, Does, tells, accepts, closes}
+use Rattle.silo_model.proofs.Common.{◌++◌, ◌||◌, ◌∙◌, ◌∷◌, ◌≡◌, ◌⊎◌, Account, Bool, Change, Context, Effect, Grain, List, Logic, None}
+use Rattle.silo_model.proofs.Common.{Option, Outgoing, Send, Some, Step, [], ap, change_option, cond, false, first_from, grain_eq, inl, inr}
+use Rattle.silo_model.proofs.Common.{is_among, is_some, is_some-option_map, map_list, none-some, option_map, or_parts, or_right, refl}
+use Rattle.silo_model.proofs.Common.{same_Some, sender_by, sends_of, subst, sym, true, with_sends}
+use Rattle.silo_model.proofs.Tests.{on_found, on_test}
+use Rattle.silo_model.proofs.EffectKinds.{Does, Remains, Role, accepts, closes, tells, untouched, without}
 
 abbrev pub has_sent : Grain → List Send → Bool
 has_sent g sends = is_some (first_from g sends)

@@ -1,23 +1,14 @@
 -- What a turn sends is delivered.
-use Rattle.std.proofs.Common.{◌≡◌, ℕ, ◌+◌, Bool, true, false, List, [], ◌∷◌, ◌++◌, Option, Some, None, refl, ap, ◌∙◌, arith}
-use Rattle.std.specs.Prelude.{nat_lt, option_map, if◌then◌else◌}
-use Rattle.std.specs.List.{list_any}
-use Rattle.std.specs.Ordering.{eq_by_cmp}
+use Rattle.silo_model.proofs.Common.{if◌then◌else◌, ◌++◌, ◌+◌, ◌∙◌, ◌∷◌, ◌≡◌, Account, Bool, Deliver, End, Entry, Grain, List, Logic, None}
+use Rattle.silo_model.proofs.Common.{Option, Outgoing, Plan, Send, Some, Whole, [], active_of, ap, arith, change_at, closed_entry}
+use Rattle.silo_model.proofs.Common.{eq_by_cmp, eq_by_cmp-Decides, false, false_from_ne_true, first_from, get-insert_same, grain_cmp}
+use Rattle.silo_model.proofs.Common.{grain_cmp_exact, grain_cmp_total, grain_eq, grain_eq_decides, list_any, lt-ltb, nat_lt, option_map}
+use Rattle.silo_model.proofs.Common.{or_parts, outcome_of, plan_of, refl, reply_to, stays_or_goes, text_cmp_exact, text_cmp_total, true}
+use Rattle.silo_model.proofs.Common.{whole_step, with_request, with_sends, ℕ}
 use Rattle.std.specs.FinMap as map
-use Rattle.std.proofs.lemmas.Bool.{or_parts, lt-ltb, ltb-true, false_from_ne_true}
-use Rattle.finite_maps.proofs.Maps.{get-insert_same}
-use Rattle.grain_id.specs.Names.{Grain, grain_cmp, grain_eq}
-use Rattle.grain_id.proofs.Order.{eq_by_cmp-Decides, grain_cmp_total, grain_cmp_exact, grain_eq_decides, text_cmp_total, text_cmp_exact}
+use Rattle.std.proofs.lemmas.Bool.{ltb-true}
 use Rattle.silo_event.specs.declared.reply.Party.TheVariants as party
-use Rattle.silo_event.specs.declared.step.Step.TheVariants.{Deliver, End}
-use Rattle.grain_kinds.specs.Logic.{Logic, Plan, Outgoing}
-use Rattle.silo_model.specs.Machine.{Account, Entry, Send}
-use Rattle.silo_model.specs.Effect.{change_at}
-use Rattle.silo_model.specs.Calls.{reply_to, with_request}
-use Rattle.silo_model.specs.Sends.{first_from}
-use Rattle.silo_model.specs.Turns.{plan_of, stays_or_goes, closed_entry, sent_by, with_sends, outcome_of}
-use Rattle.silo_model.specs.Whole.{Whole, whole_step}
-use Rattle.silo_model.specs.Contexts.{active_of}
+use Rattle.silo_model.specs.Turns.{sent_by}
 use Rattle.silo_model.specs.Sent.{IsSending, SentArrives}
 use Rattle.silo_model.proofs.Actives.{active-changed}
 use Rattle.silo_model.proofs.Changes.{get-change_other}

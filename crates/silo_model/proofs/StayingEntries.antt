@@ -1,37 +1,23 @@
 -- An entry that stays is left until its time has passed.
-use Rattle.std.proofs.Common.{◌≡◌, ℕ, ◌+◌, ◌<◌, ◌≤◌, Bool, true, false, List, [], ◌∷◌, ◌++◌, Option, Some, None, refl, ap, sym, ◌∙◌, subst, arith, true≢false}
-use Rattle.std.specs.Prelude.{nat_le, if◌then◌else◌}
-use Rattle.std.specs.List.{list_any}
-use Rattle.std.specs.Ordering.{eq_by_cmp}
+use Rattle.silo_model.proofs.Common.{◌+◌, ◌<◌, ◌∙◌, ◌∷◌, ◌≡◌, ◌≤◌, Abandon, Change, Context, Effect, End, Entry, Grain, List, Logic, None}
+use Rattle.silo_model.proofs.Common.{Option, Request, Some, Step, Store, Whole, [], all_done, ap, arith, change_at, change_option}
+use Rattle.silo_model.proofs.Common.{context_at, drop, due_moment, eq_by_cmp, eq_by_cmp-Decides, false, get-insert_same, grain_cmp}
+use Rattle.silo_model.proofs.Common.{grain_cmp_exact, grain_cmp_total, grain_eq_decides, is_ready, keep, kind_age, list_any, none-some}
+use Rattle.silo_model.proofs.Common.{or_parts, put, refl, resting_by, same_Some, shown_to, some_from_and_then, spread, subst, sym, true}
+use Rattle.silo_model.proofs.Common.{true≢false, until_by, whole_step, whole_swept, with_request, ℕ}
 use Rattle.std.specs.FinMap as map
-use Rattle.std.proofs.lemmas.Bool.{or_parts}
-use Rattle.std.proofs.lemmas.Option.{same_Some, none-some}
-use Rattle.finite_maps.proofs.Maps.{get-insert_same}
-use Rattle.finite_maps.proofs.Options.{some_from_and_then}
-use Rattle.grain_id.specs.Names.{Grain, grain_cmp}
-use Rattle.grain_id.proofs.Order.{eq_by_cmp-Decides, grain_cmp_total, grain_cmp_exact, grain_eq_decides}
-use Rattle.idle_collector.specs.Ages.{kind_age}
-use Rattle.silo_event.specs.declared.step.Step.{Step}
-use Rattle.silo_event.specs.declared.step.Step.TheVariants.{Store, End, Abandon, Tick, Sweep}
-use Rattle.grain_kinds.specs.Logic.{Logic, Plan, stay}
-use Rattle.silo_model.specs.Machine.{Entry, Request}
-use Rattle.silo_model.specs.Calls.{reply_to, with_request}
-use Rattle.silo_model.specs.Effect.{Context, Effect, Change, keep, put, drop, change_option, change_at, context_at}
-use Rattle.silo_model.specs.Idle.{is_ready, due_moment}
-use Rattle.silo_model.specs.Turns.{plan_of, until_by, resting_by, stays_or_goes, closed_entry, with_sends, outcome_of}
-use Rattle.silo_model.specs.Whole.{Whole, shown_to, spread, whole_swept, whole_shared_step, whole_step}
-use Rattle.silo_model.specs.Journal.{all_done}
-use Rattle.silo_model.specs.Resting.{IsEnding, may_close, StaysUntil, StayingStays, StayingGoes}
-use Rattle.silo_model.proofs.Changes.{WhereChanged, get-change_same, get-change_other}
+use Rattle.grain_kinds.specs.Logic.{stay}
+use Rattle.silo_model.specs.Resting.{IsEnding, StayingGoes, StayingStays, StaysUntil, may_close}
+use Rattle.silo_model.proofs.Changes.{WhereChanged, get-change_other, get-change_same}
 use Rattle.silo_model.proofs.ClockSteps.{sweep_is}
 use Rattle.silo_model.proofs.Contexts.{get-own}
-use Rattle.silo_model.proofs.EffectKinds.{Role, asks, ends, role_of, owner_is, Does, tells, pokes, accepts, goes_on, unloads, opens, closes}
+use Rattle.silo_model.proofs.EffectKinds.{Does, Role, accepts, closes, ends, goes_on, opens, owner_is, pokes, role_of, tells, unloads}
 use Rattle.silo_model.proofs.IdleEntries.{due_goes, used_stays}
-use Rattle.silo_model.proofs.Isolation.{place_in, by_owner, did_does}
+use Rattle.silo_model.proofs.Isolation.{by_owner, did_does, place_in}
 use Rattle.silo_model.proofs.Leaving.{awake_stays}
 use Rattle.silo_model.proofs.Proper.{IsAt, does_placed}
 use Rattle.silo_model.proofs.SameAges.{step_on}
-use Rattle.silo_model.proofs.RestingEntries.{entry_left, ended, end_is}
+use Rattle.silo_model.proofs.RestingEntries.{end_is, ended, entry_left}
 use Rattle.silo_model.proofs.SharedSteps.{after_shared}
 use Rattle.silo_model.proofs.Tests.{either_way}
 

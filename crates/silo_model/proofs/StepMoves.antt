@@ -1,32 +1,20 @@
 -- What each of the thirteen kinds of step does to the requests of its machine.
-use Rattle.std.proofs.Common.{◌≡◌, ℕ, ◌+◌, ◌≤◌, ◌<◌, ◌==◌, Bool, true, false, List, [], ◌++◌, Option, Some, None, refl, ap, sym, ◌∙◌, subst, arith, true≢false, inl, inr}
-use Rattle.std.specs.Prelude.{◌⊎◌, ◌&&◌, not, nat_eq, nat_le, option_map, sum_by, length, if◌then◌else◌}
+use Rattle.silo_model.proofs.Common.{◌&&◌, ◌++◌, ◌+◌, ◌<◌, ◌==◌, ◌∙◌, ◌≡◌, ◌≤◌, ◌⊎◌, Bool, Change, Effect, Entries, Entry, Grain, List}
+use Rattle.silo_model.proofs.Common.{Logic, Machine, None, Option, Party, ReadersAskNothing, Reply, Request, Some, Step, Sweep, [], ap}
+use Rattle.silo_model.proofs.Common.{append-nil, applied, arith, at, change_option, changed_at, context_at, drop, eqb-true, false}
+use Rattle.silo_model.proofs.Common.{grain_cmp_exact, grain_cmp_total, grain_of, inl, inr, is_kept, is_ready, keep, kept_entries, kind_age}
+use Rattle.silo_model.proofs.Common.{length, machine_step, nat_eq, nat_le, nil_from_length, none-some, not, put, refl, sum_by}
+use Rattle.silo_model.proofs.Common.{sum_by-append, sym, total, total-none, total-remove, true, true≢false, ℕ}
 use Rattle.std.specs.FinMap as map
-use Rattle.std.proofs.lemmas.List.{append-nil, nil_from_length}
-use Rattle.std.proofs.lemmas.List.Sums.{sum_by-append}
-use Rattle.std.proofs.lemmas.Option.{same_Some, none-some}
-use Rattle.std.proofs.lemmas.Bool.{eqb-true}
-use Rattle.finite_maps.proofs.Totals.{at, total, total-insert, total-remove, total-retain_keys, total-none}
-use Rattle.grain_id.specs.Names.{Grain}
-use Rattle.grain_id.proofs.Order.{grain_cmp_total, grain_cmp_exact}
-use Rattle.silo_event.specs.Owner.{owner_of}
-use Rattle.silo_event.specs.declared.reply.Reply.{Reply}
-use Rattle.silo_event.specs.declared.reply.Party.{Party}
-use Rattle.silo_event.specs.declared.step.Step.{Step}
-use Rattle.silo_event.specs.declared.step.Step.TheVariants.{Tick, Sweep}
-use Rattle.idle_collector.specs.Ages.{kind_age}
-use Rattle.grain_kinds.specs.Logic.{Logic}
-use Rattle.grain_kinds.specs.Laws.{ReadersAskNothing}
-use Rattle.silo_model.specs.Machine.{Machine, Entry, Entries, Request}
-use Rattle.silo_model.specs.Effect.{Effect, Change, keep, put, drop, change_option, found_at, changed_at, context_at, applied}
-use Rattle.silo_model.specs.Idle.{is_ready, is_kept, kept_entries}
-use Rattle.silo_model.specs.Step.{grain_of, effect_of, shared_step, step_by, machine_step}
+use Rattle.finite_maps.proofs.Totals.{total-insert, total-retain_keys}
+use Rattle.silo_model.specs.Effect.{found_at}
 use Rattle.silo_model.proofs.Changes.{OfPut, OfPutAt, changed_all}
 use Rattle.silo_model.proofs.Tests.{on_test}
-use Rattle.silo_model.proofs.Fair.{held, pend, one_if, numbered, IsFairEntry, IsFair, front_is_new}
+use Rattle.silo_model.proofs.Fair.{IsFair, IsFairEntry, front_is_new, held, numbered, one_if, pend}
 use Rattle.silo_model.proofs.EffectKinds.{role_of}
 use Rattle.silo_model.proofs.MachineSteps.{by_machine_step}
-use Rattle.silo_model.proofs.Moves.{replied, sent, Quiet, asked_by, count_of, IsPlaced, IsFairAt, SeesFair, Counted, NumbersMove, Moves, does_moves}
+use Rattle.silo_model.proofs.Moves.{Counted, IsFairAt, IsPlaced, Moves, NumbersMove, Quiet, SeesFair, asked_by, count_of, does_moves}
+use Rattle.silo_model.proofs.Moves.{replied, sent}
 use Rattle.silo_model.proofs.SharedSteps.{AgeOf, get-kept_there}
 
 -- ---- all entries

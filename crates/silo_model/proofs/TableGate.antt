@@ -1,17 +1,11 @@
 -- The gate of calls and pokes, by the table of tenants.
-use Rattle.std.proofs.Common.{◌≡◌, Bool, true, false, Option, Some, None, is_some, refl, sym, ◌∙◌, true≢false}
-use Rattle.std.specs.Prelude.{Ok, Err, if◌then◌else◌}
-use Rattle.grain_id.specs.Names.{Grain, same_text}
-use Rattle.grain_id.proofs.Order.{same_text_decides}
-use Rattle.tenant_gate.specs.declared.limits.Limits.{Limits}
+use Rattle.silo_model.proofs.Common.{if◌then◌else◌, ◌∙◌, ◌≡◌, Account, Bool, Context, Err, Grain, Limits, Logic, None, Ok, Option, Some}
+use Rattle.silo_model.proofs.Common.{false, is_some, limits_of, refl, same_text, same_text_decides, sym, true, true≢false}
 use Rattle.tenant_gate.specs.declared.gate.GateRefusal.TheVariants as refusal
 use Rattle.tenant_gate.specs.Gate.{judged}
-use Rattle.tenant_gate.specs.Table.{limits_of, refused}
-use Rattle.grain_kinds.specs.Logic.{Logic}
-use Rattle.silo_model.specs.Machine.{Account}
-use Rattle.silo_model.specs.Effect.{Context}
+use Rattle.tenant_gate.specs.Table.{refused}
 use Rattle.silo_model.specs.Gates.{AnswersAsTable, GateIsTables}
-use Rattle.silo_model.proofs.CallRule.{gate_unknown_tenant, gate_across, gate_by}
+use Rattle.silo_model.proofs.CallRule.{gate_across, gate_by, gate_unknown_tenant}
 
 module _ (logic : Logic) (s : Context) (grain : Grain) where
   by_own : (account : Account) → s.account ≡ Some account → (limits : Limits) → (own : Bool) → same_text grain.tenant s.tenant ≡ own

@@ -1,5 +1,5 @@
 -- What holds whichever way a test answers, and whether or not something is there.
-use Rattle.std.proofs.Common.{◌≡◌, Bool, true, false, Option, Some, None, refl}
+use Rattle.silo_model.proofs.Common.{◌≡◌, Bool, None, Option, Some, false, refl, true}
 
 -- of the test's answer
 pub on_test : (P : Bool → Type 0) (b : Bool) → (b ≡ true → P true) → (b ≡ false → P false) → P b

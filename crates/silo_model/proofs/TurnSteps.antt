@@ -1,23 +1,14 @@
 -- When an open turn is closed: by what the whole has at the grain.
-use Rattle.std.proofs.Common.{◌≡◌, ℕ, Bool, true, false, List, [], ◌++◌, Option, Some, None, refl, ap, ◌∙◌}
-use Rattle.std.specs.Prelude.{Result, Ok, Err, option_map, option_and_then, if◌then◌else◌}
+use Rattle.silo_model.proofs.Common.{if◌then◌else◌, ◌++◌, ◌∙◌, ◌≡◌, Abandon, Bool, Change, Context, Effect, End, Entries, Entry, Err, Grain}
+use Rattle.silo_model.proofs.Common.{Keep, List, Logic, NoMemory, None, Ok, Option, Outgoing, Plan, Request, Result, Row, RowFault, Some}
+use Rattle.silo_model.proofs.Common.{StateChanged, StorageCall, StorageFailed, Store, Tree, VersionsSpent, Whole, [], abandoned_entry, ap}
+use Rattle.silo_model.proofs.Common.{asks_nothing, change_at, clears_row, closed, closed_entry, content_or, context_of, effect_of}
+use Rattle.silo_model.proofs.Common.{ends_activation, false, keep, loading, option_and_then, option_map, outcome_of, plan_of, reads_row}
+use Rattle.silo_model.proofs.Common.{ready, refl, reply_to, row_changed, same, spent, spread, stale, stays_or_goes, stored, stored_by, true}
+use Rattle.silo_model.proofs.Common.{version_of, version_value, waiting, whole_step, with_sends, writes_row, ℕ}
 use Rattle.std.specs.FinMap as map
-use Rattle.grain_id.specs.Names.{Grain}
-use Rattle.request_codec.specs.Tree.{Tree}
-use Rattle.grain_storage.specs.declared.row.Row.{Row}
-use Rattle.grain_storage.specs.Rows.{RowFault, stale, spent, version_of, content_or}
-use Rattle.silo_model.specs.Stores.{version_value}
-use Rattle.silo_event.specs.declared.fault.Fault.TheVariants.{StorageFailed, StateChanged, VersionsSpent, NoMemory}
-use Rattle.silo_event.specs.declared.step.Step.TheVariants.{Store, End, Abandon}
-use Rattle.grain_kinds.specs.Logic.{Logic, Plan, Outgoing, StorageCall, asks_nothing, reads_row, writes_row, clears_row, Keep, same}
-use Rattle.silo_model.specs.Machine.{Entry, Entries, Request, waiting, loading, ready}
-use Rattle.silo_model.specs.Effect.{Context, Effect, Change, keep, change_at}
-use Rattle.silo_model.specs.Calls.{reply_to}
-use Rattle.silo_model.specs.Turns.{plan_of, stays_or_goes, closed_entry, closed, with_sends, outcome_of, ended_by, ended, ends_activation, row_changed}
-use Rattle.silo_model.specs.Turns.{stored_by, stored, abandoned_entry, abandoned}
-use Rattle.silo_model.specs.Step.{at_turn, effect_of}
-use Rattle.silo_model.specs.Whole.{Whole, spread, whole_step}
-use Rattle.silo_model.specs.Contexts.{context_of}
+use Rattle.silo_model.specs.Turns.{abandoned, ended, ended_by}
+use Rattle.silo_model.specs.Step.{at_turn}
 use Rattle.silo_model.proofs.Contexts.{step_at_own}
 use Rattle.silo_model.proofs.EntrySteps.{at_entry}
 

@@ -1,32 +1,20 @@
 -- How the open turns of all grains change where a step is done.
-use Rattle.std.proofs.Common.{◌≡◌, ◌≢◌, ℕ, Bool, true, false, cond, List, Option, Some, None, refl, ap, sym, ◌∙◌, subst, inl, inr, ⊎_elim}
-use Rattle.std.specs.Prelude.{◌⊎◌, nat_le, if◌then◌else◌}
-use Rattle.std.specs.Ordering.{eq_by_cmp}
+use Rattle.silo_model.proofs.Common.{◌∙◌, ◌≡◌, ◌≢◌, ◌⊎◌, Account, Begin, Bool, Change, Effect, Entry, Grain, List, Logic, None, Option}
+use Rattle.silo_model.proofs.Common.{ReadersAskNothing, Request, Some, Step, Whole, ap, change_option, changed_at, cond, context_at, drop}
+use Rattle.silo_model.proofs.Common.{eq_by_cmp, eq_by_cmp-Decides, false, get-none, grain_cmp, grain_cmp_exact, grain_cmp_total, grain_of}
+use Rattle.silo_model.proofs.Common.{inl, inr, is_kept, keep, kept_entries, kind_age, none-some, put, refl, same_Some, shown_to, spread}
+use Rattle.silo_model.proofs.Common.{subst, sym, true, whole_step, ℕ}
+use Rattle.std.proofs.Common.{⊎_elim}
 use Rattle.std.specs.FinMap as map
-use Rattle.std.proofs.lemmas.Option.{same_Some, none-some}
-use Rattle.finite_maps.proofs.Maps.{get-none}
-use Rattle.grain_id.specs.Names.{Grain, grain_cmp}
-use Rattle.grain_id.proofs.Order.{eq_by_cmp-Decides, grain_cmp_total, grain_cmp_exact}
-use Rattle.silo_event.specs.Owner.{owner_of}
-use Rattle.silo_event.specs.declared.step.Step.{Step}
-use Rattle.silo_event.specs.declared.step.Step.TheVariants.{Begin, Tick, Sweep}
-use Rattle.idle_collector.specs.Ages.{kind_age}
-use Rattle.grain_kinds.specs.Logic.{Logic}
-use Rattle.grain_kinds.specs.Laws.{ReadersAskNothing}
-use Rattle.silo_model.specs.Machine.{Account, Entry, Request}
-use Rattle.silo_model.specs.Effect.{Effect, Change, keep, put, drop, change_option, changed_at, context_at}
-use Rattle.silo_model.specs.Idle.{is_kept, kept_entries}
-use Rattle.silo_model.specs.Step.{grain_of}
-use Rattle.silo_model.specs.Whole.{Whole, shown_to, spread, whole_swept, whole_shared_step, whole_step}
-use Rattle.silo_model.proofs.Changes.{WhereChanged, get-change_same, get-change_other}
-use Rattle.silo_model.proofs.Moves.{turn_in, KeepsTurns, ClosesTurn, OpensTurn, TurnsMove, does_moves}
-use Rattle.silo_model.proofs.StepMoves.{IsFairMachine, sees_fair, due_is_bare}
+use Rattle.silo_model.proofs.Changes.{WhereChanged, get-change_other, get-change_same}
+use Rattle.silo_model.proofs.Moves.{ClosesTurn, KeepsTurns, OpensTurn, TurnsMove, does_moves, turn_in}
+use Rattle.silo_model.proofs.StepMoves.{IsFairMachine, due_is_bare, sees_fair}
 use Rattle.silo_model.proofs.Contexts.{get-own}
-use Rattle.silo_model.proofs.SharedSteps.{AgeOf, get-kept, after_shared}
+use Rattle.silo_model.proofs.SharedSteps.{AgeOf, after_shared, get-kept}
 use Rattle.silo_model.proofs.Sound.{IsSound}
 use Rattle.silo_model.proofs.Tests.{either_way}
 use Rattle.silo_model.proofs.Proper.{IsAt}
-use Rattle.silo_model.proofs.Isolation.{place_in, Did, did, did_does, did_proper, by_owner}
+use Rattle.silo_model.proofs.Isolation.{Did, by_owner, did, did_does, did_proper, place_in}
 
 abbrev pub AllFair : Logic → Whole → Type 0
 AllFair logic w = (tenant : List ℕ) → IsFairMachine logic (shown_to tenant w)

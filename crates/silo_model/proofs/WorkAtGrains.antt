@@ -1,27 +1,16 @@
 -- What there is to do at a grain, and where there is nothing.
-use Rattle.std.proofs.Common.{◌≡◌, ℕ, Bool, true, false, cond, List, [], ◌∷◌, Option, Some, None, refl, ap, sym, ◌∙◌, subst}
-use Rattle.std.specs.Prelude.{option_map, option_and_then}
-use Rattle.std.proofs.lemmas.Option.{same_Some, none-some}
+use Rattle.silo_model.proofs.Common.{◌∙◌, ◌∷◌, ◌≡◌, Account, Activate, Begin, Bool, Context, Deliver, Entry, Grain, List, Load, Logic, None}
+use Rattle.silo_model.proofs.Common.{Option, Phase, Request, Some, Step, Tree, Whole, [], activated, ap, cond, context_of, delivery_of}
+use Rattle.silo_model.proofs.Common.{effect_of, false, first_from, grain_of, loaded, loading, may_open, none-some, none_from_option_map}
+use Rattle.silo_model.proofs.Common.{on_entry, opened, opened_if_ready, option_and_then, option_map, owner_of, ready, refl, same_Some}
+use Rattle.silo_model.proofs.Common.{subst, sym, true, waiting, whole_step, ℕ}
 use Rattle.std.specs.FinMap as map
-use Rattle.grain_id.specs.Names.{Grain}
-use Rattle.request_codec.specs.Tree.{Tree}
-use Rattle.silo_event.specs.Owner.{owner_of}
-use Rattle.silo_event.specs.declared.step.Step.{Step}
-use Rattle.silo_event.specs.declared.step.Step.TheVariants.{Deliver, Activate, Load, Begin}
-use Rattle.grain_kinds.specs.Logic.{Logic}
-use Rattle.silo_model.specs.Machine.{Account, Entry, Request, Send, Phase, waiting, loading, ready}
-use Rattle.silo_model.specs.Effect.{Context, on_entry}
-use Rattle.silo_model.specs.Contexts.{context_of}
-use Rattle.silo_model.specs.Step.{grain_of, effect_of}
-use Rattle.silo_model.specs.Turns.{activated, loaded, may_open, opened, opened_if_ready}
-use Rattle.silo_model.specs.Sends.{first_from}
-use Rattle.silo_model.specs.Whole.{Whole, whole_step}
-use Rattle.finite_maps.proofs.Options.{none_from_option_map, none_from_cond}
+use Rattle.finite_maps.proofs.Options.{none_from_cond}
 use Rattle.silo_model.proofs.Contexts.{step_at_own}
-use Rattle.silo_model.proofs.Tests.{on_test, on_found}
-use Rattle.silo_model.proofs.EntrySteps.{activate_waiting, load_loading, begin_first}
-use Rattle.silo_model.proofs.SendSteps.{deliver_unknown, deliver_nothing, by_called}
-use Rattle.silo_model.specs.Todo.{is_work, IsTodo, begin_at, work_by, work_on, delivery_of, WorkIsDone}
+use Rattle.silo_model.proofs.Tests.{on_found, on_test}
+use Rattle.silo_model.proofs.EntrySteps.{activate_waiting, begin_first, load_loading}
+use Rattle.silo_model.proofs.SendSteps.{by_called, deliver_nothing, deliver_unknown}
+use Rattle.silo_model.specs.Todo.{IsTodo, WorkIsDone, begin_at, is_work, work_by, work_on}
 
 module _ (logic : Logic) (w : Whole) (g : Grain) where
   -- ---- something is to do
