@@ -16,6 +16,15 @@ same_text-apart s t apart = false_from_ne_true (same_text s t) (λ e. apart ((sa
 pub get-own : {X : Type 0} (m : FinMap grain_cmp X) (tenant : List ℕ) (g : Grain) → g.tenant ≡ tenant → map.get (map.retain_keys m (is_of tenant)) g ≡ map.get m g
 get-own m tenant g own = get-part m (is_of tenant) g ∙ ap (λ b. cond b (map.get m g) None) ((same_text_decides g.tenant tenant).1 own)
 
+-- so of its entry, as its owner sees it, and as it is shown
+pub seen_own : (w : Whole) (owner : List ℕ) (g : Grain) → g.tenant ≡ owner → (context_at (shown_to owner w) (Some g)).entry ≡ map.get w.entries g
+unfolding context_at shown_to
+seen_own w owner g own = get-own w.entries owner g own
+
+pub shown_own : (w : Whole) (owner : List ℕ) (g : Grain) → g.tenant ≡ owner → map.get (shown_to owner w).entries g ≡ map.get w.entries g
+unfolding shown_to
+shown_own w owner g own = get-own w.entries owner g own
+
 pub own_context : (w : Whole) (tenant : List ℕ) (g : Grain) → g.tenant ≡ tenant → context_at (shown_to tenant w) (Some g) ≡ context_of w tenant g
 unfolding context_at shown_to
 own_context w tenant g own = λ i. record { tenant = tenant; account = map.get w.accounts tenant; clock = w.clock; active = active_of w tenant; entry = get-own w.entries tenant g own i; row = get-own w.rows tenant g own i }

@@ -38,7 +38,7 @@ module _ (P : Entry → Type 0) where
     pub step_each : (w after : Whole) (s : Step) → Each w → whole_step logic w s ≡ Some after → Each after
     unfolding spread
     step_each w after s each h =
-        by_owner logic w after s (Each after) h (λ nobodys g e found. each g e ((shared_leaves w after s nobodys).entries g e found))
+        by_owner logic w after s (Each after) h (λ _ nobodys g e found. each g e ((shared_leaves w after s nobodys).entries g e found))
         (λ owner is d.
         let place = place_in w owner s in
         let seen = sees w owner place each in

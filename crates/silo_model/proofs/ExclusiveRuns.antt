@@ -15,7 +15,7 @@ use Rattle.silo_model.specs.Answers.{IsAnswer}
 use Rattle.silo_model.specs.Exclusive.{ExclusiveFrom, OpenTurn, RunsAreExclusive, WritersAlone, first_waiting, is_turn, turn_begun}
 use Rattle.silo_model.specs.Exclusive.{turns_after, turns_without}
 use Rattle.silo_model.proofs.Moves.{ClosesTurn, KeepsTurns, OpensTurn, TurnsMove, turn_in}
-use Rattle.silo_model.proofs.Contexts.{get-own}
+use Rattle.silo_model.proofs.Contexts.{shown_own}
 use Rattle.silo_model.proofs.Sound.{IsSound}
 use Rattle.silo_model.proofs.Runs.{run_sound, whole_after, whole_run-append}
 use Rattle.silo_model.proofs.Opening.{opening_sound, replay_is_run}
@@ -120,12 +120,8 @@ module _ (logic : Logic) (law : ReadersAskNothing logic) (setup : Setup) (before
   next_at s = whole_run-append logic (opening setup) before (s ∷ []) ∙ ap (λ x. whole_after logic x s) state.at
 
   -- the first that waits, in the owner's machine and in the whole
-  shown_entries : (t : List ℕ) (h : Grain) → h.tenant ≡ t → map.get (shown_to t w).entries h ≡ map.get w.entries h
-  unfolding shown_to
-  shown_entries t h own = get-own w.entries t h own
-
   begun_is : (g : Grain) → turn_begun logic setup before g ≡ first_waiting g (map.get w.entries g)
-  begun_is g = ap (first_waiting g) (ap (λ m. map.get m.entries g) (sym (part_is g.tenant)) ∙ shown_entries g.tenant g refl)
+  begun_is g = ap (first_waiting g) (ap (λ m. map.get m.entries g) (sym (part_is g.tenant)) ∙ shown_own w g.tenant g refl)
 
   -- by whether the step is possible
   by_step : (s : Step) (us : List OpenTurn) → (whole_step logic w s ≡ None → State logic setup (before ++ s ∷ []) (whole_after logic w s) us)

@@ -1,49 +1,41 @@
 -- Which entries a sweep takes.
-use Rattle.silo_model.proofs.Common.{◌&&◌, ◌<◌, ◌==◌, ◌∙◌, ◌≡◌, ◌≤◌, Bool, Entry, Grain, IsIdle, None, Option, Phase, Some, Whole, and_from}
-use Rattle.silo_model.proofs.Common.{ap, arith, cond, due_moment, eq-eqb, eqb-true, false, is_idle, is_kept, is_ready, kept_entries}
-use Rattle.silo_model.proofs.Common.{kind_age, length, loading, nat_le, nil_from_length, not, ready, refl, sym, true, true≢false, waiting}
+use Rattle.silo_model.proofs.Common.{◌&&◌, ◌<◌, ◌==◌, ◌∙◌, ◌≡◌, ◌≤◌, Bool, Entry, Grain, IsIdle, None, Option, Phase, Some, Whole, []}
+use Rattle.silo_model.proofs.Common.{and_from, and_parts, ap, arith, cond, due_moment, eq-eqb, false, is_idle, is_kept, is_ready}
+use Rattle.silo_model.proofs.Common.{kept_entries, kind_age, length, loading, nat_le, not, ready, refl, sym, true, true≢false, waiting}
 use Rattle.silo_model.proofs.Common.{whole_swept, ℕ}
 use Rattle.std.specs.FinMap as map
-use Rattle.std.proofs.lemmas.Bool.Decides.{nat_tests}
+use Rattle.std.proofs.lemmas.Bool.{le-leb, leb-true}
 use Rattle.silo_model.specs.Idle.{is_due}
 use Rattle.silo_model.specs.Collected.{IdleGoes}
 use Rattle.silo_model.proofs.SharedSteps.{get-kept}
 use Rattle.silo_model.proofs.ClockSteps.{sweep_is}
+use Rattle.silo_model.proofs.Leaving.{idle_parts}
 
 -- ---- one entry
-
-all_four : (a b c d : Bool) → a && b && c && d ≡ true → (a ≡ true) × (b ≡ true) × (c ≡ true) × (d ≡ true)
-all_four false b c d e = absurd (true≢false (sym e))
-all_four true false c d e = absurd (true≢false (sym e))
-all_four true true false d e = absurd (true≢false (sym e))
-all_four true true true d e = (refl, refl, refl, e)
 
 pub idle_is : (e : Entry) → IsIdle e → is_idle e ≡ true
 idle_is e idle = λ i. is_ready (idle.phase i) && (length (idle.nothing_waits i) == 0) && eq-eqb (map.len e.turns) 0 idle.none_open i
 
 module _ (clock age : ℕ) (e : Entry) where
   idle_is_due : IsIdle e → due_moment age e ≤ clock → is_due clock age e ≡ true
-  idle_is_due idle come = and_from (is_idle e) (nat_le (due_moment age e) clock) (idle_is e idle) has_come
-    where
-      has_come : nat_le (due_moment age e) clock ≡ true
-      has_come = grind (arith, nat_tests)
+  idle_is_due idle come = and_from (is_idle e) (nat_le (due_moment age e) clock) (idle_is e idle) (le-leb (due_moment age e) clock come)
 
   due_is_idle : is_due clock age e ≡ true → IsIdle e × (due_moment age e ≤ clock)
   due_is_idle due = by_phase e.phase refl parts.0
     where
-      parts : (is_ready e.phase ≡ true) × ((length e.queue == 0) ≡ true) × ((map.len e.turns == 0) ≡ true) × (nat_le (due_moment age e) clock ≡ true)
-      parts = all_four (is_ready e.phase) (length e.queue == 0) (map.len e.turns == 0) (nat_le (due_moment age e) clock) due
+      both : (is_idle e ≡ true) × (nat_le (due_moment age e) clock ≡ true)
+      both = and_parts (is_idle e) (nat_le (due_moment age e) clock) due
+
+      parts : (is_ready e.phase ≡ true) × (e.queue ≡ []) × (map.len e.turns ≡ 0)
+      parts = idle_parts e both.0
 
       by_phase : (p : Phase) → e.phase ≡ p → is_ready p ≡ true → IsIdle e × (due_moment age e ≤ clock)
       by_phase waiting is h = absurd (true≢false (sym h))
       by_phase loading is h = absurd (true≢false (sym h))
       by_phase (ready state version) is h = (
-        record { state = state; version = version; phase = is; nothing_waits = nil_from_length e.queue (eqb-true (length e.queue) 0 parts.1); none_open = eqb-true (map.len e.turns) 0 parts.2 },
-        has_come parts.3,
+        record { state = state; version = version; phase = is; nothing_waits = parts.1; none_open = parts.2 },
+        leb-true (due_moment age e) clock both.1,
       )
-        where
-          has_come : nat_le (due_moment age e) clock ≡ true → due_moment age e ≤ clock
-          has_come h = grind (arith, nat_tests)
 
 -- ---- the sweep
 

@@ -153,9 +153,10 @@ machine_shared_by logic m s is = ap (step_by logic m s) is
 
 -- what holds after a step of nobody, and after one of an owner, holds after every step that is done
 pub by_owner : (logic : Logic) (w after : Whole) (s : Step) (P : Type 0) → whole_step logic w s ≡ Some after
-    → (whole_shared_step w s ≡ Some after → P) → ((owner : List ℕ) → owner_of s ≡ Some owner → Did logic w s owner after → P) → P
+    → (owner_of s ≡ None → whole_shared_step w s ≡ Some after → P)
+    → ((owner : List ℕ) → owner_of s ≡ Some owner → Did logic w s owner after → P) → P
 by_owner logic w after s P h nobodys owned =
-    on_found (λ _. P) (owner_of s) (λ is. nobodys (sym (shared_by logic w s is) ∙ h))
+    on_found (λ _. P) (owner_of s) (λ is. nobodys is (sym (shared_by logic w s is) ∙ h))
     (λ owner is. owned owner is (did logic w after s owner is h))
 
 -- ---- every step, by whether it concerns the tenant
@@ -197,5 +198,5 @@ spread_sound w owner grain e sound proper = changed_all grain_cmp_total grain_cm
 
 pub step_sound : (logic : Logic) (w after : Whole) (s : Step) → IsSound w → whole_step logic w s ≡ Some after → IsSound after
 step_sound logic w after s sound h =
-    by_owner logic w after s (IsSound after) h (shared_sound w after s sound)
+    by_owner logic w after s (IsSound after) h (λ _. shared_sound w after s sound)
     (λ owner is d. subst IsSound d.leaves (spread_sound w owner (place_in w owner s) d.what sound (did_proper logic w after s owner is sound d)))

@@ -1,8 +1,8 @@
 -- What holds of every whole that a journal leads to.
-use Rattle.silo_model.proofs.Common.{◌++◌, ◌∙◌, ◌∷◌, ◌≡◌, ◌≢◌, LeadsTo, List, Logic, Machine, None, Option, Reply, Setup, Some, Step, Whole}
-use Rattle.silo_model.proofs.Common.{[], all_done, ap, append-nil, applied, concerns, cond, machine_all_done, machine_step, none-some}
-use Rattle.silo_model.proofs.Common.{opening, option_and_then, owner_of, refl, restricted_to, same_Some, shown_to, some_from_and_then}
-use Rattle.silo_model.proofs.Common.{spread, subst, sym, unwrap_or, whole_run, whole_step, ℕ}
+use Rattle.silo_model.proofs.Common.{◌++◌, ◌∙◌, ◌∷◌, ◌≡◌, ◌≢◌, LeadsTo, List, Logic, Machine, Option, Reply, Setup, Some, Step, Whole, []}
+use Rattle.silo_model.proofs.Common.{all_done, ap, append-nil, applied, concerns, cond, machine_all_done, machine_step, none-some, opening}
+use Rattle.silo_model.proofs.Common.{option_and_then, owner_of, refl, restricted_to, same_Some, shown_to, some_from_and_then, spread, subst}
+use Rattle.silo_model.proofs.Common.{sym, unwrap_or, whole_run, whole_step, ℕ}
 use Rattle.silo_model.specs.Journal.{all_done_by}
 use Rattle.silo_model.specs.Laws.{JournalsGrow, JournalsReplay, NotNow, OtherParts, OwnPart, PartsLead, RunsOn}
 use Rattle.silo_model.proofs.Tests.{on_test}
@@ -97,10 +97,10 @@ pub record Adds (w : Whole) (s : Step) (after : Whole) : Type 0 where
   pub to_owner : (owner : List ℕ) → owner_of s ≡ Some owner → AllTo owner added
   pub own_replies : (owner : List ℕ) → owner_of s ≡ Some owner → (shown_to owner after).replies ≡ (shown_to owner w).replies ++ added
 
-adds_by : (logic : Logic) (w after : Whole) (s : Step) (owner : List ℕ) → IsSound w → owner_of s ≡ Some owner → whole_step logic w s ≡ Some after → Adds w s after
+adds_by : (logic : Logic) (w after : Whole) (s : Step) → IsSound w → (owner : List ℕ) → owner_of s ≡ Some owner → isolation.Did logic w s owner after
+    → Adds w s after
 unfolding spread applied
-adds_by logic w after s owner sound is step =
-    let d = isolation.did logic w after s owner is step in
+adds_by logic w after s sound owner is d =
     let place = isolation.place_in w owner s in
     let proper = isolation.did_proper logic w after s owner is sound d in
     let own : shown_to owner after ≡ applied (shown_to owner w) place d.what = sym (ap (shown_to owner) d.leaves) ∙ isolation.spread_own w owner place d.what proper in
@@ -114,16 +114,16 @@ adds_by logic w after s owner sound is step =
       own_replies = λ other e. subst Q (same other e) (ap (λ (m : Machine). m.replies) own);
     }
 
-pub adds_owned : (logic : Logic) (w after : Whole) (s : Step) (o : Option (List ℕ)) → owner_of s ≡ o → IsSound w → whole_step logic w s ≡ Some after → Adds w s after
-adds_owned logic w after s None is sound step =
-    let leaves = shared_leaves w after s (sym (isolation.shared_by logic w s is) ∙ step) in
-    record {
+pub adds_owned : (logic : Logic) (w after : Whole) (s : Step) → IsSound w → whole_step logic w s ≡ Some after → Adds w s after
+adds_owned logic w after s sound step =
+    isolation.by_owner logic w after s (Adds w s after) step
+    (λ is nobodys. record {
       added = [];
-      replies = leaves.replies ∙ sym (append-nil w.replies);
+      replies = (shared_leaves w after s nobodys).replies ∙ sym (append-nil w.replies);
       to_owner = λ owner e. tt;
       own_replies = λ owner e. absurd (none-some owner (sym is ∙ e));
-    }
-adds_owned logic w after s (Some owner) is sound step = adds_by logic w after s owner sound is step
+    })
+    (adds_by logic w after s sound)
 
 pub adds_replies : (logic : Logic) (setup : Setup) (journal : List Step) (w after : Whole) (s : Step) → LeadsTo logic setup journal w → whole_step logic w s ≡ Some after → Adds w s after
-adds_replies logic setup journal w after s leads step = adds_owned logic w after s (owner_of s) refl (journal_sound logic setup journal w leads) step
+adds_replies logic setup journal w after s leads step = adds_owned logic w after s (journal_sound logic setup journal w leads) step

@@ -9,8 +9,7 @@ use Rattle.silo_model.specs.Resting.{LeavesYounger, OneAgeCounts, StaysUntil}
 use Rattle.silo_model.proofs.Changes.{OfPut}
 use Rattle.silo_model.proofs.ClockSteps.{sweep_is}
 use Rattle.silo_model.proofs.EachEntry.{Each, Puts, journal_each}
-use Rattle.silo_model.proofs.EffectKinds.{IsAsSaid, IsEntered, IsLeft, MaySay, accepts, closes, goes, goes_on, opens, pokes, stays, tells}
-use Rattle.silo_model.proofs.EffectKinds.{unloads}
+use Rattle.silo_model.proofs.EffectKinds.{IsAsSaid, IsEntered, IsLeft, MaySay, accepts, closes, goes, goes_on, opens, stays}
 use Rattle.silo_model.proofs.IdleEntries.{due_goes, used_stays}
 use Rattle.silo_model.proofs.SameAges.{journal_ages}
 
@@ -45,13 +44,11 @@ module _ (logic : Logic) (keeps_same : KeepsSame logic) where
   left_plain g e request _ was (goes none alone) = tt
 
   puts_plain : Puts IsPlain logic
-  puts_plain s step _ _ _ old (tells p grain left outcome remains) = tt
-  puts_plain s step _ _ _ old (pokes p g row outcome own touches) = tt
   puts_plain s step _ _ _ old (accepts p g call left a own remains known) = with_request_plain s.clock _ s.entry old
   puts_plain s step _ _ _ old (goes_on g e phase until resting found rests entered) = entered_plain e phase until resting (old e found) entered
-  puts_plain s step _ _ _ old (unloads g e found rests) = tt
   puts_plain s step _ _ _ old (opens g e first others found is_open queue may) = let was = old e found in record { until = was.until; awake = was.awake }
   puts_plain s step _ _ _ old (closes g turn e request left sends row outcome found open_turn is_left by_sends by_row) = left_plain g e request left (old e found) is_left
+  puts_plain s step _ _ _ old _ = tt
 
 -- ---- the sweep
 

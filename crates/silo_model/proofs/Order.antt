@@ -7,7 +7,7 @@ use Rattle.silo_model.proofs.Common.{ℕ}
 use Rattle.std.specs.FinMap as map
 use Rattle.silo_model.specs.Order.{AllBehind, Ascend, BeginInOrder}
 use Rattle.silo_model.proofs.Changes.{OfPutAt, changed_all}
-use Rattle.silo_model.proofs.EffectKinds.{Does, IsLeft, Role, accepts, closes, goes, goes_on, opens, pokes, role_of, stays, tells, unloads}
+use Rattle.silo_model.proofs.EffectKinds.{Does, IsLeft, Role, accepts, closes, goes, goes_on, opens, role_of, stays, tells}
 use Rattle.silo_model.proofs.Moves.{count-with_sends, count_of, remains_count}
 use Rattle.silo_model.proofs.Journals.{all_keep, parts_lead}
 use Rattle.silo_model.proofs.MachineSteps.{by_machine_step}
@@ -122,7 +122,6 @@ module _ (logic : Logic) (s : Context) (step : Step) (old : (x : Entry) → s.en
 
   by_kind : (role : Role) (grain : Option Grain) (e : Effect) → Does logic s step role grain e → Orders s grain e
   by_kind _ _ _ (tells p grain left outcome remains) = record { counts = omega (arith, remains_count remains); left = tt }
-  by_kind _ _ _ (pokes p g row outcome own touches) = record { counts = omega arith; left = tt }
   by_kind _ _ _ (accepts p g call left a own remains is) =
       let same : a.count ≡ count_of s.account = ap count_of (sym is) ∙ remains_count remains in
       record {
@@ -132,11 +131,11 @@ module _ (logic : Logic) (s : Context) (step : Step) (old : (x : Entry) → s.en
   by_kind _ _ _ (goes_on g e phase until resting is unready entered) =
       let o = old e is in
       record { counts = omega arith; left = record { queue = o.queue; counted = o.counted; turns = o.turns } }
-  by_kind _ _ _ (unloads g e is unready) = record { counts = omega arith; left = tt }
   by_kind _ _ _ (opens g e first others is ready waits may) = record { counts = omega arith; left = begun (count_of s.account) e first others waits (old e is) }
   by_kind _ _ _ (closes g turn e request left sends row outcome is open_turn is_left own touches) =
       let same = count-with_sends g s.account sends in
       record { counts = omega (arith, same); left = by_left g e request left _ (old e is) same is_left }
+  by_kind _ _ _ _ = record { counts = omega arith; left = tt }
 
 -- ---- the machine
 

@@ -53,14 +53,13 @@ left_of logic g tenant e request entry (goes is_empty alone) = tt
 -- an entry is touched at a grain of the tenant alone
 pub does_placed : (logic : Logic) (s : Context) (step : Step) (tenant : List ℕ) {role : Role} {grain : Option Grain} {e : Effect}
     → role_owner role ≡ Some tenant → s.tenant ≡ tenant → Does logic s step role grain e → WhereChanged e.entry (IsAt tenant grain)
-does_placed logic s step tenant owner is (tells p grain left outcome remains) = tt
-does_placed logic s step tenant owner is (pokes p g row outcome own touches) = tt
 does_placed logic s step tenant owner is (accepts p g call left a own remains known) = own ∙ is
 does_placed logic s step tenant owner is (goes_on g e phase until resting found rests entered) = same_Some g.tenant tenant owner
 does_placed logic s step tenant owner is (unloads g e found rests) = same_Some g.tenant tenant owner
 does_placed logic s step tenant owner is (opens g e first others found is_open queue may) = same_Some g.tenant tenant owner
 does_placed logic s step tenant owner is (closes g turn e request left sends row outcome found open_turn is_left by_sends by_row) =
     WhereChanged-holds left (same_Some g.tenant tenant owner)
+does_placed logic s step tenant owner is _ = tt
 
 -- each effect is such a one
 pub does_proper : (logic : Logic) (s : Context) (step : Step) (tenant : List ℕ) {role : Role} {grain : Option Grain} {e : Effect}

@@ -7,7 +7,7 @@ use Rattle.std.specs.FinMap as map
 use Rattle.finite_maps.proofs.Totals.{total_alike}
 use Rattle.finite_maps.proofs.Sums.{sum_one, sum_zero}
 use Rattle.silo_model.specs.Pending.{AllQuiet, QuietByCounts, pending_in, sent_in}
-use Rattle.silo_model.proofs.Contexts.{get-own, shown_account}
+use Rattle.silo_model.proofs.Contexts.{shown_account, shown_own}
 use Rattle.silo_model.proofs.Tests.{on_found}
 use Rattle.silo_model.proofs.Fair.{held, pend, within_all}
 use Rattle.silo_model.proofs.FairRuns.{pending_weight}
@@ -25,8 +25,7 @@ pub zero_entries : (f : Entry → ℕ) (entries : Entries) → ((g : Grain) (e :
 zero_entries f entries none = total_alike grain_cmp_total f (λ e. 0) entries none ∙ sum_zero (map.values entries)
 
 pub shown_entry : (w : Whole) (g : Grain) (e : Entry) → map.get w.entries g ≡ Some e → map.get (shown_to g.tenant w).entries g ≡ Some e
-unfolding shown_to
-shown_entry w g e found = get-own w.entries g.tenant g refl ∙ found
+shown_entry w g e found = shown_own w g.tenant g refl ∙ found
 
 entry_shown : (w : Whole) (tenant : List ℕ) (g : Grain) (e : Entry) → map.get (shown_to tenant w).entries g ≡ Some e → map.get w.entries g ≡ Some e
 unfolding shown_to

@@ -1,12 +1,13 @@
 -- The replies of all tenants, step by step.
 use Rattle.silo_model.proofs.Common.{◌++◌, ◌∙◌, ◌∷◌, ◌≡◌, List, Logic, Machine, None, Option, Setup, Some, Step, Whole, [], ap, append-nil}
 use Rattle.silo_model.proofs.Common.{append_assoc, arith, concerns_by, length, machine_run, machine_step, opening, owner_of, refl}
-use Rattle.silo_model.proofs.Common.{restricted_to, shown_to, start_of, subst, sym, true, unwrap_or, whole_run, whole_step, ℕ}
+use Rattle.silo_model.proofs.Common.{restricted_to, shown_to, start_of, subst, sym, unwrap_or, whole_run, whole_step, ℕ}
 use Rattle.std.proofs.Common.{drop}
 use Rattle.std.proofs.lemmas.List.{drop_all}
 use Rattle.std.proofs.Math.Seq.{drop-append_seam}
 use Rattle.silo_model.specs.Replies.{RepliesInOrder, owner_adds, owners_add, replies_added}
 use Rattle.silo_model.proofs.Sound.{IsSound}
+use Rattle.silo_model.proofs.Tests.{on_found}
 use Rattle.silo_model.proofs.Contexts.{same_text-itself}
 use Rattle.silo_model.proofs.SharedSteps.{shared_leaves}
 use Rattle.silo_model.proofs.Isolation.{not_now, owners_part, shared_by}
@@ -19,30 +20,24 @@ module _ (logic : Logic) (w : Whole) (sound : IsSound w) (s : Step) where
   machine_adds : (owner : List ℕ) (q : Option Machine) → machine_step logic (shown_to owner w) s ≡ q → replies_added logic (shown_to owner w) s ≡ drop (length (shown_to owner w).replies) (unwrap_or q (shown_to owner w)).replies
   machine_adds owner q is = ap (λ o. drop (length (shown_to owner w).replies) (unwrap_or o (shown_to owner w)).replies) is
 
-  owner_concerned : (owner : List ℕ) → owner_of s ≡ Some owner → concerns_by owner (owner_of s) ≡ true
-  owner_concerned owner is = ap (concerns_by owner) is ∙ same_text-itself owner
+  -- the replies after one step are those before it, and then what its owner's machine adds
+  owner_next : (owner : List ℕ) → owner_of s ≡ Some owner → (whole_after logic w s).replies ≡ w.replies ++ replies_added logic (shown_to owner w) s
+  owner_next owner is =
+      let mine = (shown_to owner w).replies in
+      on_found (λ r. (unwrap_or r w).replies ≡ w.replies ++ replies_added logic (shown_to owner w) s) (whole_step logic w s)
+      (λ none.
+      let same = machine_adds owner None (not_now logic w s owner (ap (concerns_by owner) is ∙ same_text-itself owner) none) in
+      sym (append-nil w.replies) ∙ ap (λ rs. w.replies ++ rs) (sym (same ∙ drop_all (length mine) mine (omega arith))))
+      (λ after step.
+      let adds = adds_owned logic w after s sound step in
+      let same = machine_adds owner (Some (shown_to owner after)) (owners_part logic w after s owner sound is step) in
+      let added = same ∙ ap (drop (length mine)) (adds.own_replies owner is) ∙ drop-append_seam mine adds.added in
+      adds.replies ∙ ap (λ rs. w.replies ++ rs) (sym added))
 
-  module _ (owner : List ℕ) (is : owner_of s ≡ Some owner) where
-    adds_where_done : (after : Whole) → whole_step logic w s ≡ Some after → after.replies ≡ w.replies ++ replies_added logic (shown_to owner w) s
-    adds_where_done after step =
-        let adds = adds_owned logic w after s (owner_of s) refl sound step in
-        let mine = machine_adds owner (Some (shown_to owner after)) (owners_part logic w after s owner sound is step) in
-        let added = mine ∙ ap (drop (length (shown_to owner w).replies)) (adds.own_replies owner is) ∙ drop-append_seam (shown_to owner w).replies adds.added in
-        adds.replies ∙ ap (λ rs. w.replies ++ rs) (sym added)
-
-    adds_nothing : whole_step logic w s ≡ None → w.replies ≡ w.replies ++ replies_added logic (shown_to owner w) s
-    adds_nothing none =
-        let added = machine_adds owner None (not_now logic w s owner (owner_concerned owner is) none) ∙ drop_all (length (shown_to owner w).replies) (shown_to owner w).replies (omega arith) in
-        sym (append-nil w.replies) ∙ ap (λ rs. w.replies ++ rs) (sym added)
-
-    -- the replies after one step are those before it, and then what its owner's machine adds
-    pub owner_next : (r : Option Whole) → whole_step logic w s ≡ r → (unwrap_or r w).replies ≡ w.replies ++ replies_added logic (shown_to owner w) s
-    owner_next None e = adds_nothing e
-    owner_next (Some after) e = adds_where_done after e
-
-  nobody_next : owner_of s ≡ None → (r : Option Whole) → whole_step logic w s ≡ r → (unwrap_or r w).replies ≡ w.replies ++ []
-  nobody_next is None e = sym (append-nil w.replies)
-  nobody_next is (Some after) e = (shared_leaves w after s (sym (shared_by logic w s is) ∙ e)).replies ∙ sym (append-nil w.replies)
+  nobody_next : owner_of s ≡ None → (whole_after logic w s).replies ≡ w.replies ++ []
+  nobody_next is =
+      on_found (λ r. (unwrap_or r w).replies ≡ w.replies ++ []) (whole_step logic w s) (λ _. sym (append-nil w.replies))
+      (λ after e. (shared_leaves w after s (sym (shared_by logic w s is) ∙ e)).replies ∙ sym (append-nil w.replies))
 
 -- where the whole is after the steps before, and what a step then adds
 module _ (logic : Logic) (setup : Setup) (before : List Step) (w : Whole) (at : whole_run logic (opening setup) before ≡ w) (sound : IsSound w) (s : Step) where
@@ -50,8 +45,8 @@ module _ (logic : Logic) (setup : Setup) (before : List Step) (w : Whole) (at : 
   part_is t = ap (shown_to t) (sym at) ∙ replay_is_run logic setup t before
 
   next_by : (o : Option (List ℕ)) → owner_of s ≡ o → (whole_after logic w s).replies ≡ w.replies ++ owner_adds logic setup before s o
-  next_by None is = nobody_next logic w sound s is (whole_step logic w s) refl
-  next_by (Some owner) is = owner_next logic w sound s owner is (whole_step logic w s) refl ∙ ap (λ m. w.replies ++ replies_added logic m s) (part_is owner)
+  next_by None is = nobody_next logic w sound s is
+  next_by (Some owner) is = owner_next logic w sound s owner is ∙ ap (λ m. w.replies ++ replies_added logic m s) (part_is owner)
 
 in_order : (logic : Logic) (setup : Setup) (before : List Step) (w : Whole) (steps : List Step) → whole_run logic (opening setup) before ≡ w → IsSound w → (whole_run logic w steps).replies ≡ w.replies ++ owners_add logic setup before steps
 in_order logic setup before w [] at sound = sym (append-nil w.replies)

@@ -12,7 +12,7 @@ use Rattle.silo_model.specs.Resting.{IsEnding, IsLast, RestingGoes, RestingIsUse
 use Rattle.silo_model.proofs.Changes.{OfPut}
 use Rattle.silo_model.proofs.Leaving.{idle_parts, resting_goes}
 use Rattle.silo_model.proofs.IdleEntries.{idle_is}
-use Rattle.silo_model.proofs.EffectKinds.{IsEntered, IsLeft, accepts, closes, goes, goes_on, opens, pokes, stays, tells, unloads}
+use Rattle.silo_model.proofs.EffectKinds.{IsEntered, IsLeft, accepts, closes, goes, goes_on, opens, stays}
 use Rattle.silo_model.proofs.EachEntry.{Puts, journal_each}
 use Rattle.silo_model.proofs.TurnSteps.{end_turn}
 use Rattle.silo_model.proofs.SavedStates.{loads_row}
@@ -56,14 +56,12 @@ left_used logic g e request _ (stays new queue turns rests said) = said.busy
 left_used logic g e request _ (goes none alone) = tt
 
 puts_used : (logic : Logic) → Puts IsUsed logic
-puts_used logic s step _ _ _ old (tells p grain left outcome remains) = tt
-puts_used logic s step _ _ _ old (pokes p g row outcome own touches) = tt
 puts_used logic s step _ _ _ old (accepts p g call left a own remains known) = with_request_used s.clock _ s.entry
 puts_used logic s step _ _ _ old (goes_on g e phase until resting found rests entered) = entered_used e phase until resting entered
-puts_used logic s step _ _ _ old (unloads g e found rests) = tt
 puts_used logic s step _ _ _ old (opens g e first others found is_open queue may) = begun_used e first others
 puts_used logic s step _ _ _ old (closes g turn e request left sends row outcome found open_turn is_left by_sends by_row) =
     left_used logic g e request left is_left
+puts_used logic s step _ _ _ old _ = tt
 
 pub resting_is_used : RestingIsUsed
 resting_is_used logic setup journal w grain e leads found rests idle =

@@ -17,7 +17,8 @@ module _ (logic : Logic) where
   unfolding spread
   step_on w after s h =
       by_owner logic w after s (GoesOn w after) h
-      (after_shared w after (GoesOn w) (λ now on. record { age = refl; ages = refl; clock = leb-true w.clock now on })
+      (λ _.
+      after_shared w after (GoesOn w) (λ now on. record { age = refl; ages = refl; clock = leb-true w.clock now on })
       (record { age = refl; ages = refl; clock = omega arith }) s)
       (λ owner is d. subst (GoesOn w) d.leaves (record { age = refl; ages = refl; clock = omega arith }))
 

@@ -51,7 +51,7 @@ pub row_stays : (logic : Logic) (w after : Whole) (s : Step) (g : Grain) → who
 unfolding spread
 row_stays logic w after s g step apart =
     by_owner logic w after s (map.get after.rows g ≡ map.get w.rows g) step
-    (λ nobodys. ap (λ (r : Rows). map.get r g) (shared_leaves w after s nobodys).rows)
+    (λ _ nobodys. ap (λ (r : Rows). map.get r g) (shared_leaves w after s nobodys).rows)
     (λ owner is d.
     let place = place_in w owner s in
     let misses = does_miss logic (context_at (shown_to owner w) place) s g apart (did_does logic w after s owner d) in

@@ -10,8 +10,8 @@ use Rattle.grain_kinds.specs.Logic.{stay}
 use Rattle.silo_model.specs.Resting.{IsEnding, StayingGoes, StayingStays, StaysUntil, may_close}
 use Rattle.silo_model.proofs.Changes.{WhereChanged, get-change_other, get-change_same}
 use Rattle.silo_model.proofs.ClockSteps.{sweep_is}
-use Rattle.silo_model.proofs.Contexts.{get-own}
-use Rattle.silo_model.proofs.EffectKinds.{Does, Role, accepts, closes, ends, goes_on, opens, owner_is, pokes, role_of, tells, unloads}
+use Rattle.silo_model.proofs.Contexts.{seen_own}
+use Rattle.silo_model.proofs.EffectKinds.{Does, Role, accepts, closes, ends, goes_on, opens, owner_is, role_of, unloads}
 use Rattle.silo_model.proofs.IdleEntries.{due_goes, used_stays}
 use Rattle.silo_model.proofs.Isolation.{by_owner, did_does, place_in}
 use Rattle.silo_model.proofs.Leaving.{awake_stays}
@@ -38,10 +38,6 @@ closes_there (End other n) g turn is = (grain_eq_decides other g).1 (same_Some o
 closes_there (Abandon other n) g turn is = (grain_eq_decides other g).1 (same_Some other g (ap ending_at is))
 closes_there _ g turn is = absurd (none-some g (ap ending_at is))
 
-shown_tenant : (w : Whole) (owner : List ℕ) (place : Option Grain) → (context_at (shown_to owner w) place).tenant ≡ owner
-unfolding context_at shown_to
-shown_tenant w owner place = refl
-
 module _ (moment : ℕ) (g : Grain) where
   abbrev Left : Option Entry → Type 0
   Left o = (e : Entry) × (o ≡ Some e) × Stays moment e
@@ -56,8 +52,6 @@ module _ (moment : ℕ) (g : Grain) where
     -- a step that closes no turn there leaves it there
     stays_there : (logic : Logic) (step : Step) → may_close g step ≡ false → {role : Role} {grain : Option Grain} {e : Effect}
         → role_of step ≡ role → grain ≡ Some g → Does logic s step role grain e → Left (change_option s.entry e.entry)
-    stays_there logic step apart is at (tells p grain left outcome remains) = (x, seen, stays)
-    stays_there logic step apart is at (pokes p q row outcome own touches) = (x, seen, stays)
     stays_there logic step apart is at (accepts p q call left a own remains known) =
         let request : Request = record { number = a.count + 1; sender = p; call = call } in (
           with_request s.clock request s.entry,
@@ -74,6 +68,7 @@ module _ (moment : ℕ) (g : Grain) where
         )
     stays_there logic step apart is at (closes q turn e request left sends row outcome found open_turn is_left by_sends by_row) =
         absurd (true≢false (sym (closes_there step g turn (is ∙ ap (λ (h : Grain). ends h turn) (same_Some q g at))) ∙ apart))
+    stays_there logic step apart is at _ = (x, seen, stays)
 
   -- ---- a step
 
@@ -81,15 +76,11 @@ module _ (moment : ℕ) (g : Grain) where
   StaysIn w = Left (map.get w.entries g)
 
   module _ (logic : Logic) (w after : Whole) (s : Step) (apart : may_close g s ≡ false) (stays : StaysIn w) where
-    seen_own : (owner : List ℕ) → g.tenant ≡ owner → (context_at (shown_to owner w) (Some g)).entry ≡ map.get w.entries g
-    unfolding context_at shown_to
-    seen_own owner own = get-own w.entries owner g own
-
     by_seen : (owner : List ℕ) (e : Effect) (c : Change Entry) → e.entry ≡ c → g.tenant ≡ owner
         → Does logic (context_at (shown_to owner w) (Some g)) s (role_of s) (Some g) e → Left (map.get (change_at w.entries g c) g)
     by_seen owner e c is own does =
-        subst Left ((λ i. change_option (seen_own owner own i) (is i)) ∙ sym (get-change_same grain_cmp_total grain_cmp_exact w.entries g c))
-        (stays_there (context_at (shown_to owner w) (Some g)) stays.0 (seen_own owner own ∙ stays.1) stays.2 logic s apart refl refl does)
+        subst Left ((λ i. change_option (seen_own w owner g own i) (is i)) ∙ sym (get-change_same grain_cmp_total grain_cmp_exact w.entries g c))
+        (stays_there (context_at (shown_to owner w) (Some g)) stays.0 (seen_own w owner g own ∙ stays.1) stays.2 logic s apart refl refl does)
 
     at_grain : (owner : List ℕ) (e : Effect) (c : Change Entry) → e.entry ≡ c → WhereChanged c (g.tenant ≡ owner)
         → Does logic (context_at (shown_to owner w) (Some g)) s (role_of s) (Some g) e → Left (map.get (change_at w.entries g c) g)
@@ -114,19 +105,18 @@ module _ (moment : ℕ) (g : Grain) where
         (λ other own does. (stays.0, get-change_other grain_cmp_total grain_cmp_exact w.entries q g e.entry other ∙ stays.1, stays.2))
 
     module _ (before : w.clock < moment) where
-      not_due : (age : ℕ) (e : Entry) → e.until ≡ moment → w.clock < due_moment age e
-      not_due age e until = omega (arith, before, until)
-
       step_stays : whole_step logic w s ≡ Some after → StaysIn after
+      unfolding context_at shown_to
       step_stays h =
           by_owner logic w after s (StaysIn after) h
-          (after_shared w after StaysIn (λ now on. stays)
-          (stays.0, used_stays w g stays.0 stays.1 (λ idle. not_due _ stays.0 stays.2.until.until), stays.2) s)
+          (λ _.
+          after_shared w after StaysIn (λ now on. stays)
+          (stays.0, used_stays w g stays.0 stays.1 (λ idle. omega (arith, before, stays.2.until.until)), stays.2) s)
           (λ owner is d.
           let place = place_in w owner s in
           let does = did_does logic w after s owner d in
           subst StaysIn d.leaves
-          (taken_at owner d.what place (does_placed logic _ s owner (owner_is s ∙ is) (shown_tenant w owner place) does) does))
+          (taken_at owner d.what place (does_placed logic _ s owner (owner_is s ∙ is) refl does) does))
 
   -- ---- a run
 

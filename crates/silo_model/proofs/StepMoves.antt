@@ -1,10 +1,10 @@
 -- What each of the thirteen kinds of step does to the requests of its machine.
-use Rattle.silo_model.proofs.Common.{◌&&◌, ◌++◌, ◌+◌, ◌<◌, ◌==◌, ◌∙◌, ◌≡◌, ◌≤◌, ◌⊎◌, Bool, Change, Effect, Entries, Entry, Grain, List}
-use Rattle.silo_model.proofs.Common.{Logic, Machine, None, Option, Party, ReadersAskNothing, Reply, Request, Some, Step, Sweep, [], ap}
-use Rattle.silo_model.proofs.Common.{append-nil, applied, arith, at, change_option, changed_at, context_at, drop, eqb-true, false}
-use Rattle.silo_model.proofs.Common.{grain_cmp_exact, grain_cmp_total, grain_of, inl, inr, is_kept, is_ready, keep, kept_entries, kind_age}
-use Rattle.silo_model.proofs.Common.{length, machine_step, nat_eq, nat_le, nil_from_length, none-some, not, put, refl, sum_by}
-use Rattle.silo_model.proofs.Common.{sum_by-append, sym, total, total-none, total-remove, true, true≢false, ℕ}
+use Rattle.silo_model.proofs.Common.{◌++◌, ◌+◌, ◌<◌, ◌∙◌, ◌≡◌, ◌≤◌, ◌⊎◌, Change, Effect, Entries, Entry, Grain, List, Logic, Machine, None}
+use Rattle.silo_model.proofs.Common.{Option, Party, ReadersAskNothing, Reply, Request, Some, Step, Sweep, [], and_parts, ap, append-nil}
+use Rattle.silo_model.proofs.Common.{applied, arith, at, change_option, changed_at, context_at, drop, due_moment, eqb-true, false}
+use Rattle.silo_model.proofs.Common.{grain_cmp_exact, grain_cmp_total, grain_of, inl, inr, is_idle, is_kept, keep, kept_entries, kind_age}
+use Rattle.silo_model.proofs.Common.{machine_step, nat_eq, nat_le, none-some, put, refl, sum_by, sum_by-append, sym, total, total-none}
+use Rattle.silo_model.proofs.Common.{total-remove, ℕ}
 use Rattle.std.specs.FinMap as map
 use Rattle.finite_maps.proofs.Totals.{total-insert, total-retain_keys}
 use Rattle.silo_model.specs.Effect.{found_at}
@@ -13,6 +13,8 @@ use Rattle.silo_model.proofs.Tests.{on_test}
 use Rattle.silo_model.proofs.Fair.{IsFair, IsFairEntry, front_is_new, held, numbered, one_if, pend}
 use Rattle.silo_model.proofs.EffectKinds.{role_of}
 use Rattle.silo_model.proofs.MachineSteps.{by_machine_step}
+use Rattle.silo_model.proofs.Leaving.{idle_parts}
+use Rattle.std.proofs.lemmas.Bool.{not-false}
 use Rattle.silo_model.proofs.Moves.{Counted, IsFairAt, IsPlaced, Moves, NumbersMove, Quiet, SeesFair, asked_by, count_of, does_moves}
 use Rattle.silo_model.proofs.Moves.{replied, sent}
 use Rattle.silo_model.proofs.SharedSteps.{AgeOf, get-kept_there}
@@ -95,17 +97,11 @@ applied_moves logic m s grain e fair moves = record {
 
 -- ---- steps of nobody
 
-due_parts : (a b c d : Bool) → not (a && b && c && d) ≡ false → (b ≡ true) × (c ≡ true)
-due_parts false b c d e = absurd (true≢false e)
-due_parts true false c d e = absurd (true≢false e)
-due_parts true true false d e = absurd (true≢false e)
-due_parts true true true d e = (refl, refl)
-
 -- an entry that is due has no request
 pub due_is_bare : (clock age : ℕ) (e : Entry) → is_kept clock age (Some e) ≡ false → (e.queue ≡ []) × (map.len e.turns ≡ 0)
 due_is_bare clock age e due =
-    let parts = due_parts (is_ready e.phase) (length e.queue == 0) (map.len e.turns == 0) (nat_le _ clock) due in
-    (nil_from_length e.queue (eqb-true (length e.queue) 0 parts.0), eqb-true (map.len e.turns) 0 parts.1)
+    let parts = idle_parts e (and_parts (is_idle e) (nat_le (due_moment age e) clock) (not-false _ due)).0 in
+    (parts.1, parts.2)
 
 due_is_light : (f : Request → ℕ) (clock age : ℕ) (e : Entry) → is_kept clock age (Some e) ≡ false → held f e ≡ 0
 due_is_light f clock age e due = let bare = due_is_bare clock age e due in omega (arith, ap (sum_by f) bare.0, total-none f e.turns bare.1)

@@ -9,7 +9,7 @@ use Rattle.std.specs.FinMap as map
 use Rattle.silo_model.proofs.Changes.{WhereChanged, get-change_other, get-change_same}
 use Rattle.silo_model.proofs.Moves.{ClosesTurn, KeepsTurns, OpensTurn, TurnsMove, does_moves, turn_in}
 use Rattle.silo_model.proofs.StepMoves.{IsFairMachine, due_is_bare, sees_fair}
-use Rattle.silo_model.proofs.Contexts.{get-own}
+use Rattle.silo_model.proofs.Contexts.{seen_own}
 use Rattle.silo_model.proofs.SharedSteps.{AgeOf, after_shared, get-kept}
 use Rattle.silo_model.proofs.Sound.{IsSound}
 use Rattle.silo_model.proofs.Tests.{either_way}
@@ -22,10 +22,6 @@ AllFair logic w = (tenant : List ℕ) → IsFairMachine logic (shown_to tenant w
 -- what the owner sees at the place
 abbrev seen_in : Whole → List ℕ → Option Grain → Option Entry
 seen_in w owner place = (context_at (shown_to owner w) place).entry
-
-seen_own : (w : Whole) (owner : List ℕ) (g : Grain) → g.tenant ≡ owner → seen_in w owner (Some g) ≡ map.get w.entries g
-unfolding context_at shown_to
-seen_own w owner g own = get-own w.entries owner g own
 
 -- the turns of a grain, where its entry stays
 stays : {old new : Option Entry} → new ≡ old → KeepsTurns old new
@@ -100,7 +96,7 @@ module _ (logic : Logic) (law : ReadersAskNothing logic) (w after : Whole) (s : 
   turned : (h : Grain) → Turned logic s h (map.get w.entries h) (map.get after.entries h)
   turned h =
       by_owner logic w after s (Turned logic s h (map.get w.entries h) (map.get after.entries h)) step
-      (λ nobodys.
+      (λ _ nobodys.
       inl (after_shared w after (λ x. KeepsTurns (map.get w.entries h) (map.get x.entries h)) (λ now on n q open_turn. open_turn)
       (sweep_keeps (kind_age w.ages w.age) h) s nobodys))
       (λ owner is d.
