@@ -1,6 +1,6 @@
 -- The answers at a tenant's steps in a list of many tenants' steps.
-use Rattle.silo_model.proofs.Common.{◌∙◌, ◌∷◌, ◌≡◌, AreAnswers, Bool, List, Load, Logic, Machine, None, Poke, Step, Store, Whole, [], ap}
-use Rattle.silo_model.proofs.Common.{as_failed, concerns, concerns_by, cond, false, machine_run, machine_step, none-some, owner_of, refl}
+use Rattle.silo_model.proofs.Common.{◌∙◌, ◌∷◌, ◌≡◌, AreAnswers, Bool, List, Logic, Machine, None, Step, Sweep, Whole, [], ap, as_failed}
+use Rattle.silo_model.proofs.Common.{concerns, concerns_by, cond, false, machine_run, machine_step, none-some, owner_of, refl}
 use Rattle.silo_model.proofs.Common.{restricted_to, shown_to, subst, sym, true, whole_step, ℕ}
 use Rattle.silo_event.specs.Failed.{marked_step}
 use Rattle.silo_event.specs.declared.step.Answer.{Answer}
@@ -17,15 +17,12 @@ use Rattle.silo_model.proofs.Journals.{journal_sound}
 -- ---- a step is its tenant's also where its storage call failed
 
 owner_failed : (s : Step) → owner_of (as_failed s) ≡ owner_of s
-owner_failed (Poke failed caller id grain state) = refl
-owner_failed (Load grain failed) = refl
-owner_failed (Store grain turn failed) = refl
+owner_failed Sweep = refl
 owner_failed _ = refl
 
 owner_marked : (s : Step) (a : Answer) → owner_of (marked_step s a) ≡ owner_of s
-owner_marked s answer.Done = refl
 owner_marked s answer.Failed = owner_failed s
-owner_marked s answer.NotNow = refl
+owner_marked s _ = refl
 
 pub concerns_marked : (tenant : List ℕ) (s : Step) (a : Answer) → concerns tenant (marked_step s a) ≡ concerns tenant s
 concerns_marked tenant s a = ap (concerns_by tenant) (owner_marked s a)

@@ -235,14 +235,12 @@ module _ (logic : Logic) (s : Context) (step : Step) where
 
     activated_does : (p : Phase) → e.phase ≡ p → Entering (activated e p)
     activated_does waiting phase = goes_on g e loading e.until e.resting is (ap is_ready phase) (inl (refl, refl, refl))
-    activated_does loading phase = tt
-    activated_does (ready state version) phase = tt
+    activated_does _ phase = tt
 
     loaded_does : (failed : Bool) (p : Phase) → e.phase ≡ p → Entering (loaded logic s g failed e p)
-    loaded_does failed waiting phase = tt
     loaded_does true loading phase = unloads g e is (ap is_ready phase)
     loaded_does false loading phase = goes_on g e (ready (content_or (logic.empty g.kind) s.row) (version_of s.row)) 0 false is (ap is_ready phase) (inr (refl, refl))
-    loaded_does failed (ready state version) phase = tt
+    loaded_does _ _ phase = tt
 
     opened_does : (queue : List Request) → e.queue ≡ queue → is_ready e.phase ≡ true → Beginning (opened logic g e queue)
     opened_does [] queue phase = tt
@@ -252,9 +250,8 @@ module _ (logic : Logic) (s : Context) (step : Step) where
         (λ may. opens g e first others is phase queue may) (λ _. tt)
 
     begun_does : (p : Phase) → e.phase ≡ p → Beginning (opened_if_ready logic g e p)
-    begun_does waiting phase = tt
-    begun_does loading phase = tt
     begun_does (ready state version) phase = opened_does e.queue refl (ap is_ready phase)
+    begun_does _ phase = tt
 
 -- ---- turns
 
@@ -284,16 +281,13 @@ module _ (logic : Logic) (s : Context) (g : Grain) (turn : ℕ) (e : Entry) (req
       → Closing (End g turn) (ended_by s g e request version plan storage)
   ended_by_does version plan asks_nothing may_say =
       closes g turn e request _ plan.sends keep _ is open_turn (ready_left plan.state version plan.keep may_say) (inr refl) (inl refl)
-  ended_by_does version plan reads_row may_say = tt
-  ended_by_does version plan writes_row may_say = tt
-  ended_by_does version plan clears_row may_say = tt
+  ended_by_does version plan _ may_say = tt
 
   ended_does : (p : Phase) → Closing (End g turn) (ended logic s g e request p)
-  ended_does waiting = tt
-  ended_does loading = tt
   ended_does (ready state version) =
       let plan = plan_of logic g state request in
       ended_by_does version plan plan.storage (inr (state, refl))
+  ended_does _ = tt
 
   abandoned_does : Closing (Abandon g turn) (Some (abandoned s e request))
   abandoned_does =
@@ -337,10 +331,9 @@ module _ (logic : Logic) (s : Context) (g : Grain) (turn : ℕ) (e : Entry) (req
     unless_failed false (Some x) h = h
 
   stored_does : (failed : Bool) (p : Phase) → Closing (Store g turn failed) (stored logic s g failed e request p)
-  stored_does failed waiting = tt
-  stored_does failed loading = tt
   stored_does failed (ready state version) =
       unless_failed failed state version failed _ (stored_by_does failed state version (plan_of logic g state request).storage refl)
+  stored_does failed _ = tt
 
 -- ---- each kind of step
 

@@ -1,8 +1,8 @@
 -- A step is possible exactly where it is possible as one whose storage call failed.
 use Rattle.silo_model.proofs.Common.{◌∙◌, ◌≡◌, Bool, Context, Effect, Entry, Grain, List, Load, Logic, None, Option, Phase, Poke, Request}
 use Rattle.silo_model.proofs.Common.{Some, Step, Store, Whole, ap, as_failed, context_at, effect_of, is_some, is_some-option_map, loaded}
-use Rattle.silo_model.proofs.Common.{loading, option_and_then, option_map, plan_of, ready, refl, shown_to, spread, stored, stored_by, sym}
-use Rattle.silo_model.proofs.Common.{true, true≢false, waiting, whole_step, ℕ}
+use Rattle.silo_model.proofs.Common.{option_and_then, option_map, plan_of, ready, refl, shown_to, spread, stored, stored_by, sym, true}
+use Rattle.silo_model.proofs.Common.{true≢false, waiting, whole_step, ℕ}
 use Rattle.std.specs.FinMap as map
 use Rattle.silo_model.specs.Laws.{FailingIsPossible}
 
@@ -12,15 +12,13 @@ is_some-and_then f g (Some x) h = h x
 
 loaded_alike : (logic : Logic) (s : Context) (g : Grain) (failed : Bool) (e : Entry) (p : Phase) → is_some (loaded logic s g failed e p) ≡ is_some (loaded logic s g true e p)
 loaded_alike logic s g failed e waiting = refl
-loaded_alike logic s g failed e loading = refl
-loaded_alike logic s g failed e (ready state version) = refl
+loaded_alike logic s g failed e _ = refl
 
 stored_alike : (logic : Logic) (s : Context) (g : Grain) (failed : Bool) (e : Entry) (request : Request) (p : Phase) → is_some (stored logic s g failed e request p) ≡ is_some (stored logic s g true e request p)
-stored_alike logic s g failed e request waiting = refl
-stored_alike logic s g failed e request loading = refl
 stored_alike logic s g failed e request (ready state version) =
     let asked = stored_by logic s g e request state version (plan_of logic g state request).storage in
     is_some-option_map _ asked ∙ sym (is_some-option_map _ asked)
+stored_alike logic s g failed e request _ = refl
 
 both_done : (w : Whole) (owner : List ℕ) (g : Grain) (r q : Option Effect) → is_some r ≡ is_some q → is_some (option_map (spread w owner (Some g)) r) ≡ is_some (option_map (spread w owner (Some g)) q)
 both_done w owner g r q same = is_some-option_map _ r ∙ same ∙ sym (is_some-option_map _ q)

@@ -1,8 +1,7 @@
 -- Which entries a sweep takes.
 use Rattle.silo_model.proofs.Common.{◌&&◌, ◌<◌, ◌==◌, ◌∙◌, ◌≡◌, ◌≤◌, Bool, Entry, Grain, IsIdle, None, Option, Phase, Some, Whole, []}
 use Rattle.silo_model.proofs.Common.{and_from, and_parts, ap, arith, cond, due_moment, eq-eqb, false, is_idle, is_kept, is_ready}
-use Rattle.silo_model.proofs.Common.{kept_entries, kind_age, length, loading, nat_le, not, ready, refl, sym, true, true≢false, waiting}
-use Rattle.silo_model.proofs.Common.{whole_swept, ℕ}
+use Rattle.silo_model.proofs.Common.{kept_entries, kind_age, length, nat_le, not, ready, refl, sym, true, true≢false, whole_swept, ℕ}
 use Rattle.std.specs.FinMap as map
 use Rattle.std.proofs.lemmas.Bool.{le-leb, leb-true}
 use Rattle.silo_model.specs.Idle.{is_due}
@@ -30,12 +29,11 @@ module _ (clock age : ℕ) (e : Entry) where
       parts = idle_parts e both.0
 
       by_phase : (p : Phase) → e.phase ≡ p → is_ready p ≡ true → IsIdle e × (due_moment age e ≤ clock)
-      by_phase waiting is h = absurd (true≢false (sym h))
-      by_phase loading is h = absurd (true≢false (sym h))
       by_phase (ready state version) is h = (
         record { state = state; version = version; phase = is; nothing_waits = parts.1; none_open = parts.2 },
         leb-true (due_moment age e) clock both.1,
       )
+      by_phase _ is h = absurd (true≢false (sym h))
 
 -- ---- the sweep
 

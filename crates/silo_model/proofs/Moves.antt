@@ -1,9 +1,9 @@
 -- What each step does to the requests at its grain: their numbers stay apart, each is answered once or still waits or is open, and turns open and close as the step says.
 use Rattle.silo_model.proofs.Common.{◌+◌, ◌∙◌, ◌∷◌, ◌≡◌, ◌≢◌, ◌≤◌, ◌⊎◌, Account, Change, Context, Effect, Entry, Err, Fault, Grain, List}
 use Rattle.silo_model.proofs.Common.{Logic, None, Option, Outgoing, Party, ReadersAskNothing, Reply, Request, Result, Row, Some, Step}
-use Rattle.silo_model.proofs.Common.{StorageFailed, Tree, [], accepted, ap, arith, at, change_option, cond, drop, eq_by_cmp, false}
+use Rattle.silo_model.proofs.Common.{StorageFailed, Tree, [], accepted, ap, arith, at, change_option, cond, eq_by_cmp, false}
 use Rattle.silo_model.proofs.Common.{false_from_ne_true, flat_map, get-insert_same, get-none, inl, inr, is_ready, keep, may_open, nat_cmp}
-use Rattle.silo_model.proofs.Common.{nat_cmp-IsAntisymmetric, nat_cmp_total, none-some, on_entry, put, reads, refl, reply_to, sum_by}
+use Rattle.silo_model.proofs.Common.{nat_cmp-IsAntisymmetric, nat_cmp_total, none-some, on_entry, reads, refl, reply_to, sum_by}
 use Rattle.silo_model.proofs.Common.{sum_by-append, sum_by-cons, sym, told, total, total-none, true, unloaded, with_request, with_sends, ℕ}
 use Rattle.std.specs.FinMap as map
 use Rattle.std.proofs.lemmas.List.Sums.{sum_by_push}
@@ -75,10 +75,8 @@ TurnsMove logic step old new = TurnsIn logic (role_of step) old new
 -- an entry changes at a grain alone
 abbrev pub IsPlaced : Change Entry → Option Grain → Type 0
 IsPlaced keep grain = Unit {0}
-IsPlaced (put x) None = ⊥
-IsPlaced (put x) (Some g) = Unit {0}
-IsPlaced drop None = ⊥
-IsPlaced drop (Some g) = Unit {0}
+IsPlaced _ None = ⊥
+IsPlaced _ (Some g) = Unit {0}
 
 abbrev pub IsFairAt : Logic → Option Grain → Entry → Type 0
 IsFairAt logic None e = Unit {0}

@@ -5,25 +5,15 @@ use base.Stored.{Coded, Gv, gcons, gnil, gnum}
 
 abbrev same_code : Gv → Gv → Bool
 same_code gnil gnil = true
-same_code gnil (gnum n) = false
-same_code gnil (gcons a b) = false
-same_code (gnum m) gnil = false
 same_code (gnum m) (gnum n) = m == n
-same_code (gnum m) (gcons a b) = false
-same_code (gcons a b) gnil = false
-same_code (gcons a b) (gnum n) = false
 same_code (gcons a b) (gcons c d) = same_code a c && same_code b d
+same_code _ _ = false
 
 is_same : (x y : Gv) → same_code x y ≡ true → x ≡ y
 is_same gnil gnil e = refl
-is_same gnil (gnum n) e = absurd (true≢false (sym e))
-is_same gnil (gcons a b) e = absurd (true≢false (sym e))
-is_same (gnum m) gnil e = absurd (true≢false (sym e))
 is_same (gnum m) (gnum n) e = ap gnum (eqb-true m n e)
-is_same (gnum m) (gcons a b) e = absurd (true≢false (sym e))
-is_same (gcons a b) gnil e = absurd (true≢false (sym e))
-is_same (gcons a b) (gnum n) e = absurd (true≢false (sym e))
 is_same (gcons a b) (gcons c d) e = let parts = and_parts (same_code a c) (same_code b d) e in λ i. gcons (is_same a c parts.0 i) (is_same b d parts.1 i)
+is_same _ _ e = absurd (true≢false (sym e))
 
 itself : (x : Gv) → same_code x x ≡ true
 itself gnil = refl
