@@ -1,5 +1,5 @@
 -- What is to do with an activation is what is to do with its entry.
-use Rattle.std.proofs.Common.{◌≡◌, Bool, true, false, List, [], ◌∷◌, Some, None, refl, ap, ◌∙◌}
+use Rattle.std.proofs.Common.{◌≡◌, Bool, true, false, List, [], ◌∷◌, Some, None, slice_get, refl, ap, ◌∙◌}
 use Rattle.std.specs.Prelude.{option_map, if◌then◌else◌, map as map_list}
 use Rattle.std.specs.List.{AllByRecursion}
 use Rattle.grain_id.specs.Names.{Grain}
@@ -13,7 +13,7 @@ use Rattle.activation_directory.specs.declared.activation.Phase.TheVariants.{Wai
 use Rattle.silo_model.specs.Todo.{begin_at, work_by}
 use Rattle.silo_state.specs.Shown.{request_of, phase_of, entry_of}
 use Rattle.silo_state.specs.Marks.{IsMarked, AreMarked}
-use Rattle.silo_state.specs.Work.{step_at, work_at}
+use Rattle.silo_state.specs.Work.{first_number, step_at, work_at}
 use Rattle.silo_state.specs.declared.change.PossibleStep.TheVariants.{Begin}
 use Rattle.silo_state.proofs.Requests.{may_open-marked}
 
@@ -32,3 +32,8 @@ module _ (logic : Logic) (g : Grain) (a : Activation) (marked : AreMarked logic 
   work-same Waiting = refl
   work-same Loading = refl
   work-same (Ready state version) = begins-same a.mailbox.waiting marked.waiting
+
+-- the first that waits has its number in the entry, too
+pub first_waits : (waiting : List Request) → first_number (map_list request_of waiting) ≡ option_map (λ (r : Request). r.number) (slice_get waiting 0)
+first_waits [] = refl
+first_waits (first ∷ others) = refl

@@ -1,5 +1,5 @@
 -- What there is to do at a grain.
-use Rattle.std.specs.Prelude.{Bool, true, false, Option, Some, None, flat_map, if◌then◌else◌}
+use Rattle.std.specs.Prelude.{ℕ, Bool, true, false, List, [], ◌∷◌, Option, Some, None, flat_map, if◌then◌else◌}
 use Rattle.std.specs.List.{list_any}
 use Rattle.std.specs.FinMap as map
 use Rattle.grain_id.specs.Names.{Client, Grain}
@@ -8,7 +8,7 @@ use Rattle.silo_event.specs.declared.step.Step.TheVariants as step
 use Rattle.turn_mailbox.specs.Contents.{Contents, may_begin}
 use Rattle.activation_directory.specs.declared.activation.Phase.{Phase}
 use Rattle.activation_directory.specs.declared.activation.Phase.TheVariants.{Waiting, Loading, Ready}
-use Rattle.silo_model.specs.Machine.{Entry, Entries}
+use Rattle.silo_model.specs.Machine.{Entry, Entries, Request}
 use Rattle.silo_model.specs.Pending.{is_of_client}
 use Rattle.silo_model.specs.Settled.{pending_at}
 use Rattle.silo_model.specs.Whole.{is_of}
@@ -32,6 +32,16 @@ work_at mail (Ready state version) = if may_begin mail then Some Begin else None
 abbrev pub is_settled : Option Entry → Bool
 is_settled None = true
 is_settled (Some e) = is_quiet e
+
+-- the number of the first of these requests
+abbrev pub first_number : List Request → Option ℕ
+first_number [] = None
+first_number (first ∷ others) = Some first.number
+
+-- the number of the first request that waits, if there is an entry and one waits
+abbrev pub first_waiting : Option Entry → Option ℕ
+first_waiting None = None
+first_waiting (Some e) = first_number e.queue
 
 -- a request of the client waits or is open at a grain of its tenant
 abbrev pub pending_in_part : Client → Entries → Bool

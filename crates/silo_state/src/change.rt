@@ -11,7 +11,7 @@ ghost use Rattle.silo_state.specs.Shown.{phase_of, entry_of};
 ghost use Rattle.silo_model.specs.Idle.{is_idle, due_moment};
 ghost use Rattle.silo_state.specs.inside.Notes.{none_waits, due_at, noted_by};
 ghost use Rattle.silo_state.specs.Reads.{is_loading, is_quiet};
-ghost use Rattle.silo_state.specs.Work.{step_at, work_at};
+ghost use Rattle.silo_state.specs.Work.{first_number, step_at, work_at};
 
 use activation_directory::{Activation, Phase};
 use grain_id::GrainId;
@@ -173,6 +173,17 @@ pub fn none_waits(activation: &Activation) -> bool
     ensures { result ≡ none_waits (entry_of activation.now) }
 {
     activation.mailbox.len() == 0
+}
+
+/// The number of the first request that waits, if one does.
+#[tactic(auto, using(crate::proofs::Works::first_waits))]
+pub fn first_waiting(activation: &Activation) -> Option<u64>
+    ensures { result ≡ first_number (entry_of activation.now).queue }
+{
+    let Some(first) = activation.mailbox.at(0) else {
+        return None;
+    };
+    Some(first.number)
 }
 
 /// Whether it is ready, no request waits and no turn is open.

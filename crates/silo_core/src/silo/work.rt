@@ -8,7 +8,7 @@ ghost use Rattle.silo_model.specs.Sends.{first_target};
 ghost use Rattle.silo_model.specs.Pending.{sends_of};
 ghost use Rattle.silo_model.specs.Todo.{work_on};
 ghost use Rattle.silo_state.specs.Sends.{first_source};
-ghost use Rattle.silo_state.specs.Work.{step_at, is_settled};
+ghost use Rattle.silo_state.specs.Work.{first_waiting, step_at, is_settled};
 
 use crate::silo::Silo;
 use grain_id::GrainId;
@@ -22,6 +22,13 @@ impl<S: GrainStorage, L: GrainLogic> Silo<S, L> {
         ensures { option_map (step_at grain.now) result ≡ work_on L.logic grain.now (map.get self.now.whole.entries grain.now) }
     {
         self.state.work_on(grain)
+    }
+
+    /// The number of the first request that waits at the grain, if one does.
+    pub fn first_waiting(&self, grain: &GrainId) -> Option<u64>
+        ensures { result ≡ first_waiting (map.get self.now.whole.entries grain.now) }
+    {
+        self.state.first_waiting(grain)
     }
 
     /// The target of the first call that the grain sent, and that is not yet delivered.

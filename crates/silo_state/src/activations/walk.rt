@@ -5,7 +5,7 @@ ghost use Rattle.std.specs.FinMap as map;
 ghost use Rattle.grain_id.specs.Names.{Grain, same_text};
 ghost use Rattle.silo_model.specs.Todo.{work_on};
 ghost use Rattle.turn_mailbox.specs.Contents.{has_from};
-ghost use Rattle.silo_state.specs.Work.{step_at, is_settled, pending_in_part};
+ghost use Rattle.silo_state.specs.Work.{first_waiting, step_at, is_settled, pending_in_part};
 
 use crate::activations::Activations;
 use crate::change;
@@ -24,6 +24,16 @@ impl<L: GrainLogic> Activations<L> {
             return None;
         };
         change::possible_work(activation)
+    }
+
+    /// The number of the first request that waits at the grain, if one does.
+    pub fn first_waiting(&self, grain: &GrainId) -> Option<u64>
+        ensures { result ≡ first_waiting (map.get self.now.entries grain.now) }
+    {
+        let Some(activation) = self.get(grain) else {
+            return None;
+        };
+        change::first_waiting(activation)
     }
 
     /// Whether no request waits at the grain, and no turn of it is open.

@@ -9,7 +9,7 @@ ghost use Rattle.silo_model.specs.Sends.{first_target};
 ghost use Rattle.silo_model.specs.Pending.{has_pending, sends_of};
 ghost use Rattle.silo_model.specs.Todo.{work_on};
 ghost use Rattle.silo_model.specs.Whole.{shown_to};
-ghost use Rattle.silo_state.specs.Work.{step_at, is_settled};
+ghost use Rattle.silo_state.specs.Work.{first_waiting, step_at, is_settled};
 ghost use Rattle.silo_state.specs.Sends.{HasSent, NothingSent, first_source};
 
 use crate::change::PossibleStep;
@@ -25,6 +25,13 @@ impl<S: GrainStorage, L: GrainLogic> SiloState<S, L> {
         ensures { option_map (step_at grain.now) result ≡ work_on L.logic grain.now (map.get self.now.whole.entries grain.now) }
     {
         self.activations.work_on(grain)
+    }
+
+    /// The number of the first request that waits at the grain, if one does.
+    pub fn first_waiting(&self, grain: &GrainId) -> Option<u64>
+        ensures { result ≡ first_waiting (map.get self.now.whole.entries grain.now) }
+    {
+        self.activations.first_waiting(grain)
     }
 
     /// The target of the first call that the grain sent, and that is not yet delivered.
