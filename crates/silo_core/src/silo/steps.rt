@@ -14,6 +14,7 @@ ghost use Rattle.silo_core.specs.History.{Answered, StepAnswersInParts};
 ghost use Rattle.silo_core.specs.Turns.{AnsweredTurn};
 
 use crate::silo::{Silo, note};
+use bumpalo::Bump;
 use grain_id::{Caller, GrainId};
 use grain_kinds::{FinishedTurn, GrainLogic, OpenedTurn};
 use grain_storage::GrainStorage;
@@ -217,13 +218,22 @@ impl<S: GrainStorage, L: GrainLogic> Silo<S, L> {
         ensures answered { Answered L.logic self.old step result self.new }
         ensures parts { StepAnswersInParts L.logic self.old.whole step result self.new.whole }
     {
+        self.apply_in(alloc, &Bump::new(alloc), step)
+    }
+
+    /// Takes a step as `apply` does, and runs a turn in this arena, which may be used for many steps: reset it between them, since what
+    /// a turn needed stays there. Nothing that was there before is read.
+    pub fn apply_in(&mut self, alloc: Global, bump: &Bump, step: Step) -> Result<Answer, StepFault>
+        ensures answered { Answered L.logic self.old step result self.new }
+        ensures parts { StepAnswersInParts L.logic self.old.whole step result self.new.whole }
+    {
         // Looked at, so that the proof sees where the journal leads.
         let _ = &self.journal;
-        self.take(alloc, step)
+        self.take(alloc, bump, step)
     }
 
     /// Takes a step, and notes it if it was done: room for the note comes first.
-    fn take(&mut self, alloc: Global, step: Step) -> Result<Answer, StepFault>
+    fn take(&mut self, alloc: Global, bump: &Bump, step: Step) -> Result<Answer, StepFault>
         ensures { Answered L.logic self.old step result self.new }
     {
         match self.journal.reserve(1) {
@@ -233,7 +243,7 @@ impl<S: GrainStorage, L: GrainLogic> Silo<S, L> {
                 return Err(StepFault::Memory);
             }
         }
-        match self.state.step(alloc, &step) {
+        match self.state.step(alloc, bump, &step) {
             Ok(answer) => {
                 note(&mut self.journal, answer, step);
                 Ok(answer)

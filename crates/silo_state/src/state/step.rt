@@ -17,13 +17,13 @@ use silo_event::{Answer, Step, StepFault};
 use std::alloc::{AllocError, Global};
 
 impl<S: GrainStorage, L: GrainLogic> SiloState<S, L> {
-    /// Takes a step of any kind. The turn of an `End` or a `Store` is run here, in an arena of its own,
-    /// so that it is no stranger.
+    /// Takes a step of any kind. The turn of an `End` or a `Store` is run here, in this arena, so that it is no stranger: what it
+    /// needs is left there, and nothing that was there before is read.
     ///
     /// # Errors
     ///
     /// Out of memory: nothing changed.
-    pub fn step(&mut self, alloc: Global, step: &Step) -> Result<Answer, StepFault>
+    pub fn step(&mut self, alloc: Global, bump: &Bump, step: &Step) -> Result<Answer, StepFault>
         ensures { Moves L.logic self.old step.now result self.new }
     {
         match step {
@@ -50,8 +50,8 @@ impl<S: GrainStorage, L: GrainLogic> SiloState<S, L> {
                 grain,
                 turn,
                 failed,
-            } => self.run_store(alloc, grain, *turn, *failed),
-            Step::End { grain, turn } => self.run_end(alloc, grain, *turn),
+            } => self.run_store(alloc, bump, grain, *turn, *failed),
+            Step::End { grain, turn } => self.run_end(alloc, bump, grain, *turn),
             Step::Abandon { grain, turn } => self.abandon(grain, *turn),
             Step::Tick { now } => Ok(self.tick(*now)),
             Step::Sweep => self.sweep(alloc),
@@ -69,10 +69,12 @@ impl<S: GrainStorage, L: GrainLogic> SiloState<S, L> {
         }
     }
 
-    /// The open turn of that number, run in an arena of its own, and how its grain stands.
+    /// The open turn of that number, run in this arena, and how its grain stands.
+    #[inline(always)]
     fn run(
         &self,
         alloc: Global,
+        bump: &Bump,
         grain: &GrainId,
         turn: u64,
     ) -> Result<Option<(FinishedTurn<L>, GrainAtClose)>, AllocError>
@@ -84,18 +86,24 @@ impl<S: GrainStorage, L: GrainLogic> SiloState<S, L> {
         let Some((opened, at_close)) = finding::open_turn(grain, activation, turn)? else {
             return Ok(None);
         };
-        let bump = Bump::new(alloc);
-        match run_turn(alloc, &bump, &self.logic, opened) {
+        match run_turn(alloc, bump, &self.logic, opened) {
             Ok(finished) => Ok(Some((finished, at_close))),
             Err(_opened) => Err(AllocError),
         }
     }
 
     /// An open turn that asks for nothing of the storage runs and is closed.
-    fn run_end(&mut self, alloc: Global, grain: &GrainId, turn: u64) -> Result<Answer, StepFault>
+    #[inline(never)]
+    fn run_end(
+        &mut self,
+        alloc: Global,
+        bump: &Bump,
+        grain: &GrainId,
+        turn: u64,
+    ) -> Result<Answer, StepFault>
         ensures { Moves L.logic self.old (step.End grain.now turn) result self.new }
     {
-        let Some((finished, at_close)) = self.run(alloc, grain, turn)? else {
+        let Some((finished, at_close)) = self.run(alloc, bump, grain, turn)? else {
             return Ok(Answer::NotNow);
         };
         let GrainAtClose {
@@ -108,16 +116,18 @@ impl<S: GrainStorage, L: GrainLogic> SiloState<S, L> {
     }
 
     /// An open turn that asks for the storage runs and is closed.
+    #[inline(never)]
     fn run_store(
         &mut self,
         alloc: Global,
+        bump: &Bump,
         grain: &GrainId,
         turn: u64,
         failed: bool,
     ) -> Result<Answer, StepFault>
         ensures { Moves L.logic self.old (step.Store grain.now turn failed) result self.new }
     {
-        let Some((finished, at_close)) = self.run(alloc, grain, turn)? else {
+        let Some((finished, at_close)) = self.run(alloc, bump, grain, turn)? else {
             return Ok(Answer::NotNow);
         };
         let GrainAtClose {

@@ -2,7 +2,7 @@ use Rattle.std.proofs.Common.{subst}
 use Rattle.silo_model.specs.Journal.{LeadsTo}
 use Rattle.silo_core.specs.History.{History}
 use Rattle.silo_core.proofs.Steps.{step_parts}
-use Rattle.silo_core.proofs.silo.Silo.apply.Goals as goal
+use Rattle.silo_core.proofs.silo.Silo.apply_in.Goals as goal
 
 pub returns-clause-parts : goal.returns-clause-parts
 returns-clause-parts g c =
