@@ -17,7 +17,7 @@ ghost use Rattle.silo_state.specs.inside.Sweeps.{without};
 
 use crate::activations::Activations;
 use crate::change;
-use activation_directory::{Activation, Phase};
+use activation_directory::{Activation, Directory, Phase};
 use grain_id::GrainId;
 use grain_kinds::{GrainLogic, Keep};
 use idle_collector::{AgeTable, Collector};
@@ -41,7 +41,7 @@ impl<L: GrainLogic> Activations<L> {
         if !idle_after {
             return Ok(());
         }
-        self.collector.expect(grain.clone()?)?;
+        self.collector.expect(grain)?;
         Ok(())
     }
 
@@ -88,7 +88,7 @@ impl<L: GrainLogic> Activations<L> {
             return None;
         };
         if change::goes(activation) {
-            drop(self.directory.remove(grain));
+            let_go(&mut self.directory, grain);
             return Some(sender);
         }
         let Some(moment) = change::due_at(grain, activation, &self.ages, self.age) else {
@@ -139,6 +139,14 @@ impl<L: GrainLogic> Activations<L> {
         self.remove_all(due.as_slice());
         Ok(())
     }
+}
+
+/// The grain's activation goes. Takes no memory.
+#[inline(never)]
+fn let_go(directory: &mut Directory, grain: &GrainId)
+    ensures { directory.new.activations ≡ map.remove directory.old.activations grain.now }
+{
+    drop(directory.remove(grain));
 }
 
 /// Drops the note of a grain whose activation is idle: when it was last used, and until when it stays. Takes no memory.

@@ -57,8 +57,8 @@ invariant_of-self-then-goes g c =
     let found = sym c.in-Some.ensures.value in
     let used = used-turn (entry_of a) c.args.turn _ (get-turns a c.args.turn _ c.in-Some-close.ensures.open_turn) in
     let marked = closes_marked g.L.GrainLogic.logic m grain a after found c.self.invariant.0 c.args.turn c.args.phase (keep_of c.args.keep) c.args.last (Some c.in-Some-close.sender) c.in-Some-close.ensures in (
-      subst (λ (left : FinMap grain_cmp Activation). AllMarked g.L.GrainLogic.logic left) (sym c.remove.ensures.removed) (marked-removed g.L.GrainLogic.logic (map.insert m grain after) grain marked),
-      becomes_none (kind_age inside.ages inside.age) (entries_of m) inside.collector c.self.invariant.1 grain (entry_of a) (entry_of after) (get-entries m grain (Some a) found) used _ (ap entries_of c.remove.ensures.removed ∙ goes_from m grain after),
+      subst (λ (left : FinMap grain_cmp Activation). AllMarked g.L.GrainLogic.logic left) (sym c.let_go.ensures) (marked-removed g.L.GrainLogic.logic (map.insert m grain after) grain marked),
+      becomes_none (kind_age inside.ages inside.age) (entries_of m) inside.collector c.self.invariant.1 grain (entry_of a) (entry_of after) (get-entries m grain (Some a) found) used _ (ap entries_of c.let_go.ensures ∙ goes_from m grain after),
     )
 
 pub returns-then-goes-clause-closes : goal.returns-then-goes-clause-closes
@@ -69,7 +69,7 @@ returns-then-goes-clause-closes g c =
     let goes = ap (λ b. if b then drop else put (entry_of after)) (sym c.if-goes.ensures) in
     rw (← c.self.view_is)
     (close_shows g.L.GrainLogic.logic m grain c.in-Some.activation.now after (sym c.in-Some.ensures.value) c.self.invariant.0 c.args.turn c.args.phase (keep_of c.args.keep) c.args.last c.in-Some-close.sender c.in-Some-close.ensures
-    _ (ap entries_of c.remove.ensures.removed ∙ goes_at m grain after goes))
+    _ (ap entries_of c.let_go.ensures ∙ goes_at m grain after goes))
 
 -- ---- it was, and the activation is still in use
 
