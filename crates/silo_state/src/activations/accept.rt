@@ -19,11 +19,12 @@ use std::alloc::{AllocError, Global};
 use turn_mailbox::Request;
 
 impl<L: GrainLogic> Activations<L> {
-    /// How many requests wait at the grain, if it has an activation.
-    pub fn waiting(&self, grain: &GrainId) -> Option<usize>
-        ensures { result ≡ option_map (λ e. length e.queue) (map.get self.now.entries grain.now) }
+    /// How many requests wait at the grain, if it has an activation. What looks for the grain next finds it sooner.
+    pub fn waiting(&mut self, grain: &GrainId) -> Option<usize>
+        ensures waiting { result ≡ option_map (λ e. length e.queue) (map.get self.old.entries grain.now) }
+        ensures unchanged { self.new ≡ self.old }
     {
-        let Some(activation) = self.get(grain) else {
+        let Some(activation) = self.directory.get_mut(grain) else {
             return None;
         };
         Some(activation.mailbox.len())

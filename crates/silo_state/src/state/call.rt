@@ -40,6 +40,7 @@ impl<S: GrainStorage, L: GrainLogic> SiloState<S, L> {
         ensures { Moves L.logic self.old (step.Call caller.now id grain.now message.now) result self.new }
     {
         let sender = Party::Client(caller.clone()?, id);
+        self.accounts.look_for(caller.tenant());
         match self.refusal(alloc, &sender, grain)? {
             Some(why) => self.tell(sender, Err(why))?,
             None => self.accept(alloc, sender, grain, message.clone()?)?,
@@ -78,12 +79,13 @@ impl<S: GrainStorage, L: GrainLogic> SiloState<S, L> {
     /// Why a request is refused, if it is: it doesn't pass the gate, no number is left, the tenant may
     /// have no more activations, or no more requests may wait at the grain, the first of these.
     pub(super) fn refusal(
-        &self,
+        &mut self,
         alloc: Global,
         sender: &Party,
         grain: &GrainId,
     ) -> Result<Option<Fault>, AllocError>
-        ensures { IfOk result (λ why. Settles (verdict L.logic self.now.whole (tenant_of sender.now) grain.now) why) }
+        ensures settles { IfOk result (λ why. Settles (verdict L.logic self.old.whole (tenant_of sender.now) grain.now) why) }
+        ensures unchanged { self.new ≡ self.old }
     {
         let account = match self.passed(alloc, sender, grain)? {
             Ok(account) => account,

@@ -43,9 +43,9 @@ returns g c =
       | in-Some-2 w ↦
           deliver_told logic h c.match-branch-5.self new grain c.in-Some.account.now known (send_of c.in-Some-first_from.sent.now) c.in-Some-first_from.ensures left
           c.in_ok-clone.field-0 c.in_ok-clone.ensures.cases target c.in_ok-target.ensures.cases w.in-Some-2.why
-          (subst (Settles (verdict logic h.whole c.in_ok-clone.field-0.tenant target)) w.in-Some-2.is c.in_ok-why.ensures) (w.self-is ∙ subst (λ asked. OnOk asked (w.tell-asked.new.self ≡ with_told h (party.Grain c.in_ok-clone.field-0) (Err w.in-Some-2.why))) (sym w.asked-is ∙ c.in_ok-asked.was) w.tell-asked.ensures.told)
+          (subst (Settles (verdict logic h.whole c.in_ok-clone.field-0.tenant target)) w.in-Some-2.is c.in_ok-why.ensures.settles) (w.self-is ∙ subst (λ asked. OnOk asked (w.tell-asked.new.self ≡ with_told c.refusal.new.self (party.Grain c.in_ok-clone.field-0) (Err w.in-Some-2.why))) (sym w.asked-is ∙ c.in_ok-asked.was) w.tell-asked.ensures.told ∙ ap (λ (x : Held). with_told x (party.Grain c.in_ok-clone.field-0) (Err w.in-Some-2.why)) c.refusal.ensures.unchanged)
       | in-None w ↦
           deliver_taken logic h c.match-branch-5.self new grain c.in-Some.account.now known (send_of c.in-Some-first_from.sent.now) c.in-Some-first_from.ensures left
           c.in_ok-clone.field-0 c.in_ok-clone.ensures.cases target c.in_ok-target.ensures.cases c.in_ok-message.message c.in_ok-message.ensures.cases
-          (subst (Settles (verdict logic h.whole c.in_ok-clone.field-0.tenant target)) w.in-None.is c.in_ok-why.ensures) (w.self-is ∙ subst (λ asked. OnOk asked (w.accept-asked.new.self ≡ with_accepted h (party.Grain c.in_ok-clone.field-0) target c.in_ok-message.message (map.get h.whole.accounts c.in_ok-clone.field-0.tenant))) (sym w.asked-is ∙ c.in_ok-asked.was) w.accept-asked.ensures.accepted)
+          (subst (Settles (verdict logic h.whole c.in_ok-clone.field-0.tenant target)) w.in-None.is c.in_ok-why.ensures.settles) (w.self-is ∙ subst (λ asked. OnOk asked (w.accept-asked.new.self ≡ with_accepted c.refusal.new.self (party.Grain c.in_ok-clone.field-0) target c.in_ok-message.message (map.get c.refusal.new.self.whole.accounts c.in_ok-clone.field-0.tenant))) (sym w.asked-is ∙ c.in_ok-asked.was) w.accept-asked.ensures.accepted ∙ ap (λ (x : Held). with_accepted x (party.Grain c.in_ok-clone.field-0) target c.in_ok-message.message (map.get x.whole.accounts c.in_ok-clone.field-0.tenant)) c.refusal.ensures.unchanged)
     ]
