@@ -6,7 +6,7 @@ use Rattle.std.specs.Cmp.{Equal-is, tied_itself}
 use Rattle.std.specs.BTreeMap.{get}
 use Rattle.std.specs.declared.collections.VecDeque.{VecDeque}
 use Rattle.std.specs.declared.alloc.Global.{Global}
-use Rattle.std.proofs.lemmas.List.{append-nil, nil_from_length, same_from_push}
+use Rattle.std.proofs.lemmas.List.{append-nil, same_from_push}
 use Rattle.finite_maps.proofs.Lists.{push_not_empty}
 use Rattle.grain_id.specs.Names.{Grain, grain_cmp}
 use Rattle.grain_id.proofs.Order.{grain_cmp_total, grain_cmp_exact}

@@ -1,17 +1,16 @@
 -- Marked requests: the marks are kept, and the turn rule of the mailbox is that of the entry.
-use Rattle.std.proofs.Common.{◌≡◌, ℕ, Bool, true, false, ◌==◌, List, [], ◌∷◌, Some, None, refl, sym, ◌∙◌}
+use Rattle.std.proofs.Common.{◌≡◌, ℕ, ◌==◌, List, [], ◌∷◌, Some, None, refl, sym, ◌∙◌}
 use Rattle.std.specs.Prelude.{if◌then◌else◌}
-use Rattle.std.specs.declared.cmp.Ordering.{Ordering}
-use Rattle.std.specs.Cmp.{IsTotalOrder, nat_cmp_total}
+use Rattle.std.specs.Cmp.{nat_cmp_total}
 use Rattle.std.specs.List.{list_all, AllByRecursion}
 use Rattle.std.specs.FinMap as map
-use Rattle.std.specs.FinMap.{FinMap, IsAntisymmetric, nat_cmp-IsAntisymmetric}
+use Rattle.std.specs.FinMap.{FinMap, nat_cmp-IsAntisymmetric}
 use Rattle.grain_id.specs.Names.{Grain, grain_cmp}
 use Rattle.grain_id.proofs.Order.{grain_cmp_total, grain_cmp_exact}
 use Rattle.grain_kinds.specs.Logic.{Logic}
 use Rattle.turn_mailbox.specs.declared.request.Request.{Request}
 use Rattle.turn_mailbox.specs.Contents.{Contents, begun, may_open}
-use Rattle.finite_maps.proofs.Values.{values_pass, found_passes, values_alike}
+use Rattle.finite_maps.proofs.Values.{values_alike}
 use Rattle.finite_maps.proofs.Mapped.{all-mapped, len-mapped}
 use Rattle.activation_directory.specs.declared.activation.Activation.{Activation}
 use Rattle.silo_model.specs.Effect.{put, drop}

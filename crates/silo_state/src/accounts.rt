@@ -1,18 +1,22 @@
 //! The accounts of the known tenants.
 
-ghost use Rattle.std.specs.Prelude.{◌≡◌, IfNone, IfOk, IfSome, OnOk, OnErr, map as map_list, ℕ, List, Some, if◌then◌else◌};
+ghost use Rattle.std.specs.Prelude.{◌≡◌, true, None, IfNone, IfOk, IfSome, OnOk, OnErr, map as map_list, ℕ, List, Some, if◌then◌else◌};
 ghost use Rattle.std.specs.Option.{option_copied, option_copied_mut};
 ghost use Rattle.std.specs.Borrow.{sem};
 ghost use Rattle.std.specs.FinMap as map;
 ghost use Rattle.indexmap.specs.IndexMap.{get_by_text};
 ghost use Rattle.grain_id.specs.Names.{same_text};
+ghost use Rattle.grain_kinds.specs.Finished.{sent};
 ghost use Rattle.silo_model.specs.Effect.{change_at};
 ghost use Rattle.silo_model.specs.Opening.{fresh_account, fresh_accounts};
+ghost use Rattle.silo_model.specs.Turns.{sent_by};
+ghost use Rattle.silo_state.specs.inside.Accounts.{StandsAt};
 ghost use Rattle.silo_state.specs.Sends.{HasSent, NothingSent, send_of, with_more};
 
-use crate::account::{Account, Sent};
+use crate::account::{Account, Sent, sent_by};
 use grain_id::{GrainId, Tenant};
 use indexmap::IndexMap;
+use request_codec::Message;
 use std::alloc::{AllocError, Global};
 use std::collections::VecDeque;
 use std::marker::Model;
@@ -20,10 +24,12 @@ use tenant_gate::Limits;
 
 mod changes;
 
-/// The accounts of the known tenants, found by the hash of the tenant's name.
+/// The accounts of the known tenants, found by the hash of the tenant's name. The account that was looked for last is found by its
+/// place, with one comparison of names.
 #[derive(Drop)]
 pub struct Accounts {
     by_name: IndexMap<String, Account>,
+    latest: usize,
 }
 
 impl Model for Accounts {
@@ -55,14 +61,25 @@ impl Accounts {
                 add(alloc, &mut by_name, tenant, *limits)?;
             }
         }
-        Ok(Accounts { by_name })
+        Ok(Accounts { by_name, latest: 0 })
     }
 
     /// The tenant's account, or nothing if the tenant isn't known.
     pub fn get(&self, tenant: &str) -> Option<&Account>
         ensures { option_copied result ≡ map.get self.now tenant.now }
     {
-        self.by_name.get(tenant)
+        let place = place_of(&self.by_name, self.latest, tenant)?;
+        let (_, account) = self.by_name.get_index(place)?;
+        Some(account)
+    }
+
+    /// The tenant's account is looked for: those that come next find it sooner.
+    pub fn look_for(&mut self, tenant: &str)
+        ensures { self.new ≡ self.old }
+    {
+        if let Some(place) = place_of(&self.by_name, self.latest, tenant) {
+            self.latest = place;
+        }
     }
 
     /// The tenant's account, which may be changed where it stands.
@@ -70,7 +87,8 @@ impl Accounts {
         ensures* writes_back { sem 𝓛 (LendsAccount self.entry tenant.now result) }
         ensures value { option_copied_mut result ≡ map.get self.old tenant.now }
     {
-        self.by_name.get_mut(tenant)
+        let place = place_of(&self.by_name, self.latest, tenant)?;
+        self.by_name.get_index_mut(place)
     }
 
     /// A grain that sent something that is left to deliver, or none if there is none. It walks over
@@ -90,17 +108,49 @@ impl Accounts {
         None
     }
 
+    /// The grain sent these, after what its tenant's grains sent before. A turn mostly sends nothing.
+    ///
+    /// # Errors
+    ///
+    /// Out of memory: nothing changed.
+    pub fn send_each(
+        &mut self,
+        alloc: Global,
+        source: &GrainId,
+        sends: &[(GrainId, Message)],
+    ) -> Result<(), AllocError>
+        ensures done { OnOk result (self.new ≡ change_at self.old source.now.tenant
+            (with_more (map.get self.old source.now.tenant) (sent_by source.now (map_list sent sends.now)))) }
+        ensures unchanged { OnErr result (self.new ≡ self.old) }
+    {
+        if sends.is_empty() {
+            return Ok(());
+        }
+        self.send_some(alloc, source, sends)
+    }
+
+    /// The same, where it sent something.
+    #[inline(never)]
+    fn send_some(
+        &mut self,
+        alloc: Global,
+        source: &GrainId,
+        sends: &[(GrainId, Message)],
+    ) -> Result<(), AllocError>
+        ensures done { OnOk result (self.new ≡ change_at self.old source.now.tenant
+            (with_more (map.get self.old source.now.tenant) (sent_by source.now (map_list sent sends.now)))) }
+        ensures unchanged { OnErr result (self.new ≡ self.old) }
+    {
+        let sent = sent_by(alloc, source, sends)?;
+        self.send(alloc, source.tenant(), sent)
+    }
+
     /// Grains of the tenant sent these, after what they sent before.
     ///
     /// # Errors
     ///
     /// Out of memory: nothing changed.
-    pub fn send(
-        &mut self,
-        alloc: Global,
-        tenant: &str,
-        sent: VecDeque<Sent>,
-    ) -> Result<(), AllocError>
+    fn send(&mut self, alloc: Global, tenant: &str, sent: VecDeque<Sent>) -> Result<(), AllocError>
         ensures done { OnOk result (self.new ≡ change_at self.old tenant.now (with_more (map.get self.old tenant.now) (map_list send_of
             sent.items))) }
         ensures unchanged { OnErr result (self.new ≡ self.old) }
@@ -113,6 +163,36 @@ impl Accounts {
         };
         account.send(alloc, sent)
     }
+}
+
+/// Whether the tenant's account stands at this place.
+fn is_at(by_name: &IndexMap<String, Account>, place: usize, tenant: &str) -> bool
+    ensures { result ≡ true → StandsAt by_name.now place tenant.now }
+{
+    let Some((name, _)) = by_name.get_index(place) else {
+        return false;
+    };
+    name.as_str() == tenant
+}
+
+/// Where the tenant's account stands, if the tenant is known. First it is looked for at this place.
+fn place_of(by_name: &IndexMap<String, Account>, latest: usize, tenant: &str) -> Option<usize>
+    ensures found { IfSome result (λ place. StandsAt by_name.now place tenant.now) }
+    ensures none { IfNone result (get_by_text by_name.now tenant.now ≡ None) }
+{
+    if is_at(by_name, latest, tenant) {
+        return Some(latest);
+    }
+    place_by_hash(by_name, tenant)
+}
+
+/// Where the tenant's account stands, by the hash of its name.
+#[inline(never)]
+fn place_by_hash(by_name: &IndexMap<String, Account>, tenant: &str) -> Option<usize>
+    ensures found { IfSome result (λ place. StandsAt by_name.now place tenant.now) }
+    ensures none { IfNone result (get_by_text by_name.now tenant.now ≡ None) }
+{
+    by_name.get_index_of(tenant)
 }
 
 /// Adds the account of a tenant that has none.

@@ -12,7 +12,7 @@ use crate::closing::{ClosedTurn, close_turn};
 use crate::finding::{TurnMatch, asks_storage};
 use crate::state::SiloState;
 use crate::telling::{copied, told};
-use crate::{account, change, finding};
+use crate::{change, finding};
 use activation_directory::Phase;
 use grain_id::GrainId;
 use grain_kinds::{FinishedTurn, GrainLogic, Keep, OpenedTurn};
@@ -91,11 +91,10 @@ impl<S: GrainStorage, L: GrainLogic> SiloState<S, L> {
         }
         let now = self.clock;
         self.replies.reserve(1)?;
-        let sent = account::sent_by(alloc, grain, finished.sends())?;
+        self.activations.expect(grain, idle_after)?;
         let outcome = copied(finished.outcome())?;
         let state = finished.state().clone()?;
-        self.activations.expect(grain, idle_after)?;
-        self.accounts.send(alloc, grain.tenant(), sent)?;
+        self.accounts.send_each(alloc, grain, finished.sends())?;
         let phase = Phase::Ready { state, version };
         let closing = ClosedTurn {
             grain,

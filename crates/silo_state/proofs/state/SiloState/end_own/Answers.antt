@@ -39,8 +39,7 @@ returns g c =
     let closed = subst (λ (p : (Entries × List Reply) × (Tree × (Keep × Result Tree Fault))).
     ClosesTold p.0.0 p.0.1 grain turn (Some (ready p.1.0 version)) p.1.1.0 b.clock p.1.1.1 new.entries c.close_turn.new.replies.items)
     (λ i. ((c.expect.ensures.entries i, c.in_ok-reserve.ensures.items i), (state i, (c.keep.ensures.same i, outcome i)))) c.close_turn.ensures.closes in
-    let sends = c.in_ok-sent.ensures ∙ ap (sent_by grain) c.sends.ensures in
-    let sent = c.in_ok-send.ensures.done ∙ (λ i. change_at b.accounts (c.tenant.ensures i) (with_more (map.get b.accounts (c.tenant.ensures i)) (sends i))) in
+    let sent = c.in_ok-send_each.ensures.done ∙ (λ i. change_at b.accounts grain.tenant (with_more (map.get b.accounts grain.tenant) (sent_by grain (c.sends.ensures i)))) in
     rw (← c.self.view_is)
-    (end_moves g.L.GrainLogic.logic _ grain turn version idle_after input own c.send.new.self new c.close_turn.new.replies.items
+    (end_moves g.L.GrainLogic.logic _ grain turn version idle_after input own c.send_each.new.self new c.close_turn.new.replies.items
     (ap asks (sym c.store_call.ensures) ∙ sym c.if-asks_storage.ensures) (c.close_turn.ensures.ages ∙ c.expect.ensures.ages) closed sent)
