@@ -22,7 +22,7 @@ not_plain : (rows : List Row) (text : Text) → first_of (codes "sends") rows �
 not_plain rows text written never = record {
   steps = λ age ages tenants found. absurd (cc (found.command));
   answering = λ age ages sends journal tenants (found : FindAnswering (codes "answer") rows age ages sends journal tenants).
-    never (subst IsPlain written found.behind.1);
+      never (subst IsPlain written found.behind.1);
   serving = λ workers age ages journal telling tenants found. absurd (cc (found.command));
   audit = λ path found. absurd (cc (found.command));
   migration = λ path found. absurd (cc (found.command));
