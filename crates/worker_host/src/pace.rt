@@ -3,8 +3,10 @@
 //!
 //! Steps are taken under the lock, and only the bodies of turns run beside one another. So where bodies
 //! are short, more workers only wait for the lock. That is seen by the lock alone, without a clock: a
-//! worker that comes back from its bodies and finds the lock held has met another. If workers meet often,
-//! one of them rests; after a while it's woken again, to see whether it still is so.
+//! worker that comes back from its bodies, and finds the lock held or others that wait for it, has met
+//! another. If workers meet often, one of them rests; after a while it's woken again, to see whether it
+//! still is so. If the bodies of the worker that woke it were done before it came, they take less time than
+//! waking does, and it rests again at once.
 
 ghost use Rattle.std.specs.Prelude.{◌≡◌, ◌↔◌, ◌+◌, ◌-◌, ◌/◌, ◌<◌, ◌≤◌, IsFalse, IsTrue};
 ghost use Rattle.worker_host.specs.inside.Batches.{most_turns};
@@ -20,7 +22,7 @@ const CROWDED: u32 = 4;
 const CALM: u32 = 32;
 
 /// For how many turns at the lock nobody is woken, at most.
-const LONGEST_REST: u32 = 63;
+const LONGEST_REST: u32 = 31;
 
 /// How the workers of one silo go on.
 #[derive(Drop)]
@@ -39,6 +41,10 @@ pub struct Pace {
     calm: u32,
     /// A worker was woken, and hasn't come yet.
     woken: bool,
+    /// How often one was woken.
+    wakings: u64,
+    /// The one that was woken hadn't come when the bodies were done of the worker that woke it.
+    late: bool,
     /// For how many turns at the lock nobody is woken: from now on, and when one rested last.
     rest: u32,
     rested: u32,
@@ -55,6 +61,8 @@ impl Pace {
             crowd: 0,
             calm: 0,
             woken: false,
+            wakings: 0,
+            late: false,
             rest: 0,
             rested: 0,
         }
@@ -66,8 +74,12 @@ impl Pace {
         self.awake = self.awake.saturating_add(1);
     }
 
-    /// A worker comes back from the bodies of its turns, and maybe met another at the lock.
-    pub fn come_back(&mut self, met: bool) {
+    /// A worker comes back from the bodies of its turns, and maybe met another at the lock. Before them
+    /// it woke another by this waking, if by any.
+    pub fn come_back(&mut self, met: bool, waking: u64) {
+        if self.woken && self.wakings == waking {
+            self.late = true;
+        }
         if self.awake <= 1 {
             self.crowd = 0;
             return;
@@ -90,9 +102,11 @@ impl Pace {
     pub fn rests(&mut self) -> bool
         ensures { IsTrue result → 1 < self.old.awake }
     {
-        if self.crowd < CROWDED || self.awake <= 1 {
+        let crowded = self.late || self.crowd >= CROWDED;
+        if !crowded || self.awake <= 1 {
             return false;
         }
+        self.late = false;
         self.crowd = 0;
         self.calm = 0;
         self.rested = self
@@ -153,6 +167,19 @@ impl Pace {
             return false;
         }
         self.woken = true;
+        self.wakings = self.wakings.wrapping_add(1);
         true
+    }
+
+    /// By which waking one was woken last.
+    pub fn last_waking(&self) -> u64 {
+        self.wakings
+    }
+
+    /// A worker goes on, and there is nothing to wake another for. A rest is one shorter then, too.
+    pub fn pass(&mut self)
+        ensures { self.new.rest ≡ self.old.rest - 1 }
+    {
+        self.rest = self.rest.saturating_sub(1);
     }
 }

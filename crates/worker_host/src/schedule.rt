@@ -101,14 +101,11 @@ impl LanePlaces {
         Ok(())
     }
 
-    /// A copy of the lane's next step, if it has one.
-    fn next_step(&self, lane: &Lane, index: usize) -> Result<Option<Step>, AllocError> {
-        let Some(place) = self.given.get(index) else {
-            return Ok(None);
-        };
-        match lane.steps().get(*place) {
-            Some(step) => Ok(Some(step.clone()?)),
-            None => Ok(None),
+    /// The lane's next step, if it has one.
+    fn next_step<'l>(&self, lane: &'l Lane, index: usize) -> Option<&'l Step> {
+        match self.given.get(index) {
+            Some(place) => lane.steps().get(*place),
+            None => None,
         }
     }
 
@@ -240,8 +237,17 @@ impl<S: GrainStorage, L: GrainLogic> Schedule<S, L> {
     }
 
     /// Whether something may be left to do.
-    pub fn has_more(&self) -> bool {
+    fn has_more(&self) -> bool {
         self.stopped || self.seen_work() != 0 || !self.senders.is_empty()
+    }
+
+    /// Whether another worker is woken to do what is left.
+    pub fn wakes(&mut self) -> bool {
+        if self.has_more() {
+            return self.pace.wakes();
+        }
+        self.pace.pass();
+        false
     }
 
     /// How much is seen that can be done.
@@ -313,7 +319,7 @@ impl<S: GrainStorage, L: GrainLogic> Schedule<S, L> {
         ensures { vec_len turns.new ≤ vec_len turns.old + 1 }
     {
         if let Some(grain) = self.grains.pop_front() {
-            self.go_on(alloc, grain, turns)?;
+            self.go_on(alloc, &grain, turns)?;
             return Ok(true);
         }
         if let Some(grain) = self.senders.pop_front() {
@@ -333,27 +339,24 @@ impl<S: GrainStorage, L: GrainLogic> Schedule<S, L> {
         Ok(true)
     }
 
-    /// Opens a turn of the grain, if one begins; otherwise takes what other step is to do at it.
+    /// Takes what step is to do at the grain: opens a turn of it, or brings it up for one.
     fn go_on(
         &mut self,
         alloc: Global,
-        grain: GrainId,
+        grain: &GrainId,
         turns: &mut Vec<TakenTurn<L>>,
     ) -> Result<(), StepFault>
         ensures { vec_len turns.new ≤ vec_len turns.old + 1 }
     {
-        let own = grain.clone()?;
-        if self.begin(alloc, own, turns)? {
-            return Ok(());
-        }
-        match self.silo.silo().work_on(&grain) {
+        match self.silo.silo().work_on(grain) {
+            Some(PossibleStep::Begin) => self.begin(alloc, grain, turns),
+            Some(PossibleStep::Load) => self.load(alloc, grain, turns),
             Some(PossibleStep::Activate) => {
                 let own = grain.clone()?;
                 self.silo.take(alloc, Step::Activate { grain: own })?;
                 self.load(alloc, grain, turns)
             }
-            Some(PossibleStep::Load) => self.load(alloc, grain, turns),
-            Some(PossibleStep::Begin) | None => Ok(()),
+            None => Ok(()),
         }
     }
 
@@ -361,7 +364,7 @@ impl<S: GrainStorage, L: GrainLogic> Schedule<S, L> {
     fn load(
         &mut self,
         alloc: Global,
-        grain: GrainId,
+        grain: &GrainId,
         turns: &mut Vec<TakenTurn<L>>,
     ) -> Result<(), StepFault>
         ensures { vec_len turns.new ≤ vec_len turns.old + 1 }
@@ -371,22 +374,21 @@ impl<S: GrainStorage, L: GrainLogic> Schedule<S, L> {
             failed: false,
         };
         self.silo.take(alloc, load)?;
-        self.begin(alloc, grain, turns)?;
-        Ok(())
+        self.begin(alloc, grain, turns)
     }
 
     /// Opens a turn of the grain, if one begins.
     fn begin(
         &mut self,
         alloc: Global,
-        grain: GrainId,
+        grain: &GrainId,
         turns: &mut Vec<TakenTurn<L>>,
-    ) -> Result<bool, StepFault>
-        ensures one { vec_len turns.new ≤ vec_len turns.old + 1 }
-        ensures none { IfOk result (λ begins. IsFalse begins → vec_len turns.new ≡ vec_len turns.old) }
+    ) -> Result<(), StepFault>
+        ensures { vec_len turns.new ≤ vec_len turns.old + 1 }
     {
-        let Some(turn) = self.silo.begin(alloc, grain)? else {
-            return Ok(false);
+        let own = grain.clone()?;
+        let Some(turn) = self.silo.begin(alloc, own)? else {
+            return Ok(());
         };
         self.open = self.open.saturating_add(1);
         if turn.reading {
@@ -395,7 +397,7 @@ impl<S: GrainStorage, L: GrainLogic> Schedule<S, L> {
         let Ok(()) = turns.push(Some(Err(turn))) else {
             return Err(StepFault::Memory);
         };
-        Ok(true)
+        Ok(())
     }
 
     /// Delivers what the grain sent first, and lets its target go on.
@@ -416,7 +418,7 @@ impl<S: GrainStorage, L: GrainLogic> Schedule<S, L> {
         let Ok(()) = self.senders.push_front(grain) else {
             return Err(StepFault::Memory);
         };
-        self.go_on(alloc, target, turns)
+        self.go_on(alloc, &target, turns)
     }
 
     /// Gives the lane's next step, if it has one, and lets the grain go on that it calls.
@@ -429,15 +431,15 @@ impl<S: GrainStorage, L: GrainLogic> Schedule<S, L> {
     ) -> Result<(), StepFault>
         ensures { vec_len turns.new ≤ vec_len turns.old + 1 }
     {
-        let Some(step) = self.lanes.next_step(lane, index)? else {
+        let Some(step) = self.lanes.next_step(lane, index) else {
             return Ok(());
         };
-        let called = called_by(&step)?;
-        self.silo.take(alloc, step)?;
+        let own = step.clone()?;
+        self.silo.take(alloc, own)?;
         self.lanes.note_given(lane, index)?;
-        match called {
-            Some(grain) => self.go_on(alloc, grain, turns),
-            None => Ok(()),
+        match step {
+            Step::Call { grain, .. } => self.go_on(alloc, grain, turns),
+            _ => Ok(()),
         }
     }
 }
@@ -447,13 +449,5 @@ fn push(grains: &mut VecDeque<GrainId>, grain: GrainId) -> Result<(), StepFault>
     match grains.push_back(grain) {
         Ok(()) => Ok(()),
         Err(_) => Err(StepFault::Memory),
-    }
-}
-
-/// The grain that is called by the step, if one is.
-fn called_by(step: &Step) -> Result<Option<GrainId>, AllocError> {
-    match step {
-        Step::Call { grain, .. } => Ok(Some(grain.clone()?)),
-        _ => Ok(None),
     }
 }

@@ -21,6 +21,7 @@ use grain_storage::GrainStorage;
 use silo_core::Setup;
 use std::alloc::Global;
 use std::mem::swap;
+use std::sync::atomic::{AtomicUsize, Ordering};
 use std::sync::{Condvar, Mutex, MutexGuard, Wait};
 use std::thread;
 use std::thread::Threads;
@@ -33,16 +34,27 @@ struct Worker<L: GrainLogic> {
     /// Those that it took since.
     taken: Vec<TakenTurn<L>>,
     started: bool,
+    /// By which waking it woke another before their bodies, or 0 if by none.
+    waking: u64,
 }
 
-/// Takes the lock, and says whether another had it.
+/// Takes the lock, and says whether another had it, or others wait for it.
 fn come<'b, S: GrainStorage, L: GrainLogic, R: Wait>(
     rt: &R,
     schedule: &'b Mutex<Schedule<S, L>>,
+    waiting: &AtomicUsize,
 ) -> (MutexGuard<'b, Schedule<S, L>>, bool) {
     match schedule.try_lock() {
-        Some(held) => (held, false),
-        None => (schedule.lock(rt), true),
+        Some(held) => {
+            let met = waiting.load(Ordering::Relaxed) != 0;
+            (held, met)
+        }
+        None => {
+            waiting.fetch_add(1, Ordering::Relaxed);
+            let held = schedule.lock(rt);
+            waiting.fetch_sub(1, Ordering::Relaxed);
+            (held, true)
+        }
     }
 }
 
@@ -52,17 +64,18 @@ fn next_turns<S: GrainStorage, L: GrainLogic, R: Wait>(
     rt: &R,
     alloc: Global,
     schedule: &Mutex<Schedule<S, L>>,
+    waiting: &AtomicUsize,
     changed: &Condvar,
     lanes: &[Lane],
     worker: &mut Worker<L>,
 ) -> bool {
-    let (mut held, met) = come(rt, schedule);
+    let (mut held, met) = come(rt, schedule, waiting);
     let first = !worker.started;
     if first {
         held.pace.start();
         worker.started = true;
     } else {
-        held.pace.come_back(met);
+        held.pace.come_back(met, worker.waking);
     }
     held.close_all(alloc, worker.ran.as_slice());
     let mut rests = held.pace.rests();
@@ -74,7 +87,8 @@ fn next_turns<S: GrainStorage, L: GrainLogic, R: Wait>(
         };
         match task {
             Task::Run => {
-                let wakes = held.has_more() && held.pace.wakes();
+                let wakes = held.wakes();
+                worker.waking = if wakes { held.pace.last_waking() } else { 0 };
                 drop(held);
                 if wakes {
                     changed.notify_one();
@@ -82,10 +96,10 @@ fn next_turns<S: GrainStorage, L: GrainLogic, R: Wait>(
                 return true;
             }
             Task::Wait => {
-                rests = false;
                 held.pace.sleep();
                 held = changed.wait(rt, held);
                 held.pace.wake_up();
+                rests = held.pace.rests();
             }
             Task::Over => {
                 held.pace.leave();
@@ -153,6 +167,7 @@ fn work<S: GrainStorage, L: GrainLogic + Drop, G: TurnGate, R: Wait>(
     rt: &R,
     alloc: Global,
     schedule: &Mutex<Schedule<S, L>>,
+    waiting: &AtomicUsize,
     changed: &Condvar,
     lanes: &[Lane],
     gate: &G,
@@ -163,9 +178,10 @@ fn work<S: GrainStorage, L: GrainLogic + Drop, G: TurnGate, R: Wait>(
         ran: Vec::new(alloc),
         taken: Vec::new(alloc),
         started: false,
+        waking: 0,
     };
     for _ in rt.forever() {
-        if !next_turns(rt, alloc, schedule, changed, lanes, &mut worker) {
+        if !next_turns(rt, alloc, schedule, waiting, changed, lanes, &mut worker) {
             break;
         }
         worker.ran.clear();
@@ -185,6 +201,7 @@ fn run_workers<
     rt: &'x R,
     alloc: Global,
     schedule: &'x Mutex<Schedule<S, L>>,
+    waiting: &'x AtomicUsize,
     changed: &'x Condvar,
     lanes: &'x [Lane],
     workers: usize,
@@ -195,7 +212,7 @@ fn run_workers<
         let mut started = false;
         for _ in 0..workers {
             if scope
-                .spawn(move || work(rt, alloc, schedule, changed, lanes, gate, logic))
+                .spawn(move || work(rt, alloc, schedule, waiting, changed, lanes, gate, logic))
                 .is_ok()
             {
                 started = true;
@@ -296,7 +313,8 @@ pub fn serve_seeded<
     let silo = WorkingSilo::seeded(alloc, setup, seed)?;
     let schedule = Mutex::new(Schedule::new(alloc, silo, places, workers));
     let changed = Condvar::new();
-    if !run_workers(rt, alloc, &schedule, &changed, lanes, workers, gate, logic) {
+    let waiting = AtomicUsize::new(0);
+    if !run_workers(rt, alloc, &schedule, &waiting, &changed, lanes, workers, gate, logic) {
         return Err(ServeFault::NoWorker);
     }
     settle(alloc, seed, schedule.into_inner(), &opened, lanes)
