@@ -1,11 +1,10 @@
 -- A silo at work is at work still, whatever a step was answered.
 use Rattle.std.proofs.Common.{◌≡◌, ℕ, ◌+◌, ◌-◌, ◌≤◌, true, false, Bool, List, [], ◌++◌, length, drop, take, Option, Some, None, refl, ap, sym, ◌∙◌, subst, arith, true≢false}
-use Rattle.std.specs.Prelude.{◌==◌, not, unwrap_or, Result, Ok, Err, IfOk, OnErr}
+use Rattle.std.specs.Prelude.{◌==◌, not, Result, Ok, Err, IfOk, OnErr}
 use Rattle.std.proofs.Math.Seq.{take-length}
 use Rattle.std.proofs.lemmas.List.{length-append}
-use Rattle.std.specs.Map.{lookup}
 use Rattle.indexmap.specs.IndexMap.{IndexMap}
-use Rattle.grain_id.specs.Names.{Client, Grain, client_eq}
+use Rattle.grain_id.specs.Names.{Client, Grain}
 use Rattle.grain_kinds.specs.Laws.{ReadersAskNothing}
 use Rattle.grain_kinds.specs.Logic.{Logic}
 use Rattle.grain_kinds.specs.declared.turn.OpenedTurn.{OpenedTurn}
@@ -29,15 +28,16 @@ use Rattle.silo_state.specs.Moves.{done_if}
 use Rattle.silo_core.specs.History.{Advances, Answered, History}
 use Rattle.silo_core.specs.Turns.{AnsweredTurn}
 use Rattle.silo_core.proofs.Steps.{done_parts}
+use Rattle.worker_host.specs.declared.owed.Owed.{Owed}
 use Rattle.worker_host.specs.inside.Working.{IsWorking, asks_once, may_ask_in, owing_to, was_done}
 use Rattle.worker_host.proofs.Owing.{owed_less, owed_on, owes_some, told_parts}
 use Rattle.worker_host.proofs.Paced.{asker_failed, paced_answer}
 
 -- ---- after a step
 
-module _ {S : Type 0} (logic : Logic) (old new : History) (owing : IndexMap Client ℕ S) (seen : ℕ) (had : IsWorking logic old owing seen) where
+module _ {S : Type 0} (logic : Logic) (old new : History) (owing : IndexMap Client Owed S) (seen : ℕ) (had : IsWorking logic old owing seen) where
   -- where nothing changed
-  pub working_same : (after : IndexMap Client ℕ S) → new ≡ old → ((client : Client) → owing_to after client ≡ owing_to owing client) → IsWorking logic new after seen
+  pub working_same : (after : IndexMap Client Owed S) → new ≡ old → ((client : Client) → owing_to after client ≡ owing_to owing client) → IsWorking logic new after seen
   working_same after stays same =
       subst (λ (h : History). IsWorking logic h after seen) (sym stays)
       (record {
@@ -48,7 +48,7 @@ module _ {S : Type 0} (logic : Logic) (old new : History) (owing : IndexMap Clie
       })
 
   -- where it was done
-  working_on : (s : Step) (n : ℕ) → Advances logic old s n new → is_paced logic new.setup new.journal ≡ true → (after : IndexMap Client ℕ S)
+  working_on : (s : Step) (n : ℕ) → Advances logic old s n new → is_paced logic new.setup new.journal ≡ true → (after : IndexMap Client Owed S)
       → ((client : Client) → owing_to after client ≡ owing_to owing client + asks_once (asker_of s) client) → IsWorking logic new after seen
   working_on s n step paced after asks =
       let parts = done_parts logic old.setup old.journal old.whole new.whole s had.leads step.whole in
@@ -68,7 +68,7 @@ module _ {S : Type 0} (logic : Logic) (old new : History) (owing : IndexMap Clie
       within_more seen replies added more is within = omega (arith, ap length is, length-append replies added, within)
 
   -- whatever it was answered, once what was asked by it is accounted for
-  pub working_settled : (s : Step) → may_ask_in old.whole (asker_of s) ≡ true → (r : Result Answer StepFault) → Answered logic old s r new → (asked after : IndexMap Client ℕ S)
+  pub working_settled : (s : Step) → may_ask_in old.whole (asker_of s) ≡ true → (r : Result Answer StepFault) → Answered logic old s r new → (asked after : IndexMap Client Owed S)
       → ((client : Client) → owing_to asked client ≡ owing_to owing client + asks_once (asker_of s) client)
       → (was_done r ≡ true → (client : Client) → owing_to after client ≡ owing_to asked client)
       → (was_done r ≡ false → (client : Client) → owing_to after client ≡ owing_to asked client - asks_once (asker_of s) client) → IsWorking logic new after seen
@@ -104,9 +104,9 @@ module _ {S : Type 0} (logic : Logic) (old new : History) (owing : IndexMap Clie
 
 -- ---- what a client is owed
 
-module _ {S : Type 0} (logic : Logic) (law : ReadersAskNothing logic) (h : History) (owing : IndexMap Client ℕ S) (seen : ℕ) (had : IsWorking logic h owing seen) where
+module _ {S : Type 0} (logic : Logic) (law : ReadersAskNothing logic) (h : History) (owing : IndexMap Client Owed S) (seen : ℕ) (had : IsWorking logic h owing seen) where
   -- once all replies were looked at
-  pub working_seen : (after : IndexMap Client ℕ S) → ((client : Client) → owing_to after client ≡ owing_to owing client - length (ids_told client (drop seen h.whole.replies))) → IsWorking logic h after (length h.whole.replies)
+  pub working_seen : (after : IndexMap Client Owed S) → ((client : Client) → owing_to after client ≡ owing_to owing client - length (ids_told client (drop seen h.whole.replies))) → IsWorking logic h after (length h.whole.replies)
   working_seen after less = record {
     leads = had.leads;
     paced = had.paced;
@@ -126,14 +126,13 @@ module _ {S : Type 0} (logic : Logic) (law : ReadersAskNothing logic) (h : Histo
 
 -- ---- where a silo opens
 
-pub working_at_opening : {S : Type 0} (logic : Logic) (h : History) (owing : IndexMap Client ℕ S) → h.whole ≡ opening h.setup → h.journal ≡ [] → owing.entries ≡ [] → IsWorking logic h owing 0
+pub working_at_opening : {S : Type 0} (logic : Logic) (h : History) (owing : IndexMap Client Owed S) → h.whole ≡ opening h.setup → h.journal ≡ [] → ((client : Client) → owing_to owing client ≡ 0) → IsWorking logic h owing 0
 unfolding opening
 working_at_opening logic h owing opens none nobody = record {
   leads = subst (λ (j : List Step). LeadsTo logic h.setup j h.whole) (sym none) (subst (λ (w : Whole). LeadsTo logic h.setup [] w) (sym opens) (journals_begin logic h.setup));
   paced = ap (is_paced logic h.setup) none;
   within = omega arith;
   owed = λ client.
-      let zero : owing_to owing client ≡ 0 = ap (λ (es : List (Client × ℕ)). unwrap_or (lookup (client_eq client) es) 0) nobody in
       let asked : length (ids_asked client h.journal) ≡ 0 = ap (λ (j : List Step). length (ids_asked client j)) none in
-      omega (arith, zero, asked);
+      omega (arith, nobody client, asked);
 }

@@ -1,17 +1,61 @@
-//! How many answers each client is owed: it asked so often, less what it was told and that was looked at.
+//! How many answers each client is owed, and which lane is its own. It is owed as often as it asked, less
+//! what it was told and that was looked at.
 
 ghost use Rattle.std.specs.Prelude.{◌≡◌, ◌+◌, ◌-◌, ◌≤◌, ◌==◌, not, IfOk, IsFalse, IsTrue, OnErr, OnOk, length, drop, if◌then◌else◌};
 ghost use Rattle.grain_id.specs.Names.{Client, client_eq};
 ghost use Rattle.lane_model.specs.Asking.{asker_of, ids_told};
 ghost use Rattle.worker_host.specs.inside.Working.{asks_once, owing_to};
 
+use client_lanes::Lane;
 use grain_id::{Caller, HashSeed};
 use indexmap::IndexMap;
 use silo_event::{Party, Reply, Step};
-use std::alloc::AllocError;
+use std::alloc::{AllocError, Global};
+use std::collections::VecDeque;
+
+/// What is known of a client.
+#[derive(Clone, Copy)]
+pub struct Owed {
+    /// How many answers it is owed.
+    pub count: u64,
+    /// The place of its lane among the lanes: a hint.
+    pub lane: usize,
+}
 
 /// How many answers each client is owed. One that isn't there is owed none.
-pub type Owing = IndexMap<Caller, u64, HashSeed>;
+pub type Owing = IndexMap<Caller, Owed, HashSeed>;
+
+/// The place of no lane.
+const NO_LANE: usize = usize::MAX;
+
+/// Nobody is owed anything; the clients of the lanes are known. They are found by hashes from the seed.
+///
+/// # Errors
+///
+/// Out of memory.
+pub fn none_owed(alloc: Global, seed: HashSeed, lanes: &[Lane]) -> Result<Owing, AllocError>
+    ensures { IfOk result (λ owing. (client : Client) → owing_to owing client ≡ 0) }
+{
+    let mut owing = IndexMap::with_hasher(alloc, seed);
+    'lanes: for (index, lane) in lanes.iter().enumerate() {
+        know(&mut owing, lane.from(), index)?;
+    }
+    Ok(owing)
+}
+
+/// The client of a lane, if it has one, is known and is owed nothing.
+///
+/// # Errors
+///
+/// Out of memory.
+fn know(owing: &mut Owing, client: &Option<Caller>, lane: usize) -> Result<(), AllocError>
+    ensures { OnOk result (((client : Client) → owing_to owing.old client ≡ 0) → (client : Client) → owing_to owing.new client ≡ 0) }
+{
+    if let Some(caller) = client {
+        owing.insert(caller.clone()?, Owed { count: 0, lane })?;
+    }
+    Ok(())
+}
 
 /// The client that asks by the step, if one does, asked once more.
 ///
@@ -42,10 +86,30 @@ fn ask_once(owing: &mut Owing, caller: &Caller) -> Result<(), AllocError>
         ≡ owing_to owing.old client + (if client_eq caller.now client then 1 else 0)) }
     ensures unchanged { OnErr result ((client : Client) → owing_to owing.new client ≡ owing_to owing.old client) }
 {
-    let Some(more) = owing_of(owing, caller).checked_add(1) else {
+    if let Some(owed) = owing.get_mut(caller) {
+        return ask_more(owed);
+    }
+    let first = Owed {
+        count: 1,
+        lane: NO_LANE,
+    };
+    owing.insert(caller.clone()?, first)?;
+    Ok(())
+}
+
+/// One answer more is owed.
+///
+/// # Errors
+///
+/// Out of numbers: as many are owed as before.
+fn ask_more(owed: &mut Owed) -> Result<(), AllocError>
+    ensures asked { OnOk result (owed.new.count ≡ owed.old.count + 1) }
+    ensures unchanged { OnErr result (owed.new ≡ owed.old) }
+{
+    let Some(more) = owed.count.checked_add(1) else {
         return Err(AllocError);
     };
-    owing.insert(caller.clone()?, more)?;
+    owed.count = more;
     Ok(())
 }
 
@@ -54,7 +118,7 @@ fn owing_of(owing: &Owing, client: &Caller) -> u64
     ensures { result ≡ owing_to owing.now client.now }
 {
     match owing.get(client) {
-        Some(count) => *count,
+        Some(owed) => owed.count,
         None => 0,
     }
 }
@@ -70,38 +134,68 @@ pub fn settle(owing: &mut Owing, asker: &Option<Caller>, done: bool)
         return;
     }
     if let Some(caller) = asker {
-        tell(owing, caller);
+        let _ = tell(owing, caller);
     }
 }
 
-/// The client was told something. Takes no memory.
-fn tell(owing: &mut Owing, caller: &Caller)
+/// The client was told something, and which lane is its own, if it is known. Takes no memory.
+fn tell(owing: &mut Owing, caller: &Caller) -> Option<usize>
     ensures { (client : Client) → owing_to owing.new client ≡ owing_to owing.old client - (if client_eq caller.now client then 1 else 0) }
 {
-    if let Some(count) = owing.get_mut(caller) {
-        *count = count.saturating_sub(1);
-    }
+    let owed = owing.get_mut(caller)?;
+    owed.count = owed.count.saturating_sub(1);
+    Some(owed.lane)
 }
 
-/// The replies behind so many were told. Takes no memory.
-pub fn tell_new(owing: &mut Owing, replies: &[Reply], seen: usize)
+/// The replies behind so many were told, and their clients' lanes are put behind those that were told before.
+///
+/// # Errors
+///
+/// Out of memory: the replies were told all the same.
+pub fn tell_new(
+    owing: &mut Owing,
+    replies: &[Reply],
+    seen: usize,
+    told: &mut VecDeque<usize>,
+) -> Result<(), AllocError>
     requires { seen ≤ length replies.now }
     ensures { (client : Client) → owing_to owing.new client ≡ owing_to owing.old client - length (ids_told client (drop seen replies.now)) }
 {
     let (_, new) = replies.split_at(seen);
-    tell_all(owing, new);
+    tell_all(owing, new, told)
 }
 
-/// The replies were told. Takes no memory.
-fn tell_all(owing: &mut Owing, replies: &[Reply])
+/// The replies were told, and their clients' lanes are put behind those that were told before.
+///
+/// # Errors
+///
+/// Out of memory: the replies were told all the same.
+fn tell_all(
+    owing: &mut Owing,
+    replies: &[Reply],
+    told: &mut VecDeque<usize>,
+) -> Result<(), AllocError>
     ensures { (client : Client) → owing_to owing.new client ≡ owing_to owing.old client - length (ids_told client replies.now) }
 {
+    let mut noted = Ok(());
     let mut rest = replies;
     'replies: while let Some((reply, others)) = rest.split_first() {
         if let Party::Client(caller, _) = &reply.recipient {
-            tell(owing, caller);
+            let lane = tell(owing, caller);
+            if !note(told, lane) {
+                noted = Err(AllocError);
+            }
         }
         rest = others;
+    }
+    noted
+}
+
+/// Puts a lane behind those that were told before, if it is one, and says whether there was memory.
+fn note(told: &mut VecDeque<usize>, lane: Option<usize>) -> bool {
+    match lane {
+        Some(place) => told.push_back(place).is_ok(),
+        None => true,
     }
 }
 

@@ -9,12 +9,11 @@ ghost use Rattle.worker_host.specs.inside.Batches.{closing_step, most_turns, tur
 use crate::pace::Pace;
 use crate::working::WorkingSilo;
 use client_lanes::Lane;
-use grain_id::{Caller, GrainId, HashSeed};
+use grain_id::GrainId;
 use grain_kinds::{FinishedTurn, GrainLogic, OpenedTurn, StoreCall};
 use grain_storage::GrainStorage;
-use indexmap::IndexMap;
 use silo_core::PossibleStep;
-use silo_event::{Answer, Party, Reply, Step, StepFault};
+use silo_event::{Answer, Step, StepFault};
 use std::alloc::{AllocError, Global};
 use std::collections::VecDeque;
 
@@ -53,52 +52,24 @@ pub struct Schedule<S: GrainStorage, L: GrainLogic> {
 pub struct LanePlaces {
     /// How many steps of each lane were given.
     given: Vec<usize>,
-    /// Which lane is a client's.
-    lane_of: IndexMap<Caller, usize, HashSeed>,
     /// The lanes that may give their next step.
     ready: VecDeque<usize>,
-    /// How many replies were looked at.
-    seen: usize,
 }
 
 impl LanePlaces {
-    /// All lanes may give their first step. Clients are found by hashes from the seed.
+    /// All lanes may give their first step.
     ///
     /// # Errors
     ///
     /// Out of memory.
-    pub fn new(alloc: Global, seed: HashSeed, lanes: &[Lane]) -> Result<LanePlaces, AllocError> {
+    pub fn new(alloc: Global, lanes: &[Lane]) -> Result<LanePlaces, AllocError> {
         let mut given = Vec::new(alloc);
-        let mut lane_of = IndexMap::with_hasher(alloc, seed);
         let mut ready = VecDeque::new(alloc);
-        for (index, lane) in lanes.iter().enumerate() {
+        for index in 0..lanes.len() {
             given.push(0)?;
             ready.push_back(index)?;
-            if let Some(caller) = lane.from() {
-                lane_of.insert(caller.clone()?, index)?;
-            }
         }
-        Ok(LanePlaces {
-            given,
-            lane_of,
-            ready,
-            seen: 0,
-        })
-    }
-
-    /// Puts the lanes behind the ready ones whose client was told something since.
-    fn note_told(&mut self, replies: &[Reply]) -> Result<(), AllocError> {
-        if let Some(new) = replies.get(self.seen..) {
-            for reply in new {
-                if let Party::Client(caller, _) = &reply.recipient {
-                    if let Some(index) = self.lane_of.get(caller) {
-                        self.ready.push_back(*index)?;
-                    }
-                }
-            }
-        }
-        self.seen = replies.len();
-        Ok(())
+        Ok(LanePlaces { given, ready })
     }
 
     /// The lane's next step, if it has one.
@@ -302,10 +273,9 @@ impl<S: GrainStorage, L: GrainLogic> Schedule<S, L> {
         Ok(())
     }
 
-    /// Looks at the replies since.
+    /// Looks at the replies since, and puts the lanes behind the ready ones whose clients were told something.
     fn note_told(&mut self) -> Result<(), AllocError> {
-        self.silo.look_at_replies();
-        self.lanes.note_told(self.silo.silo().replies())
+        self.silo.look_at_replies(&mut self.lanes.ready)
     }
 
     /// Does what is to do at one grain, delivers a call, or lets a lane give a step. False if there is
@@ -435,6 +405,7 @@ impl<S: GrainStorage, L: GrainLogic> Schedule<S, L> {
             return Ok(());
         };
         let own = step.clone()?;
+        self.note_told()?;
         self.silo.take(alloc, own)?;
         self.lanes.note_given(lane, index)?;
         match step {

@@ -308,13 +308,15 @@ pub fn serve_seeded<
         ≡ machine_run L.logic (start_of report.silo.setup tenant) (restricted_to tenant report.silo.journal)) }
 {
     let opened = SetupCopy::copied(alloc, &setup)?;
-    let places = LanePlaces::new(alloc, seed, lanes)?;
+    let places = LanePlaces::new(alloc, lanes)?;
     let logic = setup.logic;
-    let silo = WorkingSilo::seeded(alloc, setup, seed)?;
+    let silo = WorkingSilo::seeded(alloc, setup, seed, lanes)?;
     let schedule = Mutex::new(Schedule::new(alloc, silo, places, workers));
     let changed = Condvar::new();
     let waiting = AtomicUsize::new(0);
-    if !run_workers(rt, alloc, &schedule, &waiting, &changed, lanes, workers, gate, logic) {
+    if !run_workers(
+        rt, alloc, &schedule, &waiting, &changed, lanes, workers, gate, logic,
+    ) {
         return Err(ServeFault::NoWorker);
     }
     settle(alloc, seed, schedule.into_inner(), &opened, lanes)

@@ -18,13 +18,14 @@ ghost use Rattle.worker_host.specs.inside.Working.{may_ask_in, was_done};
 
 use crate::owed;
 use crate::owed::Owing;
+use client_lanes::Lane;
 use grain_id::{Caller, GrainId, HashSeed};
 use grain_kinds::{FinishedTurn, GrainLogic, OpenedTurn};
 use grain_storage::GrainStorage;
-use indexmap::IndexMap;
 use silo_core::{Setup, Silo};
 use silo_event::{Answer, Step, StepFault};
 use std::alloc::{AllocError, Global};
+use std::collections::VecDeque;
 use std::marker::Model;
 
 /// A silo with how many answers each client is owed, as far as its replies were looked at. Just before
@@ -62,7 +63,7 @@ fn was_done(answer: &Result<Answer, StepFault>) -> bool
 }
 
 impl<S: GrainStorage + Drop, L: GrainLogic + Drop> WorkingSilo<S, L> {
-    /// A silo at its opening. Its grains, and the clients that are owed answers, are found by hashes from the seed.
+    /// A silo at its opening, for these lanes. Its grains, and the clients that are owed answers, are found by hashes from the seed.
     ///
     /// # Errors
     ///
@@ -71,6 +72,7 @@ impl<S: GrainStorage + Drop, L: GrainLogic + Drop> WorkingSilo<S, L> {
         alloc: Global,
         setup: Setup<S, L>,
         seed: HashSeed,
+        lanes: &[Lane],
     ) -> Result<WorkingSilo<S, L>, AllocError>
         ensures setup { IfOk result (λ w. w.setup
             ≡ record { tenants = setup.tenants; age = setup.age; ages = setup.ages; rows = S.rows setup.storage }) }
@@ -79,7 +81,7 @@ impl<S: GrainStorage + Drop, L: GrainLogic + Drop> WorkingSilo<S, L> {
     {
         Ok(WorkingSilo {
             silo: Silo::seeded(alloc, setup, seed)?,
-            owing: IndexMap::with_hasher(alloc, seed),
+            owing: owed::none_owed(alloc, seed, lanes)?,
             seen: 0,
         })
     }
@@ -112,13 +114,19 @@ impl<S: GrainStorage, L: GrainLogic> WorkingSilo<S, L> {
         owed::owes_beside(&self.owing, client, self.silo.replies(), self.seen)
     }
 
-    /// Looks at the replies that weren't looked at yet. Takes no memory.
-    pub fn look_at_replies(&mut self)
+    /// Looks at the replies that weren't looked at yet, and puts the lanes of their clients behind those
+    /// that were told before.
+    ///
+    /// # Errors
+    ///
+    /// Out of memory: the replies were looked at all the same.
+    pub fn look_at_replies(&mut self, told: &mut VecDeque<usize>) -> Result<(), AllocError>
         ensures { self.new ≡ self.old }
     {
         let replies = self.silo.replies();
-        owed::tell_new(&mut self.owing, replies, self.seen);
+        let noted = owed::tell_new(&mut self.owing, replies, self.seen, told);
         self.seen = replies.len();
+        noted
     }
 
     /// Takes a step by which nobody asks, or a client of whom nothing waits or is open.
@@ -151,7 +159,7 @@ impl<S: GrainStorage, L: GrainLogic> WorkingSilo<S, L> {
     }
 
     /// Takes a step of any kind, unless a client asks by it of whom something waits or is open: then it
-    /// isn't taken now.
+    /// isn't taken now. Goes over the replies that weren't looked at, if a client asks.
     ///
     /// # Errors
     ///
@@ -161,7 +169,6 @@ impl<S: GrainStorage, L: GrainLogic> WorkingSilo<S, L> {
         ensures refused { may_ask_in self.old.whole (asker_of step) ≡ false → result ≡ Ok answer.NotNow }
         ensures unchanged { may_ask_in self.old.whole (asker_of step) ≡ false → self.new ≡ self.old }
     {
-        self.look_at_replies();
         if !self.may_take(&step) {
             drop(step);
             return Ok(Answer::NotNow);

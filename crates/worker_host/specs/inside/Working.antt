@@ -1,7 +1,7 @@
 -- What a silo at work knows beside its history: how much each client is owed, as far as its replies were looked at; and that its
 -- journal is paced.
 use Rattle.std.specs.Prelude.{◌≡◌, ℕ, ◌+◌, ◌≤◌, Bool, true, false, length, take, if◌then◌else◌}
-use Rattle.std.specs.Prelude.{Option, Some, None, unwrap_or, Result, Ok, Err}
+use Rattle.std.specs.Prelude.{Option, Some, None, Result, Ok, Err}
 use Rattle.indexmap.specs.IndexMap.{IndexMap, get}
 use Rattle.grain_id.specs.Names.{Client, client_eq}
 use Rattle.grain_kinds.specs.Logic.{Logic}
@@ -13,6 +13,7 @@ use Rattle.silo_model.specs.Journal.{LeadsTo}
 use Rattle.lane_model.specs.Asking.{ids_asked, ids_told}
 use Rattle.lane_model.specs.Pacing.{is_paced, may_ask}
 use Rattle.silo_core.specs.History.{History}
+use Rattle.worker_host.specs.declared.owed.Owed.{Owed}
 
 -- a step with this answer was done
 abbrev pub was_done : Result Answer StepFault → Bool
@@ -21,9 +22,14 @@ was_done (Ok Failed) = true
 was_done (Ok NotNow) = false
 was_done (Err why) = false
 
+-- how many answers a client is owed of whom this is known, if anything is
+abbrev pub count_in : Option Owed → ℕ
+count_in None = 0
+count_in (Some owed) = owed.count
+
 -- how many answers the client is owed
-abbrev pub owing_to : {S : Type 0} → IndexMap Client ℕ S → Client → ℕ
-owing_to owing client = unwrap_or (get client_eq owing client) 0
+abbrev pub owing_to : {S : Type 0} → IndexMap Client Owed S → Client → ℕ
+owing_to owing client = count_in (get client_eq owing client)
 
 -- how many more it is owed once this client, if any, has asked
 abbrev pub asks_once : Option Client → Client → ℕ
@@ -32,7 +38,7 @@ asks_once (Some caller) client = if client_eq caller client then 1 else 0
 
 -- The journal leads to what the silo has, and is paced. What each client is owed, and what it was told by the replies that were
 -- looked at, is together what it asked.
-pub record IsWorking {S : Type 0} (logic : Logic) (h : History) (owing : IndexMap Client ℕ S) (seen : ℕ) : Type 0 where
+pub record IsWorking {S : Type 0} (logic : Logic) (h : History) (owing : IndexMap Client Owed S) (seen : ℕ) : Type 0 where
   pub leads : LeadsTo logic h.setup h.journal h.whole
   pub paced : is_paced logic h.setup h.journal ≡ true
   pub within : seen ≤ length h.whole.replies

@@ -9,6 +9,6 @@ pub invariant_of-self : goal.invariant_of-self
 invariant_of-self g c =
     let a = c.self.inside in
     let logic = g.L.GrainLogic.logic in
-    subst (λ (n : ℕ). IsWorking logic a.silo c.tell_new.new.owing n) (sym (ap length c.replies-replies.ensures))
-    (working_seen logic (lawful_readers logic g.met.L.GrainLogic.lawful) a.silo a.owing a.seen c.self.invariant c.tell_new.new.owing
-    (λ client. c.tell_new.ensures client ∙ (λ i. owing_to a.owing client - length (ids_told client (drop a.seen (c.replies-replies.ensures i))))))
+    subst (λ (n : ℕ). IsWorking logic a.silo c.tell_new-noted.new.owing n) (sym (ap length c.replies-replies.ensures))
+    (working_seen logic (lawful_readers logic g.met.L.GrainLogic.lawful) a.silo a.owing a.seen c.self.invariant c.tell_new-noted.new.owing
+    (λ client. c.tell_new-noted.ensures client ∙ (λ i. owing_to a.owing client - length (ids_told client (drop a.seen (c.replies-replies.ensures i))))))
