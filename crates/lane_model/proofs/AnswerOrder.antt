@@ -1,34 +1,21 @@
 -- In a paced journal each client is answered in the order in which it asked.
-use Rattle.std.proofs.Common.{◌≡◌, ℕ, ◌+◌, ◌≤◌, Bool, true, false, cond, List, [], ◌∷◌, ◌++◌, Option, Some, None, unwrap_or, refl, ap, sym, ◌∙◌, subst, arith, true≢false, append_assoc}
-use Rattle.std.specs.Prelude.{filter, sum_by, option_map}
-use Rattle.std.proofs.lemmas.List.Sums.{sum_by-cons, sum_by-append}
+use Rattle.silo_model.proofs.Common.{◌++◌, ◌+◌, ◌∙◌, ◌∷◌, ◌≡◌, ◌≤◌, Bool, Client, List, Logic, Machine, None, Option, Party}
+use Rattle.silo_model.proofs.Common.{ReadersAskNothing, Reply, Setup, Some, Step, Whole, [], and_parts, ap, append-nil, append_assoc, arith}
+use Rattle.silo_model.proofs.Common.{client_eq, client_eq_decides, concerns, cond, false, filter, has_pending, is_to, machine_run}
+use Rattle.silo_model.proofs.Common.{machine_step, not-true, option_map, refl, restricted_to, same_text, same_text_decides, shown_to}
+use Rattle.silo_model.proofs.Common.{start_of, subst, sum_by, sum_by-append, sum_by-cons, sym, tenant_of, true, true≢false, unwrap_or, ℕ}
 use Rattle.std.proofs.lemmas.List.Elements.{filter-append}
-use Rattle.std.proofs.lemmas.List.{append-nil, append_assoc}
+use Rattle.std.proofs.lemmas.List.{append_assoc}
 use Rattle.std.proofs.lemmas.Grind.{flat_map-append}
-use Rattle.std.proofs.lemmas.Bool.{and_parts, not-true}
-use Rattle.grain_id.specs.Names.{Client, client_eq, same_text}
-use Rattle.grain_id.proofs.Order.{client_eq_decides, same_text_decides}
-use Rattle.silo_event.specs.Owner.{tenant_of}
-use Rattle.silo_event.specs.declared.reply.Party.{Party}
 use Rattle.silo_event.specs.declared.reply.Party.TheVariants as party
-use Rattle.silo_event.specs.declared.reply.Reply.{Reply}
-use Rattle.silo_event.specs.declared.step.Step.{Step}
-use Rattle.grain_kinds.specs.Logic.{Logic}
-use Rattle.grain_kinds.specs.Laws.{ReadersAskNothing}
-use Rattle.silo_model.specs.Machine.{Machine}
-use Rattle.silo_model.specs.Step.{machine_step}
-use Rattle.silo_model.specs.Whole.{Whole, is_to, shown_to}
-use Rattle.silo_model.specs.Run.{machine_run, concerns, restricted_to}
-use Rattle.silo_model.specs.Opening.{Setup, start_of}
 use Rattle.silo_model.proofs.Runs.{machine_after}
 use Rattle.silo_model.proofs.Fair.{pend}
 use Rattle.silo_model.proofs.Moves.{sent}
 use Rattle.silo_model.proofs.StepMoves.{IsFairMachine, MachineMoves, machine_moves}
-use Rattle.silo_model.proofs.FairRuns.{asks_always, start_fair, start_balance, run_fair}
-use Rattle.silo_model.specs.Pending.{has_pending}
-use Rattle.lane_model.specs.Asking.{asking_of, asker_of, id_asked, id_of, ids_asked, ids_told}
-use Rattle.lane_model.specs.Pacing.{machine_of, may_ask, paced_from, is_paced, AnsweredInOrder}
-use Rattle.lane_model.proofs.Askers.{weigh, weigh_quiet, asked_weight, told_weight, none_pending, no_number, is_front, apart_asks_nothing}
+use Rattle.silo_model.proofs.FairRuns.{asks_always, run_fair, start_balance, start_fair}
+use Rattle.lane_model.specs.Asking.{asker_of, asking_of, id_asked, id_of, ids_asked, ids_told}
+use Rattle.lane_model.specs.Pacing.{AnsweredInOrder, is_paced, machine_of, may_ask, paced_from}
+use Rattle.lane_model.proofs.Askers.{apart_asks_nothing, asked_weight, is_front, no_number, none_pending, told_weight, weigh, weigh_quiet}
 use Rattle.lane_model.proofs.Filtered.{flat_map-filter}
 use Rattle.lane_model.proofs.PacedGrowth.{part_is_run}
 

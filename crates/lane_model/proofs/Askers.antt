@@ -1,26 +1,13 @@
 -- What a client asked, what it was told, and what of it still waits or is open.
-use Rattle.std.proofs.Common.{◌≡◌, ℕ, ◌+◌, ◌≤◌, Bool, true, false, cond, List, [], ◌∷◌, ◌++◌, Option, Some, None, refl, ap, sym, ◌∙◌, arith, true≢false}
-use Rattle.std.specs.Prelude.{not, nat_eq, sum_by}
-use Rattle.std.specs.List.{list_any}
-use Rattle.std.proofs.lemmas.List.Sums.{sum_by-cons}
-use Rattle.std.proofs.lemmas.Bool.{eqb-true, eq-eqb, or_parts}
-use Rattle.std.proofs.lemmas.Option.{same_Some, none-some}
-use Rattle.finite_maps.proofs.Sums.{sum_flat}
-use Rattle.grain_id.specs.Names.{Client, client_eq}
-use Rattle.grain_id.proofs.Order.{client_eq_decides, same_text_decides}
-use Rattle.silo_event.specs.Owner.{owner_of}
-use Rattle.silo_event.specs.declared.reply.Party.{Party}
+use Rattle.silo_model.proofs.Common.{◌++◌, ◌+◌, ◌∙◌, ◌∷◌, ◌≡◌, ◌≤◌, Bool, Call, Client, List, Machine, None, Option, Party, Poke, Refuse}
+use Rattle.silo_model.proofs.Common.{Reply, Request, Some, Status, Step, Sweep, [], all_pending, ap, arith, client_eq, client_eq_decides}
+use Rattle.silo_model.proofs.Common.{concerns, concerns_by, cond, eq-eqb, eqb-true, false, has_pending, is_of_client, list_any, nat_eq}
+use Rattle.silo_model.proofs.Common.{none-some, not, or_parts, owner_of, refl, same_Some, same_text_decides, sum_by, sum_by-cons, sum_flat}
+use Rattle.silo_model.proofs.Common.{sym, true, true≢false, ℕ}
 use Rattle.silo_event.specs.declared.reply.Party.TheVariants as party
-use Rattle.silo_event.specs.declared.reply.Reply.{Reply}
-use Rattle.silo_event.specs.declared.step.Step.{Step}
-use Rattle.silo_event.specs.declared.step.Step.TheVariants.{Refuse, Call, Poke, Status, Sweep}
-use Rattle.silo_model.specs.Machine.{Machine, Request}
-use Rattle.silo_model.specs.Run.{concerns, concerns_by}
-use Rattle.silo_model.proofs.Fair.{pend, one_if}
-use Rattle.silo_model.proofs.Moves.{replied, sent, Quiet, asked_by}
+use Rattle.silo_model.proofs.Fair.{one_if, pend}
+use Rattle.silo_model.proofs.Moves.{Quiet, asked_by, replied, sent}
 use Rattle.silo_model.proofs.FairRuns.{pending_weight}
-use Rattle.silo_model.specs.Settled.{all_pending}
-use Rattle.silo_model.specs.Pending.{is_of_client, has_pending}
 use Rattle.lane_model.specs.Asking.{asking_of, id_asked, id_of, ids_told}
 
 -- ---- the weight of a client's numbers

@@ -1,31 +1,21 @@
 -- After a step there is something new to do at the step's own grains alone.
-use Rattle.std.proofs.Common.{◌≡◌, ℕ, Bool, true, false, List, ◌∷◌, Option, Some, None, refl, ap, sym, ◌∙◌, true≢false}
-use Rattle.std.specs.Prelude.{◌||◌, option_to_list, is_some}
-use Rattle.std.specs.Ordering.{eq_by_cmp}
+use Rattle.silo_model.proofs.Common.{◌||◌, ◌∙◌, ◌∷◌, ◌≡◌, Activate, Begin, Bool, Change, Deliver, Effect, Entries, Entry, Grain, List, Load}
+use Rattle.silo_model.proofs.Common.{Logic, None, Option, Some, Step, Whole, ap, changed_at, delivery_of, eq_by_cmp, false, grain_cmp}
+use Rattle.silo_model.proofs.Common.{grain_cmp_exact, grain_cmp_total, grain_eq, grain_eq_decides, is_among, is_some, limits_of}
+use Rattle.silo_model.proofs.Common.{list_any-append, not-true, opening, or_parts, owner_of, refl, sender_by, spread, sym, true, true≢false}
+use Rattle.silo_model.proofs.Common.{whole_step, ℕ}
+use Rattle.std.specs.Prelude.{option_to_list}
 use Rattle.std.specs.FinMap as map
-use Rattle.std.proofs.lemmas.List.Folds.{list_any-append}
-use Rattle.std.proofs.lemmas.Bool.{not-true, or_parts}
 use Rattle.grain_id.proofs.Keys.{grains}
 use Rattle.finite_maps.proofs.Entries.{ties_turned}
-use Rattle.grain_id.specs.Names.{Grain, grain_eq, grain_cmp}
-use Rattle.grain_id.proofs.Order.{grain_cmp_total, grain_cmp_exact, grain_eq_decides}
-use Rattle.silo_event.specs.Owner.{owner_of}
-use Rattle.silo_event.specs.declared.step.Step.{Step}
-use Rattle.silo_event.specs.declared.step.Step.TheVariants.{Deliver, Activate, Load, Begin}
-use Rattle.tenant_gate.specs.Table.{limits_of}
-use Rattle.silo_model.specs.Opening.{opening}
 use Rattle.silo_model.proofs.Opening.{get-fresh_accounts}
-use Rattle.grain_kinds.specs.Logic.{Logic}
-use Rattle.silo_model.specs.Machine.{Entry, Entries}
-use Rattle.silo_model.specs.Effect.{Effect, Change, changed_at}
-use Rattle.silo_model.specs.Whole.{Whole, spread, whole_step}
 use Rattle.silo_model.proofs.Changes.{get-change_other}
 use Rattle.silo_model.proofs.SharedSteps.{shared_leaves}
-use Rattle.silo_model.proofs.Isolation.{place_in, did, shared_by}
-use Rattle.silo_model.specs.Todo.{work_on, delivery_of, is_among, sender_by}
+use Rattle.silo_model.proofs.Isolation.{did, place_in, shared_by}
+use Rattle.silo_model.specs.Todo.{work_on}
 use Rattle.silo_model.proofs.OwnSends.{delivers, none_there, sends_stay}
 use Rattle.silo_model.proofs.WorkAtGrains.{nothing_at_entry, nothing_to_deliver}
-use Rattle.lane_model.specs.Candidates.{grain_by_owner, grain_changed_by, Covers, CoversBegin, CoversGrow, NothingToDo}
+use Rattle.lane_model.specs.Candidates.{Covers, CoversBegin, CoversGrow, NothingToDo, grain_by_owner, grain_changed_by}
 
 grain_apart : (p g : Grain) → grain_eq p g ≡ false → eq_by_cmp grain_cmp g p ≡ false
 grain_apart p g apart = ties_turned grains p g ∙ apart

@@ -1,31 +1,19 @@
 -- What waits or is open, by counts.
-use Rattle.std.proofs.Common.{◌≡◌, ℕ, ◌+◌, ◌≤◌, Bool, true, false, cond, List, [], ◌∷◌, length, refl, ap, sym, ◌∙◌, subst, arith, true≢false}
-use Rattle.std.specs.Prelude.{◌||◌, sum_by}
-use Rattle.std.specs.List.{list_any}
-use Rattle.std.proofs.lemmas.List.Sums.{sum_by-cons}
-use Rattle.finite_maps.proofs.Sums.{sum_one, sum_flat, sum_alike}
-use Rattle.grain_id.specs.Names.{Client}
-use Rattle.silo_event.specs.declared.reply.Party.{Party}
+use Rattle.silo_model.proofs.Common.{◌+◌, ◌||◌, ◌∙◌, ◌∷◌, ◌≡◌, ◌≤◌, Bool, Client, LeadsTo, List, Logic, Machine, Party, ReadersAskNothing}
+use Rattle.silo_model.proofs.Common.{Request, Setup, Step, Whole, [], all_pending, ap, arith, concerns, cond, false, is_of_client, length}
+use Rattle.silo_model.proofs.Common.{list_any, refl, restricted_to, shown_to, start_of, subst, sum_alike, sum_by, sum_by-cons, sum_flat}
+use Rattle.silo_model.proofs.Common.{sym, true, true≢false, ℕ}
+use Rattle.finite_maps.proofs.Sums.{sum_one}
 use Rattle.silo_event.specs.declared.reply.Party.TheVariants as party
-use Rattle.silo_event.specs.declared.step.Step.{Step}
-use Rattle.silo_model.specs.Machine.{Machine, Request}
-use Rattle.silo_model.specs.Whole.{Whole, shown_to}
-use Rattle.silo_model.specs.Run.{concerns, restricted_to}
-use Rattle.grain_kinds.specs.Logic.{Logic}
-use Rattle.grain_kinds.specs.Laws.{ReadersAskNothing}
-use Rattle.silo_model.specs.Opening.{Setup, start_of}
-use Rattle.silo_model.specs.Journal.{LeadsTo}
-use Rattle.silo_model.specs.Settled.{all_pending}
 use Rattle.silo_model.proofs.Fair.{pend}
-use Rattle.silo_model.proofs.Moves.{replied, sent, asked_by}
-use Rattle.silo_model.proofs.FairRuns.{start_fair, start_balance, run_balance, pending_weight}
-use Rattle.silo_model.specs.Pending.{is_of_client}
+use Rattle.silo_model.proofs.Moves.{asked_by, replied, sent}
+use Rattle.silo_model.proofs.FairRuns.{pending_weight, run_balance, start_balance, start_fair}
 use Rattle.lane_model.specs.Asking.{asking_of, id_asked, ids_asked, ids_told}
 use Rattle.lane_model.specs.Counting.{PendingByCounts}
-use Rattle.lane_model.proofs.Askers.{weigh, weigh_quiet, asked_weight, told_weight, none_pending, apart_asks_nothing}
+use Rattle.lane_model.proofs.Askers.{apart_asks_nothing, asked_weight, none_pending, told_weight, weigh, weigh_quiet}
 use Rattle.lane_model.proofs.Filtered.{flat_map-filter}
 use Rattle.lane_model.proofs.PacedGrowth.{part_is_run}
-use Rattle.lane_model.proofs.AnswerOrder.{told_shown, shown_replies}
+use Rattle.lane_model.proofs.AnswerOrder.{shown_replies, told_shown}
 
 -- ---- a client
 

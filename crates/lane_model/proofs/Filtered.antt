@@ -1,7 +1,6 @@
 -- What is made of the items of a list of which some are left out.
-use Rattle.std.proofs.Common.{◌≡◌, Bool, true, false, cond, List, [], ◌∷◌, ◌++◌, length, refl, ap, sym, ◌∙◌, arith}
-use Rattle.std.specs.Prelude.{flat_map, filter}
-use Rattle.std.proofs.lemmas.List.{length-append}
+use Rattle.silo_model.proofs.Common.{◌++◌, ◌∙◌, ◌∷◌, ◌≡◌, Bool, List, [], ap, arith, cond, false, filter, flat_map, length, length-append}
+use Rattle.silo_model.proofs.Common.{refl, sym, true}
 
 -- as much as of all, if nothing is made of those
 pub flat_map-filter : {A B : Type 0} (f : A → List B) (p : A → Bool) (xs : List A) → ((x : A) → p x ≡ false → f x ≡ []) → flat_map f (filter p xs) ≡ flat_map f xs

@@ -1,36 +1,23 @@
 -- A counter's first call is served in its client's lane.
-use Rattle.std.proofs.Common.{◌≡◌, ℕ, Bool, true, false, cond, List, [], ◌∷◌, length, Option, Some, None, refl, ap, sym, ◌∙◌}
-use Rattle.std.specs.Prelude.{◌&&◌, ◌||◌, not, flat_map, ℤ, Ok, option_map, map as map_list}
-use Rattle.std.specs.List.{list_any, AllByRecursion}
-use Rattle.std.specs.Ordering.{nat_cmp, eq_by_cmp}
-use Rattle.std.specs.Cmp.{nat_cmp_total}
+use Rattle.silo_model.proofs.Common.{◌&&◌, ◌||◌, ◌∙◌, ◌∷◌, ◌≡◌, Account, All-from_recursion, AllByRecursion, Bool, Call, Client, Entry}
+use Rattle.silo_model.proofs.Common.{FinMap, Grain, Limits, List, None, Ok, Option, Request, Setup, Some, [], ap, as_failed, client_eq}
+use Rattle.silo_model.proofs.Common.{client_eq_decides, cond, counters, entries-none, eq_by_cmp, false, flat_map, fresh_account, grain_cmp}
+use Rattle.silo_model.proofs.Common.{grain_cmp_total, has_pending, integer, is_of_client, length, limits_of, list_any, map_list, nat_cmp}
+use Rattle.silo_model.proofs.Common.{nat_cmp-IsAntisymmetric, nat_cmp_total, none-some, not, opening, option_map, pending_at, refl}
+use Rattle.silo_model.proofs.Common.{same_Some, start_of, sym, text_cmp, text_cmp_total, told, total, true, ℕ, ℤ}
 use Rattle.std.specs.FinMap as map
-use Rattle.std.specs.FinMap.{FinMap, nat_cmp-IsAntisymmetric}
-use Rattle.std.proofs.lemmas.Option.{same_Some, none-some}
-use Rattle.std.proofs.lemmas.List.Elements.{All-from_recursion}
-use Rattle.finite_maps.proofs.Maps.{entries-none, taken_back}
-use Rattle.finite_maps.proofs.Totals.{total, total_alike}
+use Rattle.finite_maps.proofs.Maps.{taken_back}
+use Rattle.finite_maps.proofs.Totals.{total_alike}
 use Rattle.finite_maps.proofs.Sums.{sum_zero}
-use Rattle.grain_id.specs.Names.{Client, Grain, client_eq, grain_cmp, text_cmp}
-use Rattle.grain_id.proofs.Order.{client_eq_decides, grain_cmp_total, text_cmp_total}
-use Rattle.request_codec.specs.Tree.{integer}
-use Rattle.tenant_gate.specs.declared.limits.Limits.{Limits}
-use Rattle.tenant_gate.specs.Table.{limits_of}
-use Rattle.grain_kinds.specs.Counters.{counters}
-use Rattle.silo_event.specs.Failed.{as_failed}
 use Rattle.silo_event.specs.declared.reply.Party.TheVariants as party
-use Rattle.silo_event.specs.declared.step.Step.TheVariants.{Call}
-use Rattle.silo_model.specs.Calls.{told}
-use Rattle.silo_model.specs.Machine.{Account, Entry, Request}
 use Rattle.silo_model.specs.FirstCall.{add_call, first_call}
-use Rattle.silo_model.specs.Settled.{pending_at}
-use Rattle.silo_model.specs.Opening.{Setup, opening, start_of, fresh_account, fresh_accounts}
+use Rattle.silo_model.specs.Opening.{fresh_accounts}
 use Rattle.silo_model.proofs.FirstCall.{after_end, first_call_leads, first_call_replies}
 use Rattle.silo_model.proofs.Opening.{get-fresh_accounts}
-use Rattle.silo_model.specs.Pending.{is_of_client, has_pending, AllQuiet}
-use Rattle.lane_model.specs.Lanes.{lane_of, has_giver, LaneStands, LanesStand}
+use Rattle.silo_model.specs.Pending.{AllQuiet}
+use Rattle.lane_model.specs.Lanes.{LaneStands, LanesStand, has_giver, lane_of}
 use Rattle.lane_model.specs.Pacing.{is_paced}
-use Rattle.lane_model.specs.Serving.{lane_of_one_call, replies_to, FirstCallServed}
+use Rattle.lane_model.specs.Serving.{FirstCallServed, lane_of_one_call, replies_to}
 use Rattle.silo_model.proofs.QuietCounts.{quiet_by_counts}
 
 -- ---- the journal

@@ -1,24 +1,15 @@
 -- What clients are told where their lanes have been served, and what a paced journal says of each of its steps.
-use Rattle.std.proofs.Common.{◌≡◌, true, false, cond, List, [], ◌∷◌, ◌++◌, length, Option, Some, None, refl, ap, sym, ◌∙◌, subst, true≢false, append_assoc}
-use Rattle.std.specs.Prelude.{not, map as map_list}
-use Rattle.std.specs.List.{list_any}
-use Rattle.std.proofs.lemmas.List.{append-nil, length-map}
-use Rattle.std.proofs.lemmas.Bool.{and_parts, and_from, not-true}
-use Rattle.grain_id.specs.Names.{Client}
-use Rattle.silo_event.specs.Failed.{as_failed}
-use Rattle.silo_event.specs.declared.reply.Party.{Party}
+use Rattle.silo_model.proofs.Common.{◌++◌, ◌∙◌, ◌∷◌, ◌≡◌, Call, Client, List, Logic, Machine, None, Option, Party, Poke, Refuse, Reply}
+use Rattle.silo_model.proofs.Common.{Request, Setup, Some, Status, Step, Sweep, [], and_from, and_parts, ap, append-nil, append_assoc}
+use Rattle.silo_model.proofs.Common.{as_failed, cond, false, has_pending, is_of_client, length, list_any, map_list, not, not-true, refl}
+use Rattle.silo_model.proofs.Common.{subst, sym, true, true≢false}
+use Rattle.std.proofs.lemmas.List.{length-map}
 use Rattle.silo_event.specs.declared.reply.Party.TheVariants as party
-use Rattle.silo_event.specs.declared.reply.Reply.{Reply}
-use Rattle.silo_event.specs.declared.step.Step.{Step}
-use Rattle.silo_event.specs.declared.step.Step.TheVariants.{Refuse, Call, Poke, Status, Sweep}
-use Rattle.grain_kinds.specs.Logic.{Logic}
-use Rattle.silo_model.specs.Machine.{Machine, Request}
-use Rattle.silo_model.specs.Opening.{Setup}
-use Rattle.silo_model.specs.Pending.{is_of_client, has_pending, IsQuiet}
-use Rattle.lane_model.specs.Asking.{asking_of, asker_of, id_asked, id_of, ids_asked, ids_told}
-use Rattle.lane_model.specs.Pacing.{machine_of, may_ask, paced_from, PacedAtEach}
-use Rattle.lane_model.specs.Lanes.{Lane, lane_of, is_given_by, given_by, done_steps_by, done_steps_of, LaneStands}
-use Rattle.lane_model.specs.Serving.{replies_to, LanesAnswered}
+use Rattle.silo_model.specs.Pending.{IsQuiet}
+use Rattle.lane_model.specs.Asking.{asker_of, asking_of, id_asked, id_of, ids_asked, ids_told}
+use Rattle.lane_model.specs.Pacing.{PacedAtEach, machine_of, may_ask, paced_from}
+use Rattle.lane_model.specs.Lanes.{Lane, LaneStands, done_steps_by, done_steps_of, given_by, is_given_by, lane_of}
+use Rattle.lane_model.specs.Serving.{LanesAnswered, replies_to}
 use Rattle.lane_model.proofs.Filtered.{flat_map-filter, length-filter_each}
 use Rattle.lane_model.proofs.AnswerOrder.{answered_in_order}
 

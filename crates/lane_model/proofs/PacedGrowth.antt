@@ -1,19 +1,11 @@
 -- Paced journals.
-use Rattle.std.proofs.Common.{◌≡◌, ℕ, Bool, List, [], ◌∷◌, ◌++◌, ap, sym, ◌∙◌, append_assoc}
-use Rattle.std.specs.Prelude.{◌&&◌}
-use Rattle.std.proofs.lemmas.List.{append-nil}
+use Rattle.silo_model.proofs.Common.{◌&&◌, ◌++◌, ◌∙◌, ◌∷◌, ◌≡◌, Bool, Client, LeadsTo, List, Logic, Setup, Step, Whole, [], ap, append-nil}
+use Rattle.silo_model.proofs.Common.{append_assoc, machine_run, restricted_to, shown_to, start_of, sym, ℕ}
 use Rattle.std.proofs.Math.Bool.{and-true, and_assoc}
-use Rattle.grain_id.specs.Names.{Client}
-use Rattle.silo_event.specs.declared.step.Step.{Step}
-use Rattle.grain_kinds.specs.Logic.{Logic}
-use Rattle.silo_model.specs.Whole.{Whole, shown_to}
-use Rattle.silo_model.specs.Run.{machine_run, restricted_to}
-use Rattle.silo_model.specs.Opening.{Setup, start_of}
-use Rattle.silo_model.specs.Journal.{LeadsTo}
 use Rattle.silo_model.proofs.Journals.{journals_replay}
 use Rattle.silo_model.proofs.Opening.{replay_is_run}
 use Rattle.lane_model.specs.Asking.{asker_of}
-use Rattle.lane_model.specs.Pacing.{machine_of, may_ask, paced_from, is_paced, PacedGrows}
+use Rattle.lane_model.specs.Pacing.{PacedGrows, is_paced, machine_of, may_ask, paced_from}
 
 pub paced_more : (logic : Logic) (setup : Setup) (before journal : List Step) (s : Step)
     → paced_from logic setup before (journal ++ s ∷ []) ≡ (paced_from logic setup before journal && may_ask (machine_of logic setup (before ++ journal)) (asker_of s))

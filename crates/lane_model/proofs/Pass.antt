@@ -1,24 +1,17 @@
 -- The pass over a journal tells whether the lanes stand in it.
-use Rattle.std.proofs.Common.{◌≡◌, Bool, true, false, cond, List, [], ◌∷◌, length, Option, Some, None, refl, ap, sym, ◌∙◌, subst, arith, true≢false}
-use Rattle.std.specs.Prelude.{◌&&◌, ◌==◌, map as map_list, option_map, option_and_then}
-use Rattle.std.specs.Bool.{Decides}
-use Rattle.std.specs.List.{list_all, AllByRecursion}
-use Rattle.std.specs.Option.{option_cmp}
-use Rattle.std.specs.Ordering.{eq_by_cmp, is_eq}
-use Rattle.std.specs.Cmp.{Equal-is, tied_itself, IsTotalOrder}
+use Rattle.silo_model.proofs.Common.{◌&&◌, ◌==◌, ◌∙◌, ◌∷◌, ◌≡◌, AllByRecursion, Bool, Client, Decides, Equal-is, IsAntisymmetric}
+use Rattle.silo_model.proofs.Common.{IsTotalOrder, List, None, Option, Some, Step, [], ap, arith, as_failed, client_cmp, client_eq_decides}
+use Rattle.silo_model.proofs.Common.{cond, eq_by_cmp, eqb-true, false, false_from_ne_true, found_passes, get-insert_same, length, list_all}
+use Rattle.silo_model.proofs.Common.{map_list, none-some, option_and_then, option_cmp, option_map, refl, same_Some, same_head, same_tail}
+use Rattle.silo_model.proofs.Common.{subst, sym, tied_itself, true, true≢false}
+use Rattle.std.specs.Ordering.{is_eq}
 use Rattle.std.specs.Cmp.Lexicographic.{options_total}
 use Rattle.std.specs.FinMap as map
-use Rattle.std.specs.FinMap.{IsAntisymmetric}
-use Rattle.std.proofs.lemmas.Option.{same_Some, none-some}
-use Rattle.std.proofs.lemmas.Bool.{eqb-true, false_from_ne_true}
-use Rattle.finite_maps.proofs.Values.{found_passes, found_entries}
-use Rattle.finite_maps.proofs.Lists.{same_head, same_tail}
-use Rattle.finite_maps.proofs.Maps.{get-insert_same, get-insert_other}
-use Rattle.grain_id.specs.Names.{Client, client_cmp}
-use Rattle.grain_id.proofs.Order.{client_cmp_total, client_cmp_exact, client_eq_decides}
-use Rattle.silo_event.specs.Failed.{as_failed}
-use Rattle.silo_event.specs.declared.step.Step.{Step}
-use Rattle.lane_model.specs.Lanes.{lane_of, same_lane, is_given_by, given_by, Remaining, others_after, remaining_after, remaining_at_end, is_used_up}
+use Rattle.finite_maps.proofs.Values.{found_entries}
+use Rattle.finite_maps.proofs.Maps.{get-insert_other}
+use Rattle.grain_id.proofs.Order.{client_cmp_exact, client_cmp_total}
+use Rattle.lane_model.specs.Lanes.{Remaining, given_by, is_given_by, is_used_up, lane_of, others_after, remaining_after, remaining_at_end}
+use Rattle.lane_model.specs.Lanes.{same_lane}
 
 -- ---- whose a lane is
 

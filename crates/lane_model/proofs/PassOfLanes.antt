@@ -1,18 +1,14 @@
 -- Lanes stand in a journal exactly where the pass over it says so.
-use Rattle.std.proofs.Common.{◌≡◌, Bool, true, false, cond, List, [], ◌∷◌, ◌++◌, Option, Some, None, refl, ap, sym, ◌∙◌, subst, true≢false}
-use Rattle.std.specs.Prelude.{◌||◌, map as map_list, option_and_then}
-use Rattle.std.specs.List.{list_any, AllByRecursion}
-use Rattle.std.specs.Option.{option_cmp}
-use Rattle.std.specs.Ordering.{eq_by_cmp}
+use Rattle.silo_model.proofs.Common.{◌++◌, ◌||◌, ◌∙◌, ◌∷◌, ◌≡◌, All-from_recursion, AllByRecursion, Bool, Client, List, None, Option, Some}
+use Rattle.silo_model.proofs.Common.{Step, [], ap, client_cmp, cond, eq_by_cmp, false, false_from_ne_true, list_any, map_list}
+use Rattle.silo_model.proofs.Common.{option_and_then, option_cmp, refl, subst, sym, true, true≢false}
 use Rattle.std.specs.FinMap as map
 use Rattle.std.specs.FinMap.Entries.{find}
 use Rattle.std.proofs.lemmas.Map.Keys.{IsDistinct-head, IsDistinct-tail}
-use Rattle.std.proofs.lemmas.List.Elements.{recursion_from_All, All-from_recursion}
-use Rattle.std.proofs.lemmas.Bool.{false_from_ne_true}
-use Rattle.grain_id.specs.Names.{Client, client_cmp}
-use Rattle.silo_event.specs.declared.step.Step.{Step}
-use Rattle.lane_model.specs.Lanes.{Lane, lane_of, same_lane, is_given_by, given_by, AreDistinct, done_steps_of, LaneStands, has_giver, Remaining, remaining_of, remaining_after, remaining_at_end, PassDecides}
-use Rattle.lane_model.proofs.Pass.{lanes_total, same_lane_decides, itself, tied_lane, lane_itself, lane_apart, FitsOne, Fits, pass_fits}
+use Rattle.std.proofs.lemmas.List.Elements.{recursion_from_All}
+use Rattle.lane_model.specs.Lanes.{AreDistinct, Lane, LaneStands, PassDecides, Remaining, done_steps_of, given_by, has_giver, is_given_by}
+use Rattle.lane_model.specs.Lanes.{lane_of, remaining_after, remaining_at_end, remaining_of, same_lane}
+use Rattle.lane_model.proofs.Pass.{Fits, FitsOne, itself, lane_apart, lane_itself, lanes_total, pass_fits, same_lane_decides, tied_lane}
 
 -- what the lanes of a list have at their own places
 abbrev found_in : List Lane → Option Client → Option (List Step)

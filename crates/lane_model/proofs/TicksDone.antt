@@ -1,16 +1,11 @@
 -- Which ticks and sweeps a machine does.
-use Rattle.std.proofs.Common.{◌≡◌, ℕ, Bool, true, false, cond, List, [], ◌∷◌, ◌++◌, Some, None, unwrap_or, refl, ap, sym, ◌∙◌, true≢false}
-use Rattle.std.specs.Prelude.{nat_le, nat_lt}
-use Rattle.std.specs.List.{list_all}
-use Rattle.std.proofs.lemmas.Bool.{and_parts, le-ltb, leb-false, leb-true, lt-ltb}
+use Rattle.silo_model.proofs.Common.{◌++◌, ◌∙◌, ◌∷◌, ◌≡◌, Bool, List, Logic, Machine, None, Some, Step, Sweep, Tick, [], and_parts, ap}
+use Rattle.silo_model.proofs.Common.{cond, done_by, false, if_possible, list_all, lt-ltb, machine_step, nat_le, nat_lt, refl, sym, true}
+use Rattle.silo_model.proofs.Common.{true≢false, unwrap_or, ℕ}
+use Rattle.std.proofs.lemmas.Bool.{le-ltb, leb-false, leb-true}
 use Rattle.std.proofs.lemmas.List.Sums.{list_all-from_AllPass}
-use Rattle.silo_event.specs.declared.step.Step.{Step}
-use Rattle.silo_event.specs.declared.step.Step.TheVariants.{Tick, Sweep}
-use Rattle.grain_kinds.specs.Logic.{Logic}
-use Rattle.silo_model.specs.Machine.{Machine}
-use Rattle.silo_model.specs.Step.{swept, machine_step}
-use Rattle.silo_model.specs.Run.{done_by, if_possible}
-use Rattle.lane_model.specs.Lanes.{may_give, without_ticks_below, TicksAreDone}
+use Rattle.silo_model.specs.Step.{swept}
+use Rattle.lane_model.specs.Lanes.{TicksAreDone, may_give, without_ticks_below}
 
 -- a tick is below the clock, or it isn't
 below : (clock now : ℕ) → (b : Bool) → nat_le clock now ≡ b → nat_lt now clock ≡ cond b false true
