@@ -1,28 +1,19 @@
 -- What each tenant is shown by an answering silo is what its own machine is.
-use Rattle.std.proofs.Common.{◌≡◌, ℕ, Bool, true, false, cond, List, [], ◌∷◌, ◌++◌, Option, Some, None, refl, ap, sym, ◌∙◌, subst, true≢false}
-use Rattle.std.proofs.lemmas.Option.{none-some}
-use Rattle.grain_id.specs.Names.{Grain, Client, same_text}
+use Rattle.silo_model.proofs.Common.{◌++◌, ◌∙◌, ◌∷◌, ◌≡◌, Abandon, Activate, Begin, Bool, Call, Client, Deliver, End, Grain, List, Load}
+use Rattle.silo_model.proofs.Common.{Logic, Machine, None, Option, Poke, Refuse, Setup, Some, Status, Step, Store, Sweep, Tick, Whole, []}
+use Rattle.silo_model.proofs.Common.{ap, called, concerns, concerns_by, cond, context_at, effect_of, false, machine_run, none-some}
+use Rattle.silo_model.proofs.Common.{owner_of, refl, same_text, same_text_decides, shown_to, subst, sym, true, true≢false, whole_run}
+use Rattle.silo_model.proofs.Common.{whole_step, ℕ}
 use Rattle.request_codec.specs.Call as codec
-use Rattle.grain_id.proofs.Order.{same_text_decides}
-use Rattle.silo_event.specs.Owner.{owner_of}
 use Rattle.silo_event.specs.declared.reply.Party.TheVariants as party
-use Rattle.silo_event.specs.declared.step.Step.{Step}
-use Rattle.silo_event.specs.declared.step.Step.TheVariants.{Refuse, Call, Poke, Status, Deliver, Activate, Load, Begin, Store, End, Abandon, Tick, Sweep}
-use Rattle.grain_kinds.specs.Logic.{Logic}
-use Rattle.silo_model.specs.Machine.{Machine}
-use Rattle.silo_model.specs.Effect.{context_at}
-use Rattle.silo_model.specs.Calls.{called}
-use Rattle.silo_model.specs.Step.{effect_of}
-use Rattle.silo_model.specs.Whole.{Whole, shown_to, whole_step}
-use Rattle.silo_model.specs.Run.{concerns, concerns_by, machine_run, whole_run}
-use Rattle.silo_model.specs.Opening.{Setup}
 use Rattle.silo_model.proofs.Contexts.{step_by_context}
 use Rattle.silo_model.proofs.EffectKinds.{role_of}
 use Rattle.silo_model.proofs.Isolation.{place_in}
 use Rattle.silo_model.proofs.Journals.{runs_on}
-use Rattle.answer_model.specs.Answering.{Stepper, Luck, first_luck, later_luck, whole_stepper, machine_stepper, bringing, deliveries, deliveries_of, called_grain, Asked, taken_by, taken, answering, answered, all_answered}
-use Rattle.answer_model.specs.Apart.{asked_by, TenantsApart}
-use Rattle.answer_model.proofs.Owned.{AllOwned, AllOwned-append, own_run, other_run}
+use Rattle.answer_model.specs.Answering.{Asked, Luck, Stepper, all_answered, answered, answering, bringing, called_grain, deliveries}
+use Rattle.answer_model.specs.Answering.{deliveries_of, first_luck, later_luck, machine_stepper, taken, taken_by, whole_stepper}
+use Rattle.answer_model.specs.Apart.{TenantsApart, asked_by}
+use Rattle.answer_model.proofs.Owned.{AllOwned, AllOwned-append, other_run, own_run}
 use Rattle.answer_model.proofs.Reached.{IsReached, run_reached}
 use Rattle.answer_model.proofs.Served.{IsOwnIfAccepted, own_if_accepted, same_bringing, same_deliveries}
 

@@ -1,24 +1,11 @@
 -- What a step does that may bring a request: its party is told something at once, or the request waits.
-use Rattle.std.proofs.Common.{◌≡◌, ℕ, ◌+◌, true, List, [], ◌∷◌, ◌++◌, Option, Some, None, refl, ap, sym, ◌∙◌, arith, subst}
-use Rattle.std.specs.Prelude.{Result, length}
+use Rattle.silo_model.proofs.Common.{◌++◌, ◌+◌, ◌∙◌, ◌∷◌, ◌≡◌, Effect, Fault, Grain, List, Logic, None, Option, Party, Reply, Request}
+use Rattle.silo_model.proofs.Common.{Result, Some, Step, Tree, Whole, [], ap, append-nil, arith, context_at, eqb-true, length}
+use Rattle.silo_model.proofs.Common.{length-append, owner_of, refl, shown_to, spread, subst, sym, told, true, whole_step, with_request, ℕ}
 use Rattle.std.specs.FinMap as map
-use Rattle.std.proofs.lemmas.List.{append-nil, length-append}
-use Rattle.std.proofs.lemmas.Bool.{eqb-true}
-use Rattle.grain_id.specs.Names.{Grain}
-use Rattle.request_codec.specs.Tree.{Tree}
-use Rattle.silo_event.specs.Owner.{owner_of}
-use Rattle.silo_event.specs.declared.fault.Fault.{Fault}
-use Rattle.silo_event.specs.declared.reply.Party.{Party}
-use Rattle.silo_event.specs.declared.reply.Reply.{Reply}
-use Rattle.silo_event.specs.declared.step.Step.{Step}
-use Rattle.grain_kinds.specs.Logic.{Logic}
-use Rattle.silo_model.specs.Machine.{Request}
-use Rattle.silo_model.specs.Effect.{Effect, context_at}
-use Rattle.silo_model.specs.Calls.{told, with_request}
-use Rattle.silo_model.specs.Whole.{Whole, shown_to, spread, whole_step}
 use Rattle.silo_model.proofs.Contexts.{get-own}
-use Rattle.silo_model.proofs.EffectKinds.{Role, asks, role_of, Does, tells, pokes, accepts}
-use Rattle.silo_model.proofs.Isolation.{place_in, did, did_does}
+use Rattle.silo_model.proofs.EffectKinds.{Does, Role, accepts, asks, pokes, role_of, tells}
+use Rattle.silo_model.proofs.Isolation.{did, did_does, place_in}
 use Rattle.answer_model.specs.Answering.{is_accepted, whole_stepper}
 
 pub data Brings (w after : Whole) (owner : List ℕ) (p : Party) : Option Grain → Type 0 where

@@ -1,41 +1,29 @@
 -- What is done is what is done with good luck, if the storage didn't fail and no turn was given up.
-use Rattle.std.proofs.Common.{◌≡◌, ℕ, zero, suc, Bool, true, false, List, [], ◌∷◌, ◌++◌, Option, Some, None, unwrap_or, refl, ap, sym, ◌∙◌, subst, true≢false, inl, inr}
-use Rattle.std.specs.Prelude.{is_some, if◌then◌else◌}
+use Rattle.silo_model.proofs.Common.{if◌then◌else◌, ◌++◌, ◌∙◌, ◌∷◌, ◌≡◌, Abandon, Activate, Begin, Bool, Call, Client, Deliver, Effect, End}
+use Rattle.silo_model.proofs.Common.{Entry, Grain, List, Load, Logic, None, Option, Party, Phase, Plan, Poke, Refuse, Request, Send, Setup}
+use Rattle.silo_model.proofs.Common.{Some, Status, Step, StorageCall, Store, Sweep, Tick, Tree, Whole, [], ap, asking_of, asks_nothing}
+use Rattle.silo_model.proofs.Common.{clears_row, done_by, false, get-insert_same, grain_cmp_exact, grain_cmp_total, if_possible, inl, inr}
+use Rattle.silo_model.proofs.Common.{is_some, loading, none-some, owner_of, plan_of, reads_row, ready, refl, sends_of, stored_by, subst}
+use Rattle.silo_model.proofs.Common.{suc, sym, true, true≢false, unwrap_or, waiting, whole_run, whole_step, writes_row, zero, ℕ}
 use Rattle.std.specs.FinMap as map
-use Rattle.std.proofs.lemmas.Option.{none-some}
-use Rattle.grain_id.specs.Names.{Client, Grain}
-use Rattle.grain_id.proofs.Order.{grain_cmp_total, grain_cmp_exact}
-use Rattle.finite_maps.proofs.Maps.{get-insert_same}
-use Rattle.request_codec.specs.Tree.{Tree}
 use Rattle.request_codec.specs.Call as codec
-use Rattle.silo_event.specs.Asker.{asking_of}
-use Rattle.silo_event.specs.Owner.{owner_of}
-use Rattle.silo_event.specs.declared.reply.Party.{Party}
 use Rattle.silo_event.specs.declared.reply.Party.TheVariants as party
-use Rattle.silo_event.specs.declared.step.Step.{Step}
-use Rattle.silo_event.specs.declared.step.Step.TheVariants.{Refuse, Call, Poke, Status, Deliver, Activate, Load, Begin, Store, End, Abandon, Tick, Sweep}
-use Rattle.grain_kinds.specs.Logic.{Logic, Plan, StorageCall, asks_nothing, reads_row, writes_row, clears_row}
-use Rattle.silo_model.specs.Machine.{Entry, Request, Send, Phase, waiting, loading, ready}
-use Rattle.silo_model.specs.Effect.{Effect}
-use Rattle.silo_model.specs.Opening.{Setup}
-use Rattle.silo_model.specs.Pending.{sends_of}
-use Rattle.silo_model.specs.Turns.{plan_of, stored_by}
-use Rattle.silo_model.specs.Whole.{Whole, whole_step}
-use Rattle.silo_model.specs.Run.{if_possible, done_by, whole_run}
 use Rattle.silo_model.proofs.EffectKinds.{asks, role_of}
 use Rattle.silo_model.proofs.EntrySteps.{activate_waiting, load_fails}
 use Rattle.silo_model.proofs.Isolation.{place_in}
 use Rattle.silo_model.proofs.Runs.{done_by-append}
-use Rattle.silo_model.proofs.TurnSteps.{seen_at, end_turn, end_reads, end_writes, end_clears, store_failed, abandon_turn}
-use Rattle.answer_model.specs.Answering.{Luck, Closing, well, storage_failed, out_of_memory, good, first_luck, later_luck, whole_stepper, raising, ending, closing, turn_of_first, turn_of, turning, serving, serving_if, bringing, delivering, deliveries, deliveries_of, is_asked, called_grain, Asked, taken_by, taken, answering}
+use Rattle.silo_model.proofs.TurnSteps.{abandon_turn, end_clears, end_reads, end_turn, end_writes, seen_at, store_failed}
+use Rattle.answer_model.specs.Answering.{Asked, Closing, Luck, answering, bringing, called_grain, closing, deliveries, deliveries_of}
+use Rattle.answer_model.specs.Answering.{delivering, ending, first_luck, good, is_asked, later_luck, out_of_memory, raising, serving}
+use Rattle.answer_model.specs.Answering.{serving_if, storage_failed, taken, taken_by, turn_of, turn_of_first, turning, well, whole_stepper}
 use Rattle.answer_model.specs.Idle.{AllIdle}
-use Rattle.answer_model.specs.Certain.{went_well, AllWell, luckily, AnsweredCertainly}
+use Rattle.answer_model.specs.Certain.{AllWell, AnsweredCertainly, luckily, went_well}
 use Rattle.answer_model.proofs.Apart.{call_done, taken_call}
-use Rattle.answer_model.proofs.Brought.{Brings, is_told, waits, brings}
-use Rattle.answer_model.proofs.Raised.{IsAlone, Raises, raises_by, not_activated, begun, begun_entry, begins, is_open, none_to_turn}
+use Rattle.answer_model.proofs.Brought.{Brings, brings, is_told, waits}
+use Rattle.answer_model.proofs.Raised.{IsAlone, Raises, begins, begun, begun_entry, is_open, none_to_turn, not_activated, raises_by}
 use Rattle.answer_model.proofs.Reached.{IsReached, run_reached}
-use Rattle.answer_model.proofs.Idle.{alone, not_served, is_served, poke_done, asked_settles, delivering_goes}
-use Rattle.answer_model.proofs.Served.{source_own, target_is, is_delivered}
+use Rattle.answer_model.proofs.Idle.{alone, asked_settles, delivering_goes, is_served, not_served, poke_done}
+use Rattle.answer_model.proofs.Served.{is_delivered, source_own, target_is}
 
 -- ---- lists of steps that went well
 

@@ -1,31 +1,19 @@
 -- The one open turn of an entry in which nothing waits is closed: the entry is idle or gone, and the turn's request is answered.
-use Rattle.std.proofs.Common.{◌≡◌, ℕ, Bool, true, false, cond, List, [], ◌∷◌, ◌++◌, Option, Some, None, unwrap_or, refl, ap, sym, ◌∙◌, subst}
-use Rattle.std.specs.Prelude.{Result, Ok, Err, is_some, if◌then◌else◌}
+use Rattle.silo_model.proofs.Common.{if◌then◌else◌, ◌++◌, ◌∙◌, ◌∷◌, ◌≡◌, Abandon, Bool, Change, Effect, End, Entries, Entry, Err, Fault}
+use Rattle.silo_model.proofs.Common.{Grain, IsIdle, Keep, List, Logic, NoMemory, None, Ok, Option, Plan, Request, Result, Row, RowFault}
+use Rattle.silo_model.proofs.Common.{Some, StateChanged, Step, StorageCall, StorageFailed, Store, Tree, VersionsSpent, Whole, []}
+use Rattle.silo_model.proofs.Common.{abandoned_entry, ap, asks_nothing, change_at, clears_row, closed_entry, cond, content_or}
+use Rattle.silo_model.proofs.Common.{ends_activation, eq_by_cmp, eq_by_cmp-Decides, false, get-insert_same, grain_cmp, grain_cmp_exact}
+use Rattle.silo_model.proofs.Common.{grain_cmp_total, is_some, none-some, outcome_of, plan_of, reads_row, ready, refl, reply_to}
+use Rattle.silo_model.proofs.Common.{row_changed, row_written, same, same_Some, spent, stale, stored_by, subst, sym, true, unwrap_or}
+use Rattle.silo_model.proofs.Common.{version_of, version_value, whole_run, whole_step, writes_row, ℕ}
 use Rattle.std.specs.FinMap as map
-use Rattle.std.specs.Ordering.{eq_by_cmp}
-use Rattle.std.proofs.lemmas.Option.{same_Some, none-some}
-use Rattle.grain_id.specs.Names.{Grain, grain_cmp}
-use Rattle.grain_id.proofs.Order.{eq_by_cmp-Decides, grain_cmp_total, grain_cmp_exact}
-use Rattle.finite_maps.proofs.Maps.{get-insert_same, get-insert_other}
-use Rattle.request_codec.specs.Tree.{Tree}
-use Rattle.grain_storage.specs.declared.row.Row.{Row}
-use Rattle.grain_storage.specs.Rows.{RowFault, stale, spent, version_of, content_or}
-use Rattle.silo_event.specs.declared.fault.Fault.{Fault}
-use Rattle.silo_event.specs.declared.fault.Fault.TheVariants.{StorageFailed, StateChanged, VersionsSpent, NoMemory}
-use Rattle.silo_event.specs.declared.step.Step.{Step}
-use Rattle.silo_event.specs.declared.step.Step.TheVariants.{Store, End, Abandon}
-use Rattle.grain_kinds.specs.Logic.{Logic, Plan, StorageCall, asks_nothing, reads_row, writes_row, clears_row, Keep, same}
-use Rattle.silo_model.specs.Collected.{IsIdle}
-use Rattle.silo_model.specs.Machine.{Entry, Entries, Request, ready}
-use Rattle.silo_model.specs.Effect.{Change, Effect, change_at}
-use Rattle.silo_model.specs.Calls.{reply_to}
-use Rattle.silo_model.specs.Stores.{row_written, row_cleared, version_value}
-use Rattle.silo_model.specs.Turns.{plan_of, closed_entry, outcome_of, ends_activation, row_changed, stored_by, abandoned_entry}
-use Rattle.silo_model.specs.Whole.{Whole, whole_step}
-use Rattle.silo_model.specs.Run.{whole_run}
+use Rattle.finite_maps.proofs.Maps.{get-insert_other}
+use Rattle.silo_model.specs.Stores.{row_cleared}
 use Rattle.silo_model.proofs.Leaving.{stays_or_goes_by}
-use Rattle.silo_model.proofs.TurnSteps.{left_at, closed_at, seen_at, end_turn, end_reads, end_writes, end_clears, store_read, store_changed, store_spent, store_stale, store_failed, abandon_turn}
-use Rattle.answer_model.specs.Answering.{Closing, well, storage_failed, out_of_memory, whole_stepper, ending, closing}
+use Rattle.silo_model.proofs.TurnSteps.{abandon_turn, closed_at, end_clears, end_reads, end_turn, end_writes, left_at, seen_at}
+use Rattle.silo_model.proofs.TurnSteps.{store_changed, store_failed, store_read, store_spent, store_stale}
+use Rattle.answer_model.specs.Answering.{Closing, closing, ending, out_of_memory, storage_failed, well, whole_stepper}
 
 -- nothing changed at other grains
 abbrev pub Elsewhere : Entries → Entries → Grain → Type 0

@@ -1,53 +1,31 @@
 -- Whatever is asked where all is idle, all is idle again, and who asked was answered.
-use Rattle.std.proofs.Common.{◌≡◌, ℕ, zero, suc, Bool, true, false, cond, List, [], ◌∷◌, ◌++◌, Option, Some, None, unwrap_or, refl, ap, sym, ◌∙◌, subst, append_assoc, true≢false, inl, inr}
-use Rattle.std.specs.Prelude.{◌⊎◌, Result, Ok, Err, length}
+use Rattle.silo_model.proofs.Common.{◌++◌, ◌∙◌, ◌∷◌, ◌≡◌, ◌⊎◌, Abandon, Account, Activate, Begin, Bool, Call, Change, Client, Context}
+use Rattle.silo_model.proofs.Common.{Deliver, Effect, End, Entry, Err, Fault, Grain, IsIdle, List, Load, Logic, None, Ok, Option, Party}
+use Rattle.silo_model.proofs.Common.{Poke, Refuse, Reply, Request, Result, Row, RowFault, Send, Setup, Some, Status, Step, Store, Sweep}
+use Rattle.silo_model.proofs.Common.{Tick, Tree, Whole, [], ap, append-nil, append_assoc, asking_of, change_at, cond, context_at, effect_of}
+use Rattle.silo_model.proofs.Common.{eq-eqb, eq_by_cmp, eq_by_cmp-Decides, eqb-true, false, false_from_ne_true, gate, get-insert_same}
+use Rattle.silo_model.proofs.Common.{grain_cmp, grain_cmp_exact, grain_cmp_total, inl, inr, keep, length, nat_cmp, none-some, owner_of}
+use Rattle.silo_model.proofs.Common.{poke_settled, poked, refl, reply_to, row_poked, row_told, same_Some, sends_of, shown_to, spent, spread}
+use Rattle.silo_model.proofs.Common.{stale, subst, suc, sym, told, true, true≢false, unwrap_or, whole_run, whole_step, with_request, zero}
+use Rattle.silo_model.proofs.Common.{ℕ}
 use Rattle.std.specs.FinMap as map
-use Rattle.std.specs.Ordering.{eq_by_cmp, nat_cmp}
-use Rattle.std.proofs.lemmas.List.{append-nil}
-use Rattle.std.proofs.lemmas.Option.{same_Some, none-some}
-use Rattle.std.proofs.lemmas.Bool.{eq-eqb, eqb-true}
-use Rattle.grain_id.specs.Names.{Client, Grain, grain_cmp}
-use Rattle.grain_id.proofs.Order.{eq_by_cmp-Decides, grain_cmp_total, grain_cmp_exact}
-use Rattle.finite_maps.proofs.Maps.{get-insert_same}
-use Rattle.request_codec.specs.Tree.{Tree}
 use Rattle.request_codec.specs.Call as codec
-use Rattle.grain_storage.specs.declared.row.Row.{Row}
-use Rattle.grain_storage.specs.Rows.{RowFault, stale, spent}
-use Rattle.silo_event.specs.Asker.{asking_of}
-use Rattle.silo_event.specs.Owner.{owner_of}
-use Rattle.silo_event.specs.declared.fault.Fault.{Fault}
 use Rattle.silo_event.specs.declared.refusal.Refusal.{Refusal}
-use Rattle.silo_event.specs.declared.reply.Party.{Party}
 use Rattle.silo_event.specs.declared.reply.Party.TheVariants as party
-use Rattle.silo_event.specs.declared.reply.Reply.{Reply}
-use Rattle.silo_event.specs.declared.step.Step.{Step}
-use Rattle.silo_event.specs.declared.step.Step.TheVariants.{Refuse, Call, Poke, Status, Deliver, Activate, Load, Begin, Store, End, Abandon, Tick, Sweep}
-use Rattle.grain_kinds.specs.Logic.{Logic}
-use Rattle.silo_model.specs.Collected.{IsIdle}
-use Rattle.silo_model.specs.Machine.{Account, Entry, Request, Send}
-use Rattle.silo_model.specs.Effect.{Change, Context, Effect, keep, change_at, context_at}
-use Rattle.silo_model.specs.Asks.{poked, poke_settled, row_told}
-use Rattle.silo_model.specs.Calls.{told, reply_to, with_request, gate}
-use Rattle.silo_model.specs.Pending.{sends_of}
-use Rattle.silo_model.specs.Stores.{row_poked}
-use Rattle.silo_model.specs.Step.{effect_of}
-use Rattle.silo_model.specs.Opening.{Setup}
-use Rattle.silo_model.specs.Whole.{Whole, shown_to, spread, whole_step}
-use Rattle.silo_model.specs.Run.{whole_run}
-use Rattle.std.proofs.lemmas.Bool.{false_from_ne_true}
 use Rattle.silo_model.proofs.Contexts.{step_by_context}
 use Rattle.silo_model.proofs.EffectKinds.{asks, role_of}
-use Rattle.silo_model.proofs.Isolation.{place_in, did, shared_by}
+use Rattle.silo_model.proofs.Isolation.{did, place_in, shared_by}
 use Rattle.silo_model.proofs.Runs.{whole_after, whole_run-append}
 use Rattle.silo_model.proofs.SharedSteps.{shared_leaves}
-use Rattle.answer_model.specs.Answering.{Stepper, Luck, first_luck, later_luck, whole_stepper, serving, is_accepted, serving_if, bringing, delivering, deliveries, deliveries_of, is_asked, called_grain, Asked, taken_by, taken, answered}
-use Rattle.answer_model.specs.Idle.{AllIdle, AllToGrains, TellsAsker, AnsweredAtOnce}
+use Rattle.answer_model.specs.Answering.{Asked, Luck, Stepper, answered, bringing, called_grain, deliveries, deliveries_of, delivering}
+use Rattle.answer_model.specs.Answering.{first_luck, is_accepted, is_asked, later_luck, serving, serving_if, taken, taken_by, whole_stepper}
+use Rattle.answer_model.specs.Idle.{AllIdle, AllToGrains, AnsweredAtOnce, TellsAsker}
 use Rattle.answer_model.proofs.Apart.{call_done, owner_failed}
-use Rattle.answer_model.proofs.Brought.{Brings, is_told, waits, brings, more_than_none}
+use Rattle.answer_model.proofs.Brought.{Brings, brings, is_told, more_than_none, waits}
 use Rattle.answer_model.proofs.Closed.{Answers, elsewhere-insert, run_done}
 use Rattle.answer_model.proofs.Raised.{IsAlone, served}
 use Rattle.answer_model.proofs.Reached.{IsReached, run_reached}
-use Rattle.answer_model.proofs.Served.{source_own, target_is, is_delivered}
+use Rattle.answer_model.proofs.Served.{is_delivered, source_own, target_is}
 
 -- what a party is told: something, and a grain perhaps nothing
 abbrev pub IsAbout : Party → List Reply → Type 0

@@ -1,12 +1,7 @@
 -- Steps that are all one tenant's: its own machine takes them all, and no other part changes.
-use Rattle.std.proofs.Common.{◌≡◌, ◌≢◌, ℕ, cond, List, [], ◌∷◌, ◌++◌, Some, refl, ap, sym, ◌∙◌}
-use Rattle.silo_event.specs.Owner.{owner_of}
-use Rattle.silo_event.specs.declared.step.Step.{Step}
-use Rattle.grain_kinds.specs.Logic.{Logic}
-use Rattle.silo_model.specs.Whole.{Whole, shown_to}
-use Rattle.silo_model.specs.Run.{concerns_by, machine_run, restricted_to, whole_run}
-use Rattle.silo_model.specs.Opening.{Setup}
-use Rattle.silo_model.proofs.Contexts.{same_text-itself, same_text-apart}
+use Rattle.silo_model.proofs.Common.{◌++◌, ◌∙◌, ◌∷◌, ◌≡◌, ◌≢◌, List, Logic, Setup, Some, Step, Whole, [], ap, concerns_by, cond}
+use Rattle.silo_model.proofs.Common.{machine_run, owner_of, refl, restricted_to, shown_to, sym, whole_run, ℕ}
+use Rattle.silo_model.proofs.Contexts.{same_text-apart, same_text-itself}
 use Rattle.silo_model.proofs.Journals.{runs_on}
 use Rattle.answer_model.proofs.Reached.{IsReached}
 

@@ -1,31 +1,16 @@
 -- The one request that waits at a grain is served: its grain is brought up, and its turn is opened and closed.
-use Rattle.std.proofs.Common.{◌≡◌, ℕ, ◌+◌, Bool, true, false, List, [], ◌∷◌, ◌++◌, Option, Some, None, unwrap_or, refl, ap, sym, ◌∙◌, subst, inl, inr}
-use Rattle.std.specs.Prelude.{◌⊎◌, Err, flat_map, is_some, if◌then◌else◌}
+use Rattle.silo_model.proofs.Common.{if◌then◌else◌, ◌++◌, ◌+◌, ◌∙◌, ◌∷◌, ◌≡◌, ◌⊎◌, Activate, Begin, Bool, Entry, Err, Grain, List, Load}
+use Rattle.silo_model.proofs.Common.{Logic, None, Option, Phase, Request, Some, Step, StorageFailed, Tree, Whole, [], activated, ap}
+use Rattle.silo_model.proofs.Common.{append-nil, content_or, false, flat_map, get-insert_same, get-none, grain_cmp_exact, grain_cmp_total}
+use Rattle.silo_model.proofs.Common.{inl, inr, is_some, loading, nat_cmp-IsAntisymmetric, nat_cmp_total, ready, refl, reply_to, subst, sym}
+use Rattle.silo_model.proofs.Common.{true, unwrap_or, version_of, waiting, whole_run, whole_step, ℕ}
 use Rattle.std.specs.FinMap as map
-use Rattle.std.specs.FinMap.{nat_cmp-IsAntisymmetric}
-use Rattle.std.specs.Cmp.{nat_cmp_total}
-use Rattle.std.proofs.lemmas.List.{append-nil}
-use Rattle.grain_id.specs.Names.{Grain}
-use Rattle.grain_id.proofs.Order.{grain_cmp_total, grain_cmp_exact}
-use Rattle.finite_maps.proofs.Maps.{get-insert_same}
-use Rattle.request_codec.specs.Tree.{Tree}
-use Rattle.grain_storage.specs.Rows.{version_of, content_or}
-use Rattle.silo_event.specs.declared.fault.Fault.TheVariants.{StorageFailed}
-use Rattle.silo_event.specs.declared.step.Step.{Step}
-use Rattle.silo_event.specs.declared.step.Step.TheVariants.{Activate, Load, Begin}
-use Rattle.grain_kinds.specs.Logic.{Logic}
-use Rattle.silo_model.specs.Machine.{Entry, Request, Phase, waiting, loading, ready}
-use Rattle.silo_model.specs.Calls.{reply_to}
-use Rattle.silo_model.specs.Turns.{activated}
-use Rattle.silo_model.specs.Whole.{Whole, whole_step}
-use Rattle.silo_model.specs.Run.{whole_run}
-use Rattle.finite_maps.proofs.Maps.{get-none}
 use Rattle.finite_maps.proofs.Totals.{total-len}
-use Rattle.silo_model.proofs.EntrySteps.{activate_found, activate_waiting, load_loading, load_fails, begin_first}
+use Rattle.silo_model.proofs.EntrySteps.{activate_found, activate_waiting, begin_first, load_fails, load_loading}
 use Rattle.silo_model.proofs.Fair.{may_open_alone, none_left, one_more}
 use Rattle.silo_model.proofs.Runs.{whole_after, whole_run-append}
-use Rattle.answer_model.specs.Answering.{Luck, raising, closing, turn_of_first, turn_of, turning, serving, whole_stepper}
-use Rattle.answer_model.proofs.Closed.{Elsewhere, elsewhere-insert, Answers, answers_gone, gone, closes, run_done}
+use Rattle.answer_model.specs.Answering.{Luck, closing, raising, serving, turn_of, turn_of_first, turning, whole_stepper}
+use Rattle.answer_model.proofs.Closed.{Answers, Elsewhere, answers_gone, closes, elsewhere-insert, gone, run_done}
 
 -- The request alone waits at the grain, no turn is open, and the entry doesn't load.
 pub record IsAlone (w : Whole) (g : Grain) (q : Request) : Type 0 where

@@ -1,11 +1,6 @@
 -- Wholes that a journal leads to: what holds of these holds of what they are after any steps.
-use Rattle.std.proofs.Common.{◌≡◌, List, [], ◌∷◌, ◌++◌, Option, Some, None, unwrap_or, refl}
-use Rattle.silo_event.specs.declared.step.Step.{Step}
-use Rattle.grain_kinds.specs.Logic.{Logic}
-use Rattle.silo_model.specs.Whole.{Whole, whole_step}
-use Rattle.silo_model.specs.Run.{whole_run}
-use Rattle.silo_model.specs.Opening.{Setup}
-use Rattle.silo_model.specs.Journal.{LeadsTo}
+use Rattle.silo_model.proofs.Common.{◌++◌, ◌∷◌, ◌≡◌, LeadsTo, List, Logic, None, Option, Setup, Some, Step, Whole, [], refl, unwrap_or}
+use Rattle.silo_model.proofs.Common.{whole_run, whole_step}
 use Rattle.silo_model.proofs.Journals.{journals_grow}
 use Rattle.silo_model.proofs.Runs.{whole_after}
 

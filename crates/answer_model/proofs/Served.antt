@@ -1,38 +1,25 @@
 -- The machine of a tenant takes the same steps for what it is asked as the whole does, and each is the tenant's.
-use Rattle.std.proofs.Common.{◌≡◌, ℕ, zero, suc, ◌==◌, Bool, true, false, cond, List, [], ◌∷◌, ◌++◌, Option, Some, None, unwrap_or, refl, ap, sym, ◌∙◌, arith, subst, true≢false}
-use Rattle.std.specs.Prelude.{length, option_map, is_some, if◌then◌else◌}
+use Rattle.silo_model.proofs.Common.{if◌then◌else◌, ◌++◌, ◌==◌, ◌∙◌, ◌∷◌, ◌≡◌, Account, Activate, Begin, Bool, Deliver, End, Entry, Grain}
+use Rattle.silo_model.proofs.Common.{List, Load, Logic, Machine, None, Option, Party, Reply, Request, Send, Setup, Some, Step, Store, Whole}
+use Rattle.silo_model.proofs.Common.{[], ap, arith, cond, delivery_of, eq-eqb, eqb-true, false, first_from, first_target, grain_eq_decides}
+use Rattle.silo_model.proofs.Common.{is_some, length, length-append, machine_run, machine_step, none-some, option_map, owner_of, refl}
+use Rattle.silo_model.proofs.Common.{same_Some, sends_of, shown_to, subst, suc, sym, true, true≢false, unwrap_or, whole_run, whole_step}
+use Rattle.silo_model.proofs.Common.{zero, ℕ}
 use Rattle.std.specs.FinMap as map
-use Rattle.std.proofs.lemmas.List.{length-append}
-use Rattle.std.proofs.lemmas.Option.{same_Some, none-some}
-use Rattle.std.proofs.lemmas.Bool.{eqb-true, eq-eqb}
-use Rattle.grain_id.specs.Names.{Grain}
-use Rattle.grain_id.proofs.Order.{grain_eq_decides}
-use Rattle.silo_event.specs.Owner.{owner_of}
-use Rattle.silo_event.specs.declared.reply.Party.{Party}
 use Rattle.silo_event.specs.declared.reply.Party.TheVariants as party
-use Rattle.silo_event.specs.declared.reply.Reply.{Reply}
-use Rattle.silo_event.specs.declared.step.Step.{Step}
-use Rattle.silo_event.specs.declared.step.Step.TheVariants.{Deliver, Activate, Load, Begin, Store, End}
-use Rattle.grain_kinds.specs.Logic.{Logic}
-use Rattle.silo_model.specs.Machine.{Machine, Account, Entry, Request, Send}
-use Rattle.silo_model.specs.Pending.{sends_of}
-use Rattle.silo_model.specs.Sends.{first_from, first_target}
-use Rattle.silo_model.specs.Todo.{delivery_of}
-use Rattle.silo_model.specs.Step.{machine_step}
-use Rattle.silo_model.specs.Whole.{Whole, shown_to, whole_step}
-use Rattle.silo_model.specs.Run.{machine_run, whole_run}
-use Rattle.silo_model.specs.Opening.{Setup}
 use Rattle.silo_model.proofs.Contexts.{get-own, shown_account}
 use Rattle.silo_model.proofs.EffectKinds.{asks, role_of}
-use Rattle.silo_model.proofs.Isolation.{place_in, owner_not_now}
-use Rattle.silo_model.proofs.Journals.{owners_part, adds_replies}
+use Rattle.silo_model.proofs.Isolation.{owner_not_now, place_in}
+use Rattle.silo_model.proofs.Journals.{adds_replies, owners_part}
 use Rattle.silo_model.proofs.OwnSends.{sends_are_own}
-use Rattle.silo_model.proofs.Runs.{whole_after, machine_after}
+use Rattle.silo_model.proofs.Runs.{machine_after, whole_after}
 use Rattle.silo_model.proofs.SendSteps.{by_called}
-use Rattle.answer_model.specs.Answering.{Stepper, Luck, Closing, well, storage_failed, out_of_memory, first_luck, later_luck, whole_stepper, machine_stepper, run, can, raising, ending, closing, turn_of_first, turn_of, turning, serving, is_accepted, serving_if, bringing, delivering, deliveries}
-use Rattle.answer_model.proofs.Brought.{brings, Waits, it_waits, accepted_waits}
+use Rattle.answer_model.specs.Answering.{Closing, Luck, Stepper, bringing, can, closing, deliveries, delivering, ending, first_luck}
+use Rattle.answer_model.specs.Answering.{is_accepted, later_luck, machine_stepper, out_of_memory, raising, run, serving, serving_if}
+use Rattle.answer_model.specs.Answering.{storage_failed, turn_of, turn_of_first, turning, well, whole_stepper}
+use Rattle.answer_model.proofs.Brought.{Waits, accepted_waits, brings, it_waits}
 use Rattle.answer_model.proofs.Owned.{AllOwned, AllOwned-append, own_run}
-use Rattle.answer_model.proofs.Reached.{IsReached, step_reached, run_reached}
+use Rattle.answer_model.proofs.Reached.{IsReached, run_reached, step_reached}
 
 -- ---- the steps of a request at an own grain
 

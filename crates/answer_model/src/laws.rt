@@ -7,6 +7,7 @@ ghost use Rattle.answer_model.specs.Idle.{AnsweredAtOnce};
 
 /// What a silo that answers each request at once shows to each tenant is what the tenant's own machine
 /// is after what the tenant and nobody asked alone.
+#[tactic(auto, using(crate::proofs::Apart::tenants_apart))]
 pub fn tenants_apart()
     ensures { TenantsApart }
 {}
@@ -19,6 +20,7 @@ pub fn answered_at_once()
 
 /// If the storage didn't fail in anything that was done for what is asked, and no turn was given up, then it is what is
 /// done with good luck: a function of what the silo has and of what is asked.
+#[tactic(auto, using(crate::proofs::Certain::answered_certainly))]
 pub fn answered_certainly()
     ensures { AnsweredCertainly }
 {}
