@@ -1,10 +1,8 @@
 -- Lanes of which no two are of one client, from the last on.
-use Rattle.std.proofs.Common.{◌≡◌, Bool, true, false, List, [], ◌∷◌, Option, refl, ap, sym, ◌∙◌, true≢false}
-use Rattle.std.specs.Prelude.{◌||◌, map as map_list}
-use Rattle.std.specs.List.{AllByRecursion, list_any}
-use Rattle.std.proofs.lemmas.Map.Keys.{IsDistinct-head, IsDistinct-tail, IsDistinct-cons}
-use Rattle.grain_id.specs.Names.{Client}
-use Rattle.lane_model.specs.Lanes.{Lane, AreDistinct, same_lane}
+use Rattle.silo_model.proofs.Common.{◌||◌, ◌∙◌, ◌∷◌, ◌≡◌, AllByRecursion, Bool, Client, List, Option, [], ap, false, list_any, map_list}
+use Rattle.silo_model.proofs.Common.{refl, sym, true, true≢false}
+use Rattle.std.proofs.lemmas.Map.Keys.{IsDistinct-cons, IsDistinct-head, IsDistinct-tail}
+use Rattle.lane_model.specs.Lanes.{AreDistinct, Lane, same_lane}
 
 none_of : (b : Bool) (c : Bool) → b ≡ false → c ≡ false → b || c ≡ false
 none_of b c p q = ap (λ x. x || c) p ∙ q

@@ -1,18 +1,13 @@
 -- Replies, as they are collected by client and given to lanes.
-use Rattle.std.proofs.Common.{◌≡◌, ℕ, Bool, true, false, cond, List, [], ◌∷◌, ◌++◌, Option, Some, None, refl, ap, sym, ◌∙◌, append_assoc}
-use Rattle.std.specs.Prelude.{map as map_list, unwrap_or, option_map, if◌then◌else◌}
+use Rattle.silo_model.proofs.Common.{if◌then◌else◌, ◌++◌, ◌∙◌, ◌∷◌, ◌≡◌, AllByRecursion, Bool, Client, Grain, List, None, Option, Reply}
+use Rattle.silo_model.proofs.Common.{Some, [], ap, append-nil, append_assoc, client_eq, client_eq_decides, cond, false, is_of_client}
+use Rattle.silo_model.proofs.Common.{map_list, option_map, refl, sym, true, unwrap_or, ℕ}
 use Rattle.std.specs.Global.{Vec}
 use Rattle.indexmap.specs.IndexMap.{IndexMap, get}
-use Rattle.std.specs.List.{AllByRecursion}
-use Rattle.std.proofs.lemmas.List.{append-nil}
-use Rattle.grain_id.specs.Names.{Client, Grain, client_eq}
-use Rattle.grain_id.proofs.Order.{client_eq_decides}
 use Rattle.silo_event.specs.declared.reply.Party.TheVariants as party
-use Rattle.silo_event.specs.declared.reply.Reply.{Reply}
-use Rattle.silo_model.specs.Pending.{is_of_client}
 use Rattle.lane_model.specs.Lanes.{Lane, same_lane}
 use Rattle.lane_model.specs.Serving.{replies_to}
-use Rattle.client_lanes.specs.inside.RepliesByClient.{told_to, told_by, only_to}
+use Rattle.client_lanes.specs.inside.RepliesByClient.{only_to, told_by, told_to}
 
 -- ---- by client
 

@@ -1,12 +1,9 @@
 -- Whose lanes are: both tests of them answer alike.
-use Rattle.std.proofs.Common.{◌≡◌, Bool, true, false, Option, Some, None, refl, ap, sym, ◌∙◌, subst, true≢false}
-use Rattle.std.specs.Option.{option_cmp}
-use Rattle.std.specs.Ordering.{eq_by_cmp, is_eq}
-use Rattle.std.specs.Cmp.{Equal-is, tied_itself}
-use Rattle.std.specs.FinMap.{IsAntisymmetric}
-use Rattle.std.proofs.lemmas.Bool.{false_from_ne_true}
-use Rattle.grain_id.specs.Names.{Client, client_cmp, client_eq}
-use Rattle.grain_id.proofs.Order.{client_cmp_total, client_cmp_exact, client_eq_decides}
+use Rattle.silo_model.proofs.Common.{◌∙◌, ◌≡◌, Bool, Client, Equal-is, IsAntisymmetric, None, Option, Some, ap, client_cmp, client_eq}
+use Rattle.silo_model.proofs.Common.{client_eq_decides, eq_by_cmp, false, false_from_ne_true, option_cmp, refl, subst, sym, tied_itself}
+use Rattle.silo_model.proofs.Common.{true, true≢false}
+use Rattle.std.specs.Ordering.{is_eq}
+use Rattle.grain_id.proofs.Order.{client_cmp_exact, client_cmp_total}
 use Rattle.lane_model.specs.Lanes.{same_lane}
 
 pub lanes_exact : IsAntisymmetric (option_cmp client_cmp)

@@ -1,16 +1,16 @@
 -- Entries that are seen by what their values show, as a finite map.
-use Rattle.std.proofs.Common.{◌≡◌, Bool, true, false, ◌&&◌, cond, List, [], ◌∷◌, Option, Some, refl, ap, sym, subst, ◌∙◌}
-use Rattle.std.specs.Prelude.{All, map as map_list, option_map, IfSome, IsTrue}
-use Rattle.std.specs.declared.cmp.Ordering.{Ordering}
-use Rattle.std.specs.Ordering.{eq_by_cmp}
-use Rattle.std.specs.Cmp.{IsEquivalence, IsTotalOrder, eq_by_cmp_equiv}
-use Rattle.std.specs.List.{AllByRecursion, AllPass, IsDistinct, list_all}
+use Rattle.silo_model.proofs.Common.{◌&&◌, ◌∙◌, ◌∷◌, ◌≡◌, AllByRecursion, Bool, FinMap, IsAntisymmetric, IsTotalOrder, List, Option}
+use Rattle.silo_model.proofs.Common.{Ordering, Some, [], ap, cond, eq_by_cmp, false, found_passes, list_all, map_list, option_map, refl}
+use Rattle.silo_model.proofs.Common.{subst, sym, true}
+use Rattle.std.specs.Prelude.{IfSome, IsTrue}
+use Rattle.std.specs.Cmp.{IsEquivalence, eq_by_cmp_equiv}
+use Rattle.std.specs.List.{IsDistinct}
 use Rattle.std.specs.Map.{keys_of, lookup, values_of}
 use Rattle.std.specs.FinMap as finite
-use Rattle.std.specs.FinMap.{FinMap, IsAntisymmetric, find, from_entries}
+use Rattle.std.specs.FinMap.{find, from_entries}
 use Rattle.std.proofs.lemmas.List.Sums.{AllPass-from_list_all, list_all-from_AllPass}
 use Rattle.std.proofs.lemmas.Map.Views.{All-values_from_lookup, IfSome-lookup_from_All}
-use Rattle.finite_maps.proofs.Values.{found_passes, found_entries}
+use Rattle.finite_maps.proofs.Values.{found_entries}
 
 -- one of two, seen
 seen_choice : {V W : Type 0} (f : V → W) (b : Bool) (x y : Option V) → option_map f (cond b x y) ≡ cond b (option_map f x) (option_map f y)

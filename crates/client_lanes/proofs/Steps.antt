@@ -1,16 +1,14 @@
 -- The pass over a journal, step by step.
-use Rattle.std.proofs.Common.{◌≡◌, ◌<◌, ℕ, zero, suc, Bool, true, false, cond, List, [], ◌∷◌, length, drop, slice_index_or, Option, Some, None, is_some, refl, ap, sym, ◌∙◌, arith, true≢false}
-use Rattle.std.specs.Prelude.{option_map, option_and_then, map as map_list}
-use Rattle.std.specs.Borrow.{Bor}
+use Rattle.silo_model.proofs.Common.{◌<◌, ◌∙◌, ◌∷◌, ◌≡◌, Bool, Bor, Client, List, None, Option, Some, Step, [], ap, arith, as_failed, cond}
+use Rattle.silo_model.proofs.Common.{false, false_from_ne_true, is_some, length, map_list, option_and_then, option_map, refl, suc, sym}
+use Rattle.silo_model.proofs.Common.{true, true≢false, zero, ℕ}
+use Rattle.std.proofs.Common.{drop, slice_index_or}
 use Rattle.std.specs.FinMap as finite
-use Rattle.std.proofs.lemmas.Bool.{false_from_ne_true}
-use Rattle.grain_id.specs.Names.{Client}
-use Rattle.silo_event.specs.Failed.{as_failed}
-use Rattle.silo_event.specs.declared.step.Step.{Step}
-use Rattle.lane_model.specs.Lanes.{Lane, AreDistinct, LanesStand, Remaining, TellsApart, is_used_up, others_after, remaining_after, remaining_at_end, remaining_of}
+use Rattle.lane_model.specs.Lanes.{AreDistinct, Lane, LanesStand, Remaining, TellsApart, is_used_up, others_after, remaining_after}
+use Rattle.lane_model.specs.Lanes.{remaining_at_end, remaining_of}
 use Rattle.lane_model.proofs.ToldApart.{steps_told_apart}
 use Rattle.lane_model.proofs.PassOfLanes.{pass_decides}
-use Rattle.client_lanes.specs.inside.Passing.{Takes, Passes}
+use Rattle.client_lanes.specs.inside.Passing.{Passes, Takes}
 
 module _ (remaining after : Remaining) (k : Option Client) (s : Step) where
   -- what is left after the step, by what was left of its lane

@@ -1,8 +1,5 @@
 -- Whether steps wait anywhere.
-use Rattle.std.proofs.Common.{◌≡◌, suc, List, [], ◌∷◌, length, refl, ap}
-use Rattle.std.specs.Prelude.{map as map_list}
-use Rattle.std.specs.Borrow.{Bor}
-use Rattle.silo_event.specs.declared.step.Step.{Step}
+use Rattle.silo_model.proofs.Common.{◌∷◌, ◌≡◌, Bor, List, Step, [], ap, length, map_list, refl, suc}
 
 -- as many are shown as wait
 pub same_length : (waiting : List (Bor Step)) → length waiting ≡ length (map_list (λ s. s.now) waiting)

@@ -1,4 +1,4 @@
-use Rattle.std.proofs.Common.{◌++◌, List, [], ◌∷◌, ap, ◌∙◌, append_assoc}
+use Rattle.silo_model.proofs.Common.{◌++◌, ◌∙◌, ◌∷◌, List, [], ap, append_assoc}
 use Rattle.std.specs.FinMap as finite
 use Rattle.lane_model.specs.Lanes.{Lane}
 use Rattle.lane_model.proofs.Pass.{lanes_total}

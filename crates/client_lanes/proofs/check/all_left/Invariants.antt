@@ -1,4 +1,4 @@
-use Rattle.std.proofs.Common.{◌≡◌, ◌++◌, List, length}
+use Rattle.silo_model.proofs.Common.{◌++◌, ◌≡◌, List, length}
 use Rattle.lane_model.specs.Lanes.{Lane, remaining_of}
 use Rattle.client_lanes.specs.inside.Passing.{left_in}
 use Rattle.client_lanes.proofs.check.all_left.Given as goal

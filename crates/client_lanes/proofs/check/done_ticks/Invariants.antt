@@ -1,5 +1,4 @@
-use Rattle.std.proofs.Common.{◌≡◌, ◌++◌, length}
-use Rattle.std.specs.Prelude.{map as map_list}
+use Rattle.silo_model.proofs.Common.{◌++◌, ◌≡◌, length, map_list}
 use Rattle.lane_model.specs.Lanes.{without_ticks_below}
 use Rattle.client_lanes.proofs.check.done_ticks.Given as goal
 

@@ -1,4 +1,4 @@
-use Rattle.std.proofs.Common.{◌≡◌, ◌+◌, ◌≤◌, length}
+use Rattle.silo_model.proofs.Common.{◌+◌, ◌≡◌, ◌≤◌, length}
 use Rattle.std.specs.Prelude.{count_by}
 use Rattle.lane_model.specs.Lanes.{has_failed}
 use Rattle.client_lanes.proofs.check.failed_in.Given as goal

@@ -1,11 +1,7 @@
-use Rattle.std.proofs.Common.{List, ap, ◌∙◌}
-use Rattle.std.specs.Prelude.{◌==◌, length}
-use Rattle.std.specs.List.{list_all}
+use Rattle.silo_model.proofs.Common.{◌==◌, ◌∙◌, Bor, List, Step, length, list_all}
 use Rattle.std.specs.declared.collections.VecDeque.{VecDeque}
-use Rattle.std.specs.Borrow.{Bor}
 use Rattle.std.specs.Global.{Global}
 use Rattle.indexmap.specs.IndexMap.{values}
-use Rattle.silo_event.specs.declared.step.Step.{Step}
 use Rattle.lane_model.proofs.Pass.{lanes_total}
 use Rattle.client_lanes.specs.inside.Passing.{steps_at}
 use Rattle.client_lanes.proofs.Keys.{lane_tests, lanes_exact}

@@ -1,7 +1,7 @@
-use Rattle.std.proofs.Common.{Some, None, ap, sym, subst, ◌∙◌}
+use Rattle.silo_model.proofs.Common.{◌∙◌, None, Some, ap, subst, sym}
 use Rattle.lane_model.specs.Lanes.{remaining_at_end}
 use Rattle.client_lanes.specs.inside.Passing.{Passes, left_in}
-use Rattle.client_lanes.proofs.Steps.{goes_on, stops, told_by_end, no_more}
+use Rattle.client_lanes.proofs.Steps.{goes_on, no_more, stops, told_by_end}
 use Rattle.client_lanes.proofs.check.lanes_stand.Goals as goal
 
 pub steps-init : goal.steps-init

@@ -1,5 +1,4 @@
-use Rattle.std.proofs.Common.{◌≡◌, Bool, length}
-use Rattle.silo_event.specs.declared.step.Step.{Step}
+use Rattle.silo_model.proofs.Common.{◌≡◌, Bool, Step, length}
 use Rattle.lane_model.specs.Lanes.{TellsApart, remaining_at_end, remaining_of}
 use Rattle.client_lanes.specs.inside.Passing.{left_in}
 use Rattle.client_lanes.proofs.check.lanes_stand.Given as goal

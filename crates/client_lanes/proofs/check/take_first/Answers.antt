@@ -1,13 +1,11 @@
-use Rattle.std.proofs.Common.{List, drop, Some, refl, ap, sym, ◌∙◌, true≢false}
-use Rattle.std.specs.Prelude.{option_map, map as map_list}
-use Rattle.std.specs.Borrow.{Bor}
+use Rattle.silo_model.proofs.Common.{◌∙◌, Bor, List, Some, Step, ap, map_list, option_map, refl, sym, true≢false}
+use Rattle.std.proofs.Common.{drop}
 use Rattle.std.specs.FinMap as finite
-use Rattle.silo_event.specs.declared.step.Step.{Step}
 use Rattle.lane_model.proofs.Pass.{lanes_total}
 use Rattle.client_lanes.specs.inside.Passing.{left_in, steps_at}
 use Rattle.client_lanes.proofs.Keys.{lane_tests, lanes_exact}
 use Rattle.client_lanes.proofs.Shown.{get-shown, shown-insert}
-use Rattle.client_lanes.proofs.Steps.{no_lane, no_step, other_step, next_step, first_of, none_of, empty_of, some_there}
+use Rattle.client_lanes.proofs.Steps.{empty_of, first_of, next_step, no_lane, no_step, none_of, other_step, some_there}
 use Rattle.client_lanes.proofs.check.take_first.Goals as goal
 
 pub returns-in_default : goal.returns-in_default

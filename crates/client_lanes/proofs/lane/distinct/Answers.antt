@@ -1,7 +1,7 @@
-use Rattle.std.proofs.Common.{refl, ap, sym, subst, ◌∙◌, true≢false}
-use Rattle.std.specs.List.{IsDistinct, list_any}
-use Rattle.lane_model.specs.Lanes.{Lane, AreDistinct, same_lane}
-use Rattle.client_lanes.proofs.Apart.{repeats, one_more, others_distinct}
+use Rattle.silo_model.proofs.Common.{◌∙◌, ap, list_any, refl, subst, sym, true≢false}
+use Rattle.std.specs.List.{IsDistinct}
+use Rattle.lane_model.specs.Lanes.{AreDistinct, Lane, same_lane}
+use Rattle.client_lanes.proofs.Apart.{one_more, others_distinct, repeats}
 use Rattle.client_lanes.proofs.Steps.{no_more}
 use Rattle.client_lanes.proofs.lane.distinct.Goals as goal
 

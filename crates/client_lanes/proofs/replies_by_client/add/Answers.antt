@@ -1,9 +1,5 @@
-use Rattle.std.proofs.Common.{◌≡◌, ◌++◌, cond, [], ◌∷◌, Some, refl, ap, sym, subst, ◌∙◌}
-use Rattle.std.specs.Prelude.{unwrap_or, option_map}
-use Rattle.std.specs.Global.{Vec}
-use Rattle.indexmap.specs.IndexMap.{IndexMap, get}
-use Rattle.grain_id.specs.Names.{Client, client_eq}
-use Rattle.silo_event.specs.declared.reply.Reply.{Reply}
+use Rattle.silo_model.proofs.Common.{◌++◌, ◌∙◌, ◌∷◌, ◌≡◌, Client, Some, [], ap, client_eq, cond, option_map, refl, subst, sym, unwrap_or}
+use Rattle.indexmap.specs.IndexMap.{get}
 use Rattle.client_lanes.proofs.Collected.{told_more}
 use Rattle.client_lanes.proofs.replies_by_client.add.Goals as goal
 

@@ -1,11 +1,9 @@
-use Rattle.std.proofs.Common.{◌≡◌, ◌++◌, false, Some, ap, subst, ◌∙◌}
-use Rattle.std.specs.Prelude.{map as map_list}
-use Rattle.grain_id.specs.Names.{Client}
-use Rattle.lane_model.specs.Lanes.{Lane, AreDistinct, same_lane}
+use Rattle.silo_model.proofs.Common.{◌++◌, ◌∙◌, ◌≡◌, Client, Some, ap, false, map_list, subst}
+use Rattle.lane_model.specs.Lanes.{AreDistinct, Lane, same_lane}
 use Rattle.lane_model.specs.Serving.{replies_to}
-use Rattle.client_lanes.specs.inside.RepliesByClient.{told_to, told_by}
+use Rattle.client_lanes.specs.inside.RepliesByClient.{told_by, told_to}
 use Rattle.client_lanes.proofs.Apart.{heads_apart, others_distinct}
-use Rattle.client_lanes.proofs.Collected.{EachHas, each_has, others_have, answered_more}
+use Rattle.client_lanes.proofs.Collected.{EachHas, answered_more, each_has, others_have}
 use Rattle.client_lanes.proofs.replies_by_client.answers.Goals as goal
 
 pub lanes-init : goal.lanes-init

@@ -1,5 +1,4 @@
-use Rattle.std.proofs.Common.{◌≡◌, ◌++◌, length}
-use Rattle.std.specs.Prelude.{map as map_list}
+use Rattle.silo_model.proofs.Common.{◌++◌, ◌≡◌, length, map_list}
 use Rattle.lane_model.specs.Lanes.{AreDistinct}
 use Rattle.lane_model.specs.Serving.{replies_to}
 use Rattle.client_lanes.proofs.Collected.{EachHas}

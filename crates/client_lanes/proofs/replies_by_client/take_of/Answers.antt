@@ -1,5 +1,4 @@
-use Rattle.std.proofs.Common.{[], Some, ap, sym, ◌∙◌}
-use Rattle.std.specs.Prelude.{unwrap_or, option_map}
+use Rattle.silo_model.proofs.Common.{◌∙◌, Some, [], ap, option_map, sym, unwrap_or}
 use Rattle.lane_model.specs.Lanes.{same_lane}
 use Rattle.client_lanes.proofs.replies_by_client.take_of.Goals as goal
 

@@ -1,5 +1,4 @@
-use Rattle.std.proofs.Common.{◌≡◌, ◌++◌, Some, length}
-use Rattle.grain_id.specs.Names.{Client}
+use Rattle.silo_model.proofs.Common.{◌++◌, ◌≡◌, Client, Some, length}
 use Rattle.lane_model.specs.Serving.{replies_to}
 use Rattle.client_lanes.specs.inside.RepliesByClient.{told_to}
 use Rattle.client_lanes.proofs.replies_by_client.told_by_client.Given as goal

@@ -1,7 +1,6 @@
-use Rattle.std.proofs.Common.{◌≡◌, true, sym, subst, ◌∙◌}
+use Rattle.silo_model.proofs.Common.{◌∙◌, ◌≡◌, Step, subst, sym, true}
 use Rattle.std.specs.List.{All}
 use Rattle.std.proofs.lemmas.List.Elements.{All-push}
-use Rattle.silo_event.specs.declared.step.Step.{Step}
 use Rattle.lane_model.specs.Lanes.{may_give}
 use Rattle.client_lanes.proofs.lane.Lane.push.Goals as goal
 
