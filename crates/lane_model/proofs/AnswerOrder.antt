@@ -1,21 +1,23 @@
 -- In a paced journal each client is answered in the order in which it asked.
-use Rattle.silo_model.proofs.Common.{◌++◌, ◌+◌, ◌∙◌, ◌∷◌, ◌≡◌, ◌≤◌, Bool, Client, List, Logic, Machine, None, Option, Party}
-use Rattle.silo_model.proofs.Common.{ReadersAskNothing, Reply, Setup, Some, Step, Whole, [], and_parts, ap, append-nil, append_assoc, arith}
-use Rattle.silo_model.proofs.Common.{client_eq, client_eq_decides, concerns, cond, false, filter, has_pending, is_to, machine_run}
-use Rattle.silo_model.proofs.Common.{machine_step, not-true, option_map, refl, restricted_to, same_text, same_text_decides, shown_to}
-use Rattle.silo_model.proofs.Common.{start_of, subst, sum_by, sum_by-append, sum_by-cons, sym, tenant_of, true, true≢false, unwrap_or, ℕ}
+use Rattle.silo_model.proofs.Common.{◌++◌, ◌+◌, ◌∙◌, ◌∷◌, ◌≡◌, ◌≤◌, Bool, Client, List, Logic, Machine, Party, ReadersAskNothing, Reply}
+use Rattle.silo_model.proofs.Common.{Setup, Some, Step, Whole, [], and_parts, ap, append-nil, append_assoc, arith, client_eq}
+use Rattle.silo_model.proofs.Common.{client_eq_decides, concerns, cond, false, filter, has_pending, is_to, machine_run, machine_step}
+use Rattle.silo_model.proofs.Common.{not-true, option_map, refl, restricted_to, same_text, shown_to, start_of, subst, sum_by, sum_by-append}
+use Rattle.silo_model.proofs.Common.{sum_by-cons, sym, tenant_of, true, unwrap_or, ℕ}
 use Rattle.std.proofs.lemmas.List.Elements.{filter-append}
 use Rattle.std.proofs.lemmas.List.{append_assoc}
 use Rattle.std.proofs.lemmas.Grind.{flat_map-append}
 use Rattle.silo_event.specs.declared.reply.Party.TheVariants as party
-use Rattle.silo_model.proofs.Runs.{machine_after}
+use Rattle.silo_model.proofs.Runs.{machine_after, run_by-append}
+use Rattle.silo_model.proofs.Tests.{either_way, on_found, on_test}
+use Rattle.lane_model.proofs.Askers.{apart_asks_nothing, asked_weight, clients_apart, is_front, no_number, none_pending, told_weight, weigh}
+use Rattle.lane_model.proofs.Askers.{weigh_quiet}
 use Rattle.silo_model.proofs.Fair.{pend}
 use Rattle.silo_model.proofs.Moves.{sent}
 use Rattle.silo_model.proofs.StepMoves.{IsFairMachine, MachineMoves, machine_moves}
 use Rattle.silo_model.proofs.FairRuns.{asks_always, run_fair, start_balance, start_fair}
 use Rattle.lane_model.specs.Asking.{asker_of, asking_of, id_asked, id_of, ids_asked, ids_told}
 use Rattle.lane_model.specs.Pacing.{AnsweredInOrder, is_paced, machine_of, may_ask, paced_from}
-use Rattle.lane_model.proofs.Askers.{apart_asks_nothing, asked_weight, is_front, no_number, none_pending, told_weight, weigh, weigh_quiet}
 use Rattle.lane_model.proofs.Filtered.{flat_map-filter}
 use Rattle.lane_model.proofs.PacedGrowth.{part_is_run}
 
@@ -48,18 +50,19 @@ module _ (logic : Logic) (law : ReadersAskNothing logic) (client : Client) (step
   none_owed : has_pending client m ≡ false → sum_by (λ x. 1) old.owed ≡ 0
   none_owed none = sym (old.weighs (λ x. 1)) ∙ none_pending client (λ x. 1) m none
 
-  short_if : (asking : Client × ℕ) → asking_of s ≡ Some asking → (b : Bool) → client_eq asking.0 client ≡ b → sum_by (λ x. 1) old.owed + sum_by (λ x. 1) (cond b (asking.1 ∷ []) []) ≤ 1
-  short_if asking is true same =
-      let asker : asker_of s ≡ Some client = ap (option_map (λ (a : Client × ℕ). a.0)) is ∙ ap Some ((client_eq_decides asking.0 client).0 same) in
-      omega (arith, none_owed (paced asker), sum_by-cons (λ x. 1) asking.1 [])
-  short_if asking is false same = omega (arith, old.short)
-
-  short_by : (o : Option (Client × ℕ)) → asking_of s ≡ o → sum_by (λ x. 1) old.owed + sum_by (λ x. 1) (id_asked client o) ≤ 1
-  short_by None is = omega (arith, old.short)
-  short_by (Some asking) is = short_if asking is (client_eq asking.0 client) refl
+  short_by : sum_by (λ x. 1) old.owed + sum_by (λ x. 1) asks ≤ 1
+  short_by =
+      on_found (λ o. sum_by (λ x. 1) old.owed + sum_by (λ x. 1) (id_asked client o) ≤ 1) (asking_of s) (λ _. omega (arith, old.short))
+      (λ asking is.
+      on_test (λ b. sum_by (λ x. 1) old.owed + sum_by (λ x. 1) (cond b (asking.1 ∷ []) []) ≤ 1) (client_eq asking.0 client)
+      (λ same.
+      let asker : asker_of s ≡ Some client =
+      ap (option_map (λ (a : Client × ℕ). a.0)) is ∙ ap Some ((client_eq_decides asking.0 client).0 same) in
+      omega (arith, none_owed (paced asker), sum_by-cons (λ x. 1) asking.1 []))
+      (λ _. omega (arith, old.short)))
 
   short_then : sum_by (λ x. 1) (old.owed ++ asks) ≤ 1
-  short_then = omega (arith, short_by (asking_of s) refl, sum_by-append (λ x. 1) old.owed asks)
+  short_then = omega (arith, short_by, sum_by-append (λ x. 1) old.owed asks)
 
   module _ (new : Machine) (is : machine_step logic m s ≡ Some new) where
     moves : MachineMoves logic m s new
@@ -100,44 +103,44 @@ module _ (logic : Logic) (law : ReadersAskNothing logic) (client : Client) (step
           weighs = λ f. omega (arith, weights f, ap (sum_by f) front.1, sum_by-append f told front.0);
         }
 
-  owed_after : (r : Option Machine) → machine_step logic m s ≡ r → Owed client (steps ++ s ∷ []) (unwrap_or r m)
-  owed_after None is = owed_still client steps m s (ap (id_asked client) (asks_always logic m s is)) old
-  owed_after (Some new) is = owed_next new is
+  owed_after : Owed client (steps ++ s ∷ []) (machine_after logic m s)
+  owed_after =
+      on_found (λ r. Owed client (steps ++ s ∷ []) (unwrap_or r m)) (machine_step logic m s)
+      (λ is. owed_still client steps m s (ap (id_asked client) (asks_always logic m s is)) old) owed_next
 
 -- ---- a paced journal
-
-run_more : (logic : Logic) (m : Machine) (steps : List Step) (s : Step) → machine_run logic m (steps ++ s ∷ []) ≡ machine_after logic (machine_run logic m steps) s
-run_more logic m [] s = refl
-run_more logic m (r ∷ steps) s = run_more logic (machine_after logic m r) steps s
 
 module _ (logic : Logic) (law : ReadersAskNothing logic) (setup : Setup) (client : Client) where
   abbrev at_client : List Step → Machine
   at_client steps = machine_of logic setup steps client
 
+  abbrev start : Machine
+  start = start_of setup client.tenant
+
+  abbrev struck : List Step → List Step
+  struck steps = restricted_to client.tenant steps
+
   at_more : (steps : List Step) (s : Step) (b : Bool) → concerns client.tenant s ≡ b → at_client (steps ++ s ∷ []) ≡ cond b (machine_after logic (at_client steps) s) (at_client steps)
   at_more steps s b is =
-      ap (machine_run logic (start_of setup client.tenant)) (filter-append (concerns client.tenant) steps (s ∷ []) ∙ ap (λ x. restricted_to client.tenant steps ++ cond x (s ∷ []) []) is)
-      ∙ by_concern b
-    where
-      by_concern : (x : Bool) → machine_run logic (start_of setup client.tenant) (restricted_to client.tenant steps ++ cond x (s ∷ []) []) ≡ cond x (machine_after logic (at_client steps) s) (at_client steps)
-      by_concern true = run_more logic (start_of setup client.tenant) (restricted_to client.tenant steps) s
-      by_concern false = ap (machine_run logic (start_of setup client.tenant)) (append-nil (restricted_to client.tenant steps))
+      ap (machine_run logic start) (filter-append (concerns client.tenant) steps (s ∷ []) ∙ ap (λ x. struck steps ++ cond x (s ∷ []) []) is)
+      ∙ on_test (λ x. machine_run logic start (struck steps ++ cond x (s ∷ []) []) ≡ cond x (machine_after logic (at_client steps) s) (at_client steps))
+      b (λ _. run_by-append (machine_step logic) start (struck steps) (s ∷ [])) (λ _. ap (machine_run logic start) (append-nil (struck steps)))
 
   at_fair : (steps : List Step) → IsFairMachine logic (at_client steps)
-  at_fair steps = run_fair logic law (start_of setup client.tenant) (restricted_to client.tenant steps) (start_fair logic setup client.tenant)
+  at_fair steps = run_fair logic law start (struck steps) (start_fair logic setup client.tenant)
 
   none_before : (steps : List Step) (s : Step) → may_ask (machine_of logic setup steps) (asker_of s) ≡ true → asker_of s ≡ Some client → has_pending client (at_client steps) ≡ false
   none_before steps s may is = not-true _ (ap (may_ask (machine_of logic setup steps)) (sym is) ∙ may)
 
   owed_more : (steps : List Step) (s : Step) → may_ask (machine_of logic setup steps) (asker_of s) ≡ true → Owed client steps (at_client steps) → Owed client (steps ++ s ∷ []) (at_client (steps ++ s ∷ []))
-  owed_more steps s may old = by_concern (concerns client.tenant s) refl
-    where
-      by_concern : (b : Bool) → concerns client.tenant s ≡ b → Owed client (steps ++ s ∷ []) (at_client (steps ++ s ∷ []))
-      by_concern true is =
-          subst (Owed client (steps ++ s ∷ [])) (sym (at_more steps s true is))
-          (owed_after logic law client steps (at_client steps) s (at_fair steps) old (none_before steps s may) (machine_step logic (at_client steps) s) refl)
-      by_concern false is =
-          subst (Owed client (steps ++ s ∷ [])) (sym (at_more steps s false is)) (owed_still client steps (at_client steps) s (apart_asks_nothing client s is) old)
+  owed_more steps s may old =
+      either_way (concerns client.tenant s)
+      (λ is.
+      subst (Owed client (steps ++ s ∷ [])) (sym (at_more steps s true is))
+      (owed_after logic law client steps (at_client steps) s (at_fair steps) old (none_before steps s may)))
+      (λ is.
+      subst (Owed client (steps ++ s ∷ [])) (sym (at_more steps s false is))
+      (owed_still client steps (at_client steps) s (apart_asks_nothing client s is) old))
 
   owed_from : (before steps : List Step) → paced_from logic setup before steps ≡ true → Owed client before (at_client before) → Owed client (before ++ steps) (at_client (before ++ steps))
   owed_from before [] paced old = subst (λ xs. Owed client xs (at_client xs)) (sym (append-nil before)) old
@@ -162,11 +165,7 @@ module _ (logic : Logic) (law : ReadersAskNothing logic) (setup : Setup) (client
 -- a client's replies are all shown to its tenant
 told_apart : (client : Client) (p : Party) → same_text (tenant_of p) client.tenant ≡ false → id_of client p ≡ []
 told_apart client (party.Grain grain) apart = refl
-told_apart client (party.Client caller id) apart = by_client (client_eq caller client) refl
-  where
-    by_client : (b : Bool) → client_eq caller client ≡ b → cond b (id ∷ []) [] ≡ []
-    by_client true same = absurd (true≢false (sym ((same_text_decides caller.tenant client.tenant).1 (ap (λ (c : Client). c.tenant) ((client_eq_decides caller client).0 same))) ∙ apart))
-    by_client false same = refl
+told_apart client (party.Client caller id) apart = ap (λ b. cond b (id ∷ []) []) (clients_apart caller client apart)
 
 pub told_shown : (client : Client) (replies : List Reply) → ids_told client (filter (is_to client.tenant) replies) ≡ ids_told client replies
 told_shown client replies = flat_map-filter (λ r. id_of client r.recipient) (is_to client.tenant) replies (λ r. told_apart client r.recipient)

@@ -1,13 +1,14 @@
 -- What a client asked, what it was told, and what of it still waits or is open.
-use Rattle.silo_model.proofs.Common.{◌++◌, ◌+◌, ◌∙◌, ◌∷◌, ◌≡◌, ◌≤◌, Bool, Call, Client, List, Machine, None, Option, Party, Poke, Refuse}
-use Rattle.silo_model.proofs.Common.{Reply, Request, Some, Status, Step, Sweep, [], all_pending, ap, arith, client_eq, client_eq_decides}
-use Rattle.silo_model.proofs.Common.{concerns, concerns_by, cond, eq-eqb, eqb-true, false, has_pending, is_of_client, list_any, nat_eq}
-use Rattle.silo_model.proofs.Common.{none-some, not, or_parts, owner_of, refl, same_Some, same_text_decides, sum_by, sum_by-cons, sum_flat}
-use Rattle.silo_model.proofs.Common.{sym, true, true≢false, ℕ}
+use Rattle.silo_model.proofs.Common.{◌++◌, ◌+◌, ◌∙◌, ◌∷◌, ◌≡◌, ◌≤◌, Bool, Call, Client, List, Machine, Party, Poke, Refuse, Reply, Request}
+use Rattle.silo_model.proofs.Common.{Some, Status, Step, Sweep, [], all_pending, ap, arith, client_eq, client_eq_decides, concerns}
+use Rattle.silo_model.proofs.Common.{concerns_by, cond, eq-eqb, eqb-true, false, false_from_ne_true, has_pending, is_of_client, list_any}
+use Rattle.silo_model.proofs.Common.{nat_eq, none-some, not, or_parts, owner_of, refl, same_Some, same_text, same_text_decides, sum_by}
+use Rattle.silo_model.proofs.Common.{sum_by-cons, sum_flat, sym, true, true≢false, ℕ}
 use Rattle.silo_event.specs.declared.reply.Party.TheVariants as party
 use Rattle.silo_model.proofs.Fair.{one_if, pend}
 use Rattle.silo_model.proofs.Moves.{Quiet, asked_by, replied, sent}
 use Rattle.silo_model.proofs.FairRuns.{pending_weight}
+use Rattle.silo_model.proofs.Tests.{on_found}
 use Rattle.lane_model.specs.Asking.{asking_of, id_asked, id_of, ids_told}
 
 -- ---- the weight of a client's numbers
@@ -73,21 +74,16 @@ asks_own (Poke failed c n grain state) caller id is = ap (λ (a : Client × ℕ)
 asks_own (Status c n) caller id is = ap (λ (a : Client × ℕ). Some a.0.tenant) (same_Some _ _ is)
 asks_own _ caller id is = absurd (none-some (caller, id) is)
 
+-- a client of another tenant is another
+pub clients_apart : (caller client : Client) → same_text caller.tenant client.tenant ≡ false → client_eq caller client ≡ false
+clients_apart caller client apart =
+    false_from_ne_true (client_eq caller client) (λ same.
+    let own : caller.tenant ≡ client.tenant = ap (λ (c : Client). c.tenant) ((client_eq_decides caller client).0 same) in
+    true≢false (sym ((same_text_decides caller.tenant client.tenant).1 own) ∙ apart))
+
 -- a step that doesn't concern its tenant isn't the client's
 pub apart_asks_nothing : (client : Client) (s : Step) → concerns client.tenant s ≡ false → id_asked client (asking_of s) ≡ []
-apart_asks_nothing client s apart = by_asking (asking_of s) refl
-  where
-    own_asks : (caller : Client) (id : ℕ) → asking_of s ≡ Some (caller, id) → caller ≡ client → ⊥
-    own_asks caller id is same =
-        true≢false
-        (sym ((same_text_decides caller.tenant client.tenant).1 (ap (λ (c : Client). c.tenant) same))
-        ∙ ap (concerns_by client.tenant) (sym (asks_own s caller id is))
-        ∙ apart)
-
-    by_client : (caller : Client) (id : ℕ) → asking_of s ≡ Some (caller, id) → (b : Bool) → client_eq caller client ≡ b → cond b (id ∷ []) [] ≡ []
-    by_client caller id is true same = absurd (own_asks caller id is ((client_eq_decides caller client).0 same))
-    by_client caller id is false same = refl
-
-    by_asking : (o : Option (Client × ℕ)) → asking_of s ≡ o → id_asked client o ≡ []
-    by_asking None is = refl
-    by_asking (Some asking) is = by_client asking.0 asking.1 is (client_eq asking.0 client) refl
+apart_asks_nothing client s apart =
+    on_found (λ o. id_asked client o ≡ []) (asking_of s) (λ _. refl) (λ asking is.
+    ap (λ b. cond b (asking.1 ∷ []) [])
+    (clients_apart asking.0 client (ap (concerns_by client.tenant) (sym (asks_own s asking.0 asking.1 is)) ∙ apart)))

@@ -10,6 +10,7 @@ use Rattle.grain_id.proofs.Keys.{grains}
 use Rattle.finite_maps.proofs.Entries.{ties_turned}
 use Rattle.silo_model.proofs.Opening.{get-fresh_accounts}
 use Rattle.silo_model.proofs.Changes.{get-change_other}
+use Rattle.silo_model.proofs.Tests.{on_found, on_test}
 use Rattle.silo_model.proofs.SharedSteps.{shared_leaves}
 use Rattle.silo_model.proofs.Isolation.{did, place_in, shared_by}
 use Rattle.silo_model.specs.Todo.{work_on}
@@ -39,11 +40,9 @@ was_there logic w after s g (Some owner) is step apart e found =
 
 work_stays : (logic : Logic) (w after : Whole) (s : Step) (g : Grain) → whole_step logic w s ≡ Some after → is_among (grain_changed_by w s) g ≡ false → is_some (work_on logic g (map.get after.entries g)) ≡ true
     → work_on logic g (map.get w.entries g) ≡ work_on logic g (map.get after.entries g)
-work_stays logic w after s g step apart some = by_entry (map.get after.entries g) refl some
-  where
-    by_entry : (o : Option Entry) → map.get after.entries g ≡ o → is_some (work_on logic g o) ≡ true → work_on logic g (map.get w.entries g) ≡ work_on logic g (map.get after.entries g)
-    by_entry None is h = absurd (true≢false (sym h))
-    by_entry (Some e) is h = ap (work_on logic g) (was_there logic w after s g (owner_of s) refl step apart e is ∙ sym is)
+work_stays logic w after s g step apart =
+    on_found (λ o. is_some (work_on logic g o) ≡ true → work_on logic g (map.get w.entries g) ≡ work_on logic g o) (map.get after.entries g)
+    (λ _ h. absurd (true≢false (sym h))) (λ e is _. ap (work_on logic g) (was_there logic w after s g (owner_of s) refl step apart e is))
 
 -- ---- the law
 
@@ -75,11 +74,9 @@ covers_begin logic setup = record {
 -- ---- a candidate at which nothing is to do is left out
 
 pub other_than : (P : Grain → Bool) (g h : Grain) (among : Bool) → P g ≡ false → P h ≡ true → (grain_eq g h || among) ≡ true → among ≡ true
-other_than P g h among none some listed = by_same (grain_eq g h) refl listed
-  where
-    by_same : (b : Bool) → grain_eq g h ≡ b → (b || among) ≡ true → among ≡ true
-    by_same true is e = absurd (true≢false (sym some ∙ ap P (sym ((grain_eq_decides g h).0 is)) ∙ none))
-    by_same false is e = e
+other_than P g h among none some =
+    on_test (λ b. (b || among) ≡ true → among ≡ true) (grain_eq g h)
+    (λ is _. absurd (true≢false (sym some ∙ ap P (sym ((grain_eq_decides g h).0 is)) ∙ none))) (λ _ e. e)
 
 pub sender_left_out : (logic : Logic) (w : Whole) (g : Grain) (entries senders : List Grain) → delivery_of g (map.get w.accounts g.tenant) ≡ None → Covers logic w (record { entries = entries; senders = g ∷ senders })
     → Covers logic w (record { entries = entries; senders = senders })

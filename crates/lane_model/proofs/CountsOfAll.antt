@@ -1,10 +1,11 @@
 -- What waits or is open, by counts.
-use Rattle.silo_model.proofs.Common.{◌+◌, ◌||◌, ◌∙◌, ◌∷◌, ◌≡◌, ◌≤◌, Bool, Client, LeadsTo, List, Logic, Machine, Party, ReadersAskNothing}
-use Rattle.silo_model.proofs.Common.{Request, Setup, Step, Whole, [], all_pending, ap, arith, concerns, cond, false, is_of_client, length}
-use Rattle.silo_model.proofs.Common.{list_any, refl, restricted_to, shown_to, start_of, subst, sum_alike, sum_by, sum_by-cons, sum_flat}
-use Rattle.silo_model.proofs.Common.{sym, true, true≢false, ℕ}
+use Rattle.silo_model.proofs.Common.{◌+◌, ◌∙◌, ◌∷◌, ◌≡◌, ◌≤◌, Client, LeadsTo, List, Logic, Machine, Party, ReadersAskNothing, Request}
+use Rattle.silo_model.proofs.Common.{Setup, Step, Whole, [], all_pending, ap, arith, concerns, cond, false, false_from_ne_true}
+use Rattle.silo_model.proofs.Common.{is_of_client, length, list_any, refl, restricted_to, shown_to, start_of, subst, sum_alike, sum_by}
+use Rattle.silo_model.proofs.Common.{sum_by-cons, sum_flat, sym, true, true≢false, ℕ}
 use Rattle.finite_maps.proofs.Sums.{sum_one}
 use Rattle.silo_event.specs.declared.reply.Party.TheVariants as party
+use Rattle.std.proofs.lemmas.Bool.{or_from}
 use Rattle.silo_model.proofs.Fair.{pend}
 use Rattle.silo_model.proofs.Moves.{asked_by, replied, sent}
 use Rattle.silo_model.proofs.FairRuns.{pending_weight, run_balance, start_balance, start_fair}
@@ -24,11 +25,10 @@ heavy client (party.Grain grain) is none = true≢false (sym is)
 
 light_none : (client : Client) (queue : List Request) → sum_by (sent (weigh client (λ x. 1))) queue ≡ 0 → list_any (λ q. is_of_client client q.sender) queue ≡ false
 light_none client [] none = refl
-light_none client (q ∷ queue) none = by_client (is_of_client client q.sender) refl (light_none client queue (omega (arith, none, sum_by-cons (sent (weigh client (λ x. 1))) q queue)))
-  where
-    by_client : (b : Bool) → is_of_client client q.sender ≡ b → list_any (λ r. is_of_client client r.sender) queue ≡ false → list_any (λ r. is_of_client client r.sender) (q ∷ queue) ≡ false
-    by_client true is rest = absurd (heavy client q.sender is (omega (arith, none, sum_by-cons (sent (weigh client (λ x. 1))) q queue)))
-    by_client false is rest = ap (λ b. b || list_any (λ (r : Request). is_of_client client r.sender) queue) is ∙ rest
+light_none client (q ∷ queue) none =
+    let both = sum_by-cons (sent (weigh client (λ x. 1))) q queue in
+    or_from (is_of_client client q.sender) _
+    (false_from_ne_true _ (λ is. heavy client q.sender is (omega (arith, none, both)))) (light_none client queue (omega (arith, none, both)))
 
 -- the client's steps all concern its tenant
 ids_struck : (client : Client) (steps : List Step) → ids_asked client (restricted_to client.tenant steps) ≡ ids_asked client steps

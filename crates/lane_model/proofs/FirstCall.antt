@@ -1,13 +1,14 @@
 -- A counter's first call is served in its client's lane.
-use Rattle.silo_model.proofs.Common.{◌&&◌, ◌||◌, ◌∙◌, ◌∷◌, ◌≡◌, Account, All-from_recursion, AllByRecursion, Bool, Call, Client, Entry}
-use Rattle.silo_model.proofs.Common.{FinMap, Grain, Limits, List, None, Ok, Option, Request, Setup, Some, [], ap, as_failed, client_eq}
-use Rattle.silo_model.proofs.Common.{client_eq_decides, cond, counters, entries-none, eq_by_cmp, false, flat_map, fresh_account, grain_cmp}
+use Rattle.silo_model.proofs.Common.{◌&&◌, ◌||◌, ◌∙◌, ◌∷◌, ◌≡◌, Account, All-from_recursion, AllByRecursion, Call, Client, Entry, FinMap}
+use Rattle.silo_model.proofs.Common.{Grain, Limits, List, Ok, Request, Setup, Some, [], ap, arith, as_failed, client_eq, client_eq_decides}
+use Rattle.silo_model.proofs.Common.{cond, counters, entries-none, false, flat_map, fresh_account, grain_cmp, grain_cmp_exact}
 use Rattle.silo_model.proofs.Common.{grain_cmp_total, has_pending, integer, is_of_client, length, limits_of, list_any, map_list, nat_cmp}
 use Rattle.silo_model.proofs.Common.{nat_cmp-IsAntisymmetric, nat_cmp_total, none-some, not, opening, option_map, pending_at, refl}
-use Rattle.silo_model.proofs.Common.{same_Some, start_of, sym, text_cmp, text_cmp_total, told, total, true, ℕ, ℤ}
+use Rattle.silo_model.proofs.Common.{same_Some, start_of, sym, text_cmp_total, told, total, total-none, true, ℕ, ℤ}
 use Rattle.std.specs.FinMap as map
-use Rattle.finite_maps.proofs.Maps.{taken_back}
-use Rattle.finite_maps.proofs.Totals.{total_alike}
+use Rattle.finite_maps.proofs.Maps.{insert-insert, taken_back}
+use Rattle.silo_model.proofs.Tests.{on_found}
+use Rattle.finite_maps.proofs.Totals.{total-insert, total_alike}
 use Rattle.finite_maps.proofs.Sums.{sum_zero}
 use Rattle.silo_event.specs.declared.reply.Party.TheVariants as party
 use Rattle.silo_model.specs.FirstCall.{add_call, first_call}
@@ -52,49 +53,34 @@ module _ (caller : Client) (id : ℕ) (grain : Grain) (n : ℤ) where
 
 -- ---- nothing is left to do
 
--- a map that has nothing but at this key
-abbrev OnlyAt : Grain → FinMap grain_cmp Entry → Type 0
-OnlyAt grain m = (q : Grain) → eq_by_cmp grain_cmp q grain ≡ false → map.get m q ≡ None
+-- an entry that is written over weighs nothing
+over : (f : Entry → ℕ) (m : FinMap grain_cmp Entry) (g : Grain) (e x : Entry) → total f (map.insert (map.insert m g e) g x) ≡ total f (map.insert m g x)
+over f m g e x = ap (total f) (insert-insert grain_cmp_total grain_cmp_exact m g e x)
 
-put_only : (grain : Grain) (m : FinMap grain_cmp Entry) (e : Entry) → OnlyAt grain m → OnlyAt grain (map.insert m grain e)
-put_only grain m e only q apart = map.get-insert grain_cmp_total m grain e q ∙ ap (λ b. cond b (Some e) (map.get m q)) apart ∙ only q apart
-
--- the weight of a map that has one entry of no weight
-weightless : (f : Entry → ℕ) (grain : Grain) (m : FinMap grain_cmp Entry) (e : Entry) → OnlyAt grain m → f e ≡ 0 → total f (map.insert m grain e) ≡ 0
-weightless f grain m e only none = total_alike grain_cmp_total f (λ x. 0) (map.insert m grain e) each ∙ sum_zero (map.values (map.insert m grain e))
-  where
-    by_tie : (q : Grain) (x : Entry) (b : Bool) → eq_by_cmp grain_cmp q grain ≡ b → cond b (Some e) (map.get m q) ≡ Some x → f x ≡ 0
-    by_tie q x true tied h = ap f (sym (same_Some e x h)) ∙ none
-    by_tie q x false apart h = absurd (none-some x (sym (only q apart) ∙ h))
-
-    each : (q : Grain) (x : Entry) → map.get (map.insert m grain e) q ≡ Some x → f x ≡ 0
-    each q x found = by_tie q x (eq_by_cmp grain_cmp q grain) refl (sym (map.get-insert grain_cmp_total m grain e q) ∙ found)
+-- the weight of the only entry, which weighs nothing
+weightless : (f : Entry → ℕ) (g : Grain) (e : Entry) → f e ≡ 0 → total f (map.insert (map.empty {R = grain_cmp}) g e) ≡ 0
+weightless f g e none =
+    omega (arith, total-insert grain_cmp_total f map.empty g e, total-none f (map.empty {R = grain_cmp}) (map.len-empty grain_cmp Entry), none)
 
 -- a turn that was opened alone and closed
 no_turns : (k : ℕ) (request : Request) → map.values (map.remove (map.insert (map.empty {R = nat_cmp}) k request) k) ≡ []
 no_turns k request = ap map.values (taken_back nat_cmp_total nat_cmp-IsAntisymmetric map.empty k request (map.get-empty nat_cmp k)) ∙ ap (λ es. map_list (λ (e : ℕ × Request). e.1) es) (entries-none (map.empty {X = Request} {R = nat_cmp}) (map.len-empty nat_cmp Request))
 
 nothing_sent : (setup : Setup) (tenant : List ℕ) (account : Account) → account.sends ≡ [] → total (λ (a : Account). length a.sends) (map.insert (fresh_accounts setup.tenants) tenant account) ≡ 0
-nothing_sent setup tenant account none = total_alike text_cmp_total (λ a. length a.sends) (λ a. 0) (map.insert (fresh_accounts setup.tenants) tenant account) each ∙ sum_zero (map.values (map.insert (fresh_accounts setup.tenants) tenant account))
-  where
-    fresh : (a : Account) (limits : Option Limits) → option_map fresh_account limits ≡ Some a → length a.sends ≡ 0
-    fresh a None h = absurd (none-some a h)
-    fresh a (Some limits) h = ap (λ (x : Account). length x.sends) (sym (same_Some (fresh_account limits) a h))
-
-    by_tie : (t : List ℕ) (a : Account) (b : Bool) → cond b (Some account) (map.get (fresh_accounts setup.tenants) t) ≡ Some a → length a.sends ≡ 0
-    by_tie t a true h = ap (λ (x : Account). length x.sends) (sym (same_Some account a h)) ∙ ap length none
-    by_tie t a false h = fresh a (limits_of setup.tenants t) (sym (get-fresh_accounts setup.tenants t) ∙ h)
-
-    each : (t : List ℕ) (a : Account) → map.get (map.insert (fresh_accounts setup.tenants) tenant account) t ≡ Some a → length a.sends ≡ 0
-    each t a found = by_tie t a (eq_by_cmp text_cmp t tenant) (sym (map.get-insert text_cmp_total (fresh_accounts setup.tenants) tenant account t) ∙ found)
+nothing_sent setup tenant account none =
+    let f : Account → ℕ = λ a. length a.sends in
+    let all = fresh_accounts setup.tenants in
+    let nothing = total_alike text_cmp_total f (λ a. 0) all (λ t a h.
+    on_found (λ o. option_map fresh_account o ≡ Some a → f a ≡ 0) (limits_of setup.tenants t) (λ _ none. absurd (none-some a none))
+    (λ limits _ is. ap f (sym (same_Some (fresh_account limits) a is))) (sym (get-fresh_accounts setup.tenants t) ∙ h)) in
+    omega (arith, total-insert text_cmp_total f all tenant account, nothing, sum_zero (map.values all), ap length none)
 
 quiet_at_end : (setup : Setup) (limits : Limits) (caller : Client) (id : ℕ) (grain : Grain) (n : ℤ) → AllQuiet (after_end (opening setup) (fresh_account limits) caller id grain n)
 unfolding opening
 quiet_at_end setup limits caller id grain n =
+    let f : Entry → ℕ = λ e. length (pending_at e) in
     (quiet_by_counts (after_end (opening setup) (fresh_account limits) caller id grain n)).1 (
-      weightless (λ e. length (pending_at e)) grain _ _
-          (put_only grain _ _ (put_only grain _ _ (put_only grain _ _ (put_only grain _ _ (λ q apart. map.get-empty grain_cmp q)))))
-          (ap length (no_turns 1 _)),
+      over f _ grain _ _ ∙ over f _ grain _ _ ∙ over f _ grain _ _ ∙ over f _ grain _ _ ∙ weightless f grain _ (ap length (no_turns 1 _)),
       nothing_sent setup caller.tenant _ refl,
     )
 

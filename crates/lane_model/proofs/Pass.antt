@@ -1,9 +1,9 @@
 -- The pass over a journal tells whether the lanes stand in it.
 use Rattle.silo_model.proofs.Common.{◌&&◌, ◌==◌, ◌∙◌, ◌∷◌, ◌≡◌, AllByRecursion, Bool, Client, Decides, Equal-is, IsAntisymmetric}
-use Rattle.silo_model.proofs.Common.{IsTotalOrder, List, None, Option, Some, Step, [], ap, arith, as_failed, client_cmp, client_eq_decides}
-use Rattle.silo_model.proofs.Common.{cond, eq_by_cmp, eqb-true, false, false_from_ne_true, found_passes, get-insert_same, length, list_all}
-use Rattle.silo_model.proofs.Common.{map_list, none-some, option_and_then, option_cmp, option_map, refl, same_Some, same_head, same_tail}
-use Rattle.silo_model.proofs.Common.{subst, sym, tied_itself, true, true≢false}
+use Rattle.silo_model.proofs.Common.{IsTotalOrder, List, None, Option, Some, Step, [], ap, as_failed, client_cmp, client_eq_decides, cond}
+use Rattle.silo_model.proofs.Common.{eq_by_cmp, eqb-true, false, false_from_ne_true, found_passes, get-insert_same, length, list_all}
+use Rattle.silo_model.proofs.Common.{map_list, nil_from_length, none-some, option_and_then, option_cmp, option_map, refl, same_Some}
+use Rattle.silo_model.proofs.Common.{same_head, same_tail, subst, sym, tied_itself, true, true≢false}
 use Rattle.std.specs.Ordering.{is_eq}
 use Rattle.std.specs.Cmp.Lexicographic.{options_total}
 use Rattle.std.specs.FinMap as map
@@ -12,6 +12,7 @@ use Rattle.finite_maps.proofs.Maps.{get-insert_other}
 use Rattle.grain_id.proofs.Order.{client_cmp_exact, client_cmp_total}
 use Rattle.lane_model.specs.Lanes.{Remaining, given_by, is_given_by, is_used_up, lane_of, others_after, remaining_after, remaining_at_end}
 use Rattle.lane_model.specs.Lanes.{same_lane}
+use Rattle.silo_model.proofs.Tests.{either_way, on_test}
 
 -- ---- whose a lane is
 
@@ -61,16 +62,12 @@ spent_list remaining (e ∷ es) fits all = by_rest e.1 (subst (λ r. FitsOne r [
     by_rest [] none others = others
     by_rest (s ∷ rest) none others = absurd cc
 
-no_steps : (rest : List Step) → (length rest == 0) ≡ true → rest ≡ []
-no_steps [] e = refl
-no_steps (s ∷ rest) e = absurd (omega (arith, eqb-true (length (s ∷ rest)) 0 e))
-
 end_decides : (remaining : Remaining) → Decides (is_used_up (Some remaining)) (Fits remaining [])
 end_decides remaining = (λ spent from. by_rest from spent (map.get remaining from) refl, λ fits. spent_list remaining (map.entries remaining) fits (found_entries lanes_total remaining))
   where
     by_rest : (from : Option Client) → is_used_up (Some remaining) ≡ true → (r : Option (List Step)) → map.get remaining from ≡ r → FitsOne r []
     by_rest from spent None is = refl
-    by_rest from spent (Some rest) is = ap (map_list as_failed) (sym (no_steps rest (found_passes (λ r. length r == 0) remaining from rest is spent)))
+    by_rest from spent (Some rest) is = ap (map_list as_failed) (sym (nil_from_length rest (eqb-true (length rest) 0 (found_passes (λ r. length r == 0) remaining from rest is spent))))
 
 -- ---- one step of the pass
 
@@ -93,26 +90,28 @@ module _ (remaining : Remaining) (journal : List Step) (s : Step) (k : Option Cl
     left_apart from apart = get-insert_other lanes_total lanes_exact remaining k from others (lane_apart k from apart)
 
     fits_before : as_failed s ≡ as_failed first → Fits left journal → (from : Option Client) → FitsNext from (map.get remaining from)
-    fits_before same fits from = by_lane (same_lane k from) refl
-      where
-        by_lane : (b : Bool) → same_lane k from ≡ b → FitsOne (map.get remaining from) (cond b (s ∷ given_by from journal) (given_by from journal))
-        by_lane true is =
-            let own : map_list as_failed (given_by k journal) ≡ map_list as_failed others = subst (λ r. FitsOne r (given_by k journal)) left_own (fits k) in
-            let here : FitsOne (Some (first ∷ others)) (s ∷ given_by k journal) = λ i. same i ∷ own i in
-            subst (λ f. FitsOne (map.get remaining f) (s ∷ given_by f journal)) ((same_lane_decides k from).0 is) (subst (λ r. FitsOne r (s ∷ given_by k journal)) (sym there) here)
-        by_lane false is = subst (λ r. FitsOne r (given_by from journal)) (left_apart from is) (fits from)
+    fits_before same fits from =
+        on_test (λ b. FitsOne (map.get remaining from) (cond b (s ∷ given_by from journal) (given_by from journal))) (same_lane k from)
+        (λ is.
+        let own : map_list as_failed (given_by k journal) ≡ map_list as_failed others = subst (λ r. FitsOne r (given_by k journal)) left_own (fits k) in
+        let here : FitsOne (Some (first ∷ others)) (s ∷ given_by k journal) = λ i. same i ∷ own i in
+        subst (λ f. FitsOne (map.get remaining f) (s ∷ given_by f journal)) ((same_lane_decides k from).0 is)
+        (subst (λ r. FitsOne r (s ∷ given_by k journal)) (sym there) here))
+        (λ is. subst (λ r. FitsOne r (given_by from journal)) (left_apart from is) (fits from))
 
     fits_after : ((from : Option Client) → FitsNext from (map.get remaining from)) → Fits left journal
-    fits_after fits from = by_lane (same_lane k from) refl
-      where
-        by_lane : (b : Bool) → same_lane k from ≡ b → FitsOne (map.get left from) (given_by from journal)
-        by_lane true is =
-            let own : FitsOne (Some others) (given_by k journal) = same_tail (as_failed s) (as_failed first) (map_list as_failed (given_by k journal)) (map_list as_failed others) (own_next (Some (first ∷ others)) there fits) in
-            subst (λ f. FitsOne (map.get left f) (given_by f journal)) ((same_lane_decides k from).0 is) (subst (λ r. FitsOne r (given_by k journal)) (sym left_own) own)
-        by_lane false is =
-            subst (λ r. FitsOne r (given_by from journal)) (sym (left_apart from is)) (subst (λ b. FitsOne (map.get remaining from) (cond b (s ∷ given_by from journal) (given_by from journal))) is (fits from))
+    fits_after fits from =
+        either_way (same_lane k from)
+        (λ is.
+        let own : FitsOne (Some others) (given_by k journal) = same_tail (as_failed s) (as_failed first) (map_list as_failed (given_by k journal)) (map_list as_failed others) (own_next (Some (first ∷ others)) there fits) in
+        subst (λ f. FitsOne (map.get left f) (given_by f journal)) ((same_lane_decides k from).0 is) (subst (λ r. FitsOne r (given_by k journal)) (sym left_own) own))
+        (λ is.
+        subst (λ r. FitsOne r (given_by from journal)) (sym (left_apart from is)) (subst (λ b. FitsOne (map.get remaining from) (cond b (s ∷ given_by from journal) (given_by from journal))) is (fits from)))
 
 -- ---- the pass
+
+no_cons : (x : Step) (xs : List Step) → x ∷ xs ≡ [] → ⊥
+no_cons x xs e = absurd cc
 
 module _ (same : Step → Step → Bool) (decides : (s r : Step) → Decides (same s r) (as_failed s ≡ as_failed r)) where
   module _ (remaining : Remaining) (journal : List Step) (s : Step) (rest_decides : (left : Remaining) → Decides (is_used_up (remaining_at_end same left journal)) (Fits left journal)) where
@@ -120,14 +119,8 @@ module _ (same : Step → Step → Bool) (decides : (s r : Step) → Decides (sa
     goes_on o = is_used_up (option_and_then (λ left. remaining_at_end same left journal) o)
 
     by_rest : (k : Option Client) (r : Option (List Step)) → map.get remaining k ≡ r → Decides (goes_on (option_map (map.insert remaining k) (option_and_then (others_after same s) r))) ((from : Option Client) → FitsNext remaining journal s k from (map.get remaining from))
-    by_rest k None is = (λ e. absurd (true≢false (sym e)), λ fits. absurd (no_cons (own_next remaining journal s k None is fits)))
-      where
-        no_cons : s ∷ given_by k journal ≡ [] → ⊥
-        no_cons e = absurd cc
-    by_rest k (Some []) is = (λ e. absurd (true≢false (sym e)), λ fits. absurd (no_cons (own_next remaining journal s k (Some []) is fits)))
-      where
-        no_cons : as_failed s ∷ map_list as_failed (given_by k journal) ≡ [] → ⊥
-        no_cons e = absurd cc
+    by_rest k None is = (λ e. absurd (true≢false (sym e)), λ fits. absurd (no_cons _ _ (own_next remaining journal s k None is fits)))
+    by_rest k (Some []) is = (λ e. absurd (true≢false (sym e)), λ fits. absurd (no_cons _ _ (own_next remaining journal s k (Some []) is fits)))
     by_rest k (Some (first ∷ others)) is = by_same (same s first) refl
       where
         by_same : (b : Bool) → same s first ≡ b → Decides (goes_on (option_map (map.insert remaining k) (cond b (Some others) None))) ((from : Option Client) → FitsNext remaining journal s k from (map.get remaining from))

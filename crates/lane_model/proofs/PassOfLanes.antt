@@ -1,7 +1,7 @@
 -- Lanes stand in a journal exactly where the pass over it says so.
-use Rattle.silo_model.proofs.Common.{◌++◌, ◌||◌, ◌∙◌, ◌∷◌, ◌≡◌, All-from_recursion, AllByRecursion, Bool, Client, List, None, Option, Some}
-use Rattle.silo_model.proofs.Common.{Step, [], ap, client_cmp, cond, eq_by_cmp, false, false_from_ne_true, list_any, map_list}
-use Rattle.silo_model.proofs.Common.{option_and_then, option_cmp, refl, subst, sym, true, true≢false}
+use Rattle.silo_model.proofs.Common.{◌++◌, ◌∙◌, ◌∷◌, ◌≡◌, All-from_recursion, AllByRecursion, Bool, Client, List, None, Option, Some, Step}
+use Rattle.silo_model.proofs.Common.{[], ap, client_cmp, cond, eq_by_cmp, false, false_from_ne_true, list_any, map_list, option_and_then}
+use Rattle.silo_model.proofs.Common.{option_cmp, or_parts, refl, subst, sym, true, true≢false}
 use Rattle.std.specs.FinMap as map
 use Rattle.std.specs.FinMap.Entries.{find}
 use Rattle.std.proofs.lemmas.Map.Keys.{IsDistinct-head, IsDistinct-tail}
@@ -9,6 +9,8 @@ use Rattle.std.proofs.lemmas.List.Elements.{recursion_from_All}
 use Rattle.lane_model.specs.Lanes.{AreDistinct, Lane, LaneStands, PassDecides, Remaining, done_steps_of, given_by, has_giver, is_given_by}
 use Rattle.lane_model.specs.Lanes.{lane_of, remaining_after, remaining_at_end, remaining_of, same_lane}
 use Rattle.lane_model.proofs.Pass.{Fits, FitsOne, itself, lane_apart, lane_itself, lanes_total, pass_fits, same_lane_decides, tied_lane}
+use Rattle.std.proofs.lemmas.Bool.{or_from}
+use Rattle.silo_model.proofs.Tests.{on_found, on_test}
 
 -- what the lanes of a list have at their own places
 abbrev found_in : List Lane → Option Client → Option (List Step)
@@ -33,14 +35,11 @@ each_found (lane ∷ lanes) distinct =
 
 none_found : (lanes : List Lane) (from : Option Client) → list_any (λ (l : Lane). same_lane from l.from) lanes ≡ false → found_in lanes from ≡ None
 none_found [] from none = refl
-none_found (lane ∷ lanes) from none = by_first (same_lane from lane.from) refl none (none_found lanes from)
-  where
-    by_first : (b : Bool) → same_lane from lane.from ≡ b → (b || list_any (λ (l : Lane). same_lane from l.from) lanes) ≡ false → (list_any (λ (l : Lane). same_lane from l.from) lanes ≡ false → found_in lanes from ≡ None)
-        → found_in (lane ∷ lanes) from ≡ None
-    by_first true is h rest = absurd (true≢false h)
-    by_first false is h rest =
-        ap (λ b. cond b (Some (done_steps_of lane)) (found_in lanes from)) (false_from_ne_true _ (λ tied. true≢false (sym ((same_lane_decides from lane.from).1 (tied_lane from lane.from tied)) ∙ is)))
-        ∙ rest h
+none_found (lane ∷ lanes) from none =
+    let parts = or_parts (same_lane from lane.from) _ none in
+    ap (λ b. cond b (Some (done_steps_of lane)) (found_in lanes from))
+    (false_from_ne_true _ (λ tied. true≢false (sym ((same_lane_decides from lane.from).1 (tied_lane from lane.from tied)) ∙ parts.0)))
+    ∙ none_found lanes from parts.1
 
 -- ---- what fits stands
 
@@ -70,11 +69,9 @@ steps_given lanes (s ∷ journal) none = (by_giver (lane_of s) (λ from. none fr
 
     by_giver : (o : Option (Option Client)) → ((from : Option Client) → list_any (λ (l : Lane). same_lane from l.from) lanes ≡ false → cond (is_given_by from o) (s ∷ given_by from journal) (given_by from journal) ≡ []) → has_giver lanes o ≡ true
     by_giver None h = refl
-    by_giver (Some k) h = by_listed (list_any (λ (l : Lane). same_lane k l.from) lanes) refl
-      where
-        by_listed : (b : Bool) → list_any (λ (l : Lane). same_lane k l.from) lanes ≡ b → b ≡ true
-        by_listed true is = refl
-        by_listed false is = absurd (no_cons k (same_lane k k) (itself k) (h k is))
+    by_giver (Some k) h =
+        on_test (λ b. b ≡ true) (list_any (λ (l : Lane). same_lane k l.from) lanes) (λ _. refl)
+        (λ is. absurd (no_cons k (same_lane k k) (itself k) (h k is)))
 
 -- ---- what stands fits
 
@@ -94,32 +91,25 @@ gave_none lanes (s ∷ journal) all from none = by_giver (lane_of s) all.0 (gave
 fits_found : (lanes : List Lane) (journal : List Step) (from : Option Client) → AllByRecursion (λ l. LaneStands l journal) lanes → (list_any (λ (l : Lane). same_lane from l.from) lanes ≡ false → given_by from journal ≡ [])
     → FitsOne (found_in lanes from) (given_by from journal)
 fits_found [] journal from each none = none refl
-fits_found (lane ∷ lanes) journal from each none = by_tie (eq_by_cmp (option_cmp client_cmp) from lane.from) refl (λ h. fits_found lanes journal from each.1 h)
-  where
-    by_tie : (b : Bool) → eq_by_cmp (option_cmp client_cmp) from lane.from ≡ b → ((list_any (λ (l : Lane). same_lane from l.from) lanes ≡ false → given_by from journal ≡ []) → FitsOne (found_in lanes from) (given_by from journal))
-        → FitsOne (cond b (Some (done_steps_of lane)) (found_in lanes from)) (given_by from journal)
-    by_tie true is rest = subst (λ f. FitsOne (Some (done_steps_of lane)) (given_by f journal)) (sym (tied_lane from lane.from is)) each.0
-    by_tie false is rest =
-        rest (λ others. none (ap (λ b. b || list_any (λ (l : Lane). same_lane from l.from) lanes) (false_from_ne_true _ (λ same. apart ((same_lane_decides from lane.from).0 same))) ∙ others))
-      where
-        apart : from ≡ lane.from → ⊥
-        apart same = true≢false (sym (subst (λ f. eq_by_cmp (option_cmp client_cmp) from f ≡ true) same (lane_itself from)) ∙ is)
+fits_found (lane ∷ lanes) journal from each none =
+    on_test (λ b. FitsOne (cond b (Some (done_steps_of lane)) (found_in lanes from)) (given_by from journal))
+    (eq_by_cmp (option_cmp client_cmp) from lane.from)
+    (λ is. subst (λ f. FitsOne (Some (done_steps_of lane)) (given_by f journal)) (sym (tied_lane from lane.from is)) each.0)
+    (λ is. fits_found lanes journal from each.1 (λ others. none (or_from (same_lane from lane.from) _ (false_from_ne_true _ (λ same.
+    let tied = subst (λ f. eq_by_cmp (option_cmp client_cmp) from f ≡ true) ((same_lane_decides from lane.from).0 same) (lane_itself from) in
+    true≢false (sym tied ∙ is))) others)))
 
 -- ---- the pass goes on by one step
 
 pub left_more : (same : Step → Step → Bool) (remaining : Remaining) (journal : List Step) (s : Step)
     → remaining_at_end same remaining (journal ++ s ∷ []) ≡ option_and_then (λ left. remaining_after same left s (lane_of s)) (remaining_at_end same remaining journal)
-left_more same remaining [] s = only (remaining_after same remaining s (lane_of s))
-  where
-    only : (o : Option Remaining) → option_and_then (λ left. Some left) o ≡ o
-    only None = refl
-    only (Some left) = refl
-left_more same remaining (r ∷ journal) s = on (remaining_after same remaining r (lane_of r)) (λ left. left_more same left journal s)
-  where
-    on : (o : Option Remaining) → ((left : Remaining) → remaining_at_end same left (journal ++ s ∷ []) ≡ option_and_then (λ x. remaining_after same x s (lane_of s)) (remaining_at_end same left journal))
-        → option_and_then (λ left. remaining_at_end same left (journal ++ s ∷ [])) o ≡ option_and_then (λ x. remaining_after same x s (lane_of s)) (option_and_then (λ left. remaining_at_end same left journal) o)
-    on None more = refl
-    on (Some left) more = more left
+left_more same remaining [] s =
+    on_found (λ o. option_and_then (λ left. Some left) o ≡ o) (remaining_after same remaining s (lane_of s)) (λ _. refl) (λ left _. refl)
+left_more same remaining (r ∷ journal) s =
+    let on : Option Remaining → Option Remaining = option_and_then (λ x. remaining_after same x s (lane_of s)) in
+    on_found
+    (λ o. option_and_then (λ left. remaining_at_end same left (journal ++ s ∷ [])) o ≡ on (option_and_then (λ left. remaining_at_end same left journal) o))
+    (remaining_after same remaining r (lane_of r)) (λ _. refl) (λ left _. left_more same left journal s)
 
 -- ---- the law
 

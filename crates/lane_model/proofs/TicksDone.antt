@@ -1,11 +1,12 @@
 -- Which ticks and sweeps a machine does.
-use Rattle.silo_model.proofs.Common.{◌++◌, ◌∙◌, ◌∷◌, ◌≡◌, Bool, List, Logic, Machine, None, Some, Step, Sweep, Tick, [], and_parts, ap}
-use Rattle.silo_model.proofs.Common.{cond, done_by, false, if_possible, list_all, lt-ltb, machine_step, nat_le, nat_lt, refl, sym, true}
+use Rattle.silo_model.proofs.Common.{◌++◌, ◌∙◌, ◌∷◌, ◌≡◌, Bool, List, Logic, Machine, None, Option, Some, Step, Sweep, Tick, [], and_parts}
+use Rattle.silo_model.proofs.Common.{ap, cond, done_by, false, if_possible, list_all, lt-ltb, machine_step, nat_le, nat_lt, refl, sym, true}
 use Rattle.silo_model.proofs.Common.{true≢false, unwrap_or, ℕ}
 use Rattle.std.proofs.lemmas.Bool.{le-ltb, leb-false, leb-true}
 use Rattle.std.proofs.lemmas.List.Sums.{list_all-from_AllPass}
 use Rattle.silo_model.specs.Step.{swept}
 use Rattle.lane_model.specs.Lanes.{TicksAreDone, may_give, without_ticks_below}
+use Rattle.silo_model.proofs.Tests.{on_test}
 
 -- a tick is below the clock, or it isn't
 below : (clock now : ℕ) → (b : Bool) → nat_le clock now ≡ b → nat_lt now clock ≡ cond b false true
@@ -18,13 +19,12 @@ module _ (logic : Logic) where
 
   tick_done : (m : Machine) (now : ℕ) (steps : List Step) → ((x : Machine) → done x steps ≡ without_ticks_below x.clock steps) → done m (Tick now ∷ steps) ≡ without_ticks_below m.clock (Tick now ∷ steps)
   unfolding machine_step
-  tick_done m now steps rest = by_clock (nat_le m.clock now) refl
-    where
-      by_clock : (b : Bool) → nat_le m.clock now ≡ b
-          → if_possible (Tick now) (cond b (Some (record m { clock = now })) None) ++ done_by (machine_step logic) (unwrap_or (cond b (Some (record m { clock = now })) None) m) steps
-          ≡ cond (nat_lt now m.clock) (without_ticks_below m.clock steps) (Tick now ∷ without_ticks_below now steps)
-      by_clock true is = ap (λ xs. Tick now ∷ xs) (rest (record m { clock = now })) ∙ ap (λ c. cond c (without_ticks_below m.clock steps) (Tick now ∷ without_ticks_below now steps)) (sym (below m.clock now true is))
-      by_clock false is = rest m ∙ ap (λ c. cond c (without_ticks_below m.clock steps) (Tick now ∷ without_ticks_below now steps)) (sym (below m.clock now false is))
+  tick_done m now steps rest =
+      let left : Bool → List Step = λ c. cond c (without_ticks_below m.clock steps) (Tick now ∷ without_ticks_below now steps) in
+      let after : Bool → Option Machine = λ b. cond b (Some (record m { clock = now })) None in
+      on_test (λ b. if_possible (Tick now) (after b) ++ done (unwrap_or (after b) m) steps ≡ left (nat_lt now m.clock)) (nat_le m.clock now)
+      (λ is. ap (λ xs. Tick now ∷ xs) (rest (record m { clock = now })) ∙ ap left (sym (below m.clock now true is)))
+      (λ is. rest m ∙ ap left (sym (below m.clock now false is)))
 
   sweep_done : (m : Machine) (steps : List Step) → ((x : Machine) → done x steps ≡ without_ticks_below x.clock steps) → done m (Sweep ∷ steps) ≡ without_ticks_below m.clock (Sweep ∷ steps)
   unfolding machine_step
