@@ -1,24 +1,15 @@
 -- The first difference is one.
-use Rattle.std.proofs.Common.{◌≡◌, ◌≢◌, ℕ, suc, ◌+◌, List, [], ◌∷◌, ◌++◌, length, Option, Some, None, refl, ap, sym, ◌∙◌, subst}
-use Rattle.std.specs.Prelude.{option_and_then}
-use Rattle.std.proofs.lemmas.Option.{same_Some, none-some}
-use Rattle.std.specs.declared.cmp.Ordering.{Ordering}
-use Rattle.std.specs.declared.cmp.Ordering.TheVariants.{Less, Equal, Greater}
+use Rattle.silo_model.proofs.Common.{◌++◌, ◌+◌, ◌∙◌, ◌∷◌, ◌≡◌, ◌≢◌, Grain, Less, List, Logic, Machine, None, Option, Ordering, Rows, Some}
+use Rattle.silo_model.proofs.Common.{Step, [], ap, grain_cmp, grain_cmp_exact, grain_cmp_total, length, machine_all_done, machine_step}
+use Rattle.silo_model.proofs.Common.{none-some, option_and_then, refl, same_Some, same_head, same_tail, some_from_and_then, subst, suc, sym}
+use Rattle.silo_model.proofs.Common.{ℕ}
+use Rattle.std.specs.declared.cmp.Ordering.TheVariants.{Equal, Greater}
 use Rattle.std.specs.Ordering.{ordering_reverse}
 use Rattle.std.specs.FinMap as map
-use Rattle.finite_maps.proofs.Options.{some_from_and_then}
-use Rattle.finite_maps.proofs.Lists.{same_head, same_tail}
-use Rattle.grain_id.specs.Names.{Grain, grain_cmp}
-use Rattle.grain_id.proofs.Order.{grain_cmp_total, grain_cmp_exact}
-use Rattle.grain_storage.specs.Rows.{Rows}
-use Rattle.silo_event.specs.declared.step.Step.{Step}
-use Rattle.grain_kinds.specs.Logic.{Logic}
-use Rattle.silo_model.specs.Machine.{Machine}
-use Rattle.silo_model.specs.Step.{machine_step}
-use Rattle.silo_model.specs.Journal.{machine_all_done}
 use Rattle.journal_text.specs.declared.recorded.RecordedReply.{RecordedReply}
 use Rattle.audit_model.specs.Parts.{all_recorded}
-use Rattle.audit_model.specs.Difference.{Difference, at_step, at_reply, at_row, StopsAt, first_of, DifferAt, RowsDifferAt, AtEnd, IsDifference}
+use Rattle.audit_model.specs.Difference.{AtEnd, DifferAt, Difference, IsDifference, RowsDifferAt, StopsAt, at_reply, at_row, at_step}
+use Rattle.audit_model.specs.Difference.{first_of}
 
 -- ---- lists
 

@@ -1,40 +1,24 @@
 -- A journal has a report.
-use Rattle.std.proofs.Common.{◌≡◌, ◌≢◌, ℕ, ◌+◌, Bool, true, false, List, [], ◌∷◌, ◌++◌, length, Option, Some, None, refl, ap, sym, ◌∙◌, subst, arith, true≢false}
-use Rattle.std.specs.Prelude.{◌||◌, is_some, map as map_list, option_and_then}
-use Rattle.std.specs.Bool.{Decides}
+use Rattle.silo_model.proofs.Common.{◌++◌, ◌+◌, ◌||◌, ◌∙◌, ◌∷◌, ◌≡◌, ◌≢◌, All-from_recursion, AllByRecursion, Bool, Decides, Equal-is}
+use Rattle.silo_model.proofs.Common.{Grain, Less, List, Logic, Machine, None, Option, Ordering, Row, Rows, Some, Step, [], all_weaker, ap}
+use Rattle.silo_model.proofs.Common.{arith, eq_by_cmp, false, grain_cmp, grain_cmp_exact, grain_cmp_total, is_some, length, list_any}
+use Rattle.silo_model.proofs.Common.{list_any-append, machine_all_done, machine_step, map_list, none-some, option_and_then, or_right, refl}
+use Rattle.silo_model.proofs.Common.{same_Some, start_of, subst, sym, tied_itself, true, true≢false, ℕ}
 use Rattle.std.specs.Coded.{codes}
-use Rattle.std.specs.List.{list_any, AllByRecursion}
-use Rattle.std.specs.declared.cmp.Ordering.{Ordering}
-use Rattle.std.specs.declared.cmp.Ordering.TheVariants.{Less, Equal, Greater}
-use Rattle.std.specs.Ordering.{eq_by_cmp}
-use Rattle.std.specs.Cmp.{Equal-is, tied_itself}
+use Rattle.std.specs.declared.cmp.Ordering.TheVariants.{Equal, Greater}
 use Rattle.std.specs.FinMap as map
-use Rattle.std.proofs.lemmas.List.Elements.{All-from_recursion}
-use Rattle.std.proofs.lemmas.List.Folds.{list_any-append}
-use Rattle.std.proofs.lemmas.Option.{same_Some, none-some}
-use Rattle.std.proofs.lemmas.Bool.{or_left, or_right}
+use Rattle.std.proofs.lemmas.Bool.{or_left}
 use base.Stored.{Coded}
-use Rattle.finite_maps.proofs.Lists.{all_weaker}
-use Rattle.grain_id.specs.Names.{Grain, grain_cmp}
-use Rattle.grain_id.proofs.Order.{grain_cmp_total, grain_cmp_exact}
 use Rattle.grain_id.proofs.ByGrain.{alike}
 use Rattle.request_codec.specs.Code.{coded_tree}
-use Rattle.grain_storage.specs.declared.row.Row.{Row}
 use Rattle.grain_storage.specs.Memory.{rows_of}
-use Rattle.grain_storage.specs.Rows.{Rows}
-use Rattle.silo_event.specs.declared.step.Step.{Step}
-use Rattle.grain_kinds.specs.Logic.{Logic}
-use Rattle.silo_model.specs.Machine.{Machine}
-use Rattle.silo_model.specs.Step.{machine_step}
-use Rattle.silo_model.specs.Opening.{start_of}
-use Rattle.silo_model.specs.Journal.{machine_all_done}
 use Rattle.silo_model.proofs.SameCodes.{same_by_code, same_by_code_decides}
 use Rattle.journal_text.specs.RecordedFault.{coded_code_and_text}
 use Rattle.journal_text.specs.Text.{History}
 use Rattle.journal_text.specs.declared.recorded.RecordedReply.{RecordedReply}
-use Rattle.audit_model.specs.Parts.{all_recorded, setup_of, steps_for, replies_for, rows_for, tenants_in}
-use Rattle.audit_model.specs.Difference.{Difference, at_step, at_reply, at_row, first_of, DifferAt, RowsDifferAt, AtEnd, IsDifference}
-use Rattle.audit_model.specs.Report.{TenantReport, IsTenantReport, EachReport}
+use Rattle.audit_model.specs.Parts.{all_recorded, replies_for, rows_for, setup_of, steps_for, tenants_in}
+use Rattle.audit_model.specs.Difference.{AtEnd, DifferAt, Difference, IsDifference, RowsDifferAt, at_reply, at_row, at_step, first_of}
+use Rattle.audit_model.specs.Report.{EachReport, IsTenantReport, TenantReport}
 
 coded_reply : Coded RecordedReply
 coded_reply = Prim.hlevel (codes, coded_tree, coded_code_and_text)

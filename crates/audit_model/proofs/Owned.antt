@@ -1,16 +1,11 @@
 -- The tenants of whom a journal has something are reported, and a tenant's machine starts as the journal says.
-use Rattle.std.proofs.Common.{◌≡◌, ◌≢◌, ℕ, Bool, true, false, cond, List, [], ◌∷◌, ◌++◌, Option, Some, None, refl, ap, ◌∙◌}
-use Rattle.std.specs.Prelude.{◌||◌, filter, flat_map, map as map_list, option_to_list}
-use Rattle.std.proofs.lemmas.List.Folds.{list_any-append}
-use Rattle.std.proofs.lemmas.Bool.{or_left, or_right}
-use Rattle.grain_id.proofs.Keys.{texts}
+use Rattle.silo_model.proofs.Common.{◌++◌, ◌||◌, ◌∙◌, ◌∷◌, ◌≡◌, ◌≢◌, Bool, Grain, List, None, Option, Row, Some, Step, [], ap, cond, false}
+use Rattle.silo_model.proofs.Common.{filter, flat_map, list_any-append, map_list, or_right, owner_of, refl, same_text, start_of, tenant_of}
+use Rattle.silo_model.proofs.Common.{texts, true, ℕ}
+use Rattle.std.specs.Prelude.{option_to_list}
+use Rattle.std.proofs.lemmas.Bool.{or_left}
 use Rattle.finite_maps.proofs.Keys.{key_turned}
-use Rattle.grain_id.specs.Names.{Grain, same_text}
 use Rattle.tenant_gate.specs.Table.{names_of}
-use Rattle.grain_storage.specs.declared.row.Row.{Row}
-use Rattle.silo_event.specs.Owner.{owner_of, tenant_of}
-use Rattle.silo_event.specs.declared.step.Step.{Step}
-use Rattle.silo_model.specs.Opening.{start_of}
 use Rattle.journal_text.specs.Text.{History}
 use Rattle.journal_text.specs.declared.recorded.RecordedReply.{RecordedReply}
 use Rattle.audit_model.specs.Parts.{is_listed, is_owned_by, own_steps, owners_in, replies_for, rows_for, tenants_in}

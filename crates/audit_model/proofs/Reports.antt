@@ -1,38 +1,22 @@
 -- A journal has one report; that of a silo has no difference; and what a report without difference says.
-use Rattle.std.proofs.Common.{◌≡◌, ℕ, Bool, true, false, cond, List, [], ◌∷◌, length, Some, None, unwrap_or, refl, ap, sym, ◌∙◌, subst}
-use Rattle.std.specs.Prelude.{filter, map as map_list}
-use Rattle.std.specs.List.{AllByRecursion}
+use Rattle.silo_model.proofs.Common.{◌∙◌, ◌∷◌, ◌≡◌, AllByRecursion, Bool, Grain, Less, List, Logic, Machine, None, Reply, Row, Some, Step}
+use Rattle.silo_model.proofs.Common.{Whole, [], all_weaker, and_parts, ap, cond, false, filter, grain_cmp, grain_cmp_exact, grain_cmp_total}
+use Rattle.silo_model.proofs.Common.{is_of, is_to, length, machine_all_done, machine_run, machine_step, map_list, refl, same_Some}
+use Rattle.silo_model.proofs.Common.{same_head, same_tail, shown_to, some_from_and_then, start_of, subst, sym, true, unwrap_or, ℕ}
 use Rattle.std.specs.List.Sorted.{IsStrictlySortedBy}
 use Rattle.std.specs.Map.{keys_of}
-use Rattle.std.specs.declared.cmp.Ordering.TheVariants.{Less}
 use Rattle.std.specs.FinMap as map
 use Rattle.std.proofs.lemmas.List.Elements.{recursion_from_All}
 use Rattle.std.proofs.lemmas.List.Kept.{IsStrictlySortedBy-filter}
-use Rattle.std.proofs.lemmas.Option.{same_Some}
-use Rattle.std.proofs.lemmas.Bool.{and_parts}
-use Rattle.finite_maps.proofs.Options.{some_from_and_then}
 use Rattle.finite_maps.proofs.Ascending.{entries-ascending, less_from_is_lt}
-use Rattle.finite_maps.proofs.Lists.{all_weaker, same_head, same_tail}
 use Rattle.finite_maps.proofs.Parts.{from_entries-filter, keys_of-filter}
-use Rattle.grain_id.specs.Names.{Grain, grain_cmp}
-use Rattle.grain_id.proofs.Order.{grain_cmp_total, grain_cmp_exact}
-use Rattle.grain_storage.specs.declared.row.Row.{Row}
 use Rattle.grain_storage.specs.Memory.{rows_of}
-use Rattle.silo_event.specs.declared.reply.Reply.{Reply}
-use Rattle.silo_event.specs.declared.step.Step.{Step}
-use Rattle.grain_kinds.specs.Logic.{Logic}
-use Rattle.silo_model.specs.Machine.{Machine}
-use Rattle.silo_model.specs.Step.{machine_step}
-use Rattle.silo_model.specs.Whole.{Whole, is_of, is_to, shown_to}
-use Rattle.silo_model.specs.Run.{machine_run}
-use Rattle.silo_model.specs.Opening.{start_of}
-use Rattle.silo_model.specs.Journal.{machine_all_done}
 use Rattle.silo_model.proofs.Journals.{parts_lead}
 use Rattle.journal_text.specs.RecordedReply.{recorded_of}
-use Rattle.journal_text.specs.Rules.{comes_after, are_ascending}
+use Rattle.journal_text.specs.Rules.{are_ascending, comes_after}
 use Rattle.journal_text.specs.Text.{History}
-use Rattle.audit_model.specs.Parts.{all_recorded, setup_of, steps_for, is_told, replies_for, rows_for}
-use Rattle.audit_model.specs.Report.{TenantReport, IsFirstDifference, IsTenantReport, OneReport, NoDifference, NoneIsMachines}
+use Rattle.audit_model.specs.Parts.{all_recorded, is_told, replies_for, rows_for, setup_of, steps_for}
+use Rattle.audit_model.specs.Report.{IsFirstDifference, IsTenantReport, NoDifference, NoneIsMachines, OneReport, TenantReport}
 use Rattle.audit_model.proofs.Differences.{one_difference}
 
 -- ---- a journal has one report

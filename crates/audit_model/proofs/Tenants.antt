@@ -1,32 +1,25 @@
 -- Of whom a report says something.
-use Rattle.std.proofs.Common.{◌≡◌, ℕ, Bool, true, false, cond, List, [], ◌∷◌, ◌++◌, Option, Some, None, length, refl, ap, sym, ◌∙◌, subst, true≢false}
-use Rattle.std.specs.Prelude.{◌&&◌, ◌||◌, ◌==◌, not, nat_lt, filter, option_map, map as map_list, if◌then◌else◌}
-use Rattle.std.specs.List.{list_any, AllByRecursion, IsDistinct}
+use Rattle.silo_model.proofs.Common.{if◌then◌else◌, ◌&&◌, ◌++◌, ◌==◌, ◌||◌, ◌∙◌, ◌∷◌, ◌≡◌, AllByRecursion, Bool, FinMap, List, None, Option}
+use Rattle.silo_model.proofs.Common.{Some, [], ap, cond, eq_by_cmp, false, false_from_ne_true, filter, length, list_any, list_any-append}
+use Rattle.silo_model.proofs.Common.{map_list, nat_lt, none-some, none_from_option_map, not, option_map, or_parts, refl, same_text}
+use Rattle.silo_model.proofs.Common.{same_text_decides, subst, sym, text_cmp, texts, true, true≢false, ℕ}
+use Rattle.std.specs.List.{IsDistinct}
 use Rattle.std.specs.List.Sorted.{IsStrictlySortedBy}
 use Rattle.std.specs.Option.{option_or}
-use Rattle.std.specs.Ordering.{eq_by_cmp}
 use Rattle.std.specs.FinMap as map
-use Rattle.std.specs.FinMap.{FinMap}
-use Rattle.std.proofs.lemmas.List.Folds.{list_any-append}
 use Rattle.std.proofs.lemmas.List.Kept.{IsStrictlySortedBy-filter}
 use Rattle.std.proofs.lemmas.Map.Keys.{IsDistinct-from_sorted}
-use Rattle.std.proofs.lemmas.Option.{none-some}
-use Rattle.std.proofs.lemmas.Bool.{false_from_ne_true, or_parts}
 use Rattle.std.proofs.Math.Bool.{and-false}
 use Rattle.finite_maps.proofs.Ascending.{keys_ascend}
-use Rattle.grain_id.proofs.Keys.{texts}
 use Rattle.finite_maps.proofs.Keys.{key_itself, key_ties}
 use Rattle.finite_maps.proofs.Lists.{IsDistinct-append}
-use Rattle.finite_maps.proofs.Options.{none_from_option_map}
 use Rattle.finite_maps.proofs.Sets.{list_any-set_of}
-use Rattle.grain_id.specs.Names.{text_cmp, same_text}
-use Rattle.grain_id.proofs.Order.{same_text_decides}
 use Rattle.tenant_gate.specs.declared.fault.TableFault.{TableFault}
 use Rattle.tenant_gate.specs.declared.fault.TableFault.TheVariants as faults
-use Rattle.tenant_gate.specs.Table.{Table, names_of, most_tenants, first_repeat, first_out_of_range, table_fault}
+use Rattle.tenant_gate.specs.Table.{Table, first_out_of_range, first_repeat, most_tenants, names_of, table_fault}
 use Rattle.journal_text.specs.Rules.{IsTable}
 use Rattle.journal_text.specs.Text.{History}
-use Rattle.audit_model.specs.Parts.{owners_in, is_listed, ascending, others_in}
+use Rattle.audit_model.specs.Parts.{ascending, is_listed, others_in, owners_in}
 use Rattle.audit_model.specs.Report.{TenantsInOrder}
 
 -- ---- the tenants of a report

@@ -5,6 +5,7 @@ ghost use Rattle.audit_model.specs.Report.{EachReport, NoDifference, NoneIsMachi
 ghost use Rattle.audit_model.specs.Report.{TenantsInOrder};
 
 /// A journal has a report.
+#[tactic(auto, using(crate::proofs::EachReport::each_report))]
 pub fn each_report()
     ensures { EachReport }
 {}
@@ -27,18 +28,21 @@ pub fn none_is_machines()
 
 /// A report has each tenant once: the table's in its order, and then the others that have a step, a
 /// reply or a row, ascending.
+#[tactic(auto, using(crate::proofs::Tenants::tenants_in_order))]
 pub fn tenants_in_order()
     ensures { TenantsInOrder }
 {}
 
 /// A report has each tenant of whom the journal has a step of its own, a reply or a row; and of those
 /// whom the table doesn't have, no other.
+#[tactic(auto, using(crate::proofs::Owned::owners_reported))]
 pub fn owners_reported()
     ensures { OwnersReported }
 {}
 
 /// A tenant's machine starts with the journal's age, with the ages that kinds have of their own there,
 /// and with the limits that its table has of the tenant.
+#[tactic(auto, using(crate::proofs::Owned::starts_as_recorded))]
 pub fn starts_as_recorded()
     ensures { StartsAsRecorded }
 {}
