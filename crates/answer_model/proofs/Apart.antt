@@ -1,12 +1,10 @@
 -- What each tenant is shown by an answering silo is what its own machine is.
-use Rattle.silo_model.proofs.Common.{◌++◌, ◌∙◌, ◌∷◌, ◌≡◌, Abandon, Activate, Begin, Bool, Call, Client, Deliver, End, Grain, List, Load}
-use Rattle.silo_model.proofs.Common.{Logic, Machine, None, Option, Poke, Refuse, Setup, Some, Status, Step, Store, Sweep, Tick, Whole, []}
-use Rattle.silo_model.proofs.Common.{ap, called, concerns, concerns_by, cond, context_at, effect_of, false, machine_run, none-some}
-use Rattle.silo_model.proofs.Common.{owner_of, refl, same_text, same_text_decides, shown_to, subst, sym, true, true≢false, whole_run}
-use Rattle.silo_model.proofs.Common.{whole_step, ℕ}
+use Rattle.silo_model.proofs.Common.{◌++◌, ◌∙◌, ◌∷◌, ◌≡◌, Bool, Call, Client, Grain, List, Logic, Machine, None, Poke, Refuse, Setup, Some}
+use Rattle.silo_model.proofs.Common.{Status, Step, Sweep, Tick, Whole, [], ap, asking_of, concerns, concerns_by, cond, effect_of, false}
+use Rattle.silo_model.proofs.Common.{machine_run, none-some, owner_of, refl, same_text, same_text_decides, shown_to, subst, sym, true}
+use Rattle.silo_model.proofs.Common.{true≢false, whole_run, whole_step, ℕ}
 use Rattle.request_codec.specs.Call as codec
 use Rattle.silo_event.specs.declared.reply.Party.TheVariants as party
-use Rattle.silo_model.proofs.Contexts.{step_by_context}
 use Rattle.silo_model.proofs.EffectKinds.{role_of}
 use Rattle.silo_model.proofs.Isolation.{place_in}
 use Rattle.silo_model.proofs.Journals.{runs_on}
@@ -16,23 +14,35 @@ use Rattle.answer_model.specs.Apart.{TenantsApart, asked_by}
 use Rattle.answer_model.proofs.Owned.{AllOwned, AllOwned-append, other_run, own_run}
 use Rattle.answer_model.proofs.Reached.{IsReached, run_reached}
 use Rattle.answer_model.proofs.Served.{IsOwnIfAccepted, own_if_accepted, same_bringing, same_deliveries}
+use Rattle.silo_model.proofs.Tests.{on_found, on_test}
 
 pub owner_failed : (b : Bool) (s : Step) → owner_of (taken_by b s) ≡ owner_of s
 owner_failed false s = refl
-owner_failed true (Poke failed caller id grain state) = refl
-owner_failed true (Load grain failed) = refl
-owner_failed true (Store grain turn failed) = refl
+owner_failed true Sweep = refl
 owner_failed true _ = refl
+
+pub asking_taken : (b : Bool) (s : Step) → asking_of (taken_by b s) ≡ asking_of s
+asking_taken false s = refl
+asking_taken true Sweep = refl
+asking_taken true _ = refl
 
 pub taken_call : (b : Bool) (caller : Client) (id : ℕ) (g : Grain) (message : codec.Call) → taken_by b (Call caller id g message) ≡ Call caller id g message
 taken_call true caller id g message = refl
 taken_call false caller id g message = refl
 
--- a call is always answered in some way
-pub call_done : (logic : Logic) (w : Whole) (caller : Client) (id : ℕ) (g : Grain) (message : codec.Call) → whole_step logic w (Call caller id g message) ≡ None → ⊥
-unfolding effect_of
-call_done logic w caller id g message none =
-    none-some _ (sym none ∙ step_by_context logic w (Call caller id g message) caller.tenant (Some g) (Some (called logic (context_at (shown_to caller.tenant w) (Some g)) (party.Client caller id) g message)) refl refl refl)
+-- what a client asks is always answered in some way
+pub always_answered : (logic : Logic) (w : Whole) (s : Step) → whole_step logic w s ≡ None → asking_of s ≡ None
+unfolding whole_step effect_of
+always_answered logic w (Refuse caller id code) e = absurd (none-some _ (sym e))
+always_answered logic w (Call caller id grain message) e = absurd (none-some _ (sym e))
+always_answered logic w (Poke failed caller id grain state) e = absurd (none-some _ (sym e))
+always_answered logic w (Status caller id) e = absurd (none-some _ (sym e))
+always_answered logic w _ e = refl
+
+pub asked_done : (logic : Logic) (w : Whole) (b : Bool) (s : Step) (asking : Client × ℕ) → asking_of s ≡ Some asking
+    → whole_step logic w (taken_by b s) ≡ None → ⊥
+asked_done logic w b s asking is none =
+    none-some asking (sym (sym (asking_taken b s) ∙ always_answered logic w (taken_by b s) none) ∙ is)
 
 module _ (logic : Logic) (setup : Setup) (n : ℕ) where
   abbrev of_whole : Stepper Whole
@@ -48,7 +58,7 @@ module _ (logic : Logic) (setup : Setup) (n : ℕ) where
     call_own (Call caller id grain message) luck is =
         let same = taken_call luck.asking_failed caller id grain message in
         own_if_accepted logic setup tenant w (taken_by luck.asking_failed (Call caller id grain message)) luck reached is (party.Client caller id) (Some grain)
-        (ap role_of same) (ap (place_in w tenant) same) (λ none. call_done logic w caller id grain message (ap (whole_step logic w) (sym same) ∙ none))
+        (ap role_of same) (ap (place_in w tenant) same) (asked_done logic w luck.asking_failed (Call caller id grain message) (caller, id) refl)
     call_own _ luck is = λ g at accepted. absurd (none-some g at)
 
     -- what the tenant asks
@@ -85,39 +95,21 @@ module _ (logic : Logic) (setup : Setup) (n : ℕ) where
         → shown_to tenant (answered of_whole n w (record { step = s; lucks = lucks })) ≡ answered of_machine n (shown_to tenant w) (record { step = s; lucks = lucks })
     shared_asked (Tick now) lucks is = shared (first_luck lucks).asking_failed (Tick now) refl
     shared_asked Sweep lucks is = shared (first_luck lucks).asking_failed Sweep refl
-    shared_asked (Refuse caller id code) lucks is = absurd (let e = is in cc)
-    shared_asked (Call caller id grain message) lucks is = absurd (let e = is in cc)
-    shared_asked (Poke failed caller id grain state) lucks is = absurd (let e = is in cc)
-    shared_asked (Status caller id) lucks is = absurd (let e = is in cc)
-    shared_asked (Deliver grain) lucks is = absurd (let e = is in cc)
-    shared_asked (Activate grain) lucks is = absurd (let e = is in cc)
-    shared_asked (Load grain failed) lucks is = absurd (let e = is in cc)
-    shared_asked (Begin grain) lucks is = absurd (let e = is in cc)
-    shared_asked (Store grain turn failed) lucks is = absurd (let e = is in cc)
-    shared_asked (End grain turn) lucks is = absurd (let e = is in cc)
-    shared_asked (Abandon grain turn) lucks is = absurd (let e = is in cc)
+    shared_asked _ lucks is = absurd (let e = is in cc)
 
   -- ---- whoever asks
 
   one_asked : (w : Whole) (tenant : List ℕ) (asked : Asked) → IsReached logic setup w
       → shown_to tenant (answered of_whole n w asked) ≡ cond (concerns tenant asked.step) (answered of_machine n (shown_to tenant w) asked) (shown_to tenant w)
-  one_asked w tenant asked reached = by_owner (owner_of asked.step) refl
-    where
-      by_name : (owner : List ℕ) (b : Bool) → owner_of asked.step ≡ Some owner → same_text owner tenant ≡ b
-          → shown_to tenant (answered of_whole n w asked) ≡ cond b (answered of_machine n (shown_to tenant w) asked) (shown_to tenant w)
-      by_name owner true is same = own_asked w reached tenant asked (is ∙ ap Some ((same_text_decides owner tenant).0 same))
-      by_name owner false is apart =
-          other_run logic setup w reached owner (answering of_whole n w asked) (same_answering w reached owner asked is).1 tenant
-          (λ e. true≢false (sym ((same_text_decides owner tenant).1 (sym e)) ∙ apart))
-
-      by_owner : (o : Option (List ℕ)) → owner_of asked.step ≡ o
-          → shown_to tenant (answered of_whole n w asked) ≡ cond (concerns tenant asked.step) (answered of_machine n (shown_to tenant w) asked) (shown_to tenant w)
-      by_owner None is =
-          shared_asked w reached tenant asked.step asked.lucks is
-          ∙ ap (λ b. cond b (answered of_machine n (shown_to tenant w) asked) (shown_to tenant w)) (sym (ap (concerns_by tenant) is))
-      by_owner (Some owner) is =
-          by_name owner (same_text owner tenant) is refl
-          ∙ ap (λ b. cond b (answered of_machine n (shown_to tenant w) asked) (shown_to tenant w)) (sym (ap (concerns_by tenant) is))
+  one_asked w tenant asked reached =
+      let m : Machine = shown_to tenant w in
+      let So : Bool → Type 0 = λ b. shown_to tenant (answered of_whole n w asked) ≡ cond b (answered of_machine n m asked) m in
+      on_found (λ o. So (concerns_by tenant o)) (owner_of asked.step) (shared_asked w reached tenant asked.step asked.lucks)
+      (λ owner is.
+      on_test So (same_text owner tenant) (λ same. own_asked w reached tenant asked (is ∙ ap Some ((same_text_decides owner tenant).0 same)))
+      (λ apart.
+      other_run logic setup w reached owner (answering of_whole n w asked) (same_answering w reached owner asked is).1 tenant
+      (λ e. true≢false (sym ((same_text_decides owner tenant).1 (sym e)) ∙ apart))))
 
   all_of_cond : (b : Bool) (m : Machine) (asked : Asked) (rest : List Asked)
       → all_answered of_machine n (cond b (answered of_machine n m asked) m) rest ≡ all_answered of_machine n m (cond b (asked ∷ rest) rest)

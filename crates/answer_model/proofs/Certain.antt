@@ -18,11 +18,12 @@ use Rattle.answer_model.specs.Answering.{delivering, ending, first_luck, good, i
 use Rattle.answer_model.specs.Answering.{serving_if, storage_failed, taken, taken_by, turn_of, turn_of_first, turning, well, whole_stepper}
 use Rattle.answer_model.specs.Idle.{AllIdle}
 use Rattle.answer_model.specs.Certain.{AllWell, AnsweredCertainly, luckily, went_well}
-use Rattle.answer_model.proofs.Apart.{call_done, taken_call}
+use Rattle.answer_model.proofs.Apart.{asked_done, taken_call}
+use Rattle.silo_model.proofs.Tests.{on_found}
 use Rattle.answer_model.proofs.Brought.{Brings, brings, is_told, waits}
 use Rattle.answer_model.proofs.Raised.{IsAlone, Raises, begins, begun, begun_entry, is_open, none_to_turn, not_activated, raises_by}
 use Rattle.answer_model.proofs.Reached.{IsReached, run_reached}
-use Rattle.answer_model.proofs.Idle.{alone, asked_settles, delivering_goes, is_served, not_served, poke_done}
+use Rattle.answer_model.proofs.Idle.{alone, asked_settles, delivering_goes, is_served, not_served}
 use Rattle.answer_model.proofs.Served.{is_delivered, source_own, target_is}
 
 -- ---- lists of steps that went well
@@ -183,12 +184,11 @@ module _ (logic : Logic) (w : Whole) (idle : AllIdle w.entries) (s : Step) (luck
 module _ (logic : Logic) (w : Whole) (idle : AllIdle w.entries) (s : Step) (luck : Luck) (owner : List ℕ) (p : Party) (grain : Option Grain)
     (is : owner_of s ≡ Some owner) (role : role_of s ≡ asks p) (place : place_in w owner s ≡ grain) (can : whole_step logic w s ≡ None → ⊥) where
   asks_alike : AllWell (done logic w (bringing (whole_stepper logic) w s grain luck)) → bringing (whole_stepper logic) w s grain luck ≡ bringing (whole_stepper logic) w s grain good
-  asks_alike all = by_step (whole_step logic w s) refl
-    where
-      by_step : (r : Option Whole) → whole_step logic w s ≡ r → bringing (whole_stepper logic) w s grain luck ≡ bringing (whole_stepper logic) w s grain good
-      by_step None none = absurd (can none)
-      by_step (Some after) step =
-          brings_alike logic w idle s luck after step owner p grain (subst (Brings w after owner p) place (brings logic w after s owner p is role step)) all
+  asks_alike all =
+      on_found (λ _. bringing (whole_stepper logic) w s grain luck ≡ bringing (whole_stepper logic) w s grain good) (whole_step logic w s)
+      (λ none. absurd (can none))
+      (λ after step.
+      brings_alike logic w idle s luck after step owner p grain (subst (Brings w after owner p) place (brings logic w after s owner p is role step)) all)
 
 -- ---- what is asked
 
@@ -200,18 +200,18 @@ module _ (logic : Logic) (w : Whole) (idle : AllIdle w.entries) (luck : Luck) wh
   poke_alike : (b : Bool) (caller : Client) (id : ℕ) (g : Grain) (state : Tree) → AllWell (done logic w (taken_by b (Poke false caller id g state) ∷ []))
       → taken_by b (Poke false caller id g state) ≡ Poke false caller id g state
   poke_alike false caller id g state all = refl
-  poke_alike true caller id g state all = by_step (whole_step logic w (Poke true caller id g state)) refl
-    where
-      by_step : (r : Option Whole) → whole_step logic w (Poke true caller id g state) ≡ r → Poke true caller id g state ≡ Poke false caller id g state
-      by_step None none = absurd (poke_done logic w caller id true g state none)
-      by_step (Some after) step = absurd (true≢false (sym (first_well logic w after (Poke true caller id g state) [] step all).0))
+  poke_alike true caller id g state all =
+      let s : Step = Poke true caller id g state in
+      on_found (λ _. s ≡ Poke false caller id g state) (whole_step logic w s)
+      (λ none. absurd (asked_done logic w false s (caller, id) refl none))
+      (λ after step. absurd (true≢false (sym (first_well logic w after s [] step all).0)))
 
   call_alike : (caller : Client) (id : ℕ) (g : Grain) (message : codec.Call) → FirstAlike (Call caller id g message)
   call_alike caller id g message all =
       let s : Step = Call caller id g message in
       let same : taken_by luck.asking_failed s ≡ s = taken_call luck.asking_failed caller id g message in
       ap (λ x. bringing (whole_stepper logic) w x (Some g) luck) same
-      ∙ asks_alike logic w idle s luck caller.tenant (party.Client caller id) (Some g) refl refl refl (call_done logic w caller id g message)
+      ∙ asks_alike logic w idle s luck caller.tenant (party.Client caller id) (Some g) refl refl refl (asked_done logic w false s (caller, id) refl)
       (subst (λ x. AllWell (done logic w (bringing (whole_stepper logic) w x (Some g) luck))) same all)
 
   plainly : (b : Bool) (s : Step) → taken_by true s ≡ s → taken_by b s ≡ s
@@ -226,13 +226,7 @@ module _ (logic : Logic) (w : Whole) (idle : AllIdle w.entries) (luck : Luck) wh
   first_alike (Status caller id) asked all = ap (λ x. x ∷ []) (plainly luck.asking_failed (Status caller id) refl)
   first_alike (Tick now) asked all = ap (λ x. x ∷ []) (plainly luck.asking_failed (Tick now) refl)
   first_alike Sweep asked all = ap (λ x. x ∷ []) (plainly luck.asking_failed Sweep refl)
-  first_alike (Deliver g) asked all = absurd (true≢false (sym asked))
-  first_alike (Activate g) asked all = absurd (true≢false (sym asked))
-  first_alike (Load g failed) asked all = absurd (true≢false (sym asked))
-  first_alike (Begin g) asked all = absurd (true≢false (sym asked))
-  first_alike (Store g turn failed) asked all = absurd (true≢false (sym asked))
-  first_alike (End g turn) asked all = absurd (true≢false (sym asked))
-  first_alike (Abandon g turn) asked all = absurd (true≢false (sym asked))
+  first_alike _ asked all = absurd (true≢false (sym asked))
 
 -- ---- with the deliveries behind it
 
@@ -269,13 +263,7 @@ client_of (Poke failed caller id g state) owner own asked = ((caller, id), refl)
 client_of (Status caller id) owner own asked = ((caller, id), refl)
 client_of (Tick now) owner own asked = absurd (none-some owner own)
 client_of Sweep owner own asked = absurd (none-some owner own)
-client_of (Deliver g) owner own asked = absurd (true≢false (sym asked))
-client_of (Activate g) owner own asked = absurd (true≢false (sym asked))
-client_of (Load g failed) owner own asked = absurd (true≢false (sym asked))
-client_of (Begin g) owner own asked = absurd (true≢false (sym asked))
-client_of (Store g turn failed) owner own asked = absurd (true≢false (sym asked))
-client_of (End g turn) owner own asked = absurd (true≢false (sym asked))
-client_of (Abandon g turn) owner own asked = absurd (true≢false (sym asked))
+client_of _ owner own asked = absurd (true≢false (sym asked))
 
 module _ (logic : Logic) (setup : Setup) (n : ℕ) (w : Whole) (reached : IsReached logic setup w) (idle : AllIdle w.entries) (asked : Asked) (is : is_asked asked.step ≡ true) where
   abbrev luck : Luck

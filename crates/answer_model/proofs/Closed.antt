@@ -61,12 +61,9 @@ answers_left w after g q x outcome left idle replies =
     stays_or_goes_by x (λ c. after.entries ≡ change_at w.entries g c → Answers w after g q) (λ _ goes. answers_gone w after g q outcome goes replies)
     (λ _ stays. answers_put w after g q x outcome stays idle replies) left
 
--- the whole after a step that is done or isn't
+-- the whole after a step that is done
 pub run_done : (logic : Logic) (w after : Whole) (s : Step) (steps : List Step) → whole_step logic w s ≡ Some after → whole_run logic w (s ∷ steps) ≡ whole_run logic after steps
 run_done logic w after s steps step = ap (λ o. whole_run logic (unwrap_or o w) steps) step
-
-pub run_not : (logic : Logic) (w : Whole) (s : Step) (steps : List Step) → whole_step logic w s ≡ None → whole_run logic w (s ∷ steps) ≡ whole_run logic w steps
-run_not logic w s steps step = ap (λ o. whole_run logic (unwrap_or o w) steps) step
 
 module _ (logic : Logic) (w : Whole) (g : Grain) (e : Entry) (found : map.get w.entries g ≡ Some e) (q : Request) (open_turn : map.get e.turns q.number ≡ Some q)
     (state : Tree) (version : Option ℕ) (is : e.phase ≡ ready state version) (queue : e.queue ≡ []) (none : map.len (map.remove e.turns q.number) ≡ 0) where

@@ -1,18 +1,15 @@
 -- Whatever is asked where all is idle, all is idle again, and who asked was answered.
-use Rattle.silo_model.proofs.Common.{◌++◌, ◌∙◌, ◌∷◌, ◌≡◌, ◌⊎◌, Abandon, Account, Activate, Begin, Bool, Call, Change, Client, Context}
-use Rattle.silo_model.proofs.Common.{Deliver, Effect, End, Entry, Err, Fault, Grain, IsIdle, List, Load, Logic, None, Ok, Option, Party}
-use Rattle.silo_model.proofs.Common.{Poke, Refuse, Reply, Request, Result, Row, RowFault, Send, Setup, Some, Status, Step, Store, Sweep}
-use Rattle.silo_model.proofs.Common.{Tick, Tree, Whole, [], ap, append-nil, append_assoc, asking_of, change_at, cond, context_at, effect_of}
-use Rattle.silo_model.proofs.Common.{eq-eqb, eq_by_cmp, eq_by_cmp-Decides, eqb-true, false, false_from_ne_true, gate, get-insert_same}
-use Rattle.silo_model.proofs.Common.{grain_cmp, grain_cmp_exact, grain_cmp_total, inl, inr, keep, length, nat_cmp, none-some, owner_of}
-use Rattle.silo_model.proofs.Common.{poke_settled, poked, refl, reply_to, row_poked, row_told, same_Some, sends_of, shown_to, spent, spread}
-use Rattle.silo_model.proofs.Common.{stale, subst, suc, sym, told, true, true≢false, unwrap_or, whole_run, whole_step, with_request, zero}
-use Rattle.silo_model.proofs.Common.{ℕ}
+use Rattle.silo_model.proofs.Common.{◌++◌, ◌∙◌, ◌∷◌, ◌≡◌, ◌⊎◌, Account, Bool, Call, Change, Client, Context, Deliver, Effect, Entry, Err}
+use Rattle.silo_model.proofs.Common.{Fault, Grain, List, Logic, None, Ok, Option, Party, Poke, Refuse, Reply, Request, Result, Row}
+use Rattle.silo_model.proofs.Common.{RowFault, Send, Setup, Some, Status, Step, Sweep, Tick, Tree, Whole, [], ap, append-nil, append_assoc}
+use Rattle.silo_model.proofs.Common.{asking_of, change_at, cond, context_at, effect_of, eq-eqb, eq_by_cmp, eq_by_cmp-Decides, eqb-true}
+use Rattle.silo_model.proofs.Common.{false, false_from_ne_true, gate, get-insert_same, grain_cmp, grain_cmp_exact, grain_cmp_total, inl}
+use Rattle.silo_model.proofs.Common.{inr, keep, length, nat_cmp, none-some, owner_of, poke_settled, poked, refl, reply_to, row_poked}
+use Rattle.silo_model.proofs.Common.{row_told, same_Some, sends_of, shown_to, spent, spread, stale, subst, suc, sym, told, true, unwrap_or}
+use Rattle.silo_model.proofs.Common.{whole_run, whole_step, with_request, zero, ℕ}
 use Rattle.std.specs.FinMap as map
 use Rattle.request_codec.specs.Call as codec
-use Rattle.silo_event.specs.declared.refusal.Refusal.{Refusal}
 use Rattle.silo_event.specs.declared.reply.Party.TheVariants as party
-use Rattle.silo_model.proofs.Contexts.{step_by_context}
 use Rattle.silo_model.proofs.EffectKinds.{asks, role_of}
 use Rattle.silo_model.proofs.Isolation.{did, place_in, shared_by}
 use Rattle.silo_model.proofs.Runs.{whole_after, whole_run-append}
@@ -20,12 +17,14 @@ use Rattle.silo_model.proofs.SharedSteps.{shared_leaves}
 use Rattle.answer_model.specs.Answering.{Asked, Luck, Stepper, answered, bringing, called_grain, deliveries, deliveries_of, delivering}
 use Rattle.answer_model.specs.Answering.{first_luck, is_accepted, is_asked, later_luck, serving, serving_if, taken, taken_by, whole_stepper}
 use Rattle.answer_model.specs.Idle.{AllIdle, AllToGrains, AnsweredAtOnce, TellsAsker}
-use Rattle.answer_model.proofs.Apart.{call_done, owner_failed}
+use Rattle.answer_model.proofs.Apart.{asking_taken, owner_failed}
+use Rattle.silo_model.proofs.Tests.{either_way, on_found}
 use Rattle.answer_model.proofs.Brought.{Brings, brings, is_told, more_than_none, waits}
 use Rattle.answer_model.proofs.Closed.{Answers, elsewhere-insert, run_done}
 use Rattle.answer_model.proofs.Raised.{IsAlone, served}
 use Rattle.answer_model.proofs.Reached.{IsReached, run_reached}
 use Rattle.answer_model.proofs.Served.{is_delivered, source_own, target_is}
+pub use Rattle.answer_model.proofs.Apart.{asked_done}
 
 -- what a party is told: something, and a grain perhaps nothing
 abbrev pub IsAbout : Party → List Reply → Type 0
@@ -56,13 +55,10 @@ module _ (w after : Whole) (g : Grain) (q : Request) (idle : AllIdle w.entries)
   alone = alone_by (map.get w.entries g) refl (ap (λ m. map.get m g) entries ∙ get-insert_same grain_cmp_total grain_cmp_exact w.entries g _)
 
   idle_again : (last : Whole) → Answers after last g q → AllIdle last.entries
-  idle_again last answers h e found = by_test (eq_by_cmp grain_cmp h g) refl
-    where
-      by_test : (b : Bool) → eq_by_cmp grain_cmp h g ≡ b → IsIdle e
-      by_test true tied =
-          answers.idle e (ap (map.get last.entries) (sym ((eq_by_cmp-Decides grain_cmp_total grain_cmp_exact h g).0 tied)) ∙ found)
-      by_test false apart =
-          idle h e (sym (answers.elsewhere h apart ∙ ap (λ m. map.get m h) entries ∙ elsewhere-insert w.entries g _ h apart) ∙ found)
+  idle_again last answers h e found =
+      either_way (eq_by_cmp grain_cmp h g)
+      (λ tied. answers.idle e (ap (map.get last.entries) (sym ((eq_by_cmp-Decides grain_cmp_total grain_cmp_exact h g).0 tied)) ∙ found))
+      (λ apart. idle h e (sym (answers.elsewhere h apart ∙ ap (λ m. map.get m h) entries ∙ elsewhere-insert w.entries g _ h apart) ∙ found))
 
 -- ---- a step that may bring a request
 
@@ -140,38 +136,10 @@ poke_brings logic w after failed caller id g state step =
 
 -- ---- what a client asks
 
--- what a client asks is always answered in some way
-module _ (logic : Logic) (w : Whole) (caller : Client) (id : ℕ) where
-  refuse_done : (code : Refusal) → whole_step logic w (Refuse caller id code) ≡ None → ⊥
-  unfolding effect_of
-  refuse_done code none = none-some _ (sym none ∙ step_by_context logic w (Refuse caller id code) caller.tenant None _ refl refl refl)
-
-  status_done : whole_step logic w (Status caller id) ≡ None → ⊥
-  unfolding effect_of
-  status_done none = none-some _ (sym none ∙ step_by_context logic w (Status caller id) caller.tenant None _ refl refl refl)
-
-  pub poke_done : (failed : Bool) (g : Grain) (state : Tree) → whole_step logic w (Poke failed caller id g state) ≡ None → ⊥
-  unfolding effect_of
-  poke_done failed g state none = none-some _ (sym none ∙ step_by_context logic w (Poke failed caller id g state) caller.tenant (Some g) _ refl refl refl)
-
-pub asked_done : (logic : Logic) (w : Whole) (b : Bool) (s : Step) (asking : Client × ℕ) → asking_of s ≡ Some asking → whole_step logic w (taken_by b s) ≡ None → ⊥
-asked_done logic w true (Refuse caller id code) asking is = refuse_done logic w caller id code
-asked_done logic w false (Refuse caller id code) asking is = refuse_done logic w caller id code
-asked_done logic w true (Call caller id g message) asking is = call_done logic w caller id g message
-asked_done logic w false (Call caller id g message) asking is = call_done logic w caller id g message
-asked_done logic w true (Poke failed caller id g state) asking is = poke_done logic w caller id true g state
-asked_done logic w false (Poke failed caller id g state) asking is = poke_done logic w caller id failed g state
-asked_done logic w true (Status caller id) asking is = status_done logic w caller id
-asked_done logic w false (Status caller id) asking is = status_done logic w caller id
-asked_done logic w b (Deliver grain) asking is = absurd (none-some asking is)
-asked_done logic w b (Activate grain) asking is = absurd (none-some asking is)
-asked_done logic w b (Load grain failed) asking is = absurd (none-some asking is)
-asked_done logic w b (Begin grain) asking is = absurd (none-some asking is)
-asked_done logic w b (Store grain turn failed) asking is = absurd (none-some asking is)
-asked_done logic w b (End grain turn) asking is = absurd (none-some asking is)
-asked_done logic w b (Abandon grain turn) asking is = absurd (none-some asking is)
-asked_done logic w b (Tick now) asking is = absurd (none-some asking is)
-asked_done logic w b Sweep asking is = absurd (none-some asking is)
+called_taken : (b : Bool) (s : Step) → called_grain (taken_by b s) ≡ called_grain s
+called_taken false s = refl
+called_taken true Sweep = refl
+called_taken true _ = refl
 
 module _ (logic : Logic) (w : Whole) (idle : AllIdle w.entries) (luck : Luck) where
   abbrev Settling : Step → Option Grain → Party → Type 0
@@ -179,58 +147,36 @@ module _ (logic : Logic) (w : Whole) (idle : AllIdle w.entries) (luck : Luck) wh
 
   if_done : (s : Step) (grain : Option Grain) (p : Party) → (whole_step logic w s ≡ None → ⊥) → ((after : Whole) → whole_step logic w s ≡ Some after → Settling s grain p)
       → Settling s grain p
-  if_done s grain p done settling = by_step (whole_step logic w s) refl
-    where
-      by_step : (r : Option Whole) → whole_step logic w s ≡ r → Settling s grain p
-      by_step None e = absurd (done e)
-      by_step (Some after) e = settling after e
+  if_done s grain p done settling = on_found (λ _. Settling s grain p) (whole_step logic w s) (λ e. absurd (done e)) settling
 
-  refuse_settles : (caller : Client) (id : ℕ) (code : Refusal) → Settling (Refuse caller id code) None (party.Client caller id)
-  refuse_settles caller id code =
-      if_done _ None _ (refuse_done logic w caller id code)
-      (λ after step. settles_asking logic w idle (Refuse caller id code) luck after step caller.tenant (party.Client caller id) None refl refl refl)
+  -- a client's step, by what it brings
+  client_settles : (s : Step) (caller : Client) (id : ℕ) (grain : Option Grain) (asking : Client × ℕ) → asking_of s ≡ Some (caller, id)
+      → ((after : Whole) → whole_step logic w s ≡ Some after → Brings w after caller.tenant (party.Client caller id) grain)
+      → Some (caller, id) ≡ Some asking → Settling s grain (party.Client asking.0 asking.1)
+  client_settles s caller id grain asking is brought same =
+      subst (λ (a : Client × ℕ). Settling s grain (party.Client a.0 a.1)) (same_Some (caller, id) asking same)
+      (if_done s grain (party.Client caller id) (asked_done logic w false s (caller, id) is)
+      (λ after step. settles logic w idle s luck after step caller.tenant (party.Client caller id) grain (brought after step)))
 
-  status_settles : (caller : Client) (id : ℕ) → Settling (Status caller id) None (party.Client caller id)
-  status_settles caller id =
-      if_done _ None _ (status_done logic w caller id)
-      (λ after step. settles_asking logic w idle (Status caller id) luck after step caller.tenant (party.Client caller id) None refl refl refl)
-
-  call_settles : (caller : Client) (id : ℕ) (g : Grain) (message : codec.Call) → Settling (Call caller id g message) (Some g) (party.Client caller id)
-  call_settles caller id g message =
-      if_done _ (Some g) _ (call_done logic w caller id g message)
-      (λ after step. settles_asking logic w idle (Call caller id g message) luck after step caller.tenant (party.Client caller id) (Some g) refl refl refl)
-
-  poke_settles : (failed : Bool) (caller : Client) (id : ℕ) (g : Grain) (state : Tree) → Settling (Poke failed caller id g state) None (party.Client caller id)
-  poke_settles failed caller id g state =
-      if_done _ None _ (poke_done logic w caller id failed g state)
-      (λ after step. settles logic w idle (Poke failed caller id g state) luck after step caller.tenant (party.Client caller id) None (poke_brings logic w after failed caller id g state step))
+  asks_settle : (s : Step) (asking : Client × ℕ) → asking_of s ≡ Some asking → Settling s (called_grain s) (party.Client asking.0 asking.1)
+  asks_settle (Refuse caller id code) asking =
+      let s : Step = Refuse caller id code in
+      client_settles s caller id None asking refl (λ after. brings logic w after s caller.tenant (party.Client caller id) refl refl)
+  asks_settle (Call caller id g message) asking =
+      let s : Step = Call caller id g message in
+      client_settles s caller id (Some g) asking refl (λ after. brings logic w after s caller.tenant (party.Client caller id) refl refl)
+  asks_settle (Poke failed caller id g state) asking =
+      client_settles (Poke failed caller id g state) caller id None asking refl (λ after. poke_brings logic w after failed caller id g state)
+  asks_settle (Status caller id) asking =
+      let s : Step = Status caller id in
+      client_settles s caller id None asking refl (λ after. brings logic w after s caller.tenant (party.Client caller id) refl refl)
+  asks_settle _ asking = λ is. absurd (none-some asking is)
 
   pub asked_settles : (s : Step) (asking : Client × ℕ) → asking_of s ≡ Some asking
       → Settling (taken_by luck.asking_failed s) (called_grain s) (party.Client asking.0 asking.1)
-  asked_settles s asking is = by_flag luck.asking_failed s is
-    where
-      as_client : (s : Step) (grain : Option Grain) (caller : Client) (id : ℕ) → Some (caller, id) ≡ Some asking → Settling s grain (party.Client caller id)
-          → Settling s grain (party.Client asking.0 asking.1)
-      as_client s grain caller id same settling = subst (λ (a : Client × ℕ). Settling s grain (party.Client a.0 a.1)) (same_Some (caller, id) asking same) settling
-
-      by_flag : (b : Bool) (s : Step) → asking_of s ≡ Some asking → Settling (taken_by b s) (called_grain s) (party.Client asking.0 asking.1)
-      by_flag true (Refuse caller id code) is = as_client (Refuse caller id code) None caller id is (refuse_settles caller id code)
-      by_flag false (Refuse caller id code) is = as_client (Refuse caller id code) None caller id is (refuse_settles caller id code)
-      by_flag true (Call caller id g message) is = as_client (Call caller id g message) (Some g) caller id is (call_settles caller id g message)
-      by_flag false (Call caller id g message) is = as_client (Call caller id g message) (Some g) caller id is (call_settles caller id g message)
-      by_flag true (Poke failed caller id g state) is = as_client (Poke true caller id g state) None caller id is (poke_settles true caller id g state)
-      by_flag false (Poke failed caller id g state) is = as_client (Poke failed caller id g state) None caller id is (poke_settles failed caller id g state)
-      by_flag true (Status caller id) is = as_client (Status caller id) None caller id is (status_settles caller id)
-      by_flag false (Status caller id) is = as_client (Status caller id) None caller id is (status_settles caller id)
-      by_flag b (Deliver grain) is = absurd (none-some asking is)
-      by_flag b (Activate grain) is = absurd (none-some asking is)
-      by_flag b (Load grain failed) is = absurd (none-some asking is)
-      by_flag b (Begin grain) is = absurd (none-some asking is)
-      by_flag b (Store grain turn failed) is = absurd (none-some asking is)
-      by_flag b (End grain turn) is = absurd (none-some asking is)
-      by_flag b (Abandon grain turn) is = absurd (none-some asking is)
-      by_flag b (Tick now) is = absurd (none-some asking is)
-      by_flag b Sweep is = absurd (none-some asking is)
+  asked_settles s asking is =
+      subst (λ grain. Settling (taken_by luck.asking_failed s) grain (party.Client asking.0 asking.1)) (called_taken luck.asking_failed s)
+      (asks_settle (taken_by luck.asking_failed s) asking (asking_taken luck.asking_failed s ∙ is))
 
 -- ---- deliveries
 
@@ -283,15 +229,7 @@ owner_by_asking (Refuse caller id code) asking is = ap (λ (a : Client × ℕ). 
 owner_by_asking (Call caller id g message) asking is = ap (λ (a : Client × ℕ). Some a.0.tenant) (same_Some (caller, id) asking is)
 owner_by_asking (Poke failed caller id g state) asking is = ap (λ (a : Client × ℕ). Some a.0.tenant) (same_Some (caller, id) asking is)
 owner_by_asking (Status caller id) asking is = ap (λ (a : Client × ℕ). Some a.0.tenant) (same_Some (caller, id) asking is)
-owner_by_asking (Deliver grain) asking is = absurd (none-some asking is)
-owner_by_asking (Activate grain) asking is = absurd (none-some asking is)
-owner_by_asking (Load grain failed) asking is = absurd (none-some asking is)
-owner_by_asking (Begin grain) asking is = absurd (none-some asking is)
-owner_by_asking (Store grain turn failed) asking is = absurd (none-some asking is)
-owner_by_asking (End grain turn) asking is = absurd (none-some asking is)
-owner_by_asking (Abandon grain turn) asking is = absurd (none-some asking is)
-owner_by_asking (Tick now) asking is = absurd (none-some asking is)
-owner_by_asking Sweep asking is = absurd (none-some asking is)
+owner_by_asking _ asking is = absurd (none-some asking is)
 
 client_told : (caller : Client) (id : ℕ) (added : List Reply) → IsAbout (party.Client caller id) added → (outcome : Result Tree Fault) × (added ≡ told (party.Client caller id) outcome)
 client_told caller id added (outcome, inl is) = (outcome, is)
@@ -324,13 +262,11 @@ module _ (logic : Logic) (setup : Setup) (n : ℕ) (w : Whole) (reached : IsReac
 
   -- what nobody asks
   nobodys : (s : Step) → owner_of s ≡ None → AllIdle (whole_run logic w (s ∷ [])).entries × ((whole_run logic w (s ∷ [])).replies ≡ w.replies)
-  nobodys s is = by_step (whole_step logic w s) refl
-    where
-      by_step : (r : Option Whole) → whole_step logic w s ≡ r → AllIdle (unwrap_or r w).entries × ((unwrap_or r w).replies ≡ w.replies)
-      by_step None e = (idle, refl)
-      by_step (Some after) e =
-          let leaves = shared_leaves w after s (sym (shared_by logic w s is) ∙ e) in
-          ((λ g x found. idle g x (leaves.entries g x found)), leaves.replies)
+  nobodys s is =
+      on_found (λ r. AllIdle (unwrap_or r w).entries × ((unwrap_or r w).replies ≡ w.replies)) (whole_step logic w s) (λ _. (idle, refl))
+      (λ after e.
+      let leaves = shared_leaves w after s (sym (shared_by logic w s is) ∙ e) in
+      ((λ g x found. idle g x (leaves.entries g x found)), leaves.replies))
 
   by_flag : (b : Bool) (s : Step) → owner_of s ≡ None → AllIdle (whole_run logic w (taken_by b s ∷ [])).entries × ((whole_run logic w (taken_by b s ∷ [])).replies ≡ w.replies)
   by_flag b s is = nobodys (taken_by b s) (owner_failed b s ∙ is)
@@ -339,17 +275,7 @@ module _ (logic : Logic) (setup : Setup) (n : ℕ) (w : Whole) (reached : IsReac
   at_once s lucks (Some asking) is asked = clients_asked (record { step = s; lucks = lucks }) asking is
   at_once (Tick now) lucks None is asked = by_flag (first_luck lucks).asking_failed (Tick now) refl
   at_once Sweep lucks None is asked = by_flag (first_luck lucks).asking_failed Sweep refl
-  at_once (Refuse caller id code) lucks None is asked = absurd (none-some _ (sym is))
-  at_once (Call caller id g message) lucks None is asked = absurd (none-some _ (sym is))
-  at_once (Poke failed caller id g state) lucks None is asked = absurd (none-some _ (sym is))
-  at_once (Status caller id) lucks None is asked = absurd (none-some _ (sym is))
-  at_once (Deliver grain) lucks None is asked = absurd (true≢false (sym asked))
-  at_once (Activate grain) lucks None is asked = absurd (true≢false (sym asked))
-  at_once (Load grain failed) lucks None is asked = absurd (true≢false (sym asked))
-  at_once (Begin grain) lucks None is asked = absurd (true≢false (sym asked))
-  at_once (Store grain turn failed) lucks None is asked = absurd (true≢false (sym asked))
-  at_once (End grain turn) lucks None is asked = absurd (true≢false (sym asked))
-  at_once (Abandon grain turn) lucks None is asked = absurd (true≢false (sym asked))
+  at_once _ lucks None is asked = absurd (let e = is in let a = asked in cc)
 
 pub answered_at_once : AnsweredAtOnce
 answered_at_once logic setup journal w n asked leads idle is = at_once logic setup n w (journal, leads) idle asked.step asked.lucks (asking_of asked.step) refl is

@@ -3,11 +3,10 @@ use Rattle.silo_model.proofs.Common.{if◌then◌else◌, ◌++◌, ◌==◌, �
 use Rattle.silo_model.proofs.Common.{List, Load, Logic, Machine, None, Option, Party, Reply, Request, Send, Setup, Some, Step, Store, Whole}
 use Rattle.silo_model.proofs.Common.{[], ap, arith, cond, delivery_of, eq-eqb, eqb-true, false, first_from, first_target, grain_eq_decides}
 use Rattle.silo_model.proofs.Common.{is_some, length, length-append, machine_run, machine_step, none-some, option_map, owner_of, refl}
-use Rattle.silo_model.proofs.Common.{same_Some, sends_of, shown_to, subst, suc, sym, true, true≢false, unwrap_or, whole_run, whole_step}
-use Rattle.silo_model.proofs.Common.{zero, ℕ}
+use Rattle.silo_model.proofs.Common.{same_Some, sends_of, shown_to, subst, suc, sym, true, unwrap_or, whole_run, whole_step, zero, ℕ}
 use Rattle.std.specs.FinMap as map
 use Rattle.silo_event.specs.declared.reply.Party.TheVariants as party
-use Rattle.silo_model.proofs.Contexts.{get-own, shown_account}
+use Rattle.silo_model.proofs.Contexts.{shown_account, shown_own}
 use Rattle.silo_model.proofs.EffectKinds.{asks, role_of}
 use Rattle.silo_model.proofs.Isolation.{owner_not_now, place_in}
 use Rattle.silo_model.proofs.Journals.{adds_replies, owners_part}
@@ -20,6 +19,8 @@ use Rattle.answer_model.specs.Answering.{storage_failed, turn_of, turn_of_first,
 use Rattle.answer_model.proofs.Brought.{Waits, accepted_waits, brings, it_waits}
 use Rattle.answer_model.proofs.Owned.{AllOwned, AllOwned-append, own_run}
 use Rattle.answer_model.proofs.Reached.{IsReached, run_reached, step_reached}
+use Rattle.finite_maps.proofs.Values.{same_answer}
+use Rattle.silo_model.proofs.Tests.{on_found, on_test}
 
 -- ---- the steps of a request at an own grain
 
@@ -54,13 +55,7 @@ module _ {M : Type 0} (by : Stepper M) (m : M) (g : Grain) (how : Closing) where
 -- ---- whether a request was accepted
 
 same_test : (a b c d : ℕ) → (a ≡ b → c ≡ d) → (c ≡ d → a ≡ b) → (a == b) ≡ (c == d)
-same_test a b c d to from = by_tests (a == b) (c == d) refl refl
-  where
-    by_tests : (p q : Bool) → (a == b) ≡ p → (c == d) ≡ q → p ≡ q
-    by_tests true true h k = refl
-    by_tests true false h k = absurd (true≢false (sym (eq-eqb c d (to (eqb-true a b h))) ∙ k))
-    by_tests false true h k = absurd (true≢false (sym (eq-eqb a b (from (eqb-true c d k))) ∙ h))
-    by_tests false false h k = refl
+same_test a b c d to from = same_answer (a == b) (c == d) (λ h. eq-eqb c d (to (eqb-true a b h))) (λ h. eq-eqb a b (from (eqb-true c d h)))
 
 module _ (logic : Logic) (setup : Setup) (tenant : List ℕ) where
   abbrev of_whole : Stepper Whole
@@ -92,10 +87,6 @@ module _ (logic : Logic) (setup : Setup) (tenant : List ℕ) where
 
   -- ---- one request
 
-  shown_entry : (w : Whole) (g : Grain) → g.tenant ≡ tenant → map.get (shown_to tenant w).entries g ≡ map.get w.entries g
-  unfolding shown_to
-  shown_entry w g own = get-own w.entries tenant g own
-
   pub serving_owned : (w : Whole) (g : Grain) (luck : Luck) → g.tenant ≡ tenant → AllOwned tenant (serving of_whole w g luck)
   serving_owned w g luck own =
       let up = raising of_whole w g luck.loading_failed in
@@ -105,11 +96,10 @@ module _ (logic : Logic) (setup : Setup) (tenant : List ℕ) where
 
   -- what the tenant can do is possible in its machine where it is in the whole
   same_can : (w : Whole) (s : Step) → IsReached logic setup w → owner_of s ≡ Some tenant → can of_whole w s ≡ can of_machine (shown_to tenant w) s
-  same_can w s reached is = by_step (whole_step logic w s) refl
-    where
-      by_step : (r : Option Whole) → whole_step logic w s ≡ r → is_some r ≡ is_some (machine_step logic (shown_to tenant w) s)
-      by_step None e = sym (ap is_some (owner_not_now logic w s tenant is e))
-      by_step (Some after) e = sym (ap is_some (owners_part logic setup reached.0 w after s tenant reached.1 is e))
+  same_can w s reached is =
+      on_found (λ r. is_some r ≡ is_some (machine_step logic (shown_to tenant w) s)) (whole_step logic w s)
+      (λ e. sym (ap is_some (owner_not_now logic w s tenant is e)))
+      (λ after e. sym (ap is_some (owners_part logic setup reached.0 w after s tenant reached.1 is e)))
 
   module _ (w : Whole) (g : Grain) (reached : IsReached logic setup w) (own : g.tenant ≡ tenant) where
     same_raising : (failed : Bool) → raising of_whole w g failed ≡ raising of_machine (shown_to tenant w) g failed
@@ -138,7 +128,7 @@ module _ (logic : Logic) (setup : Setup) (tenant : List ℕ) where
     same_turning : turning of_whole w g how ≡ turning of_machine (shown_to tenant w) g how
     same_turning =
         (λ i. if same_can w (Begin g) reached (ap Some own) i then same_turn (map.get w.entries g) i else [])
-        ∙ ap (λ found. if can of_machine (shown_to tenant w) (Begin g) then turn_of of_machine (shown_to tenant w) g how found else []) (sym (shown_entry w g own))
+        ∙ ap (λ found. if can of_machine (shown_to tenant w) (Begin g) then turn_of of_machine (shown_to tenant w) g how found else []) (sym (shown_own w tenant g own))
 
   same_serving : (w : Whole) (g : Grain) (luck : Luck) → IsReached logic setup w → g.tenant ≡ tenant
       → serving of_whole w g luck ≡ serving of_machine (shown_to tenant w) g luck
@@ -170,18 +160,18 @@ module _ (logic : Logic) (setup : Setup) (tenant : List ℕ) where
         → (serving_if of_whole w after grain luck ≡ serving_if of_machine (shown_to tenant w) machines grain luck)
         × AllOwned tenant (serving_if of_whole w after grain luck)
     same_if None own = (refl, tt)
-    same_if (Some g) own = by_test (is_accepted of_whole w after) refl
-      where
-        by_test : (b : Bool) → is_accepted of_whole w after ≡ b
-            → (cond b (serving of_whole after g luck) [] ≡ serving_if of_machine (shown_to tenant w) machines (Some g) luck)
-            × AllOwned tenant (cond b (serving of_whole after g luck) [])
-        by_test true accepted = (
+    same_if (Some g) own =
+        let mine : Bool → List Step = λ b. cond b (serving of_machine machines g luck) [] in
+        let steps : Bool → List Step = λ b. cond b (serving of_whole after g luck) [] in
+        on_test (λ b. (steps b ≡ serving_if of_machine (shown_to tenant w) machines (Some g) luck) × AllOwned tenant (steps b))
+        (is_accepted of_whole w after)
+        (λ accepted. (
           same_serving after g luck (step_reached logic setup w s reached) (own g refl accepted)
               ∙ ap (λ m. serving of_machine m g luck) shown_after
-              ∙ ap (λ b. cond b (serving of_machine machines g luck) []) (sym (sym (same_accepted w s reached is) ∙ accepted)),
+              ∙ ap mine (sym (sym (same_accepted w s reached is) ∙ accepted)),
           serving_owned after g luck (own g refl accepted),
-        )
-        by_test false refused = (ap (λ b. cond b (serving of_machine machines g luck) []) (sym (sym (same_accepted w s reached is) ∙ refused)), tt)
+        ))
+        (λ refused. (ap mine (sym (sym (same_accepted w s reached is) ∙ refused)), tt))
 
     pub same_bringing : (grain : Option Grain) → IsOwnIfAccepted grain
         → (bringing of_whole w s grain luck ≡ bringing of_machine (shown_to tenant w) s grain luck) × AllOwned tenant (bringing of_whole w s grain luck)
@@ -192,14 +182,14 @@ module _ (logic : Logic) (setup : Setup) (tenant : List ℕ) where
     -- a request that is accepted is at a grain of its own tenant
     pub own_if_accepted : (p : Party) (grain : Option Grain) → role_of s ≡ asks p → place_in w tenant s ≡ grain → (whole_step logic w s ≡ None → ⊥)
         → IsOwnIfAccepted grain
-    own_if_accepted p grain role place done g at accepted = by_step (whole_step logic w s) refl accepted
+    own_if_accepted p grain role place done g at =
+        on_found (λ r. is_accepted of_whole w (unwrap_or r w) ≡ true → g.tenant ≡ tenant) (whole_step logic w s) (λ e. absurd (done e))
+        (λ x e h.
+        at_waiting x (place_in w tenant s) (place ∙ at)
+        (accepted_waits logic w x tenant p (place_in w tenant s) (brings logic w x s tenant p is role e) h))
       where
         at_waiting : (x : Whole) (o : Option Grain) → o ≡ Some g → Waits w x tenant p o → g.tenant ≡ tenant
         at_waiting x _ e (it_waits h q own sender entries replies) = sym (ap (λ (y : Grain). y.tenant) (same_Some h g e)) ∙ own
-
-        by_step : (r : Option Whole) → whole_step logic w s ≡ r → is_accepted of_whole w (unwrap_or r w) ≡ true → g.tenant ≡ tenant
-        by_step None e h = absurd (done e)
-        by_step (Some x) e h = at_waiting x (place_in w tenant s) (place ∙ at) (accepted_waits logic w x tenant p (place_in w tenant s) (brings logic w x s tenant p is role e) h)
 
   -- ---- what the tenant's grains sent
 
