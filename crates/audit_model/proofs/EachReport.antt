@@ -5,7 +5,7 @@ use Rattle.silo_model.proofs.Common.{arith, eq_by_cmp, false, grain_cmp, grain_c
 use Rattle.silo_model.proofs.Common.{list_any-append, machine_all_done, machine_step, map_list, none-some, option_and_then, or_right, refl}
 use Rattle.silo_model.proofs.Common.{same_Some, start_of, subst, sym, tied_itself, true, true≢false, ℕ}
 use Rattle.std.specs.Coded.{codes}
-use Rattle.std.specs.declared.cmp.Ordering.TheVariants.{Equal, Greater}
+use Rattle.std.specs.declared.cmp.Ordering.TheVariants.{Equal}
 use Rattle.std.specs.FinMap as map
 use Rattle.std.proofs.lemmas.Bool.{or_left}
 use base.Stored.{Coded}
@@ -19,6 +19,7 @@ use Rattle.journal_text.specs.declared.recorded.RecordedReply.{RecordedReply}
 use Rattle.audit_model.specs.Parts.{all_recorded, replies_for, rows_for, setup_of, steps_for, tenants_in}
 use Rattle.audit_model.specs.Difference.{AtEnd, DifferAt, Difference, IsDifference, RowsDifferAt, at_reply, at_row, at_step, first_of}
 use Rattle.audit_model.specs.Report.{EachReport, IsTenantReport, TenantReport}
+use Rattle.silo_model.proofs.Tests.{either_way, on_found, on_test}
 
 coded_reply : Coded RecordedReply
 coded_reply = Prim.hlevel (codes, coded_tree, coded_code_and_text)
@@ -58,11 +59,9 @@ module _ {A : Type 0} (c : Coded A) where
   place_of [] [] = (None, refl)
   place_of [] (y ∷ ys) = place_here [] (y ∷ ys) (λ e. none-some y e)
   place_of (x ∷ xs) [] = place_here (x ∷ xs) [] (λ e. none-some x (sym e))
-  place_of (x ∷ xs) (y ∷ ys) = by_test (same_by_code c x y) refl (place_of xs ys)
-    where
-      by_test : (b : Bool) → same_by_code c x y ≡ b → (o : Option ℕ) × IsPlace xs ys o → (o : Option ℕ) × IsPlace (x ∷ xs) (y ∷ ys) o
-      by_test true is rest = place_later x y xs ys ((same_by_code_decides c x y).0 is) rest
-      by_test false is rest = place_here (x ∷ xs) (y ∷ ys) (λ e. apart_by (same_by_code c x y) (same_by_code_decides c x y) is (same_Some x y e))
+  place_of (x ∷ xs) (y ∷ ys) =
+      either_way (same_by_code c x y) (λ is. place_later x y xs ys ((same_by_code_decides c x y).0 is) (place_of xs ys))
+      (λ is. place_here (x ∷ xs) (y ∷ ys) (λ e. apart_by (same_by_code c x y) (same_by_code_decides c x y) is (same_Some x y e)))
 
 -- ---- the rows
 
@@ -76,66 +75,55 @@ module _ (rows others : Rows) where
   IsLeast grains (Some g) = (Alike g → ⊥) × AllByRecursion (λ h. grain_cmp h g ≡ Less → Alike h) grains
 
   not_below : (g : Grain) → grain_cmp g g ≡ Less → Alike g
-  not_below g below = absurd (less_equal (sym below ∙ tied_itself grain_cmp_total g))
-    where
-      less_equal : Less ≡ Equal → ⊥
-      less_equal e = absurd cc
+  not_below g below = absurd (let e : Less ≡ Equal = sym below ∙ tied_itself grain_cmp_total g in cc)
 
-  of_all : (g : Grain) (grains : List Grain) → AllByRecursion Alike grains → AllByRecursion (λ h. grain_cmp h g ≡ Less → Alike h) grains
-  of_all g grains all = all_weaker _ _ grains (λ h same below. same) all
-
-  of_less : (k g : Grain) (grains : List Grain) → grain_cmp k g ≡ Less → AllByRecursion (λ h. grain_cmp h g ≡ Less → Alike h) grains → AllByRecursion (λ h. grain_cmp h k ≡ Less → Alike h) grains
-  of_less k g grains below all = all_weaker _ _ grains (λ h same under. same (grain_cmp_total.trans h k g under below)) all
+  -- the rows below a grain are alike
+  abbrev AlikeBelow : Grain → Grain → Type 0
+  AlikeBelow g h = grain_cmp h g ≡ Less → Alike h
 
   least_alike : (k : Grain) (grains : List Grain) → Alike k → (o : Option Grain) × IsLeast grains o → (o : Option Grain) × IsLeast (k ∷ grains) o
   least_alike k grains same (None, all) = (None, (same, all))
   least_alike k grains same (Some g, least) = (Some g, (least.0, (λ below. same, least.1)))
 
   least_apart : (k : Grain) (grains : List Grain) → (Alike k → ⊥) → (o : Option Grain) × IsLeast grains o → (o : Option Grain) × IsLeast (k ∷ grains) o
-  least_apart k grains apart (None, all) = (Some k, (apart, (not_below k, of_all k grains all)))
+  least_apart k grains apart (None, all) =
+      (Some k, (apart, (not_below k, all_weaker Alike (AlikeBelow k) grains (λ h same below. same) all)))
   least_apart k grains apart (Some g, least) = by_order (grain_cmp k g) refl
     where
       by_order : (r : Ordering) → grain_cmp k g ≡ r → (o : Option Grain) × IsLeast (k ∷ grains) o
-      by_order Less is = (Some k, (apart, (not_below k, of_less k g grains is least.1)))
-      by_order Equal is = (Some g, (least.0, (λ below. absurd (other (sym below ∙ is)), least.1)))
-        where
-          other : Less ≡ Equal → ⊥
-          other e = absurd cc
-      by_order Greater is = (Some g, (least.0, (λ below. absurd (other (sym below ∙ is)), least.1)))
-        where
-          other : Less ≡ Greater → ⊥
-          other e = absurd cc
+      by_order Less is =
+          let lower = all_weaker (AlikeBelow g) (AlikeBelow k) grains (λ h same under. same (grain_cmp_total.trans h k g under is)) least.1 in
+          (Some k, (apart, (not_below k, lower)))
+      by_order _ is = (Some g, (least.0, (λ below. absurd (let e = sym below ∙ is in cc), least.1)))
 
   least_of : (grains : List Grain) → (o : Option Grain) × IsLeast grains o
   least_of [] = (None, tt)
-  least_of (k ∷ grains) = by_test (same_by_code coded_found (map.get rows k) (map.get others k)) refl (least_of grains)
-    where
-      by_test : (b : Bool) → same_by_code coded_found (map.get rows k) (map.get others k) ≡ b → (o : Option Grain) × IsLeast grains o → (o : Option Grain) × IsLeast (k ∷ grains) o
-      by_test true is rest = least_alike k grains ((same_by_code_decides coded_found _ _).0 is) rest
-      by_test false is rest = least_apart k grains (apart_by _ (same_by_code_decides coded_found (map.get rows k) (map.get others k)) is) rest
+  least_of (k ∷ grains) =
+      let decides = same_by_code_decides coded_found (map.get rows k) (map.get others k) in
+      either_way (same_by_code coded_found (map.get rows k) (map.get others k))
+      (λ is. least_alike k grains (decides.0 is) (least_of grains)) (λ is. least_apart k grains (apart_by _ decides is) (least_of grains))
 
   abbrev all_grains : List Grain
   all_grains = map.keys rows ++ map.keys others
 
   listed_of : (P : Grain → Type 0) (g : Grain) (grains : List Grain) → list_any (eq_by_cmp grain_cmp g) grains ≡ true → AllByRecursion P grains → P g
   listed_of P g [] listed all = absurd (true≢false (sym listed))
-  listed_of P g (h ∷ grains) listed all = by_tie (eq_by_cmp grain_cmp g h) refl listed (λ l. listed_of P g grains l all.1)
-    where
-      by_tie : (b : Bool) → eq_by_cmp grain_cmp g h ≡ b → (b || list_any (eq_by_cmp grain_cmp g) grains) ≡ true → (list_any (eq_by_cmp grain_cmp g) grains ≡ true → P g) → P g
-      by_tie true tied l rest = subst P (sym (grain_cmp_exact g h ((Equal-is (grain_cmp g h)).0 tied))) all.0
-      by_tie false tied l rest = rest l
+  listed_of P g (h ∷ grains) listed all =
+      on_test (λ b. (b || list_any (eq_by_cmp grain_cmp g) grains) ≡ true → P g) (eq_by_cmp grain_cmp g h)
+      (λ tied l. subst P (sym (grain_cmp_exact g h ((Equal-is (grain_cmp g h)).0 tied))) all.0)
+      (λ _ l. listed_of P g grains l all.1) listed
 
   in_all : (g : Grain) → list_any (eq_by_cmp grain_cmp g) all_grains ≡ (is_some (map.get rows g) || is_some (map.get others g))
   in_all g = list_any-append (eq_by_cmp grain_cmp g) (map.keys rows) (map.keys others) ∙ (λ i. sym (map.contains_key-keys rows g) i || sym (map.contains_key-keys others g) i)
 
   -- what holds of each grain that has a row in one of them, holds of all, if it holds of grains that have the same rows
   at_all : (P : Grain → Type 0) → ((g : Grain) → Alike g → P g) → AllByRecursion P all_grains → (g : Grain) → P g
-  at_all P same all g = by_found (map.get rows g) refl (map.get others g) refl
-    where
-      by_found : (a : Option Row) → map.get rows g ≡ a → (b : Option Row) → map.get others g ≡ b → P g
-      by_found None is None is_too = same g (is ∙ sym is_too)
-      by_found (Some row) is b is_too = listed_of P g all_grains (in_all g ∙ or_left _ _ (ap is_some is)) all
-      by_found None is (Some row) is_too = listed_of P g all_grains (in_all g ∙ or_right _ _ (ap is_some is_too)) all
+  at_all P same all g =
+      on_found (λ _. P g) (map.get rows g)
+      (λ is.
+      on_found (λ _. P g) (map.get others g) (λ is_too. same g (is ∙ sym is_too))
+      (λ row is_too. listed_of P g all_grains (in_all g ∙ or_right _ _ (ap is_some is_too)) all))
+      (λ row is. listed_of P g all_grains (in_all g ∙ or_left _ _ (ap is_some is)) all)
 
   abbrev IsFirstRow : Option Grain → Type 0
   IsFirstRow None = rows ≡ others
@@ -144,9 +132,6 @@ module _ (rows others : Rows) where
   row_by : (o : Option Grain) × IsLeast all_grains o → (o : Option Grain) × IsFirstRow o
   row_by (None, all) = (None, alike rows others (at_all Alike (λ g same. same) all))
   row_by (Some g, least) = (Some g, record { apart = least.0; least = at_all (λ h. grain_cmp h g ≡ Less → Alike h) (λ h same below. same) least.1 })
-
-  first_row : (o : Option Grain) × IsFirstRow o
-  first_row = row_by (least_of all_grains)
 
 -- ---- the first difference
 
@@ -159,7 +144,7 @@ module _ (logic : Logic) (replies : List RecordedReply) (rows : Rows) where
   at_rows m same (Some g, row) = (Some (at_row g), (m, refl, (same, row)))
 
   at_replies : (m : Machine) → (o : Option ℕ) × IsPlace replies (all_recorded m.replies) o → Differs m []
-  at_replies m (None, same) = at_rows m same (first_row rows m.rows)
+  at_replies m (None, same) = at_rows m same (row_by rows m.rows (least_of rows m.rows (all_grains rows m.rows)))
   at_replies m (Some n, place) = (Some (at_reply n), (m, refl, place))
 
   end_later : (m next : Machine) (s : Step) (steps : List Step) (holds : Machine → Type 0) → machine_step logic m s ≡ Some next → AtEnd logic next steps holds → AtEnd logic m (s ∷ steps) holds
@@ -183,16 +168,15 @@ module _ (logic : Logic) (replies : List RecordedReply) (rows : Rows) where
   later m next s steps step (Some (at_reply n), end) = (Some (at_reply n), end_later m next s steps _ step end)
   later m next s steps step (Some (at_row g), end) = (Some (at_row g), end_later m next s steps _ step end)
 
-  stops_here : (m : Machine) (s : Step) (steps : List Step) → machine_step logic m s ≡ None → Differs m (s ∷ steps)
-  stops_here m s steps none = (Some (at_step 1), record { before = []; step = s; after = steps; reached = m; parts = refl; place = omega arith; done = refl; stops = none })
-
   first_difference : (m : Machine) (steps : List Step) → Differs m steps
   first_difference m [] = at_replies m (place_of coded_reply replies (all_recorded m.replies))
-  first_difference m (s ∷ steps) = by_step (machine_step logic m s) refl (λ next. first_difference next steps)
-    where
-      by_step : (r : Option Machine) → machine_step logic m s ≡ r → ((next : Machine) → Differs next steps) → Differs m (s ∷ steps)
-      by_step None is rest = stops_here m s steps is
-      by_step (Some next) is rest = later m next s steps is (rest next)
+  first_difference m (s ∷ steps) =
+      on_found (λ _. Differs m (s ∷ steps)) (machine_step logic m s)
+      (λ none. (
+        Some (at_step 1),
+        record { before = []; step = s; after = steps; reached = m; parts = refl; place = omega arith; done = refl; stops = none },
+      ))
+      (λ next is. later m next s steps is (first_difference next steps))
 
 -- ---- the report
 

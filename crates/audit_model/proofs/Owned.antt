@@ -1,7 +1,6 @@
 -- The tenants of whom a journal has something are reported, and a tenant's machine starts as the journal says.
-use Rattle.silo_model.proofs.Common.{◌++◌, ◌||◌, ◌∙◌, ◌∷◌, ◌≡◌, ◌≢◌, Bool, Grain, List, None, Option, Row, Some, Step, [], ap, cond, false}
-use Rattle.silo_model.proofs.Common.{filter, flat_map, list_any-append, map_list, or_right, owner_of, refl, same_text, start_of, tenant_of}
-use Rattle.silo_model.proofs.Common.{texts, true, ℕ}
+use Rattle.silo_model.proofs.Common.{◌++◌, ◌||◌, ◌∙◌, ◌∷◌, ◌≡◌, ◌≢◌, Bool, Grain, List, Row, Step, [], ap, cond, false, filter, flat_map}
+use Rattle.silo_model.proofs.Common.{list_any-append, map_list, or_right, owner_of, refl, same_text, start_of, tenant_of, texts, true, ℕ}
 use Rattle.std.specs.Prelude.{option_to_list}
 use Rattle.std.proofs.lemmas.Bool.{or_left}
 use Rattle.finite_maps.proofs.Keys.{key_turned}
@@ -11,6 +10,7 @@ use Rattle.journal_text.specs.declared.recorded.RecordedReply.{RecordedReply}
 use Rattle.audit_model.specs.Parts.{is_listed, is_owned_by, own_steps, owners_in, replies_for, rows_for, tenants_in}
 use Rattle.audit_model.specs.Report.{OwnersReported, StartsAsRecorded}
 use Rattle.audit_model.proofs.Tenants.{tenants_in_order}
+use Rattle.silo_model.proofs.Tests.{on_found}
 
 -- there is something in the list
 abbrev has_some : {X : Type 0} → List X → Bool
@@ -42,11 +42,10 @@ module _ (tenant : List ℕ) where
 
   listed_steps : (steps : List Step) → is_listed (owners steps) tenant ≡ has_some (own steps)
   listed_steps [] = refl
-  listed_steps (s ∷ steps) = by_owner (owner_of s) (listed_steps steps)
-    where
-      by_owner : (o : Option (List ℕ)) → is_listed (owners steps) tenant ≡ has_some (own steps) → is_listed (option_to_list o ++ owners steps) tenant ≡ has_some (cond (is_owned_by tenant o) (s ∷ own steps) (own steps))
-      by_owner None rest = rest
-      by_owner (Some name) rest = one_more s name (owners steps) (own steps) (same_text name tenant) refl rest
+  listed_steps (s ∷ steps) =
+      on_found (λ o. is_listed (option_to_list o ++ owners steps) tenant ≡ has_some (cond (is_owned_by tenant o) (s ∷ own steps) (own steps)))
+      (owner_of s) (λ _. listed_steps steps)
+      (λ name _. one_more s name (owners steps) (own steps) (same_text name tenant) refl (listed_steps steps))
 
   module _ (journal : History) where
     listed_owners : is_listed (owners_in journal) tenant ≡ ((has_some (own_steps tenant journal) || has_some (replies_for tenant journal)) || has_some (rows_for tenant journal))

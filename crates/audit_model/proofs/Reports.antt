@@ -1,8 +1,8 @@
 -- A journal has one report; that of a silo has no difference; and what a report without difference says.
-use Rattle.silo_model.proofs.Common.{◌∙◌, ◌∷◌, ◌≡◌, AllByRecursion, Bool, Grain, Less, List, Logic, Machine, None, Reply, Row, Some, Step}
-use Rattle.silo_model.proofs.Common.{Whole, [], all_weaker, and_parts, ap, cond, false, filter, grain_cmp, grain_cmp_exact, grain_cmp_total}
-use Rattle.silo_model.proofs.Common.{is_of, is_to, length, machine_all_done, machine_run, machine_step, map_list, refl, same_Some}
-use Rattle.silo_model.proofs.Common.{same_head, same_tail, shown_to, some_from_and_then, start_of, subst, sym, true, unwrap_or, ℕ}
+use Rattle.silo_model.proofs.Common.{◌∙◌, ◌∷◌, ◌≡◌, AllByRecursion, Grain, Less, List, Logic, Machine, None, Reply, Row, Some, Step, []}
+use Rattle.silo_model.proofs.Common.{all_weaker, and_parts, ap, cond, filter, grain_cmp, grain_cmp_exact, grain_cmp_total, is_of, is_to}
+use Rattle.silo_model.proofs.Common.{length, machine_all_done, machine_run, machine_step, map_list, refl, same_Some, same_head, same_tail}
+use Rattle.silo_model.proofs.Common.{shown_to, some_from_and_then, start_of, subst, sym, true, unwrap_or, ℕ}
 use Rattle.std.specs.List.Sorted.{IsStrictlySortedBy}
 use Rattle.std.specs.Map.{keys_of}
 use Rattle.std.specs.FinMap as map
@@ -18,6 +18,7 @@ use Rattle.journal_text.specs.Text.{History}
 use Rattle.audit_model.specs.Parts.{all_recorded, is_told, replies_for, rows_for, setup_of, steps_for}
 use Rattle.audit_model.specs.Report.{IsFirstDifference, IsTenantReport, NoDifference, NoneIsMachines, OneReport, TenantReport}
 use Rattle.audit_model.proofs.Differences.{one_difference}
+use Rattle.silo_model.proofs.Tests.{on_test}
 
 -- ---- a journal has one report
 
@@ -51,28 +52,20 @@ one_report logic journal reports others is is_too =
 -- the replies to a tenant that are recorded are those to it, recorded
 told_recorded : (tenant : List ℕ) (replies : List Reply) → filter (is_told tenant) (all_recorded replies) ≡ all_recorded (filter (is_to tenant) replies)
 told_recorded tenant [] = refl
-told_recorded tenant (r ∷ replies) = by_tenant (is_to tenant r) (told_recorded tenant replies)
-  where
-    by_tenant : (b : Bool) → filter (is_told tenant) (all_recorded replies) ≡ all_recorded (filter (is_to tenant) replies)
-        → cond b (recorded_of r ∷ filter (is_told tenant) (all_recorded replies)) (filter (is_told tenant) (all_recorded replies)) ≡ all_recorded (cond b (r ∷ filter (is_to tenant) replies) (filter (is_to tenant) replies))
-    by_tenant true rest = ap (λ rs. recorded_of r ∷ rs) rest
-    by_tenant false rest = rest
-
-shown_replies : (tenant : List ℕ) (w : Whole) → filter (is_to tenant) w.replies ≡ (shown_to tenant w).replies
-unfolding shown_to
-shown_replies tenant w = refl
-
-shown_rows : (tenant : List ℕ) (w : Whole) → map.retain_keys w.rows (is_of tenant) ≡ (shown_to tenant w).rows
-unfolding shown_to
-shown_rows tenant w = refl
+told_recorded tenant (r ∷ replies) =
+    let told = filter (is_told tenant) (all_recorded replies) in
+    let own = filter (is_to tenant) replies in
+    on_test (λ b. cond b (recorded_of r ∷ told) told ≡ all_recorded (cond b (r ∷ own) own)) (is_to tenant r)
+    (λ _. ap (λ rs. recorded_of r ∷ rs) (told_recorded tenant replies)) (λ _. told_recorded tenant replies)
 
 pub no_difference : NoDifference
+unfolding shown_to
 no_difference logic journal w tenant leads records = (
   shown_to tenant w,
   parts_lead logic (setup_of journal) journal.steps w tenant leads,
   (
-    ap (filter (is_told tenant)) records.replies ∙ told_recorded tenant w.replies ∙ ap all_recorded (shown_replies tenant w),
-    ap (λ rows. rows_of (filter (λ (row : Grain × Row). is_of tenant row.0) rows)) records.rows ∙ from_entries-filter grain_cmp_total grain_cmp_exact w.rows (is_of tenant) ∙ shown_rows tenant w,
+    ap (filter (is_told tenant)) records.replies ∙ told_recorded tenant w.replies,
+    ap (λ rows. rows_of (filter (λ (row : Grain × Row). is_of tenant row.0) rows)) records.rows ∙ from_entries-filter grain_cmp_total grain_cmp_exact w.rows (is_of tenant),
   ),
 )
 

@@ -21,6 +21,7 @@ use Rattle.journal_text.specs.Rules.{IsTable}
 use Rattle.journal_text.specs.Text.{History}
 use Rattle.audit_model.specs.Parts.{ascending, is_listed, others_in, owners_in}
 use Rattle.audit_model.specs.Report.{TenantsInOrder}
+use Rattle.silo_model.proofs.Tests.{on_test}
 
 -- ---- the tenants of a report
 
@@ -70,8 +71,16 @@ and_not a false is = refl
 -- of names that repeat nothing before them: none is one of those before, and no two are the same
 no_repeat : (before names : List (List ℕ)) → first_repeat before names ≡ None → AllByRecursion (λ name. list_any (same_text name) before ≡ false) names × IsDistinct same_text names
 unfolding IsDistinct
-no_repeat before [] none = (tt, tt)
-no_repeat before (name ∷ names) none = by_test (list_any (same_text name) before) refl (λ h. no_repeat (before ++ name ∷ []) names h) none
+no_repeat before [] = λ none. (tt, tt)
+no_repeat before (name ∷ names) =
+    on_test
+    (λ b. (if b then Some name else first_repeat (before ++ name ∷ []) names) ≡ None
+    → AllByRecursion (λ n. list_any (same_text n) before ≡ false) (name ∷ names) × IsDistinct same_text (name ∷ names))
+    (list_any (same_text name) before) (λ _ h. absurd (none-some name (sym h)))
+    (λ is h.
+    let rest = no_repeat (before ++ name ∷ []) names h in
+    let apart = apart_all names rest.0 in
+    ((is, apart.0), (apart.1, rest.1)))
   where
     apart_all : (others : List (List ℕ)) → AllByRecursion (λ other. list_any (same_text other) (before ++ name ∷ []) ≡ false) others
         → AllByRecursion (λ other. list_any (same_text other) before ≡ false) others × AllByRecursion (λ other. same_text name other ≡ false) others
@@ -80,14 +89,6 @@ no_repeat before (name ∷ names) none = by_test (list_any (same_text name) befo
         let parts = or_parts (list_any (same_text other) before) (same_text other name || false) (sym (list_any-append (same_text other) before (name ∷ [])) ∙ all.0) in
         let rest = apart_all others all.1 in
         ((parts.0, rest.0), (false_from_ne_true (same_text name other) (λ e. true≢false (sym ((same_text_decides other name).1 (sym ((same_text_decides name other).0 e))) ∙ (or_parts _ _ parts.1).0)), rest.1))
-
-    by_test : (b : Bool) → list_any (same_text name) before ≡ b → (first_repeat (before ++ name ∷ []) names ≡ None → AllByRecursion (λ n. list_any (same_text n) (before ++ name ∷ []) ≡ false) names × IsDistinct same_text names) → (if b then Some name else first_repeat (before ++ name ∷ []) names) ≡ None
-        → AllByRecursion (λ n. list_any (same_text n) before ≡ false) (name ∷ names) × IsDistinct same_text (name ∷ names)
-    by_test true is later h = absurd (none-some name (sym h))
-    by_test false is later h =
-        let rest = later h in
-        let apart = apart_all names rest.0 in
-        ((is, apart.0), (apart.1, rest.1))
 
 no_fault : (a b : Bool) (repeat : Option TableFault) (other : Option TableFault) → (if a then Some faults.Empty else if b then Some faults.TooMany else option_or repeat other) ≡ None → repeat ≡ None
 no_fault true b repeat other e = absurd (none-some faults.Empty (sym e))
