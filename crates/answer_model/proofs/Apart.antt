@@ -11,9 +11,10 @@ use Rattle.silo_model.proofs.Journals.{runs_on}
 use Rattle.answer_model.specs.Answering.{Asked, Luck, Stepper, all_answered, answered, answering, bringing, called_grain, deliveries}
 use Rattle.answer_model.specs.Answering.{deliveries_of, first_luck, later_luck, machine_stepper, taken, taken_by, whole_stepper}
 use Rattle.answer_model.specs.Apart.{TenantsApart, asked_by}
-use Rattle.answer_model.proofs.Owned.{AllOwned, AllOwned-append, other_run, own_run}
+use Rattle.answer_model.proofs.Owned.{AllOwned, other_run, own_run}
 use Rattle.answer_model.proofs.Reached.{IsReached, run_reached}
 use Rattle.answer_model.proofs.Served.{IsOwnIfAccepted, own_if_accepted, same_bringing, same_deliveries}
+use Rattle.finite_maps.proofs.Lists.{all_append}
 use Rattle.silo_model.proofs.Tests.{on_found, on_test}
 
 pub owner_failed : (b : Bool) (s : Step) → owner_of (taken_by b s) ≡ owner_of s
@@ -77,7 +78,7 @@ module _ (logic : Logic) (setup : Setup) (n : ℕ) where
           ap (λ o. steps ++ deliveries_of of_whole n next o (later_luck asked.lucks)) own
               ∙ (λ i. first.0 i ++ (rest.0 ∙ ap (λ m. deliveries of_machine n m tenant (later_luck asked.lucks)) shown) i)
               ∙ ap (λ o. bringing of_machine (shown_to tenant w) s grain luck ++ deliveries_of of_machine n (machine_run logic (shown_to tenant w) (bringing of_machine (shown_to tenant w) s grain luck)) o (later_luck asked.lucks)) (sym own),
-          AllOwned-append tenant steps _ first.1 (subst (λ o. AllOwned tenant (deliveries_of of_whole n next o (later_luck asked.lucks))) (sym own) rest.1),
+          all_append (λ s. owner_of s ≡ Some tenant) steps _ first.1 (subst (λ o. AllOwned tenant (deliveries_of of_whole n next o (later_luck asked.lucks))) (sym own) rest.1),
         )
 
     own_asked : (asked : Asked) → owner_of asked.step ≡ Some tenant → shown_to tenant (answered of_whole n w asked) ≡ answered of_machine n (shown_to tenant w) asked

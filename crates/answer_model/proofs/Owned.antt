@@ -1,17 +1,12 @@
 -- Steps that are all one tenant's: its own machine takes them all, and no other part changes.
-use Rattle.silo_model.proofs.Common.{◌++◌, ◌∙◌, ◌∷◌, ◌≡◌, ◌≢◌, List, Logic, Setup, Some, Step, Whole, [], ap, concerns_by, cond}
+use Rattle.silo_model.proofs.Common.{◌∙◌, ◌∷◌, ◌≡◌, ◌≢◌, AllByRecursion, List, Logic, Setup, Some, Step, Whole, [], ap, concerns_by, cond}
 use Rattle.silo_model.proofs.Common.{machine_run, owner_of, refl, restricted_to, shown_to, sym, whole_run, ℕ}
 use Rattle.silo_model.proofs.Contexts.{same_text-apart, same_text-itself}
 use Rattle.silo_model.proofs.Journals.{runs_on}
 use Rattle.answer_model.proofs.Reached.{IsReached}
 
 abbrev pub AllOwned : List ℕ → List Step → Type 0
-AllOwned owner [] = Unit {0}
-AllOwned owner (s ∷ steps) = (owner_of s ≡ Some owner) × AllOwned owner steps
-
-pub AllOwned-append : (owner : List ℕ) (steps others : List Step) → AllOwned owner steps → AllOwned owner others → AllOwned owner (steps ++ others)
-AllOwned-append owner [] others own more = more
-AllOwned-append owner (s ∷ steps) others own more = (own.0, AllOwned-append owner steps others own.1 more)
+AllOwned owner steps = AllByRecursion (λ s. owner_of s ≡ Some owner) steps
 
 all_concern : (owner : List ℕ) (steps : List Step) → AllOwned owner steps → restricted_to owner steps ≡ steps
 all_concern owner [] own = refl

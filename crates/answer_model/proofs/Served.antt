@@ -17,9 +17,10 @@ use Rattle.answer_model.specs.Answering.{Closing, Luck, Stepper, bringing, can, 
 use Rattle.answer_model.specs.Answering.{is_accepted, later_luck, machine_stepper, out_of_memory, raising, run, serving, serving_if}
 use Rattle.answer_model.specs.Answering.{storage_failed, turn_of, turn_of_first, turning, well, whole_stepper}
 use Rattle.answer_model.proofs.Brought.{Waits, accepted_waits, brings, it_waits}
-use Rattle.answer_model.proofs.Owned.{AllOwned, AllOwned-append, own_run}
+use Rattle.answer_model.proofs.Owned.{AllOwned, own_run}
 use Rattle.answer_model.proofs.Reached.{IsReached, run_reached, step_reached}
 use Rattle.finite_maps.proofs.Values.{same_answer}
+use Rattle.finite_maps.proofs.Lists.{all_append}
 use Rattle.silo_model.proofs.Tests.{on_found, on_test}
 
 -- ---- the steps of a request at an own grain
@@ -67,23 +68,23 @@ module _ (logic : Logic) (setup : Setup) (tenant : List ℕ) where
   -- the machine and the whole accept alike
   same_accepted : (w : Whole) (s : Step) → IsReached logic setup w → owner_of s ≡ Some tenant
       → is_accepted of_whole w (whole_after logic w s) ≡ is_accepted of_machine (shown_to tenant w) (machine_after logic (shown_to tenant w) s)
-  same_accepted w s reached is = by_step (whole_step logic w s) refl
+  same_accepted w s reached is =
+      let m : Machine = shown_to tenant w in
+      on_found (λ r. is_accepted of_whole w (unwrap_or r w) ≡ is_accepted of_machine m (machine_after logic m s)) (whole_step logic w s)
+      (λ e.
+      same_test (length w.replies) (length w.replies) (length m.replies) (length m.replies) (λ _. refl) (λ _. refl)
+      ∙ ap (λ o. is_accepted of_machine m (unwrap_or o m)) (sym (owner_not_now logic w s tenant is e)))
+      (λ after e.
+      let adds = adds_replies logic setup reached.0 w after s reached.1 e in
+      let own = adds.own_replies tenant is in
+      let new : List Reply = (shown_to tenant after).replies in
+      same_test (length after.replies) (length w.replies) (length new) (length m.replies)
+      (no_more w.replies m.replies adds.added after.replies new adds.replies own)
+      (no_more m.replies w.replies adds.added new after.replies own adds.replies)
+      ∙ ap (λ o. is_accepted of_machine m (unwrap_or o m)) (sym (owners_part logic setup reached.0 w after s tenant reached.1 is e)))
     where
-      by_step : (r : Option Whole) → whole_step logic w s ≡ r
-          → is_accepted of_whole w (unwrap_or r w) ≡ is_accepted of_machine (shown_to tenant w) (machine_after logic (shown_to tenant w) s)
-      by_step None e =
-          same_test (length w.replies) (length w.replies) (length (shown_to tenant w).replies) (length (shown_to tenant w).replies) (λ _. refl) (λ _. refl)
-          ∙ ap (λ o. is_accepted of_machine (shown_to tenant w) (unwrap_or o (shown_to tenant w))) (sym (owner_not_now logic w s tenant is e))
-      by_step (Some after) e =
-          let adds = adds_replies logic setup reached.0 w after s reached.1 e in
-          let own = adds.own_replies tenant is in
-          same_test (length after.replies) (length w.replies) (length (shown_to tenant after).replies) (length (shown_to tenant w).replies)
-          (λ same. no_more w.replies (shown_to tenant w).replies adds.added after.replies (shown_to tenant after).replies adds.replies own same)
-          (λ same. no_more (shown_to tenant w).replies w.replies adds.added (shown_to tenant after).replies after.replies own adds.replies same)
-          ∙ ap (λ o. is_accepted of_machine (shown_to tenant w) (unwrap_or o (shown_to tenant w))) (sym (owners_part logic setup reached.0 w after s tenant reached.1 is e))
-        where
-          no_more : (xs ys added new other : List Reply) → new ≡ xs ++ added → other ≡ ys ++ added → length new ≡ length xs → length other ≡ length ys
-          no_more xs ys added new other h k same = omega (arith, ap length h, ap length k, length-append xs added, length-append ys added)
+      no_more : (xs ys added new other : List Reply) → new ≡ xs ++ added → other ≡ ys ++ added → length new ≡ length xs → length other ≡ length ys
+      no_more xs ys added new other h k same = omega (arith, ap length h, ap length k, length-append xs added, length-append ys added)
 
   -- ---- one request
 
@@ -91,7 +92,7 @@ module _ (logic : Logic) (setup : Setup) (tenant : List ℕ) where
   serving_owned w g luck own =
       let up = raising of_whole w g luck.loading_failed in
       subst (λ t. AllOwned t (serving of_whole w g luck)) own
-      (AllOwned-append g.tenant up (turning of_whole (whole_run logic w up) g luck.closing)
+      (all_append (λ s. owner_of s ≡ Some g.tenant) up (turning of_whole (whole_run logic w up) g luck.closing)
       (raising_owned of_whole w g luck.loading_failed) (turning_owned of_whole (whole_run logic w up) g luck.closing))
 
   -- what the tenant can do is possible in its machine where it is in the whole
@@ -202,37 +203,34 @@ module _ (logic : Logic) (setup : Setup) (tenant : List ℕ) where
   IsOldest w oldest others = sends_of (map.get w.accounts tenant) ≡ oldest ∷ others
 
   module _ (oldest : Send) (others : List Send) where
-    own_by : (w : Whole) (account : Option Account) → IsReached logic setup w → map.get w.accounts tenant ≡ account → sends_of account ≡ oldest ∷ others
-        → oldest.source.tenant ≡ tenant
-    own_by w None reached known is = absurd (let e = is in cc)
-    own_by w (Some a) reached known is =
-        sends_are_own logic setup reached.0 w reached.1 tenant oldest.source
-        (ap (λ o. is_some (delivery_of oldest.source o)) known
-        ∙ ap (λ sends. is_some (option_map (λ found. Deliver oldest.source) (first_from oldest.source sends))) is
-        ∙ ap (λ o. is_some (option_map (λ found. Deliver oldest.source) o)) (first_is oldest others))
+    -- the account that has it, where it is found first
+    account_of : (w : Whole) → IsOldest w oldest others
+        → (a : Account) × (map.get w.accounts tenant ≡ Some a) × (first_from oldest.source a.sends ≡ Some (oldest, others))
+    account_of w =
+        on_found
+        (λ o. sends_of o ≡ oldest ∷ others → (a : Account) × (o ≡ Some a) × (first_from oldest.source a.sends ≡ Some (oldest, others)))
+        (map.get w.accounts tenant) (λ _ is. absurd (let e = is in cc))
+        (λ a _ is. (a, refl, ap (first_from oldest.source) is ∙ first_is oldest others))
 
     -- the oldest was sent by a grain of the tenant
     pub source_own : (w : Whole) → IsReached logic setup w → IsOldest w oldest others → oldest.source.tenant ≡ tenant
-    source_own w reached is = own_by w (map.get w.accounts tenant) reached refl is
-
-    target_by : (account : Option Account) → sends_of account ≡ oldest ∷ others → first_target account oldest.source ≡ Some oldest.message.target
-    target_by None is = absurd (let e = is in cc)
-    target_by (Some a) is =
-        ap (λ sends. option_map (λ found. found.0.message.target) (first_from oldest.source sends)) is ∙ ap (option_map (λ found. found.0.message.target)) (first_is oldest others)
+    source_own w reached is =
+        let known = account_of w is in
+        sends_are_own logic setup reached.0 w reached.1 tenant oldest.source
+        (ap (λ o. is_some (delivery_of oldest.source o)) known.1 ∙ ap (λ o. is_some (option_map (λ found. Deliver oldest.source) o)) known.2)
 
     -- what its delivery asks is its target
     pub target_is : (w : Whole) → IsOldest w oldest others → place_in w tenant (Deliver oldest.source) ≡ Some oldest.message.target
-    target_is w is = target_by (map.get w.accounts tenant) is
-
-    delivered_by : (w : Whole) (account : Option Account) → map.get w.accounts oldest.source.tenant ≡ account → sends_of account ≡ oldest ∷ others
-        → whole_step logic w (Deliver oldest.source) ≡ None → ⊥
-    delivered_by w None known is none = absurd (let e = is in cc)
-    delivered_by w (Some a) known is none =
-        none-some _ (sym none ∙ by_called logic w oldest.source a known oldest others (ap (first_from oldest.source) is ∙ first_is oldest others) _ refl)
+    target_is w is =
+        let known = account_of w is in
+        ap (λ o. first_target o oldest.source) known.1 ∙ ap (option_map (λ found. found.0.message.target)) known.2
 
     -- it can be delivered
     pub is_delivered : (w : Whole) → oldest.source.tenant ≡ tenant → IsOldest w oldest others → whole_step logic w (Deliver oldest.source) ≡ None → ⊥
-    is_delivered w own is = delivered_by w (map.get w.accounts oldest.source.tenant) refl (ap (λ t. sends_of (map.get w.accounts t)) own ∙ is)
+    is_delivered w own is none =
+        let known = account_of w is in
+        none-some _
+        (sym none ∙ by_called logic w oldest.source known.0 (ap (map.get w.accounts) own ∙ known.1) oldest others known.2 _ refl)
 
   same_delivering : (w : Whole) (sends : List Send) (luck : Luck) → IsReached logic setup w → sends_of (map.get w.accounts tenant) ≡ sends
       → (delivering of_whole w sends luck ≡ delivering of_machine (shown_to tenant w) sends luck) × AllOwned tenant (delivering of_whole w sends luck)
@@ -254,7 +252,7 @@ module _ (logic : Logic) (setup : Setup) (tenant : List ℕ) where
       let next = whole_run logic w steps in
       let rest = same_deliveries n next (later_luck lucks) (run_reached logic setup steps w reached) in (
         (λ i. first.0 i ++ rest.0 i) ∙ the_machines w n lucks steps first.0 first.1 reached,
-        AllOwned-append tenant steps (deliveries of_whole n next tenant (later_luck lucks)) first.1 rest.1,
+        all_append (λ s. owner_of s ≡ Some tenant) steps (deliveries of_whole n next tenant (later_luck lucks)) first.1 rest.1,
       )
     where
       the_machines : (w : Whole) (n : ℕ) (lucks : List Luck) (steps : List Step)

@@ -1,9 +1,9 @@
 -- What a client asked, what it was told, and what of it still waits or is open.
 use Rattle.silo_model.proofs.Common.{◌++◌, ◌+◌, ◌∙◌, ◌∷◌, ◌≡◌, ◌≤◌, Bool, Call, Client, List, Machine, Party, Poke, Refuse, Reply, Request}
 use Rattle.silo_model.proofs.Common.{Some, Status, Step, Sweep, [], all_pending, ap, arith, client_eq, client_eq_decides, concerns}
-use Rattle.silo_model.proofs.Common.{concerns_by, cond, eq-eqb, eqb-true, false, false_from_ne_true, has_pending, is_of_client, list_any}
-use Rattle.silo_model.proofs.Common.{nat_eq, none-some, not, or_parts, owner_of, refl, same_Some, same_text, same_text_decides, sum_by}
-use Rattle.silo_model.proofs.Common.{sum_by-cons, sum_flat, sym, true, true≢false, ℕ}
+use Rattle.silo_model.proofs.Common.{concerns_by, cond, eq-eqb, eqb-true, false, false_from_ne_true, has_pending, is_of_client, length}
+use Rattle.silo_model.proofs.Common.{list_any, nat_eq, none-some, not, or_parts, owner_of, refl, same_Some, same_text, same_text_decides}
+use Rattle.silo_model.proofs.Common.{sum_by, sum_by-cons, sum_flat, sym, true, true≢false, ℕ}
 use Rattle.silo_event.specs.declared.reply.Party.TheVariants as party
 use Rattle.silo_model.proofs.Fair.{one_if, pend}
 use Rattle.silo_model.proofs.Moves.{Quiet, asked_by, replied, sent}
@@ -28,15 +28,19 @@ told_weight client f replies = sym (sum_flat f (λ (r : Reply). id_of client r.r
 
 -- ---- nothing of a client waits or is open
 
-light_by : (client : Client) (f : ℕ → ℕ) (p : Party) → is_of_client client p ≡ false → weigh client f p ≡ 0
-light_by client f (party.Client caller id) apart = ap (λ b. sum_by f (cond b (id ∷ []) [])) apart
-light_by client f (party.Grain grain) apart = refl
+pub apart_party : (client : Client) (p : Party) → is_of_client client p ≡ false → id_of client p ≡ []
+apart_party client (party.Client caller id) apart = ap (λ b. cond b (id ∷ []) []) apart
+apart_party client (party.Grain grain) apart = refl
+
+pub one_told : (client : Client) (p : Party) → is_of_client client p ≡ true → length (id_of client p) ≡ 1
+one_told client (party.Client caller id) own = ap (λ b. length (cond b (id ∷ []) [])) own
+one_told client (party.Grain grain) own = absurd (true≢false (sym own))
 
 light : (client : Client) (f : ℕ → ℕ) (queue : List Request) → list_any (λ q. is_of_client client q.sender) queue ≡ false → sum_by (sent (weigh client f)) queue ≡ 0
 light client f [] none = refl
 light client f (q ∷ queue) none =
     let parts = or_parts (is_of_client client q.sender) _ none in
-    omega (arith, sum_by-cons (sent (weigh client f)) q queue, light_by client f q.sender parts.0, light client f queue parts.1)
+    omega (arith, sum_by-cons (sent (weigh client f)) q queue, ap (sum_by f) (apart_party client q.sender parts.0), light client f queue parts.1)
 
 pub none_pending : (client : Client) (f : ℕ → ℕ) (m : Machine) → has_pending client m ≡ false → pend (sent (weigh client f)) m.entries ≡ 0
 none_pending client f m none = sym (pending_weight (sent (weigh client f)) m) ∙ light client f (all_pending m) none

@@ -1,17 +1,17 @@
 -- What waits or is open, by counts.
 use Rattle.silo_model.proofs.Common.{◌+◌, ◌∙◌, ◌∷◌, ◌≡◌, ◌≤◌, Client, LeadsTo, List, Logic, Machine, Party, ReadersAskNothing, Request}
-use Rattle.silo_model.proofs.Common.{Setup, Step, Whole, [], all_pending, ap, arith, concerns, cond, false, false_from_ne_true}
-use Rattle.silo_model.proofs.Common.{is_of_client, length, list_any, refl, restricted_to, shown_to, start_of, subst, sum_alike, sum_by}
-use Rattle.silo_model.proofs.Common.{sum_by-cons, sum_flat, sym, true, true≢false, ℕ}
+use Rattle.silo_model.proofs.Common.{Setup, Step, Whole, [], all_pending, ap, arith, concerns, false, false_from_ne_true, is_of_client}
+use Rattle.silo_model.proofs.Common.{length, list_any, refl, restricted_to, shown_to, start_of, subst, sum_alike, sum_by, sum_by-cons}
+use Rattle.silo_model.proofs.Common.{sum_flat, sym, true, ℕ}
 use Rattle.finite_maps.proofs.Sums.{sum_one}
 use Rattle.silo_event.specs.declared.reply.Party.TheVariants as party
 use Rattle.std.proofs.lemmas.Bool.{or_from}
 use Rattle.silo_model.proofs.Fair.{pend}
 use Rattle.silo_model.proofs.Moves.{asked_by, replied, sent}
 use Rattle.silo_model.proofs.FairRuns.{pending_weight, run_balance, start_balance, start_fair}
-use Rattle.lane_model.specs.Asking.{asking_of, id_asked, ids_asked, ids_told}
+use Rattle.lane_model.specs.Asking.{asking_of, id_asked, id_of, ids_asked, ids_told}
 use Rattle.lane_model.specs.Counting.{PendingByCounts}
-use Rattle.lane_model.proofs.Askers.{apart_asks_nothing, asked_weight, none_pending, told_weight, weigh, weigh_quiet}
+use Rattle.lane_model.proofs.Askers.{apart_asks_nothing, asked_weight, none_pending, one_told, told_weight, weigh, weigh_quiet}
 use Rattle.lane_model.proofs.Filtered.{flat_map-filter}
 use Rattle.lane_model.proofs.PacedGrowth.{part_is_run}
 use Rattle.lane_model.proofs.AnswerOrder.{shown_replies, told_shown}
@@ -20,8 +20,7 @@ use Rattle.lane_model.proofs.AnswerOrder.{shown_replies, told_shown}
 
 -- the converse of `light`: what weighs nothing has nothing of the client
 heavy : (client : Client) (p : Party) → is_of_client client p ≡ true → weigh client (λ x. 1) p ≡ 0 → ⊥
-heavy client (party.Client caller id) is none = absurd (omega (arith, none, ap (λ b. sum_by (λ x. 1) (cond b (id ∷ []) [])) is, sum_by-cons (λ x. 1) id []))
-heavy client (party.Grain grain) is none = true≢false (sym is)
+heavy client p is none = omega (arith, none, one_told client p is, sum_one (id_of client p))
 
 light_none : (client : Client) (queue : List Request) → sum_by (sent (weigh client (λ x. 1))) queue ≡ 0 → list_any (λ q. is_of_client client q.sender) queue ≡ false
 light_none client [] none = refl

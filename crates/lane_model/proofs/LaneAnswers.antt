@@ -1,8 +1,8 @@
 -- What clients are told where their lanes have been served, and what a paced journal says of each of its steps.
-use Rattle.silo_model.proofs.Common.{◌++◌, ◌∙◌, ◌∷◌, ◌≡◌, Call, Client, List, Logic, Machine, None, Option, Party, Poke, Refuse, Reply}
-use Rattle.silo_model.proofs.Common.{Request, Setup, Some, Status, Step, Sweep, [], and_from, and_parts, ap, append-nil, append_assoc}
-use Rattle.silo_model.proofs.Common.{as_failed, cond, false, has_pending, is_of_client, length, list_any, map_list, not, not-true, refl}
-use Rattle.silo_model.proofs.Common.{subst, sym, true, true≢false}
+use Rattle.silo_model.proofs.Common.{◌++◌, ◌∙◌, ◌∷◌, ◌≡◌, Call, Client, List, Logic, Machine, None, Option, Poke, Refuse, Reply, Request}
+use Rattle.silo_model.proofs.Common.{Setup, Some, Status, Step, Sweep, [], and_from, and_parts, ap, append-nil, append_assoc, as_failed}
+use Rattle.silo_model.proofs.Common.{cond, false, has_pending, is_of_client, length, list_any, map_list, not, not-true, refl, subst, sym}
+use Rattle.silo_model.proofs.Common.{true, true≢false}
 use Rattle.std.proofs.lemmas.List.{length-map}
 use Rattle.silo_event.specs.declared.reply.Party.TheVariants as party
 use Rattle.silo_model.specs.Pending.{IsQuiet}
@@ -10,6 +10,7 @@ use Rattle.lane_model.specs.Asking.{asker_of, asking_of, id_asked, id_of, ids_as
 use Rattle.lane_model.specs.Pacing.{PacedAtEach, machine_of, may_ask, paced_from}
 use Rattle.lane_model.specs.Lanes.{Lane, LaneStands, done_steps_by, done_steps_of, given_by, is_given_by, lane_of}
 use Rattle.lane_model.specs.Serving.{LanesAnswered, replies_to}
+use Rattle.lane_model.proofs.Askers.{apart_party, one_told}
 use Rattle.lane_model.proofs.Filtered.{flat_map-filter, length-filter_each}
 use Rattle.lane_model.proofs.AnswerOrder.{answered_in_order}
 
@@ -47,10 +48,6 @@ ids_in client lane journal from stands =
 
 -- ---- numbers of a client's replies
 
-apart_party : (client : Client) (p : Party) → is_of_client client p ≡ false → id_of client p ≡ []
-apart_party client (party.Client caller id) apart = ap (λ b. cond b (id ∷ []) []) apart
-apart_party client (party.Grain grain) apart = refl
-
 ids_replied : (client : Client) (replies : List Reply) → ids_told client (replies_to (Some client) replies) ≡ ids_told client replies
 ids_replied client replies =
     flat_map-filter (λ r. id_of client r.recipient) (λ r. is_of_client client r.recipient) replies (λ r. apart_party client r.recipient)
@@ -71,10 +68,6 @@ one_asked client _ own = absurd (true≢false (sym own))
 
 one_each_asked : (client : Client) (steps : List Step) → length (ids_asked client (given_by (Some client) steps)) ≡ length (given_by (Some client) steps)
 one_each_asked client steps = length-filter_each (λ s. id_asked client (asking_of s)) (λ s. is_given_by (Some client) (lane_of s)) steps (one_asked client)
-
-one_told : (client : Client) (p : Party) → is_of_client client p ≡ true → length (id_of client p) ≡ 1
-one_told client (party.Client caller id) own = ap (λ b. length (cond b (id ∷ []) [])) own
-one_told client (party.Grain grain) own = absurd (true≢false (sym own))
 
 one_each_told : (client : Client) (replies : List Reply) → length (ids_told client (replies_to (Some client) replies)) ≡ length (replies_to (Some client) replies)
 one_each_told client replies =

@@ -19,7 +19,7 @@ use Rattle.silo_model.proofs.Tests.{either_way, on_test}
 pub lanes_total : IsTotalOrder (option_cmp client_cmp)
 lanes_total = options_total client_cmp_total
 
-lanes_exact : IsAntisymmetric (option_cmp client_cmp)
+pub lanes_exact : IsAntisymmetric (option_cmp client_cmp)
 lanes_exact None None e = refl
 lanes_exact None (Some d) e = absurd cc
 lanes_exact (Some c) None e = absurd cc
