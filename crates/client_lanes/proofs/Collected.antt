@@ -8,6 +8,7 @@ use Rattle.silo_event.specs.declared.reply.Party.TheVariants as party
 use Rattle.lane_model.specs.Lanes.{Lane, same_lane}
 use Rattle.lane_model.specs.Serving.{replies_to}
 use Rattle.client_lanes.specs.inside.RepliesByClient.{only_to, told_by, told_to}
+use Rattle.silo_model.proofs.Tests.{on_test}
 
 -- ---- by client
 
@@ -63,16 +64,12 @@ module _ {S : Type 0} (old new : IndexMap Client (Vec Reply) S) (caller : Client
   -- what a client is told has the reply last, if it is the client's
   pub told_more : (client : Client) → told_to new client ≡ told_to old client ++ only_to caller client reply
   unfolding shown_to
-  told_more client = by_test (client_eq caller client) refl
-    where
-      by_test : (b : Bool) → client_eq caller client ≡ b → told_to new client ≡ told_to old client ++ only_to caller client reply
-      by_test true same =
-          ap shown_to (put client ∙ ap (λ b. cond b (Some list) (get client_eq old client)) same) ∙ grown
-          ∙ ap (λ (c : Client). told_to old c ++ reply ∷ []) ((client_eq_decides caller client).0 same)
-          ∙ ap (λ b. told_to old client ++ (if b then reply ∷ [] else [])) (sym same)
-      by_test false apart =
-          ap shown_to (put client ∙ ap (λ b. cond b (Some list) (get client_eq old client)) apart) ∙ sym (append-nil (told_to old client))
-          ∙ ap (λ b. told_to old client ++ (if b then reply ∷ [] else [])) (sym apart)
+  told_more client =
+      ap shown_to (put client)
+      ∙ on_test (λ b. shown_to (cond b (Some list) (get client_eq old client)) ≡ told_to old client ++ (if b then reply ∷ [] else []))
+      (client_eq caller client)
+      (λ same. grown ∙ ap (λ (c : Client). told_to old c ++ reply ∷ []) ((client_eq_decides caller client).0 same))
+      (λ _. sym (append-nil (told_to old client)))
 
 -- one more of a list is answered
 pub answered_more : {V A B : Type 0} (items : V → B) (f : A → B) (vs : List V) (v : V) (x : A) (xs ys : List A) → items v ≡ f x → ys ≡ x ∷ xs

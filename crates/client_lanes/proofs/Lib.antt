@@ -1,6 +1,5 @@
 pub mod Keys
 pub mod Shown
 pub mod Steps
-pub mod Waiting
 pub mod Apart
 pub mod Collected

@@ -1,7 +1,6 @@
 -- Entries that are seen by what their values show, as a finite map.
-use Rattle.silo_model.proofs.Common.{◌&&◌, ◌∙◌, ◌∷◌, ◌≡◌, AllByRecursion, Bool, FinMap, IsAntisymmetric, IsTotalOrder, List, Option}
-use Rattle.silo_model.proofs.Common.{Ordering, Some, [], ap, cond, eq_by_cmp, false, found_passes, list_all, map_list, option_map, refl}
-use Rattle.silo_model.proofs.Common.{subst, sym, true}
+use Rattle.silo_model.proofs.Common.{◌∙◌, ◌∷◌, ◌≡◌, Bool, FinMap, IsAntisymmetric, IsTotalOrder, List, Option, Ordering, Some, [], ap, cond}
+use Rattle.silo_model.proofs.Common.{eq_by_cmp, found_passes, list_all, map_list, option_map, refl, subst, sym, true}
 use Rattle.std.specs.Prelude.{IfSome, IsTrue}
 use Rattle.std.specs.Cmp.{IsEquivalence, eq_by_cmp_equiv}
 use Rattle.std.specs.List.{IsDistinct}
@@ -10,21 +9,9 @@ use Rattle.std.specs.FinMap as finite
 use Rattle.std.specs.FinMap.{find, from_entries}
 use Rattle.std.proofs.lemmas.List.Sums.{AllPass-from_list_all, list_all-from_AllPass}
 use Rattle.std.proofs.lemmas.Map.Views.{All-values_from_lookup, IfSome-lookup_from_All}
-use Rattle.finite_maps.proofs.Values.{found_entries}
-
--- one of two, seen
-seen_choice : {V W : Type 0} (f : V → W) (b : Bool) (x y : Option V) → option_map f (cond b x y) ≡ cond b (option_map f x) (option_map f y)
-seen_choice f true x y = refl
-seen_choice f false x y = refl
-
-both_true : (a b : Bool) → a ≡ true → b ≡ true → a && b ≡ true
-both_true a b p q = ap (λ x. x && b) p ∙ q
-
--- two tests of which each passes if the other does
-alike : (a b : Bool) → (a ≡ true → b ≡ true) → (b ≡ true → a ≡ true) → a ≡ b
-alike true b on back = sym (on refl)
-alike false true on back = back refl
-alike false false on back = refl
+use Rattle.finite_maps.proofs.Values.{same_answer, values_pass}
+use Rattle.finite_maps.proofs.Options.{option_map-cond}
+use Rattle.silo_model.proofs.Tests.{on_found}
 
 module _ {K V W : Type 0} {R : K → K → Ordering} {eq : K → K → Bool} (total : IsTotalOrder R) (exact : IsAntisymmetric R) (tests : eq ≡ eq_by_cmp R) (f : V → W) where
   abbrev pub shown : List (K × V) → List (K × W)
@@ -33,7 +20,7 @@ module _ {K V W : Type 0} {R : K → K → Ordering} {eq : K → K → Bool} (to
   find-shown : (es : List (K × V)) (q : K) → find R q (shown es) ≡ option_map f (lookup (λ k. eq_by_cmp R q k) es)
   find-shown [] q = refl
   find-shown (e ∷ es) q =
-      ap (cond (eq_by_cmp R q e.0) (Some (f e.1))) (find-shown es q) ∙ sym (seen_choice f (eq_by_cmp R q e.0) (Some e.1) (lookup (λ k. eq_by_cmp R q k) es))
+      ap (cond (eq_by_cmp R q e.0) (Some (f e.1))) (find-shown es q) ∙ sym (option_map-cond f (eq_by_cmp R q e.0) (Some e.1) (lookup (λ k. eq_by_cmp R q k) es))
 
   -- the map has at a key what a look-up finds, seen
   pub get-shown : (es : List (K × V)) (q : K) → finite.get (from_entries {R = R} (shown es)) q ≡ option_map f (lookup (eq q) es)
@@ -43,7 +30,7 @@ module _ {K V W : Type 0} {R : K → K → Ordering} {eq : K → K → Bool} (to
   pub shown-insert : (es fs : List (K × V)) (k : K) (v : V) → ((q : K) → lookup (eq q) fs ≡ cond (eq k q) (Some v) (lookup (eq q) es))
       → from_entries {R = R} (shown fs) ≡ finite.insert (from_entries (shown es)) k (f v)
   shown-insert es fs k v l = finite.same_map total exact _ _ (λ q.
-      get-shown fs q ∙ ap (option_map f) (l q) ∙ seen_choice f (eq k q) (Some v) (lookup (eq q) es)
+      get-shown fs q ∙ ap (option_map f) (l q) ∙ option_map-cond f (eq k q) (Some v) (lookup (eq q) es)
       ∙ ap (cond (eq k q) (Some (f v))) (sym (get-shown es q))
       ∙ ap (λ b. cond b (Some (f v)) (finite.get (from_entries {R = R} (shown es)) q)) (ap (λ (t : K → K → Bool). t k q) tests ∙ (eq_by_cmp_equiv total).symm k q)
       ∙ sym (finite.get-insert total (from_entries (shown es)) k (f v) q))
@@ -55,29 +42,22 @@ module _ {K V W : Type 0} {R : K → K → Ordering} {eq : K → K → Bool} (to
     seen_all = from_entries (shown es)
 
     of_found : (o : Option V) (w : W) → IfSome o (λ v. IsTrue (p (f v))) → option_map f o ≡ Some w → p w ≡ true
-    of_found o w passes is = by o passes is
-      where
-        by : (o : Option V) → IfSome o (λ v. IsTrue (p (f v))) → option_map f o ≡ Some w → p w ≡ true
-        by (Some v) passes is = subst (λ (o : Option W). IfSome o (λ x. p x ≡ true)) is passes
-        by _ passes is = absurd cc
-
-    each_passes : ((q : K) → IfSome (lookup (eq q) es) (λ v. IsTrue (p (f v)))) → (fs : List (K × W)) → AllByRecursion (λ e. finite.get seen_all e.0 ≡ Some e.1) fs → list_all p (map_list (λ e. e.1) fs) ≡ true
-    each_passes passes [] found = refl
-    each_passes passes (e ∷ fs) found = both_true _ _ (of_found (lookup (eq e.0) es) e.1 (passes e.0) (sym (get-shown es e.0) ∙ found.0)) (each_passes passes fs found.1)
+    of_found (Some v) w passes is = subst (λ (o : Option W). IfSome o (λ x. p x ≡ true)) is passes
+    of_found _ w passes is = absurd cc
 
     -- where the keys differ, all values pass a test exactly if all of the map do
     pub all-shown : IsDistinct eq (keys_of es) → list_all (λ v. p (f v)) (values_of es) ≡ list_all p (finite.values seen_all)
-    all-shown distinct = alike _ _ on back
+    all-shown distinct = same_answer _ _ on back
       where
         on : list_all (λ v. p (f v)) (values_of es) ≡ true → list_all p (finite.values seen_all) ≡ true
-        on all = each_passes (λ q. IfSome-lookup_from_All (λ v. IsTrue (p (f v))) (eq q) es (AllPass-from_list_all (λ v. p (f v)) (values_of es) all)) (finite.entries seen_all) (found_entries total seen_all)
+        on all = values_pass total p seen_all (λ q w found.
+            let passes = IfSome-lookup_from_All (λ v. IsTrue (p (f v))) (eq q) es (AllPass-from_list_all (λ v. p (f v)) (values_of es) all) in
+            of_found (lookup (eq q) es) w passes (sym (get-shown es q) ∙ found))
 
         there : list_all p (finite.values seen_all) ≡ true → (q : K) → IfSome (lookup (eq q) es) (λ v. IsTrue (p (f v)))
-        there all q = by (lookup (eq q) es) refl
-          where
-            by : (o : Option V) → lookup (eq q) es ≡ o → IfSome o (λ v. IsTrue (p (f v)))
-            by (Some v) is = found_passes p seen_all q (f v) (get-shown es q ∙ ap (option_map f) is) all
-            by _ is = tt
+        there all q =
+            on_found (λ o. IfSome o (λ v. IsTrue (p (f v)))) (lookup (eq q) es) (λ _. tt)
+            (λ v is. found_passes p seen_all q (f v) (get-shown es q ∙ ap (option_map f) is) all)
 
         back : list_all p (finite.values seen_all) ≡ true → list_all (λ v. p (f v)) (values_of es) ≡ true
         back all = list_all-from_AllPass (λ v. p (f v)) (values_of es) (All-values_from_lookup (subst IsEquivalence (sym tests) (eq_by_cmp_equiv total)) (λ v. IsTrue (p (f v))) es distinct (there all))

@@ -1,7 +1,7 @@
 -- The pass over a journal, step by step.
 use Rattle.silo_model.proofs.Common.{◌<◌, ◌∙◌, ◌∷◌, ◌≡◌, Bool, Bor, Client, List, None, Option, Some, Step, [], ap, arith, as_failed, cond}
-use Rattle.silo_model.proofs.Common.{false, false_from_ne_true, is_some, length, map_list, option_and_then, option_map, refl, suc, sym}
-use Rattle.silo_model.proofs.Common.{true, true≢false, zero, ℕ}
+use Rattle.silo_model.proofs.Common.{false, false_from_ne_true, is_some, length, map_list, nil_from_length, option_and_then, option_map}
+use Rattle.silo_model.proofs.Common.{suc, sym, true, true≢false, zero, ℕ}
 use Rattle.std.proofs.Common.{drop, slice_index_or}
 use Rattle.std.specs.FinMap as finite
 use Rattle.lane_model.specs.Lanes.{AreDistinct, Lane, LanesStand, Remaining, TellsApart, is_used_up, others_after, remaining_after}
@@ -9,6 +9,7 @@ use Rattle.lane_model.specs.Lanes.{remaining_at_end, remaining_of}
 use Rattle.lane_model.proofs.ToldApart.{steps_told_apart}
 use Rattle.lane_model.proofs.PassOfLanes.{pass_decides}
 use Rattle.client_lanes.specs.inside.Passing.{Passes, Takes}
+use Rattle.finite_maps.proofs.Options.{option_map-cond}
 
 module _ (remaining after : Remaining) (k : Option Client) (s : Step) where
   -- what is left after the step, by what was left of its lane
@@ -28,8 +29,9 @@ module _ (remaining after : Remaining) (k : Option Client) (s : Step) where
   module _ (first : Step) (others : List Step) (is : finite.get remaining k ≡ Some (first ∷ others)) where
     by_test : (same : Step → Step → Bool) (b : Bool) → same s first ≡ b → remaining_after same remaining s (Some k) ≡ cond b (Some (finite.insert remaining k others)) None
     unfolding at_lane
-    by_test same true e = ap (at_lane same) is ∙ ap (λ b. option_map (finite.insert remaining k) (cond b (Some others) None)) e
-    by_test same false e = ap (at_lane same) is ∙ ap (λ b. option_map (finite.insert remaining k) (cond b (Some others) None)) e
+    by_test same b e =
+        ap (at_lane same) is ∙ ap (λ c. option_map (finite.insert remaining k) (cond c (Some others) None)) e
+        ∙ option_map-cond (finite.insert remaining k) b (Some others) None
 
     -- it is another step that is the next
     pub other_step : (as_failed s ≡ as_failed first → ⊥) → Takes remaining k s false after
@@ -70,12 +72,7 @@ first_of (y ∷ ys) x some is = ap (λ (z : Bor Step). z.now ∷ map_list (λ (s
 
 -- nothing waits
 pub none_of : (waiting : List (Bor Step)) → length waiting ≡ 0 → map_list (λ s. s.now) waiting ≡ []
-none_of [] none = refl
-none_of (y ∷ ys) none = absurd (omega (arith, none))
-
-pub no_more : {X : Type 0} (xs : List X) → length xs ≡ 0 → xs ≡ []
-no_more [] none = refl
-no_more (x ∷ xs) none = absurd (omega (arith, none))
+none_of waiting none = ap (map_list (λ (s : Bor Step). s.now)) (nil_from_length waiting none)
 
 -- a length that is not above 0
 pub empty_of : {X : Type 0} {size count : ℕ} → size ≡ count → (found : Option X) → (0 < size → is_some found ≡ true) → found ≡ None → count ≡ 0

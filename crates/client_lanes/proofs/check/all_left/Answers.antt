@@ -1,9 +1,9 @@
 use Rattle.silo_model.proofs.Common.{◌++◌, ◌∙◌, ◌∷◌, List, [], ap, append_assoc}
 use Rattle.std.specs.FinMap as finite
 use Rattle.lane_model.specs.Lanes.{Lane}
-use Rattle.lane_model.proofs.Pass.{lanes_total}
+use Rattle.lane_model.proofs.Pass.{lanes_exact, lanes_total}
 use Rattle.client_lanes.specs.inside.Passing.{steps_at}
-use Rattle.client_lanes.proofs.Keys.{lane_tests, lanes_exact}
+use Rattle.client_lanes.proofs.Keys.{lane_tests}
 use Rattle.client_lanes.proofs.Shown.{shown-insert}
 use Rattle.client_lanes.proofs.check.all_left.Goals as goal
 

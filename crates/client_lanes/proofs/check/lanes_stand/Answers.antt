@@ -1,7 +1,7 @@
-use Rattle.silo_model.proofs.Common.{◌∙◌, None, Some, ap, subst, sym}
+use Rattle.silo_model.proofs.Common.{◌∙◌, None, Some, ap, nil_from_length, subst, sym}
 use Rattle.lane_model.specs.Lanes.{remaining_at_end}
 use Rattle.client_lanes.specs.inside.Passing.{Passes, left_in}
-use Rattle.client_lanes.proofs.Steps.{goes_on, no_more, stops, told_by_end}
+use Rattle.client_lanes.proofs.Steps.{goes_on, stops, told_by_end}
 use Rattle.client_lanes.proofs.check.lanes_stand.Goals as goal
 
 pub steps-init : goal.steps-init
@@ -27,5 +27,5 @@ pub returns : goal.returns
 returns c =
     let left = left_in c.steps.left in
     let told = told_by_end c.args.lanes.now c.args.journal.now (Some left) c.requires
-    (λ same decides. sym (c.steps.invariant same decides) ∙ ap (remaining_at_end same left) (no_more _ c.in_default.ensures.cases)) in
+    (λ same decides. sym (c.steps.invariant same decides) ∙ ap (remaining_at_end same left) (nil_from_length _ c.in_default.ensures.cases)) in
     (λ used. told.0 (sym c.is_used_up.ensures ∙ used), λ stand. c.is_used_up.ensures ∙ told.1 stand)

@@ -1,9 +1,9 @@
 use Rattle.silo_model.proofs.Common.{◌∙◌, Bor, List, Some, Step, ap, map_list, option_map, refl, sym, true≢false}
 use Rattle.std.proofs.Common.{drop}
 use Rattle.std.specs.FinMap as finite
-use Rattle.lane_model.proofs.Pass.{lanes_total}
+use Rattle.lane_model.proofs.Pass.{lanes_exact, lanes_total}
 use Rattle.client_lanes.specs.inside.Passing.{left_in, steps_at}
-use Rattle.client_lanes.proofs.Keys.{lane_tests, lanes_exact}
+use Rattle.client_lanes.proofs.Keys.{lane_tests}
 use Rattle.client_lanes.proofs.Shown.{get-shown, shown-insert}
 use Rattle.client_lanes.proofs.Steps.{empty_of, first_of, next_step, no_lane, no_step, none_of, other_step, some_there}
 use Rattle.client_lanes.proofs.check.take_first.Goals as goal

@@ -1,8 +1,7 @@
-use Rattle.silo_model.proofs.Common.{◌∙◌, ap, list_any, refl, subst, sym, true≢false}
+use Rattle.silo_model.proofs.Common.{◌∙◌, ap, list_any, nil_from_length, refl, subst, sym, true≢false}
 use Rattle.std.specs.List.{IsDistinct}
 use Rattle.lane_model.specs.Lanes.{AreDistinct, Lane, same_lane}
 use Rattle.client_lanes.proofs.Apart.{one_more, others_distinct, repeats}
-use Rattle.client_lanes.proofs.Steps.{no_more}
 use Rattle.client_lanes.proofs.lane.distinct.Goals as goal
 
 pub returns-then-has_from : goal.returns-then-has_from
@@ -21,4 +20,4 @@ lanes-preserved c =
 
 pub returns : goal.returns
 unfolding IsDistinct
-returns c = (λ e. c.lanes.invariant.0 (subst AreDistinct (sym (no_more _ c.in_default.ensures.cases)) tt), λ distinct. refl)
+returns c = (λ e. c.lanes.invariant.0 (subst AreDistinct (sym (nil_from_length _ c.in_default.ensures.cases)) tt), λ distinct. refl)
