@@ -1,7 +1,6 @@
-use Rattle.std.proofs.Common.{◌≡◌, ℕ, List, IsTrue, ap, sym, ◌∙◌, subst}
+use Rattle.std.proofs.Common.{◌≡◌, IsTrue, sym, ◌∙◌, subst}
 use Rattle.std.specs.Prelude.{IfSome}
 use Rattle.std.proofs.lemmas.Result.{IfOk-weaker}
-use Rattle.idle_collector.specs.Ages.{Ages}
 use Rattle.tenant_gate.specs.Table.{are_in_range}
 use Rattle.tenant_gate.proofs.Faults.{limits_of-in_range}
 use Rattle.tenant_machine.specs.Machines.{start_with}
