@@ -8,6 +8,8 @@
 #[cfg(test)]
 mod ages;
 #[cfg(test)]
+mod arenas;
+#[cfg(test)]
 mod lines;
 #[cfg(test)]
 mod methods;

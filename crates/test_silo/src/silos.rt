@@ -1,6 +1,7 @@
 //! Silos, and calls of them, each in a function without clauses: the clauses of a call stand before all later goals of
 //! the body that makes it.
 
+use bumpalo::Bump;
 use grain_id::{GrainId, Kind, Tenant};
 use grain_kinds::{GrainLogic, Kinds};
 use grain_storage::{FusedStorage, GrainStorage, MemoryStorage, Row};
@@ -106,6 +107,16 @@ pub fn apply<S: GrainStorage, L: GrainLogic>(
     step: Step,
 ) -> Result<Answer, StepFault> {
     silo.apply(alloc, step)
+}
+
+/// Takes a step in this arena.
+pub fn apply_in<S: GrainStorage, L: GrainLogic>(
+    alloc: Global,
+    bump: &Bump,
+    silo: &mut Silo<S, L>,
+    step: Step,
+) -> Result<Answer, StepFault> {
+    silo.apply_in(alloc, bump, step)
 }
 
 pub fn replies<S: GrainStorage, L: GrainLogic>(silo: &Silo<S, L>) -> &[Reply] {
