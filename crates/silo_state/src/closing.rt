@@ -29,6 +29,7 @@ pub struct ClosedTurn<'a> {
 
 /// Closes an open turn, and tells its sender. The activation rests or stays as the turn said, and goes
 /// if it rests and is idle then. Takes no memory.
+#[inline(always)]
 pub fn close_turn<L: GrainLogic>(
     activations: &mut Activations<L>,
     replies: &mut Vec<Reply>,

@@ -29,6 +29,7 @@ impl<S: GrainStorage, L: GrainLogic> SiloState<S, L> {
     /// # Errors
     ///
     /// Out of memory: nothing changed.
+    #[inline(never)]
     pub fn call(
         &mut self,
         alloc: Global,
@@ -50,6 +51,7 @@ impl<S: GrainStorage, L: GrainLogic> SiloState<S, L> {
 
     /// The account of the asker's tenant, if the tenant is known, the grain is its own and the grain's
     /// kind is known; and otherwise the first of these that isn't so.
+    #[inline(always)]
     pub(super) fn passed(
         &self,
         alloc: Global,
@@ -78,6 +80,7 @@ impl<S: GrainStorage, L: GrainLogic> SiloState<S, L> {
 
     /// Why a request is refused, if it is: it doesn't pass the gate, no number is left, the tenant may
     /// have no more activations, or no more requests may wait at the grain, the first of these.
+    #[inline(always)]
     pub(super) fn refusal(
         &mut self,
         alloc: Global,
