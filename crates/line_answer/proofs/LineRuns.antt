@@ -8,17 +8,18 @@ use Rattle.silo_core.specs.History.{History}
 use Rattle.line_parser.specs.Meaning.{meaning_of}
 use Rattle.line_parser.specs.declared.line.Line.{Line}
 use Rattle.line_protocol.specs.Calls.{HasCause, HasNothingAhead}
-use Rattle.line_protocol.specs.Limits.{lines_limit}
 use Rattle.line_protocol.specs.Lines.{lines_of}
 use Rattle.line_protocol.specs.LineRuns.{WrittenInPart}
-use Rattle.line_protocol.specs.Reading.{Reading, IsFresh, left_of, LinesTaken, TakesLine, TakesPart, AreTaken, AreTakenButOne}
+use Rattle.line_protocol.specs.Reading.{Reading, IsFresh, left_of, LinesTaken, TakesLine, TakesPart, AreTakenButOne}
 use Rattle.line_protocol.specs.declared.written.WriterCalls.{WriterCalls}
 use Rattle.line_protocol.specs.declared.fault.LineFault.{LineFault}
 use Rattle.line_protocol.specs.declared.fault.LineFault.TheVariants as fault
-use Rattle.line_protocol.proofs.LinesOfBytes.{LinesTaken-trans, LinesTaken-kept, left_of-fresh}
+use Rattle.line_protocol.proofs.LinesOfBytes.{LinesTaken-trans, LinesTaken-kept}
+use Rattle.line_protocol.proofs.Run.{taken_here}
 use Rattle.line_protocol.proofs.ReadLines.{all_taken_here, lines_ahead}
-use Rattle.line_protocol.proofs.TakenLines.{Took, Took-kept, Took-more, TakesLine-lines, are_taken, none_beyond, one_beyond}
+use Rattle.line_protocol.proofs.TakenLines.{Took, Took-kept, Took-more, TakesLine-lines, none_beyond, one_beyond}
 use Rattle.answer_model.specs.Idle.{AllIdle}
+use Rattle.line_answer.specs.Limits.{answered_limit}
 use Rattle.line_answer.specs.Runs.{AnswersLine, AnswersLines, AnswersAll, AnswersBefore, StopsBy, LineStopsBy, MayStop, KeepsSetup}
 use Rattle.line_answer.proofs.Asked.{Hears, hears_none, hears_more, hears_own}
 
@@ -27,24 +28,19 @@ Keeps-same None = tt
 Keeps-same (Some bytes) = refl
 
 pub may_stop : (e : LineFault) (stopped : Bool) → stopped ≡ false → MayStop e stopped
-may_stop fault.Read stopped is = is
-may_stop fault.TooMuch stopped is = is
-may_stop fault.Write stopped is = is
 may_stop fault.Memory stopped is = tt
+may_stop _ stopped is = is
 
 pub setup_kept : (e : LineFault) (old new : History) → new.setup ≡ old.setup → KeepsSetup e old new
-setup_kept fault.Read old new is = is
-setup_kept fault.TooMuch old new is = is
-setup_kept fault.Write old new is = is
 setup_kept fault.Memory old new is = tt
+setup_kept _ old new is = is
 
 -- what stops one line keeps the setup, too
 pub line_setup_kept : (logic : Logic) (n : ℕ) (e : LineFault) (said : Line) (writing : WriterCalls) (old mid new : History) (before after : Option (List ℕ)) → mid.setup ≡ old.setup
     → LineStopsBy logic n e said writing mid new before after → KeepsSetup e old new
-line_setup_kept logic n fault.Read said writing old mid new before after is h = absurd h
-line_setup_kept logic n fault.TooMuch said writing old mid new before after is h = absurd h
 line_setup_kept logic n fault.Write said writing old mid new before after is h = h.0.1.1.setup ∙ is
 line_setup_kept logic n fault.Memory said writing old mid new before after is h = tt
+line_setup_kept logic n _ said writing old mid new before after is h = absurd h
 
 -- so far: these lines were taken, answered and written
 pub record LinesDone (logic : Logic) (n count : ℕ) (from left : Option (List ℕ)) (old new : History) (before after : Option (List ℕ)) : Type 0 where
@@ -87,7 +83,7 @@ module _ (logic : Logic) (n : ℕ) where
   }
 
   -- the same is left to read, and what was written went out
-  pub done_kept : (count : ℕ) (from left next : Option (List ℕ)) (old new : History) (before during after : Option (List ℕ)) → LinesDone logic n count from left old new before during
+  done_kept : (count : ℕ) (from left next : Option (List ℕ)) (old new : History) (before during after : Option (List ℕ)) → LinesDone logic n count from left old new before during
       → Keeps left next → Keeps during after → LinesDone logic n count from next old new before after
   done_kept count from left next old new before during after p h k = record {
     leads = p.leads;
@@ -102,29 +98,11 @@ module _ (logic : Logic) (n : ℕ) where
 
   pub done_flushed : (count : ℕ) (from left : Option (List ℕ)) (old new : History) (before during after : Option (List ℕ)) → LinesDone logic n count from left old new before during
       → Keeps during after → LinesDone logic n count from left old new before after
-  done_flushed count from left old new before during after p k = record {
-    leads = p.leads;
-    done = p.done;
-    counted = p.counted;
-    taken = p.taken;
-    took = p.took;
-    text = p.text;
-    hears = p.hears;
-    written = Appends-kept before during after _ p.written k;
-  }
+  done_flushed count from left old new before during after p k = done_kept count from left left old new before during after p (Keeps-same left) k
 
   pub done_left : (count : ℕ) (from left next : Option (List ℕ)) (old new : History) (before after : Option (List ℕ)) → LinesDone logic n count from left old new before after
       → Keeps left next → LinesDone logic n count from next old new before after
-  done_left count from left next old new before after p h = record {
-    leads = p.leads;
-    done = p.done;
-    counted = p.counted;
-    taken = LinesTaken-kept from left next p.done p.taken h;
-    took = Took-kept from left next p.done p.took h;
-    text = p.text;
-    hears = p.hears;
-    written = p.written;
-  }
+  done_left count from left next old new before after p h = done_kept count from left next old new before after after p h (Keeps-same after)
 
   answers_of : (count : ℕ) (from left : Option (List ℕ)) (old new : History) (before after : Option (List ℕ)) (p : LinesDone logic n count from left old new before after)
       → AnswersLines logic n old p.done new p.text
@@ -159,12 +137,6 @@ module _ (logic : Logic) (n : ℕ) where
     written = p.written;
   }
 
-  -- what was taken, if nothing is read ahead
-  taken_here : (input : List ℕ) (left : Option (List ℕ)) (done : List (List ℕ)) (reading : Reading) (rest : Option (List ℕ)) → IsFresh reading → Took (Some input) left done
-      → TakesPart left (left_of reading rest) → AreTaken input rest done
-  taken_here input left done reading rest none took part =
-      subst (λ (o : Option (List ℕ)). AreTaken input o done) (left_of-fresh reading rest none) (are_taken input left _ done took part)
-
   -- while the next line is read, or memory is refused before
   pub stops_reading : (e : LineFault) (reading : Reading) (rest : Option (List ℕ)) (writing : WriterCalls) (count : ℕ) (from left : Option (List ℕ)) (old new : History) (before after : Option (List ℕ))
       → HasCause e reading.calls writing → HasNothingAhead e reading.ahead → TakesPart left (left_of reading rest) → LinesDone logic n count from left old new before after
@@ -183,7 +155,7 @@ module _ (logic : Logic) (n : ℕ) where
 
   -- there are more lines than an input may have
   pub stops_full : (reading : Reading) (rest : Option (List ℕ)) (writing : WriterCalls) (count : ℕ) (from : Option (List ℕ)) (old new : History) (before after : Option (List ℕ))
-      → count ≡ lines_limit → reading.ahead ≢ [] → LinesDone logic n count from (left_of reading rest) old new before after
+      → count ≡ answered_limit → reading.ahead ≢ [] → LinesDone logic n count from (left_of reading rest) old new before after
       → IfSome from (λ input. StopsBy logic n input reading rest writing old new before after fault.TooMuch)
   unfolding stops_before
   stops_full reading rest writing count None old new before after full some p = tt

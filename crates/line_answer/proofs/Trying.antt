@@ -49,6 +49,14 @@ since_none f = λ i. record { at_opening = f.at_opening; now = sums i }
     sums : f.now ≡ f.now + 0
     sums = omega arith
 
+-- a step is taken as it is, or with its mark
+marked : (b : Bool) (s : Bool → Step) → as_failed (s false) ≡ s true → taken_by b (s false) ≡ s b
+marked true s is = is
+marked false s is = refl
+
+plain : (b : Bool) (s : Step) → as_failed s ≡ s → taken_by b s ≡ s
+plain b s = marked b (λ _. s)
+
 module _ (logic : Logic) where
   pub tries_none : (old : History) → Tries logic old [] old
   tries_none old = record { setup = refl; whole = refl; journal = sym (append-nil old.journal); failures = since_none old.failures }
@@ -99,16 +107,7 @@ module _ (logic : Logic) where
   marked_once (Poke failed caller id grain state) h = refl
   marked_once (Load grain failed) h = refl
   marked_once (Store grain turn failed) h = refl
-  marked_once (Refuse caller id code) h = absurd (true≢false (sym h))
-  marked_once (Call caller id grain message) h = absurd (true≢false (sym h))
-  marked_once (Status caller id) h = absurd (true≢false (sym h))
-  marked_once (Deliver grain) h = absurd (true≢false (sym h))
-  marked_once (Activate grain) h = absurd (true≢false (sym h))
-  marked_once (Begin grain) h = absurd (true≢false (sym h))
-  marked_once (End grain turn) h = absurd (true≢false (sym h))
-  marked_once (Abandon grain turn) h = absurd (true≢false (sym h))
-  marked_once (Tick now) h = absurd (true≢false (sym h))
-  marked_once Sweep h = absurd (true≢false (sym h))
+  marked_once _ h = absurd (true≢false (sym h))
 
   pub takes_done : (old new : History) (s : Step) → has_failed s ≡ false → Advances logic old s 0 new → TakesNow logic old s true new
   takes_done old new s plain adv = (false, tries_step old new s 0 (sym (ap (λ b. (if b then 1 else 0) + 0) plain)) adv, ap is_some adv.whole)
@@ -120,27 +119,6 @@ module _ (logic : Logic) where
   takes_not old new s stays = (ap is_some stays.impossible, stays.unchanged)
 
   -- ---- one request
-
-  -- a step whose storage is never called is taken as it is
-  plain_activate : (b : Bool) (g : Grain) → taken_by b (Activate g) ≡ Activate g
-  plain_activate true g = refl
-  plain_activate false g = refl
-
-  plain_end : (b : Bool) (g : Grain) (turn : ℕ) → taken_by b (End g turn) ≡ End g turn
-  plain_end true g turn = refl
-  plain_end false g turn = refl
-
-  plain_abandon : (b : Bool) (g : Grain) (turn : ℕ) → taken_by b (Abandon g turn) ≡ Abandon g turn
-  plain_abandon true g turn = refl
-  plain_abandon false g turn = refl
-
-  marked_load : (b : Bool) (g : Grain) → taken_by b (Load g false) ≡ Load g b
-  marked_load true g = refl
-  marked_load false g = refl
-
-  marked_store : (b : Bool) (g : Grain) (turn : ℕ) → taken_by b (Store g turn false) ≡ Store g turn b
-  marked_store true g turn = refl
-  marked_store false g turn = refl
 
   -- a step that was taken or not was tried
   pub tried : (old new : History) (s : Step) (done : Bool) → TakesNow logic old s done new → (failed : Bool) × Tries logic old (taken_by failed s ∷ []) new × (is_possible logic old.whole (taken_by failed s) ≡ done)
@@ -154,12 +132,12 @@ module _ (logic : Logic) where
     pub raised : (done : Bool) → TakesNow logic old (Activate g) true mid → TakesNow logic mid (Load g false) done new → Raised
     raised done up loads =
         let all = tried mid new (Load g false) done loads in
-        let possible = ap (is_possible logic old.whole) (sym (plain_activate up.0 g)) ∙ up.2 in (
+        let possible = ap (is_possible logic old.whole) (sym (plain up.0 (Activate g) refl)) ∙ up.2 in (
           all.0,
           subst (λ b. Tries logic old (if b then Activate g ∷ Load g all.0 ∷ [] else []) new) (sym possible)
               (tries_on old mid new (Activate g ∷ []) (Load g all.0 ∷ [])
-              (subst (λ s. Tries logic old (s ∷ []) mid) (plain_activate up.0 g) up.1)
-              (subst (λ s. Tries logic mid (s ∷ []) new) (marked_load all.0 g) all.1)),
+              (subst (λ s. Tries logic old (s ∷ []) mid) (plain up.0 (Activate g) refl) up.1)
+              (subst (λ s. Tries logic mid (s ∷ []) new) (marked all.0 (Load g) refl) all.1)),
         )
 
   pub not_raised : (old new : History) (g : Grain) → TakesNow logic old (Activate g) false new → Raised old old new g
@@ -171,10 +149,10 @@ module _ (logic : Logic) where
 
   pub ended : (old new : History) (g : Grain) (turn : ℕ) → TakesNow logic old (End g turn) true new → EndsTurn old g turn new
   ended old new g turn takes =
-      let possible = ap (is_possible logic old.whole) (sym (plain_end takes.0 g turn)) ∙ takes.2 in (
+      let possible = ap (is_possible logic old.whole) (sym (plain takes.0 (End g turn) refl)) ∙ takes.2 in (
         false,
         subst (λ b. Tries logic old (if b then End g turn ∷ [] else Store g turn false ∷ []) new) (sym possible)
-            (subst (λ s. Tries logic old (s ∷ []) new) (plain_end takes.0 g turn) takes.1),
+            (subst (λ s. Tries logic old (s ∷ []) new) (plain takes.0 (End g turn) refl) takes.1),
       )
 
   pub stored : (old mid new : History) (g : Grain) (turn : ℕ) (done : Bool) → TakesNow logic old (End g turn) false mid → TakesNow logic mid (Store g turn false) done new
@@ -183,7 +161,7 @@ module _ (logic : Logic) where
       let all = tried mid new (Store g turn false) done takes in (
         all.0,
         subst (λ b. Tries logic old (if b then End g turn ∷ [] else Store g turn all.0 ∷ []) new) (sym not.0)
-            (subst (λ h. Tries logic h (Store g turn all.0 ∷ []) new) not.1 (subst (λ s. Tries logic mid (s ∷ []) new) (marked_store all.0 g turn) all.1)),
+            (subst (λ h. Tries logic h (Store g turn all.0 ∷ []) new) not.1 (subst (λ s. Tries logic mid (s ∷ []) new) (marked all.0 (Store g turn) refl) all.1)),
       )
 
   abbrev ClosesTurn : History → Grain → ℕ → History → Type 0
@@ -196,7 +174,7 @@ module _ (logic : Logic) where
   pub given_up : (old new : History) (g : Grain) (turn : ℕ) (done : Bool) → TakesNow logic old (Abandon g turn) done new → ClosesTurn old g turn new
   given_up old new g turn done takes =
       let all = tried old new (Abandon g turn) done takes in
-      (out_of_memory, subst (λ s. Tries logic old (s ∷ []) new) (plain_abandon all.0 g turn) all.1)
+      (out_of_memory, subst (λ s. Tries logic old (s ∷ []) new) (plain all.0 (Abandon g turn) refl) all.1)
 
   -- ---- the request's turn, and all of it
 
@@ -323,10 +301,6 @@ module _ (logic : Logic) where
 
 -- ---- what a tenant's grains sent
 
-plain_deliver : (b : Bool) (g : Grain) → taken_by b (Deliver g) ≡ Deliver g
-plain_deliver true g = refl
-plain_deliver false g = refl
-
 module _ (logic : Logic) (setup : Setup) (journal : List Step) (w : Whole) (tenant : List ℕ) (leads : LeadsTo logic setup journal w) where
   first_by : (source : Grain) (sends : List Send) → first_source sends ≡ Some source → (oldest : Send) × (others : List Send) × (sends ≡ oldest ∷ others) × (oldest.source ≡ source)
   first_by source [] is = absurd (none-some source is)
@@ -367,7 +341,7 @@ module _ (logic : Logic) (old new : History) (tenant : List ℕ) where
         subst (λ sends. Tries logic old (delivering by old.whole sends brings.0) new) (sym is)
             (subst (λ (g : Grain). Tries logic old (bringing by old.whole (Deliver g) (Some oldest.message.target) brings.0) new) (sym from)
             (subst (λ (g : Grain). Tries logic old (bringing by old.whole (Deliver source) (Some g) brings.0) new) (sym to)
-            (subst (λ s. Tries logic old (bringing by old.whole s (Some target) brings.0) new) (plain_deliver brings.0.asking_failed source) brings.1))),
+            (subst (λ s. Tries logic old (bringing by old.whole s (Some target) brings.0) new) (plain brings.0.asking_failed (Deliver source) refl) brings.1))),
       )
 
 -- so many deliveries are left
@@ -441,15 +415,7 @@ owner_by_asker (Refuse c id code) caller is = ap (λ (x : Client). Some x.tenant
 owner_by_asker (Call c id grain message) caller is = ap (λ (x : Client). Some x.tenant) (same_Some c caller is)
 owner_by_asker (Poke failed c id grain state) caller is = ap (λ (x : Client). Some x.tenant) (same_Some c caller is)
 owner_by_asker (Status c id) caller is = ap (λ (x : Client). Some x.tenant) (same_Some c caller is)
-owner_by_asker (Deliver grain) caller is = absurd (none-some caller is)
-owner_by_asker (Activate grain) caller is = absurd (none-some caller is)
-owner_by_asker (Load grain failed) caller is = absurd (none-some caller is)
-owner_by_asker (Begin grain) caller is = absurd (none-some caller is)
-owner_by_asker (Store grain turn failed) caller is = absurd (none-some caller is)
-owner_by_asker (End grain turn) caller is = absurd (none-some caller is)
-owner_by_asker (Abandon grain turn) caller is = absurd (none-some caller is)
-owner_by_asker (Tick now) caller is = absurd (none-some caller is)
-owner_by_asker Sweep caller is = absurd (none-some caller is)
+owner_by_asker _ caller is = absurd (none-some caller is)
 
 nobodys : (s : Step) → asker_of s ≡ None → is_asked s ≡ true → owner_of s ≡ None
 nobodys (Tick now) none asked = refl
@@ -458,30 +424,14 @@ nobodys (Refuse c id code) none asked = absurd (none-some c (sym none))
 nobodys (Call c id grain message) none asked = absurd (none-some c (sym none))
 nobodys (Poke failed c id grain state) none asked = absurd (none-some c (sym none))
 nobodys (Status c id) none asked = absurd (none-some c (sym none))
-nobodys (Deliver grain) none asked = absurd (true≢false (sym asked))
-nobodys (Activate grain) none asked = absurd (true≢false (sym asked))
-nobodys (Load grain failed) none asked = absurd (true≢false (sym asked))
-nobodys (Begin grain) none asked = absurd (true≢false (sym asked))
-nobodys (Store grain turn failed) none asked = absurd (true≢false (sym asked))
-nobodys (End grain turn) none asked = absurd (true≢false (sym asked))
-nobodys (Abandon grain turn) none asked = absurd (true≢false (sym asked))
+nobodys _ none asked = absurd (true≢false (sym asked))
 
 -- what is asked has no mark of a failure
 pub asked_plain : (s : Step) → is_asked s ≡ true → has_failed s ≡ false
 asked_plain (Poke true c id grain state) asked = absurd (true≢false (sym asked))
-asked_plain (Poke false c id grain state) asked = refl
 asked_plain (Load grain failed) asked = absurd (true≢false (sym asked))
 asked_plain (Store grain turn failed) asked = absurd (true≢false (sym asked))
-asked_plain (Refuse c id code) asked = refl
-asked_plain (Call c id grain message) asked = refl
-asked_plain (Status c id) asked = refl
-asked_plain (Deliver grain) asked = refl
-asked_plain (Activate grain) asked = refl
-asked_plain (Begin grain) asked = refl
-asked_plain (End grain turn) asked = refl
-asked_plain (Abandon grain turn) asked = refl
-asked_plain (Tick now) asked = refl
-asked_plain Sweep asked = refl
+asked_plain _ asked = refl
 
 module _ (logic : Logic) (n : ℕ) (old mid new : History) (s : Step) (done : Bool) (brings : Brings logic old s (called_grain s) done mid) where
   abbrev Answers : Type 0

@@ -1,3 +1,4 @@
+pub mod Limits
 pub mod Trying
 pub mod Texts
 pub mod Runs

@@ -9,7 +9,7 @@ use Rattle.line_parser.specs.declared.line.Line.{Line}
 use Rattle.line_protocol.specs.Limits.{calls_limit}
 use Rattle.line_protocol.specs.Lines.{lines_of}
 use Rattle.line_protocol.specs.LineTexts.{said_lines}
-use Rattle.line_protocol.specs.LineRuns.{IsFull, WrittenInPart}
+use Rattle.line_protocol.specs.LineRuns.{WrittenInPart}
 use Rattle.line_protocol.specs.Reading.{Reading, AreTaken, AreTakenButOne, left_of}
 use Rattle.line_protocol.specs.declared.written.WriterCalls.{WriterCalls}
 use Rattle.line_protocol.specs.declared.fault.LineFault.{LineFault}
@@ -17,6 +17,7 @@ use Rattle.line_protocol.specs.declared.fault.LineFault.TheVariants as fault
 use Rattle.answer_model.specs.Answering.{Luck, whole_stepper, machine_stepper, all_answered}
 use Rattle.answer_model.specs.Apart.{asked_by}
 use Rattle.answer_model.specs.Idle.{AllIdle}
+use Rattle.line_answer.specs.Limits.{IsAnsweredOut}
 use Rattle.line_answer.specs.Texts.{Heard, asks_by, asks_of, all_steps, line_text, lines_text}
 use Rattle.line_answer.specs.Trying.{Tries}
 
@@ -75,7 +76,7 @@ module _ (logic : Logic) (n : ℕ) (input : List ℕ) (reading : Reading) (left 
       (p : AnswersBefore logic n (lines_of input) old new before after) × (reading.calls.failed ≡ true) × AreTaken input left p.done
   StopsBy fault.TooMuch =
       (p : AnswersBefore logic n (lines_of input) old new before after)
-      × (IsFull p.done p.rest ⊎ ((reading.calls.made ≡ calls_limit) × AreTaken input left p.done))
+      × (IsAnsweredOut p.done p.rest ⊎ ((reading.calls.made ≡ calls_limit) × AreTaken input left p.done))
   StopsBy fault.Memory =
       (mid : History) × (p : AnswersBefore logic n (lines_of input) old mid before after)
       × AreTakenButOne input (left_of reading left) p.done

@@ -15,4 +15,4 @@ mod serving;
 
 pub use answering::AnsweringSilo;
 pub use line_protocol::{Input, LineFault, Output};
-pub use runner::answer_lines;
+pub use runner::{ANSWERED_LIMIT, answer_lines};

@@ -3,8 +3,8 @@
 ghost use Rattle.std.specs.Prelude.{◌≡◌, ◌≤◌, false, List, ℕ, IfOk, IfErr, IfSome, OnOk};
 ghost use Rattle.std.specs.Io.KnownBytes.{Appends};
 ghost use Rattle.line_parser.specs.Meaning.{meaning_of};
-ghost use Rattle.line_protocol.specs.Limits.{lines_limit};
 ghost use Rattle.line_protocol.specs.Reading.{left_of};
+ghost use Rattle.line_answer.specs.Limits.{answered_limit};
 ghost use Rattle.line_answer.specs.Runs.{AnswersLine, AnswersAll, KeepsSetup, LineStopsBy, MayStop, StopsBy};
 
 use crate::answering::AnsweringSilo;
@@ -12,9 +12,12 @@ use crate::lines::answer_line;
 use grain_kinds::GrainLogic;
 use grain_storage::GrainStorage;
 use line_parser::LineScratch;
-use line_protocol::{Input, LINES_LIMIT, LineFault, Output};
+use line_protocol::{Input, LineFault, Output};
 use std::alloc::Global;
 use std::io::{Read, Write};
+
+/// Lines of an input that are answered at once, at most.
+pub const ANSWERED_LIMIT: u64 = 1_073_741_824;
 
 /// Answers what a line says, and writes its text at once.
 fn write_answer<W: Write, S: GrainStorage, L: GrainLogic>(
@@ -41,7 +44,7 @@ fn write_answer<W: Write, S: GrainStorage, L: GrainLogic>(
 
 /// Answers each line before the next is read: what a client asks, the clock, and sweeping. Behind what a client asks at
 /// most so many of what its tenant's grains sent are delivered; what is left goes on behind the tenant's next line.
-/// Answers the number of lines, at most 1,000,000.
+/// Answers the number of lines, at most 1,073,741,824.
 ///
 /// All that one line answers is written in one go, and goes out before a read that may wait. What was read ahead comes
 /// first.
@@ -49,8 +52,8 @@ fn write_answer<W: Write, S: GrainStorage, L: GrainLogic>(
 /// # Errors
 ///
 /// `Read` if a call of the reader failed, and `Write` if a call of the writer failed: the output notes that, so pass one
-/// that notes none. `Memory` if memory was refused: the silo may have stopped. `TooMuch` at more than 1,000,000 lines, or
-/// if one more call of the reader than 1,073,741,824 would be needed.
+/// that notes none. `Memory` if memory was refused: the silo may have stopped. `TooMuch` at more than 1,073,741,824
+/// lines, or if one more call of the reader than that would be needed.
 pub fn answer_lines<R: Read, W: Write, S: GrainStorage, L: GrainLogic>(
     alloc: Global,
     input: &mut Input<R>,
@@ -69,14 +72,14 @@ pub fn answer_lines<R: Read, W: Write, S: GrainStorage, L: GrainLogic>(
     ensures stopped { IfErr result (λ e. MayStop e silo.new.stopped) }
     ensures setup { OnOk result (silo.new.history.setup ≡ silo.old.history.setup) }
     ensures kept { IfErr result (λ e. KeepsSetup e silo.old.history silo.new.history) }
-    ensures bound { IfOk result (λ n. n ≤ lines_limit) }
+    ensures bound { IfOk result (λ n. n ≤ answered_limit) }
     ensures unfailed { OnOk result (output.new.calls.failed ≡ output.old.calls.failed) }
 {
     // For the proof: where the silo's journal leads.
     let _ = silo.journal();
     let mut scratch = LineScratch::new(alloc)?;
     let mut text = String::new(alloc);
-    for count in 0..LINES_LIMIT {
+    for count in 0..ANSWERED_LIMIT {
         if !input.lines.next_flushed(&mut input.reader, output)? {
             return Ok(count);
         }
@@ -94,5 +97,5 @@ pub fn answer_lines<R: Read, W: Write, S: GrainStorage, L: GrainLogic>(
     if input.lines.fill(&mut input.reader)? {
         return Err(LineFault::TooMuch);
     }
-    Ok(LINES_LIMIT)
+    Ok(ANSWERED_LIMIT)
 }

@@ -185,7 +185,7 @@ stops_at logic count input bytes old new before after p = record {
 }
 
 -- what was taken, if nothing is read ahead
-taken_here : (input : List ℕ) (left : Option (List ℕ)) (done : List (List ℕ)) (reading : Reading) (rest : Option (List ℕ)) → IsFresh reading → Took (Some input) left done
+pub taken_here : (input : List ℕ) (left : Option (List ℕ)) (done : List (List ℕ)) (reading : Reading) (rest : Option (List ℕ)) → IsFresh reading → Took (Some input) left done
     → TakesPart left (left_of reading rest) → AreTaken input rest done
 taken_here input left done reading rest none took part =
     subst (λ (o : Option (List ℕ)). AreTaken input o done) (left_of-fresh reading rest none) (are_taken input left _ done took part)

@@ -18,7 +18,7 @@ pub enum LineFault {
     /// Memory was refused.
     #[error("out of memory")]
     Memory,
-    /// The input has more than 1,000,000 lines, or takes more than 1,073,741,824 calls of the reader.
+    /// The input has more lines than are taken, or takes more than 1,073,741,824 calls of the reader.
     #[error("too much input")]
     TooMuch,
 }

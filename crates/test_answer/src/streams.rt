@@ -86,3 +86,26 @@ fn a_line_whose_answer_is_not_written_was_answered(rt: HostRuntime) -> Result<()
     assert!(rt; is_taken_anew(rt.alloc())?);
     Ok(())
 }
+
+/// How many lines are answered of so many empty ones, and none after a fault.
+fn answered_of_empty(alloc: Global, silo: &mut TestedSilo, count: u64) -> Result<u64, Fail> {
+    let mut input = Input::new(alloc, io::repeat(b'\n').take(count))?;
+    let written: Vec<u8> = Vec::new(alloc);
+    let mut output = Output::new(written);
+    let end = ended(alloc, silo, 0, &mut input, &mut output)?;
+    Ok(end.unwrap_or(0))
+}
+
+/// The same of a new silo.
+fn answered_of_empty_anew(alloc: Global, count: u64) -> Result<u64, Fail> {
+    let mut silo = new_silo(alloc, 0)?;
+    let lines = answered_of_empty(alloc, &mut silo, count);
+    drop(silo);
+    lines
+}
+
+#[test]
+fn a_silo_goes_on_behind_a_million_lines(rt: HostRuntime) -> Result<(), Fail> {
+    assert_eq!(rt; answered_of_empty_anew(rt.alloc(), 1_000_001)?, 1_000_001);
+    Ok(())
+}
