@@ -1,32 +1,31 @@
 -- Steps that are tried one after another.
 use Rattle.std.proofs.Common.{◌≡◌, ℕ, zero, suc, ◌+◌, ◌==◌, Bool, true, false, List, [], ◌∷◌, ◌++◌, length, Option, Some, None, unwrap_or, refl, ap, sym, ◌∙◌, subst, arith, append_assoc, true≢false}
-use Rattle.std.specs.Prelude.{is_some, Ok, if◌then◌else◌}
+use Rattle.std.specs.Prelude.{is_some, option_and_then, if◌then◌else◌}
 use Rattle.std.specs.FinMap as map
 use Rattle.std.proofs.lemmas.List.{append-nil}
 use Rattle.std.proofs.lemmas.Option.{none-some, same_Some}
 use Rattle.grain_id.specs.Names.{Client, Grain}
-use Rattle.request_codec.specs.Tree.{Tree}
-use Rattle.grain_kinds.specs.declared.turn.OpenedTurn.{OpenedTurn}
 use Rattle.silo_event.specs.Asker.{asker_of}
 use Rattle.silo_event.specs.Owner.{owner_of}
 use Rattle.silo_event.specs.Failed.{has_failed, may_fail, as_failed}
 use Rattle.silo_event.specs.declared.step.Step.{Step}
 use Rattle.silo_event.specs.declared.step.Step.TheVariants.{Refuse, Call, Poke, Status, Deliver, Activate, Load, Begin, Store, End, Abandon, Tick, Sweep}
-use Rattle.silo_event.specs.declared.step.Answer.TheVariants.{Done}
 use Rattle.grain_kinds.specs.Logic.{Logic}
 use Rattle.silo_model.specs.Machine.{Entry, Request, Send, Phase, waiting, loading, ready}
 use Rattle.silo_model.specs.Opening.{Setup}
 use Rattle.silo_model.specs.Journal.{LeadsTo}
 use Rattle.silo_model.specs.Pending.{sends_of}
 use Rattle.silo_model.specs.Sends.{first_target}
-use Rattle.silo_model.specs.Turns.{activated, may_open, opened_if_ready, reads}
+use Rattle.silo_model.specs.Turns.{activated, opened, opened_if_ready}
+use Rattle.silo_model.specs.Step.{effect_of}
 use Rattle.silo_model.specs.Whole.{Whole, whole_step}
 use Rattle.silo_model.specs.Run.{if_possible, done_by, whole_run}
+use Rattle.silo_model.proofs.Contexts.{step_at_own}
 use Rattle.silo_model.proofs.EntrySteps.{activate_found, begin_found}
 use Rattle.silo_model.proofs.Runs.{whole_after, run_by-append, done_by-append}
-use Rattle.silo_state.specs.Entries.{front_turn, turn_in, opened_turn}
 use Rattle.silo_state.specs.Sends.{first_source}
-use Rattle.silo_core.specs.History.{History, Failures, Advances, Fails, StaysAsItWas, Answered, failed_since}
+use Rattle.silo_state.specs.Work.{first_number, first_waiting}
+use Rattle.silo_core.specs.History.{History, Failures, Advances, Fails, StaysAsItWas, failed_since}
 use Rattle.answer_model.specs.Answering.{Luck, Closing, well, storage_failed, out_of_memory, whole_stepper, taken_by, raising, ending, closing, turn_of, turn_of_first, turning, serving, bringing, is_accepted, delivering, deliveries, deliveries_of, good, is_asked, called_grain}
 use Rattle.answer_model.proofs.Served.{source_own, target_is}
 use Rattle.line_answer.specs.Trying.{failed_among, Tries, is_possible, TakesNow, IsFirst, Begins, Opens, Brings, IsOldest, Delivers, AnswersAsked}
@@ -178,35 +177,40 @@ module _ (logic : Logic) where
 
   -- ---- the request's turn, and all of it
 
-  first_of : (g : Grain) (e : Entry) (state : Tree) (turn : OpenedTurn) (queue : List Request) → e.queue ≡ queue → front_turn logic g e state queue ≡ Some turn
-      → (first : Request) × (others : List Request) × (e.queue ≡ first ∷ others) × (first.number ≡ turn.number)
-  first_of g e state turn [] is front = absurd (none-some turn front)
-  first_of g e state turn (first ∷ others) is front = (first, others, is, by_test (may_open logic g e first) front)
-    where
-      by_test : (b : Bool) → (if b then Some (record { grain = g; number = first.number; reading = reads logic g first; state = state; message = first.call }) else None) ≡ Some turn
-          → first.number ≡ turn.number
-      by_test true same = ap (λ (x : OpenedTurn). x.number) (same_Some _ turn same)
-      by_test false same = absurd (none-some turn same)
+  first_of : (queue : List Request) (number : ℕ) → first_number queue ≡ Some number → (first : Request) × (others : List Request) × (queue ≡ first ∷ others) × (first.number ≡ number)
+  first_of [] number is = absurd (none-some number is)
+  first_of (first ∷ others) number is = (first, others, refl, same_Some first.number number is)
 
-  first_in : (w : Whole) (g : Grain) (turn : OpenedTurn) (e : Entry) → map.get w.entries g ≡ Some e → (p : Phase) → turn_in logic g e p ≡ Some turn → IsFirst w g turn.number
-  first_in w g turn e found waiting is = absurd (none-some turn is)
-  first_in w g turn e found loading is = absurd (none-some turn is)
-  first_in w g turn e found (ready state version) is =
-      let first = first_of g e state turn e.queue refl is in
+  first_at : (w : Whole) (g : Grain) (number : ℕ) (found : Option Entry) → map.get w.entries g ≡ found → first_waiting found ≡ Some number → IsFirst w g number
+  first_at w g number None found is = absurd (none-some number is)
+  first_at w g number (Some e) found is =
+      let first = first_of e.queue number is in
       record { entry = e; first = first.0; others = first.1; found = found; queue = first.2; numbered = first.3 }
 
-  first_at : (w : Whole) (g : Grain) (turn : OpenedTurn) (found : Option Entry) → map.get w.entries g ≡ found → opened_turn logic g found ≡ Some turn → IsFirst w g turn.number
-  first_at w g turn None found is = absurd (none-some turn is)
-  first_at w g turn (Some e) found is = first_in w g turn e found e.phase is
-
   -- a turn began
-  pub begun : (old new : History) (g : Grain) (turn : OpenedTurn) → Answered logic old (Begin g) (Ok Done) new → opened_turn logic g (map.get old.whole.entries g) ≡ Some turn
-      → Begins logic old g (Some turn.number) new
-  begun old new g turn answered is = (
-    tries_step old new (Begin g) 0 refl answered,
-    ap is_some answered.whole,
-    first_at old.whole g turn (map.get old.whole.entries g) refl is,
+  pub begun : (old new : History) (g : Grain) (number : ℕ) → first_waiting (map.get old.whole.entries g) ≡ Some number → TakesNow logic old (Begin g) true new → Begins logic old g (Some number) new
+  begun old new g number first takes = (
+    subst (λ s. Tries logic old (s ∷ []) new) (plain takes.0 (Begin g) refl) takes.1,
+    ap (is_possible logic old.whole) (sym (plain takes.0 (Begin g) refl)) ∙ takes.2,
+    first_at old.whole g number (map.get old.whole.entries g) refl first,
   )
+
+  -- where none waits, none can begin
+  none_opens : (g : Grain) (e : Entry) (queue : List Request) → first_number queue ≡ None → opened logic g e queue ≡ None
+  none_opens g e [] none = refl
+  none_opens g e (first ∷ others) none = absurd (none-some first.number (sym none))
+
+  none_ready : (g : Grain) (e : Entry) (p : Phase) → first_number e.queue ≡ None → opened_if_ready logic g e p ≡ None
+  none_ready g e (ready state version) none = none_opens g e e.queue none
+  none_ready g e _ none = refl
+
+  none_at : (g : Grain) (found : Option Entry) → first_waiting found ≡ None → option_and_then (λ e. opened_if_ready logic g e e.phase) found ≡ None
+  none_at g None none = refl
+  none_at g (Some e) none = none_ready g e e.phase none
+
+  pub begins_not : (h : History) (g : Grain) → first_waiting (map.get h.whole.entries g) ≡ None → Begins logic h g None h
+  unfolding effect_of
+  begins_not h g none = (ap is_some (step_at_own logic h.whole (Begin g) g.tenant g None refl refl refl (none_at g (map.get h.whole.entries g) none)), refl)
 
   module _ (w : Whole) (g : Grain) (e : Entry) (found : map.get w.entries g ≡ Some e) (begins : is_possible logic w (Begin g) ≡ true) where
     is_up : (p : Phase) → e.phase ≡ p → is_possible logic w (Activate g) ≡ false

@@ -9,6 +9,7 @@ ghost use Rattle.answer_model.specs.Idle.{AllIdle, TellsAsker};
 ghost use Rattle.line_answer.specs.Trying.{AnswersAsked};
 
 use crate::bringing::answer_step;
+use bumpalo::Bump;
 use grain_id::HashSeed;
 use grain_kinds::GrainLogic;
 use grain_storage::GrainStorage;
@@ -145,7 +146,6 @@ impl<S: GrainStorage, L: GrainLogic> AnsweringSilo<S, L> {
     /// # Errors
     ///
     /// Out of memory: it has stopped, and some of this may have been done.
-    #[tactic(auto, using(crate::proofs::Asked::idle_after))]
     pub fn answer(&mut self, alloc: Global, step: Step, most: u64) -> Result<bool, AllocError>
         requires asked { is_asked step ≡ true }
         requires ready { self.old.stopped ≡ false }
@@ -159,10 +159,30 @@ impl<S: GrainStorage, L: GrainLogic> AnsweringSilo<S, L> {
         ensures ready { OnOk result (self.new.stopped ≡ false) }
         ensures stopped { OnErr result (self.new.stopped ≡ true) }
     {
+        self.answer_in(alloc, &mut Bump::new(alloc), step, most)
+    }
+
+    /// The same, with its turns in this arena.
+    #[tactic(auto, using(crate::proofs::Asked::idle_after))]
+    pub(crate) fn answer_in(
+        &mut self,
+        alloc: Global,
+        bump: &mut Bump,
+        step: Step,
+        most: u64,
+    ) -> Result<bool, AllocError>
+        requires asked { is_asked step ≡ true }
+        requires ready { self.old.stopped ≡ false }
+        ensures answered { IfOk result (λ done. AnswersAsked L.logic most self.old.history step done self.new.history) }
+        ensures idle { OnOk result (AllIdle self.new.history.whole.entries) }
+        ensures told { OnOk result (TellsAsker (asking_of step) self.old.history.whole.replies self.new.history.whole.replies) }
+        ensures ready { OnOk result (self.new.stopped ≡ false) }
+        ensures stopped { OnErr result (self.new.stopped ≡ true) }
+    {
         // For the proof: where the journal leads.
         let _ = self.silo.journal();
         self.stopped = true;
-        let done = answer_step(alloc, &mut self.silo, step, most)?;
+        let done = answer_step(alloc, bump, &mut self.silo, step, most)?;
         self.stopped = false;
         Ok(done)
     }

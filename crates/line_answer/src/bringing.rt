@@ -7,6 +7,7 @@ ghost use Rattle.line_answer.specs.Trying.{AnswersAsked, Brings, Delivers, IsOld
 ghost use Rattle.silo_event.specs.Asker.{asker_of};
 
 use crate::serving::{serve, take};
+use bumpalo::Bump;
 use grain_id::{Caller, GrainId};
 use grain_kinds::GrainLogic;
 use grain_storage::GrainStorage;
@@ -22,6 +23,7 @@ use std::alloc::{AllocError, Global};
 /// Out of memory: some of it may have been done.
 fn bring<S: GrainStorage, L: GrainLogic>(
     alloc: Global,
+    bump: &mut Bump,
     silo: &mut Silo<S, L>,
     step: Step,
     grain: Option<GrainId>,
@@ -30,13 +32,13 @@ fn bring<S: GrainStorage, L: GrainLogic>(
     ensures { IfOk result (λ done. Brings L.logic silo.old step grain done silo.new) }
 {
     let before = told(silo);
-    let done = take(alloc, silo, step)?;
+    let done = take(alloc, bump, silo, step)?;
     let Some(grain) = grain else {
         return Ok(done);
     };
     let after = told(silo);
     if is_same(before, after) {
-        serve(alloc, silo, grain)?;
+        serve(alloc, bump, silo, grain)?;
         return Ok(done);
     }
     drop(grain);
@@ -87,6 +89,7 @@ fn oldest<S: GrainStorage, L: GrainLogic>(
 /// Out of memory: some of it may have been done.
 fn deliver_oldest<S: GrainStorage, L: GrainLogic>(
     alloc: Global,
+    bump: &mut Bump,
     silo: &mut Silo<S, L>,
     tenant: &str,
 ) -> Result<bool, AllocError>
@@ -95,7 +98,7 @@ fn deliver_oldest<S: GrainStorage, L: GrainLogic>(
     let Some(found) = oldest(silo, tenant)? else {
         return Ok(false);
     };
-    deliver_found(alloc, silo, tenant, found)?;
+    deliver_found(alloc, bump, silo, tenant, found)?;
     Ok(true)
 }
 
@@ -106,6 +109,7 @@ fn deliver_oldest<S: GrainStorage, L: GrainLogic>(
 /// Out of memory: some of it may have been done.
 fn deliver_found<S: GrainStorage, L: GrainLogic>(
     alloc: Global,
+    bump: &mut Bump,
     silo: &mut Silo<S, L>,
     tenant: &str,
     found: (GrainId, GrainId),
@@ -114,7 +118,13 @@ fn deliver_found<S: GrainStorage, L: GrainLogic>(
     ensures { OnOk result (Delivers L.logic silo.old tenant.now true silo.new) }
 {
     let (source, target) = found;
-    bring(alloc, silo, Step::Deliver { grain: source }, Some(target))?;
+    bring(
+        alloc,
+        bump,
+        silo,
+        Step::Deliver { grain: source },
+        Some(target),
+    )?;
     Ok(())
 }
 
@@ -125,6 +135,7 @@ fn deliver_found<S: GrainStorage, L: GrainLogic>(
 /// Out of memory: some of it may have been done.
 fn deliver<S: GrainStorage, L: GrainLogic>(
     alloc: Global,
+    bump: &mut Bump,
     silo: &mut Silo<S, L>,
     tenant: &str,
     most: u64,
@@ -133,7 +144,7 @@ fn deliver<S: GrainStorage, L: GrainLogic>(
         (deliveries (whole_stepper L.logic) most silo.old.whole tenant.now lucks) silo.new) }
 {
     for _ in 0..most {
-        if !deliver_oldest(alloc, silo, tenant)? {
+        if !deliver_oldest(alloc, bump, silo, tenant)? {
             return Ok(());
         }
     }
@@ -181,13 +192,15 @@ fn asker_of(step: &Step) -> Result<Option<Caller>, AllocError>
     }
 }
 
-/// Answers what is asked, with at most so many deliveries behind it. Says whether the step was possible.
+/// Answers what is asked, with at most so many deliveries behind it. Says whether the step was possible. Turns run in the arena, one
+/// after another.
 ///
 /// # Errors
 ///
 /// Out of memory: some of it may have been done.
 pub fn answer_step<S: GrainStorage, L: GrainLogic>(
     alloc: Global,
+    bump: &mut Bump,
     silo: &mut Silo<S, L>,
     step: Step,
     most: u64,
@@ -197,11 +210,11 @@ pub fn answer_step<S: GrainStorage, L: GrainLogic>(
 {
     let asker = asker_of(&step)?;
     let grain = called_grain(&step)?;
-    let done = bring(alloc, silo, step, grain)?;
+    let done = bring(alloc, bump, silo, step, grain)?;
     let Some(caller) = asker else {
         return Ok(done);
     };
-    deliver(alloc, silo, caller.tenant(), most)?;
+    deliver(alloc, bump, silo, caller.tenant(), most)?;
     drop(caller);
     Ok(done)
 }

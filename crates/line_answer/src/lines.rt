@@ -9,6 +9,7 @@ ghost use Rattle.line_answer.specs.Runs.{AnswersLine};
 
 use crate::answering::AnsweringSilo;
 use crate::bringing::is_asked;
+use bumpalo::Bump;
 use grain_kinds::GrainLogic;
 use grain_storage::GrainStorage;
 use line_parser::{Line, LineRefusal, LineScratch, read_line};
@@ -43,6 +44,7 @@ fn push_new(
 #[tactic(auto, using(crate::proofs::Asked::asked_line))]
 fn answer_said<S: GrainStorage, L: GrainLogic>(
     alloc: Global,
+    bump: &mut Bump,
     silo: &mut AnsweringSilo<S, L>,
     step: Step,
     most: u64,
@@ -62,7 +64,7 @@ fn answer_said<S: GrainStorage, L: GrainLogic>(
         return Ok(());
     }
     let before = silo.replies().len();
-    if silo.answer(alloc, step, most)? {
+    if silo.answer_in(alloc, bump, step, most)? {
         push_new(alloc, text, silo.replies(), before)?;
         return Ok(());
     }
@@ -70,7 +72,7 @@ fn answer_said<S: GrainStorage, L: GrainLogic>(
     text.push_str("\n")
 }
 
-/// Answers what a line says, and puts its text in place of another.
+/// Answers what a line says, and puts its text in place of another. Turns run in the arena.
 ///
 /// # Errors
 ///
@@ -78,6 +80,7 @@ fn answer_said<S: GrainStorage, L: GrainLogic>(
 #[tactic(auto, using(crate::proofs::Asked::nothing_asked))]
 pub fn answer_line<S: GrainStorage, L: GrainLogic>(
     alloc: Global,
+    bump: &mut Bump,
     scratch: &mut LineScratch,
     silo: &mut AnsweringSilo<S, L>,
     most: u64,
@@ -100,6 +103,6 @@ pub fn answer_line<S: GrainStorage, L: GrainLogic>(
             refuse(alloc, text, refusal)?;
             Ok(())
         }
-        Line::Step(step) => answer_said(alloc, silo, step, most, text),
+        Line::Step(step) => answer_said(alloc, bump, silo, step, most, text),
     }
 }

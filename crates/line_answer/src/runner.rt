@@ -9,6 +9,7 @@ ghost use Rattle.line_answer.specs.Runs.{AnswersLine, AnswersAll, KeepsSetup, Li
 
 use crate::answering::AnsweringSilo;
 use crate::lines::answer_line;
+use bumpalo::Bump;
 use grain_kinds::GrainLogic;
 use grain_storage::GrainStorage;
 use line_parser::LineScratch;
@@ -22,6 +23,7 @@ pub const ANSWERED_LIMIT: u64 = 1_073_741_824;
 /// Answers what a line says, and writes its text at once.
 fn write_answer<W: Write, S: GrainStorage, L: GrainLogic>(
     alloc: Global,
+    bump: &mut Bump,
     scratch: &mut LineScratch,
     output: &mut Output<W>,
     silo: &mut AnsweringSilo<S, L>,
@@ -38,7 +40,7 @@ fn write_answer<W: Write, S: GrainStorage, L: GrainLogic>(
     ensures stopped { IfErr result (λ e. MayStop e silo.new.stopped) }
     ensures unfailed { OnOk result (output.new.calls.failed ≡ output.old.calls.failed) }
 {
-    answer_line(alloc, scratch, silo, most, line, text)?;
+    answer_line(alloc, bump, scratch, silo, most, line, text)?;
     output.write_whole(text.as_str().as_bytes())
 }
 
@@ -77,6 +79,7 @@ pub fn answer_lines<R: Read, W: Write, S: GrainStorage, L: GrainLogic>(
 {
     // For the proof: where the silo's journal leads.
     let _ = silo.journal();
+    let mut bump = Bump::new(alloc);
     let mut scratch = LineScratch::new(alloc)?;
     let mut text = String::new(alloc);
     for count in 0..ANSWERED_LIMIT {
@@ -85,6 +88,7 @@ pub fn answer_lines<R: Read, W: Write, S: GrainStorage, L: GrainLogic>(
         }
         write_answer(
             alloc,
+            &mut bump,
             &mut scratch,
             output,
             silo,

@@ -5,6 +5,7 @@ ghost use Rattle.silo_event.specs.Failed.{has_failed};
 ghost use Rattle.answer_model.specs.Answering.{Closing, Luck, closing, ending, raising, serving, whole_stepper};
 ghost use Rattle.line_answer.specs.Trying.{Begins, Opens, TakesNow, Tries};
 
+use bumpalo::Bump;
 use grain_id::GrainId;
 use grain_kinds::GrainLogic;
 use grain_storage::GrainStorage;
@@ -12,13 +13,14 @@ use silo_core::Silo;
 use silo_event::{Answer, Step, StepFault};
 use std::alloc::{AllocError, Global};
 
-/// Takes a step, if it is possible now, and says whether it was.
+/// Takes a step, if it is possible now, and says whether it was. A turn runs in the arena.
 ///
 /// # Errors
 ///
 /// Out of memory: nothing changed.
 pub fn take<S: GrainStorage, L: GrainLogic>(
     alloc: Global,
+    bump: &Bump,
     silo: &mut Silo<S, L>,
     step: Step,
 ) -> Result<bool, AllocError>
@@ -26,7 +28,7 @@ pub fn take<S: GrainStorage, L: GrainLogic>(
     ensures taken { IfOk result (λ done. TakesNow L.logic silo.old step done silo.new) }
     ensures unchanged { OnErr result (silo.new ≡ silo.old) }
 {
-    match silo.apply(alloc, step) {
+    match silo.apply_in(alloc, bump, step) {
         Ok(Answer::Done) => Ok(true),
         Ok(Answer::Failed) => Ok(true),
         Ok(Answer::NotNow) => Ok(false),
@@ -42,6 +44,7 @@ pub fn take<S: GrainStorage, L: GrainLogic>(
 /// Out of memory: some of it may have been done.
 fn raise<S: GrainStorage, L: GrainLogic>(
     alloc: Global,
+    bump: &Bump,
     silo: &mut Silo<S, L>,
     grain: &GrainId,
 ) -> Result<(), AllocError>
@@ -51,14 +54,14 @@ fn raise<S: GrainStorage, L: GrainLogic>(
     let activate = Step::Activate {
         grain: grain.clone()?,
     };
-    if !take(alloc, silo, activate)? {
+    if !take(alloc, bump, silo, activate)? {
         return Ok(());
     }
     let load = Step::Load {
         grain: grain.clone()?,
         failed: false,
     };
-    take(alloc, silo, load)?;
+    take(alloc, bump, silo, load)?;
     Ok(())
 }
 
@@ -69,21 +72,20 @@ fn raise<S: GrainStorage, L: GrainLogic>(
 /// Out of memory: nothing changed.
 fn begin<S: GrainStorage, L: GrainLogic>(
     alloc: Global,
+    bump: &Bump,
     silo: &mut Silo<S, L>,
     grain: &GrainId,
 ) -> Result<Option<u64>, AllocError>
     ensures { IfOk result (λ turn. Begins L.logic silo.old grain.now turn silo.new) }
 {
+    let Some(number) = silo.first_waiting(grain) else {
+        return Ok(None);
+    };
     let grain = grain.clone()?;
-    match silo.begin(alloc, grain) {
-        Ok(Some(turn)) => {
-            let number = turn.number;
-            drop(turn);
-            Ok(Some(number))
-        }
-        Ok(None) => Ok(None),
-        Err(_) => Err(AllocError),
+    if take(alloc, bump, silo, Step::Begin { grain })? {
+        return Ok(Some(number));
     }
+    Ok(None)
 }
 
 /// The first request that waits at the grain is given its turn, if it can begin: its number. Mostly the grain is up, and
@@ -94,16 +96,17 @@ fn begin<S: GrainStorage, L: GrainLogic>(
 /// Out of memory: some of it may have been done.
 fn open<S: GrainStorage, L: GrainLogic>(
     alloc: Global,
+    bump: &Bump,
     silo: &mut Silo<S, L>,
     grain: &GrainId,
 ) -> Result<Option<u64>, AllocError>
     ensures { IfOk result (λ turn. Opens L.logic silo.old grain.now turn silo.new) }
 {
-    if let Some(turn) = begin(alloc, silo, grain)? {
+    if let Some(turn) = begin(alloc, bump, silo, grain)? {
         return Ok(Some(turn));
     }
-    raise(alloc, silo, grain)?;
-    begin(alloc, silo, grain)
+    raise(alloc, bump, silo, grain)?;
+    begin(alloc, bump, silo, grain)
 }
 
 /// An open turn ends by its plan, or else by what the storage answers.
@@ -113,6 +116,7 @@ fn open<S: GrainStorage, L: GrainLogic>(
 /// Out of memory: nothing changed.
 fn end<S: GrainStorage, L: GrainLogic>(
     alloc: Global,
+    bump: &Bump,
     silo: &mut Silo<S, L>,
     grain: &GrainId,
     turn: u64,
@@ -125,7 +129,7 @@ fn end<S: GrainStorage, L: GrainLogic>(
         grain: grain.clone()?,
         turn,
     };
-    if take(alloc, silo, end)? {
+    if take(alloc, bump, silo, end)? {
         return Ok(());
     }
     let store = Step::Store {
@@ -133,7 +137,7 @@ fn end<S: GrainStorage, L: GrainLogic>(
         turn,
         failed: false,
     };
-    take(alloc, silo, store)?;
+    take(alloc, bump, silo, store)?;
     Ok(())
 }
 
@@ -144,6 +148,7 @@ fn end<S: GrainStorage, L: GrainLogic>(
 /// Out of memory: nothing changed.
 fn close<S: GrainStorage, L: GrainLogic>(
     alloc: Global,
+    bump: &Bump,
     silo: &mut Silo<S, L>,
     grain: GrainId,
     turn: u64,
@@ -151,34 +156,36 @@ fn close<S: GrainStorage, L: GrainLogic>(
     ensures { OnOk result ((how : Closing) × Tries L.logic silo.old
         (closing (whole_stepper L.logic) silo.old.whole grain turn how) silo.new) }
 {
-    match end(alloc, silo, &grain, turn) {
+    match end(alloc, bump, silo, &grain, turn) {
         Ok(()) => {
             drop(grain);
             Ok(())
         }
         Err(AllocError) => {
-            take(alloc, silo, Step::Abandon { grain, turn })?;
+            take(alloc, bump, silo, Step::Abandon { grain, turn })?;
             Ok(())
         }
     }
 }
 
-/// The request that waits at the grain is served.
+/// The request that waits at the grain is served. Its turn runs in the arena, which is free again behind it.
 ///
 /// # Errors
 ///
 /// Out of memory: some of it may have been done.
 pub fn serve<S: GrainStorage, L: GrainLogic>(
     alloc: Global,
+    bump: &mut Bump,
     silo: &mut Silo<S, L>,
     grain: GrainId,
 ) -> Result<(), AllocError>
     ensures { OnOk result ((luck : Luck) × Tries L.logic silo.old (serving (whole_stepper L.logic) silo.old.whole grain luck) silo.new) }
 {
-    let Some(turn) = open(alloc, silo, &grain)? else {
+    let Some(turn) = open(alloc, bump, silo, &grain)? else {
         drop(grain);
         return Ok(());
     };
-    close(alloc, silo, grain, turn)?;
+    close(alloc, bump, silo, grain, turn)?;
+    drop(bump.reset());
     Ok(())
 }

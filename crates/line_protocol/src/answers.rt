@@ -6,6 +6,7 @@ ghost use Rattle.line_protocol.specs.LineRuns.{AnswersLine, MayTake};
 ghost use Rattle.line_parser.specs.declared.line.Line.TheVariants as line;
 
 use crate::replies::{push_not_now, push_refusal, push_replies};
+use bumpalo::Bump;
 use grain_kinds::GrainLogic;
 use grain_storage::GrainStorage;
 use line_parser::{Line, LineScratch, read_line};
@@ -13,10 +14,18 @@ use silo_core::Silo;
 use silo_event::{Answer, Step, StepFault};
 use std::alloc::{AllocError, Global};
 
+/// Makes the arena free for the next turn, if the last ones took more than half of its chunk.
+fn make_free(bump: &mut Bump) {
+    if bump.chunk_capacity() < bump.allocated_bytes() / 2 {
+        drop(bump.reset());
+    }
+}
+
 /// Takes a step, and puts its text in place of another: the replies that it added, or that it isn't
-/// possible now.
+/// possible now. A turn runs in the arena.
 fn answer_step<S: GrainStorage, L: GrainLogic>(
     alloc: Global,
+    bump: &mut Bump,
     silo: &mut Silo<S, L>,
     step: Step,
     text: &mut String,
@@ -26,7 +35,8 @@ fn answer_step<S: GrainStorage, L: GrainLogic>(
 {
     text.clear();
     let before = silo.replies().len();
-    match silo.apply(alloc, step) {
+    make_free(bump);
+    match silo.apply_in(alloc, bump, step) {
         Ok(Answer::Done) => push_replies(alloc, text, &silo.replies()[before..]),
         Ok(Answer::Failed) => push_replies(alloc, text, &silo.replies()[before..]),
         Ok(Answer::NotNow) => {
@@ -41,6 +51,7 @@ fn answer_step<S: GrainStorage, L: GrainLogic>(
 /// Takes what a line says, and puts its text in place of another.
 pub(crate) fn answer_line<S: GrainStorage, L: GrainLogic>(
     alloc: Global,
+    bump: &mut Bump,
     scratch: &mut LineScratch,
     silo: &mut Silo<S, L>,
     line: &[u8],
@@ -59,6 +70,6 @@ pub(crate) fn answer_line<S: GrainStorage, L: GrainLogic>(
             push_refusal(alloc, text, refusal)?;
             text.push_str("\n")
         }
-        Line::Step(step) => answer_step(alloc, silo, step, text),
+        Line::Step(step) => answer_step(alloc, bump, silo, step, text),
     }
 }

@@ -10,6 +10,7 @@ ghost use Rattle.line_protocol.specs.Reading.{left_of};
 use crate::answers::answer_line;
 use crate::fault::LineFault;
 use crate::streams::{Input, Output};
+use bumpalo::Bump;
 use grain_kinds::GrainLogic;
 use grain_storage::GrainStorage;
 use line_parser::LineScratch;
@@ -23,6 +24,7 @@ pub const LINES_LIMIT: u64 = 1_000_000;
 /// Takes what a line says, and writes its text at once.
 fn write_answer<W: Write, S: GrainStorage, L: GrainLogic>(
     alloc: Global,
+    bump: &mut Bump,
     scratch: &mut LineScratch,
     output: &mut Output<W>,
     silo: &mut Silo<S, L>,
@@ -35,7 +37,7 @@ fn write_answer<W: Write, S: GrainStorage, L: GrainLogic>(
         (W.contents output.old.writer) (W.contents output.new.writer)) }
     ensures unfailed { OnOk result (output.new.calls.failed ≡ output.old.calls.failed) }
 {
-    answer_line(alloc, scratch, silo, line, text)?;
+    answer_line(alloc, bump, scratch, silo, line, text)?;
     output.write_whole(text.as_str().as_bytes())
 }
 
@@ -67,6 +69,7 @@ pub fn run_lines<R: Read, W: Write, S: GrainStorage, L: GrainLogic>(
 {
     // For the proof: the silo's type keeps that its journal leads to what it holds.
     let _ = silo.journal();
+    let mut bump = Bump::new(alloc);
     let mut scratch = LineScratch::new(alloc)?;
     let mut text = String::new(alloc);
     for count in 0..LINES_LIMIT {
@@ -75,6 +78,7 @@ pub fn run_lines<R: Read, W: Write, S: GrainStorage, L: GrainLogic>(
         }
         write_answer(
             alloc,
+            &mut bump,
             &mut scratch,
             output,
             silo,

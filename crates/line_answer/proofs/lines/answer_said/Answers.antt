@@ -14,7 +14,7 @@ returns-then-not-is_asked-clause-ok g c =
 pub returns-then-branch-clause-ok : goal.returns-then-branch-clause-ok
 returns-then-branch-clause-ok g c =
     let old = c.args.silo.now.history in
-    let new = c.answer.new.self.history in
+    let new = c.answer_in.new.self.history in
     let before = c.replies-before.result.now in
     let after = c.replies.result.now in
     let is : string_bytes c.push_new.new.text ≡ texts_of (drop (length old.whole.replies) new.whole.replies)
@@ -22,4 +22,4 @@ returns-then-branch-clause-ok g c =
     ∙ ap (λ front. front ++ texts_of (drop (length before) after)) c.clear.ensures.bytes
     ∙ (λ i. texts_of (drop (length (c.replies-before.ensures i)) (c.replies.ensures i))) in
     asked_line g.L.GrainLogic.logic c.args.most old new c.args.step _ (string_bytes c.push_new.new.text)
-    (sym c.is_asked.ensures ∙ c.if-not-is_asked.false) (rw c.if-branch.true at c.in_ok-answer.ensures.answered) is c.in_ok-answer.ensures.idle
+    (sym c.is_asked.ensures ∙ c.if-not-is_asked.false) (rw c.if-branch.true at c.in_ok-answer_in.ensures.answered) is c.in_ok-answer_in.ensures.idle

@@ -3,7 +3,7 @@ use Rattle.silo_model.specs.Journal.{LeadsTo}
 use Rattle.answer_model.specs.Idle.{AllIdle}
 use Rattle.line_answer.specs.Trying.{AnswersAsked}
 use Rattle.line_answer.proofs.Asked.{told_after}
-use Rattle.line_answer.proofs.answering.AnsweringSilo.answer.Goals as goal
+use Rattle.line_answer.proofs.answering.AnsweringSilo.answer_in.Goals as goal
 
 pub returns-clause-told : goal.returns-clause-told
 returns-clause-told g c =
