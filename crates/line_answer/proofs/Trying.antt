@@ -75,32 +75,27 @@ module _ (logic : Logic) where
             (ap failed_among all ∙ failed_among-append done (done_by (whole_step logic) mid.whole others)));
       }
 
-  -- a step that isn't possible changes nothing
-  pub tries_not : (old : History) (s : Step) → is_possible logic old.whole s ≡ false → Tries logic old (s ∷ []) old
-  tries_not old s never = by_step (whole_step logic old.whole s) refl
-    where
-      none_of : (r : Option Whole) → whole_step logic old.whole s ≡ r → r ≡ None → Tries logic old (s ∷ []) old
-      none_of r is none =
-          let step = is ∙ none in
-          record {
-            setup = refl;
-            whole = sym (ap (λ o. unwrap_or o old.whole) step);
-            journal = sym (append-nil old.journal) ∙ sym (ap (λ o. old.journal ++ (if_possible s o ++ [])) step);
-            failures = since_none old.failures ∙ sym (ap (λ o. failed_since (failed_among (if_possible s o ++ [])) old.failures) step);
-          }
+  -- one step, by what becomes of it
+  tries_by : (old new : History) (s : Step) (r : Option Whole) → whole_step logic old.whole s ≡ r → new.setup ≡ old.setup → new.whole ≡ unwrap_or r old.whole
+      → new.journal ≡ old.journal ++ (if_possible s r ++ []) → new.failures ≡ failed_since (failed_among (if_possible s r ++ [])) old.failures → Tries logic old (s ∷ []) new
+  tries_by old new s r is setup whole journal failures = record {
+    setup = setup;
+    whole = whole ∙ sym (ap (λ o. unwrap_or o old.whole) is);
+    journal = journal ∙ sym (ap (λ o. old.journal ++ (if_possible s o ++ [])) is);
+    failures = failures ∙ sym (ap (λ o. failed_since (failed_among (if_possible s o ++ [])) old.failures) is);
+  }
 
-      by_step : (r : Option Whole) → whole_step logic old.whole s ≡ r → Tries logic old (s ∷ []) old
-      by_step None is = none_of None is refl
-      by_step (Some after) is = absurd (true≢false (sym (ap is_some is) ∙ never))
+  -- a step that isn't possible changes nothing
+  tries_not : (old : History) (s : Step) → is_possible logic old.whole s ≡ false → Tries logic old (s ∷ []) old
+  tries_not old s never = by (whole_step logic old.whole s) refl
+    where
+      by : (r : Option Whole) → whole_step logic old.whole s ≡ r → Tries logic old (s ∷ []) old
+      by None is = tries_by old old s None is refl refl (sym (append-nil old.journal)) (since_none old.failures)
+      by (Some after) is = absurd (true≢false (sym (ap is_some is) ∙ never))
 
   -- a step that is done
   tries_step : (old new : History) (s : Step) (failed : ℕ) → failed ≡ failed_among (s ∷ []) → Advances logic old s failed new → Tries logic old (s ∷ []) new
-  tries_step old new s failed marked adv = record {
-    setup = adv.setup;
-    whole = sym (ap (λ o. unwrap_or o old.whole) adv.whole);
-    journal = adv.journal ∙ sym (ap (λ o. old.journal ++ (if_possible s o ++ [])) adv.whole);
-    failures = adv.failures ∙ ap (λ n. failed_since n old.failures) marked ∙ sym (ap (λ o. failed_since (failed_among (if_possible s o ++ [])) old.failures) adv.whole);
-  }
+  tries_step old new s failed marked adv = tries_by old new s (Some new.whole) adv.whole adv.setup refl adv.journal (adv.failures ∙ ap (λ n. failed_since n old.failures) marked)
 
   marked_once : (s : Step) → may_fail s ≡ true → failed_among (as_failed s ∷ []) ≡ 1
   marked_once (Poke failed caller id grain state) h = refl
@@ -124,19 +119,25 @@ module _ (logic : Logic) where
   tried old new s true takes = takes
   tried old new s false takes = (false, subst (Tries logic old (s ∷ [])) (sym takes.1) (tries_not old s takes.0), takes.0)
 
+  taken_plain : (old new : History) (s : Step) → as_failed s ≡ s → TakesNow logic old s true new → Tries logic old (s ∷ []) new × (is_possible logic old.whole s ≡ true)
+  taken_plain old new s is (failed, all) = subst (λ r. Tries logic old (r ∷ []) new × (is_possible logic old.whole r ≡ true)) (plain failed s is) all
+
+  tried_marked : (old new : History) (s : Bool → Step) (done : Bool) → as_failed (s false) ≡ s true → TakesNow logic old (s false) done new → (failed : Bool) × Tries logic old (s failed ∷ []) new
+  tried_marked old new s done is takes =
+      let all = tried old new (s false) done takes in
+      (all.0, subst (λ r. Tries logic old (r ∷ []) new) (marked all.0 s is) all.1)
+
   module _ (old mid new : History) (g : Grain) where
     abbrev Raised : Type 0
     Raised = (failed : Bool) × Tries logic old (raising (whole_stepper logic) old.whole g failed) new
 
     pub raised : (done : Bool) → TakesNow logic old (Activate g) true mid → TakesNow logic mid (Load g false) done new → Raised
     raised done up loads =
-        let all = tried mid new (Load g false) done loads in
-        let possible = ap (is_possible logic old.whole) (sym (plain up.0 (Activate g) refl)) ∙ up.2 in (
-          all.0,
-          subst (λ b. Tries logic old (if b then Activate g ∷ Load g all.0 ∷ [] else []) new) (sym possible)
-              (tries_on old mid new (Activate g ∷ []) (Load g all.0 ∷ [])
-              (subst (λ s. Tries logic old (s ∷ []) mid) (plain up.0 (Activate g) refl) up.1)
-              (subst (λ s. Tries logic mid (s ∷ []) new) (marked all.0 (Load g) refl) all.1)),
+        let begins = taken_plain old mid (Activate g) refl up in
+        let loaded = tried_marked mid new (Load g) done refl loads in (
+          loaded.0,
+          subst (λ b. Tries logic old (if b then Activate g ∷ Load g loaded.0 ∷ [] else []) new) (sym begins.1)
+              (tries_on old mid new (Activate g ∷ []) (Load g loaded.0 ∷ []) begins.0 loaded.1),
         )
 
   pub not_raised : (old new : History) (g : Grain) → TakesNow logic old (Activate g) false new → Raised old old new g
@@ -148,19 +149,16 @@ module _ (logic : Logic) where
 
   pub ended : (old new : History) (g : Grain) (turn : ℕ) → TakesNow logic old (End g turn) true new → EndsTurn old g turn new
   ended old new g turn takes =
-      let possible = ap (is_possible logic old.whole) (sym (plain takes.0 (End g turn) refl)) ∙ takes.2 in (
-        false,
-        subst (λ b. Tries logic old (if b then End g turn ∷ [] else Store g turn false ∷ []) new) (sym possible)
-            (subst (λ s. Tries logic old (s ∷ []) new) (plain takes.0 (End g turn) refl) takes.1),
-      )
+      let all = taken_plain old new (End g turn) refl takes in
+      (false, subst (λ b. Tries logic old (if b then End g turn ∷ [] else Store g turn false ∷ []) new) (sym all.1) all.0)
 
   pub stored : (old mid new : History) (g : Grain) (turn : ℕ) (done : Bool) → TakesNow logic old (End g turn) false mid → TakesNow logic mid (Store g turn false) done new
       → EndsTurn old g turn new
   stored old mid new g turn done not takes =
-      let all = tried mid new (Store g turn false) done takes in (
+      let all = tried_marked mid new (Store g turn) done refl takes in (
         all.0,
         subst (λ b. Tries logic old (if b then End g turn ∷ [] else Store g turn all.0 ∷ []) new) (sym not.0)
-            (subst (λ h. Tries logic h (Store g turn all.0 ∷ []) new) not.1 (subst (λ s. Tries logic mid (s ∷ []) new) (marked all.0 (Store g turn) refl) all.1)),
+            (subst (λ h. Tries logic h (Store g turn all.0 ∷ []) new) not.1 all.1),
       )
 
   abbrev ClosesTurn : History → Grain → ℕ → History → Type 0
@@ -171,9 +169,7 @@ module _ (logic : Logic) where
   closed old new g turn (true, tries) = (storage_failed, tries)
 
   pub given_up : (old new : History) (g : Grain) (turn : ℕ) (done : Bool) → TakesNow logic old (Abandon g turn) done new → ClosesTurn old g turn new
-  given_up old new g turn done takes =
-      let all = tried old new (Abandon g turn) done takes in
-      (out_of_memory, subst (λ s. Tries logic old (s ∷ []) new) (plain all.0 (Abandon g turn) refl) all.1)
+  given_up old new g turn done takes = (out_of_memory, (tried_marked old new (λ _. Abandon g turn) done refl takes).1)
 
   -- ---- the request's turn, and all of it
 
@@ -189,11 +185,9 @@ module _ (logic : Logic) where
 
   -- a turn began
   pub begun : (old new : History) (g : Grain) (number : ℕ) → first_waiting (map.get old.whole.entries g) ≡ Some number → TakesNow logic old (Begin g) true new → Begins logic old g (Some number) new
-  begun old new g number first takes = (
-    subst (λ s. Tries logic old (s ∷ []) new) (plain takes.0 (Begin g) refl) takes.1,
-    ap (is_possible logic old.whole) (sym (plain takes.0 (Begin g) refl)) ∙ takes.2,
-    first_at old.whole g number (map.get old.whole.entries g) refl first,
-  )
+  begun old new g number first takes =
+      let all = taken_plain old new (Begin g) refl takes in
+      (all.0, all.1, first_at old.whole g number (map.get old.whole.entries g) refl first)
 
   -- where none waits, none can begin
   none_opens : (g : Grain) (e : Entry) (queue : List Request) → first_number queue ≡ None → opened logic g e queue ≡ None

@@ -1,6 +1,8 @@
 -- A line that was read, and the end of an input.
 use Rattle.std.proofs.Common.{◌≡◌, ◌≢◌, ℕ, suc, ◌<◌, ◌==◌, Bool, true, false, List, [], ◌∷◌, ◌++◌, length, take, cond, Option, Some, None, Result, Err, IfErr, refl, sym, ap, ap₂, ◌∙◌, subst, arith, append-nil, length-append, length-take, take_all, ⊎_elim}
+use Rattle.std.specs.Prelude.{IsErrAnd}
 use Rattle.std.proofs.lemmas.Bool.{cases_lt}
+use Rattle.std.proofs.lemmas.Result.{err_from_is_err_and}
 use Rattle.std.specs.Io.KnownBytes.{IsAtEnd}
 use Rattle.line_parser.specs.Meaning.{line_limit, meaning_of}
 use Rattle.line_parser.proofs.Meaning.{said_under, meaning_of-under, long_under}
@@ -54,3 +56,8 @@ lines_ahead reading bytes some = lines_some (reading.ahead ++ bytes) (omega (ari
 -- what a `?` hands on
 pub handed_on : {T E : Type 0} (r : Result T E) (P : E → Type 0) (e : E) → r ≡ Err e → P e → IfErr r P
 handed_on r P e is h = subst (λ x. IfErr x P) (sym is) h
+
+pub handed : {T E : Type 0} (r : Result T E) (P : E → Type 0) (e : E) → IsErrAnd r (λ y. y ≡ e) → P e → IfErr r P
+handed r P e is h =
+    let p = err_from_is_err_and r is in
+    handed_on r P e (p.1 ∙ ap Err p.2) h

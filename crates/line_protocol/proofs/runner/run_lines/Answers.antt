@@ -1,8 +1,7 @@
-use Rattle.std.proofs.Common.{Ok, Err, refl, ap, ◌∙◌, arith}
-use Rattle.std.proofs.lemmas.Result.{err_from_is_err_and}
+use Rattle.std.proofs.Common.{Ok, refl, ap, ◌∙◌, arith}
 use Rattle.line_protocol.specs.declared.fault.LineFault.TheVariants as fault
 use Rattle.line_protocol.proofs.LinesOfBytes.{LinesTaken-self}
-use Rattle.line_protocol.proofs.ReadLines.{same_said, handed_on}
+use Rattle.line_protocol.proofs.ReadLines.{same_said, handed}
 use Rattle.line_protocol.proofs.TakenLines.{Took-none, TakesPart-none}
 use Rattle.line_protocol.proofs.Run.{LinesDone-none, LinesDone-more, LinesDone-kept, LinesDone-flushed, LinesDone-all, cause_of_flushing, cause_of_reading, nothing_ahead, ahead_at_flushing, stops_reading, stops_full, stops_answering}
 use Rattle.line_protocol.proofs.runner.run_lines.Goals as goal
@@ -35,37 +34,33 @@ returns-clause-ok g c =
 
 pub returns-in_err-next_flushed-clause-err : goal.returns-in_err-next_flushed-clause-err
 returns-in_err-next_flushed-clause-err g c =
-    let p = err_from_is_err_and c.from_residual-in_err-next_flushed.result c.from_residual-in_err-next_flushed.ensures.1 in
     let read = c.in_err-next_flushed.ensures in
     let so_far = LinesDone-flushed _ _ _ _ _ _ _ _ _ c.loop-count.invariant.0 read.written in
-    handed_on _ _ _ (p.1 ∙ ap Err p.2) (stops_reading _ _ c.next_flushed.new.self (g.R.Read.remaining c.next_flushed.new.reader) _ _ _ _ _ _ _ _ read.cause read.failed read.part so_far)
+    handed c.from_residual-in_err-next_flushed.result _ _ c.from_residual-in_err-next_flushed.ensures.1 (stops_reading _ _ c.next_flushed.new.self (g.R.Read.remaining c.next_flushed.new.reader) _ _ _ _ _ _ _ _ read.cause read.failed read.part so_far)
 
 pub returns-in_err-write_answer-clause-err : goal.returns-in_err-write_answer-clause-err
 returns-in_err-write_answer-clause-err g c =
     let read = c.in_ok-next_flushed.ensures in
     let w = read.line (ap Ok c.if-not-branch.false) in
     let same = same_said c.line.result.now c.next_flushed.new.self.line _ _ c.line.ensures w in
-    let p = err_from_is_err_and c.from_residual-in_err-write_answer.result c.from_residual-in_err-write_answer.ensures.1 in
     let so_far = LinesDone-flushed _ _ _ _ _ _ _ _ _ c.loop-count.invariant.0 read.written in
-    handed_on _ _ _ (p.1 ∙ ap Err p.2) (stops_answering _ _ c.next_flushed.new.self (g.R.Read.remaining c.next_flushed.new.reader) _ _ _ _ _ _ _ _ _ _ w.line _ so_far w.taken same c.in_err-write_answer.ensures.err)
+    handed c.from_residual-in_err-write_answer.result _ _ c.from_residual-in_err-write_answer.ensures.1 (stops_answering _ _ c.next_flushed.new.self (g.R.Read.remaining c.next_flushed.new.reader) _ _ _ _ _ _ _ _ _ _ w.line _ so_far w.taken same c.in_err-write_answer.ensures.err)
 
 pub returns-in_err-fill-clause-err : goal.returns-in_err-fill-clause-err
 returns-in_err-fill-clause-err g c =
-    let p = err_from_is_err_and c.from_residual-in_err-fill.result c.from_residual-in_err-fill.ensures.1 in
     let so_far = LinesDone-flushed _ _ _ _ _ _ _ _ _ c.loop-count.invariant.0 c.in_ok-flush.ensures.kept in
     let cause = cause_of_reading _ _ c.flush.new.self.calls c.in_err-fill.ensures.cause in
     let ahead = nothing_ahead _ c.fill.new.self c.in_err-fill.ensures.failed in
-    handed_on _ _ _ (p.1 ∙ ap Err p.2) (stops_reading _ _ c.fill.new.self (g.R.Read.remaining c.fill.new.reader) _ _ _ _ _ _ _ _ cause ahead (TakesPart-none _) (LinesDone-kept _ _ _ _ _ _ _ _ _ so_far c.in_err-fill.ensures.bytes))
+    handed c.from_residual-in_err-fill.result _ _ c.from_residual-in_err-fill.ensures.1 (stops_reading _ _ c.fill.new.self (g.R.Read.remaining c.fill.new.reader) _ _ _ _ _ _ _ _ cause ahead (TakesPart-none _) (LinesDone-kept _ _ _ _ _ _ _ _ _ so_far c.in_err-fill.ensures.bytes))
 
 pub returns-in_err-flush-clause-err : goal.returns-in_err-flush-clause-err
 returns-in_err-flush-clause-err g c =
-    let p = err_from_is_err_and c.from_residual-in_err-flush.result c.from_residual-in_err-flush.ensures.1 in
     let flushed = c.in_err-flush.ensures in
     let reading = c.loop-count.input.lines in
     let so_far = LinesDone-flushed _ _ _ _ _ _ _ _ _ c.loop-count.invariant.0 flushed.kept in
     let cause = cause_of_flushing _ reading.calls c.flush.new.self.calls flushed.fault flushed.failed in
     let ahead = ahead_at_flushing _ reading flushed.fault in
-    handed_on _ _ _ (p.1 ∙ ap Err p.2) (stops_reading _ _ reading (g.R.Read.remaining c.loop-count.input.reader) _ _ _ _ _ _ _ _ cause ahead (TakesPart-none _) so_far)
+    handed c.from_residual-in_err-flush.result _ _ c.from_residual-in_err-flush.ensures.1 (stops_reading _ _ reading (g.R.Read.remaining c.loop-count.input.reader) _ _ _ _ _ _ _ _ cause ahead (TakesPart-none _) so_far)
 
 pub returns-then-branch-clause-err : goal.returns-then-branch-clause-err
 returns-then-branch-clause-err g c =
@@ -75,9 +70,8 @@ returns-then-branch-clause-err g c =
 
 pub returns-in_err-scratch-clause-err : goal.returns-in_err-scratch-clause-err
 returns-in_err-scratch-clause-err g c =
-    let p = err_from_is_err_and c.from_residual.result c.from_residual.ensures.1 in
     let input = c.args.input.now in
-    handed_on _ _ _ (p.1 ∙ ap Err p.2) (stops_reading _ fault.Memory input.lines (g.R.Read.remaining input.reader) c.args.output.now.calls _ _ _ _ _ _ _ tt tt (TakesPart-none _) (LinesDone-none _ _ _ _ _ c.journal.ensures.leads (LinesTaken-self _) (Took-none _)))
+    handed c.from_residual.result _ _ c.from_residual.ensures.1 (stops_reading _ fault.Memory input.lines (g.R.Read.remaining input.reader) c.args.output.now.calls _ _ _ _ _ _ _ tt tt (TakesPart-none _) (LinesDone-none _ _ _ _ _ c.journal.ensures.leads (LinesTaken-self _) (Took-none _)))
 
 -- no call of the writer failed
 
