@@ -120,7 +120,7 @@ module _ (logic : Logic) where
   tried old new s false takes = (false, subst (Tries logic old (s ∷ [])) (sym takes.1) (tries_not old s takes.0), takes.0)
 
   taken_plain : (old new : History) (s : Step) → as_failed s ≡ s → TakesNow logic old s true new → Tries logic old (s ∷ []) new × (is_possible logic old.whole s ≡ true)
-  taken_plain old new s is (failed, all) = subst (λ r. Tries logic old (r ∷ []) new × (is_possible logic old.whole r ≡ true)) (plain failed s is) all
+  taken_plain old new s is takes = subst (λ r. Tries logic old (r ∷ []) new × (is_possible logic old.whole r ≡ true)) (plain takes.0 s is) (takes.1, takes.2)
 
   tried_marked : (old new : History) (s : Bool → Step) (done : Bool) → as_failed (s false) ≡ s true → TakesNow logic old (s false) done new → (failed : Bool) × Tries logic old (s failed ∷ []) new
   tried_marked old new s done is takes =
