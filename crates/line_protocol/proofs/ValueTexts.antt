@@ -1,5 +1,5 @@
 -- The text of a value, added part by part.
-use Rattle.std.proofs.Common.{◌≡◌, ℕ, ◌+◌, ◌-◌, ◌≤◌, ◌<◌, Bool, true, false, nat_lt, List, length, option_map, if◌then◌else◌, [], ◌∷◌, ◌++◌, Option, Some, None, codes, refl, sym, ap, ap₂, ◌∙◌, append_assoc, append-nil, arith}
+use Rattle.std.proofs.Common.{◌≡◌, ℕ, ◌+◌, ◌-◌, ◌≤◌, ◌<◌, Bool, true, false, nat_lt, List, length, if◌then◌else◌, [], ◌∷◌, ◌++◌, Option, Some, None, codes, refl, sym, ap, ap₂, ◌∙◌, append_assoc, append-nil, arith}
 use Rattle.std.proofs.lemmas.Option.{some_pair_parts}
 use Rattle.json.specs.Print.{quoted}
 use Rattle.request_codec.proofs.Whole.{if_ended-some}

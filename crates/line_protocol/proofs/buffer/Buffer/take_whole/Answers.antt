@@ -1,4 +1,4 @@
-use Rattle.std.proofs.Common.{◌≡◌, ◌+◌, ◌-◌, ◌∷◌, ◌++◌, ap, subst, ◌∙◌, arith, slice_range}
+use Rattle.std.proofs.Common.{◌≡◌, ◌+◌, ◌∷◌, ◌++◌, ap, subst, ◌∙◌, arith, slice_range}
 use Rattle.line_protocol.specs.Reading.{HasNoBreak}
 use Rattle.line_protocol.proofs.Pieces.{at_break_in, break_within, front_in}
 use Rattle.line_protocol.proofs.buffer.Buffer.take_whole.Goals as goal
