@@ -164,41 +164,10 @@ truth_taken name b old new l ts rest token = member_taken name (a_truth b) (bool
 
 -- ---- what a slot was given is taken
 
-pub text_put : {A T E : Type 0} (given name : Name) (f : A → List ℕ) (make : Option A → LineMembers) (was slot : Option A) (r : Result T E) (old : LineMembers) (l : List ℕ) (ts rest : List Token) → given ≡ name
-    → OnOk r (was ≡ None) → OnOk r (IsSome slot) → OnOk r (IfSome slot (λ t. ts ≡ Token.string (f t) ∷ rest)) → (was ≡ None → slot_of name old l ≡ None) → ((t : A) → Fills name (a_text (f t)) old l (make (Some t)) l)
-    → ((o : Option A) → (make o).count ≡ old.count + 1) → OnOk r (TakesMember given ts rest old l (make slot) l)
-text_put given name f make was None (Ok x) old l ts rest is empty full token none fills more = absurd cc
-text_put given name f make was (Some t) (Ok x) old l ts rest is empty full token none fills more =
-    subst (λ n. TakesMember n ts rest old l (make (Some t)) l) (sym is) (text_taken name (f t) old (make (Some t)) l ts rest token (none empty) (fills t) (more (Some t)))
-text_put given name f make was slot (Err e) old l ts rest is empty full token none fills more = tt
-
-pub text_filled : {A : Type 0} (given name : Name) (f : A → List ℕ) (make : Option A → LineMembers) (was slot : Option A) (x : A) (old : LineMembers) (ts rest : List Token) → given ≡ name
-    → was ≡ None → slot ≡ Some x → ts ≡ Token.string (f x) ∷ rest → ((l : List ℕ) → was ≡ None → slot_of name old l ≡ None) → ((l : List ℕ) → Fills name (a_text (f x)) old l (make (Some x)) l)
-    → (make (Some x)).count ≡ old.count + 1 → (l : List ℕ) → TakesMember given ts rest old l (make slot) l
-text_filled given name f make was slot x old ts rest is empty full token none fills more l =
-    subst (λ n. TakesMember n ts rest old l (make slot) l) (sym is) (subst (λ s. TakesMember name ts rest old l (make s) l) (sym full) (text_taken name (f x) old (make (Some x)) l ts rest token (none l empty) (fills l) more))
-
-pub natural_filled : (given name : Name) (make : Option ℕ → LineMembers) (was slot : Option ℕ) (x : ℕ) (old : LineMembers) (ts rest : List Token) → given ≡ name
-    → was ≡ None → slot ≡ Some x → IsNatural ts x rest → ((l : List ℕ) → was ≡ None → slot_of name old l ≡ None) → ((l : List ℕ) → Fills name (a_number x) old l (make (Some x)) l)
-    → (make (Some x)).count ≡ old.count + 1 → (l : List ℕ) → TakesMember given ts rest old l (make slot) l
-natural_filled given name make was slot x old ts rest is empty full token none fills more l =
-    subst (λ n. TakesMember n ts rest old l (make slot) l) (sym is) (subst (λ s. TakesMember name ts rest old l (make s) l) (sym full) (natural_taken name x old (make (Some x)) l ts rest token (none l empty) (fills l) more))
-
-pub natural_put : {T E : Type 0} (given name : Name) (make : Option ℕ → LineMembers) (was slot : Option ℕ) (r : Result T E) (old : LineMembers) (l : List ℕ) (ts rest : List Token) → given ≡ name
-    → OnOk r (was ≡ None) → OnOk r (IsSome slot) → OnOk r (IfSome slot (λ t. IsNatural ts t rest)) → (was ≡ None → slot_of name old l ≡ None) → ((t : ℕ) → Fills name (a_number t) old l (make (Some t)) l)
-    → ((o : Option ℕ) → (make o).count ≡ old.count + 1) → OnOk r (TakesMember given ts rest old l (make slot) l)
-natural_put given name make was None (Ok x) old l ts rest is empty full token none fills more = absurd cc
-natural_put given name make was (Some t) (Ok x) old l ts rest is empty full token none fills more =
-    subst (λ n. TakesMember n ts rest old l (make (Some t)) l) (sym is) (natural_taken name t old (make (Some t)) l ts rest token (none empty) (fills t) (more (Some t)))
-natural_put given name make was slot (Err e) old l ts rest is empty full token none fills more = tt
-
-pub truth_put : {T E : Type 0} (given name : Name) (make : Option Bool → LineMembers) (was slot : Option Bool) (r : Result T E) (old : LineMembers) (l : List ℕ) (ts rest : List Token) → given ≡ name
-    → OnOk r (was ≡ None) → OnOk r (IsSome slot) → OnOk r (IfSome slot (λ t. ts ≡ Token.boolean t ∷ rest)) → (was ≡ None → slot_of name old l ≡ None) → ((t : Bool) → Fills name (a_truth t) old l (make (Some t)) l)
-    → ((o : Option Bool) → (make o).count ≡ old.count + 1) → OnOk r (TakesMember given ts rest old l (make slot) l)
-truth_put given name make was None (Ok x) old l ts rest is empty full token none fills more = absurd cc
-truth_put given name make was (Some t) (Ok x) old l ts rest is empty full token none fills more =
-    subst (λ n. TakesMember n ts rest old l (make (Some t)) l) (sym is) (truth_taken name t old (make (Some t)) l ts rest token (none empty) (fills t) (more (Some t)))
-truth_put given name make was slot (Err e) old l ts rest is empty full token none fills more = tt
+pub slot_filled : {A : Type 0} (given name : Name) (make : Option A → LineMembers) (slot : Option A) (x : A) (old : LineMembers) (l : List ℕ) (ts rest : List Token) → given ≡ name → slot ≡ Some x
+    → TakesMember name ts rest old l (make (Some x)) l → TakesMember given ts rest old l (make slot) l
+slot_filled given name make slot x old l ts rest is full taken =
+    subst (λ n. TakesMember n ts rest old l (make slot) l) (sym is) (subst (λ s. TakesMember name ts rest old l (make s) l) (sym full) taken)
 
 value_taken : (name : Name) (old new : LineMembers) (before after : List ℕ) (ts rest : List Token) (why : Option Refusal) → TakesValue ts rest why after → slot_of name old before ≡ None → Fills name (a_value why after) old before new after
     → new.count ≡ old.count + 1 → TakesMember name ts rest old before new after

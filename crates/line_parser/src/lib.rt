@@ -20,6 +20,7 @@ mod quick_fault;
 mod reading;
 mod request;
 mod scan;
+mod slots;
 mod step;
 mod tokens;
 

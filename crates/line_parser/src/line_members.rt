@@ -1,14 +1,15 @@
 //! The members of a line, each by its name.
 
-ghost use Rattle.std.specs.Prelude.{◌≡◌, ◌<◌, ◌^◌, ◌||◌, ℕ, List, [], ◌∷◌, false, None, IsSome, IfSome, IfOk, OnOk, option_map};
+ghost use Rattle.std.specs.Prelude.{◌≡◌, ◌<◌, ◌^◌, ◌||◌, ℕ, List, [], ◌∷◌, false, None, IfSome, IfOk, OnOk, option_map};
 ghost use Rattle.std.specs.Bool.{MatchBool};
-ghost use Rattle.json.specs.Token.{Token as SpecToken, string, boolean, begin_object};
+ghost use Rattle.json.specs.Token.{Token as SpecToken, boolean, begin_object};
 ghost use Rattle.json.specs.Lex.{tokens};
 ghost use Rattle.serde_json.specs.Data.{no_members};
 ghost use Rattle.line_parser.specs.inside.LineMembers.{name_text, named, TakesMember, TakesValue, asked_by, HoldsLineMembers};
 ghost use Rattle.line_parser.specs.inside.LineMembers.{HasLineMembers};
 ghost use Rattle.line_parser.specs.inside.LineMembers.{IsNatural};
-ghost use Rattle.line_parser.specs.inside.PassedMembers.{MembersRead};
+ghost use Rattle.line_parser.specs.inside.PassedMembers.{MembersRead, TakesUncounted};
+ghost use Rattle.line_parser.specs.declared.line_members.Name.TheVariants as names;
 
 use crate::argument::put_value;
 use crate::faults::Faults;
@@ -16,6 +17,7 @@ use crate::number::whole_number;
 use crate::plain::map_start;
 use crate::plain_members::{ends_line, past_plain_members};
 use crate::quick_fault::QuickFault;
+use crate::slots::{put_failed, put_natural, put_text};
 use crate::tokens::Tokens;
 use json::{Scratch, Token};
 use serde_json::Value;
@@ -121,29 +123,25 @@ pub(crate) fn name_of(key: &str) -> Option<Name>
     }
 }
 
-/// Puts the next token, which has to be a text, into a slot that has none.
-fn take_text<'a>(slot: &mut Option<&'a str>, reader: &mut Tokens<'a>) -> Result<(), QuickFault>
-    ensures empty { OnOk result (slot.old ≡ None) }
-    ensures full { OnOk result (IsSome slot.new) }
-    ensures token { OnOk result (IfSome slot.new (λ s. reader.old ≡ string s.now ∷ reader.new)) }
+/// Takes the next token, which has to be a text, for a member that wasn't there yet.
+fn take_text<'a>(
+    members: &mut LineMembers<'a>,
+    reader: &mut Tokens<'a>,
+    name: Name,
+) -> Result<(), QuickFault>
+    ensures { (l : List ℕ) → OnOk result (TakesUncounted name reader.old reader.new members.old l members.new l) }
 {
-    if slot.is_some() {
+    let text = reader.next_text()?;
+    if !put_text(members, name, text) {
         return Err(QuickFault::LeftToTree);
     }
-    let text = reader.next_text()?;
-    *slot = Some(text);
     Ok(())
 }
 
-/// Puts the next token, which has to be a whole number, 0 or above, into a slot that has none.
-fn take_natural(slot: &mut Option<u64>, reader: &mut Tokens<'_>) -> Result<(), QuickFault>
-    ensures empty { OnOk result (slot.old ≡ None) }
-    ensures full { OnOk result (IsSome slot.new) }
-    ensures token { OnOk result (IfSome slot.new (λ n. IsNatural reader.old n reader.new)) }
+/// The next token, which has to be a whole number, 0 or above.
+fn next_natural(reader: &mut Tokens<'_>) -> Result<u64, QuickFault>
+    ensures { IfOk result (λ n. IsNatural reader.old n reader.new) }
 {
-    if slot.is_some() {
-        return Err(QuickFault::LeftToTree);
-    }
     let text = reader.next_number()?;
     let Some(n) = whole_number(text) else {
         return Err(QuickFault::LeftToTree);
@@ -151,26 +149,43 @@ fn take_natural(slot: &mut Option<u64>, reader: &mut Tokens<'_>) -> Result<(), Q
     if n < 0 {
         return Err(QuickFault::LeftToTree);
     }
-    *slot = Some(n as u64);
+    Ok(n as u64)
+}
+
+/// Takes the next token, which has to be such a number, for a member that wasn't there yet.
+fn take_natural(
+    members: &mut LineMembers<'_>,
+    reader: &mut Tokens<'_>,
+    name: Name,
+) -> Result<(), QuickFault>
+    ensures { (l : List ℕ) → OnOk result (TakesUncounted name reader.old reader.new members.old l members.new l) }
+{
+    let n = next_natural(reader)?;
+    if !put_natural(members, name, n) {
+        return Err(QuickFault::LeftToTree);
+    }
     Ok(())
 }
 
-/// Puts the next token, which has to be a truth value, into a slot that has none.
-fn take_truth(slot: &mut Option<bool>, reader: &mut Tokens<'_>) -> Result<(), QuickFault>
-    ensures empty { OnOk result (slot.old ≡ None) }
-    ensures full { OnOk result (IsSome slot.new) }
-    ensures token { OnOk result (IfSome slot.new (λ b. reader.old ≡ boolean b ∷ reader.new)) }
+/// The next token, which has to be a truth value.
+fn next_truth(reader: &mut Tokens<'_>) -> Result<bool, QuickFault>
+    ensures { IfOk result (λ b. reader.old ≡ boolean b ∷ reader.new) }
 {
-    if slot.is_some() {
-        return Err(QuickFault::LeftToTree);
-    }
     match reader.next()? {
-        Token::Bool(truth) => {
-            *slot = Some(truth);
-            Ok(())
-        }
+        Token::Bool(truth) => Ok(truth),
         _ => Err(QuickFault::LeftToTree),
     }
+}
+
+/// Takes the next token, which has to be a truth value, for `failed`, if that wasn't there yet.
+fn take_failed(members: &mut LineMembers<'_>, reader: &mut Tokens<'_>) -> Result<(), QuickFault>
+    ensures { (l : List ℕ) → OnOk result (TakesUncounted names.Failed reader.old reader.new members.old l members.new l) }
+{
+    let truth = next_truth(reader)?;
+    if !put_failed(members, truth) {
+        return Err(QuickFault::LeftToTree);
+    }
+    Ok(())
 }
 
 /// Whether there was a member whose bytes are kept.
@@ -199,27 +214,20 @@ fn take_value(
     Ok(faults.refusal())
 }
 
-/// Takes a member that wasn't there yet.
+/// Takes a member that wasn't there yet. It isn't counted yet.
 #[inline(always)]
-fn take_member<'a>(
+fn take_uncounted<'a>(
     members: &mut LineMembers<'a>,
     bytes: &mut Vec<u8>,
     reader: &mut Tokens<'a>,
     name: Name,
 ) -> Result<(), QuickFault>
-    ensures { OnOk result (TakesMember name reader.old reader.new members.old bytes.old.items members.new bytes.new.items) }
+    ensures { OnOk result (TakesUncounted name reader.old reader.new members.old bytes.old.items members.new bytes.new.items) }
 {
-    let count = members.count.checked_add(1).ok_or(QuickFault::LeftToTree)?;
-    members.count = count;
     match name {
-        Name::Op => take_text(&mut members.op, reader),
-        Name::From => take_text(&mut members.from, reader),
-        Name::Grain => take_text(&mut members.grain, reader),
-        Name::Method => take_text(&mut members.method, reader),
-        Name::Id => take_natural(&mut members.id, reader),
-        Name::Turn => take_natural(&mut members.turn, reader),
-        Name::Now => take_natural(&mut members.moment, reader),
-        Name::Failed => take_truth(&mut members.failed, reader),
+        Name::Op | Name::From | Name::Grain | Name::Method => take_text(members, reader, name),
+        Name::Id | Name::Turn | Name::Now => take_natural(members, reader, name),
+        Name::Failed => take_failed(members, reader),
         Name::Args => {
             members.refusal = take_value(has_value(members), bytes, reader)?;
             members.args = true;
@@ -231,6 +239,22 @@ fn take_member<'a>(
             Ok(())
         }
     }
+}
+
+/// Takes a member that wasn't there yet.
+#[inline(always)]
+fn take_member<'a>(
+    members: &mut LineMembers<'a>,
+    bytes: &mut Vec<u8>,
+    reader: &mut Tokens<'a>,
+    name: Name,
+) -> Result<(), QuickFault>
+    ensures { OnOk result (TakesMember name reader.old reader.new members.old bytes.old.items members.new bytes.new.items) }
+{
+    let count = members.count.checked_add(1).ok_or(QuickFault::LeftToTree)?;
+    take_uncounted(members, bytes, reader, name)?;
+    members.count = count;
+    Ok(())
 }
 
 /// Takes the members that are left of the object that was begun, and answers whether it did: each is known and stands

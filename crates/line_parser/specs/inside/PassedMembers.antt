@@ -18,10 +18,10 @@ pub record MembersRead (initial now : List Token) (line : LineMembers) (bytes : 
   pub holds : HoldsLineMembers found line bytes
 
 -- The first value is one for that member, which wasn't there; it is counted next.
-abbrev pub TakesUncounted : Name → List Token → List Token → LineMembers → LineMembers → Type 0
-TakesUncounted name old new members_old members_new =
-    (count : ℕ) → count ≡ members_old.count + 1 → (l : List ℕ)
-    → TakesMember name old new members_old l (record members_new { count = count }) l
+abbrev pub TakesUncounted : Name → List Token → List Token → LineMembers → List ℕ → LineMembers → List ℕ → Type 0
+TakesUncounted name old new members_old bytes_old members_new bytes_new =
+    (count : ℕ) → count ≡ members_old.count + 1
+    → TakesMember name old new members_old bytes_old (record members_new { count = count }) bytes_new
 
 -- One member was passed, whatever bytes are kept beside.
 pub record PassesMember (old new : List Token) (members_old members_new : LineMembers) : Type 0 where

@@ -10,5 +10,5 @@ returns-clause-passed c =
       name = c.in_ok-name.name;
       behind = tokens c.in_ok-name.value.now;
       key = ap read_key c.in_ok-name.ensures;
-      takes = c.in_ok-after.ensures.taken c.in_ok-count.count more;
+      takes = λ l. c.in_ok-after.ensures.taken l c.in_ok-count.count more;
     }
