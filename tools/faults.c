@@ -1,7 +1,8 @@
 // A library to load before a program's own (LD_PRELOAD): it counts the program's calls of the system by kind, makes one of
 // them fail, and makes reads and writes short or interrupted.
 //
-// FAULT_CALL=K    the kind: read, write, open, close, sync, rename, thread or random
+// FAULT_CALL=K    the kind: read, write, open, close, loss (a close that loses half of a file that is written), sync, rename,
+//                 thread or random
 // FAULT_AT=N      the N-th call of that kind fails, counted from 1; with none or 0 none does
 // FAULT_MARK=F    the file F is made when a call fails
 // SHORT_READ=B    a read gets B bytes at most; SHORT_WRITE=B likewise
@@ -14,6 +15,7 @@
 #include <stdarg.h>
 #include <stdlib.h>
 #include <string.h>
+#include <sys/stat.h>
 #include <sys/syscall.h>
 #include <unistd.h>
 
@@ -86,8 +88,26 @@ int open(const char *path, int flags, ...) {
     return openat(AT_FDCWD, path, flags, mode);
 }
 
+// whether the file is a regular one that is written
+static int is_written(int file) {
+    struct stat found;
+    int flags = fcntl(file, F_GETFL);
+    return flags >= 0 && (flags & O_ACCMODE) != O_RDONLY && fstat(file, &found) == 0 && S_ISREG(found.st_mode);
+}
+
+// cuts the file in half
+static int is_cut(int file) {
+    struct stat found;
+    return fstat(file, &found) == 0 && ftruncate(file, found.st_size / 2) == 0;
+}
+
 int close(int file) {
+    int lost = file > 2 && is_written(file) && fails("loss", EIO) && is_cut(file);
     long result = syscall(SYS_close, file);
+    if (lost) {
+        errno = EIO;
+        return -1;
+    }
     return file > 2 && fails("close", EIO) ? -1 : result;
 }
 

@@ -2,6 +2,7 @@
 //! the status that it answers.
 #![tactic(auto)]
 
+use host_writing::LimitedWriter;
 use silo_program::{
     Cause, HostFiles, Input, Output, ProgramFault, refuse_words, run_program, tell,
 };
@@ -11,6 +12,11 @@ use std::rt::Env;
 use std::{env, io};
 
 const OUTPUT_BUFFER_BYTES: usize = 65_536;
+
+/// What the system calls the files of the process's streams.
+const STDOUT_FILE: &str = "/proc/self/fd/1";
+
+const STDERR_FILE: &str = "/proc/self/fd/2";
 
 /// The words that the host gave, the program's name first.
 fn words_of<H: Env + AllocGlobal>(rt: &H) -> io::Result<Vec<String>> {
@@ -22,7 +28,7 @@ fn words_of<H: Env + AllocGlobal>(rt: &H) -> io::Result<Vec<String>> {
 }
 
 fn main(rt: HostRuntime) -> ExitCode {
-    let mut errors = Output::new(rt.stderr());
+    let mut errors = Output::new(LimitedWriter::new(&rt, STDERR_FILE, rt.stderr()));
     let mut files = HostFiles { rt: &rt };
     let words = match words_of(&rt) {
         Ok(words) => words,
@@ -32,7 +38,8 @@ fn main(rt: HostRuntime) -> ExitCode {
     let Ok(mut input) = Input::new(rt.alloc(), rt.stdin()) else {
         return ExitCode::from(tell(&mut errors, &fault));
     };
-    let Ok(writer) = BufWriter::with_capacity(rt.alloc(), OUTPUT_BUFFER_BYTES, rt.stdout()) else {
+    let stdout = LimitedWriter::new(&rt, STDOUT_FILE, rt.stdout());
+    let Ok(writer) = BufWriter::with_capacity(rt.alloc(), OUTPUT_BUFFER_BYTES, stdout) else {
         return ExitCode::from(tell(&mut errors, &fault));
     };
     let mut output = Output::new(writer);

@@ -2,11 +2,12 @@
 
 use crate::counted_reader::{CountedReader, read_to_end};
 use crate::files::{FileFault, WholeFiles, fault_of};
+use host_writing::{replace_file, write_file};
 use std::alloc::Global;
-use std::fs::{File, OpenFile};
-use std::io::{ErrorKind, Write};
+use std::fs;
+use std::fs::File;
+use std::io::ErrorKind;
 use std::rt::Files;
-use std::{fs, io};
 
 /// What a new file's name ends with until it is in its place.
 const BESIDE: &str = ".new";
@@ -23,27 +24,6 @@ fn is_replaceable(files: &impl Files, path: &str) -> bool {
         Ok(found) => found.is_file(),
         Err(error) => error.kind() == ErrorKind::NotFound,
     }
-}
-
-/// Writes a new file and waits until it is on the disk.
-fn write_to_disk(files: &impl Files, path: &str, bytes: &[u8]) -> io::Result<()> {
-    let mut file = File::create(files, path)?;
-    file.write_all(bytes)?;
-    file.sync_all()
-}
-
-/// Writes a new file beside the path, and puts it in its place once it is on the disk. If that fails,
-/// the older file stands as it was, and the new one is taken away again.
-fn replace(files: &impl Files, path: &str, beside: &str, bytes: &[u8]) -> io::Result<()> {
-    let written = write_to_disk(files, beside, bytes);
-    let placed = match written {
-        Ok(()) => fs::rename(files, beside, path),
-        Err(error) => Err(error),
-    };
-    if placed.is_err() {
-        drop(fs::remove_file(files, beside));
-    }
-    placed
 }
 
 /// The name of a new file beside the path.
@@ -65,9 +45,9 @@ impl<R: Files + AllocGlobal> WholeFiles for HostFiles<'_, R> {
 
     fn write_whole(&mut self, alloc: Global, path: &str, bytes: &[u8]) -> Result<(), FileFault> {
         if !is_replaceable(self.rt, path) {
-            return fs::write(self.rt, path, bytes).map_err(fault_of);
+            return write_file(self.rt, path, bytes).map_err(fault_of);
         }
         let beside = name_beside(alloc, path)?;
-        replace(self.rt, path, beside.as_str(), bytes).map_err(fault_of)
+        replace_file(self.rt, path, beside.as_str(), bytes).map_err(fault_of)
     }
 }
