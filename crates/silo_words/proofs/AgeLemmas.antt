@@ -2,7 +2,7 @@
 use Rattle.std.proofs.Common.{◌≡◌, ◌≢◌, ◌==◌, ◌<◌, ◌+◌, ℕ, false, ne_eqb, Bor, Option, Some, option_map, List, [], ◌∷◌, ◌++◌, length, take, drop, get_or, map, refl, ap, ap₂, sym, ◌∙◌, subst, arith}
 use Rattle.std.specs.Prelude.{decimal}
 use Rattle.std.proofs.lemmas.Fmt.{decimal_injective}
-use Rattle.std.proofs.lemmas.List.{append_cancel_left, map-append, take-append-drop, drop_more, take_more}
+use Rattle.std.proofs.lemmas.List.{append_cancel_left, map_more}
 use Rattle.std.proofs.lemmas.List.Elements.{All-weaker}
 use Rattle.std.proofs.lemmas.Option.{none-some}
 use Rattle.std.proofs.lemmas.List.Splits.{slice_split_at}
@@ -10,7 +10,7 @@ use Rattle.std.specs.List.{slice_split}
 use Rattle.idle_collector.specs.Ages.{Ages, ages_fault}
 use Rattle.idle_collector.specs.declared.ages.AgeFault.{AgeFault}
 use Rattle.silo_words.specs.Ages.{IsAgeText, IsNoAgeText, NamesAges, WriteAges, parts_of}
-use Rattle.silo_words.proofs.PartLemmas.{HasNone-word}
+use Rattle.silo_words.proofs.PartLemmas.{HasNone-word, texts_at}
 
 -- ---- one text
 
@@ -64,22 +64,16 @@ not_among (t ∷ front) text rest (entry ∷ ages) none w = not_among front text
 
 module _ {A : Type 0} (f : A → List ℕ) (xs : List A) (i : ℕ) where
   module _ (d : A) (inside : i < length xs) where
-    parts_at : map f xs ≡ map f (take i xs) ++ f (get_or xs i d) ∷ map f (drop (i + 1) xs)
-    parts_at =
-        ap (map f) (sym (take-append-drop i xs) ∙ ap (λ rest. take i xs ++ rest) (drop_more xs i d inside))
-        ∙ map-append f (take i xs) (get_or xs i d ∷ drop (i + 1) xs)
-
     -- the next text writes none
     pub none_there : IsNoAgeText (f (get_or xs i d)) → (ages : Ages) → WriteAges (map f xs) ages → ⊥
     none_there none ages w =
-        not_among (map f (take i xs)) (f (get_or xs i d)) (map f (drop (i + 1) xs)) ages none (subst (λ (ts : List (List ℕ)). WriteAges ts ages) parts_at w)
+        not_among (map f (take i xs)) (f (get_or xs i d)) (map f (drop (i + 1) xs)) ages none (subst (λ (ts : List (List ℕ)). WriteAges ts ages) (texts_at f xs i d inside) w)
 
     -- the next text writes one more
     pub one_more : (ages new : Ages) (kind : List ℕ) (age : ℕ) → WriteAges (map f (take i xs)) ages → new ≡ ages ++ (kind, age) ∷ [] → IsAgeText (f (get_or xs i d)) kind age → WriteAges (map f (take (i + 1) xs)) new
     one_more ages new kind age w is text =
-        let texts : map f (take (i + 1) xs) ≡ map f (take i xs) ++ f (get_or xs i d) ∷ [] = ap (map f) (take_more xs i d inside) ∙ map-append f (take i xs) (get_or xs i d ∷ []) in
         subst (λ (t : Ages). WriteAges (map f (take (i + 1) xs)) t) (sym is)
-        (subst (λ (ts : List (List ℕ)). WriteAges ts (ages ++ (kind, age) ∷ [])) (sym texts)
+        (subst (λ (ts : List (List ℕ)). WriteAges ts (ages ++ (kind, age) ∷ [])) (sym (map_more f xs i d inside))
         (WriteAges-push (map f (take i xs)) ages (f (get_or xs i d)) kind age w text))
 
 -- ---- the text of the option

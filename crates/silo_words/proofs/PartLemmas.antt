@@ -1,5 +1,5 @@
 -- What the texts of numbers and of words are made of, and so where an argument is cut.
-use Rattle.std.proofs.Common.{◌≡◌, ◌≢◌, ◌≤◌, ◌<◌, ◌^◌, ℕ, zero, suc, true, false, true≢false, List, length, get_or, Result, Ok, Err, ap, sym, ◌∙◌, arith}
+use Rattle.std.proofs.Common.{◌≡◌, ◌≢◌, ◌≤◌, ◌<◌, ◌^◌, ℕ, zero, suc, true, false, true≢false, List, length, take, drop, get_or, map, ◌∷◌, ◌++◌, ◌+◌, Result, Ok, Err, ap, sym, ◌∙◌, arith}
 use Rattle.std.specs.Prelude.{IsTrue, decimal}
 use Rattle.std.specs.List.{list_all}
 use Rattle.std.specs.Cmp.{second_so}
@@ -7,6 +7,7 @@ use Rattle.std.specs.Result.{OkIff}
 use Rattle.std.specs.Str.Parse.{AllDigits, digits_value, ParsesUnsigned}
 use Rattle.std.proofs.lemmas.Str.Parse.{IsNumeralModel, numerals_by_value, tells_digits, not_in_digits, parse_plain, digit_at}
 use Rattle.std.proofs.lemmas.Fmt.{digits_decimal, decimal-digits_value, first_decimal, parse-decimal, decimal_nonempty, decimal_digit}
+use Rattle.std.proofs.lemmas.List.{drop_more, map-append, take-append-drop}
 use Rattle.std.proofs.lemmas.List.Elements.{All-from_get_or}
 use Rattle.std.proofs.lemmas.List.Sums.{AllPass-from_list_all}
 use Rattle.grain_id.specs.Words.{is_word, is_word_byte}
@@ -62,3 +63,10 @@ first_of_number text most limit small is =
     let first = first_digit limit is.0.0 (omega (arith, small, is.0)) in
     let same = ap (λ t. get_or t 0 0) is.1 in
     (omega (arith, first, same), omega (arith, first, same))
+
+-- the texts of a list, around one of its places
+pub texts_at : {A : Type 0} (f : A → List ℕ) (xs : List A) (i : ℕ) (d : A) → i < length xs
+    → map f xs ≡ map f (take i xs) ++ f (get_or xs i d) ∷ map f (drop (i + 1) xs)
+texts_at f xs i d inside =
+    ap (map f) (sym (take-append-drop i xs) ∙ ap (λ rest. take i xs ++ rest) (drop_more xs i d inside))
+    ∙ map-append f (take i xs) (get_or xs i d ∷ drop (i + 1) xs)

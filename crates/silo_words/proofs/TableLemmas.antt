@@ -3,7 +3,7 @@ use Rattle.std.proofs.Common.{◌≡◌, ℕ, suc, ◌+◌, ◌<◌, ◌≤◌, 
 use Rattle.std.specs.Prelude.{find}
 use Rattle.std.specs.List.{list_any}
 use Rattle.std.proofs.lemmas.Bool.Decides.{nat_tests}
-use Rattle.std.proofs.lemmas.List.{map-append, take-append-drop, drop_more, take_more}
+use Rattle.std.proofs.lemmas.List.{map-append, map_more}
 use Rattle.std.proofs.lemmas.Option.{none-some, same_Some}
 use Rattle.tenant_gate.proofs.Repeats.{first_repeat-push}
 use Rattle.grain_id.specs.Names.{same_text}
@@ -12,6 +12,7 @@ use Rattle.tenant_gate.specs.declared.limits.Limits.{Limits}
 use Rattle.tenant_gate.specs.declared.fault.TableFault.{TableFault}
 use Rattle.tenant_gate.specs.declared.fault.TableFault.TheVariants as faults
 use Rattle.tenant_gate.proofs.Faults.{fault_empty, fault_later}
+use Rattle.silo_words.proofs.PartLemmas.{texts_at}
 use Rattle.silo_words.specs.Parts.{IsWithin}
 use Rattle.silo_words.specs.Tenants.{AreLimits, IsTenantText, WriteTenants, WriteDistinct, MayFollow, is_named, IsRefusedBehind, IsRefusedAt, IsFirstRefused}
 
@@ -83,23 +84,17 @@ first_refused (first ∷ others) front text rest number parts is at = (front, te
 
 module _ {A : Type 0} (f : A → List ℕ) (xs : List A) (i : ℕ) where
   module _ (d : A) (inside : i < length xs) (table shown : Table) (is_shown : shown ≡ table) (named : WriteDistinct (map f (take i xs)) table) where
-    parts_at : map f xs ≡ map f (take i xs) ++ f (get_or xs i d) ∷ map f (drop (i + 1) xs)
-    parts_at =
-        ap (map f) (sym (take-append-drop i xs) ∙ ap (λ rest. take i xs ++ rest) (drop_more xs i d inside))
-        ∙ map-append f (take i xs) (get_or xs i d ∷ drop (i + 1) xs)
-
     -- the next text is refused
     pub next_refused : (n : ℕ) → n ≡ length table → IsRefusedBehind shown (f (get_or xs i d)) → IsFirstRefused (map f xs) (n + 1)
     next_refused n many why =
-        first_refused (map f xs) (map f (take i xs)) (f (get_or xs i d)) (map f (drop (i + 1) xs)) (n + 1) parts_at (omega (arith, many, as_many (map f (take i xs)) table named.written))
+        first_refused (map f xs) (map f (take i xs)) (f (get_or xs i d)) (map f (drop (i + 1) xs)) (n + 1) (texts_at f xs i d inside) (omega (arith, many, as_many (map f (take i xs)) table named.written))
         (record { before = table; named = named; why = subst (λ (b : Table). IsRefusedBehind b (f (get_or xs i d))) is_shown why })
 
     -- the next text names one tenant more
     pub next_named : (tenant : List ℕ) (limits : Limits) (new : Table) → new ≡ table ++ (tenant, limits) ∷ [] → IsTenantText (f (get_or xs i d)) tenant limits × MayFollow shown tenant → WriteDistinct (map f (take (i + 1) xs)) new
     next_named tenant limits new is next =
-        let texts : map f (take (i + 1) xs) ≡ map f (take i xs) ++ f (get_or xs i d) ∷ [] = ap (map f) (take_more xs i d inside) ∙ map-append f (take i xs) (get_or xs i d ∷ []) in
         subst (λ (t : Table). WriteDistinct (map f (take (i + 1) xs)) t) (sym is)
-        (subst (λ (ts : List (List ℕ)). WriteDistinct ts (table ++ (tenant, limits) ∷ [])) (sym texts)
+        (subst (λ (ts : List (List ℕ)). WriteDistinct ts (table ++ (tenant, limits) ∷ [])) (sym (map_more f xs i d inside))
         (WriteDistinct-push (map f (take i xs)) table (f (get_or xs i d)) tenant limits named next.0 (subst (λ (b : Table). MayFollow b tenant) is_shown next.1)))
 
   -- all texts were read

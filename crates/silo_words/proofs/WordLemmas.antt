@@ -1,10 +1,13 @@
 -- What the words ask for, from what clap found.
 use Rattle.std.proofs.Common.{◌≡◌, ◌≢◌, ◌≤◌, ◌⊎◌, ◌∙◌, ℕ, List, [], true, IfOk, IfErr, Option, Some, None, Result, Ok, Err, inl, inr, refl, sym, ap, subst, arith}
 use Rattle.std.specs.Prelude.{option_map, unwrap_or}
-use Rattle.std.specs.Str.Parse.{ParsesUnsigned}
-use Rattle.clap.specs.Matches.{TriesOne}
+use Rattle.std.specs.Str.Parse.{ParsesUnsigned, ExplainsUnsignedError, HasUnsignedDigitsIfOk}
+use Rattle.std.specs.declared.num.ParseIntError.{ParseIntError}
+use Rattle.clap.specs.Matches.{TriesOne, one_text}
 use Rattle.clap.proofs.OnLiterals.{clap_on_literals}
-use Rattle.clap.specs.Words.{FailsBy, HasKind, HasMatchesOf, IsAmong, Kinds, Text, fault_of, is_simple, is_simple_and_free, subcommand_rows_of}
+use Rattle.clap.proofs.WalkLemmas.{one_text-rows}
+use Rattle.clap.specs.declared.parser.matches.Found.{Found}
+use Rattle.clap.specs.Words.{FailsBy, HasKind, HasMatchesOf, IsAmong, Kinds, Text, fault_of, is_simple, is_simple_and_free, one_of, rows_of, subcommand_rows_of}
 use Rattle.clap.specs.declared.error.Error.{Error}
 use Rattle.clap.specs.declared.parser.matches.ArgMatches.{ArgMatches}
 use Rattle.clap.specs.declared.error.kind.ErrorKind.{ErrorKind}
@@ -15,58 +18,55 @@ use Rattle.silo_words.specs.Words.{IsFaultBy, IsNumber, IsWhy, found_in, silo_ap
 
 -- ---- a number
 
-module _ {E : Type 0} (gives : Text → Result ℕ E → Type 0) (parses : (t : Text) (x : Result ℕ E) → gives t x → ParsesUnsigned 64 10 t x)
-    (usual least most : ℕ) (one : Option Text) (read : Result (Option ℕ) E) (none : one ≡ None → read ≡ Ok None) (some : (t : Text) → one ≡ Some t → TriesOne gives t read) where
-  tried : (t : Text) (x : Result (Option ℕ) E) → one ≡ Some t → read ≡ x → TriesOne gives t x
-  tried t x given is = subst (TriesOne gives t) is (some t given)
+-- what clap reads of a text
+abbrev pub Gives : Text → Result ℕ ParseIntError → Type 0
+Gives text x = ParsesUnsigned 64 10 text x × ExplainsUnsignedError 10 text x × HasUnsignedDigitsIfOk text x
 
-  given_number : (o : Option Text) → one ≡ o → (n number : ℕ) → read ≡ Ok (Some n) → IsNumber usual least most o number → n ≡ number
-  given_number None e n number is wanted =
-      let no = none e in
-      absurd cc
-  given_number (Some t) e n number is wanted = (parses t (Ok n) (tried t _ e is)).1 ∙ wanted.0.1
+module _ (read : Result (Option ℕ) ParseIntError) where
+  -- what it reads of an option's text, if there is one
+  abbrev pub Reads : Option Text → Type 0
+  Reads one = (one ≡ None → read ≡ Ok None) × ((text : Text) → one ≡ Some text → TriesOne Gives text read)
 
-  -- a number that is read within its range
-  pub IsNumber-read : (n : ℕ) → read ≡ Ok (Some n) → least ≤ n → n ≤ most → IsNumber usual least most one n
-  IsNumber-read n is low high = go one refl
-    where
-      go : (o : Option Text) → one ≡ o → IsNumber usual least most o n
-      go None e =
-          let no = none e in
-          absurd cc
-      go (Some t) e =
-          let number = parses t (Ok n) (tried t _ e is) in
-          ((number.0.0, sym number.1), low, high)
+  tried : (t : Text) (x : Result (Option ℕ) ParseIntError) → Reads (Some t) → read ≡ x → TriesOne Gives t x
+  tried t x reads is = subst (TriesOne Gives t) is (reads.1 t refl)
 
-  -- no number was given
-  pub IsNumber-left_out : read ≡ Ok None → IsNumber usual least most one usual
-  IsNumber-left_out is = go one refl
-    where
-      go : (o : Option Text) → one ≡ o → IsNumber usual least most o usual
-      go None e = refl
-      go (Some t) e = absurd (tried t _ e is)
+  -- by the rows that were found
+  pub reads_rows : (found : Found) (id : Text) → Reads (one_text found id) → Reads (one_of id (rows_of found))
+  reads_rows found id reads = subst Reads (one_text-rows found id) reads
 
-  -- a number out of the range
-  pub not_number-outside : (n number : ℕ) → read ≡ Ok (Some n) → ((least ≤ n) → (n ≤ most) → ⊥) → IsNumber usual least most one number → ⊥
-  not_number-outside n number is outside = go one refl
-    where
-      go : (o : Option Text) → one ≡ o → IsNumber usual least most o number → ⊥
-      go None e wanted =
-          let no = none e in
-          absurd cc
-      go (Some t) e wanted =
-          let same = given_number (Some t) e n number is wanted in
-          outside (omega (arith, same, wanted.1)) (omega (arith, same, wanted.2))
+  module _ (usual least most : ℕ) where
+    -- a number that is read within its range
+    pub IsNumber-read : (one : Option Text) → Reads one → (n : ℕ) → read ≡ Ok (Some n) → least ≤ n → n ≤ most → IsNumber usual least most one n
+    IsNumber-read None reads n is low high =
+        let no = reads.0 refl in
+        absurd cc
+    IsNumber-read (Some t) reads n is low high =
+        let number = (tried t _ reads is).0 in
+        ((number.0.0, sym number.1), low, high)
 
-  -- a text that is no number
-  pub not_number-text : most ≤ 18446744073709551615 → (fault : E) (number : ℕ) → read ≡ Err fault → IsNumber usual least most one number → ⊥
-  not_number-text fits fault number is = go one refl
-    where
-      go : (o : Option Text) → one ≡ o → IsNumber usual least most o number → ⊥
-      go None e wanted =
-          let no = none e in
-          absurd cc
-      go (Some t) e wanted = parses t (Err fault) (tried t _ e is) (wanted.0.0, omega (arith, fits, wanted.0.1, wanted.2))
+    -- no number was given
+    pub IsNumber-left_out : (one : Option Text) → Reads one → read ≡ Ok None → IsNumber usual least most one usual
+    IsNumber-left_out None reads is = refl
+    IsNumber-left_out (Some t) reads is = absurd (tried t _ reads is)
+
+    -- a number out of the range
+    pub not_number-outside : (one : Option Text) → Reads one → (n number : ℕ) → read ≡ Ok (Some n) → ((least ≤ n) → (n ≤ most) → ⊥)
+        → IsNumber usual least most one number → ⊥
+    not_number-outside None reads n number is outside wanted =
+        let no = reads.0 refl in
+        absurd cc
+    not_number-outside (Some t) reads n number is outside wanted =
+        let same = (tried t _ reads is).0.1 ∙ wanted.0.1 in
+        outside (omega (arith, same, wanted.1)) (omega (arith, same, wanted.2))
+
+    -- a text that is no number
+    pub not_number-text : (one : Option Text) → Reads one → most ≤ 18446744073709551615 → (fault : ParseIntError) (number : ℕ) → read ≡ Err fault
+        → IsNumber usual least most one number → ⊥
+    not_number-text None reads fits fault number is wanted =
+        let no = reads.0 refl in
+        absurd cc
+    not_number-text (Some t) reads fits fault number is wanted =
+        (tried t _ reads is).0 (wanted.0.0, omega (arith, fits, wanted.0.1, wanted.2))
 
 -- ---- what was found
 
