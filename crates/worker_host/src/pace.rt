@@ -123,10 +123,12 @@ impl Pace {
         self.awake = self.awake.saturating_sub(1);
     }
 
-    /// A worker waits no more.
+    /// A worker waits no more. The next is woken only after as long a rest as the last, so that it's seen
+    /// first how this one fares.
     pub fn wake_up(&mut self) {
         self.awake = self.awake.saturating_add(1);
         self.woken = false;
+        self.rest = self.rested;
     }
 
     /// A worker ends. Those that are awake still are counted without it, so that the last of them doesn't
