@@ -30,6 +30,8 @@ use worker_host::{ServeFault, ServeReport, TurnGate, serve_seeded};
 pub struct ServedInput<L: GrainLogic> {
     pub refusals: Vec<LineRefusal>,
     pub report: ServeReport<MemoryStorage, L>,
+    /// The lanes that were served: a program that ends anyway needn't take them apart.
+    pub lanes: Vec<Lane>,
 }
 
 /// What becomes of a fault of serving.
@@ -105,6 +107,7 @@ pub fn serve_read<
     ensures refused { IfOk result (λ served. served.refusals.items ≡ refusals_of said.items) }
     ensures lanes { IfOk result (λ served. LeavesServed L.logic (setup_of tenants age ages) (lanes_of said.items) served.report.silo
         (map_list (λ v. v.items) served.report.answers.items)) }
+    ensures served_lanes { IfOk result (λ served. served.lanes.items ≡ lanes_of said.items) }
 
     // The silo was opened with these tenants, this age and these ages, and no rows.
     ensures setup { IfOk result (λ served. served.report.silo.setup ≡ setup_of tenants age ages) }
@@ -121,6 +124,7 @@ pub fn serve_read<
         Ok(report) => Ok(ServedInput {
             refusals: asked.refusals,
             report,
+            lanes: asked.lanes,
         }),
         Err(fault) => Err(fault_of_serving(fault)),
     }
