@@ -35,11 +35,15 @@ OPEN_GOAL = re.compile(r"not proved that .*\(`([^`]+)`\)")
 OPEN_GOALS = re.compile(r"did not prove (.*)")
 OF_CONTRACT = ("returns", "invariant_of")
 
+# What is written into the proof of a wrong body, and is wrong by itself.
+WRONG = "wrong-by-itself"
+SPOILING = f"\n{WRONG} : Unit {{0}} → Unit {{0}}\n{WRONG} = tt\n"
+
 
 @dataclasses.dataclass(frozen=True)
 class Body:
     """A function of a file: its path in the crate as the prover prints it, the first and last line of it and of its body,
-    and the lines round a copy of it, if a copy can stand beside it."""
+    the lines round a copy of it, if a copy can stand beside it, and whether its proof is one of several functions."""
 
     file: str
     path: str
@@ -47,11 +51,13 @@ class Body:
     opens: int
     last: int
     round: tuple[tuple[str, ...], tuple[str, ...]] | None
+    in_cycle: bool
 
 
 @dataclasses.dataclass
 class Edit:
-    """The pairs of texts to change in files, the functions whose bodies that changes, and those that a line names."""
+    """The pairs of texts to change in files, the functions whose bodies that changes, and those that a line names. In a check it may
+    be made in a copy of its function, which begins at some line, and the proof may be spoiled, so that it's no sign if there is none."""
 
     crate: str
     name: str
@@ -59,13 +65,32 @@ class Edit:
     bodies: list[Body] = dataclasses.field(default_factory=list)
     named: list[str] = dataclasses.field(default_factory=list)
     suffix: str = ""
+    copied_at: int = 0
+    is_spoiled: bool = False
 
     def functions(self) -> list[str]:
         return self.named or [it.path + self.suffix for it in self.bodies]
 
+    def stands_alone(self) -> bool:
+        """Whether it changes more than bodies of functions, so that others might be refused for what it changes."""
+        return len(self.bodies) != len(self.pairs)
+
+    def is_of(self, function: str) -> bool:
+        """Whether the prover's name of a function is that of one that must be refused."""
+        is_named = f"::{function}".endswith(tuple(f"::{it}" for it in self.named))
+        return is_named or function in {f"{self.crate}::{it.path}{self.suffix}" for it in self.bodies}
+
+    def holds(self, file: str, line: int) -> bool:
+        """Whether a line of a file as a check has it is one of the bodies."""
+        for body in self.bodies:
+            first = self.copied_at if self.suffix else body.first
+            if body.file == file and first <= line <= first + body.last - body.first:
+                return True
+        return False
+
     def may_be_copied(self) -> bool:
         """Whether it changes one function alone, of which a copy can stand beside it."""
-        return not self.named and len(set(self.bodies)) == 1 and len(self.bodies) == len(self.pairs) and self.bodies[0].round is not None
+        return not self.named and not self.stands_alone() and len(set(self.bodies)) == 1 and self.bodies[0].round is not None
 
 
 @dataclasses.dataclass
@@ -101,6 +126,7 @@ class Result:
     edit: Edit
     is_refused: bool
     said: str
+    seconds: float = 0.0
 
     def kind(self) -> int:
         return kind_of(self.said)
@@ -179,7 +205,8 @@ def bodies_of(crate: Crate, file: str) -> list[Body]:
         if held:
             path = "::".join([*(block or module_of(file)), head["name"]])
             in_cycle = first > 0 and lines[first - 1].strip().startswith("#[cycle")
-            found.append(Body(file, path, first + 1, held[0] + 1, held[1] + 1, None if opens is None or in_cycle else (opens, closes)))
+            copied = None if opens is None or in_cycle else (opens, closes)
+            found.append(Body(file, path, first + 1, held[0] + 1, held[1] + 1, copied, in_cycle))
     return found
 
 
@@ -209,14 +236,14 @@ def read_edit(crate: Crate, file: pathlib.Path) -> Edit:
 
 def batches_of(edits: list[Edit]) -> list[list[Edit]]:
     """Puts edits together of which no two change the same function: a second edit of a function is made in a copy of it,
-    if it can be. One that names what must be refused stands alone."""
+    if it can be. One that changes more than bodies stands alone."""
     batches: list[list[Edit]] = []
     copies: dict[tuple[str, int], int] = {}
     for edit in edits:
         mine = {(it.file, it.first) for it in edit.bodies}
         for batch in batches:
             theirs = {(it.file, it.first) for other in batch for it in other.bodies if not other.suffix}
-            if edit.named or any(other.named for other in batch):
+            if edit.stands_alone() or any(other.stands_alone() for other in batch):
                 continue
             if not mine & theirs:
                 batch.append(edit)
@@ -267,18 +294,18 @@ def refusal(edit: Edit, lines: list[str]) -> str | None:
 
 
 def refusals(edit: Edit, lines: list[str]) -> Iterator[str]:
+    paths = {(it.path + edit.suffix).replace("::", "/") for it in edit.bodies}
+    at_proof = [line for line in lines if (found := AT_PROOF.match(line)) and found[1] in paths and f"`{WRONG}`" not in found[2]]
     for line in lines if lines[-1].startswith("only=") else []:
-        source, proof, function = AT_SOURCE.match(line), AT_PROOF.match(line), OF_FUNCTION.match(line)
-        for body in edit.bodies:
-            in_place = source and not edit.suffix and source[1] == body.file and body.first <= int(source[2]) <= body.last
-            if in_place and "not proved" in source[3]:
-                yield line
-            path = body.path + edit.suffix
-            if proof and proof[1] == path.replace("::", "/") and not CITES.search(proof[2]):
-                yield line
-            is_own = function and ("it calls" not in function[3] or "` did not prove `" in function[3])
-            if is_own and function[1] == f"{edit.crate}::{path}" and function[2] != "could not tell":
-                yield line
+        source, function = AT_SOURCE.match(line), OF_FUNCTION.match(line)
+        if source and edit.holds(source[1], int(source[2])) and "not proved" in source[3]:
+            yield line
+        if line in at_proof and not CITES.search(line):
+            yield line
+        is_own = function and edit.is_of(function[1]) and ("it calls" not in function[3] or "` did not prove `" in function[3])
+        is_of_spoiling = edit.is_spoiled and not at_proof and line.endswith(": not proved")
+        if is_own and function[2] != "could not tell" and not is_of_spoiling:
+            yield line
 
 
 def verdict_alone(edit: Edit, status: int, lines: list[str]) -> Result:
