@@ -133,7 +133,7 @@ class Result:
 
     def show(self) -> None:
         verdict = f"refused by {KINDS[self.kind()]}" if self.is_refused else "NOT REFUSED"
-        print(f"{self.edit.crate}/{self.edit.name}: {verdict}: {self.said[:200]}", flush=True)
+        print(f"{self.edit.crate}/{self.edit.name}: {verdict} in {self.seconds:.1f} s: {self.said[:200]}", flush=True)
 
 
 # ---- what stands in the files
