@@ -16,7 +16,7 @@ ROOT = pathlib.Path(__file__).resolve().parent.parent
 
 FUNCTION = re.compile(r"( *)(?:pub(?:\([a-z: ]+\))? )?(?P<const>const )?(?:unsafe )?fn (?P<name>\w+)")
 CLAUSE = re.compile(r"(?:requires|ensures|ghost|where)\b")
-BLOCK = re.compile(r"impl(?:<.*?>)? (?:(?P<trait>[\w:]+)(?:<(?P<args>[^>]*)>)? for )?(?P<ref>&(?:'\w+ )?)?(?P<type>[\w:]+)")
+BLOCK = re.compile(r"impl(?:<.*?>)? (?:(?P<trait>[\w:]+)(?:<(?P<args>[^>]*)>)? for )?(?P<ref>&(?:'\w+ )?)?(?P<type>[\w:]+|\([^()]*\))")
 
 TYPE = re.compile(r"^(?:pub(?:\([a-z: ]+\))? )?(?:struct|enum) (\w+)", re.M)
 
@@ -159,11 +159,14 @@ def below(crates: dict[str, Crate], name: str) -> list[str]:
 
 def block_name(line: str) -> tuple[str, str]:
     """The name that the prover gives an impl block, which is its type and behind it the trait and its arguments, and the type.
-    A type behind a reference is named with `Ref` before it."""
+    A type behind a reference is named with `Ref` before it, and a tuple by its parts."""
     found = BLOCK.match(line)
     if not found:
         return "", ""
-    name, trait = (part.split("::")[-1] for part in (found["type"], found["trait"] or ""))
+    parts = [it.split("::")[-1] for it in re.findall(r"[\w:]+", found["type"])]
+    name, trait = parts[-1], (found["trait"] or "").split("::")[-1]
+    if found["type"].startswith("("):
+        name = f"Tuple{len(parts)}" + "".join(it[0].upper() + it[1:] for it in parts)
     return ("Ref" if found["ref"] else "") + name + trait + "".join(re.findall(r"\w+", found["args"] or "")), name
 
 
