@@ -6,6 +6,7 @@ use Rattle.std.specs.List.{list_any}
 use Rattle.std.proofs.lemmas.List.{append-nil, append_assoc, map-append}
 use Rattle.std.proofs.lemmas.List.Elements.{All-nil, All-cons, All-append, All-push}
 use Rattle.std.proofs.lemmas.Bool.{not-true}
+use Rattle.std.proofs.lemmas.Option.{same_Some}
 use Rattle.tenant_gate.proofs.Repeats.{first_repeat-push}
 use Rattle.finite_maps.proofs.Lists.{push_not_empty}
 use Rattle.grain_id.specs.Names.{Grain, same_text}
@@ -25,7 +26,7 @@ use Rattle.tenant_gate.specs.Age.{IsAge}
 use Rattle.journal_text.specs.Rules.{IsKinds, IsLine, comes_after, are_ascending}
 use Rattle.journal_text.specs.inside.Answers.{AreKinds}
 use Rattle.journal_text.specs.inside.Candidates.{only_if}
-use Rattle.journal_text.specs.inside.Draft.{lines_so_far, IsDraft, is_empty, has_tenant, kind_after, are_kinds_ascending, last_kind, last_grain, kind_fits, tenant_fits, step_fits, reply_fits, row_fits, added}
+use Rattle.journal_text.specs.inside.Draft.{lines_so_far, IsDraft, is_empty, has_tenant, kind_after, are_kinds_ascending, last_key, kind_fits, tenant_fits, step_fits, reply_fits, row_fits, added}
 use Rattle.journal_text.proofs.Drafts.{empty, length-push, names_of-push, has_tenant-names}
 
 -- the first lines of a form that tells the logic
@@ -62,21 +63,17 @@ pub none_of : {A : Type 0} (xs : List A) → is_empty xs ≡ true → xs ≡ []
 none_of [] e = refl
 none_of (x ∷ xs) e = absurd (true≢false (sym e))
 
-only_some : {A : Type 0} (b : Bool) (x e : A) → only_if b x ≡ Some e → (b ≡ true) × (x ≡ e)
-only_some true x e is = (refl, cc)
-only_some false x e is = cc
-
 -- What the test of a kind's line says.
 record KindFits (tenants : Table) (ages : Ages) (kind : List ℕ) : Type 0 where
   no_tenants : tenants ≡ []
   room : length ages < 64
-  after : kind_after (last_kind None ages) kind ≡ true
+  after : kind_after (last_key None ages) kind ≡ true
 
 kind_test : (d : History) (kind : List ℕ) → kind_fits d kind ≡ true → KindFits d.tenants d.ages kind
 kind_test d kind fits =
     let none = is_empty d.tenants in
     let room = ltb (length d.ages) 64 in
-    let after = kind_after (last_kind None d.ages) kind in
+    let after = kind_after (last_key None d.ages) kind in
     let front = first_so (none && room) after fits in
     record {
       no_tenants = none_of d.tenants (first_so none room front);
@@ -132,14 +129,14 @@ row_body kinds age ages tenants steps replies rows row = simp (map-append, appen
 
 -- ---- the rules
 
-ascending-push : (last : Option Grain) (rows : List (Grain × Row)) (row : Grain × Row) → are_ascending last rows ≡ true → comes_after (last_grain last rows) row.0 ≡ true → are_ascending last (rows ++ row ∷ []) ≡ true
+ascending-push : (last : Option Grain) (rows : List (Grain × Row)) (row : Grain × Row) → are_ascending last rows ≡ true → comes_after (last_key last rows) row.0 ≡ true → are_ascending last (rows ++ row ∷ []) ≡ true
 ascending-push last [] row ascending after = ap (λ b. b && true) after
 ascending-push last (r ∷ rows) row ascending after =
     let here = first_so (comes_after last r.0) (are_ascending (Some r.0) rows) ascending in
     let behind = second_so (comes_after last r.0) (are_ascending (Some r.0) rows) ascending in
     ap (λ b. b && are_ascending (Some r.0) (rows ++ row ∷ [])) here ∙ ascending-push (Some r.0) rows row behind after
 
-kinds_ascending-push : (last : Option (List ℕ)) (ages : Ages) (entry : List ℕ × ℕ) → are_kinds_ascending last ages ≡ true → kind_after (last_kind last ages) entry.0 ≡ true → are_kinds_ascending last (ages ++ entry ∷ []) ≡ true
+kinds_ascending-push : (last : Option (List ℕ)) (ages : Ages) (entry : List ℕ × ℕ) → are_kinds_ascending last ages ≡ true → kind_after (last_key last ages) entry.0 ≡ true → are_kinds_ascending last (ages ++ entry ∷ []) ≡ true
 kinds_ascending-push last [] entry ascending after = ap (λ b. b && true) after
 kinds_ascending-push last (e ∷ ages) entry ascending after =
     let here = first_so (kind_after last e.0) (are_kinds_ascending (Some e.0) ages) ascending in
@@ -158,38 +155,17 @@ more_lines start lines more l is = ap (λ ls. start ++ ls) is ∙ sym (append_as
 more_are : (form : Form) (d e : History) (l : Line) → IsDraft form d → IsLine form l → lines_so_far form e ≡ lines_so_far form d ++ l ∷ [] → All (IsLine form) (lines_so_far form e)
 more_are form d e l is also lines = subst (All (IsLine form)) (sym lines) (All-push (IsLine form) (lines_so_far form d) l is.lines also)
 
-kind_added : (form : Form) (kinds age : ℕ) (ages : Ages) (entry : List ℕ × ℕ) → IsDraft form (history_of kinds age ages [] [] [] []) → IsLine form (kind_line entry) → length ages < 64 → kind_after (last_kind None ages) entry.0 ≡ true → Extends form (history_of kinds age ages [] [] [] []) (history_of kinds age (ages ++ entry ∷ []) [] [] [] []) (kind_line entry)
-kind_added form kinds age ages entry is also room after =
-    let d : History = history_of kinds age ages [] [] [] [] in
-    let e : History = history_of kinds age (ages ++ entry ∷ []) [] [] [] [] in
-    let lines = more_lines (start_lines form kinds age) (body d) (body e) (kind_line entry) (kind_body kinds age ages entry) in
+-- a draft with a line more, by what its tests say
+extended : (form : Form) (d : History) (ages : Ages) (tenants : Table) (steps : List Step) (replies : List RecordedReply) (rows : List (Grain × Row)) (l : Line) → IsDraft form d → IsLine form l → body (history_of d.kinds d.age ages tenants steps replies rows) ≡ body d ++ l ∷ [] → length ages ≤ 64 → are_kinds_ascending None ages ≡ true → (tells_kinds form ≡ false → ages ≡ []) → length tenants ≤ 1000 → first_repeat [] (names_of tenants) ≡ None → are_ascending None rows ≡ true → (tenants ≡ [] → (steps ≡ []) × (replies ≡ []) × (rows ≡ [])) → Extends form d (history_of d.kinds d.age ages tenants steps replies rows) l
+extended form d ages tenants steps replies rows l is also more few_ages ages_ascending untold few distinct ascending first =
+    let e : History = history_of d.kinds d.age ages tenants steps replies rows in
+    let lines = more_lines (start_lines form d.kinds d.age) (body d) (body e) l more in
     record {
       is_draft = record {
         kinds = is.kinds;
-        few_ages = omega (arith, length-push ages entry, room);
-        ages_ascending = kinds_ascending-push None ages entry is.ages_ascending after;
-        untold = λ untold. absurd (true≢false (sym also.0 ∙ untold));
-        few = is.few;
-        distinct = is.distinct;
-        ascending = is.ascending;
-        tenants_first = is.tenants_first;
-        lines = more_are form d e (kind_line entry) is also lines;
-      };
-      lines = lines;
-    }
-
--- a draft with a line behind the ages of kinds
-behind_ages : (form : Form) (kinds age : ℕ) (ages : Ages) (tenants others : Table) (steps more_steps : List Step) (replies more_replies : List RecordedReply) (rows more_rows : List (Grain × Row)) (l : Line) → IsDraft form (history_of kinds age ages tenants steps replies rows) → IsLine form l → body (history_of kinds age ages others more_steps more_replies more_rows) ≡ body (history_of kinds age ages tenants steps replies rows) ++ l ∷ [] → length others ≤ 1000 → first_repeat [] (names_of others) ≡ None → are_ascending None more_rows ≡ true → (others ≡ [] → (more_steps ≡ []) × (more_replies ≡ []) × (more_rows ≡ [])) → Extends form (history_of kinds age ages tenants steps replies rows) (history_of kinds age ages others more_steps more_replies more_rows) l
-behind_ages form kinds age ages tenants others steps more_steps replies more_replies rows more_rows l is also more few distinct ascending first =
-    let d : History = history_of kinds age ages tenants steps replies rows in
-    let e : History = history_of kinds age ages others more_steps more_replies more_rows in
-    let lines = more_lines (start_lines form kinds age) (body d) (body e) l more in
-    record {
-      is_draft = record {
-        kinds = is.kinds;
-        few_ages = is.few_ages;
-        ages_ascending = is.ages_ascending;
-        untold = is.untold;
+        few_ages = few_ages;
+        ages_ascending = ages_ascending;
+        untold = λ none. ((is.untold none).0, untold none);
         few = few;
         distinct = distinct;
         ascending = ascending;
@@ -199,13 +175,26 @@ behind_ages form kinds age ages tenants others steps more_steps replies more_rep
       lines = lines;
     }
 
+kind_added : (form : Form) (kinds age : ℕ) (ages : Ages) (entry : List ℕ × ℕ) → IsDraft form (history_of kinds age ages [] [] [] []) → IsLine form (kind_line entry) → length ages < 64 → kind_after (last_key None ages) entry.0 ≡ true → Extends form (history_of kinds age ages [] [] [] []) (history_of kinds age (ages ++ entry ∷ []) [] [] [] []) (kind_line entry)
+kind_added form kinds age ages entry is also room after =
+    extended form (history_of kinds age ages [] [] [] []) (ages ++ entry ∷ []) [] [] [] [] (kind_line entry) is also (kind_body kinds age ages entry)
+    (omega (arith, length-push ages entry, room))
+    (kinds_ascending-push None ages entry is.ages_ascending after)
+    (λ untold. absurd (true≢false (sym also.0 ∙ untold)))
+    is.few is.distinct is.ascending is.tenants_first
+
 module _ (form : Form) (kinds age : ℕ) (ages : Ages) (tenants : Table) (steps : List Step) (replies : List RecordedReply) (rows : List (Grain × Row)) (is : IsDraft form (history_of kinds age ages tenants steps replies rows)) where
   abbrev before : History
   before = history_of kinds age ages tenants steps replies rows
 
+  -- with a line behind the ages of kinds
+  behind_ages : (others : Table) (more_steps : List Step) (more_replies : List RecordedReply) (more_rows : List (Grain × Row)) (l : Line) → IsLine form l → body (history_of kinds age ages others more_steps more_replies more_rows) ≡ body before ++ l ∷ [] → length others ≤ 1000 → first_repeat [] (names_of others) ≡ None → are_ascending None more_rows ≡ true → (others ≡ [] → (more_steps ≡ []) × (more_replies ≡ []) × (more_rows ≡ [])) → Extends form before (history_of kinds age ages others more_steps more_replies more_rows) l
+  behind_ages others more_steps more_replies more_rows l also more few distinct ascending first =
+      extended form before ages others more_steps more_replies more_rows l is also more is.few_ages is.ages_ascending (λ none. (is.untold none).1) few distinct ascending first
+
   tenant_added : (entry : List ℕ × Limits) → IsLine form (tenant_line entry) → TenantFits tenants steps replies rows entry.0 → Extends form before (history_of kinds age ages (tenants ++ entry ∷ []) steps replies rows) (tenant_line entry)
   tenant_added entry also fits =
-      behind_ages form kinds age ages tenants (tenants ++ entry ∷ []) steps steps replies replies rows rows (tenant_line entry) is also
+      behind_ages (tenants ++ entry ∷ []) steps replies rows (tenant_line entry) also
       (rw (fits.no_steps, fits.no_replies, fits.no_rows) (tenant_body kinds age ages tenants entry))
       (omega (arith, length-push tenants entry, fits.room))
       (ap (first_repeat []) (names_of-push tenants entry) ∙ first_repeat-push [] (names_of tenants) entry.0 is.distinct fits.new)
@@ -218,7 +207,7 @@ module _ (form : Form) (kinds age : ℕ) (ages : Ages) (tenants : Table) (steps 
       let front = first_so (some && is_empty replies) (is_empty rows) fits in
       let no_replies : replies ≡ [] = none_of replies (second_so some (is_empty replies) front) in
       let no_rows : rows ≡ [] = none_of rows (second_so (some && is_empty replies) (is_empty rows) fits) in
-      behind_ages form kinds age ages tenants tenants steps (steps ++ s ∷ []) replies replies rows rows (line.Step s) is also
+      behind_ages tenants (steps ++ s ∷ []) replies rows (line.Step s) also
       (rw (no_replies, no_rows) (step_body kinds age ages tenants steps s))
       is.few is.distinct is.ascending
       (λ e. absurd (some_tenant tenants (first_so some (is_empty replies) front) e))
@@ -227,7 +216,7 @@ module _ (form : Form) (kinds age : ℕ) (ages : Ages) (tenants : Table) (steps 
   reply_added reply also fits =
       let some = not (is_empty tenants) in
       let no_rows : rows ≡ [] = none_of rows (second_so some (is_empty rows) fits) in
-      behind_ages form kinds age ages tenants tenants steps steps replies (replies ++ reply ∷ []) rows rows (line.Reply reply) is also
+      behind_ages tenants steps (replies ++ reply ∷ []) rows (line.Reply reply) also
       (rw no_rows (reply_body kinds age ages tenants steps replies reply))
       is.few is.distinct is.ascending
       (λ e. absurd (some_tenant tenants (first_so some (is_empty rows) fits) e))
@@ -235,8 +224,8 @@ module _ (form : Form) (kinds age : ℕ) (ages : Ages) (tenants : Table) (steps 
   row_added : (row : Grain × Row) → IsLine form (row_line row) → row_fits before row.0 ≡ true → Extends form before (history_of kinds age ages tenants steps replies (rows ++ row ∷ [])) (row_line row)
   row_added row also fits =
       let some = not (is_empty tenants) in
-      let after = comes_after (last_grain None rows) row.0 in
-      behind_ages form kinds age ages tenants tenants steps steps replies replies rows (rows ++ row ∷ []) (row_line row) is also
+      let after = comes_after (last_key None rows) row.0 in
+      behind_ages tenants steps replies (rows ++ row ∷ []) (row_line row) also
       (row_body kinds age ages tenants steps replies rows row)
       is.few is.distinct
       (ascending-push None rows row is.ascending (second_so some after fits))
@@ -248,24 +237,24 @@ module _ (form : Form) (kinds age : ℕ) (ages : Ages) (tenants : Table) (steps 
       let empty_is : IsDraft form (history_of kinds age ages [] [] [] []) = subst (IsDraft form) (λ i. history_of kinds age ages (fits.no_tenants i) (none.0 i) (none.1 i) (none.2 i)) is in
       rw (fits.no_tenants, none.0, none.1, none.2) (kind_added form kinds age ages entry empty_is also fits.room fits.after)
 
+-- what a test lets through
+let_through : (form : Form) (d e f : History) (l : Line) (b : Bool) → only_if b f ≡ Some e → (b ≡ true → Extends form d f l) → Extends form d e l
+let_through form d e f l true taken extends = subst (λ g. Extends form d g l) (same_Some f e taken) (extends refl)
+let_through form d e f l false taken extends = absurd cc
+
 -- a line that is added extends the draft
 pub added_extends : (form : Form) (d e : History) (l : Line) → IsDraft form d → IsLine form l → added d l ≡ Some e → Extends form d e l
 unfolding added
 added_extends form d e (line.Kind kind age) is also taken =
-    let only = only_some (kind_fits d kind) (history_of d.kinds d.age (d.ages ++ (kind, age) ∷ []) d.tenants d.steps d.replies d.rows) e taken in
-    subst (λ f. Extends form d f (line.Kind kind age)) only.1 (kind_extends form d.kinds d.age d.ages d.tenants d.steps d.replies d.rows is (kind, age) also (kind_test d kind only.0))
+    let_through form d e _ (line.Kind kind age) (kind_fits d kind) taken (λ fits. kind_extends form d.kinds d.age d.ages d.tenants d.steps d.replies d.rows is (kind, age) also (kind_test d kind fits))
 added_extends form d e (line.Tenant tenant limits) is also taken =
-    let only = only_some (tenant_fits d tenant) (history_of d.kinds d.age d.ages (d.tenants ++ (tenant, limits) ∷ []) d.steps d.replies d.rows) e taken in
-    subst (λ f. Extends form d f (line.Tenant tenant limits)) only.1 (tenant_added form d.kinds d.age d.ages d.tenants d.steps d.replies d.rows is (tenant, limits) also (tenant_test d tenant only.0))
+    let_through form d e _ (line.Tenant tenant limits) (tenant_fits d tenant) taken (λ fits. tenant_added form d.kinds d.age d.ages d.tenants d.steps d.replies d.rows is (tenant, limits) also (tenant_test d tenant fits))
 added_extends form d e (line.Step s) is also taken =
-    let only = only_some (step_fits d) (history_of d.kinds d.age d.ages d.tenants (d.steps ++ s ∷ []) d.replies d.rows) e taken in
-    subst (λ f. Extends form d f (line.Step s)) only.1 (step_added form d.kinds d.age d.ages d.tenants d.steps d.replies d.rows is s also only.0)
+    let_through form d e _ (line.Step s) (step_fits d) taken (step_added form d.kinds d.age d.ages d.tenants d.steps d.replies d.rows is s also)
 added_extends form d e (line.Reply reply) is also taken =
-    let only = only_some (reply_fits d) (history_of d.kinds d.age d.ages d.tenants d.steps (d.replies ++ reply ∷ []) d.rows) e taken in
-    subst (λ f. Extends form d f (line.Reply reply)) only.1 (reply_added form d.kinds d.age d.ages d.tenants d.steps d.replies d.rows is reply also only.0)
+    let_through form d e _ (line.Reply reply) (reply_fits d) taken (reply_added form d.kinds d.age d.ages d.tenants d.steps d.replies d.rows is reply also)
 added_extends form d e (line.Row grain row) is also taken =
-    let only = only_some (row_fits d grain) (history_of d.kinds d.age d.ages d.tenants d.steps d.replies (d.rows ++ (grain, row) ∷ [])) e taken in
-    subst (λ f. Extends form d f (line.Row grain row)) only.1 (row_added form d.kinds d.age d.ages d.tenants d.steps d.replies d.rows is (grain, row) also only.0)
+    let_through form d e _ (line.Row grain row) (row_fits d grain) taken (row_added form d.kinds d.age d.ages d.tenants d.steps d.replies d.rows is (grain, row) also)
 added_extends form d e line.Head is also taken = cc
 added_extends form d e (line.Kinds kinds) is also taken = cc
 added_extends form d e (line.Age age) is also taken = cc

@@ -14,6 +14,7 @@ use Rattle.journal_text.specs.RecordedFault.{is_text_byte}
 use Rattle.journal_text.specs.Text.{line_text}
 use Rattle.journal_text.specs.Rules.{IsLine}
 use Rattle.journal_text.specs.inside.Answers.{HasNoBreak}
+use Rattle.journal_text.proofs.Cuts.{pass_weaker}
 use Rattle.journal_text.proofs.LinesBack.{line_back}
 use Rattle.journal_text.proofs.LinesCut.{first_cut}
 
@@ -32,14 +33,10 @@ plain_byte : (b : ℕ) → is_text_byte b ≡ true → is_no_break b ≡ true
 unfolding is_no_break
 plain_byte b is = grind (arith, is)
 
-plain_breaks_nowhere : (xs : List ℕ) → list_all is_text_byte xs ≡ true → list_all is_no_break xs ≡ true
-plain_breaks_nowhere [] all = refl
-plain_breaks_nowhere (x ∷ xs) all = and_from (is_no_break x) (list_all is_no_break xs) (plain_byte x (first_so (is_text_byte x) (list_all is_text_byte xs) all)) (plain_breaks_nowhere xs (second_so (is_text_byte x) (list_all is_text_byte xs) all))
-
 -- a text without LF that is cut where one of visible ASCII and spaces is
 pub same_cut : (xs us ys vs : List ℕ) → HasNoBreak xs → list_all is_text_byte us ≡ true → xs ++ 10 ∷ ys ≡ us ++ 10 ∷ vs → xs ≡ us
 unfolding is_no_break
-same_cut xs us ys vs none plain same = (first_cut is_no_break refl xs us ys vs (breaks_nowhere xs none) (plain_breaks_nowhere us plain) same).0
+same_cut xs us ys vs none plain same = (first_cut is_no_break refl xs us ys vs (breaks_nowhere xs none) (pass_weaker is_text_byte is_no_break plain_byte us plain) same).0
 
 there : (xs ys : List ℕ) → slice_index (xs ++ 10 ∷ ys) (length xs) ≡ 10
 there [] ys = refl

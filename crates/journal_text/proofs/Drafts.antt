@@ -19,7 +19,7 @@ use Rattle.journal_text.specs.declared.line.Line.TheVariants as line
 use Rattle.journal_text.specs.Text.{History, history_of, kind_line, tenant_line, row_line, body}
 use Rattle.journal_text.specs.Rules.{comes_after, are_ascending}
 use Rattle.journal_text.specs.inside.Candidates.{only_if}
-use Rattle.journal_text.specs.inside.Draft.{IsDraft, kind_after, are_kinds_ascending, is_empty, has_tenant, last_kind, last_grain, close_fits, added}
+use Rattle.journal_text.specs.inside.Draft.{IsDraft, kind_after, are_kinds_ascending, is_empty, has_tenant, last_key, close_fits, added}
 
 -- a draft in which only the first lines are read
 abbrev pub empty : ℕ → ℕ → History
@@ -44,19 +44,19 @@ pub has_tenant-names : (tenants : Table) (name : List ℕ) → has_tenant tenant
 has_tenant-names [] name = refl
 has_tenant-names (entry ∷ tenants) name = ap (λ b. same_text name entry.0 || b) (has_tenant-names tenants name)
 
-pub last_kind-push : (before : Option (List ℕ)) (ages : Ages) (entry : List ℕ × ℕ) → last_kind before (ages ++ entry ∷ []) ≡ Some entry.0
-last_kind-push before [] entry = refl
-last_kind-push before (e ∷ ages) entry = last_kind-push (Some e.0) ages entry
+pub last_key-push : {K X : Type 0} (before : Option K) (entries : List (K × X)) (entry : K × X) → last_key before (entries ++ entry ∷ []) ≡ Some entry.0
+last_key-push before [] entry = refl
+last_key-push before (e ∷ entries) entry = last_key-push (Some e.0) entries entry
 
-ages_completed : (kinds age : ℕ) (before after : Ages) (rest : List Line) → length before + length after ≤ 64 → are_kinds_ascending (last_kind None before) after ≡ true → completed (history_of kinds age before [] [] [] []) (map kind_line after ++ rest) ≡ completed (history_of kinds age (before ++ after) [] [] [] []) rest
+ages_completed : (kinds age : ℕ) (before after : Ages) (rest : List Line) → length before + length after ≤ 64 → are_kinds_ascending (last_key None before) after ≡ true → completed (history_of kinds age before [] [] [] []) (map kind_line after ++ rest) ≡ completed (history_of kinds age (before ++ after) [] [] [] []) rest
 unfolding completed added
 ages_completed kinds age before [] rest few ascending = ap (λ t. completed (history_of kinds age t [] [] [] []) rest) (sym (append-nil before))
 ages_completed kinds age before (entry ∷ after) rest few ascending =
-    let here = first_so (kind_after (last_kind None before) entry.0) (are_kinds_ascending (Some entry.0) after) ascending in
-    let behind = second_so (kind_after (last_kind None before) entry.0) (are_kinds_ascending (Some entry.0) after) ascending in
+    let here = first_so (kind_after (last_key None before) entry.0) (are_kinds_ascending (Some entry.0) after) ascending in
+    let behind = second_so (kind_after (last_key None before) entry.0) (are_kinds_ascending (Some entry.0) after) ascending in
     let room : ltb (length before) 64 ≡ true = lt-ltb (length before) 64 (omega (arith, few)) in
-    let fits = and_from (ltb (length before) 64) (kind_after (last_kind None before) entry.0) room here in
-    let still : are_kinds_ascending (last_kind None (before ++ entry ∷ [])) after ≡ true = ap (λ last. are_kinds_ascending last after) (last_kind-push None before entry) ∙ behind in
+    let fits = and_from (ltb (length before) 64) (kind_after (last_key None before) entry.0) room here in
+    let still : are_kinds_ascending (last_key None (before ++ entry ∷ [])) after ≡ true = ap (λ last. are_kinds_ascending last after) (last_key-push None before entry) ∙ behind in
     ap (λ b. option_and_then (λ e. completed e (map kind_line after ++ rest)) (only_if b (history_of kinds age (before ++ entry ∷ []) [] [] [] []))) fits
     ∙ ages_completed kinds age (before ++ entry ∷ []) after rest (omega (arith, few, length-push before entry)) still
     ∙ ap (λ t. completed (history_of kinds age t [] [] [] []) rest) (append_assoc before (entry ∷ []) after)
@@ -88,17 +88,13 @@ replies_completed kinds age ages first others steps before (reply ∷ after) res
     replies_completed kinds age ages first others steps (before ++ reply ∷ []) after rest
     ∙ ap (λ t. completed (history_of kinds age ages (first ∷ others) steps t []) rest) (append_assoc before (reply ∷ []) after)
 
-pub last_grain-push : (before : Option Grain) (rows : List (Grain × Row)) (row : Grain × Row) → last_grain before (rows ++ row ∷ []) ≡ Some row.0
-last_grain-push before [] row = refl
-last_grain-push before (r ∷ rows) row = last_grain-push (Some r.0) rows row
-
-rows_completed : (kinds age : ℕ) (ages : Ages) (first : List ℕ × Limits) (others : Table) (steps : List Step) (replies : List RecordedReply) (before after : List (Grain × Row)) (rest : List Line) → are_ascending (last_grain None before) after ≡ true → completed (history_of kinds age ages (first ∷ others) steps replies before) (map row_line after ++ rest) ≡ completed (history_of kinds age ages (first ∷ others) steps replies (before ++ after)) rest
+rows_completed : (kinds age : ℕ) (ages : Ages) (first : List ℕ × Limits) (others : Table) (steps : List Step) (replies : List RecordedReply) (before after : List (Grain × Row)) (rest : List Line) → are_ascending (last_key None before) after ≡ true → completed (history_of kinds age ages (first ∷ others) steps replies before) (map row_line after ++ rest) ≡ completed (history_of kinds age ages (first ∷ others) steps replies (before ++ after)) rest
 unfolding completed added
 rows_completed kinds age ages first others steps replies before [] rest ascending = ap (λ t. completed (history_of kinds age ages (first ∷ others) steps replies t) rest) (sym (append-nil before))
 rows_completed kinds age ages first others steps replies before (row ∷ after) rest ascending =
-    let here = first_so (comes_after (last_grain None before) row.0) (are_ascending (Some row.0) after) ascending in
-    let behind = second_so (comes_after (last_grain None before) row.0) (are_ascending (Some row.0) after) ascending in
-    let still : are_ascending (last_grain None (before ++ row ∷ [])) after ≡ true = ap (λ last. are_ascending last after) (last_grain-push None before row) ∙ behind in
+    let here = first_so (comes_after (last_key None before) row.0) (are_ascending (Some row.0) after) ascending in
+    let behind = second_so (comes_after (last_key None before) row.0) (are_ascending (Some row.0) after) ascending in
+    let still : are_ascending (last_key None (before ++ row ∷ [])) after ≡ true = ap (λ last. are_ascending last after) (last_key-push None before row) ∙ behind in
     ap (λ b. option_and_then (λ e. completed e (map row_line after ++ rest)) (only_if b (history_of kinds age ages (first ∷ others) steps replies (before ++ row ∷ [])))) here
     ∙ rows_completed kinds age ages first others steps replies (before ++ row ∷ []) after rest still
     ∙ ap (λ t. completed (history_of kinds age ages (first ∷ others) steps replies t) rest) (append_assoc before (row ∷ []) after)
@@ -132,20 +128,11 @@ body_completed form d is rest = parts_completed d.kinds d.age d.ages d.tenants d
 
 -- ---- what the tests of a draft see
 
-second_on : (r s : Grain × Row) (rows : List (Grain × Row)) (d : Grain × Row) → get_or (r ∷ s ∷ rows) (length (r ∷ s ∷ rows) - 1) d ≡ get_or (s ∷ rows) (length (s ∷ rows) - 1) d
-second_on r s rows d = grind arith
+second_on : {E : Type 0} (e f : E) (entries : List E) (d : E) → get_or (e ∷ f ∷ entries) (length (e ∷ f ∷ entries) - 1) d ≡ get_or (f ∷ entries) (length (f ∷ entries) - 1) d
+second_on e f entries d = grind arith
 
--- the last of some rows
-pub last_grain-last : (before : Option Grain) (rows : List (Grain × Row)) (last d : Grain × Row) → 0 < length rows → get_or rows (length rows - 1) d ≡ last → last_grain before rows ≡ Some last.0
-last_grain-last before [] last d some at = absurd (omega arith)
-last_grain-last before (r ∷ []) last d some at = ap (λ row. Some row.0) at
-last_grain-last before (r ∷ s ∷ rows) last d some at = last_grain-last (Some r.0) (s ∷ rows) last d (omega arith) (sym (second_on r s rows d) ∙ at)
-
-kind_second_on : (e f : List ℕ × ℕ) (ages : Ages) (d : List ℕ × ℕ) → get_or (e ∷ f ∷ ages) (length (e ∷ f ∷ ages) - 1) d ≡ get_or (f ∷ ages) (length (f ∷ ages) - 1) d
-kind_second_on e f ages d = grind arith
-
--- the last of some kinds
-pub last_kind-last : (before : Option (List ℕ)) (ages : Ages) (last d : List ℕ × ℕ) → 0 < length ages → get_or ages (length ages - 1) d ≡ last → last_kind before ages ≡ Some last.0
-last_kind-last before [] last d some at = absurd (omega arith)
-last_kind-last before (e ∷ []) last d some at = ap (λ entry. Some entry.0) at
-last_kind-last before (e ∷ f ∷ ages) last d some at = last_kind-last (Some e.0) (f ∷ ages) last d (omega arith) (sym (kind_second_on e f ages d) ∙ at)
+-- the last of some keys
+pub last_key-last : {K X : Type 0} (before : Option K) (entries : List (K × X)) (last d : K × X) → 0 < length entries → get_or entries (length entries - 1) d ≡ last → last_key before entries ≡ Some last.0
+last_key-last before [] last d some at = absurd (omega arith)
+last_key-last before (e ∷ []) last d some at = ap (λ entry. Some entry.0) at
+last_key-last before (e ∷ f ∷ entries) last d some at = last_key-last (Some e.0) (f ∷ entries) last d (omega arith) (sym (second_on e f entries d) ∙ at)

@@ -6,6 +6,7 @@ use Rattle.std.proofs.lemmas.Bool.{cases_lt}
 use Rattle.std.proofs.lemmas.List.{append_assoc, append-nil, take-append-drop, length-append, length-map, length-take}
 use Rattle.std.proofs.lemmas.List.Elements.{All-head}
 use Rattle.std.proofs.Math.Bool.{and-false}
+use Rattle.finite_maps.proofs.Lists.{same_head}
 use Rattle.finite_maps.proofs.Options.{some_none}
 use Rattle.journal_text.specs.declared.form.Form.{Form}
 use Rattle.journal_text.specs.declared.line.Line.{Line}
@@ -69,9 +70,6 @@ no_journal form bytes ls rest whole are none no_end j keeps text =
 
 -- ---- the form
 
-same_first : (l m : Line) (ls ms : List Line) → l ∷ ls ≡ m ∷ ms → (l ≡ m) × (ls ≡ ms)
-same_first l m ls ms e = (cc, cc)
-
 -- the byte that names the form
 named : (f g : Form) (xs ys : List ℕ) → line_text f line.Head ++ 10 ∷ xs ≡ line_text g line.Head ++ 10 ∷ ys → get_or (line_text f line.Head ++ 10 ∷ xs) 13 0 ≡ get_or (line_text g line.Head ++ 10 ∷ ys) 13 0
 named f g xs ys same = ap (λ t. get_or t 13 0) same
@@ -124,7 +122,7 @@ text_head form bytes j text = journal_head form bytes j [] (text ∙ sym (append
 lines_head : (form : Form) (bytes : List ℕ) (n : ℕ) (ls : List Line) (rest : List ℕ) → bytes ≡ lines_text form ls ++ rest → length ls ≡ n + 1 → BeginJournal form ls → HasHead form bytes
 lines_head form bytes n [] rest whole counted begin = absurd (omega (arith, counted))
 lines_head form bytes n (l ∷ ls) rest whole counted begin =
-    let first : line.Head ≡ l = (same_first line.Head l (behind_head form begin.journal) (ls ++ begin.behind) (sym (first_lines form begin.journal) ∙ begin.are_first)).0 in
+    let first : line.Head ≡ l = same_head line.Head l (behind_head form begin.journal) (ls ++ begin.behind) (sym (first_lines form begin.journal) ∙ begin.are_first) in
     has_head form bytes ls rest (whole ∙ ap (λ k. lines_text form (k ∷ ls) ++ rest) (sym first))
 
 -- one line and more that fit have the head
@@ -155,6 +153,10 @@ closed_completed : (form : Form) (j : History) → KeepsRulesIn form j → compl
 unfolding completed
 closed_completed form j keeps = only_so (not (is_empty j.tenants) && (length j.steps == length j.steps) && true) j (rw (has_tenants form j keeps, eq-eqb (length j.steps) (length j.steps) refl) refl)
 
+-- the first lines of a journal, and those behind them
+start_first : (form : Form) (j : History) → journal_lines form j ≡ start_lines form j.kinds j.age ++ (body j ++ line.Close (length j.steps) ∷ [])
+start_first form j = closed_lines form j ∙ append_assoc (start_lines form j.kinds j.age) (body j) (line.Close (length j.steps) ∷ [])
+
 -- What the same lines say that begin with the first ones.
 record SameStart (m n a b : ℕ) (xs ys : List Line) : Type 0 where
   kinds : m ≡ n
@@ -170,8 +172,7 @@ same_start forms.Third m n a b xs ys untold e = record { kinds = cc; age = cc; b
 pub journal_completed : (form : Form) (j d : History) (lines : List Line) → KeepsRulesIn form j → IsDraft form d → journal_lines form j ≡ lines_so_far form d ++ lines → completed d lines ≡ Some j
 journal_completed form j d lines keeps is same =
     let close : List Line = line.Close (length j.steps) ∷ [] in
-    let whole : start_lines form j.kinds j.age ++ (body j ++ close) ≡ start_lines form d.kinds d.age ++ (body d ++ lines) =
-    sym (append_assoc (start_lines form j.kinds j.age) (body j) close) ∙ sym (closed_lines form j) ∙ same ∙ append_assoc (start_lines form d.kinds d.age) (body d) lines in
+    let whole = sym (start_first form j) ∙ same ∙ append_assoc (start_lines form d.kinds d.age) (body d) lines in
     let parts = same_start form j.kinds d.kinds j.age d.age (body j ++ close) (body d ++ lines) (λ untold. (keeps.untold untold).0 ∙ sym (is.untold untold).0) whole in
     let along : completed (empty j.kinds j.age) (body j ++ close) ≡ completed (empty d.kinds d.age) (body d ++ lines) = (λ i. completed (empty (parts.kinds i) (parts.age i)) (parts.behind i)) in
     sym (body_completed form d is lines) ∙ sym along ∙ body_completed form j (journal_is_draft form j keeps) close ∙ closed_completed form j keeps
@@ -275,14 +276,7 @@ fault_without_line form bytes d rest whole is small none =
 not_added : (d : History) (m : Line) → ((steps : ℕ) → m ≡ line.Close steps → ⊥) → added d m ≡ None → (more : List Line) → completed d (m ∷ more) ≡ None
 unfolding completed
 not_added d (line.Close steps) apart none more = absurd (apart steps refl)
-not_added d line.Head apart none more = ap (option_and_then (λ e. completed e more)) none
-not_added d (line.Kinds kinds) apart none more = ap (option_and_then (λ e. completed e more)) none
-not_added d (line.Kind kind age) apart none more = ap (option_and_then (λ e. completed e more)) none
-not_added d (line.Age age) apart none more = ap (option_and_then (λ e. completed e more)) none
-not_added d (line.Tenant tenant limits) apart none more = ap (option_and_then (λ e. completed e more)) none
-not_added d (line.Step s) apart none more = ap (option_and_then (λ e. completed e more)) none
-not_added d (line.Reply reply) apart none more = ap (option_and_then (λ e. completed e more)) none
-not_added d (line.Row grain row) apart none more = ap (option_and_then (λ e. completed e more)) none
+not_added d m apart none more = ap (option_and_then (λ e. completed e more)) none
 
 -- a line that isn't added is at fault behind a draft
 pub fault_not_added : (form : Form) (bytes : List ℕ) (d : History) (m : Line) (rest behind : List ℕ) → bytes ≡ lines_text form (lines_so_far form d) ++ rest → IsDraft form d → length (lines_so_far form d) < 2 ^ 64 → IsLine form m → rest ≡ line_text form m ++ 10 ∷ behind → ((steps : ℕ) → m ≡ line.Close steps → ⊥) → added d m ≡ None → IsFirstFault bytes (length (lines_so_far form d) + 1)
@@ -298,9 +292,6 @@ one_kinds form = ((lit≤ tt, lit≤ tt), λ untold. refl)
 start_begins : (form : Form) (kinds : ℕ) → AreKinds form kinds → BeginJournal form (start_lines form kinds 1)
 start_begins form kinds are = begin_front form (start_lines form kinds 1) [] (draft_begins form (empty kinds 1) (empty_is_draft form kinds 1 are (lit≤ tt, lit≤ tt)) (lit< tt))
 
-no_lines : (l : Line) (ls : List Line) → l ∷ ls ≡ [] → ⊥
-no_lines l ls e = cc
-
 -- bytes that begin with no head
 pub fault_without_head : (bytes : List ℕ) → BeginsWithHead bytes None → IsFirstFault bytes 1
 fault_without_head bytes none = record {
@@ -312,35 +303,27 @@ fault_without_head bytes none = record {
 }
 
 -- which logic the kinds have stands behind the head, in a form that tells it
-kinds_next : (form : Form) (j : History) (l : Line) (more : List Line) → tells_kinds form ≡ true → journal_lines form j ≡ line.Head ∷ l ∷ more → line.Kinds j.kinds ≡ l
-kinds_next forms.First j l more tells lines = absurd (true≢false (sym tells))
-kinds_next forms.Second j l more tells lines = (same_first (line.Kinds j.kinds) l _ more (same_first line.Head line.Head _ _ (sym (first_lines forms.Second j) ∙ lines)).1).0
-kinds_next forms.Third j l more tells lines = (same_first (line.Kinds j.kinds) l _ more (same_first line.Head line.Head _ _ (sym (first_lines forms.Third j) ∙ lines)).1).0
+kinds_next : (form : Form) (m a : ℕ) (xs more : List Line) (l : Line) → tells_kinds form ≡ true → start_lines form m a ++ xs ≡ line.Head ∷ l ∷ more → line.Kinds m ≡ l
+kinds_next forms.First m a xs more l tells e = absurd (true≢false (sym tells))
+kinds_next forms.Second m a xs more l tells e = cc
+kinds_next forms.Third m a xs more l tells e = cc
 
 -- the age stands behind the head, or behind the logic
-age_next : (form : Form) (kinds : ℕ) (j : History) (l : Line) (more : List Line) → journal_lines form j ≡ line.Head ∷ kinds_lines form kinds ++ l ∷ more → line.Age j.age ≡ l
-age_next forms.First kinds j l more lines = (same_first (line.Age j.age) l _ more (same_first line.Head line.Head _ _ (sym (first_lines forms.First j) ∙ lines)).1).0
-age_next forms.Second kinds j l more lines =
-    let behind = (same_first line.Head line.Head _ _ (sym (first_lines forms.Second j) ∙ lines)).1 in
-    (same_first (line.Age j.age) l _ more (same_first (line.Kinds j.kinds) (line.Kinds kinds) _ (l ∷ more) behind).1).0
-age_next forms.Third kinds j l more lines =
-    let behind = (same_first line.Head line.Head _ _ (sym (first_lines forms.Third j) ∙ lines)).1 in
-    (same_first (line.Age j.age) l _ more (same_first (line.Kinds j.kinds) (line.Kinds kinds) _ (l ∷ more) behind).1).0
+age_next : (form : Form) (m n a : ℕ) (xs more : List Line) (l : Line) → start_lines form m a ++ xs ≡ line.Head ∷ kinds_lines form n ++ l ∷ more → line.Age a ≡ l
+age_next forms.First m n a xs more l e = cc
+age_next forms.Second m n a xs more l e = cc
+age_next forms.Third m n a xs more l e = cc
 
 -- a journal has more lines than these
-not_whole : (form : Form) (kinds : ℕ) (j : History) → journal_lines form j ≡ line.Head ∷ kinds_lines form kinds → ⊥
-not_whole forms.First kinds j lines = no_lines (line.Age j.age) _ (same_first line.Head line.Head _ _ (sym (first_lines forms.First j) ∙ lines)).1
-not_whole forms.Second kinds j lines =
-    let behind = (same_first line.Head line.Head _ _ (sym (first_lines forms.Second j) ∙ lines)).1 in
-    no_lines (line.Age j.age) _ (same_first (line.Kinds j.kinds) (line.Kinds kinds) _ [] behind).1
-not_whole forms.Third kinds j lines =
-    let behind = (same_first line.Head line.Head _ _ (sym (first_lines forms.Third j) ∙ lines)).1 in
-    no_lines (line.Age j.age) _ (same_first (line.Kinds j.kinds) (line.Kinds kinds) _ [] behind).1
+not_whole : (form : Form) (m n a : ℕ) (xs : List Line) → start_lines form m a ++ xs ≡ line.Head ∷ kinds_lines form n → ⊥
+not_whole forms.First m n a xs e = absurd cc
+not_whole forms.Second m n a xs e = absurd cc
+not_whole forms.Third m n a xs e = absurd cc
 
-head_alone : (form : Form) (j : History) → journal_lines form j ≡ line.Head ∷ [] → ⊥
-head_alone forms.First j lines = no_lines (line.Age j.age) _ (same_first line.Head line.Head _ _ (sym (first_lines forms.First j) ∙ lines)).1
-head_alone forms.Second j lines = no_lines (line.Kinds j.kinds) _ (same_first line.Head line.Head _ _ (sym (first_lines forms.Second j) ∙ lines)).1
-head_alone forms.Third j lines = no_lines (line.Kinds j.kinds) _ (same_first line.Head line.Head _ _ (sym (first_lines forms.Third j) ∙ lines)).1
+head_alone : (form : Form) (m a : ℕ) (xs : List Line) → start_lines form m a ++ xs ≡ line.Head ∷ [] → ⊥
+head_alone forms.First m a xs e = absurd cc
+head_alone forms.Second m a xs e = absurd cc
+head_alone forms.Third m a xs e = absurd cc
 
 -- bytes that don't tell behind the head which logic the kinds have
 pub fault_without_kinds : (form : Form) (bytes rest : List ℕ) → bytes ≡ line_text form line.Head ++ 10 ∷ rest → tells_kinds form ≡ true → BeginsWithKinds form rest None → IsFirstFault bytes 2
@@ -348,9 +331,9 @@ fault_without_kinds form bytes rest whole tells none =
     fault_behind form bytes (line.Head ∷ []) rest (record { behind = rest; is = whole }) (whole ∙ sym (lines_cons form line.Head [] rest))
     (begin_front form (line.Head ∷ []) (kinds_lines form 1 ++ line.Age 1 ∷ []) (start_begins form 1 (one_kinds form)))
     (λ j l more behind keeps is same lines.
-    (let second : line.Kinds j.kinds ≡ l = kinds_next form j l more tells lines in
+    (let second : line.Kinds j.kinds ≡ l = kinds_next form j.kinds j.age _ more l tells (sym (start_first form j) ∙ lines) in
     none j.kinds behind keeps.kinds (same ∙ ap (λ k. line_text form k ++ 10 ∷ behind) (sym second))))
-    (λ j keeps lines end. head_alone form j lines)
+    (λ j keeps lines end. head_alone form j.kinds j.age _ (sym (start_first form j) ∙ lines))
 
 -- bytes that don't tell an age behind that
 pub fault_without_age : (form : Form) (kinds : ℕ) (bytes rest : List ℕ) → AreKinds form kinds → bytes ≡ lines_text form (line.Head ∷ kinds_lines form kinds) ++ rest → BeginsWithAge form rest None → IsFirstFault bytes (length (kinds_lines form kinds) + 2)
@@ -360,9 +343,9 @@ fault_without_age form kinds bytes rest are whole none =
     (fault_behind form bytes (line.Head ∷ kinds_lines form kinds) rest (has_head form bytes (kinds_lines form kinds) rest whole) whole
     (begin_front form (line.Head ∷ kinds_lines form kinds) (line.Age 1 ∷ []) (start_begins form kinds are))
     (λ j l more behind keeps is same lines.
-    (let third : line.Age j.age ≡ l = age_next form kinds j l more lines in
+    (let third : line.Age j.age ≡ l = age_next form j.kinds kinds j.age _ more l (sym (start_first form j) ∙ lines) in
     none j.age behind (subst (IsLine form) (sym third) is) (same ∙ ap (λ k. line_text form k ++ 10 ∷ behind) (sym third))))
-    (λ j keeps lines end. not_whole form kinds j lines))
+    (λ j keeps lines end. not_whole form j.kinds kinds j.age _ (sym (start_first form j) ∙ lines)))
 
 -- ---- one first fault
 

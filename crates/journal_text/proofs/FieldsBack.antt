@@ -25,7 +25,7 @@ use Rattle.journal_text.specs.inside.Candidates.{◌>>=◌, ◌⊗◌, only_if, 
 use Rattle.journal_text.specs.Text.{◌␣◌, mark_text, refusal_text, message_text, state_text, content_text}
 use Rattle.journal_text.proofs.Words.{differ}
 use Rattle.journal_text.proofs.Numbers.{wide_of-decimal}
-use Rattle.journal_text.proofs.Cuts.{IsField, IsField-append, cut-field}
+use Rattle.journal_text.proofs.Cuts.{IsField, pass_append, pass_weaker, cut-field}
 
 -- ---- what reading back is
 
@@ -45,16 +45,11 @@ text_byte b is =
     and_from (leb 32 b) (leb b 126) (le-leb 32 b (omega (arith, low))) (second_so (leb 33 b) (leb b 126) is)
 
 pub plain_field : (xs : List ℕ) → IsField xs → list_all is_text_byte xs ≡ true
-plain_field [] all = refl
-plain_field (x ∷ xs) all = and_from (is_text_byte x) (list_all is_text_byte xs) (text_byte x (first_so (is_name_byte x) (list_all is_name_byte xs) all)) (plain_field xs (second_so (is_name_byte x) (list_all is_name_byte xs) all))
-
-plain_append : (xs ys : List ℕ) → list_all is_text_byte xs ≡ true → list_all is_text_byte ys ≡ true → list_all is_text_byte (xs ++ ys) ≡ true
-plain_append [] ys front back = back
-plain_append (x ∷ xs) ys front back = and_from (is_text_byte x) (list_all is_text_byte (xs ++ ys)) (first_so (is_text_byte x) (list_all is_text_byte xs) front) (plain_append xs ys (second_so (is_text_byte x) (list_all is_text_byte xs) front) back)
+plain_field xs all = pass_weaker is_name_byte is_text_byte text_byte xs all
 
 -- a field, a space and what follows
 pub plain_more : (field fields : List ℕ) → IsField field → list_all is_text_byte fields ≡ true → list_all is_text_byte (field ␣ fields) ≡ true
-plain_more field fields whole plain = plain_append field (32 ∷ fields) (plain_field field whole) plain
+plain_more field fields whole plain = pass_append is_text_byte field (32 ∷ fields) (plain_field field whole) plain
 
 pub last : {A : Type 0} {read : List ℕ → Option A} {field : List ℕ} {x : A} → FieldBack read field x → Back read field x
 last {field = field} f = record { plain = plain_field field f.whole; is = f.is }
@@ -83,7 +78,7 @@ last_digit n = omega arith
 
 pub IsField-decimal : (n : ℕ) → n < 2 ^ 64 → IsField (decimal n)
 IsField-decimal n small =
-    decimal_by_steps (λ k ds. IsField ds) one_digit (λ k ds above front. IsField-append ds ((48 + k % 10) ∷ []) front (one_digit (k % 10) (last_digit k))) n small
+    decimal_by_steps (λ k ds. IsField ds) one_digit (λ k ds above front. pass_append is_name_byte ds ((48 + k % 10) ∷ []) front (one_digit (k % 10) (last_digit k))) n small
 
 pub wide : (n : ℕ) → n < 2 ^ 64 → FieldBack wide_of (decimal n) n
 wide n small = record { whole = IsField-decimal n small; is = wide_of-decimal (decimal n) n refl (omega (arith, small)) }
@@ -111,13 +106,9 @@ version n above small =
 word_byte : (b : ℕ) → is_word_byte b ≡ true → is_name_byte b ≡ true
 word_byte b is = grind (arith, is)
 
-word_bytes : (xs : List ℕ) → list_all is_word_byte xs ≡ true → IsField xs
-word_bytes [] all = refl
-word_bytes (x ∷ xs) all = and_from (is_name_byte x) (list_all is_name_byte xs) (word_byte x (first_so (is_word_byte x) (list_all is_word_byte xs) all)) (word_bytes xs (second_so (is_word_byte x) (list_all is_word_byte xs) all))
-
 IsField-word : (word : List ℕ) → is_word word ≡ true → IsField word
 unfolding is_word
-IsField-word word is = word_bytes word (second_so _ (list_all is_word_byte word) is)
+IsField-word word is = pass_weaker is_word_byte is_name_byte word_byte word (second_so _ (list_all is_word_byte word) is)
 
 IsField-name : (name : List ℕ) → is_name name ≡ true → IsField name
 unfolding is_name
@@ -125,13 +116,13 @@ IsField-name name is = second_so _ (list_all is_name_byte name) is
 
 IsField-client : (c : Client) → IsTrue (is_client c) → IsField (client_text c)
 IsField-client c is =
-    IsField-append c.tenant (47 ∷ c.client) (IsField-word c.tenant (first_so (is_word c.tenant) (is_word c.client) is)) (IsField-word c.client (second_so (is_word c.tenant) (is_word c.client) is))
+    pass_append is_name_byte c.tenant (47 ∷ c.client) (IsField-word c.tenant (first_so (is_word c.tenant) (is_word c.client) is)) (IsField-word c.client (second_so (is_word c.tenant) (is_word c.client) is))
 
 IsField-grain : (g : Grain) → IsTrue (is_grain g) → IsField (grain_text g)
 IsField-grain g is =
     let words = first_so (is_word g.kind && is_word g.tenant) (is_name g.name) is in
-    IsField-append g.kind (47 ∷ (g.tenant ++ 58 ∷ g.name)) (IsField-word g.kind (first_so (is_word g.kind) (is_word g.tenant) words))
-    (IsField-append g.tenant (58 ∷ g.name) (IsField-word g.tenant (second_so (is_word g.kind) (is_word g.tenant) words)) (IsField-name g.name (second_so (is_word g.kind && is_word g.tenant) (is_name g.name) is)))
+    pass_append is_name_byte g.kind (47 ∷ (g.tenant ++ 58 ∷ g.name)) (IsField-word g.kind (first_so (is_word g.kind) (is_word g.tenant) words))
+    (pass_append is_name_byte g.tenant (58 ∷ g.name) (IsField-word g.tenant (second_so (is_word g.kind) (is_word g.tenant) words)) (IsField-name g.name (second_so (is_word g.kind && is_word g.tenant) (is_name g.name) is)))
 
 pub word : (t : List ℕ) → IsTrue (is_word t) → FieldBack word_of t t
 word t is = record { whole = IsField-word t is; is = rw is refl }
@@ -160,12 +151,8 @@ refusal form refusals.TooLarge is = record { whole = refl; is = refl }
 digit_byte : (b : ℕ) → is_hex_digit b ≡ true → is_name_byte b ≡ true
 digit_byte b is = grind (arith, is)
 
-digit_bytes : (xs : List ℕ) → list_all is_hex_digit xs ≡ true → IsField xs
-digit_bytes [] all = refl
-digit_bytes (x ∷ xs) all = and_from (is_name_byte x) (list_all is_name_byte xs) (digit_byte x (first_so (is_hex_digit x) (list_all is_hex_digit xs) all)) (digit_bytes xs (second_so (is_hex_digit x) (list_all is_hex_digit xs) all))
-
 IsField-hex : (bytes : List ℕ) → IsBytes bytes → IsField (encode_lower bytes)
-IsField-hex bytes are = digit_bytes (encode_lower bytes) (list_all-from_AllPass is_hex_digit (encode_lower bytes) (decode_of-ok (encode_lower bytes) bytes (decode_of-encode_lower bytes are)).1)
+IsField-hex bytes are = pass_weaker is_hex_digit is_name_byte digit_byte (encode_lower bytes) (list_all-from_AllPass is_hex_digit (encode_lower bytes) (decode_of-ok (encode_lower bytes) bytes (decode_of-encode_lower bytes are)).1)
 
 pub message : (form : Form) (m : Call) → HasMessage form m → FieldBack (message_of form) (message_text form m) m
 message form m has = record { whole = IsField-hex _ has.0; is = ap (λ found. if_ok found >>= message_in form) (decode_of-encode_lower _ has.0) ∙ has.1 }

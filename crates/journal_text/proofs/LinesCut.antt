@@ -40,18 +40,12 @@ pub record Cut (form : Form) (ls ms : List Line) (xs ys : List ℕ) : Type 0 whe
   pub longer : ms ≡ ls ++ more
   pub rest : xs ≡ lines_text form more ++ ys
 
-no_shorter : (l : Line) (ls : List Line) → length (l ∷ ls) ≤ 0 → ⊥
-no_shorter l ls short = omega (arith, short)
-
-shorter : (l m : Line) (ls ms : List Line) → length (l ∷ ls) ≤ length (m ∷ ms) → length ls ≤ length ms
-shorter l m ls ms short = omega (arith, short)
-
 pub lines_cut : (form : Form) (ls ms : List Line) (xs ys : List ℕ) → All (IsLine form) ls → All (IsLine form) ms → lines_text form ls ++ xs ≡ lines_text form ms ++ ys → length ls ≤ length ms → Cut form ls ms xs ys
 lines_cut form [] ms xs ys are also same short = record { more = ms; longer = refl; rest = same }
-lines_cut form (l ∷ ls) [] xs ys are also same short = absurd (no_shorter l ls short)
+lines_cut form (l ∷ ls) [] xs ys are also same short = absurd (omega (arith, short))
 lines_cut form (l ∷ ls) (m ∷ ms) xs ys are also same short =
     let parts = one_first form l m (lines_text form ls ++ xs) (lines_text form ms ++ ys) (All-head (IsLine form) l ls are) (All-head (IsLine form) m ms also) (sym (lines_cons form l ls xs) ∙ same ∙ lines_cons form m ms ys) in
-    let cut = lines_cut form ls ms xs ys (All-tail (IsLine form) l ls are) (All-tail (IsLine form) m ms also) parts.1 (shorter l m ls ms short) in
+    let cut = lines_cut form ls ms xs ys (All-tail (IsLine form) l ls are) (All-tail (IsLine form) m ms also) parts.1 (omega (arith, short)) in
     record { more = cut.more; longer = (λ i. sym parts.0 i ∷ cut.longer i); rest = cut.rest }
 
 not_empty : (xs ys : List ℕ) → [] ≡ xs ++ 10 ∷ ys → ⊥

@@ -6,7 +6,7 @@ ghost use Rattle.journal_text.specs.declared.line.Line.TheVariants as line;
 ghost use Rattle.journal_text.specs.Form.{newest};
 ghost use Rattle.journal_text.specs.Rules.{KeepsRulesIn, comes_after};
 ghost use Rattle.journal_text.specs.Text.{history_of};
-ghost use Rattle.journal_text.specs.inside.Draft.{has_tenant, last_grain, last_kind, kind_after, kind_fits, tenant_fits, step_fits};
+ghost use Rattle.journal_text.specs.inside.Draft.{has_tenant, last_key, kind_after, kind_fits, tenant_fits, step_fits};
 ghost use Rattle.journal_text.specs.inside.Draft.{reply_fits, row_fits, close_fits, AddAnswers};
 
 use crate::journal::Journal;
@@ -62,7 +62,7 @@ impl Draft {
 
     /// Whether the kind comes after those that have an age of their own.
     fn comes_after_kinds(&self, kind: &Kind) -> bool
-        ensures { result ≡ kind_after (last_kind None self.now.ages) kind.now }
+        ensures { result ≡ kind_after (last_key None self.now.ages) kind.now }
     {
         match self.ages.last() {
             Some((last, _)) => last < kind,
@@ -111,7 +111,7 @@ impl Draft {
 
     /// Whether the grain comes after those of the rows.
     fn comes_after_rows(&self, grain: &GrainId) -> bool
-        ensures { result ≡ comes_after (last_grain None self.now.rows) grain.now }
+        ensures { result ≡ comes_after (last_key None self.now.rows) grain.now }
     {
         match self.rows.last() {
             Some((last, _)) => last < grain,

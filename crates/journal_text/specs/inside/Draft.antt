@@ -6,7 +6,6 @@ use Rattle.std.specs.List.{list_any}
 use Rattle.std.specs.Ordering.{is_lt}
 use Rattle.grain_id.specs.Names.{Grain, same_text, text_cmp}
 use Rattle.tenant_gate.specs.Table.{Table, most_tenants, names_of, first_repeat}
-use Rattle.grain_storage.specs.declared.row.Row.{Row}
 use Rattle.idle_collector.specs.Ages.{Ages, most_ages}
 use Rattle.journal_text.specs.Form.{tells_kinds}
 use Rattle.journal_text.specs.Text.{History, body, start_lines}
@@ -50,19 +49,14 @@ is_empty (x ∷ xs) = false
 abbrev pub has_tenant : Table → List ℕ → Bool
 has_tenant tenants name = list_any (λ entry. same_text name entry.0) tenants
 
--- the last of the rows' grains, or the one before them
-abbrev pub last_grain : Option Grain → List (Grain × Row) → Option Grain
-last_grain before [] = before
-last_grain before (row ∷ rows) = last_grain (Some row.0) rows
-
--- the last of the kinds, or the one before them
-abbrev pub last_kind : Option (List ℕ) → Ages → Option (List ℕ)
-last_kind before [] = before
-last_kind before (entry ∷ ages) = last_kind (Some entry.0) ages
+-- the last of the entries' keys, or the one before them
+abbrev pub last_key : {K X : Type 0} → Option K → List (K × X) → Option K
+last_key before [] = before
+last_key before (entry ∷ entries) = last_key (Some entry.0) entries
 
 -- the age of a kind stands before the tenants, behind the kinds that come before its own, and there is room for one more
 abbrev pub kind_fits : History → List ℕ → Bool
-kind_fits d kind = is_empty d.tenants && nat_lt (length d.ages) most_ages && kind_after (last_kind None d.ages) kind
+kind_fits d kind = is_empty d.tenants && nat_lt (length d.ages) most_ages && kind_after (last_key None d.ages) kind
 
 -- a tenant stands among the tenants: there is none of its name, and room for one more
 abbrev pub tenant_fits : History → List ℕ → Bool
@@ -80,7 +74,7 @@ reply_fits d = not (is_empty d.tenants) && is_empty d.rows
 
 -- a row stands behind the tenants, and behind the rows whose grains come before its own
 abbrev pub row_fits : History → Grain → Bool
-row_fits d grain = not (is_empty d.tenants) && comes_after (last_grain None d.rows) grain
+row_fits d grain = not (is_empty d.tenants) && comes_after (last_key None d.rows) grain
 
 -- the close stands behind the tenants, with the number of steps
 abbrev pub close_fits : History → ℕ → Bool
