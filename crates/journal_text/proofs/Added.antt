@@ -1,31 +1,12 @@
 -- A draft with a line more is a draft, and its lines are those before and the line.
-use Rattle.std.proofs.Common.{◌≡◌, ℕ, ◌<◌, ◌≤◌, Bool, true, false, true≢false, not, ◌&&◌, ltb, ltb-true, List, [], ◌∷◌, ◌++◌, length, All, Option, Some, None, refl, ap, sym, subst, ◌∙◌, arith}
-use Rattle.std.specs.Prelude.{IsTrue}
-use Rattle.std.specs.Cmp.{first_so, second_so}
-use Rattle.std.specs.List.{list_any}
-use Rattle.std.proofs.lemmas.List.{append-nil, append_assoc, map-append}
+use Rattle.journal_text.proofs.Common.{◌≡◌, ℕ, ◌<◌, ◌≤◌, Bool, true, false, true≢false, not, ◌&&◌, ltb, ltb-true, List, [], ◌∷◌, ◌++◌, length, All, Option, Some, None, refl, ap, sym, subst, ◌∙◌, arith, IsTrue, first_so, second_so, list_any, append-nil, append_assoc, map-append, same_Some, Grain, same_text, Limits, Table, names_of, first_repeat}
+use Rattle.journal_text.proofs.Common.{Row, Ages, Step, Form, RecordedReply, Line, tells_kinds, History, history_of, kind_line, tenant_line, row_line, body, start_lines, IsAge, IsKinds, IsLine, comes_after, are_ascending, AreKinds, only_if}
 use Rattle.std.proofs.lemmas.List.Elements.{All-nil, All-cons, All-append, All-push}
 use Rattle.std.proofs.lemmas.Bool.{not-true}
-use Rattle.std.proofs.lemmas.Option.{same_Some}
 use Rattle.tenant_gate.proofs.Repeats.{first_repeat-push}
 use Rattle.finite_maps.proofs.Lists.{push_not_empty}
-use Rattle.grain_id.specs.Names.{Grain, same_text}
-use Rattle.tenant_gate.specs.declared.limits.Limits.{Limits}
-use Rattle.tenant_gate.specs.Table.{Table, names_of, first_repeat}
-use Rattle.grain_storage.specs.declared.row.Row.{Row}
-use Rattle.idle_collector.specs.Ages.{Ages}
-use Rattle.silo_event.specs.declared.step.Step.{Step}
-use Rattle.journal_text.specs.declared.form.Form.{Form}
 use Rattle.journal_text.specs.declared.form.Form.TheVariants as forms
-use Rattle.journal_text.specs.declared.recorded.RecordedReply.{RecordedReply}
-use Rattle.journal_text.specs.declared.line.Line.{Line}
 use Rattle.journal_text.specs.declared.line.Line.TheVariants as line
-use Rattle.journal_text.specs.Form.{tells_kinds}
-use Rattle.journal_text.specs.Text.{History, history_of, kind_line, tenant_line, row_line, body, start_lines}
-use Rattle.tenant_gate.specs.Age.{IsAge}
-use Rattle.journal_text.specs.Rules.{IsKinds, IsLine, comes_after, are_ascending}
-use Rattle.journal_text.specs.inside.Answers.{AreKinds}
-use Rattle.journal_text.specs.inside.Candidates.{only_if}
 use Rattle.journal_text.specs.inside.Draft.{lines_so_far, IsDraft, is_empty, has_tenant, kind_after, are_kinds_ascending, last_key, kind_fits, tenant_fits, step_fits, reply_fits, row_fits, added}
 use Rattle.journal_text.proofs.Drafts.{empty, length-push, names_of-push, has_tenant-names}
 

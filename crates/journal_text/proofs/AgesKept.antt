@@ -1,22 +1,14 @@
 -- The kinds that have an age of their own: that they ascend one after another, and each below all behind it.
-use Rattle.std.proofs.Common.{◌≡◌, ℕ, ◌≤◌, true, List, [], ◌∷◌, map, length, All, Option, Some, None, refl, ap}
-use Rattle.std.specs.Cmp.{first_so, second_so}
+use Rattle.journal_text.proofs.Common.{◌≡◌, ℕ, ◌≤◌, true, List, [], ◌∷◌, map, length, All, Option, Some, None, refl, ap, first_so, second_so, and_from, All-head, All-tail, IsAge, Form, kind_line, IsLine, kind_after, are_kinds_ascending}
 use Rattle.std.specs.declared.cmp.Ordering.TheVariants.{Less}
 use Rattle.std.specs.Ordering.{is_lt}
 use Rattle.std.specs.List.{AllByRecursion}
 use Rattle.std.specs.List.Sorted.{IsStrictlySortedBy}
-use Rattle.std.proofs.lemmas.Bool.{and_from}
-use Rattle.std.proofs.lemmas.List.Elements.{All-head, All-tail}
 use Rattle.finite_maps.proofs.Ascending.{less_from_is_lt}
 use Rattle.finite_maps.proofs.Lists.{all_weaker}
 use Rattle.grain_id.specs.Names.{text_cmp}
 use Rattle.grain_id.specs.Order.{text_cmp_total}
-use Rattle.tenant_gate.specs.Age.{IsAge}
 use Rattle.idle_collector.specs.Ages.{Ages, kinds_of, AreAscending, IsTable as AreAges}
-use Rattle.journal_text.specs.declared.form.Form.{Form}
-use Rattle.journal_text.specs.Text.{kind_line}
-use Rattle.journal_text.specs.Rules.{IsLine}
-use Rattle.journal_text.specs.inside.Draft.{kind_after, are_kinds_ascending}
 
 -- the kind is below each of these
 abbrev IsBelow : List ℕ → Ages → Type 0

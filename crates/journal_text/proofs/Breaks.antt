@@ -2,17 +2,9 @@
 use Rattle.std.proofs.Common.{◌≡◌, ◌≢◌, ℕ, ◌+◌, ◌<◌, Bool, true, not, eqb, zero, suc, List, [], ◌∷◌, ◌++◌, length, take, drop, refl, ap, sym, subst, ◌∙◌, arith}
 use Rattle.std.specs.Prelude.{slice_index}
 use Rattle.std.specs.Str.{IsAscii, IsUtf8}
-use Rattle.std.specs.List.{list_all}
-use Rattle.std.specs.Cmp.{first_so, second_so}
+use Rattle.journal_text.proofs.Common.{list_all, first_so, second_so, take-append-drop, and_from, Form, Line, is_text_byte, line_text, IsLine}
 use Rattle.std.proofs.lemmas.Str.{IsUtf8-from_ascii}
-use Rattle.std.proofs.lemmas.List.{take-append-drop}
 use Rattle.std.proofs.Math.Seq.{drop-cons}
-use Rattle.std.proofs.lemmas.Bool.{and_from}
-use Rattle.journal_text.specs.declared.form.Form.{Form}
-use Rattle.journal_text.specs.declared.line.Line.{Line}
-use Rattle.journal_text.specs.RecordedFault.{is_text_byte}
-use Rattle.journal_text.specs.Text.{line_text}
-use Rattle.journal_text.specs.Rules.{IsLine}
 use Rattle.journal_text.specs.inside.Answers.{HasNoBreak}
 use Rattle.journal_text.proofs.Cuts.{pass_weaker}
 use Rattle.journal_text.proofs.LinesBack.{line_back}

@@ -1,25 +1,12 @@
 -- A draft's lines are the first of a journal's, and a closed draft is a journal.
-use Rattle.std.proofs.Common.{◌≡◌, ℕ, ◌<◌, ◌≤◌, ◌^◌, Bool, true, false, true≢false, not, cond, ltb, eqb, List, [], ◌∷◌, ◌++◌, map, length, All, Option, Some, None, refl, ap, sym, subst, ◌∙◌, lit<, arith}
+use Rattle.journal_text.proofs.Common.{◌≡◌, ℕ, ◌<◌, ◌≤◌, ◌^◌, Bool, true, false, true≢false, not, cond, ltb, eqb, List, [], ◌∷◌, ◌++◌, map, length, All, Option, Some, None, refl, ap, sym, subst, ◌∙◌, lit<, arith, append_assoc, All-nil, All-cons, All-head, All-tail, All-push, is_word, Grain, Limits, Row, Ages, Step, Form, RecordedReply, Line}
+use Rattle.journal_text.proofs.Common.{History, history_of, kind_line, tenant_line, row_line, body, start_lines, journal_lines, BeginJournal, lines_so_far, IsDraft, is_empty}
 use Rattle.std.specs.Prelude.{find, codes, option_map}
 use Rattle.std.specs.Option.{option_or}
-use Rattle.std.proofs.lemmas.List.{append_assoc}
-use Rattle.std.proofs.lemmas.List.Elements.{All-nil, All-cons, All-head, All-tail, All-push}
-use Rattle.grain_id.specs.Words.{is_word}
-use Rattle.grain_id.specs.Names.{Grain}
-use Rattle.tenant_gate.specs.declared.limits.Limits.{Limits}
 use Rattle.tenant_gate.specs.declared.fault.TableFault.TheVariants as faults
 use Rattle.tenant_gate.specs.Table.{Table, names_of, first_repeat, first_out_of_range, are_in_range, table_fault}
-use Rattle.grain_storage.specs.declared.row.Row.{Row}
-use Rattle.idle_collector.specs.Ages.{Ages}
-use Rattle.silo_event.specs.declared.step.Step.{Step}
-use Rattle.journal_text.specs.declared.form.Form.{Form}
-use Rattle.journal_text.specs.declared.recorded.RecordedReply.{RecordedReply}
-use Rattle.journal_text.specs.declared.line.Line.{Line}
 use Rattle.journal_text.specs.declared.line.Line.TheVariants as line
-use Rattle.journal_text.specs.Text.{History, history_of, kind_line, tenant_line, row_line, body, start_lines, journal_lines}
 use Rattle.journal_text.specs.Rules.{IsLine, IsTable, KeepsRulesIn}
-use Rattle.journal_text.specs.FirstFault.{BeginJournal}
-use Rattle.journal_text.specs.inside.Draft.{lines_so_far, IsDraft, is_empty}
 use Rattle.journal_text.proofs.AgesKept.{are_ages, one_after_another}
 use Rattle.journal_text.proofs.Added.{more_lines, tenant_body}
 

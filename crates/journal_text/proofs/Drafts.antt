@@ -1,25 +1,9 @@
 -- A journal's lines lead from an empty draft to the journal, and to no other end.
 use Rattle.std.proofs.Common.{◌≡◌, ℕ, ◌+◌, ◌-◌, ◌<◌, ◌≤◌, true, not, ◌&&◌, ◌||◌, ltb, lt-ltb, List, [], ◌∷◌, ◌++◌, map, length, get_or, Option, Some, None, refl, ap, sym, ◌∙◌, arith}
-use Rattle.std.specs.Prelude.{option_and_then}
-use Rattle.std.specs.Cmp.{first_so, second_so}
-use Rattle.std.specs.List.{list_any}
-use Rattle.std.proofs.lemmas.List.{append-nil, append_assoc, map-append, length-append}
-use Rattle.std.proofs.lemmas.Bool.{and_from}
+use Rattle.journal_text.proofs.Common.{option_and_then, first_so, second_so, list_any, append-nil, append_assoc, map-append, length-append, and_from, Grain, same_text, Ages, Limits, Table, names_of, first_repeat, Row, Step, Form, RecordedReply, Line, History, history_of, kind_line, tenant_line, row_line, body, comes_after, are_ascending, only_if}
+use Rattle.journal_text.proofs.Common.{IsDraft, kind_after, are_kinds_ascending, is_empty, has_tenant, last_key, close_fits, added}
 use Rattle.finite_maps.proofs.Options.{none_from_cond}
-use Rattle.grain_id.specs.Names.{Grain, same_text}
-use Rattle.idle_collector.specs.Ages.{Ages}
-use Rattle.tenant_gate.specs.declared.limits.Limits.{Limits}
-use Rattle.tenant_gate.specs.Table.{Table, names_of, first_repeat}
-use Rattle.grain_storage.specs.declared.row.Row.{Row}
-use Rattle.silo_event.specs.declared.step.Step.{Step}
-use Rattle.journal_text.specs.declared.form.Form.{Form}
-use Rattle.journal_text.specs.declared.recorded.RecordedReply.{RecordedReply}
-use Rattle.journal_text.specs.declared.line.Line.{Line}
 use Rattle.journal_text.specs.declared.line.Line.TheVariants as line
-use Rattle.journal_text.specs.Text.{History, history_of, kind_line, tenant_line, row_line, body}
-use Rattle.journal_text.specs.Rules.{comes_after, are_ascending}
-use Rattle.journal_text.specs.inside.Candidates.{only_if}
-use Rattle.journal_text.specs.inside.Draft.{IsDraft, kind_after, are_kinds_ascending, is_empty, has_tenant, last_key, close_fits, added}
 
 -- a draft in which only the first lines are read
 abbrev pub empty : ℕ → ℕ → History

@@ -1,23 +1,12 @@
 -- Which line is the first at fault.
 use Rattle.std.proofs.Common.{◌≡◌, ℕ, ◌+◌, ◌<◌, ◌≤◌, ◌^◌, inl, inr, Bool, true, false, true≢false, not, ◌&&◌, if◌then◌else◌, ◌==◌, eq-eqb, eqb-true, List, [], ◌∷◌, ◌++◌, length, map, take, drop, get_or, All, Some, None, refl, ap, sym, subst, ◌∙◌, lit<, lit≤, arith}
-use Rattle.std.specs.Prelude.{option_and_then}
-use Rattle.std.specs.Cmp.{first_so, second_so}
-use Rattle.std.proofs.lemmas.Bool.{cases_lt}
+use Rattle.journal_text.proofs.Common.{option_and_then, first_so, second_so, cases_lt, All-head, same_head, some_none, Form, Line, History, kind_line, tenant_line, row_line, body, line_text, lines_text, kinds_lines, start_lines, journal_lines, text_in, IsLine, KeepsRulesIn, only_if, newest, tells_kinds, lines_so_far, IsDraft, is_empty, close_fits}
+use Rattle.journal_text.proofs.Common.{added}
 use Rattle.std.proofs.lemmas.List.{append_assoc, append-nil, take-append-drop, length-append, length-map, length-take}
-use Rattle.std.proofs.lemmas.List.Elements.{All-head}
 use Rattle.std.proofs.Math.Bool.{and-false}
-use Rattle.finite_maps.proofs.Lists.{same_head}
-use Rattle.finite_maps.proofs.Options.{some_none}
-use Rattle.journal_text.specs.declared.form.Form.{Form}
-use Rattle.journal_text.specs.declared.line.Line.{Line}
 use Rattle.journal_text.specs.declared.line.Line.TheVariants as line
-use Rattle.journal_text.specs.Text.{History, kind_line, tenant_line, row_line, body, line_text, lines_text, kinds_lines, start_lines, journal_lines, text_in}
-use Rattle.journal_text.specs.Rules.{IsLine, KeepsRulesIn}
-use Rattle.journal_text.specs.inside.Candidates.{only_if}
 use Rattle.journal_text.specs.declared.form.Form.TheVariants as forms
-use Rattle.journal_text.specs.Form.{newest, tells_kinds}
 use Rattle.journal_text.specs.FirstFault.{BeginJournal, LinesFit, IsFirstFault}
-use Rattle.journal_text.specs.inside.Draft.{lines_so_far, IsDraft, is_empty, close_fits, added}
 use Rattle.journal_text.specs.inside.Answers.{BeginsWithLine, BeginsWithHead, BeginsWithKinds, BeginsWithAge, AreKinds}
 use Rattle.journal_text.proofs.Lines.{lines_text-append}
 use Rattle.journal_text.proofs.LinesCut.{one_first, lines_cut, lines_cons, nothing_more}

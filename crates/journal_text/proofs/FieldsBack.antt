@@ -1,25 +1,15 @@
 -- The texts of fields hold no space, and are read back.
 use Rattle.std.proofs.Common.{◌≡◌, ℕ, ◌+◌, ◌%◌, ◌<◌, ◌≤◌, ◌^◌, Bool, true, false, cond, ◌&&◌, leb, ltb, lt-ltb, List, [], ◌∷◌, ◌++◌, length, Option, Some, None, refl, ap, ◌∙◌, arith}
-use Rattle.std.specs.Prelude.{IsTrue, IfSome, decimal, codes}
+use Rattle.journal_text.proofs.Common.{IsTrue, IfSome, decimal, codes, list_all, first_so, second_so, le-leb, leb-true, and_from, list_all-from_AllPass, Call, Tree, IsAge, Form, HasMessage, HasState, message_in, state_in, state_bytes, is_text_byte}
 use Rattle.std.specs.Fmt.{digits}
-use Rattle.std.specs.List.{list_all}
-use Rattle.std.specs.Cmp.{first_so, second_so}
-use Rattle.std.proofs.lemmas.Bool.{le-leb, leb-true, and_from}
 use Rattle.std.proofs.lemmas.Fmt.{decimal_by_steps}
-use Rattle.std.proofs.lemmas.List.Sums.{list_all-from_AllPass}
 use Rattle.hex.specs.Hex.{encode_lower, IsBytes, is_hex_digit, lower_digits}
 use Rattle.hex.proofs.HexLemmas.{decode_of-encode_lower, decode_of-ok, length-encode_with}
-use Rattle.request_codec.specs.Call.{Call}
-use Rattle.request_codec.specs.Tree.{Tree}
 use Rattle.grain_id.specs.Words.{is_word, is_name, is_word_byte, is_name_byte}
 use Rattle.grain_id.specs.Names.{Grain, Client, is_client, is_grain, client_text, grain_text, same_text}
 use Rattle.grain_id.proofs.Reading.{grain_read-grain_text, caller_read-client_text}
 use Rattle.silo_event.specs.declared.refusal.Refusal.{Refusal}
 use Rattle.silo_event.specs.declared.refusal.Refusal.TheVariants as refusals
-use Rattle.tenant_gate.specs.Age.{IsAge}
-use Rattle.journal_text.specs.declared.form.Form.{Form}
-use Rattle.journal_text.specs.Form.{HasMessage, HasState, message_in, state_in, state_bytes}
-use Rattle.journal_text.specs.RecordedFault.{is_text_byte}
 use Rattle.journal_text.specs.Rules.{is_refusal}
 use Rattle.journal_text.specs.inside.Candidates.{◌>>=◌, ◌⊗◌, only_if, if_ok, wide_of, number_of, mark_of, refusal_of, client_of, grain_of, message_of, state_of, age_of, version_of, word_of, content_of}
 use Rattle.journal_text.specs.Text.{◌␣◌, mark_text, refusal_text, message_text, state_text, content_text}

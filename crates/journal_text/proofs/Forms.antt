@@ -1,34 +1,23 @@
 -- What stands in a journal of one form may stand in one of the newest.
-use Rattle.std.proofs.Common.{◌≡◌, ℕ, Bool, true, true≢false, ◌&&◌, eqb, leb, zero, suc, List, [], ◌∷◌, ◌++◌, length, All, Option, Some, None, refl, sym, subst, ap, ◌∙◌, lit<}
+use Rattle.journal_text.proofs.Common.{◌≡◌, ℕ, Bool, true, true≢false, ◌&&◌, eqb, leb, zero, suc, List, [], ◌∷◌, ◌++◌, length, All, Option, Some, None, refl, sym, subst, ap, ◌∙◌, lit<, first_so, second_so, list_any, list_all, append-nil, All-cons, All-tail, All-weaker, IsBytes, Step, Form, Line, CodeAndText, is_recorded_fault, is_text_byte}
+use Rattle.journal_text.proofs.Common.{History, body, journal_lines, IsOutcome, IsStep, IsLine, KeepsRulesIn, ReadsRest}
 use Rattle.std.specs.Prelude.{Result, Ok, Err, IsTrue, IfSome, if◌then◌else◌}
-use Rattle.std.specs.Cmp.{first_so, second_so}
-use Rattle.std.specs.List.{list_any, list_all}
 use Rattle.std.proofs.lemmas.Bool.{and_from, or_left}
-use Rattle.std.proofs.lemmas.List.{append-nil}
 use Rattle.std.proofs.lemmas.List.Folds.{list_any-append}
-use Rattle.std.proofs.lemmas.List.Elements.{All-cons, All-tail, All-weaker}
 use Rattle.finite_maps.proofs.Options.{some_if_fails}
-use Rattle.hex.specs.Hex.{IsBytes}
 use Rattle.request_codec.specs.Limits.{message_version, old_version}
 use Rattle.request_codec.specs.Call.{Call, versioned_call, state_value}
 use Rattle.request_codec.specs.Reading.{◌>>=◌}
 use Rattle.request_codec.specs.Tree.{Tree, holds_bytes}
 use Rattle.request_codec.specs.Written.{text_spelling, spelling}
 use Rattle.silo_event.specs.Fault.{fault_code, refusal_fault}
-use Rattle.silo_event.specs.declared.step.Step.{Step}
 use Rattle.silo_event.specs.declared.step.Step.TheVariants as step
-use Rattle.journal_text.specs.declared.form.Form.{Form}
 use Rattle.journal_text.specs.declared.form.Form.TheVariants as forms
 use Rattle.journal_text.specs.declared.fault.JournalFault.{JournalFault}
 use Rattle.journal_text.specs.declared.fault.JournalFault.TheVariants as faults
-use Rattle.journal_text.specs.declared.line.Line.{Line}
 use Rattle.journal_text.specs.declared.line.Line.TheVariants as line
 use Rattle.journal_text.specs.Form.{newest, message_bytes, message_in, state_bytes, state_in, is_code, common_codes, HasMessage, HasState}
-use Rattle.journal_text.specs.RecordedFault.{CodeAndText, is_recorded_fault, is_text_byte}
-use Rattle.journal_text.specs.Text.{History, body, journal_lines}
-use Rattle.journal_text.specs.Rules.{IsOutcome, IsStep, IsLine, KeepsRulesIn}
 use Rattle.journal_text.specs.JournalAnswers.{ReadsJournal}
-use Rattle.journal_text.specs.inside.Answers.{ReadsRest}
 
 -- ---- what is spelled without bytes
 

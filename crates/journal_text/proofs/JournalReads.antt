@@ -1,18 +1,10 @@
 -- Reading a journal line by line.
 use Rattle.std.proofs.Common.{◌≡◌, ℕ, ◌+◌, ◌≤◌, true, false, if◌then◌else◌, List, [], ◌∷◌, ◌++◌, length, Some, Err, ap, sym, subst, ◌∙◌, arith}
-use Rattle.std.proofs.lemmas.List.{append_assoc, append-nil, length-append}
-use Rattle.journal_text.specs.declared.form.Form.{Form}
+use Rattle.journal_text.proofs.Common.{append_assoc, append-nil, length-append, Form, LineFault, Line, tells_kinds, History, line_text, lines_text, kinds_lines, start_lines, IsAge, IsLine, lines_so_far, IsDraft, added}
 use Rattle.journal_text.specs.declared.form.Form.TheVariants as forms
-use Rattle.journal_text.specs.declared.fault.LineFault.{LineFault}
 use Rattle.journal_text.specs.declared.fault.LineFault.TheVariants as faults
-use Rattle.journal_text.specs.declared.line.Line.{Line}
 use Rattle.journal_text.specs.declared.line.Line.TheVariants as line
-use Rattle.journal_text.specs.Form.{tells_kinds}
-use Rattle.journal_text.specs.Text.{History, line_text, lines_text, kinds_lines, start_lines}
-use Rattle.tenant_gate.specs.Age.{IsAge}
-use Rattle.journal_text.specs.Rules.{IsLine}
 use Rattle.journal_text.specs.inside.Answers.{AreKinds, ReadsLine}
-use Rattle.journal_text.specs.inside.Draft.{lines_so_far, IsDraft, added}
 use Rattle.journal_text.proofs.Lines.{lines_text-append}
 use Rattle.journal_text.proofs.LinesCut.{lines_cons}
 use Rattle.journal_text.proofs.Drafts.{empty}

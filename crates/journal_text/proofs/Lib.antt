@@ -1,3 +1,4 @@
+pub mod Common
 pub mod Forms
 pub mod Lines
 pub mod Numbers

@@ -1,18 +1,7 @@
 -- The text of lines, one part after another.
-use Rattle.std.proofs.Common.{◌≡◌, ℕ, List, [], ◌∷◌, ◌++◌, map, length, ap, sym, ◌∙◌}
-use Rattle.std.proofs.lemmas.List.{append_assoc, append-nil}
+use Rattle.journal_text.proofs.Common.{◌≡◌, ℕ, List, [], ◌∷◌, ◌++◌, map, length, ap, sym, ◌∙◌, append_assoc, append-nil, Grain, Table, Ages, Row, Step, Form, written, history_of, line_text, lines_text, kind_line, kinds_lines, tenant_line, row_line, journal_lines, journal_text, RecordedReply, Line}
 use Rattle.std.proofs.lemmas.Grind.{flat_map-append}
-use Rattle.grain_id.specs.Names.{Grain}
-use Rattle.tenant_gate.specs.Table.{Table}
-use Rattle.idle_collector.specs.Ages.{Ages}
-use Rattle.grain_storage.specs.declared.row.Row.{Row}
-use Rattle.silo_event.specs.declared.step.Step.{Step}
-use Rattle.journal_text.specs.declared.form.Form.{Form}
-use Rattle.journal_text.specs.Form.{written}
-use Rattle.journal_text.specs.Text.{history_of, line_text, lines_text, kind_line, kinds_lines, tenant_line, row_line, journal_lines, journal_text}
 use Rattle.journal_text.specs.inside.Sides.{lines_before, lines_behind}
-use Rattle.journal_text.specs.declared.recorded.RecordedReply.{RecordedReply}
-use Rattle.journal_text.specs.declared.line.Line.{Line}
 use Rattle.journal_text.specs.declared.line.Line.TheVariants as line
 
 pub lines_text-append : (form : Form) (ls ms : List Line) → lines_text form (ls ++ ms) ≡ lines_text form ls ++ lines_text form ms

@@ -1,25 +1,11 @@
 -- Each line of a journal is read back as what it is the line of.
 use Rattle.std.proofs.Common.{◌≡◌, ℕ, ◌<◌, ◌≤◌, ◌^◌, Bool, true, false, true≢false, ◌&&◌, ◌||◌, eqb, leb, ltb, List, [], ◌∷◌, ◌++◌, length, get_or, Some, Result, Ok, Err, refl, sym, ap, ◌∙◌, arith}
-use Rattle.std.specs.Prelude.{IsTrue, decimal, codes}
-use Rattle.std.specs.List.{list_all, list_any}
-use Rattle.std.specs.Cmp.{first_so, second_so}
-use Rattle.std.proofs.lemmas.Bool.{leb-true, le-leb, and_from}
-use Rattle.std.proofs.lemmas.List.{append_assoc}
-use Rattle.request_codec.specs.Tree.{Tree}
-use Rattle.grain_id.specs.Names.{Grain, client_text, grain_text, same_text, is_grain}
-use Rattle.grain_id.specs.Words.{is_word}
-use Rattle.tenant_gate.specs.declared.limits.Limits.{Limits}
-use Rattle.tenant_gate.specs.Table.{are_in_range}
-use Rattle.grain_storage.specs.declared.row.Row.{Row}
+use Rattle.journal_text.proofs.Common.{IsTrue, decimal, codes, list_all, list_any, first_so, second_so, leb-true, le-leb, and_from, append_assoc, Tree, Grain, client_text, grain_text, same_text, is_grain, is_word, Limits, are_in_range, Row, Form, Line, IsAge, CodeAndText, is_recorded_fault, is_text_byte}
 use Rattle.silo_event.specs.declared.reply.Party.{Party}
 use Rattle.silo_event.specs.declared.reply.Party.TheVariants as party
-use Rattle.journal_text.specs.declared.form.Form.{Form}
 use Rattle.journal_text.specs.declared.form.Form.TheVariants as forms
-use Rattle.journal_text.specs.declared.line.Line.{Line}
 use Rattle.journal_text.specs.declared.line.Line.TheVariants as line
-use Rattle.tenant_gate.specs.Age.{IsAge}
 use Rattle.journal_text.specs.Form.{form_text, tells_kinds, is_code, common_codes}
-use Rattle.journal_text.specs.RecordedFault.{CodeAndText, is_recorded_fault, is_text_byte}
 use Rattle.journal_text.specs.inside.Candidates.{kinds_of, kind_of, tenant_of, recipient_of, recorded_fault_of, outcome_of, reply_of, row_of, head_of, candidate_of}
 use Rattle.journal_text.specs.Text.{◌␣◌, state_text, recipient_text, outcome_text, content_text, line_text}
 use Rattle.journal_text.specs.Rules.{IsKinds, IsParty, IsOutcome, IsRow, IsLine}

@@ -1,18 +1,6 @@
 -- Bytes that begin with whole lines begin with no others.
-use Rattle.std.proofs.Common.{◌≡◌, ℕ, ◌≤◌, inl, inr, Bool, true, false, true≢false, List, [], ◌∷◌, ◌++◌, length, All, refl, ap, sym, ◌∙◌, arith}
-use Rattle.std.specs.List.{list_all}
-use Rattle.std.specs.Cmp.{first_so, second_so}
-use Rattle.std.proofs.lemmas.List.{append_assoc, append-nil}
-use Rattle.std.proofs.lemmas.List.Elements.{All-head, All-tail}
-use Rattle.std.proofs.lemmas.Bool.{cases_lt}
-use Rattle.std.proofs.lemmas.Option.{same_Some}
+use Rattle.journal_text.proofs.Common.{◌≡◌, ℕ, ◌≤◌, inl, inr, Bool, true, false, true≢false, List, [], ◌∷◌, ◌++◌, length, All, refl, ap, sym, ◌∙◌, arith, list_all, first_so, second_so, append_assoc, append-nil, All-head, All-tail, cases_lt, same_Some, Form, Line, is_text_byte, line_text, lines_text, IsLine, candidate_of}
 use Rattle.finite_maps.proofs.Lists.{same_head, same_tail}
-use Rattle.journal_text.specs.declared.form.Form.{Form}
-use Rattle.journal_text.specs.declared.line.Line.{Line}
-use Rattle.journal_text.specs.RecordedFault.{is_text_byte}
-use Rattle.journal_text.specs.Text.{line_text, lines_text}
-use Rattle.journal_text.specs.Rules.{IsLine}
-use Rattle.journal_text.specs.inside.Candidates.{candidate_of}
 use Rattle.journal_text.proofs.LinesBack.{line_back}
 
 -- two texts, each up to the first byte that fails a test

@@ -1,15 +1,10 @@
 -- A number is read exactly from its decimal text.
 use Rattle.std.proofs.Common.{◌≡◌, ◌≤◌, ◌<◌, ◌^◌, ℕ, zero, suc, Bool, true, false, ◌&&◌, cond, ltb, lt-ltb, ltb-true, List, [], ◌∷◌, length, get_or, Option, Some, None, Result, Ok, Err, refl, ap, sym, ◌∙◌, arith}
-use Rattle.std.specs.Prelude.{decimal}
-use Rattle.std.specs.Cmp.{first_so, second_so}
+use Rattle.journal_text.proofs.Common.{decimal, first_so, second_so, and_from, same_text, same_text_decides, wide_of}
 use Rattle.std.specs.Result.{OkIff}
 use Rattle.std.specs.Str.Parse.{AllDigits, digits_value, ParsesUnsigned}
 use Rattle.std.proofs.lemmas.Str.Parse.{IsNumeralModel, numerals_by_value, tells_digits, parse_plain, digit_at}
 use Rattle.std.proofs.lemmas.Fmt.{digits_decimal, decimal-digits_value, decimal_is_IsNumeral, first_decimal, parse-decimal, decimal_nonempty, decimal_digit}
-use Rattle.std.proofs.lemmas.Bool.{and_from}
-use Rattle.grain_id.specs.Names.{same_text}
-use Rattle.grain_id.specs.Order.{same_text_decides}
-use Rattle.journal_text.specs.inside.Candidates.{wide_of}
 
 digits : IsNumeralModel (AllDigits 10) (digits_value 10)
 digits = numerals_by_value (AllDigits 10) tells_digits

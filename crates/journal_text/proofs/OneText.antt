@@ -1,17 +1,7 @@
 -- Journals that have the same text are the same.
-use Rattle.std.proofs.Common.{◌≡◌, ℕ, List, [], ◌∷◌, ◌++◌, length, All, Some, ap, sym, subst, ◌∙◌}
-use Rattle.std.proofs.lemmas.List.{append_assoc, append-nil}
-use Rattle.std.proofs.lemmas.List.Elements.{All-head}
-use Rattle.std.proofs.lemmas.Option.{same_Some}
-use Rattle.journal_text.specs.declared.form.Form.{Form}
-use Rattle.journal_text.specs.declared.line.Line.{Line}
+use Rattle.journal_text.proofs.Common.{◌≡◌, ℕ, List, [], ◌∷◌, ◌++◌, length, All, Some, ap, sym, subst, ◌∙◌, append_assoc, append-nil, All-head, same_Some, Form, Line, written, History, body, kinds_lines, start_lines, journal_lines, text_in, journal_text, IsAge, IsLine, KeepsRulesIn, lines_so_far}
 use Rattle.journal_text.specs.declared.line.Line.TheVariants as line
-use Rattle.journal_text.specs.Form.{written}
-use Rattle.journal_text.specs.Text.{History, body, kinds_lines, start_lines, journal_lines, text_in, journal_text}
 use Rattle.journal_text.specs.JournalAnswers.{IsJournalText, IsMigrated}
-use Rattle.tenant_gate.specs.Age.{IsAge}
-use Rattle.journal_text.specs.Rules.{IsLine, KeepsRulesIn}
-use Rattle.journal_text.specs.inside.Draft.{lines_so_far}
 use Rattle.journal_text.proofs.LinesCut.{same_lines}
 use Rattle.journal_text.proofs.Drafts.{empty, completed}
 use Rattle.journal_text.proofs.Added.{empty_is_draft}

@@ -1,14 +1,5 @@
 -- What was read of a text, written again and compared.
-use Rattle.std.proofs.Common.{◌≡◌, ℕ, true, false, true≢false, List, Some, None, sym, ap, ◌∙◌}
-use Rattle.std.proofs.lemmas.Option.{same_Some}
-use Rattle.finite_maps.proofs.Options.{some_none}
-use Rattle.grain_id.specs.Names.{same_text}
-use Rattle.grain_id.specs.Order.{same_text_decides}
-use Rattle.journal_text.specs.declared.form.Form.{Form}
-use Rattle.journal_text.specs.declared.line.Line.{Line}
-use Rattle.journal_text.specs.Text.{line_text}
-use Rattle.journal_text.specs.Rules.{IsLine}
-use Rattle.journal_text.specs.inside.Candidates.{candidate_of}
+use Rattle.journal_text.proofs.Common.{◌≡◌, ℕ, true, false, true≢false, List, Some, None, sym, ap, ◌∙◌, same_Some, some_none, same_text, same_text_decides, Form, Line, line_text, IsLine, candidate_of}
 use Rattle.journal_text.proofs.LinesBack.{line_back}
 
 -- a text whose line is written the same is the line's

@@ -1,15 +1,9 @@
 -- The line of each step is read back as the step.
-use Rattle.std.proofs.Common.{◌≡◌, ℕ, false, List, Option, Some, refl, ◌∙◌}
-use Rattle.std.specs.Prelude.{codes}
-use Rattle.grain_id.specs.Names.{same_text}
-use Rattle.silo_event.specs.declared.step.Step.{Step}
+use Rattle.journal_text.proofs.Common.{◌≡◌, ℕ, false, List, Option, Some, refl, ◌∙◌, codes, same_text, Step, Form, Line, IsStep}
 use Rattle.silo_event.specs.declared.step.Step.TheVariants as step
-use Rattle.journal_text.specs.declared.form.Form.{Form}
-use Rattle.journal_text.specs.declared.line.Line.{Line}
 use Rattle.journal_text.specs.declared.line.Line.TheVariants as line
 use Rattle.journal_text.specs.inside.Candidates.{◌>>=◌, step_line, named_of, candidate_of}
 use Rattle.journal_text.specs.Text.{◌␣◌, step_text}
-use Rattle.journal_text.specs.Rules.{IsStep}
 use Rattle.journal_text.proofs.Cuts.{IsField, cut-field}
 use Rattle.journal_text.proofs.FieldsBack.{Back, plain_more, last, more, two, made, number, client, grain, mark, refusal, message, state}
 

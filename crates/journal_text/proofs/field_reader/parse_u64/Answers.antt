@@ -1,5 +1,4 @@
-use Rattle.std.proofs.Common.{sym, ◌∙◌, true≢false, arith}
-use Rattle.grain_id.specs.Order.{same_text_decides}
+use Rattle.journal_text.proofs.Common.{sym, ◌∙◌, true≢false, arith, same_text_decides}
 use Rattle.journal_text.proofs.Numbers.{wide_of-decimal, wide_of-none, not_decimal, zero_read, not_parsed, decimal_parsed}
 use Rattle.journal_text.proofs.field_reader.parse_u64.Goals as goal
 

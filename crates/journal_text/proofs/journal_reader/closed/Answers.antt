@@ -1,11 +1,6 @@
 use Rattle.std.proofs.Common.{◌≡◌, ◌+◌, ◌<◌, ◌^◌, ◌++◌, ◌∷◌, List, ℕ, [], length, true, true≢false, refl, ap, sym, subst, ◌∙◌, eqb, eqb-true, arith}
-use Rattle.std.proofs.lemmas.List.{append-nil}
-use Rattle.journal_text.specs.declared.form.Form.{Form}
+use Rattle.journal_text.proofs.Common.{append-nil, Form, History, line_text, lines_text, text_in, KeepsRulesIn, lines_so_far, IsFirstFault}
 use Rattle.journal_text.specs.declared.line.Line.TheVariants as line
-use Rattle.journal_text.specs.Text.{History, line_text, lines_text, text_in}
-use Rattle.journal_text.specs.Rules.{KeepsRulesIn}
-use Rattle.journal_text.specs.inside.Draft.{lines_so_far}
-use Rattle.journal_text.specs.FirstFault.{IsFirstFault}
 use Rattle.journal_text.proofs.Faults.{fault_at_close, fault_behind_fit, close_keeps, close_text}
 use Rattle.journal_text.proofs.Forms.{keeps_newest}
 use Rattle.journal_text.proofs.journal_reader.closed.Goals as goal

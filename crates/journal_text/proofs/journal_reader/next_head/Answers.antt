@@ -1,6 +1,5 @@
-use Rattle.std.proofs.Common.{refl, sym, ◌∙◌}
+use Rattle.journal_text.proofs.Common.{refl, sym, ◌∙◌, line_text}
 use Rattle.journal_text.specs.declared.line.Line.TheVariants as line
-use Rattle.journal_text.specs.Text.{line_text}
 use Rattle.journal_text.proofs.Breaks.{same_cut}
 use Rattle.journal_text.proofs.LinesBack.{line_back}
 use Rattle.journal_text.proofs.journal_reader.next_head.Goals as goal

@@ -1,6 +1,5 @@
-use Rattle.std.proofs.Common.{None}
+use Rattle.journal_text.proofs.Common.{None, BeginsWithLine}
 use Rattle.journal_text.specs.declared.line.Line.TheVariants as line
-use Rattle.journal_text.specs.inside.Answers.{BeginsWithLine}
 use Rattle.journal_text.proofs.journal_reader.next_kinds_line.Goals as goal
 
 pub returns-in_default : goal.returns-in_default

@@ -1,5 +1,4 @@
-use Rattle.std.proofs.Common.{List, ℕ, subst, sym}
-use Rattle.journal_text.specs.inside.Answers.{ReadsRest}
+use Rattle.journal_text.proofs.Common.{List, ℕ, subst, sym, ReadsRest}
 use Rattle.journal_text.proofs.Forms.{reads_journal}
 use Rattle.journal_text.proofs.journal_reader.read_journal.Goals as goal
 

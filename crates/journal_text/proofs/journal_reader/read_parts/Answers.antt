@@ -1,9 +1,6 @@
 use Rattle.std.proofs.Common.{◌≡◌, ◌<◌, ◌^◌, ◌++◌, ℕ, Bool, true, false, List, length, None, Some, Ok, sym, subst, arith}
-use Rattle.journal_text.specs.declared.line.Line.{Line}
-use Rattle.journal_text.specs.Text.{History, lines_text, start_lines}
+use Rattle.journal_text.proofs.Common.{Line, History, lines_text, start_lines, IsFirstFault, BeginsWithLine}
 use Rattle.journal_text.specs.inside.Draft.{lines_so_far, added, AddAnswers}
-use Rattle.journal_text.specs.FirstFault.{IsFirstFault}
-use Rattle.journal_text.specs.inside.Answers.{BeginsWithLine}
 use Rattle.journal_text.proofs.Faults.{fault_without_line, fault_not_added}
 use Rattle.journal_text.proofs.JournalReads.{one_read}
 use Rattle.journal_text.proofs.journal_reader.read_parts.Goals as goal

@@ -1,5 +1,4 @@
-use Rattle.std.proofs.Common.{None, Some, subst, sym}
-use Rattle.journal_text.specs.FirstFault.{IsFirstFault}
+use Rattle.journal_text.proofs.Common.{None, Some, subst, sym, IsFirstFault}
 use Rattle.journal_text.specs.inside.Answers.{BeginsWithAge, TakesKinds}
 use Rattle.journal_text.proofs.Faults.{fault_without_head, fault_without_kinds, fault_without_age}
 use Rattle.journal_text.proofs.JournalReads.{head_taken}

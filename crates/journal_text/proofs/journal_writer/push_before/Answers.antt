@@ -1,8 +1,5 @@
-use Rattle.std.proofs.Common.{◌++◌, ◌∷◌, [], ap, ◌∙◌, string_bytes}
-use Rattle.std.proofs.lemmas.Result.{on_ok_weaker}
-use Rattle.journal_text.specs.declared.form.Form.{Form}
+use Rattle.journal_text.proofs.Common.{◌++◌, ◌∷◌, [], ap, ◌∙◌, string_bytes, on_ok_weaker, Form, line_text, lines_text, kinds_lines}
 use Rattle.journal_text.specs.declared.line.Line.TheVariants as line
-use Rattle.journal_text.specs.Text.{line_text, lines_text, kinds_lines}
 use Rattle.journal_text.proofs.Lines.{before_put}
 use Rattle.journal_text.proofs.journal_writer.push_before.Goals as goal
 

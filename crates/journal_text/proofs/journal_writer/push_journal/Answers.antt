@@ -1,9 +1,5 @@
-use Rattle.std.proofs.Common.{◌≡◌, ◌++◌, map, string_bytes}
-use Rattle.std.proofs.lemmas.Result.{on_ok_weaker}
+use Rattle.journal_text.proofs.Common.{◌≡◌, ◌++◌, map, string_bytes, on_ok_weaker, written, lines_text, lines_before}
 use Rattle.journal_text.specs.declared.line.Line.TheVariants as line
-use Rattle.journal_text.specs.Form.{written}
-use Rattle.journal_text.specs.Text.{lines_text}
-use Rattle.journal_text.specs.inside.Sides.{lines_before}
 use Rattle.journal_text.proofs.Lines.{journal_put}
 use Rattle.journal_text.proofs.journal_writer.push_journal.Goals as goal
 

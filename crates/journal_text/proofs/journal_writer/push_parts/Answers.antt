@@ -1,6 +1,4 @@
-use Rattle.std.proofs.Common.{map}
-use Rattle.std.proofs.lemmas.Result.{on_ok_weaker}
-use Rattle.journal_text.specs.RecordedReply.{recorded_of}
+use Rattle.journal_text.proofs.Common.{map, on_ok_weaker, recorded_of}
 use Rattle.journal_text.proofs.Lines.{journal_put}
 use Rattle.journal_text.proofs.journal_writer.push_parts.Goals as goal
 

@@ -1,8 +1,5 @@
-use Rattle.std.proofs.Common.{◌≡◌, ◌++◌, map, drop, string_bytes}
+use Rattle.journal_text.proofs.Common.{◌≡◌, ◌++◌, map, drop, string_bytes, recorded_of, written, lines_text}
 use Rattle.journal_text.specs.declared.line.Line.TheVariants as line
-use Rattle.journal_text.specs.RecordedReply.{recorded_of}
-use Rattle.journal_text.specs.Form.{written}
-use Rattle.journal_text.specs.Text.{lines_text}
 use Rattle.journal_text.proofs.journal_writer.push_replies.Given as goal
 
 abbrev pub invariant-replies : goal.invariant-replies

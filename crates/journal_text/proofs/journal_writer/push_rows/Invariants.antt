@@ -1,6 +1,4 @@
-use Rattle.std.proofs.Common.{◌≡◌, ◌++◌, map, drop, string_bytes}
-use Rattle.journal_text.specs.Form.{written}
-use Rattle.journal_text.specs.Text.{lines_text, row_line}
+use Rattle.journal_text.proofs.Common.{◌≡◌, ◌++◌, map, drop, string_bytes, written, lines_text, row_line}
 use Rattle.journal_text.proofs.journal_writer.push_rows.Given as goal
 
 abbrev pub invariant-rows : goal.invariant-rows

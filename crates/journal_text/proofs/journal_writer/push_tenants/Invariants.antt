@@ -1,6 +1,4 @@
-use Rattle.std.proofs.Common.{◌≡◌, ◌++◌, map, drop, string_bytes}
-use Rattle.journal_text.specs.Form.{written}
-use Rattle.journal_text.specs.Text.{lines_text, tenant_line}
+use Rattle.journal_text.proofs.Common.{◌≡◌, ◌++◌, map, drop, string_bytes, written, lines_text, tenant_line}
 use Rattle.journal_text.proofs.journal_writer.push_tenants.Given as goal
 
 abbrev pub invariant-tenants : goal.invariant-tenants

@@ -1,6 +1,4 @@
-use Rattle.std.proofs.Common.{sym, ap, ◌∙◌}
-use Rattle.std.proofs.lemmas.Option.{same_Some}
-use Rattle.journal_text.specs.inside.Candidates.{candidate_of}
+use Rattle.journal_text.proofs.Common.{sym, ap, ◌∙◌, same_Some, candidate_of}
 use Rattle.journal_text.proofs.LinesBack.{line_back}
 use Rattle.journal_text.proofs.laws.one_line.Goals as goal
 

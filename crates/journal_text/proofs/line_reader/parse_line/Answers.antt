@@ -1,7 +1,6 @@
 use Rattle.std.proofs.Common.{◌≡◌, Option, None, Err, subst}
-use Rattle.journal_text.specs.declared.fault.LineFault.{LineFault}
+use Rattle.journal_text.proofs.Common.{LineFault, Line}
 use Rattle.journal_text.specs.declared.fault.LineFault.TheVariants as faults
-use Rattle.journal_text.specs.declared.line.Line.{Line}
 use Rattle.journal_text.specs.inside.Answers.{Reads}
 use Rattle.journal_text.proofs.OwnText.{is_unread}
 use Rattle.journal_text.proofs.line_reader.parse_line.Goals as goal

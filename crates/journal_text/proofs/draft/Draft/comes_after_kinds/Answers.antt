@@ -1,5 +1,4 @@
-use Rattle.std.proofs.Common.{◌≡◌, None, Some, ap, sym, ◌∙◌}
-use Rattle.journal_text.specs.inside.Draft.{kind_after, last_key}
+use Rattle.journal_text.proofs.Common.{◌≡◌, None, Some, ap, sym, ◌∙◌, kind_after, last_key}
 use Rattle.journal_text.proofs.Drafts.{last_key-last}
 use Rattle.journal_text.proofs.draft.Draft.comes_after_kinds.Goals as goal
 

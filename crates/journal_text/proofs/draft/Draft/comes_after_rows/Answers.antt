@@ -1,6 +1,4 @@
-use Rattle.std.proofs.Common.{◌≡◌, None, Some, ap, sym, ◌∙◌}
-use Rattle.journal_text.specs.inside.Draft.{last_key}
-use Rattle.journal_text.specs.Rules.{comes_after}
+use Rattle.journal_text.proofs.Common.{◌≡◌, None, Some, ap, sym, ◌∙◌, last_key, comes_after}
 use Rattle.journal_text.proofs.Drafts.{last_key-last}
 use Rattle.journal_text.proofs.draft.Draft.comes_after_rows.Goals as goal
 

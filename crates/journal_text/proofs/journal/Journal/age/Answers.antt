@@ -1,6 +1,4 @@
-use Rattle.std.proofs.Common.{subst}
-use Rattle.journal_text.specs.Form.{newest}
-use Rattle.journal_text.specs.Rules.{KeepsRulesIn}
+use Rattle.journal_text.proofs.Common.{subst, newest, KeepsRulesIn}
 use Rattle.journal_text.proofs.OneText.{journal_age}
 use Rattle.journal_text.proofs.journal.Journal.age.Goals as goal
 
