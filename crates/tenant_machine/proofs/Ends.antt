@@ -1,5 +1,5 @@
 -- How turns are closed that ask nothing of the storage, as steps of the machine.
-use Rattle.std.proofs.Common.{◌≡◌, ℕ, ◌++◌, Bool, true, false, List, [], ◌∷◌, Option, Some, None, refl, ap, sym, ◌∙◌}
+use Rattle.std.proofs.Common.{◌≡◌, ℕ, ◌++◌, Bool, true, false, List, Option, Some, None, refl, ap, sym, ◌∙◌}
 use Rattle.std.specs.Prelude.{Err, option_map, option_and_then}
 use Rattle.std.specs.FinMap as map
 use Rattle.std.proofs.lemmas.Option.{same_Some}
@@ -17,7 +17,7 @@ use Rattle.silo_model.specs.Machine.{Machine, Account, Entry, Entries, Request, 
 use Rattle.silo_model.specs.Effect.{Effect, applied, context_at, change_option, change_at}
 use Rattle.silo_model.specs.Calls.{reply_to}
 use Rattle.silo_model.specs.Step.{machine_step, effect_of, at_turn}
-use Rattle.silo_model.specs.Turns.{plan_of, sent_by, with_sends, outcome_of, ended, ended_by, abandoned, stays_or_goes}
+use Rattle.silo_model.specs.Turns.{plan_of, sent_by, outcome_of, ended, ended_by, abandoned, stays_or_goes}
 use Rattle.silo_state.specs.Entries.{closed_entry, ClosesEntry}
 use Rattle.silo_state.specs.Finds.{open_in, IsOwn, asks}
 use Rattle.silo_state.specs.Sends.{with_more}

@@ -1,5 +1,5 @@
 -- How turns are closed that ask for the storage, as steps of the machine.
-use Rattle.std.proofs.Common.{◌≡◌, ℕ, suc, arith, ◌++◌, ◌==◌, ◌&&◌, Bool, true, false, List, [], ◌∷◌, length, Option, Some, None, refl, ap, sym, ◌∙◌, subst}
+use Rattle.std.proofs.Common.{◌≡◌, ℕ, suc, arith, ◌++◌, ◌==◌, Bool, true, false, List, [], ◌∷◌, length, Option, Some, None, refl, ap, sym, ◌∙◌, subst}
 use Rattle.std.specs.Prelude.{Result, Ok, Err, option_map, option_and_then, if◌then◌else◌}
 use Rattle.std.specs.FinMap as map
 use Rattle.silo_state.proofs.Stores.{with_state_done, with_state_refused}
@@ -20,7 +20,6 @@ use Rattle.silo_event.specs.declared.reply.Party.{Party}
 use Rattle.silo_event.specs.declared.reply.Reply.{Reply}
 use Rattle.silo_event.specs.declared.step.Step.TheVariants.{Store}
 use Rattle.silo_model.specs.Machine.{Machine, Entry, Entries, Request, Phase, waiting, ready}
-use Rattle.silo_model.specs.Idle.{is_ready}
 use Rattle.silo_model.specs.Effect.{Effect, Change, keep, applied, context_at, change_at}
 use Rattle.silo_model.specs.Calls.{reply_to}
 use Rattle.silo_model.specs.Step.{machine_step, effect_of}

@@ -1,17 +1,13 @@
 -- An ordered map of activations, seen as a finite map.
-use Rattle.std.proofs.Common.{◌≡◌, ℕ, Bool, true, false, not, ◌&&◌, cond, List, [], ◌∷◌, length, Option, Some, None, refl, ap, sym, ◌∙◌, subst, true≢false}
-use Rattle.std.specs.Prelude.{T, filter, if◌then◌else◌}
-use Rattle.std.specs.declared.cmp.Ordering.TheVariants.{Less}
-use Rattle.std.specs.Ordering.{eq_by_cmp, is_eq, is_lt}
+use Rattle.std.proofs.Common.{◌≡◌, ℕ, Bool, true, false, not, cond, List, [], ◌∷◌, length, Option, Some, None, refl, ap, sym, ◌∙◌, true≢false}
+use Rattle.std.specs.Prelude.{filter, if◌then◌else◌}
+use Rattle.std.specs.Ordering.{eq_by_cmp}
 use Rattle.std.specs.Cmp.{eq_by_cmp_equiv}
 use Rattle.std.specs.Map.{lookup, keys_of}
-use Rattle.std.specs.List.{AllByRecursion}
-use Rattle.std.specs.List.Sorted.{IsStrictlySortedBy}
 use Rattle.std.specs.BTreeMap as tree
 use Rattle.std.specs.BTreeMap.{BTreeMap, UpdatesBy, IsOrdered}
 use Rattle.std.specs.FinMap as map
-use Rattle.std.specs.FinMap.{FinMap, find, from_entries, is_sorted}
-use Rattle.std.specs.FinMap.Entries.{below_all}
+use Rattle.std.specs.FinMap.{FinMap, from_entries}
 use Rattle.std.proofs.lemmas.Map.Entries.{lookup-filter-values, option_filter}
 use Rattle.std.proofs.lemmas.Map.Keys.{IsDistinct-from_sorted}
 use Rattle.finite_maps.proofs.Ascending.{len-ascending}
@@ -20,7 +16,6 @@ use Rattle.finite_maps.proofs.Keys.{keys_by_order, eq_by_cmp-Decides}
 use Rattle.finite_maps.specs.Keys.{AreKeys}
 use Rattle.grain_id.specs.Names.{Grain, grain_cmp}
 use Rattle.grain_id.proofs.Order.{grain_cmp_total, grain_cmp_exact}
-use Rattle.grain_id.proofs.ByGrain.{alike}
 use Rattle.activation_directory.specs.declared.activation.Activation.{Activation}
 use Rattle.silo_model.specs.Idle.{is_due}
 use Rattle.silo_state.specs.Shown.{entry_of}

@@ -1,17 +1,12 @@
 -- What closing a turn leaves of entries and replies.
-use Rattle.std.specs.Prelude.{◌≡◌, ℕ, Bool, true, List, ◌++◌, Option, Some, None, Result, Ok, Err, IsErr, if◌then◌else◌}
-use Rattle.std.specs.FinMap as map
+use Rattle.std.specs.Prelude.{◌≡◌, ℕ, Bool, true, List, Some, None, Result, Ok, Err, IsErr}
 use Rattle.grain_id.specs.Names.{Grain}
-use Rattle.request_codec.specs.Tree.{Tree}
 use Rattle.grain_kinds.specs.Logic.{same}
 use Rattle.grain_storage.specs.declared.fault.StoreFault.{StoreFault}
 use Rattle.grain_storage.specs.declared.fault.StoreFault.TheVariants as storage
-use Rattle.silo_event.specs.declared.fault.Fault.{Fault}
 use Rattle.silo_event.specs.declared.fault.Fault.TheVariants.{StorageFailed, StateChanged, VersionsSpent}
-use Rattle.silo_event.specs.declared.reply.Party.{Party}
 use Rattle.silo_event.specs.declared.reply.Reply.{Reply}
-use Rattle.silo_model.specs.Machine.{Entries, Phase, waiting, ready}
-use Rattle.silo_model.specs.Calls.{reply_to}
+use Rattle.silo_model.specs.Machine.{Entries, ready}
 use Rattle.silo_state.specs.declared.storing.StorageAnswer.{StorageAnswer}
 use Rattle.silo_state.specs.Closings.{ClosesTold, EndsTold}
 
