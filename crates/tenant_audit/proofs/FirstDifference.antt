@@ -1,16 +1,7 @@
 -- The first difference of a tenant, by where its machine was compared with what was recorded.
-use Rattle.std.proofs.Common.{◌≡◌, ℕ, true, List, Option, Some, None, ap, sym, ◌∙◌, subst}
-use Rattle.std.specs.List.{AllByRecursion}
+use Rattle.silo_model.proofs.Common.{◌∙◌, ◌≡◌, AllByRecursion, Limits, List, Logic, Machine, None, Option, Some, Step, ap, concerns, limits_of, machine_all_done, start_of, subst, sym, true, ℕ}
 use Rattle.std.proofs.lemmas.List.Elements.{filter_passes, recursion_from_All}
 use Rattle.grain_storage.specs.Memory.{rows_of}
-use Rattle.tenant_gate.specs.declared.limits.Limits.{Limits}
-use Rattle.tenant_gate.specs.Table.{limits_of}
-use Rattle.grain_kinds.specs.Logic.{Logic}
-use Rattle.silo_event.specs.declared.step.Step.{Step}
-use Rattle.silo_model.specs.Machine.{Machine}
-use Rattle.silo_model.specs.Opening.{start_of}
-use Rattle.silo_model.specs.Journal.{machine_all_done}
-use Rattle.silo_model.specs.Run.{concerns}
 use Rattle.journal_text.specs.Text.{History}
 use Rattle.audit_model.specs.Difference.{Difference, at_step, at_reply, at_row}
 use Rattle.audit_model.specs.Parts.{setup_of, steps_for, replies_for, rows_for}

@@ -1,12 +1,8 @@
 -- What is held of each tenant, as a thing is added.
-use Rattle.std.proofs.Common.{◌≡◌, ℕ, Bool, true, false, cond, List, [], ◌∷◌, ◌++◌, Option, Some, refl, ap, sym, ◌∙◌}
-use Rattle.std.specs.Prelude.{unwrap_or, option_map, if◌then◌else◌}
+use Rattle.silo_model.proofs.Common.{[], ◌++◌, ◌∙◌, ◌∷◌, ◌≡◌, Bool, List, Option, Some, ap, append-nil, cond, eq_by_cmp, false, if◌then◌else◌, option_map, refl, same_text, same_text_decides, sym, text_cmp, text_cmp_exact, text_cmp_total, true, unwrap_or, ℕ}
 use Rattle.std.specs.BTreeMap.{BTreeMap, get}
-use Rattle.std.specs.Ordering.{eq_by_cmp}
 use Rattle.std.specs.Global.{Vec}
-use Rattle.std.proofs.lemmas.List.{append-nil}
-use Rattle.grain_id.specs.Names.{text_cmp, same_text}
-use Rattle.grain_id.proofs.Order.{text_cmp_total, text_cmp_exact, same_text_decides, ties_from_Decides}
+use Rattle.grain_id.proofs.Order.{ties_from_Decides}
 use Rattle.tenant_audit.specs.inside.Parted.{held_for, if_owned}
 
 ties : (s t : List ℕ) → same_text s t ≡ eq_by_cmp text_cmp s t

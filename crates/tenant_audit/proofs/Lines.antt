@@ -1,7 +1,6 @@
 -- A report's line, as it is written piece by piece.
-use Rattle.std.proofs.Common.{◌≡◌, ◌++◌, ℕ, List, Option, IfOk, String, Global, codes, string_bytes, append_assoc, ap, sym, ◌∙◌, subst}
-use Rattle.std.specs.Prelude.{Result}
-use Rattle.std.specs.Option.{option_map}
+use Rattle.silo_model.proofs.Common.{◌++◌, ◌∙◌, ◌≡◌, List, Option, Result, ap, append_assoc, option_map, subst, sym, ℕ}
+use Rattle.std.proofs.Common.{IfOk, String, Global, codes, string_bytes}
 use Rattle.tenant_audit.specs.ReportView.{difference_of, tenant_report_of}
 use Rattle.tenant_audit.specs.ReportText.{said_of, report_line}
 use Rattle.tenant_audit.specs.declared.difference.Difference.{Difference}

@@ -1,14 +1,8 @@
 -- A tenant's own steps and nobody's in one, by their places, are those that concern it.
-use Rattle.std.proofs.Common.{◌≡◌, ℕ, ◌+◌, ◌<◌, Bool, true, false, cond, List, [], ◌∷◌, Option, Some, None, length, refl, ap, ◌∙◌, arith}
-use Rattle.std.specs.Prelude.{nat_lt, filter, map as map_list, if◌then◌else◌}
+use Rattle.silo_model.proofs.Common.{[], ◌+◌, ◌<◌, ◌∙◌, ◌∷◌, ◌≡◌, AllByRecursion, Bool, List, None, Option, Some, Step, ap, arith, concerns_by, cond, false, filter, if◌then◌else◌, length, lt-ltb, map_list, nat_lt, owner_of, refl, restricted_to, same_text, true, ℕ}
 use Rattle.std.specs.Option.{is_none}
-use Rattle.std.specs.List.{AllByRecursion}
-use Rattle.std.proofs.lemmas.Bool.{lt-ltb, le-ltb}
+use Rattle.std.proofs.lemmas.Bool.{le-ltb}
 use Rattle.std.proofs.lemmas.List.{length-map}
-use Rattle.grain_id.specs.Names.{same_text}
-use Rattle.silo_event.specs.Owner.{owner_of}
-use Rattle.silo_event.specs.declared.step.Step.{Step}
-use Rattle.silo_model.specs.Run.{concerns_by, restricted_to}
 use Rattle.audit_model.specs.Parts.{is_owned_by}
 use Rattle.tenant_audit.specs.inside.Parted.{numbered, is_own, is_nobodys, merge, merge_at, merged, placed}
 use Rattle.tenant_audit.specs.declared.steps_of_tenant.PlacedStep.{PlacedStep}

@@ -1,19 +1,14 @@
 -- Names that are found one after another come to stand once each, ascending.
-use Rattle.std.proofs.Common.{◌≡◌, ℕ, ◌+◌, ◌<◌, length, take, get_or, Bool, true, false, List, [], ◌∷◌, ◌++◌, refl, ap, sym, ◌∙◌, subst}
-use Rattle.std.specs.Prelude.{◌||◌, map as map_list, flat_map}
+use Rattle.silo_model.proofs.Common.{[], ◌++◌, ◌+◌, ◌<◌, ◌||◌, ◌∙◌, ◌∷◌, ◌≡◌, Bool, Less, List, Ordering, ap, false, flat_map, length, list_any-append, map_list, refl, same_text, subst, sym, text_cmp, text_cmp_exact, texts, true, ℕ}
+use Rattle.std.proofs.Common.{take, get_or}
 use Rattle.std.specs.List.Sorted.{IsStrictlySortedBy}
-use Rattle.std.specs.declared.cmp.Ordering.{Ordering}
-use Rattle.std.specs.declared.cmp.Ordering.TheVariants.{Less, Equal, Greater}
+use Rattle.std.specs.declared.cmp.Ordering.TheVariants.{Equal, Greater}
 use Rattle.std.specs.Ordering.{match_ordering}
 use Rattle.std.specs.FinMap as map
 use Rattle.std.specs.BTreeSet.{insert_key}
 use Rattle.std.proofs.lemmas.List.{flat_map_more, map_more, take_more}
-use Rattle.std.proofs.lemmas.List.Folds.{list_any-append}
 use Rattle.std.proofs.Math.Bool.{or-false, or_assoc}
-use Rattle.grain_id.proofs.Keys.{texts}
 use Rattle.finite_maps.proofs.Sets.{keys-set_of, set_of-alike}
-use Rattle.grain_id.specs.Names.{text_cmp, same_text}
-use Rattle.grain_id.proofs.Order.{text_cmp_exact}
 use Rattle.audit_model.specs.Parts.{is_listed, ascending}
 use Rattle.tenant_audit.specs.inside.Owners.{Gains}
 

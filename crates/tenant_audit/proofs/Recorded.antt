@@ -1,8 +1,6 @@
 -- What is recorded of a reply.
-use Rattle.std.proofs.Common.{◌≡◌, ◌↔◌, IsTrue, Bool, ap, sym, ◌∙◌}
-use Rattle.std.specs.Prelude.{Result, Ok}
-use Rattle.request_codec.specs.Tree.{Tree}
-use Rattle.silo_event.specs.declared.reply.Reply.{Reply}
+use Rattle.silo_model.proofs.Common.{◌∙◌, ◌≡◌, Bool, Ok, Reply, Result, Tree, ap, sym}
+use Rattle.std.proofs.Common.{◌↔◌, IsTrue}
 use Rattle.journal_text.specs.RecordedReply.{recorded_of, recorded_outcome}
 use Rattle.journal_text.specs.RecordedFault.{CodeAndText}
 use Rattle.journal_text.specs.declared.recorded.RecordedReply.{RecordedReply}

@@ -1,11 +1,9 @@
 -- Reports of tenants, one after another.
-use Rattle.std.proofs.Common.{◌≡◌, ℕ, Bool, ◌||◌, List, [], ◌∷◌, ◌++◌, Option, Some, None, All, map, refl, ap, ap₂, sym, ◌∙◌, subst}
-use Rattle.std.specs.List.{list_any}
-use Rattle.std.specs.Option.{is_some, option_map}
+use Rattle.silo_model.proofs.Common.{[], ◌++◌, ◌||◌, ◌∙◌, ◌∷◌, ◌≡◌, Bool, List, Logic, None, Option, Some, ap, is_some, list_any, option_map, refl, subst, sym, ℕ}
+use Rattle.std.proofs.Common.{All, map, ap₂}
 use mathlib.Core.List.{map-map}
 use Rattle.std.proofs.lemmas.List.{map-append}
 use Rattle.std.proofs.lemmas.List.Elements.{All-push, All-map}
-use Rattle.grain_kinds.specs.Logic.{Logic}
 use Rattle.journal_text.specs.Text.{History}
 use Rattle.audit_model.specs.Logics.{logic_of}
 use Rattle.audit_model.specs.Parts.{tenants_in}

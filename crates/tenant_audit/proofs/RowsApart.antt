@@ -1,21 +1,12 @@
 -- The least grain at which two lists of rows differ, by where they part.
-use Rattle.std.proofs.Common.{◌≡◌, ◌≢◌, Bool, true, false, cond, List, [], ◌∷◌, ◌++◌, Some, None, refl, ap, sym, ◌∙◌}
-use Rattle.std.specs.List.{AllByRecursion}
+use Rattle.silo_model.proofs.Common.{[], ◌++◌, ◌∙◌, ◌∷◌, ◌≡◌, ◌≢◌, AllByRecursion, Bool, Grain, Less, List, None, Ordering, Row, Rows, Some, ap, append-nil, cond, eq_by_cmp, false, grain_cmp, grain_cmp_exact, grain_cmp_total, none-some, refl, same_Some, sym, tied_itself, true}
 use Rattle.std.specs.List.Sorted.{IsStrictlySortedBy}
 use Rattle.std.specs.Map.{keys_of}
-use Rattle.std.specs.declared.cmp.Ordering.{Ordering}
-use Rattle.std.specs.declared.cmp.Ordering.TheVariants.{Less, Equal, Greater}
-use Rattle.std.specs.Ordering.{eq_by_cmp, is_eq, is_lt, ordering_reverse}
-use Rattle.std.specs.Cmp.{tied_itself}
+use Rattle.std.specs.declared.cmp.Ordering.TheVariants.{Equal, Greater}
+use Rattle.std.specs.Ordering.{is_eq, is_lt, ordering_reverse}
 use Rattle.std.specs.FinMap as map
 use Rattle.std.specs.FinMap.{find}
-use Rattle.std.proofs.lemmas.List.{append-nil}
-use Rattle.std.proofs.lemmas.Option.{none-some, same_Some}
-use Rattle.grain_id.specs.Names.{Grain, grain_cmp}
-use Rattle.grain_id.proofs.Order.{grain_cmp_total, grain_cmp_exact}
-use Rattle.grain_storage.specs.declared.row.Row.{Row}
 use Rattle.grain_storage.specs.Memory.{rows_of}
-use Rattle.grain_storage.specs.Rows.{Rows}
 use Rattle.audit_model.specs.Difference.{RowsDifferAt}
 use Rattle.tenant_audit.specs.inside.Comparison.{lesser_of}
 

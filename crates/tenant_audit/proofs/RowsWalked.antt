@@ -1,16 +1,11 @@
 -- Recorded rows beside a machine's, as far as both were walked.
-use Rattle.std.proofs.Common.{◌≡◌, List, [], ◌∷◌, ◌++◌, None, ap, sym, ◌∙◌, subst, true}
+use Rattle.silo_model.proofs.Common.{[], ◌++◌, ◌∙◌, ◌∷◌, ◌≡◌, Grain, List, None, Row, Rows, ap, append-nil, grain_cmp, is_of, subst, sym, true}
 use Rattle.std.specs.FinMap as map
 use Rattle.std.specs.List.Sorted.{IsStrictlySortedBy}
 use Rattle.std.specs.Map.{keys_of}
-use Rattle.std.proofs.lemmas.List.{append-nil}
 use Rattle.std.proofs.lemmas.List.Kept.{IsStrictlySortedBy-filter}
 use Rattle.finite_maps.proofs.Ascending.{keys_ascend}
-use Rattle.grain_id.specs.Names.{Grain, grain_cmp}
-use Rattle.grain_storage.specs.declared.row.Row.{Row}
 use Rattle.grain_storage.specs.Memory.{rows_of}
-use Rattle.grain_storage.specs.Rows.{Rows}
-use Rattle.silo_model.specs.Whole.{is_of}
 use Rattle.silo_core.proofs.Opened.{rows_again}
 use Rattle.journal_text.specs.Rules.{are_ascending}
 use Rattle.journal_text.specs.Text.{History}

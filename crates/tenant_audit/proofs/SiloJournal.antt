@@ -1,10 +1,6 @@
 -- The journal of a silo has no difference.
-use Rattle.std.proofs.Common.{◌≡◌, ℕ, List, [], None, refl, ap, sym, ◌∙◌, subst}
+use Rattle.silo_model.proofs.Common.{[], ◌∙◌, ◌≡◌, LeadsTo, List, Logic, None, Rows, Setup, ap, refl, subst, sym, ℕ}
 use Rattle.std.specs.FinMap as map
-use Rattle.grain_storage.specs.Rows.{Rows}
-use Rattle.grain_kinds.specs.Logic.{Logic}
-use Rattle.silo_model.specs.Opening.{Setup}
-use Rattle.silo_model.specs.Journal.{LeadsTo}
 use Rattle.silo_core.specs.History as silo
 use Rattle.silo_core.specs.inside.Shown.{rows_in}
 use Rattle.silo_core.proofs.Opened.{rows_again}

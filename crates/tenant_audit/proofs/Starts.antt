@@ -1,15 +1,9 @@
 -- A tenant's machine at its start.
-use Rattle.std.proofs.Common.{◌≡◌, ℕ, Bool, true, false, cond, List, [], Option, None, refl, sym, ◌∙◌}
-use Rattle.std.specs.Prelude.{option_map}
+use Rattle.silo_model.proofs.Common.{[], ◌∙◌, ◌≡◌, Bool, Limits, List, None, Option, Row, Setup, cond, false, fresh_account, get-part, grain_cmp, is_of, limits_of, option_map, refl, start_of, sym, true, ℕ}
 use Rattle.std.specs.FinMap as map
-use Rattle.grain_id.specs.Names.{grain_cmp}
-use Rattle.grain_id.proofs.ByGrain.{alike, get-part}
-use Rattle.tenant_gate.specs.declared.limits.Limits.{Limits}
-use Rattle.tenant_gate.specs.Table.{Table, limits_of}
-use Rattle.grain_storage.specs.declared.row.Row.{Row}
+use Rattle.grain_id.proofs.ByGrain.{alike}
+use Rattle.tenant_gate.specs.Table.{Table}
 use Rattle.idle_collector.specs.Ages.{Ages}
-use Rattle.silo_model.specs.Opening.{Setup, fresh_account, start_of}
-use Rattle.silo_model.specs.Whole.{is_of}
 use Rattle.tenant_machine.specs.Machines.{start_with}
 
 either_none : (b : Bool) (o : Option Row) → o ≡ None → cond b o None ≡ o

@@ -1,11 +1,6 @@
 -- Steps that a machine takes one after another.
-use Rattle.std.proofs.Common.{◌≡◌, ℕ, ◌+◌, ◌-◌, Bool, true, false, subst, List, [], ◌∷◌, ◌++◌, Some, None, length, length-append, append_assoc, refl, ap, sym, ◌∙◌, arith}
-use Rattle.std.specs.Prelude.{option_and_then, Ok}
-use Rattle.silo_event.specs.declared.step.Step.{Step}
-use Rattle.grain_kinds.specs.Logic.{Logic}
-use Rattle.silo_model.specs.Machine.{Machine}
-use Rattle.silo_model.specs.Step.{machine_step}
-use Rattle.silo_model.specs.Journal.{machine_all_done}
+use Rattle.silo_model.proofs.Common.{[], ◌++◌, ◌+◌, ◌∙◌, ◌∷◌, ◌≡◌, Bool, List, Logic, Machine, None, Ok, Some, Step, ap, append_assoc, arith, false, length, length-append, machine_all_done, machine_step, option_and_then, refl, subst, sym, true, ℕ}
+use Rattle.std.proofs.Common.{◌-◌}
 use Rattle.audit_model.specs.Difference.{StopsAt}
 use Rattle.audit_model.proofs.Differences.{done_then}
 use Rattle.tenant_machine.specs.Machines.{StepAnswers}

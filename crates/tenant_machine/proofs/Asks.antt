@@ -1,25 +1,10 @@
 -- What a client's line that is refused, a status and a poke come to, and the steps of nobody, as steps of the machine.
-use Rattle.std.proofs.Common.{◌≡◌, ℕ, ◌++◌, Bool, true, false, Option, Some, None, refl, ap, sym, ◌∙◌}
-use Rattle.std.specs.Prelude.{Result, Ok, Err, nat_le, if◌then◌else◌}
+use Rattle.silo_model.proofs.Common.{◌++◌, ◌∙◌, ◌≡◌, Account, Bool, Client, Err, Fault, Grain, Logic, Machine, None, Ok, Option, Poke, Refuse, Result, Rows, Some, Status, StorageFailed, Sweep, Tick, Tree, ap, applied, context_at, effect_of, false, if◌then◌else◌, kept_entries, kind_age, machine_step, nat_le, poke_settled, poked, refl, row_poked, row_told, spent, sym, told, true, ℕ}
 use Rattle.std.specs.FinMap as map
-use Rattle.grain_id.specs.Names.{Grain, Client}
-use Rattle.request_codec.specs.Tree.{Tree}
-use Rattle.grain_storage.specs.Rows.{Rows, spent}
 use Rattle.silo_event.specs.Fault.{refusal_fault}
-use Rattle.silo_event.specs.declared.fault.Fault.{Fault}
-use Rattle.silo_event.specs.declared.fault.Fault.TheVariants.{StorageFailed}
 use Rattle.silo_event.specs.declared.refusal.Refusal.{Refusal}
 use Rattle.silo_event.specs.declared.reply.Party.TheVariants as party
-use Rattle.silo_event.specs.declared.step.Step.TheVariants.{Refuse, Status, Poke, Tick, Sweep}
-use Rattle.grain_kinds.specs.Logic.{Logic}
-use Rattle.silo_model.specs.Machine.{Machine, Account}
-use Rattle.silo_model.specs.Effect.{applied, context_at}
-use Rattle.idle_collector.specs.Ages.{kind_age}
-use Rattle.silo_model.specs.Idle.{kept_entries}
-use Rattle.silo_model.specs.Calls.{told}
-use Rattle.silo_model.specs.Asks.{poked, poke_settled, status_told, row_told}
-use Rattle.silo_model.specs.Stores.{row_poked}
-use Rattle.silo_model.specs.Step.{machine_step, effect_of}
+use Rattle.silo_model.specs.Asks.{status_told}
 use Rattle.silo_model.proofs.Stored.{stores_at_one_row}
 use Rattle.silo_state.specs.Verdicts.{Settles}
 use Rattle.silo_state.proofs.AtRows.{done_at, refused_at}

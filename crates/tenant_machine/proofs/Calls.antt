@@ -1,19 +1,9 @@
 -- What a request that is refused or accepted comes to, as a step of the machine.
-use Rattle.std.proofs.Common.{◌≡◌, ◌+◌, Some, None, refl, ap, sym, ◌∙◌}
-use Rattle.std.specs.Prelude.{Result, Ok, Err, ℕ}
+use Rattle.silo_model.proofs.Common.{◌+◌, ◌∙◌, ◌≡◌, Account, Call, Client, Err, Fault, Grain, Logic, Machine, None, Ok, Party, Result, Some, ap, append-nil, applied, called, context_at, effect_of, machine_step, refl, sym, with_request, ℕ}
 use Rattle.std.specs.FinMap as map
-use Rattle.std.proofs.lemmas.List.{append-nil}
-use Rattle.grain_id.specs.Names.{Grain, Client}
 use Rattle.request_codec.specs.Call as codec
-use Rattle.silo_event.specs.declared.fault.Fault.{Fault}
-use Rattle.silo_event.specs.declared.reply.Party.{Party}
 use Rattle.silo_event.specs.declared.reply.Party.TheVariants as party
-use Rattle.silo_event.specs.declared.step.Step.TheVariants.{Call}
-use Rattle.grain_kinds.specs.Logic.{Logic}
-use Rattle.silo_model.specs.Machine.{Machine, Account}
-use Rattle.silo_model.specs.Effect.{applied, context_at}
-use Rattle.silo_model.specs.Calls.{called, call_settled, with_request}
-use Rattle.silo_model.specs.Step.{machine_step, effect_of}
+use Rattle.silo_model.specs.Calls.{call_settled}
 use Rattle.silo_state.specs.Verdicts.{Settles}
 use Rattle.tenant_machine.specs.inside.Requests.{seen_at, verdict, with_told, with_accepted}
 use Rattle.tenant_machine.proofs.Gate.{accepts}

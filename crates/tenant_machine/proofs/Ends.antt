@@ -1,23 +1,12 @@
 -- How turns are closed that ask nothing of the storage, as steps of the machine.
-use Rattle.std.proofs.Common.{◌≡◌, ℕ, ◌++◌, Bool, true, false, List, Option, Some, None, refl, ap, sym, ◌∙◌}
-use Rattle.std.specs.Prelude.{Err, option_map, option_and_then}
+use Rattle.silo_model.proofs.Common.{◌++◌, ◌∙◌, ◌≡◌, Abandon, Account, Bool, Effect, End, Entries, Entry, Err, Grain, Keep, List, Logic, Machine, NoMemory, None, Option, Outgoing, Party, Phase, Plan, Reply, Request, Some, StorageCall, ap, applied, asks_nothing, change_at, change_option, clears_row, context_at, effect_of, false, loading, machine_step, option_and_then, option_map, outcome_of, plan_of, reads_row, ready, refl, reply_to, same_Some, stays_or_goes, sym, true, waiting, writes_row, ℕ}
 use Rattle.std.specs.FinMap as map
-use Rattle.std.proofs.lemmas.Option.{same_Some}
 use Rattle.silo_state.proofs.Ends.{more_sent}
-use Rattle.grain_id.specs.Names.{Grain}
 use Rattle.grain_kinds.specs.Logic as say
-use Rattle.grain_kinds.specs.Logic.{Logic, Plan, Outgoing, Keep, StorageCall, asks_nothing, reads_row, writes_row, clears_row}
 use Rattle.grain_kinds.specs.Finished.{turn_plan}
 use Rattle.grain_kinds.specs.declared.turn.OpenedTurn.{OpenedTurn}
-use Rattle.silo_event.specs.declared.fault.Fault.TheVariants.{NoMemory}
-use Rattle.silo_event.specs.declared.reply.Party.{Party}
-use Rattle.silo_event.specs.declared.reply.Reply.{Reply}
-use Rattle.silo_event.specs.declared.step.Step.TheVariants.{End, Abandon}
-use Rattle.silo_model.specs.Machine.{Machine, Account, Entry, Entries, Request, Phase, waiting, loading, ready}
-use Rattle.silo_model.specs.Effect.{Effect, applied, context_at, change_option, change_at}
-use Rattle.silo_model.specs.Calls.{reply_to}
-use Rattle.silo_model.specs.Step.{machine_step, effect_of, at_turn}
-use Rattle.silo_model.specs.Turns.{plan_of, sent_by, outcome_of, ended, ended_by, abandoned, stays_or_goes}
+use Rattle.silo_model.specs.Step.{at_turn}
+use Rattle.silo_model.specs.Turns.{sent_by, ended, ended_by, abandoned}
 use Rattle.silo_state.specs.Entries.{closed_entry, ClosesEntry}
 use Rattle.silo_state.specs.Finds.{open_in, IsOwn, asks}
 use Rattle.silo_state.specs.Sends.{with_more}

@@ -1,20 +1,7 @@
 -- How an entry comes to be ready and its turns are opened, as steps of the machine.
-use Rattle.std.proofs.Common.{◌≡◌, ℕ, ◌++◌, Bool, true, false, List, Option, Some, None, refl, ap, sym, ◌∙◌}
-use Rattle.std.specs.Prelude.{Result, Ok, Err, IfOk, OnErr, flat_map, option_map, option_and_then}
+use Rattle.silo_model.proofs.Common.{◌++◌, ◌∙◌, ◌≡◌, Activate, Begin, Bool, Entries, Entry, Err, Grain, List, Load, Logic, Machine, None, Ok, Option, Phase, Reply, Result, Rows, Some, StorageFailed, Tree, activated, ap, append-nil, applied, content_or, context_at, effect_of, false, flat_map, loaded, loading, machine_step, on_entry, opened_if_ready, option_and_then, option_map, ready, refl, reply_to, sym, true, version_of, waiting, ℕ}
+use Rattle.std.specs.Prelude.{IfOk, OnErr}
 use Rattle.std.specs.FinMap as map
-use Rattle.std.proofs.lemmas.List.{append-nil}
-use Rattle.grain_id.specs.Names.{Grain}
-use Rattle.request_codec.specs.Tree.{Tree}
-use Rattle.grain_storage.specs.Rows.{Rows, version_of, content_or}
-use Rattle.grain_kinds.specs.Logic.{Logic}
-use Rattle.silo_event.specs.declared.fault.Fault.TheVariants.{StorageFailed}
-use Rattle.silo_event.specs.declared.reply.Reply.{Reply}
-use Rattle.silo_event.specs.declared.step.Step.TheVariants.{Activate, Load, Begin}
-use Rattle.silo_model.specs.Machine.{Machine, Entry, Entries, Phase, waiting, loading, ready}
-use Rattle.silo_model.specs.Effect.{applied, context_at, on_entry}
-use Rattle.silo_model.specs.Calls.{reply_to}
-use Rattle.silo_model.specs.Step.{machine_step, effect_of}
-use Rattle.silo_model.specs.Turns.{activated, loaded, opened_if_ready}
 use Rattle.silo_state.specs.Entries.{Starts, Opens, Begins}
 use Rattle.silo_state.specs.Reads.{is_loading}
 use Rattle.tenant_machine.specs.Machines.{StepAnswers}

@@ -1,11 +1,7 @@
 -- The first call that a grain sent: what is at its place, and what is left without it.
-use Rattle.std.proofs.Common.{◌≡◌, ℕ, suc, ◌+◌, ◌<◌, Bool, true, false, List, [], ◌∷◌, length, remove, slice_get, slice_index_or, IfSome, IsSome, Option, Some, None, refl, ap, sym, ◌∙◌}
-use Rattle.std.specs.Prelude.{if◌then◌else◌, option_map}
-use Rattle.std.specs.Borrow.{Bor}
-use Rattle.std.proofs.lemmas.Option.{same_Some, slice_get_read}
-use Rattle.grain_id.specs.Names.{Grain, grain_eq}
-use Rattle.silo_model.specs.Machine.{Send}
-use Rattle.silo_model.specs.Sends.{first_from}
+use Rattle.silo_model.proofs.Common.{[], ◌+◌, ◌<◌, ◌∙◌, ◌∷◌, ◌≡◌, Bool, Bor, Grain, List, None, Option, Send, Some, ap, false, first_from, grain_eq, if◌then◌else◌, length, option_map, refl, same_Some, suc, sym, true, ℕ}
+use Rattle.std.proofs.Common.{remove, slice_get, slice_index_or, IfSome, IsSome}
+use Rattle.std.proofs.lemmas.Option.{slice_get_read}
 use Rattle.tenant_machine.specs.declared.account.Sent.{Sent}
 use Rattle.tenant_machine.specs.inside.Sends.{send_of, sends_of, without_first, first_place, FindsSend}
 

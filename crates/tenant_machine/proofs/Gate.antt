@@ -1,14 +1,6 @@
 -- What the gate and the call rule say where they let a request pass.
-use Rattle.std.proofs.Common.{◌≡◌, ◌==◌, ◌<◌, Bool, true, false, length, Option, Some, None, refl, ap, sym, ◌∙◌}
-use Rattle.std.specs.Prelude.{Result, Ok, Err, nat_lt, if◌then◌else◌}
-use Rattle.std.proofs.lemmas.Bool.{lt-ltb}
-use Rattle.grain_id.specs.Names.{Grain, same_text}
-use Rattle.silo_event.specs.declared.fault.Fault.{Fault}
-use Rattle.silo_event.specs.declared.fault.Fault.TheVariants.{UnknownKind, AcrossTenants, NoNumber, NoActivation, MailboxFull}
-use Rattle.grain_kinds.specs.Logic.{Logic}
-use Rattle.silo_model.specs.Machine.{Machine, Account, Entry}
-use Rattle.silo_model.specs.Effect.{Context}
-use Rattle.silo_model.specs.Calls.{last_number, kind_gate, gate, room, admitted}
+use Rattle.silo_model.proofs.Common.{◌<◌, ◌==◌, ◌∙◌, ◌≡◌, Account, AcrossTenants, Bool, Context, Entry, Err, Fault, Grain, Logic, Machine, MailboxFull, NoActivation, NoNumber, None, Ok, Option, Result, Some, UnknownKind, ap, false, gate, if◌then◌else◌, last_number, length, lt-ltb, nat_lt, refl, same_text, sym, true}
+use Rattle.silo_model.specs.Calls.{kind_gate, room, admitted}
 use Rattle.silo_state.specs.Verdicts.{Settles}
 use Rattle.silo_state.proofs.AtRows.{same_Ok}
 use Rattle.tenant_machine.specs.inside.Requests.{seen_at, gated, verdict}

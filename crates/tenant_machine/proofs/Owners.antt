@@ -1,15 +1,6 @@
 -- A step leaves whose machine it is.
-use Rattle.std.proofs.Common.{◌≡◌, ℕ, Bool, true, false, List, Option, Some, None, ap, sym}
-use Rattle.std.specs.Prelude.{Result, Ok, Err, nat_le, option_map, if◌then◌else◌}
-use Rattle.std.proofs.lemmas.Option.{same_Some}
-use Rattle.grain_id.specs.Names.{Grain}
-use Rattle.grain_kinds.specs.Logic.{Logic}
-use Rattle.silo_event.specs.Owner.{owner_of}
-use Rattle.silo_event.specs.declared.step.Step.{Step}
-use Rattle.silo_event.specs.declared.step.Step.TheVariants.{Tick, Sweep}
-use Rattle.silo_model.specs.Machine.{Machine}
-use Rattle.silo_model.specs.Effect.{Effect, applied, context_at}
-use Rattle.silo_model.specs.Step.{machine_step, step_by, shared_step, swept, grain_of, effect_of}
+use Rattle.silo_model.proofs.Common.{◌≡◌, Bool, Effect, Err, Grain, List, Logic, Machine, None, Ok, Option, Result, Some, Step, Sweep, Tick, ap, applied, context_at, effect_of, false, grain_of, if◌then◌else◌, machine_step, nat_le, option_map, owner_of, same_Some, shared_step, sym, true, ℕ}
+use Rattle.silo_model.specs.Step.{step_by, swept}
 use Rattle.tenant_machine.specs.Machines.{StepAnswers}
 
 module _ (m new : Machine) where

@@ -1,20 +1,10 @@
 -- What a delivery comes to, as a step of the machine.
-use Rattle.std.proofs.Common.{◌≡◌, ◌+◌, ◌==◌, Bool, true, false, List, length, Option, Some, None, refl, ap, sym, ◌∙◌}
-use Rattle.std.specs.Prelude.{Result, Ok, Err, nat_lt, option_map, option_and_then, if◌then◌else◌}
+use Rattle.silo_model.proofs.Common.{◌+◌, ◌==◌, ◌∙◌, ◌≡◌, Account, AcrossTenants, Bool, Context, Deliver, Entry, Err, Fault, Grain, List, Logic, Machine, MailboxFull, NoActivation, NoNumber, None, Ok, Option, Result, Send, Some, UnknownKind, ap, append-nil, applied, called, context_at, effect_of, false, first_from, first_target, gate, if◌then◌else◌, last_number, length, machine_step, nat_lt, option_and_then, option_map, refl, same_text, sym, true, with_request}
 use Rattle.std.specs.FinMap as map
-use Rattle.std.proofs.lemmas.List.{append-nil}
-use Rattle.grain_id.specs.Names.{Grain, same_text}
 use Rattle.request_codec.specs.Call as codec
-use Rattle.silo_event.specs.declared.fault.Fault.{Fault}
-use Rattle.silo_event.specs.declared.fault.Fault.TheVariants.{UnknownKind, AcrossTenants, NoNumber, NoActivation, MailboxFull}
 use Rattle.silo_event.specs.declared.reply.Party.TheVariants as party
-use Rattle.silo_event.specs.declared.step.Step.TheVariants.{Deliver}
-use Rattle.grain_kinds.specs.Logic.{Logic}
-use Rattle.silo_model.specs.Machine.{Machine, Account, Entry, Send}
-use Rattle.silo_model.specs.Effect.{Context, applied, context_at}
-use Rattle.silo_model.specs.Calls.{last_number, gate, room, admitted, called, call_settled, with_request}
-use Rattle.silo_model.specs.Sends.{first_from, first_target, delivered, delivered_to, on_account}
-use Rattle.silo_model.specs.Step.{machine_step, effect_of}
+use Rattle.silo_model.specs.Calls.{room, admitted, call_settled}
+use Rattle.silo_model.specs.Sends.{delivered, delivered_to, on_account}
 use Rattle.silo_state.specs.Verdicts.{Settles}
 use Rattle.tenant_machine.specs.inside.Sends.{without_first}
 use Rattle.tenant_machine.specs.inside.Requests.{seen_at, verdict, with_told, with_accepted, without_sent}

@@ -1,30 +1,14 @@
 -- How turns are closed that ask for the storage, as steps of the machine.
-use Rattle.std.proofs.Common.{◌≡◌, ℕ, suc, arith, ◌++◌, ◌==◌, Bool, true, false, List, [], ◌∷◌, length, Option, Some, None, refl, ap, sym, ◌∙◌, subst}
-use Rattle.std.specs.Prelude.{Result, Ok, Err, option_map, option_and_then, if◌then◌else◌}
+use Rattle.silo_model.proofs.Common.{[], ◌++◌, ◌==◌, ◌∙◌, ◌∷◌, ◌≡◌, Bool, Change, Effect, Entries, Entry, Err, Fault, Grain, List, Logic, Machine, None, Ok, Option, Party, Phase, Plan, Reply, Request, Result, Row, RowFault, Rows, Some, StateChanged, StorageCall, StorageFailed, Store, Tree, VersionsSpent, ap, applied, arith, asks_nothing, change_at, clears_row, closed, context_at, effect_of, ends_activation, false, grain_cmp_exact, grain_cmp_total, if◌then◌else◌, keep, length, machine_step, option_and_then, option_map, reads_row, ready, refl, reply_to, row_changed, row_written, spent, stale, stays_or_goes, stored, stored_by, subst, suc, sym, true, version_value, waiting, writes_row, ℕ}
 use Rattle.std.specs.FinMap as map
 use Rattle.silo_state.proofs.Stores.{with_state_done, with_state_refused}
-use Rattle.grain_id.specs.Names.{Grain}
-use Rattle.grain_id.proofs.Order.{grain_cmp_total, grain_cmp_exact}
 use Rattle.finite_maps.proofs.Maps as maps
-use Rattle.request_codec.specs.Tree.{Tree}
-use Rattle.grain_storage.specs.declared.row.Row.{Row}
 use Rattle.grain_storage.specs.declared.fault.StoreFault.{StoreFault}
 use Rattle.grain_storage.specs.declared.fault.StoreFault.TheVariants as storage
-use Rattle.grain_storage.specs.Rows.{Rows, RowFault, stale, spent, written, cleared}
+use Rattle.grain_storage.specs.Rows.{written, cleared}
 use Rattle.grain_kinds.specs.Logic as say
-use Rattle.grain_kinds.specs.Logic.{Logic, Plan, StorageCall, asks_nothing, reads_row, writes_row, clears_row}
 use Rattle.grain_kinds.specs.declared.turn.OpenedTurn.{OpenedTurn}
-use Rattle.silo_event.specs.declared.fault.Fault.{Fault}
-use Rattle.silo_event.specs.declared.fault.Fault.TheVariants.{StorageFailed, StateChanged, VersionsSpent}
-use Rattle.silo_event.specs.declared.reply.Party.{Party}
-use Rattle.silo_event.specs.declared.reply.Reply.{Reply}
-use Rattle.silo_event.specs.declared.step.Step.TheVariants.{Store}
-use Rattle.silo_model.specs.Machine.{Machine, Entry, Entries, Request, Phase, waiting, ready}
-use Rattle.silo_model.specs.Effect.{Effect, Change, keep, applied, context_at, change_at}
-use Rattle.silo_model.specs.Calls.{reply_to}
-use Rattle.silo_model.specs.Step.{machine_step, effect_of}
-use Rattle.silo_model.specs.Stores.{row_written, row_cleared, at_row, version_value}
-use Rattle.silo_model.specs.Turns.{closed, ends_activation, row_changed, stored, stored_by, stays_or_goes}
+use Rattle.silo_model.specs.Stores.{row_cleared, at_row}
 use Rattle.silo_model.proofs.Leaving.{busy_stays}
 use Rattle.silo_model.proofs.Stored.{stores_at_one_row}
 use Rattle.silo_state.specs.Entries.{closed_entry, ClosesEntry}

@@ -1,15 +1,10 @@
 -- What a sweep leaves of the entries, and that the marks stay.
-use Rattle.std.proofs.Common.{◌≡◌, ℕ, Bool, true, false, not, cond, List, Option, Some, None, refl, ap, sym, ◌∙◌}
-use Rattle.std.specs.Prelude.{option_map, if◌then◌else◌}
+use Rattle.silo_model.proofs.Common.{◌∙◌, ◌≡◌, Bool, FinMap, Grain, List, Logic, None, Option, Some, ap, cond, false, get-part, grain_cmp, grain_cmp_exact, grain_cmp_total, if◌then◌else◌, is_kept, kept_entries, not, option_map, refl, sym, true, ℕ}
 use Rattle.std.specs.FinMap as map
-use Rattle.std.specs.FinMap.{FinMap}
-use Rattle.grain_id.specs.Names.{Grain, grain_cmp}
-use Rattle.grain_id.proofs.Order.{grain_cmp_total, grain_cmp_exact}
-use Rattle.grain_id.proofs.ByGrain.{alike, get-part}
-use Rattle.grain_kinds.specs.Logic.{Logic}
+use Rattle.grain_id.proofs.ByGrain.{alike}
 use Rattle.finite_maps.proofs.Mapped.{get-mapped}
 use Rattle.activation_directory.specs.declared.activation.Activation.{Activation}
-use Rattle.silo_model.specs.Idle.{is_due, is_kept, kept_entries}
+use Rattle.silo_model.specs.Idle.{is_due}
 use Rattle.silo_state.specs.Marks.{AllMarked}
 use Rattle.silo_state.specs.Shown.{entry_of, entries_of}
 use Rattle.tenant_machine.specs.inside.Sweeps.{left_of}

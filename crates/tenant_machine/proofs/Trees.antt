@@ -1,21 +1,17 @@
 -- An ordered map of activations, seen as a finite map.
-use Rattle.std.proofs.Common.{◌≡◌, ℕ, Bool, true, false, not, cond, List, [], ◌∷◌, length, Option, Some, None, refl, ap, sym, ◌∙◌, true≢false}
-use Rattle.std.specs.Prelude.{filter, if◌then◌else◌}
-use Rattle.std.specs.Ordering.{eq_by_cmp}
+use Rattle.silo_model.proofs.Common.{[], ◌∙◌, ◌∷◌, ◌≡◌, Bool, FinMap, Grain, List, None, Option, Some, ap, cond, eq_by_cmp, false, filter, grain_cmp, grain_cmp_exact, grain_cmp_total, if◌then◌else◌, length, not, refl, sym, true, true≢false, ℕ}
 use Rattle.std.specs.Cmp.{eq_by_cmp_equiv}
 use Rattle.std.specs.Map.{lookup, keys_of}
 use Rattle.std.specs.BTreeMap as tree
 use Rattle.std.specs.BTreeMap.{BTreeMap, UpdatesBy, IsOrdered}
 use Rattle.std.specs.FinMap as map
-use Rattle.std.specs.FinMap.{FinMap, from_entries}
+use Rattle.std.specs.FinMap.{from_entries}
 use Rattle.std.proofs.lemmas.Map.Entries.{lookup-filter-values, option_filter}
 use Rattle.std.proofs.lemmas.Map.Keys.{IsDistinct-from_sorted}
 use Rattle.finite_maps.proofs.Ascending.{len-ascending}
 use Rattle.finite_maps.proofs.Entries.{from_entries-insert, from_entries-remove, get-lookup}
 use Rattle.finite_maps.proofs.Keys.{keys_by_order, eq_by_cmp-Decides}
 use Rattle.finite_maps.specs.Keys.{AreKeys}
-use Rattle.grain_id.specs.Names.{Grain, grain_cmp}
-use Rattle.grain_id.proofs.Order.{grain_cmp_total, grain_cmp_exact}
 use Rattle.activation_directory.specs.declared.activation.Activation.{Activation}
 use Rattle.silo_model.specs.Idle.{is_due}
 use Rattle.silo_state.specs.Shown.{entry_of}

@@ -1,7 +1,6 @@
-use Rattle.std.proofs.Common.{List, IfOk, ◌∙◌, subst}
+use Rattle.silo_model.proofs.Common.{◌∙◌, Grain, List, Row, subst}
+use Rattle.std.proofs.Common.{IfOk}
 use Rattle.std.proofs.lemmas.Result.{IfOk-weaker}
-use Rattle.grain_id.specs.Names.{Grain}
-use Rattle.grain_storage.specs.declared.row.Row.{Row}
 use Rattle.grain_storage.specs.Memory.{rows_of}
 use Rattle.tenant_audit.specs.inside.Comparison.{IsFirstRow}
 use Rattle.tenant_audit.proofs.RowsWalked.{own_ascend}

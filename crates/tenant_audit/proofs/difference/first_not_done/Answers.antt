@@ -1,8 +1,6 @@
-use Rattle.std.proofs.Common.{◌≡◌, true, false, subst, ◌∙◌, rules}
-use Rattle.std.specs.List.{AllByRecursion}
+use Rattle.silo_model.proofs.Common.{◌∙◌, ◌≡◌, AllByRecursion, Step, concerns, false, subst, true}
+use Rattle.std.proofs.Common.{rules}
 use Rattle.std.specs.declared.alloc.AllocError.{AllocError}
-use Rattle.silo_event.specs.declared.step.Step.{Step}
-use Rattle.silo_model.specs.Run.{concerns}
 use Rattle.tenant_audit.proofs.Steps.{is_done, not_done, one_taken, stops_here}
 use Rattle.tenant_audit.proofs.difference.first_not_done.Goals as goal
 

@@ -1,6 +1,4 @@
-use Rattle.std.proofs.Common.{◌≡◌, true, length}
-use Rattle.std.specs.List.{AllByRecursion}
-use Rattle.silo_model.specs.Run.{concerns}
+use Rattle.silo_model.proofs.Common.{◌≡◌, AllByRecursion, concerns, length, true}
 use Rattle.tenant_audit.proofs.Steps.{Taken}
 use Rattle.tenant_audit.proofs.difference.first_not_done.Given as goal
 

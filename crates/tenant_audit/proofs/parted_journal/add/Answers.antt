@@ -1,9 +1,6 @@
-use Rattle.std.proofs.Common.{◌≡◌, ◌++◌, ℕ, List, cond, [], ◌∷◌, Some, refl, sym, subst, ◌∙◌}
-use Rattle.std.specs.Prelude.{unwrap_or, option_map}
+use Rattle.silo_model.proofs.Common.{[], ◌++◌, ◌∙◌, ◌∷◌, ◌≡◌, List, Some, cond, eq_by_cmp, option_map, refl, subst, sym, text_cmp, unwrap_or, ℕ}
 use Rattle.std.specs.BTreeMap.{BTreeMap, get}
 use Rattle.std.specs.Global.{Vec}
-use Rattle.std.specs.Ordering.{eq_by_cmp}
-use Rattle.grain_id.specs.Names.{text_cmp}
 use Rattle.tenant_audit.proofs.Held.{held_more}
 use Rattle.tenant_audit.proofs.parted_journal.add.Goals as goal
 

@@ -1,5 +1,4 @@
-use Rattle.std.proofs.Common.{◌≡◌, ℕ, ◌++◌, List, length}
-use Rattle.std.specs.Prelude.{filter}
+use Rattle.silo_model.proofs.Common.{◌++◌, ◌≡◌, List, filter, length, ℕ}
 use Rattle.audit_model.specs.Parts.{is_told}
 use Rattle.tenant_audit.specs.inside.Parted.{held_for, pointees}
 use Rattle.tenant_audit.proofs.parted_journal.part_replies.Given as goal

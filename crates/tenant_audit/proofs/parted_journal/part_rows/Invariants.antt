@@ -1,6 +1,4 @@
-use Rattle.std.proofs.Common.{◌≡◌, ℕ, ◌++◌, List, length}
-use Rattle.std.specs.Prelude.{filter}
-use Rattle.silo_model.specs.Whole.{is_of}
+use Rattle.silo_model.proofs.Common.{◌++◌, ◌≡◌, List, filter, is_of, length, ℕ}
 use Rattle.tenant_audit.specs.inside.Parted.{held_for, pointees}
 use Rattle.tenant_audit.proofs.parted_journal.part_rows.Given as goal
 

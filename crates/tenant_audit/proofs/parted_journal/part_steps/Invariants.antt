@@ -1,5 +1,4 @@
-use Rattle.std.proofs.Common.{◌≡◌, ℕ, ◌+◌, ◌++◌, List, length}
-use Rattle.std.specs.Prelude.{filter, map as map_list}
+use Rattle.silo_model.proofs.Common.{◌++◌, ◌+◌, ◌≡◌, List, filter, length, map_list, ℕ}
 use Rattle.tenant_audit.specs.inside.Parted.{held_for, is_own, is_nobodys, numbered, placed}
 use Rattle.tenant_audit.proofs.parted_journal.part_steps.Given as goal
 

@@ -1,6 +1,4 @@
-use Rattle.std.proofs.Common.{ap, sym, ◌∙◌}
-use Rattle.std.specs.List.{list_any}
-use Rattle.std.specs.Option.{is_some}
+use Rattle.silo_model.proofs.Common.{◌∙◌, ap, is_some, list_any, sym}
 use Rattle.audit_model.specs.Report.{TenantReport as Told}
 use Rattle.tenant_audit.proofs.Reports.{some_differs_seen}
 use Rattle.tenant_audit.proofs.report_lines.has_difference.Goals as goal

@@ -1,5 +1,4 @@
-use Rattle.std.proofs.Common.{ap, sym, ◌∙◌}
-use Rattle.std.specs.Prelude.{flat_map}
+use Rattle.silo_model.proofs.Common.{◌∙◌, ap, flat_map, sym}
 use Rattle.std.proofs.lemmas.List.Folds.{flat_map-map}
 use Rattle.std.proofs.lemmas.Result.{IfOk-weaker}
 use Rattle.tenant_audit.specs.ReportView.{tenant_report_of}

@@ -1,9 +1,8 @@
-use Rattle.std.proofs.Common.{ℕ, List, sym, ◌∙◌, rules, tests}
+use Rattle.silo_model.proofs.Common.{◌∙◌, Limits, List, same_text, sym, ℕ}
+use Rattle.std.proofs.Common.{rules, tests}
 use Rattle.std.proofs.lemmas.Iterator.{YieldsList-from_slice}
 use Rattle.std.proofs.lemmas.Iterator.Search.{any_from_yields_List}
 use Rattle.finite_maps.proofs.Lists.{list_any-map}
-use Rattle.tenant_gate.specs.declared.limits.Limits.{Limits}
-use Rattle.grain_id.specs.Names.{same_text}
 use Rattle.tenant_audit.proofs.tenants.has_tenant.Goals as goal
 
 pub returns : goal.returns

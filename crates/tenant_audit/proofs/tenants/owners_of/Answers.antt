@@ -1,9 +1,6 @@
-use Rattle.std.proofs.Common.{ℕ, List, [], ◌∙◌, subst}
+use Rattle.silo_model.proofs.Common.{[], ◌∙◌, Grain, List, Row, Step, subst, ℕ}
 use Rattle.std.proofs.lemmas.Result.{IfOk-weaker}
-use Rattle.silo_event.specs.declared.step.Step.{Step}
 use Rattle.journal_text.specs.declared.recorded.RecordedReply.{RecordedReply}
-use Rattle.grain_id.specs.Names.{Grain}
-use Rattle.grain_storage.specs.declared.row.Row.{Row}
 use Rattle.tenant_audit.specs.inside.Owners.{Gains, step_owners, reply_owners, row_owners}
 use Rattle.tenant_audit.proofs.Owners.{owners_found}
 use Rattle.tenant_audit.proofs.tenants.owners_of.Goals as goal

@@ -1,10 +1,6 @@
-use Rattle.std.proofs.Common.{◌≡◌, ◌+◌, ◌≤◌, ◌++◌, length, ap, sym, ◌∙◌, subst, vec_len, vec_capacity}
-use Rattle.std.specs.Prelude.{Err, flat_map}
+use Rattle.silo_model.proofs.Common.{◌++◌, ◌+◌, ◌∙◌, ◌≡◌, ◌≤◌, Entry, Err, StorageFailed, ap, flat_map, length, reply_to, same_Some, subst, sym}
+use Rattle.std.proofs.Common.{vec_len, vec_capacity}
 use Rattle.std.proofs.lemmas.List.{length-map}
-use Rattle.std.proofs.lemmas.Option.{same_Some}
-use Rattle.silo_event.specs.declared.fault.Fault.TheVariants.{StorageFailed}
-use Rattle.silo_model.specs.Machine.{Entry}
-use Rattle.silo_model.specs.Calls.{reply_to}
 use Rattle.silo_state.specs.Shown.{request_of, entry_of}
 use Rattle.silo_state.specs.Reads.{refused}
 use Rattle.silo_state.proofs.Loads.{refused_shown}

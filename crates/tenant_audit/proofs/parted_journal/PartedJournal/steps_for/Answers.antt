@@ -1,5 +1,4 @@
-use Rattle.std.proofs.Common.{ap, ◌∙◌}
-use Rattle.silo_model.specs.Run.{restricted_to}
+use Rattle.silo_model.proofs.Common.{◌∙◌, ap, restricted_to}
 use Rattle.journal_text.specs.Text.{History}
 use Rattle.tenant_audit.specs.inside.Parted.{merged}
 use Rattle.tenant_audit.proofs.Merged.{both_merged}

@@ -1,5 +1,4 @@
-use Rattle.std.proofs.Common.{ap, sym, ◌∙◌}
-use Rattle.silo_model.specs.Machine.{Account}
+use Rattle.silo_model.proofs.Common.{◌∙◌, Account, ap, sym}
 use Rattle.tenant_machine.specs.inside.Sends.{sends_of, without_first, first_place}
 use Rattle.tenant_machine.proofs.Firsts.{none_without, some_without}
 use Rattle.tenant_machine.proofs.account.Account.take_first.Goals as goal

@@ -1,8 +1,5 @@
-use Rattle.std.proofs.Common.{None, refl, ap, sym, subst}
-use Rattle.std.specs.Prelude.{option_and_then}
+use Rattle.silo_model.proofs.Common.{Entries, None, activated, ap, option_and_then, refl, subst, sym}
 use Rattle.silo_event.specs.declared.step.Answer.TheVariants.{NotNow}
-use Rattle.silo_model.specs.Machine.{Entries}
-use Rattle.silo_model.specs.Turns.{activated}
 use Rattle.silo_state.specs.Shown.{entries_of}
 use Rattle.silo_state.specs.Entries.{Activates}
 use Rattle.silo_state.proofs.Shows.{get-entries, start_shows, start_marked}

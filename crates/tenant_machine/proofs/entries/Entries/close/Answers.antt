@@ -1,12 +1,7 @@
-use Rattle.std.proofs.Common.{None, Some, refl, ap, sym, ◌∙◌, subst}
-use Rattle.std.specs.Prelude.{option_and_then, option_map, if◌then◌else◌}
+use Rattle.silo_model.proofs.Common.{◌∙◌, Entries, FinMap, None, Some, ap, drop, grain_cmp, if◌then◌else◌, option_and_then, option_map, put, refl, subst, sym}
 use Rattle.std.specs.FinMap as map
-use Rattle.std.specs.FinMap.{FinMap}
-use Rattle.grain_id.specs.Names.{grain_cmp}
 use Rattle.grain_kinds.specs.Planned.{keep_of}
 use Rattle.activation_directory.specs.declared.activation.Activation.{Activation}
-use Rattle.silo_model.specs.Effect.{put, drop}
-use Rattle.silo_model.specs.Machine.{Entries}
 use Rattle.silo_state.specs.Marks.{AllMarked}
 use Rattle.silo_state.specs.Shown.{phase_of, entry_of, entries_of}
 use Rattle.silo_state.specs.Entries.{Closes}

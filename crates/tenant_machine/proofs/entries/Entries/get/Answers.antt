@@ -1,7 +1,5 @@
-use Rattle.std.proofs.Common.{ap, sym, ◌∙◌}
-use Rattle.std.specs.Option.{option_map}
+use Rattle.silo_model.proofs.Common.{◌∙◌, ap, grain_cmp_exact, grain_cmp_total, option_map, sym}
 use Rattle.std.specs.FinMap as map
-use Rattle.grain_id.proofs.Order.{grain_cmp_total, grain_cmp_exact}
 use Rattle.finite_maps.proofs.Mapped.{get-mapped}
 use Rattle.silo_state.specs.Shown.{entry_of}
 use Rattle.tenant_machine.proofs.entries.Entries.get.Goals as goal

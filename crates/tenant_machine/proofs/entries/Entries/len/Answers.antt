@@ -1,6 +1,5 @@
-use Rattle.std.proofs.Common.{ap, sym, ◌∙◌}
+use Rattle.silo_model.proofs.Common.{◌∙◌, ap, grain_cmp_exact, grain_cmp_total, sym}
 use Rattle.std.specs.FinMap as map
-use Rattle.grain_id.proofs.Order.{grain_cmp_total, grain_cmp_exact}
 use Rattle.finite_maps.proofs.Mapped.{len-mapped}
 use Rattle.silo_state.specs.Shown.{entry_of}
 use Rattle.tenant_machine.proofs.entries.Entries.len.Goals as goal

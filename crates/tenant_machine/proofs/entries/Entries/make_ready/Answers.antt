@@ -1,7 +1,6 @@
-use Rattle.std.proofs.Common.{◌≡◌, None, Some, false, ap, sym, ◌∙◌, subst}
+use Rattle.silo_model.proofs.Common.{◌∙◌, ◌≡◌, Entries, None, Some, ap, false, ready, subst, sym}
 use Rattle.std.specs.FinMap as map
 use Rattle.activation_directory.specs.declared.activation.Activation.{Activation}
-use Rattle.silo_model.specs.Machine.{Entries, ready}
 use Rattle.silo_state.specs.Shown.{entries_of}
 use Rattle.silo_state.proofs.Shows.{get-entries, same_mail, ready_shows}
 use Rattle.tenant_machine.proofs.entries.Entries.make_ready.Goals as goal

@@ -1,9 +1,7 @@
-use Rattle.std.proofs.Common.{false, None, refl, ap, sym, ◌∙◌, subst}
-use Rattle.std.specs.Prelude.{IfOk, option_and_then}
+use Rattle.silo_model.proofs.Common.{◌∙◌, Entries, None, ap, false, opened_if_ready, option_and_then, refl, subst, sym}
+use Rattle.std.specs.Prelude.{IfOk}
 use Rattle.std.specs.FinMap as map
 use Rattle.std.proofs.lemmas.Result.{on_err_weaker}
-use Rattle.silo_model.specs.Machine.{Entries}
-use Rattle.silo_model.specs.Turns.{opened_if_ready}
 use Rattle.silo_state.specs.Shown.{entries_of}
 use Rattle.silo_state.specs.Entries.{Begins}
 use Rattle.silo_state.proofs.Shows.{get-entries, open_shows, begin_marked, unmoved}

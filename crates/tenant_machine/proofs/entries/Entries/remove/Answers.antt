@@ -1,8 +1,5 @@
-use Rattle.std.proofs.Common.{ap, sym, ◌∙◌, subst}
+use Rattle.silo_model.proofs.Common.{◌∙◌, FinMap, ap, grain_cmp, grain_cmp_exact, grain_cmp_total, subst, sym}
 use Rattle.std.specs.FinMap as map
-use Rattle.std.specs.FinMap.{FinMap}
-use Rattle.grain_id.specs.Names.{grain_cmp}
-use Rattle.grain_id.proofs.Order.{grain_cmp_total, grain_cmp_exact}
 use Rattle.finite_maps.proofs.Mapped.{mapped-remove}
 use Rattle.activation_directory.specs.declared.activation.Activation.{Activation}
 use Rattle.silo_state.specs.Shown.{entry_of, entries_of}

@@ -1,6 +1,4 @@
-use Rattle.std.proofs.Common.{ap, ◌∙◌}
-use Rattle.idle_collector.specs.Ages.{kind_age}
-use Rattle.silo_model.specs.Idle.{kept_entries}
+use Rattle.silo_model.proofs.Common.{◌∙◌, ap, kept_entries, kind_age}
 use Rattle.tenant_machine.proofs.Swept.{swept_shows, swept_marked}
 use Rattle.tenant_machine.proofs.entries.Entries.sweep.Goals as goal
 

@@ -1,11 +1,7 @@
-use Rattle.std.proofs.Common.{◌≡◌, ap, sym, ◌∙◌, subst}
+use Rattle.silo_model.proofs.Common.{◌∙◌, ◌≡◌, Entries, FinMap, ap, grain_cmp, subst, sym, with_request}
 use Rattle.std.specs.Prelude.{OnOk, OnErr}
 use Rattle.std.specs.FinMap as map
-use Rattle.std.specs.FinMap.{FinMap}
-use Rattle.grain_id.specs.Names.{grain_cmp}
 use Rattle.activation_directory.specs.declared.activation.Activation.{Activation}
-use Rattle.silo_model.specs.Machine.{Entries}
-use Rattle.silo_model.specs.Calls.{with_request}
 use Rattle.silo_state.specs.Shown.{request_of, entries_of}
 use Rattle.silo_state.specs.Marks.{AllMarked}
 use Rattle.silo_state.proofs.Arrivals.{arrive_shows, arrive_leaves, arrive_marked, first_shows, first_marked}

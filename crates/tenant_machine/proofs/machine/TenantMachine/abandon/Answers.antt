@@ -1,9 +1,6 @@
-use Rattle.std.proofs.Common.{List, None, Some, refl, ap, sym, subst}
-use Rattle.std.specs.Prelude.{Err, IsSome, option_and_then}
+use Rattle.silo_model.proofs.Common.{Err, List, NoMemory, None, Reply, Some, ap, option_and_then, refl, same, subst, sym}
+use Rattle.std.specs.Prelude.{IsSome}
 use Rattle.std.specs.FinMap as map
-use Rattle.grain_kinds.specs.Logic.{same}
-use Rattle.silo_event.specs.declared.fault.Fault.TheVariants.{NoMemory}
-use Rattle.silo_event.specs.declared.reply.Reply.{Reply}
 use Rattle.silo_state.proofs.Shows.{turn_shown}
 use Rattle.silo_state.specs.Closings.{ClosesTold}
 use Rattle.tenant_machine.proofs.Ends.{abandon_not, abandon_done}

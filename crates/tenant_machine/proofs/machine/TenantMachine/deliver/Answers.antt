@@ -1,5 +1,4 @@
-use Rattle.std.proofs.Common.{◌≡◌, Some, refl, ap, sym, ◌∙◌, subst}
-use Rattle.silo_model.specs.Machine.{Machine}
+use Rattle.silo_model.proofs.Common.{◌∙◌, ◌≡◌, Machine, Some, ap, refl, subst, sym}
 use Rattle.silo_state.specs.Verdicts.{Settles}
 use Rattle.tenant_machine.specs.inside.Requests.{verdict}
 use Rattle.tenant_machine.specs.inside.Sends.{send_of}

@@ -1,15 +1,7 @@
-use Rattle.std.proofs.Common.{◌≡◌, List, Some, refl, ap, sym, ◌∙◌, subst}
-use Rattle.std.specs.Prelude.{Result}
+use Rattle.silo_model.proofs.Common.{◌∙◌, ◌≡◌, Fault, Keep, List, Machine, Reply, Result, Some, Tree, ap, change_option, machine_step, outcome_of, ready, refl, subst, sym}
 use Rattle.std.specs.FinMap as map
-use Rattle.request_codec.specs.Tree.{Tree}
-use Rattle.grain_kinds.specs.Logic.{Keep}
-use Rattle.silo_event.specs.declared.fault.Fault.{Fault}
-use Rattle.silo_event.specs.declared.reply.Reply.{Reply}
 use Rattle.silo_event.specs.declared.step.Step.TheVariants as step
-use Rattle.silo_model.specs.Machine.{Machine, ready}
-use Rattle.silo_model.specs.Effect.{change_option}
-use Rattle.silo_model.specs.Step.{machine_step}
-use Rattle.silo_model.specs.Turns.{sent_by, outcome_of}
+use Rattle.silo_model.specs.Turns.{sent_by}
 use Rattle.silo_state.specs.Finds.{IsOwn, asks}
 use Rattle.silo_state.specs.Sends.{with_more}
 use Rattle.silo_state.specs.Closings.{ClosesTold}

@@ -1,7 +1,4 @@
-use Rattle.std.proofs.Common.{◌++◌, refl, ap, sym, ◌∙◌}
-use Rattle.std.specs.Prelude.{Err, flat_map}
-use Rattle.silo_event.specs.declared.fault.Fault.TheVariants.{StorageFailed}
-use Rattle.silo_model.specs.Calls.{reply_to}
+use Rattle.silo_model.proofs.Common.{◌++◌, ◌∙◌, Err, StorageFailed, ap, flat_map, refl, reply_to, sym}
 use Rattle.silo_state.specs.Shown.{entry_of}
 use Rattle.silo_state.proofs.Loads.{loads}
 use Rattle.tenant_machine.proofs.Entering.{load_absent, load_not, load_done, load_failed}

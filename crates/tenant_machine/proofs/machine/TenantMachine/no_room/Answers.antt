@@ -1,7 +1,6 @@
-use Rattle.std.proofs.Common.{◌≡◌, length, ap, sym, ◌∙◌}
+use Rattle.silo_model.proofs.Common.{◌∙◌, ◌≡◌, Machine, ap, length, sym}
 use Rattle.std.specs.FinMap as map
 use Rattle.std.proofs.lemmas.List.{length-map}
-use Rattle.silo_model.specs.Machine.{Machine}
 use Rattle.silo_state.specs.Shown.{entry_of, request_of}
 use Rattle.tenant_machine.specs.inside.Requests.{seen_at}
 use Rattle.tenant_machine.proofs.Gate.{new_free, again_free}

@@ -1,11 +1,6 @@
-use Rattle.std.proofs.Common.{◌≡◌, ◌++◌, None, Some, ap, sym, ◌∙◌, subst}
-use Rattle.std.specs.Prelude.{Err}
-use Rattle.silo_event.specs.declared.fault.Fault.TheVariants.{StorageFailed}
+use Rattle.silo_model.proofs.Common.{◌++◌, ◌∙◌, ◌≡◌, Err, Machine, None, Some, StorageFailed, ap, machine_step, subst, sym, told}
 use Rattle.silo_event.specs.declared.reply.Party.TheVariants as party
 use Rattle.silo_event.specs.declared.step.Step.TheVariants as step
-use Rattle.silo_model.specs.Calls.{told}
-use Rattle.silo_model.specs.Machine.{Machine}
-use Rattle.silo_model.specs.Step.{machine_step}
 use Rattle.silo_state.specs.Verdicts.{Settles}
 use Rattle.tenant_machine.specs.inside.Requests.{gated, with_told}
 use Rattle.tenant_machine.proofs.Asks.{poke_stopped, poke_marked, poke_stored}

@@ -1,5 +1,4 @@
-use Rattle.std.proofs.Common.{Some, ap, sym, ◌∙◌}
-use Rattle.std.specs.Prelude.{Err}
+use Rattle.silo_model.proofs.Common.{◌∙◌, Err, Some, ap, sym}
 use Rattle.silo_event.specs.declared.reply.Party.TheVariants as party
 use Rattle.tenant_machine.specs.inside.Requests.{with_told}
 use Rattle.tenant_machine.proofs.Asks.{refuse_is}

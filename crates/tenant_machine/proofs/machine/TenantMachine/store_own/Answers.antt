@@ -1,11 +1,8 @@
-use Rattle.std.proofs.Common.{List, refl, ap, sym, ◌∙◌, subst}
+use Rattle.silo_model.proofs.Common.{◌∙◌, Entry, List, Machine, Reply, ap, refl, same_Some, subst, sym}
 use Rattle.std.specs.FinMap as map
-use Rattle.std.proofs.lemmas.Option.{same_Some}
 use Rattle.grain_kinds.specs.Planned.{storage_call}
 use Rattle.grain_kinds.specs.declared.turn.OpenedTurn.{OpenedTurn}
-use Rattle.silo_event.specs.declared.reply.Reply.{Reply}
 use Rattle.silo_event.specs.declared.step.Step.TheVariants as step
-use Rattle.silo_model.specs.Machine.{Machine, Entry}
 use Rattle.silo_state.specs.Finds.{IsOwn, asks}
 use Rattle.silo_state.specs.Shown.{entry_of}
 use Rattle.silo_state.specs.inside.Storing.{given, GivesMarked}

@@ -1,7 +1,5 @@
-use Rattle.std.proofs.Common.{◌≡◌, Some, sym, ◌∙◌, subst}
+use Rattle.silo_model.proofs.Common.{◌∙◌, ◌≡◌, Machine, Some, machine_step, subst, sym}
 use Rattle.silo_event.specs.declared.step.Step.TheVariants as step
-use Rattle.silo_model.specs.Machine.{Machine}
-use Rattle.silo_model.specs.Step.{machine_step}
 use Rattle.tenant_machine.proofs.Asks.{sweep_is}
 use Rattle.tenant_machine.proofs.Parts.{machine_of}
 use Rattle.tenant_machine.proofs.machine.TenantMachine.sweep.Goals as goal

@@ -1,9 +1,6 @@
-use Rattle.std.proofs.Common.{◌≡◌, refl, arith, false, true, None, Some, subst}
-use Rattle.std.specs.Prelude.{nat_le}
+use Rattle.silo_model.proofs.Common.{◌≡◌, Machine, None, Some, arith, false, machine_step, nat_le, refl, subst, true}
 use Rattle.std.proofs.lemmas.Bool.Decides.{nat_tests}
 use Rattle.silo_event.specs.declared.step.Step.TheVariants as step
-use Rattle.silo_model.specs.Machine.{Machine}
-use Rattle.silo_model.specs.Step.{machine_step}
 use Rattle.tenant_machine.proofs.Asks.{tick_on, tick_back}
 use Rattle.tenant_machine.proofs.Parts.{machine_of}
 use Rattle.tenant_machine.proofs.machine.TenantMachine.tick.Goals as goal

@@ -1,5 +1,4 @@
-use Rattle.std.proofs.Common.{◌≡◌, Some, sym, ◌∙◌, subst}
-use Rattle.std.specs.Prelude.{Ok, Err}
+use Rattle.silo_model.proofs.Common.{◌∙◌, ◌≡◌, Err, Ok, Some, subst, sym}
 use Rattle.grain_storage.specs.Answers.{ChangeAnswers}
 use Rattle.grain_storage.specs.Rows.{poked}
 use Rattle.silo_state.proofs.Asks.{never_stale}
