@@ -8,7 +8,6 @@ use Rattle.silo_model.proofs.Common.{inr, keep, length, nat_cmp, none-some, owne
 use Rattle.silo_model.proofs.Common.{row_told, same_Some, sends_of, shown_to, spent, spread, stale, subst, suc, sym, told, true, unwrap_or}
 use Rattle.silo_model.proofs.Common.{whole_run, whole_step, with_request, zero, ℕ}
 use Rattle.std.specs.FinMap as map
-use Rattle.request_codec.specs.Call as codec
 use Rattle.silo_event.specs.declared.reply.Party.TheVariants as party
 use Rattle.silo_model.proofs.EffectKinds.{asks, role_of}
 use Rattle.silo_model.proofs.Isolation.{did, place_in, shared_by}

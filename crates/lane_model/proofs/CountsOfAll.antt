@@ -4,7 +4,6 @@ use Rattle.silo_model.proofs.Common.{Setup, Step, Whole, [], all_pending, ap, ar
 use Rattle.silo_model.proofs.Common.{length, list_any, refl, restricted_to, shown_to, start_of, subst, sum_alike, sum_by, sum_by-cons}
 use Rattle.silo_model.proofs.Common.{sum_flat, sym, true, ℕ}
 use Rattle.finite_maps.proofs.Sums.{sum_one}
-use Rattle.silo_event.specs.declared.reply.Party.TheVariants as party
 use Rattle.std.proofs.lemmas.Bool.{or_from}
 use Rattle.silo_model.proofs.Fair.{pend}
 use Rattle.silo_model.proofs.Moves.{asked_by, replied, sent}

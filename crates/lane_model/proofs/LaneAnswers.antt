@@ -4,7 +4,6 @@ use Rattle.silo_model.proofs.Common.{Setup, Some, Status, Step, Sweep, [], and_f
 use Rattle.silo_model.proofs.Common.{cond, false, has_pending, is_of_client, length, list_any, map_list, not, not-true, refl, subst, sym}
 use Rattle.silo_model.proofs.Common.{true, true≢false}
 use Rattle.std.proofs.lemmas.List.{length-map}
-use Rattle.silo_event.specs.declared.reply.Party.TheVariants as party
 use Rattle.silo_model.specs.Pending.{IsQuiet}
 use Rattle.lane_model.specs.Asking.{asker_of, asking_of, id_asked, id_of, ids_asked, ids_told}
 use Rattle.lane_model.specs.Pacing.{PacedAtEach, machine_of, may_ask, paced_from}

@@ -110,7 +110,7 @@ module _ (remaining : Remaining) (journal : List Step) (s : Step) (k : Option Cl
 
 -- ---- the pass
 
-no_cons : (x : Step) (xs : List Step) → x ∷ xs ≡ [] → ⊥
+pub no_cons : (x : Step) (xs : List Step) → x ∷ xs ≡ [] → ⊥
 no_cons x xs e = absurd cc
 
 module _ (same : Step → Step → Bool) (decides : (s r : Step) → Decides (same s r) (as_failed s ≡ as_failed r)) where
@@ -118,23 +118,26 @@ module _ (same : Step → Step → Bool) (decides : (s r : Step) → Decides (sa
     abbrev goes_on : Option Remaining → Bool
     goes_on o = is_used_up (option_and_then (λ left. remaining_at_end same left journal) o)
 
-    by_rest : (k : Option Client) (r : Option (List Step)) → map.get remaining k ≡ r → Decides (goes_on (option_map (map.insert remaining k) (option_and_then (others_after same s) r))) ((from : Option Client) → FitsNext remaining journal s k from (map.get remaining from))
+    abbrev FitsAll : Option Client → Type 0
+    FitsAll k = (from : Option Client) → FitsNext remaining journal s k from (map.get remaining from)
+
+    by_rest : (k : Option Client) (r : Option (List Step)) → map.get remaining k ≡ r
+        → Decides (goes_on (option_map (map.insert remaining k) (option_and_then (others_after same s) r))) (FitsAll k)
     by_rest k None is = (λ e. absurd (true≢false (sym e)), λ fits. absurd (no_cons _ _ (own_next remaining journal s k None is fits)))
     by_rest k (Some []) is = (λ e. absurd (true≢false (sym e)), λ fits. absurd (no_cons _ _ (own_next remaining journal s k (Some []) is fits)))
-    by_rest k (Some (first ∷ others)) is = by_same (same s first) refl
-      where
-        by_same : (b : Bool) → same s first ≡ b → Decides (goes_on (option_map (map.insert remaining k) (cond b (Some others) None))) ((from : Option Client) → FitsNext remaining journal s k from (map.get remaining from))
-        by_same true alike =
-            let next = rest_decides (map.insert remaining k others) in
-            (λ e. fits_before remaining journal s k first others is ((decides s first).0 alike) (next.0 e), λ fits. next.1 (fits_after remaining journal s k first others is fits))
-        by_same false alike = (
+    by_rest k (Some (first ∷ others)) is =
+        let next = rest_decides (map.insert remaining k others) in
+        on_test (λ b. Decides (goes_on (option_map (map.insert remaining k) (cond b (Some others) None))) (FitsAll k)) (same s first)
+        (λ alike. (
+          λ e. fits_before remaining journal s k first others is ((decides s first).0 alike) (next.0 e),
+          λ fits. next.1 (fits_after remaining journal s k first others is fits),
+        ))
+        (λ unlike. (
           λ e. absurd (true≢false (sym e)),
           λ fits.
-              absurd
-              (true≢false
-              (sym ((decides s first).1 (same_head (as_failed s) (as_failed first) (map_list as_failed (given_by k journal)) (map_list as_failed others) (own_next remaining journal s k (Some (first ∷ others)) is fits)))
-              ∙ alike)),
-        )
+              let same_first = same_head (as_failed s) (as_failed first) (map_list as_failed (given_by k journal)) (map_list as_failed others) (own_next remaining journal s k (Some (first ∷ others)) is fits) in
+              absurd (true≢false (sym ((decides s first).1 same_first) ∙ unlike)),
+        ))
 
     by_giver : (o : Option (Option Client)) → Decides (goes_on (remaining_after same remaining s o)) ((from : Option Client) → FitsOne (map.get remaining from) (cond (is_given_by from o) (s ∷ given_by from journal) (given_by from journal)))
     by_giver None = rest_decides remaining

@@ -8,7 +8,8 @@ use Rattle.std.proofs.lemmas.Map.Keys.{IsDistinct-head, IsDistinct-tail}
 use Rattle.std.proofs.lemmas.List.Elements.{recursion_from_All}
 use Rattle.lane_model.specs.Lanes.{AreDistinct, Lane, LaneStands, PassDecides, Remaining, done_steps_of, given_by, has_giver, is_given_by}
 use Rattle.lane_model.specs.Lanes.{lane_of, remaining_after, remaining_at_end, remaining_of, same_lane}
-use Rattle.lane_model.proofs.Pass.{Fits, FitsOne, itself, lane_apart, lane_itself, lanes_total, pass_fits, same_lane_decides, tied_lane}
+use Rattle.lane_model.proofs.Pass.{Fits, FitsOne, itself, lane_apart, lane_itself, lanes_total, no_cons, pass_fits, same_lane_decides}
+use Rattle.lane_model.proofs.Pass.{tied_lane}
 use Rattle.std.proofs.lemmas.Bool.{or_from}
 use Rattle.silo_model.proofs.Tests.{on_found, on_test}
 
@@ -57,36 +58,34 @@ none_else lanes journal fits from none = subst (λ r. FitsOne r (given_by from j
 
 steps_given : (lanes : List Lane) (journal : List Step) → NoneElse lanes journal → AllByRecursion (λ s. has_giver lanes (lane_of s) ≡ true) journal
 steps_given lanes [] none = tt
-steps_given lanes (s ∷ journal) none = (by_giver (lane_of s) (λ from. none from), steps_given lanes journal (λ from h. without from (is_given_by from (lane_of s)) (none from h)))
+steps_given lanes (s ∷ journal) none = (
+  by_giver (lane_of s) none,
+  steps_given lanes journal (λ from h.
+      on_test (λ b. with_step from b ≡ [] → given_by from journal ≡ []) (is_given_by from (lane_of s)) (λ _ e. absurd cc) (λ _ e. e) (none from h)),
+)
   where
-    without : (from : Option Client) (b : Bool) → cond b (s ∷ given_by from journal) (given_by from journal) ≡ [] → given_by from journal ≡ []
-    without from true e = absurd cc
-    without from false e = e
+    with_step : Option Client → Bool → List Step
+    with_step from b = cond b (s ∷ given_by from journal) (given_by from journal)
 
-    no_cons : (k : Option Client) (b : Bool) → b ≡ true → cond b (s ∷ given_by k journal) (given_by k journal) ≡ [] → ⊥
-    no_cons k true is e = absurd cc
-    no_cons k false is e = absurd (true≢false (sym is))
-
-    by_giver : (o : Option (Option Client)) → ((from : Option Client) → list_any (λ (l : Lane). same_lane from l.from) lanes ≡ false → cond (is_given_by from o) (s ∷ given_by from journal) (given_by from journal) ≡ []) → has_giver lanes o ≡ true
+    by_giver : (o : Option (Option Client)) → ((from : Option Client) → list_any (λ (l : Lane). same_lane from l.from) lanes ≡ false → with_step from (is_given_by from o) ≡ [])
+        → has_giver lanes o ≡ true
     by_giver None h = refl
     by_giver (Some k) h =
         on_test (λ b. b ≡ true) (list_any (λ (l : Lane). same_lane k l.from) lanes) (λ _. refl)
-        (λ is. absurd (no_cons k (same_lane k k) (itself k) (h k is)))
+        (λ is. absurd (no_cons _ _ (sym (ap (with_step k) (itself k)) ∙ h k is)))
 
 -- ---- what stands fits
 
 gave_none : (lanes : List Lane) (journal : List Step) → AllByRecursion (λ s. has_giver lanes (lane_of s) ≡ true) journal → NoneElse lanes journal
 gave_none lanes [] all from none = refl
-gave_none lanes (s ∷ journal) all from none = by_giver (lane_of s) all.0 (gave_none lanes journal all.1 from none)
-  where
-    by_same : (k : Option Client) (b : Bool) → same_lane k from ≡ b → list_any (λ (l : Lane). same_lane k l.from) lanes ≡ true → given_by from journal ≡ [] → cond b (s ∷ given_by from journal) (given_by from journal) ≡ []
-    by_same k true is listed rest =
-        absurd (true≢false (sym (ap (λ f. list_any (λ (l : Lane). same_lane f l.from) lanes) (sym ((same_lane_decides k from).0 is)) ∙ listed) ∙ none))
-    by_same k false is listed rest = rest
-
-    by_giver : (o : Option (Option Client)) → has_giver lanes o ≡ true → given_by from journal ≡ [] → cond (is_given_by from o) (s ∷ given_by from journal) (given_by from journal) ≡ []
-    by_giver None listed rest = rest
-    by_giver (Some k) listed rest = by_same k (same_lane k from) refl listed rest
+gave_none lanes (s ∷ journal) all from none =
+    let before : List Step = given_by from journal in
+    let rest : before ≡ [] = gave_none lanes journal all.1 from none in
+    on_found (λ o. has_giver lanes o ≡ true → cond (is_given_by from o) (s ∷ before) before ≡ []) (lane_of s) (λ _ _. rest)
+    (λ k _ listed.
+    ap (λ b. cond b (s ∷ before) before) (false_from_ne_true (same_lane k from) (λ is.
+    let so = ap (λ f. list_any (λ (l : Lane). same_lane f l.from) lanes) (sym ((same_lane_decides k from).0 is)) in
+    true≢false (sym (so ∙ listed) ∙ none))) ∙ rest) all.0
 
 fits_found : (lanes : List Lane) (journal : List Step) (from : Option Client) → AllByRecursion (λ l. LaneStands l journal) lanes → (list_any (λ (l : Lane). same_lane from l.from) lanes ≡ false → given_by from journal ≡ [])
     → FitsOne (found_in lanes from) (given_by from journal)
