@@ -1,32 +1,22 @@
 -- How answering lines at once ends, by what failed.
-use Rattle.std.proofs.Common.{◌≡◌, ◌≢◌, ◌⊎◌, ◌∙◌, ℕ, List, [], ◌∷◌, ◌++◌, append-nil, append_assoc, Option, None, Some, IfErr, Result, Ok, Err, inl, inr, refl, sym, ap, subst, ⊎_elim}
-use Rattle.std.specs.Prelude.{IfSome, OnOk}
-use Rattle.std.specs.FinMap.{entries}
-use Rattle.tenant_gate.specs.Table.{Table}
-use Rattle.idle_collector.specs.Ages.{Ages}
-use Rattle.line_service.specs.Serving.{setup_of}
-use Rattle.std.specs.Io.KnownBytes.{Keeps}
-use Rattle.std.proofs.KnownBytes.{Appends-kept, Keeps-refl, Keeps-trans}
+use Rattle.silo_program.proofs.Common.{Ages, Appends-kept, Cause, Err, FileClaims, History, IfErr, IsFresh, IsKeepingCause, Keeps}
+use Rattle.silo_program.proofs.Common.{Keeps-refl, KeepsJournal, KeepsSecond, LineFault, List, MayFailAgain, MayFailAt, None, Ok, OnOk}
+use Rattle.silo_program.proofs.Common.{Option, Reading, Result, Setup, Some, Table, WriterCalls, WritesAtMost, WritesJournalsAtMost, [], ap}
+use Rattle.silo_program.proofs.Common.{append-nil, append_assoc, claims, empty_journal, entries, inl, inr, journal_text, left_of}
+use Rattle.silo_program.proofs.Common.{left_of-fresh, lines_of, opening, refl, resting_kinds, setup_of, subst, sym, ℕ, ⊎_elim, ◌++◌, ◌∙◌}
+use Rattle.silo_program.proofs.Common.{◌∷◌, ◌≡◌, ◌≢◌}
+use Rattle.std.proofs.Common.{◌⊎◌}
+use Rattle.std.specs.Prelude.{IfSome}
+use Rattle.std.proofs.KnownBytes.{Keeps-trans}
 use Rattle.grain_kinds.specs.Logic.{Logic}
-use Rattle.grain_kinds.specs.Resting.{resting_kinds}
-use Rattle.silo_model.specs.Opening.{Setup, opening}
-use Rattle.silo_core.specs.History.{History}
-use Rattle.journal_text.specs.Text.{journal_text}
 use Rattle.line_parser.specs.Meaning.{meaning_of}
-use Rattle.line_protocol.specs.Lines.{lines_of}
-use Rattle.line_protocol.specs.Reading.{IsFresh, Reading, left_of}
-use Rattle.line_protocol.specs.declared.written.WriterCalls.{WriterCalls}
-use Rattle.line_protocol.specs.declared.fault.LineFault.{LineFault}
 use Rattle.line_protocol.specs.declared.fault.LineFault.TheVariants as line
-use Rattle.line_protocol.proofs.LinesOfBytes.{left_of-fresh}
 use Rattle.line_answer.specs.Runs.{AnswersAll, AnswersBefore, AnswersLine, AnswersLines, KeepsSetup, StopsBy, WritesOn}
 use Rattle.line_answer.proofs.Asked.{Hears, hears_more, hears_own}
-use Rattle.silo_program.specs.Files.{FileClaims, claims}
 use Rattle.silo_program.specs.Journals.{silo_journal}
-use Rattle.silo_program.specs.Kept.{IsKeepingCause, KeepsJournal, KeepsSecond, MayFailAgain, MayFailAt, WritesAtMost, empty_journal, opened}
-use Rattle.silo_program.specs.Answering.{AnsweringFailsBy, AnswersFirst, AnswersInput, AnswersToEnd, AnswersUpTo, AnswersLanes, EndsBy, WritesJournalsAtMost}
+use Rattle.silo_program.specs.Kept.{opened}
+use Rattle.silo_program.specs.Answering.{AnsweringFailsBy, AnswersFirst, AnswersInput, AnswersToEnd, AnswersUpTo, AnswersLanes, EndsBy}
 use Rattle.silo_program.proofs.KeptLemmas.{HasFirst, both_kept, entries-empty, may_fail_again}
-use Rattle.silo_program.specs.declared.failure.Cause.{Cause}
 use Rattle.silo_program.specs.declared.failure.Cause.TheVariants as cause
 
 -- ---- the silo that answers

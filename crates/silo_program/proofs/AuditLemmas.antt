@@ -1,16 +1,13 @@
 -- Why the journal of a file isn't read.
-use Rattle.std.proofs.Common.{◌≢◌, ℕ, List, Option, Result, IfErr, sym, subst, ⊎_elim}
+use Rattle.silo_program.proofs.Common.{Cause, IfErr, IfErr-weaker, IsReadingFault, Keeps-refl, List, Option, ProgramFault, Result, subst}
+use Rattle.silo_program.proofs.Common.{sym, ℕ, ⊎_elim, ◌≢◌}
 use Rattle.std.specs.Prelude.{String, string_bytes}
 use Rattle.std.specs.declared.alloc.Global.{Global}
-use Rattle.std.proofs.KnownBytes.{Keeps-refl}
-use Rattle.std.proofs.lemmas.Result.{IfErr-weaker}
 use Rattle.journal_text.specs.FirstFault.{IsFirstFault}
-use Rattle.silo_program.specs.Auditing.{IsReadingFault, IsRefusalOf, RefusesFile, file_cause}
-use Rattle.silo_program.specs.declared.failure.Cause.{Cause}
+use Rattle.silo_program.specs.Auditing.{IsRefusalOf, RefusesFile, file_cause}
 use Rattle.silo_program.specs.declared.failure.Cause.TheVariants as cause
 use Rattle.silo_program.specs.declared.files.FileFault.{FileFault}
 use Rattle.silo_program.specs.declared.files.FileFault.TheVariants as file
-use Rattle.silo_program.specs.declared.failure.ProgramFault.{ProgramFault}
 use Rattle.silo_program.specs.declared.failure.ProgramFault.TheVariants as fault
 
 -- the bytes are no journal's, or memory was refused

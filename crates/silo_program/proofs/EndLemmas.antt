@@ -1,25 +1,20 @@
 -- How the steps of an input end, by what its lines answer over a storage that never fails.
-use Rattle.std.proofs.Common.{◌≡◌, ◌∙◌, ℕ, List, [], ◌∷◌, ◌++◌, append-nil, Option, None, Some, IfSome, Result, Ok, Err, IfErr, true, refl, sym, ap, subst, arith, ⊎_elim}
+use Rattle.silo_program.proofs.Common.{Appends-kept, Err, History, IfErr, IsFresh, Keeps, Line, LineFault, List, None, Ok, Option, Reading}
+use Rattle.silo_program.proofs.Common.{Result, Setup, Some, WriterCalls, [], ap, append-nil, arith, left_of, left_of-fresh, lines_of}
+use Rattle.silo_program.proofs.Common.{opening, refl, resting_kinds, subst, sym, true, ℕ, ⊎_elim, ◌++◌, ◌∙◌, ◌∷◌, ◌≡◌}
+use Rattle.std.proofs.Common.{IfSome}
 use Rattle.std.specs.Prelude.{OnErr}
-use Rattle.std.specs.Io.KnownBytes.{Keeps}
-use Rattle.std.proofs.KnownBytes.{Appends-kept, Appends-nil}
+use Rattle.std.proofs.KnownBytes.{Appends-nil}
 use Rattle.silo_event.specs.declared.step.Answer.{Answer}
-use Rattle.grain_kinds.specs.Resting.{resting_kinds}
-use Rattle.silo_model.specs.Opening.{Setup, opening}
 use Rattle.silo_model.specs.Whole.{Whole, shown_to}
 use Rattle.silo_model.specs.Machine.{Machine}
 use Rattle.silo_model.proofs.Opening.{opening_shown}
-use Rattle.silo_core.specs.History.{History}
 use Rattle.silo_core.specs.Runs.{failed_in}
-use Rattle.line_protocol.specs.Lines.{lines_of}
-use Rattle.line_protocol.specs.LineTexts.{whole_stepper, machine_stepper, said_lines, steps_said, line_texts, lines_text, lines_to, texts_to}
+use Rattle.line_protocol.specs.LineTexts.{whole_stepper, machine_stepper, said_lines, steps_said, line_texts, lines_text, lines_to}
+use Rattle.line_protocol.specs.LineTexts.{texts_to}
 use Rattle.line_protocol.specs.LineRuns.{AnswersLines, AnswersNext, AnswersAll, StopsBefore, StopsAt, StopsAfter, StopsBy}
-use Rattle.line_protocol.specs.Reading.{AreTakenButOne, IsFresh, Reading, left_of}
-use Rattle.line_protocol.specs.declared.written.WriterCalls.{WriterCalls}
-use Rattle.line_protocol.specs.declared.fault.LineFault.{LineFault}
+use Rattle.line_protocol.specs.Reading.{AreTakenButOne}
 use Rattle.line_protocol.specs.declared.fault.LineFault.TheVariants as line
-use Rattle.line_parser.specs.declared.line.Line.{Line}
-use Rattle.line_protocol.proofs.LinesOfBytes.{left_of-fresh}
 use Rattle.line_protocol.proofs.TakenLines.{Took-none, TakesPart-none, none_beyond}
 use Rattle.line_protocol.proofs.Unfailed.{none_failed, none_failed_before, unmarked, own_unmarked}
 use Rattle.silo_program.specs.Steps.{IsTextOf, AnswersSteps, StopsBetween, StopsFrom, StopsInside, StopsSteps}

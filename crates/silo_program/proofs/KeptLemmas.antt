@@ -1,19 +1,12 @@
 -- Two writes to one path: of the journal of no step, and then of a silo's.
-use Rattle.std.proofs.Common.{◌≡◌, ◌∙◌, ℕ, List, [], Option, None, Some, Result, Ok, Err, refl, sym, ap}
-use Rattle.std.specs.Prelude.{IfSome, OnOk}
-use Rattle.std.specs.FinMap.{empty, entries, len-empty, len-entries}
+use Rattle.silo_program.proofs.Common.{Ages, Err, FileClaims, History, KeepsJournal, KeepsSecond, List, MayFailAgain, MayFailAt, None, Ok}
+use Rattle.silo_program.proofs.Common.{OnOk, Option, Result, Setup, Some, Table, WritesFirst, [], ap, claims, empty_journal, entries}
+use Rattle.silo_program.proofs.Common.{history_of, journal_text, kinds_number, opening, refl, setup_of, sym, ℕ, ◌∙◌, ◌≡◌}
+use Rattle.std.specs.Prelude.{IfSome}
+use Rattle.std.specs.FinMap.{empty, len-empty, len-entries}
 use Rattle.std.proofs.lemmas.List.{nil_from_length}
 use Rattle.grain_id.specs.Names.{grain_cmp}
 use Rattle.grain_storage.specs.declared.row.Row.{Row}
-use Rattle.tenant_gate.specs.Table.{Table}
-use Rattle.idle_collector.specs.Ages.{Ages}
-use Rattle.silo_model.specs.Opening.{Setup, opening}
-use Rattle.silo_core.specs.History.{History}
-use Rattle.journal_text.specs.Text.{history_of, journal_text}
-use Rattle.line_service.specs.Serving.{setup_of}
-use Rattle.silo_program.specs.Files.{FileClaims, claims}
-use Rattle.silo_program.specs.Journals.{kinds_number}
-use Rattle.silo_program.specs.Kept.{KeepsJournal, KeepsSecond, MayFailAgain, MayFailAt, WritesFirst, empty_journal}
 
 -- ---- the journal of no step
 

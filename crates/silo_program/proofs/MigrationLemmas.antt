@@ -1,19 +1,11 @@
 -- The journal of a file, migrated and written.
-use Rattle.std.proofs.Common.{◌≡◌, ℕ, List, Option, Result, Ok, Err, IfErr, IfOk, inl, inr, sym, subst}
-use Rattle.std.specs.Io.KnownBytes.{Appends, Keeps}
-use Rattle.std.proofs.lemmas.Result.{IfErr-weaker}
-use Rattle.clap.specs.Words.{Text}
-use Rattle.line_protocol.specs.Reading.{Reading}
-use Rattle.line_protocol.specs.declared.written.WriterCalls.{WriterCalls}
+use Rattle.silo_program.proofs.Common.{Appends, BreaksOff, End, Err, FileClaims, IfErr, IfErr-weaker, IfOk, IsFaultOf, IsMigrationFault}
+use Rattle.silo_program.proofs.Common.{Keeps, List, Ok, Option, ProgramFault, Reading, Result, Text, WriterCalls, inl, inr, subst, sym, ℕ}
+use Rattle.silo_program.proofs.Common.{◌≡◌}
 use Rattle.silo_words.specs.Words.{AskForMigration}
-use Rattle.silo_program.specs.Ends.{IsFaultOf}
-use Rattle.silo_program.specs.Files.{FileClaims}
-use Rattle.silo_program.specs.Migrating.{IsMigrationFault, MayMigrateTo, MigratesFile}
-use Rattle.silo_program.specs.Streams.{BreaksOff}
+use Rattle.silo_program.specs.Migrating.{MayMigrateTo, MigratesFile}
 use Rattle.silo_program.specs.declared.failure.Cause.TheVariants as cause
-use Rattle.silo_program.specs.declared.failure.End.{End}
 use Rattle.silo_program.specs.declared.failure.End.TheVariants as end
-use Rattle.silo_program.specs.declared.failure.ProgramFault.{ProgramFault}
 use Rattle.silo_program.specs.declared.failure.ProgramFault.TheVariants as fault
 
 module _ (may_hold : List ℕ → Type 0) (text : List ℕ) (migrated : MayMigrateTo may_hold text) (before after : Option (List ℕ)) (lent : List ℕ) (same : lent ≡ text) where

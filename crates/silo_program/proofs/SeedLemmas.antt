@@ -1,15 +1,9 @@
 -- The source of random bytes fails.
-use Rattle.std.proofs.Common.{◌≡◌, ℕ, List, Option, Result, Ok, Err, IfErr, inl, inr, sym, subst}
-use Rattle.std.proofs.KnownBytes.{Keeps-refl}
-use Rattle.clap.specs.Words.{Text}
-use Rattle.line_protocol.specs.Reading.{Reading}
-use Rattle.line_protocol.specs.declared.written.WriterCalls.{WriterCalls}
-use Rattle.silo_words.specs.Words.{AskFor}
+use Rattle.silo_program.proofs.Common.{AskFor, Cause, Err, FileClaims, IfErr, IsFaultOf, Keeps-refl, List, Ok, Option, Reading, Result}
+use Rattle.silo_program.proofs.Common.{Text, WriterCalls, inl, inr, subst, sym, ℕ, ◌≡◌}
 use Rattle.silo_words.specs.declared.task.Task.{Task}
 use Rattle.silo_words.specs.declared.task.Task.TheVariants as task
-use Rattle.silo_program.specs.Ends.{AskForWork, IsFaultOf}
-use Rattle.silo_program.specs.Files.{FileClaims}
-use Rattle.silo_program.specs.declared.failure.Cause.{Cause}
+use Rattle.silo_program.specs.Ends.{AskForWork}
 use Rattle.silo_program.specs.declared.failure.Cause.TheVariants as cause
 use Rattle.silo_program.specs.declared.failure.ProgramFault.TheVariants as fault
 

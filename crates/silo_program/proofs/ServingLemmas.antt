@@ -1,17 +1,15 @@
 -- How serving fails, by what failed.
-use Rattle.std.proofs.Common.{◌≡◌, ◌∙◌, ◌++◌, ◌||◌, if◌then◌else◌, ℕ, Bool, true, false, true≢false, List, [], length, Option, None, Some, IfOk, IfErr, Result, inl, inr, refl, sym, ap, subst, ⊎_elim}
+use Rattle.silo_program.proofs.Common.{Ages, Cause, End, EndsAs, FileClaims, History, IfErr, IfErr-weaker, IfOk, IfOk-weaker, IsFaultOf}
+use Rattle.silo_program.proofs.Common.{IsKeepingCause, Keeps, Keeps-refl, KeepsSecond, Line, LineFault, List, MayFailAgain, MayFailAt, None}
+use Rattle.silo_program.proofs.Common.{Option, Outcome, ProgramFault, Reading, Result, ServesInput, Setup, Some, Table, Text, WriterCalls}
+use Rattle.silo_program.proofs.Common.{WritesAtMost, WritesFirst, WritesJournalsAtMost, [], ap, claims, codes_of, counts_text}
+use Rattle.silo_program.proofs.Common.{empty_journal, if◌then◌else◌, inl, inr, length, reasons_behind, refl, resting_kinds, setup_of, subst}
+use Rattle.silo_program.proofs.Common.{sym, true, ℕ, ⊎_elim, ◌++◌, ◌∙◌, ◌≡◌}
+use Rattle.std.proofs.Common.{◌||◌, Bool, false, true≢false}
 use Rattle.std.specs.Prelude.{IfSome}
-use Rattle.std.specs.Io.KnownBytes.{Keeps}
-use Rattle.std.proofs.KnownBytes.{Keeps-refl}
 use Rattle.std.proofs.lemmas.Option.{IfSome_then}
-use Rattle.std.proofs.lemmas.Result.{IfErr-weaker, IfOk-weaker}
-use Rattle.clap.specs.Words.{Text}
-use Rattle.silo_model.specs.Opening.{Setup}
-use Rattle.line_protocol.specs.declared.fault.LineFault.{LineFault}
 use Rattle.line_protocol.specs.declared.fault.LineFault.TheVariants as line
 use Rattle.line_protocol.specs.declared.calls.ReaderCalls.{ReaderCalls}
-use Rattle.line_protocol.specs.Reading.{Reading}
-use Rattle.line_protocol.specs.declared.written.WriterCalls.{WriterCalls}
 use Rattle.line_service.specs.ServedText.{StopsWriting}
 use Rattle.line_service.specs.declared.fault.ServiceFault.{ServiceFault}
 use Rattle.line_service.specs.declared.fault.ServiceFault.TheVariants as service
@@ -19,31 +17,22 @@ use Rattle.silo_words.specs.Ages.{IsWhyNoAges, NamesAges}
 use Rattle.silo_words.specs.Tenants.{IsReason, NameTenants}
 use Rattle.silo_words.specs.Words.{AskForAnswering, AskForAudit, AskForServing, AskForSteps, nothing_told}
 use Rattle.silo_words.specs.declared.task.Telling.{Telling}
-use Rattle.silo_program.specs.Telling.{IsTold, asks_to_tell, codes_of, counts_text, reasons_behind, telling_text}
+use Rattle.silo_program.specs.Telling.{IsTold, asks_to_tell, telling_text}
 use Rattle.silo_program.specs.Status.{IsAgesFault, IsTenantsFault, cause_of}
-use Rattle.tenant_gate.specs.Table.{Table}
-use Rattle.idle_collector.specs.Ages.{Ages}
-use Rattle.silo_core.specs.History.{History}
 use Rattle.silo_event.specs.declared.reply.Reply.{Reply}
-use Rattle.grain_kinds.specs.Resting.{resting_kinds}
-use Rattle.line_parser.specs.declared.line.Line.{Line}
 use Rattle.line_parser.specs.declared.line.LineRefusal.{LineRefusal}
 use Rattle.line_protocol.specs.Gathered.{ReadsAll, StopsGathering}
 use Rattle.line_service.specs.Asked.{lanes_of, refusals_of}
-use Rattle.line_service.specs.Serving.{IsServed, LeavesServed, StopsServing, serving_fault, setup_of}
+use Rattle.line_service.specs.Serving.{IsServed, LeavesServed, StopsServing, serving_fault}
 use Rattle.worker_host.specs.declared.report.ServeFault.{ServeFault}
 use Rattle.worker_host.specs.declared.report.ServeFault.TheVariants as serve
-use Rattle.silo_program.specs.Files.{FileClaims, claims}
-use Rattle.silo_program.specs.Kept.{IsKeepingCause, KeepsSecond, MayFailAgain, MayFailAt, WritesAtMost, WritesFirst, WritesFirstAtMost, empty_journal}
-use Rattle.silo_program.specs.Serving.{LeavesOutcome, Outcome, ServesLanes, ServingFailsBy, WritesJournalAtMost, outcome_lines, service_cause}
-use Rattle.silo_program.specs.Answering.{WritesJournalsAtMost}
+use Rattle.silo_program.specs.Kept.{WritesFirstAtMost}
+use Rattle.silo_program.specs.Serving.{LeavesOutcome, ServesLanes, ServingFailsBy, WritesJournalAtMost, outcome_lines, service_cause}
 use Rattle.silo_program.specs.Auditing.{AuditsFile}
-use Rattle.silo_program.specs.Ends.{AskForJournal, EndsAs, EndsServing, IsAnsweringFault, IsFaultOf, IsNamingFault, IsServingFault, IsStreamFault, LeavesFiles, ServesInput, ShowsText, WritesAnswered, WritesJournal}
-use Rattle.silo_program.specs.declared.failure.Cause.{Cause}
+use Rattle.silo_program.specs.Ends.{AskForJournal, EndsServing, IsAnsweringFault, IsNamingFault, IsServingFault, IsStreamFault, LeavesFiles}
+use Rattle.silo_program.specs.Ends.{ShowsText, WritesAnswered, WritesJournal}
 use Rattle.silo_program.specs.declared.failure.Cause.TheVariants as cause
-use Rattle.silo_program.specs.declared.failure.End.{End}
 use Rattle.silo_program.specs.declared.failure.End.TheVariants as end
-use Rattle.silo_program.specs.declared.failure.ProgramFault.{ProgramFault}
 use Rattle.silo_program.specs.declared.failure.ProgramFault.TheVariants as fault
 use Rattle.silo_words.specs.declared.ages.AgesFault.{AgesFault}
 use Rattle.silo_words.specs.declared.ages.AgesFault.TheVariants as ages

@@ -1,8 +1,8 @@
 -- Which lines made no step, line by line.
-use Rattle.std.proofs.Common.{◌≡◌, ◌∙◌, ◌<◌, ℕ, suc, ◌+◌, List, [], ◌∷◌, ◌++◌, take, get_or, length, ap, sym, arith, append-nil, append_assoc}
+use Rattle.silo_program.proofs.Common.{Line, List, [], ap, append-nil, append_assoc, arith, length, reason_line, reason_of, reasons_behind}
+use Rattle.silo_program.proofs.Common.{sym, take, ℕ, ◌++◌, ◌+◌, ◌∙◌, ◌∷◌, ◌≡◌}
+use Rattle.std.proofs.Common.{◌<◌, suc, get_or}
 use Rattle.std.proofs.lemmas.List.{length-take, take_more}
-use Rattle.line_parser.specs.declared.line.Line.{Line}
-use Rattle.silo_program.specs.Telling.{reason_line, reason_of, reasons_behind}
 
 -- one line more
 reasons_next : (number : ℕ) (done : List Line) (l : Line) → reasons_behind number (done ++ l ∷ []) ≡ reasons_behind number done ++ reason_line (suc (number + length done)) (reason_of l)

@@ -1,7 +1,5 @@
-use Rattle.std.proofs.Common.{ℕ, List, IfErr, sym, subst}
-use Rattle.std.proofs.KnownBytes.{Keeps-refl}
-use Rattle.silo_program.specs.Auditing.{AuditFailsBy, IsAuditFault, IsReadingFault}
-use Rattle.silo_program.specs.declared.failure.Cause.{Cause}
+use Rattle.silo_program.proofs.Common.{Cause, IfErr, IsReadingFault, Keeps-refl, List, subst, sym, ℕ}
+use Rattle.silo_program.specs.Auditing.{AuditFailsBy, IsAuditFault}
 use Rattle.silo_program.proofs.AuditLemmas.{none_read, not_read}
 use Rattle.silo_program.proofs.auditing.journal_at.Goals as goal
 

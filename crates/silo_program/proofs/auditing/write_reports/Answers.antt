@@ -1,6 +1,4 @@
-use Rattle.std.proofs.Common.{ℕ, List, ◌∙◌, refl, subst}
-use Rattle.std.specs.Io.KnownBytes.{Appends}
-use Rattle.silo_program.specs.Streams.{BreaksOff}
+use Rattle.silo_program.proofs.Common.{Appends, BreaksOff, List, refl, subst, ℕ, ◌∙◌}
 use Rattle.silo_program.proofs.auditing.write_reports.Goals as goal
 
 pub returns-then-say-clause-written : goal.returns-then-say-clause-written

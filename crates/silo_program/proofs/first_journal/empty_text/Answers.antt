@@ -1,7 +1,4 @@
-use Rattle.std.proofs.Common.{◌≡◌, ◌∙◌, [], IfOk, rules}
-use Rattle.std.proofs.lemmas.Result.{IfOk-weaker}
-use Rattle.journal_text.specs.Text.{history_of, journal_text}
-use Rattle.silo_program.specs.Journals.{kinds_number}
+use Rattle.silo_program.proofs.Common.{IfOk, IfOk-weaker, [], history_of, journal_text, kinds_number, rules, ◌∙◌, ◌≡◌}
 use Rattle.silo_program.proofs.KeptLemmas.{no_step}
 use Rattle.silo_program.proofs.first_journal.empty_text.Goals as goal
 

@@ -1,8 +1,5 @@
-use Rattle.std.proofs.Common.{ℕ, List, IfErr, sym, subst}
-use Rattle.std.proofs.KnownBytes.{Keeps-refl}
-use Rattle.silo_program.specs.Auditing.{IsReadingFault}
-use Rattle.silo_program.specs.Migrating.{IsMigrationFault, MigrationFailsBy}
-use Rattle.silo_program.specs.declared.failure.Cause.{Cause}
+use Rattle.silo_program.proofs.Common.{Cause, IfErr, IsMigrationFault, IsReadingFault, Keeps-refl, List, subst, sym, ℕ}
+use Rattle.silo_program.specs.Migrating.{MigrationFailsBy}
 use Rattle.silo_program.proofs.AuditLemmas.{none_read, not_read}
 use Rattle.silo_program.proofs.migrating.text_at.Goals as goal
 

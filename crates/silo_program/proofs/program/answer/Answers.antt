@@ -1,7 +1,5 @@
-use Rattle.std.proofs.Common.{refl, rules}
+use Rattle.silo_program.proofs.Common.{Keeps-refl, claims, refl, rules}
 use Rattle.silo_words.specs.Words.{texts_of}
-use Rattle.std.proofs.KnownBytes.{Keeps-refl}
-use Rattle.silo_program.specs.Files.{claims}
 use Rattle.silo_program.proofs.MigrationLemmas.{migration_faults}
 use Rattle.silo_program.proofs.SeedLemmas.{not_seeded}
 use Rattle.silo_program.proofs.ServingLemmas.{ends_shown, stream_faults}

@@ -1,7 +1,5 @@
-use Rattle.std.proofs.Common.{◌∙◌, refl, string_bytes, subst, sym}
-use Rattle.std.proofs.lemmas.Result.{err_from_is_err_and}
-use Rattle.silo_program.specs.Ends.{ServesInput}
-use Rattle.silo_program.specs.Files.{claims}
+use Rattle.silo_program.proofs.Common.{ServesInput, claims, err_from_is_err_and, refl, subst, sym, ◌∙◌}
+use Rattle.std.proofs.Common.{string_bytes}
 use Rattle.silo_program.proofs.ServingLemmas.{files_left, input_served, not_asked, serving_refused}
 use Rattle.silo_program.proofs.program.serve_tenants.Goals as goal
 

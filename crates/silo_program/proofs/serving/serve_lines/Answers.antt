@@ -1,9 +1,6 @@
-use Rattle.std.proofs.Common.{ℕ, List, Option, map}
+use Rattle.silo_program.proofs.Common.{List, Option, Outcome, WritesFirst, claims, setup_of, ℕ}
+use Rattle.std.proofs.Common.{map}
 use Rattle.std.specs.Prelude.{option_map}
-use Rattle.silo_program.specs.Files.{claims}
-use Rattle.silo_program.specs.Kept.{WritesFirst}
-use Rattle.silo_program.specs.Serving.{Outcome}
-use Rattle.line_service.specs.Serving.{setup_of}
 use Rattle.silo_program.proofs.KeptLemmas.{both_kept, has_first, kept_unless, may_fail_again}
 use Rattle.silo_program.proofs.ServingLemmas.{first_at_most, first_written, not_begun, not_kept, not_served, not_written, second_at_most}
 use Rattle.silo_program.proofs.serving.serve_lines.Goals as goal

@@ -1,7 +1,6 @@
-use Rattle.std.proofs.Common.{◌∙◌, ◌++◌, if◌then◌else◌, ℕ, [], ap, length, string_bytes}
-use Rattle.line_protocol.proofs.LinesOfBytes.{left_of-fresh}
-use Rattle.line_service.specs.Serving.{setup_of}
-use Rattle.silo_program.specs.Telling.{codes_of, counts_text, reasons_behind}
+use Rattle.silo_program.proofs.Common.{[], ap, codes_of, counts_text, if◌then◌else◌, left_of-fresh, length, reasons_behind, setup_of, ℕ}
+use Rattle.silo_program.proofs.Common.{◌++◌, ◌∙◌}
+use Rattle.std.proofs.Common.{string_bytes}
 use Rattle.silo_program.proofs.ServingLemmas.{stops_read, told_lines}
 use Rattle.silo_program.proofs.serving.serve_reader.Goals as goal
 

@@ -1,5 +1,4 @@
-use Rattle.std.proofs.Common.{sym}
-use Rattle.line_service.specs.Serving.{setup_of}
+use Rattle.silo_program.proofs.Common.{setup_of, sym}
 use Rattle.silo_program.proofs.EndLemmas.{steps_answered, steps_not_begun, steps_stopped}
 use Rattle.silo_program.proofs.stepping.answer_lines.Goals as goal
 
