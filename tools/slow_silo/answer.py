@@ -12,6 +12,7 @@ from .steps import (OF_A_CALLER, OF_NOBODY, Activate, Begin, Call, Deliver, End,
 
 DEFAULT_SENDS = 1_000
 MAX_SENDS = 1_000_000
+MAX_ANSWERED_LINES = 1_073_741_824
 
 
 def is_asked(step: Step) -> bool:
@@ -75,7 +76,7 @@ def answer_line(silo: Silo, line: bytes, most: int) -> list[str]:
 def answer_lines(silo: Silo, pieces: Iterable[bytes], most: int, write: Callable[[bytes], None]) -> int:
     """Answers each line as it comes. Gives the number of lines."""
     count = 0
-    for line in lines_of(pieces):
+    for line in lines_of(pieces, MAX_ANSWERED_LINES):
         for text in answer_line(silo, line, most):
             write(text.encode() + b"\n")
         count += 1

@@ -215,18 +215,18 @@ class WriterFailed(Exception):
     """The writer failed."""
 
 
-def lines_of(pieces: Iterable[bytes]) -> Iterable[bytes]:
-    """The lines of an input that comes in pieces. A last one without LF is a line if it has bytes."""
+def lines_of(pieces: Iterable[bytes], most: int = MAX_LINES) -> Iterable[bytes]:
+    """The lines of an input that comes in pieces, of which there may be so many. A last one without LF is a line if it has bytes."""
     count, rest = 0, b""
     for piece in pieces:
         *whole, rest = (rest + piece).split(b"\n")
         for line in whole:
             count += 1
-            if count > MAX_LINES:
+            if count > most:
                 raise TooMuchInput
             yield line
     if rest:
-        if count == MAX_LINES:
+        if count == most:
             raise TooMuchInput
         yield rest
 
