@@ -6,9 +6,12 @@ use host_writing::LimitedWriter;
 use silo_program::{
     Cause, HostFiles, Input, Output, ProgramFault, refuse_words, run_program, tell,
 };
-use std::io::BufWriter;
+use std::io::{BufWriter, Read, Write};
 use std::process::ExitCode;
-use std::rt::Env;
+use std::random::RandomSource;
+use std::rt::{Env, Files};
+use std::sync::Wait;
+use std::thread::Threads;
 use std::{env, io};
 
 const OUTPUT_BUFFER_BYTES: usize = 65_536;
@@ -27,28 +30,32 @@ fn words_of<H: Env + AllocGlobal>(rt: &H) -> io::Result<Vec<String>> {
     Ok(words)
 }
 
-fn main(rt: HostRuntime) -> ExitCode {
-    let mut errors = Output::new(LimitedWriter::new(&rt, STDERR_FILE, rt.stderr()));
-    let mut files = HostFiles { rt: &rt };
-    let words = match words_of(&rt) {
+/// Runs the program over the host's files and these streams, and answers its status.
+fn run<H, I, O, E>(rt: &H, stdin: I, stdout: O, stderr: E) -> u8
+where
+    H: Env + AllocGlobal + Files + RandomSource + Threads + Wait + Sync,
+    I: Read + Drop,
+    O: Write + Drop,
+    E: Write + Drop,
+{
+    let mut errors = Output::new(LimitedWriter::new(rt, STDERR_FILE, stderr));
+    let mut files = HostFiles { rt };
+    let words = match words_of(rt) {
         Ok(words) => words,
-        Err(fault) => return ExitCode::from(refuse_words(&fault, &mut errors)),
+        Err(fault) => return refuse_words(&fault, &mut errors),
     };
     let fault = ProgramFault::Failed(Cause::Memory);
-    let Ok(mut input) = Input::new(rt.alloc(), rt.stdin()) else {
-        return ExitCode::from(tell(&mut errors, &fault));
+    let Ok(mut input) = Input::new(rt.alloc(), stdin) else {
+        return tell(&mut errors, &fault);
     };
-    let stdout = LimitedWriter::new(&rt, STDOUT_FILE, rt.stdout());
+    let stdout = LimitedWriter::new(rt, STDOUT_FILE, stdout);
     let Ok(writer) = BufWriter::with_capacity(rt.alloc(), OUTPUT_BUFFER_BYTES, stdout) else {
-        return ExitCode::from(tell(&mut errors, &fault));
+        return tell(&mut errors, &fault);
     };
     let mut output = Output::new(writer);
-    ExitCode::from(run_program(
-        &rt,
-        &words,
-        &mut files,
-        &mut input,
-        &mut output,
-        &mut errors,
-    ))
+    run_program(rt, &words, &mut files, &mut input, &mut output, &mut errors)
+}
+
+fn main(rt: HostRuntime) -> ExitCode {
+    ExitCode::from(run(&rt, rt.stdin(), rt.stdout(), rt.stderr()))
 }
