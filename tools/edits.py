@@ -170,6 +170,14 @@ def block_name(line: str) -> tuple[str, str]:
     return ("Ref" if found["ref"] else "") + name + trait + "".join(re.findall(r"\w+", found["args"] or "")), name
 
 
+def attributes_above(lines: list[str], first: int) -> list[str]:
+    """The attributes that stand right above a line, a line each."""
+    start = first
+    while start > 0 and lines[start - 1].strip().startswith("#["):
+        start -= 1
+    return [line.strip() for line in lines[start:first]]
+
+
 def lines_of_body(lines: list[str], first: int, indent: str) -> tuple[int, int] | None:
     """Where the body of a function that begins at a line opens and closes, in the form that `rt fmt` gives it."""
     opens = None
@@ -207,7 +215,7 @@ def bodies_of(crate: Crate, file: str) -> list[Body]:
         held = lines_of_body(lines, first, head[1]) if head and not head["const"] else None
         if held:
             path = "::".join([*(block or module_of(file)), head["name"]])
-            in_cycle = first > 0 and lines[first - 1].strip().startswith("#[cycle")
+            in_cycle = any(it.startswith("#[cycle") for it in attributes_above(lines, first))
             copied = None if opens is None or in_cycle else (opens, closes)
             found.append(Body(file, path, first + 1, held[0] + 1, held[1] + 1, copied, in_cycle))
     return found
