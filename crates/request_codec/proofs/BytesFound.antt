@@ -4,7 +4,7 @@ use Rattle.std.proofs.lemmas.Option.{some_pair_parts}
 use Rattle.request_codec.specs.Tree.{Tree, list, map, Members, member, Fields, field, holds_bytes, members_hold_bytes, fields_hold_bytes}
 use Rattle.request_codec.specs.Reading.{Parse, ◌>>=◌, text_at, members_at, fields_at, is_above, value_at}
 use Rattle.request_codec.specs.Start.{leaf, list_of, map_of, start_at, value_behind}
-use Rattle.request_codec.specs.inside.Ends.{end_of, holding}
+use Rattle.request_codec.specs.inside.Ends.{holding}
 use Rattle.request_codec.proofs.Levels.{value_at-leaf, value_at-started}
 
 -- what was read, where something is told of it
@@ -17,13 +17,6 @@ found_held test (Some (x, s)) b r e =
 pub none_held : {A : Type 0} (test : A → Bool) (o : Option (A × List ℕ)) → None ≡ holding test o → o ≡ None
 none_held test None e = refl
 none_held test (Some (x, r)) e = absurd cc
-
--- what is left, whatever is told
-pub end_held : {A : Type 0} (test : A → Bool) (o : Option (A × List ℕ)) (b : Bool) (r : List ℕ) → Some (b, r) ≡ holding test o → Some r ≡ end_of o
-end_held test o b r e = sym (ap end_of (found_held test o b r e).1)
-
-pub no_end_held : {A : Type 0} (test : A → Bool) (o : Option (A × List ℕ)) → None ≡ holding test o → None ≡ end_of o
-no_end_held test o e = sym (ap end_of (none_held test o e))
 
 -- of a list and a map it is told what is told of the members
 pub holding_list : (o : Option (Members × List ℕ)) → holding members_hold_bytes o ≡ holding holds_bytes (o >>= λ x. Some (list x.0, x.1))

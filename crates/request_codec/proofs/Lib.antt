@@ -26,3 +26,4 @@ pub mod JsonDepths
 pub mod JsonShown
 pub mod BytesFound
 pub mod Migrated
+pub mod ValueEnds

@@ -1,18 +1,84 @@
 //! Messages and states of before: the first byte of a message was another one, and no bytes were among the values.
 
-ghost use Rattle.std.specs.Prelude.{◌≡◌, is_some, IsSome, IfOk};
+ghost use Rattle.std.specs.Prelude.{◌≡◌, None, option_map, is_some, IsSome, IfOk};
+ghost use Rattle.request_codec.specs.Reading.{value_at, members_at, fields_at};
 ghost use Rattle.request_codec.specs.Call.{message_call, old_call, old_state};
+ghost use Rattle.request_codec.specs.inside.Ends.{holding};
 ghost use Rattle.request_codec.specs.inside.Plain.{old_call_behind, plain_alone};
+ghost use Rattle.request_codec.specs.Tree.{holds_bytes, members_hold_bytes, fields_hold_bytes};
 ghost use Rattle.request_codec.specs.Answers.{Reads};
 ghost use Rattle.request_codec.specs.Written.{spelling, old_spelling};
 
-use crate::bytes::text_of;
+use crate::bytes::{Start, may_follow, start_of, text_of};
 use crate::fault::CodecFault;
 use crate::limits::{MAX_DEPTH, MAX_MESSAGE_BYTES, MAX_STATE_BYTES, MESSAGE_VERSION, OLD_VERSION};
 use crate::message::Message;
 use crate::state::StateBytes;
-use crate::value_end::bytes_found;
 use std::alloc::{AllocError, Global};
+
+/// Whether bytes stand in the value at the front, which is no deeper than the limit, and what is behind it.
+#[cycle(finding)]
+fn bytes_found(bytes: &[u8], limit: u8) -> Option<(bool, &[u8])>
+    ensures { option_map (λ x. (x.0, x.1.now)) result ≡ holding holds_bytes (value_at limit bytes.now) }
+{
+    if limit == 0 {
+        return None;
+    }
+    let Some((start, rest)) = start_of(bytes) else {
+        return None;
+    };
+    match start {
+        Start::Null => Some((false, rest)),
+        Start::Bool(_) => Some((false, rest)),
+        Start::Int(_) => Some((false, rest)),
+        Start::Text(_) => Some((false, rest)),
+        Start::List(count) => members_found(rest, count, limit - 1),
+        Start::Map(count) => fields_found(rest, count, limit - 1),
+        Start::Bytes(_) => Some((true, rest)),
+    }
+}
+
+#[cycle(finding)]
+fn members_found(bytes: &[u8], count: u32, limit: u8) -> Option<(bool, &[u8])>
+    ensures { option_map (λ x. (x.0, x.1.now)) result
+        ≡ holding members_hold_bytes (members_at (value_at limit) count bytes.now) }
+{
+    let mut found = false;
+    let mut rest = bytes;
+    'items: for _ in 0..count {
+        let Some((here, after)) = bytes_found(rest, limit) else {
+            return None;
+        };
+        found |= here;
+        rest = after;
+    }
+    Some((found, rest))
+}
+
+#[cycle(finding)]
+fn fields_found(bytes: &[u8], count: u32, limit: u8) -> Option<(bool, &[u8])>
+    ensures { option_map (λ x. (x.0, x.1.now)) result
+        ≡ holding fields_hold_bytes (fields_at (value_at limit) count None bytes.now) }
+{
+    let mut found = false;
+    let mut rest = bytes;
+    let mut last = None;
+    'fields: for _ in 0..count {
+        let Some((name, behind)) = text_of(rest) else {
+            return None;
+        };
+        if !may_follow(last, name) {
+            return None;
+        }
+        let Some((here, after)) = bytes_found(behind, limit) else {
+            return None;
+        };
+        found |= here;
+        rest = after;
+        last = Some(name);
+    }
+    Some((found, rest))
+}
 
 /// Whether all of the bytes spell one value that holds no bytes.
 fn is_plain_value(bytes: &[u8]) -> bool

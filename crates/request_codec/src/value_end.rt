@@ -4,16 +4,15 @@ ghost use Rattle.std.specs.Prelude.{◌≡◌, None, option_map, is_some};
 ghost use Rattle.request_codec.specs.Limits.{message_version, depth_limit};
 ghost use Rattle.request_codec.specs.Reading.{value_at, members_at, fields_at, if_ended};
 ghost use Rattle.request_codec.specs.Call.{message_call, state_value, behind_version};
-ghost use Rattle.request_codec.specs.Tree.{holds_bytes, members_hold_bytes, fields_hold_bytes};
-ghost use Rattle.request_codec.specs.inside.Ends.{end_of, holding};
+ghost use Rattle.request_codec.specs.inside.Ends.{end_of};
 
 use crate::bytes::{Start, may_follow, start_of, text_of};
 use crate::limits::{MAX_DEPTH, MAX_MESSAGE_BYTES, MAX_STATE_BYTES, MESSAGE_VERSION};
 
-/// Whether bytes stand in the value at the front, which is no deeper than the limit, and what is behind it.
-#[cycle(finding)]
-pub(crate) fn bytes_found(bytes: &[u8], limit: u8) -> Option<(bool, &[u8])>
-    ensures { option_map (λ x. (x.0, x.1.now)) result ≡ holding holds_bytes (value_at limit bytes.now) }
+/// The bytes behind the value at the front, which is no deeper than the limit.
+#[cycle(ends)]
+pub fn value_end(bytes: &[u8], limit: u8) -> Option<&[u8]>
+    ensures { option_map (λ rest. rest.now) result ≡ end_of (value_at limit bytes.now) }
 {
     if limit == 0 {
         return None;
@@ -22,39 +21,34 @@ pub(crate) fn bytes_found(bytes: &[u8], limit: u8) -> Option<(bool, &[u8])>
         return None;
     };
     match start {
-        Start::Null => Some((false, rest)),
-        Start::Bool(_) => Some((false, rest)),
-        Start::Int(_) => Some((false, rest)),
-        Start::Text(_) => Some((false, rest)),
-        Start::List(count) => members_found(rest, count, limit - 1),
-        Start::Map(count) => fields_found(rest, count, limit - 1),
-        Start::Bytes(_) => Some((true, rest)),
+        Start::Null => Some(rest),
+        Start::Bool(_) => Some(rest),
+        Start::Int(_) => Some(rest),
+        Start::Text(_) => Some(rest),
+        Start::List(count) => members_end(rest, count, limit - 1),
+        Start::Map(count) => fields_end(rest, count, limit - 1),
+        Start::Bytes(_) => Some(rest),
     }
 }
 
-#[cycle(finding)]
-fn members_found(bytes: &[u8], count: u32, limit: u8) -> Option<(bool, &[u8])>
-    ensures { option_map (λ x. (x.0, x.1.now)) result
-        ≡ holding members_hold_bytes (members_at (value_at limit) count bytes.now) }
+#[cycle(ends)]
+fn members_end(bytes: &[u8], count: u32, limit: u8) -> Option<&[u8]>
+    ensures { option_map (λ rest. rest.now) result ≡ end_of (members_at (value_at limit) count bytes.now) }
 {
-    let mut found = false;
     let mut rest = bytes;
     'items: for _ in 0..count {
-        let Some((here, after)) = bytes_found(rest, limit) else {
+        let Some(after) = value_end(rest, limit) else {
             return None;
         };
-        found |= here;
         rest = after;
     }
-    Some((found, rest))
+    Some(rest)
 }
 
-#[cycle(finding)]
-fn fields_found(bytes: &[u8], count: u32, limit: u8) -> Option<(bool, &[u8])>
-    ensures { option_map (λ x. (x.0, x.1.now)) result
-        ≡ holding fields_hold_bytes (fields_at (value_at limit) count None bytes.now) }
+#[cycle(ends)]
+fn fields_end(bytes: &[u8], count: u32, limit: u8) -> Option<&[u8]>
+    ensures { option_map (λ rest. rest.now) result ≡ end_of (fields_at (value_at limit) count None bytes.now) }
 {
-    let mut found = false;
     let mut rest = bytes;
     let mut last = None;
     'fields: for _ in 0..count {
@@ -64,22 +58,12 @@ fn fields_found(bytes: &[u8], count: u32, limit: u8) -> Option<(bool, &[u8])>
         if !may_follow(last, name) {
             return None;
         }
-        let Some((here, after)) = bytes_found(behind, limit) else {
+        let Some(after) = value_end(behind, limit) else {
             return None;
         };
-        found |= here;
         rest = after;
         last = Some(name);
     }
-    Some((found, rest))
-}
-
-/// The bytes behind the value at the front, which is no deeper than the limit.
-#[tactic(auto, using(crate::proofs::BytesFound::end_held, crate::proofs::BytesFound::no_end_held))]
-pub fn value_end(bytes: &[u8], limit: u8) -> Option<&[u8]>
-    ensures { option_map (λ rest. rest.now) result ≡ end_of (value_at limit bytes.now) }
-{
-    let (_, rest) = bytes_found(bytes, limit)?;
     Some(rest)
 }
 

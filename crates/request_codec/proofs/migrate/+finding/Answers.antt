@@ -6,7 +6,7 @@ use Rattle.request_codec.specs.Start.{begun}
 use Rattle.request_codec.specs.inside.Ends.{holding}
 use Rattle.request_codec.proofs.Levels.{value_at-zero, value_at-unstarted, started}
 use Rattle.request_codec.proofs.BytesFound.{held_leaf, held_list, held_map, so_far, so_far-start, held_members-next, held_members-none, held_members-done, fields_held, held_fields-next, held_fields-unnamed, held_fields-misplaced, held_fields-none, held_fields-done}
-use Rattle.request_codec.proofs.value_end.+finding.Goals as goal
+use Rattle.request_codec.proofs.migrate.+finding.Goals as goal
 
 -- ---- one value
 

@@ -3,7 +3,7 @@ use Rattle.request_codec.specs.Tree.{members_hold_bytes}
 use Rattle.request_codec.specs.Reading.{value_at, members_at}
 use Rattle.request_codec.specs.inside.Ends.{holding}
 use Rattle.request_codec.proofs.BytesFound.{so_far, fields_held}
-use Rattle.request_codec.proofs.value_end.+finding.Given as goal
+use Rattle.request_codec.proofs.migrate.+finding.Given as goal
 
 abbrev pub decreases-bytes_found : goal.decreases-bytes_found
 decreases-bytes_found l = 2 * l.limit
