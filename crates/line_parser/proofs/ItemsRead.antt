@@ -17,7 +17,7 @@ use Rattle.request_codec.specs.Written.{spelling, members_spelling}
 use Rattle.request_codec.proofs.Spelled.{length-spelling, some_length}
 use Rattle.line_parser.specs.inside.Argument.{too_deep, is_deep, AddsFaults, PutsValue, PutsItems}
 use Rattle.line_parser.specs.inside.LineMembers.{name_text, HoldsLineMembers, TakesMember, HasLineMembers}
-pub use Rattle.line_parser.specs.inside.PassedMembers.{MembersRead}
+pub use Rattle.line_parser.specs.inside.PassedMembers.{MembersRead, PassesMember}
 use Rattle.line_parser.specs.declared.line_members.Name.{Name}
 use Rattle.line_parser.specs.declared.line_members.LineMembers.{LineMembers}
 use Rattle.line_parser.specs.declared.faults.Faults.{Faults}
@@ -164,3 +164,7 @@ members_stop initial ts line bytes all first m over = record {
       (ap (λ l. converted of_json (value 127 l)) first ∙ ap (converted of_json) (value-begin_object 127 initial (omega arith)) ∙ converted-object (members (value 126) (length initial) initial) ∙ ap (parse_map object) (m.read ∙ members_over (value 126) m.found m.turns ts [] m.enough over));
   holds = m.holds;
 }
+
+-- a member that was passed is read
+pub passed_next : (initial ts r : List Token) (old new : LineMembers) (bytes : List ℕ) → MembersRead initial ts old bytes → PassesMember ts r old new → MembersRead initial r new bytes
+passed_next initial ts r old new bytes m p = members_next initial ts p.behind r old new bytes bytes p.name (name_text p.name) m p.key refl (p.takes bytes)

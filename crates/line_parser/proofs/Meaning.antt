@@ -60,3 +60,9 @@ said_of_long bytes h = meaning_of-under bytes ∙ long_under line_limit bytes h
 pub said_of_empty : (bytes : List ℕ) {b : Bool} → b ≡ (length bytes == 0) → b ≡ true → meaning_of bytes ≡ line.Nothing
 said_of_empty [] test is = meaning_of-under []
 said_of_empty (b ∷ bytes) test is = absurd (let none : length (b ∷ bytes) ≡ 0 = grind (arith, nat_tests) in omega (arith, none))
+
+-- what a line says whose bytes are a text, by its tokens
+pub said_of_text : (bytes text : List ℕ) {b : Bool} → (text ≡ bytes) × IsUtf8 bytes → b ≡ (length bytes == 0) → b ≡ false → length bytes ≤ line_limit → meaning_of text ≡ meaning_by (option_and_then step_of_json (read text))
+said_of_text bytes text same test is le =
+    let json = ap (λ b. cond b (read bytes) None) (is_utf8-from_IsUtf8 bytes same.1) in
+    ap meaning_of same.0 ∙ said_of_asked bytes test is le ∙ ap (λ o. meaning_by (option_and_then step_of_json o)) (json ∙ ap read (sym same.0))

@@ -210,3 +210,8 @@ named_or_none (Some form) op d known other = form_is form op d known
 pub finds_as : {E : Type 0} (given form : Form) (members : LineMembers) (a : ValueIn) (r : Result (Option Step) E) → given ≡ form → IfOk r (λ step. Finds members (of_form form) step) → IfOk r (λ step. FindsIn members a (of_form given) step)
 finds_as given form members a (Ok step) is h = λ d holds. ap (λ f. of_form f d) is ∙ h a d holds
 finds_as given form members a (Err e) is h = h
+
+-- what is said of each step that was found
+pub found_as : {A : Type 0} {P : A → Type 0} (o : Option A) → ((x : A) → o ≡ Some x → P x) → IfSome o P
+found_as (Some x) h = h x refl
+found_as None h = tt

@@ -1,6 +1,7 @@
 //! An argument, written from the tokens of a line as the bytes that spell it. If it is too deep or a number of it isn't
 //! whole, that is noted, and null stands for the number. A map that stands for bytes is put as these, if it is spelled
-//! plainly; a line with another whose only name is `$hex` is left.
+//! plainly; a line with another whose only name is `$hex` is left. `limit` is in bytes: what is put to has no more than so
+//! many, with what it had before.
 
 ghost use Rattle.std.specs.Prelude.{◌≡◌, ◌<◌, ◌≤◌, ◌^◌, ◌+◌, ◌++◌, ◌∷◌, [], ℕ, List, length, OnOk, IsSome, IsTrue, IsUtf8, true, false};
 ghost use Rattle.std.specs.Int.{w32, to_be_bytes};

@@ -259,6 +259,7 @@ fn take_member<'a>(
 
 /// Takes the members that are left of the object that was begun, and answers whether it did: each is known and stands
 /// once. If not, the tokens are surely no request.
+#[inline(always)]
 fn read_further<'a>(
     reader: &mut Tokens<'a>,
     members: &mut LineMembers<'a>,

@@ -10,6 +10,7 @@ use grain_id::{Caller, GrainId, IdFault, NameCache};
 use std::alloc::{AllocError, Global};
 
 /// The grain of a text, if it is well formed.
+#[inline(always)]
 fn read_grain(
     alloc: Global,
     names: &mut NameCache,
@@ -54,6 +55,7 @@ pub(crate) fn caller_of(
 }
 
 /// The grain that is named.
+#[inline(always)]
 pub(crate) fn grain_of(
     alloc: Global,
     names: &mut NameCache,
@@ -68,6 +70,7 @@ pub(crate) fn grain_of(
 }
 
 /// Whether the storage call is to fail: `false` where it is left out, which leaves `count` members.
+#[inline(always)]
 pub(crate) fn failed_of(members: &LineMembers<'_>, count: usize) -> Option<bool>
     requires { count < 16 }
     ensures { Finds members.now (failed_at count) result }

@@ -215,7 +215,7 @@ fn spelled(name: Name) -> &'static str
 
 /// The member's name, if it is the first token, and what follows its colon.
 #[inline(always)]
-fn past_name<'t>(rest: &'t str, name: Name) -> Option<(Name, &'t str)>
+pub(crate) fn past_name<'t>(rest: &'t str, name: Name) -> Option<(Name, &'t str)>
     ensures { IfSome result (λ cut. tokens rest.now ≡ key (name_text cut.0) ∷ tokens cut.1.now) }
 {
     let front = spelled(name);

@@ -1,13 +1,15 @@
 //! The members that a line begins with, as long as they are spelled plainly and are texts or numbers from 0 up.
 
 ghost use Rattle.std.specs.Prelude.{◌≡◌, ◌∷◌, [], ℕ, List, IsTrue, IfSome, IfNone};
-ghost use Rattle.json.specs.Token.{Token, end_object};
+ghost use Rattle.json.specs.Token.{Token, key, begin_object, end_object};
 ghost use Rattle.json.specs.Lex.{tokens};
+ghost use Rattle.serde_json.specs.Data.{no_members};
+ghost use Rattle.line_parser.specs.inside.LineMembers.{name_text, HoldsLineMembers, HasLineMembers};
 ghost use Rattle.line_parser.specs.inside.PassedMembers.{MembersRead, PassesMember, TakesUncounted};
 
 use crate::line_members::{LineMembers, Name};
 use crate::number::natural_of;
-use crate::plain::{map_end, plain_name, plain_number, plain_text};
+use crate::plain::{map_end, map_start, past_name, plain_name, plain_number, plain_text};
 use crate::slots::{put_natural, put_text};
 
 /// Takes the text that is the first token, if it is spelled plainly and the member had none: what follows it.
@@ -62,6 +64,20 @@ fn take_plain_value<'a>(
     }
 }
 
+/// Takes the member whose name was passed and whose value is the first token, if that is a text or a number that is spelled
+/// plainly, and the member wasn't there yet: what follows it. If not, nothing changes.
+#[inline(always)]
+fn take_passed<'a>(members: &mut LineMembers<'a>, name: Name, value: &'a str) -> Option<&'a str>
+    ensures passed { IfSome result (λ after. (ts : List Token) → ts ≡ key (name_text name) ∷ tokens value.now
+        → PassesMember ts (tokens after.now) members.old members.new) }
+    ensures unchanged { IfNone result (members.new ≡ members.old) }
+{
+    let count = members.count.checked_add(1)?;
+    let after = take_plain_value(members, name, value)?;
+    members.count = count;
+    Some(after)
+}
+
 /// Takes the member that stands in front, if it is spelled plainly, is a text or a number, and wasn't there yet: what
 /// follows it. If not, nothing changes.
 #[inline(always)]
@@ -69,11 +85,49 @@ fn take_plain_member<'a>(members: &mut LineMembers<'a>, rest: &'a str) -> Option
     ensures passed { IfSome result (λ after. PassesMember (tokens rest.now) (tokens after.now) members.old members.new) }
     ensures unchanged { IfNone result (members.new ≡ members.old) }
 {
-    let count = members.count.checked_add(1)?;
     let (name, value) = plain_name(rest)?;
-    let after = take_plain_value(members, name, value)?;
-    members.count = count;
-    Some(after)
+    take_passed(members, name, value)
+}
+
+/// Takes the member of that name, if it stands in front, is spelled plainly, is a text or a number, and wasn't there yet:
+/// what follows it.
+#[inline(always)]
+fn take_named<'a>(members: &mut LineMembers<'a>, rest: &'a str, name: Name) -> Option<&'a str>
+    ensures { IfSome result (λ after. PassesMember (tokens rest.now) (tokens after.now) members.old members.new) }
+{
+    let (name, value) = past_name(rest, name)?;
+    take_passed(members, name, value)
+}
+
+/// Takes `op` and `grain`, if a text begins an object with these two in this order, spelled plainly: what follows them.
+#[inline(always)]
+fn past_grain<'a>(members: &mut LineMembers<'a>, text: &'a str) -> Option<&'a str>
+    requires { (l : List ℕ) → HoldsLineMembers no_members members.old l }
+    ensures { IfSome result (λ rest. (begun : List Token) × (tokens text.now ≡ begin_object ∷ begun)
+        × ((l : List ℕ) → MembersRead begun (tokens rest.now) members.new l)) }
+{
+    let begun = map_start(text)?;
+    let behind = take_named(members, begun, Name::Op)?;
+    take_named(members, behind, Name::Grain)
+}
+
+/// Takes the members of the object that a text is, if they are `op`, `grain` and maybe `turn`, in this order and spelled
+/// plainly: whether they are. If not, some of them may be taken.
+#[inline(always)]
+pub(crate) fn take_short<'a>(members: &mut LineMembers<'a>, text: &'a str) -> bool
+    requires { (l : List ℕ) → HoldsLineMembers no_members members.old l }
+    ensures { IsTrue result → (l : List ℕ) → HasLineMembers (tokens text.now) members.new l }
+{
+    let Some(rest) = past_grain(members, text) else {
+        return false;
+    };
+    if ends_line(rest) {
+        return true;
+    }
+    let Some(end) = take_named(members, rest, Name::Turn) else {
+        return false;
+    };
+    ends_line(end)
 }
 
 /// Takes the members that stand in front and are spelled plainly, each a text or a number: what follows them.

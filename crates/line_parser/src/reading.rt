@@ -10,8 +10,9 @@ use crate::ascii::is_ascii;
 use crate::line::{Line, LineRefusal};
 use crate::line_members::{LineMembers, ValueIn, read_members};
 use crate::members::members_of_json;
+use crate::plain_members::take_short;
 use crate::quick_fault::QuickFault;
-use crate::step::step_from;
+use crate::step::{short_step_from, step_from};
 use grain_id::NameCache;
 use json::Scratch;
 use serde_json::Value;
@@ -105,6 +106,8 @@ fn read_request(
 
 /// What a line says, by its JSON as `serde_json` reads it: any line. `read_line` says the same, and is
 /// mostly faster.
+#[cold]
+#[inline(never)]
 pub fn read_any_line(
     alloc: Global,
     scratch: &mut LineScratch,
@@ -155,6 +158,42 @@ fn read_text_step(
     Ok(step)
 }
 
+/// The step of a line, if it is an `op`, a grain and maybe a turn, in this order and spelled plainly, and asks for one: it is
+/// made from the text alone. If there is none, the line may ask for a step still.
+#[inline(always)]
+fn read_short_step(
+    alloc: Global,
+    scratch: &mut LineScratch,
+    text: &str,
+) -> Result<Option<Step>, AllocError>
+    ensures { IfOk result (λ found. IfSome found (λ step. option_and_then step_of_json (read text.now) ≡ Some step)) }
+{
+    let mut members = LineMembers::none();
+    if !take_short(&mut members, text) {
+        return Ok(None);
+    }
+    short_step_from(
+        alloc,
+        &mut scratch.names,
+        &mut scratch.message,
+        &members,
+        ValueIn::Bytes(&[]),
+    )
+}
+
+/// What a line says, in one pass over its tokens. A line that is left goes to `serde_json`.
+#[inline(never)]
+fn read_text(alloc: Global, scratch: &mut LineScratch, text: &str) -> Result<Line, AllocError>
+    requires { meaning_of text.now ≡ meaning_by (option_and_then step_of_json (read text.now)) }
+    ensures { IfOk result (λ said. said ≡ meaning_of text.now) }
+{
+    match read_text_step(alloc, scratch, text) {
+        Ok(step) => Ok(line_of(step)),
+        Err(QuickFault::Memory) => Err(AllocError),
+        Err(QuickFault::LeftToTree) => read_any_line(alloc, scratch, text.as_bytes()),
+    }
+}
+
 /// What a line says, without its LF. The quick reader tells it without a tree; a line that it leaves
 /// goes to `serde_json`.
 pub fn read_line(alloc: Global, scratch: &mut LineScratch, line: &[u8]) -> Result<Line, AllocError>
@@ -166,9 +205,8 @@ pub fn read_line(alloc: Global, scratch: &mut LineScratch, line: &[u8]) -> Resul
     let Some(text) = text_of(line) else {
         return read_any_line(alloc, scratch, line);
     };
-    match read_text_step(alloc, scratch, text) {
-        Ok(step) => Ok(line_of(step)),
-        Err(QuickFault::Memory) => Err(AllocError),
-        Err(QuickFault::LeftToTree) => read_any_line(alloc, scratch, line),
+    if let Some(step) = read_short_step(alloc, scratch, text)? {
+        return Ok(Line::Step(step));
     }
+    read_text(alloc, scratch, text)
 }

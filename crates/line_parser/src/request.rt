@@ -141,6 +141,7 @@ fn argument_of<'t>(members: &LineMembers<'_>, value: ValueIn<'t>) -> Option<Argu
 
 /// The call, if the members are those of a call; it is refused if its argument is, its message is too
 /// long, or its grain isn't well formed.
+#[inline(always)]
 pub(crate) fn call_from(
     alloc: Global,
     names: &mut NameCache,

@@ -1,6 +1,6 @@
 //! The step that the members of a line ask for.
 
-ghost use Rattle.std.specs.Prelude.{◌≡◌, None, IfSome, IfNone, IfOk};
+ghost use Rattle.std.specs.Prelude.{◌≡◌, Some, None, IfSome, IfNone, IfOk};
 ghost use Rattle.serde_json.specs.Data.{Data};
 ghost use Rattle.line_parser.specs.Form.{where_so, has_members, grain_at, turn_alone, load_of, store_of, tick_of, sweep_of, form_of};
 ghost use Rattle.line_parser.specs.Form.{step_of_json};
@@ -129,6 +129,7 @@ pub(crate) fn form_of(op: &str) -> Option<Form>
 }
 
 /// The grain, if there is nothing else beside `op`.
+#[inline(always)]
 fn grain_from(
     alloc: Global,
     names: &mut NameCache,
@@ -143,6 +144,7 @@ fn grain_from(
 }
 
 /// The load of a grain, if the members are those of a load.
+#[inline(always)]
 fn load_from(
     alloc: Global,
     names: &mut NameCache,
@@ -160,6 +162,7 @@ fn load_from(
 }
 
 /// The storage call of a turn, if the members are those of one.
+#[inline(always)]
 fn store_from(
     alloc: Global,
     names: &mut NameCache,
@@ -184,6 +187,7 @@ fn store_from(
 }
 
 /// The grain and the turn, if there is nothing else beside `op`.
+#[inline(always)]
 fn turn_from(
     alloc: Global,
     names: &mut NameCache,
@@ -264,6 +268,7 @@ fn read_form(
 }
 
 /// The step that the members ask for.
+#[inline(always)]
 pub(crate) fn step_from(
     alloc: Global,
     names: &mut NameCache,
@@ -278,6 +283,50 @@ pub(crate) fn step_from(
         return Ok(None);
     };
     let Some(form) = form_of(op) else {
+        return Ok(None);
+    };
+    read_form(alloc, names, out, members, value, form)
+}
+
+/// The form that `op` most likely names, of those that name a grain and no client.
+#[inline(always)]
+fn likely_grain_form(op: &str) -> Option<Form>
+    ensures { IfSome result (λ form. op.now ≡ form_text form) }
+{
+    let bytes = op.as_bytes();
+    match bytes.len() {
+        3 => if_named(op, Form::End),
+        4 => if_named(op, Form::Load),
+        5 => match bytes[1] {
+            b'e' => if_named(op, Form::Begin),
+            _ => if_named(op, Form::Store),
+        },
+        7 => match bytes[0] {
+            b'd' => if_named(op, Form::Deliver),
+            _ => if_named(op, Form::Abandon),
+        },
+        8 => if_named(op, Form::Activate),
+        _ => None,
+    }
+}
+
+/// The step that the members of a line ask for, if its form names a grain and no client. If there is none, they may ask for
+/// a step still.
+#[inline(always)]
+pub(crate) fn short_step_from(
+    alloc: Global,
+    names: &mut NameCache,
+    out: &mut Vec<u8>,
+    members: &LineMembers<'_>,
+    value: ValueIn<'_>,
+) -> Result<Option<Step>, AllocError>
+    requires { (d : Data) × AreMembersOf d members.now value }
+    ensures { IfOk result (λ found. IfSome found (λ step. FindsIn members.now value.entry step_of_json (Some step))) }
+{
+    let Some(op) = members.op else {
+        return Ok(None);
+    };
+    let Some(form) = likely_grain_form(op) else {
         return Ok(None);
     };
     read_form(alloc, names, out, members, value, form)

@@ -1,0 +1,6 @@
+use Rattle.json.specs.Lex.{tokens}
+use Rattle.line_parser.proofs.Results.{if_some_as}
+use Rattle.line_parser.proofs.plain_members.take_named.Goals as goal
+
+pub returns : goal.returns
+returns c = if_some_as c.take_passed.result c.take_passed.ensures.passed λ after passes. passes (tokens c.args.rest.now) c.in_ok-name.ensures
