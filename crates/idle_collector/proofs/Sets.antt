@@ -1,6 +1,7 @@
 -- Notes by sets of grains, each of one moment: what is noted when one of the sets changes, and what is due.
 use Rattle.std.proofs.Common.{◌≡◌, ℕ, ◌<◌, Bool, true, false, cond, List, [], ◌∷◌, ◌++◌, Option, Some, None, is_some, refl, ap, sym, ◌∙◌, subst, true≢false, arith}
-use Rattle.std.specs.Prelude.{nat_le, IfSome}
+use Rattle.std.specs.Prelude.{◌≤◌, nat_le, not, length, slice_get, IfSome}
+use Rattle.std.specs.Option.{IsSome}
 use Rattle.std.specs.BTreeMap as tree
 use Rattle.std.specs.BTreeMap.{BTreeMap}
 use Rattle.std.specs.Map.{lookup, keys_of}
@@ -11,7 +12,7 @@ use Rattle.std.specs.Cmp.{Equal-is, nat_cmp_total, tied_itself, ranked}
 use Rattle.std.specs.List.{list_any, IsDistinct, AllByRecursion}
 use Rattle.std.specs.List.Sorted.{IsStrictlySortedBy}
 use Rattle.std.specs.Ordering.{nat_cmp, is_eq}
-use Rattle.std.proofs.lemmas.Bool.{lt-leb, leb-false}
+use Rattle.std.proofs.lemmas.Bool.{le-leb, lt-leb, leb-false}
 use Rattle.std.proofs.lemmas.Option.{same_Some}
 use Rattle.indexmap.specs.IndexSet.{IndexSet}
 use Rattle.finite_maps.proofs.Entries.{get-remove_key}
@@ -19,9 +20,9 @@ use Rattle.finite_maps.proofs.Maps as maps
 use Rattle.grain_id.proofs.Keys.{grains}
 use Rattle.grain_id.specs.Names.{Grain, grain_cmp, grain_eq}
 use Rattle.grain_id.proofs.Order.{grain_cmp_total, grain_cmp_exact, grain_eq_decides}
-use Rattle.idle_collector.specs.Notes.{Notes, noted, forgotten, is_due}
-use Rattle.idle_collector.specs.inside.Sets.{notes_of, has, is_at, AreApart, HoldsDue, LeavesNotes, first_due}
-use Rattle.idle_collector.proofs.Due.{get-noted, get-all, due-all}
+use Rattle.idle_collector.specs.Notes.{Notes, noted, forgotten, is_due, not_due, HoldsDue}
+use Rattle.idle_collector.specs.inside.Sets.{notes_of, has, is_at, AreApart, LeavesNotes, first_due}
+use Rattle.idle_collector.proofs.Due.{kept, get-noted, get-all, get-not_due, due-all, none-due}
 
 -- ---- moments
 
@@ -256,19 +257,60 @@ module _ {S : Type 0} (sets : BTreeMap ℕ (IndexSet Grain S)) (apart : AreApart
 -- ---- what is due
 
 module _ {S : Type 0} where
-  -- what is behind the first set
-  rest_alone : (e : ℕ × IndexSet Grain S) (es : List (ℕ × IndexSet Grain S)) → IsStrictlySortedBy nat_cmp (keys_of (e ∷ es))
-      → ((m : ℕ) (q : Grain) → has q (set_of (e ∷ es) m) ≡ true → moment_in (e ∷ es) q ≡ Some m)
-      → (m : ℕ) (q : Grain) → has q (set_of es m) ≡ true → (list_any (grain_eq q) e.1.keys ≡ false) × (moment_in es q ≡ Some m)
-  unfolding IsStrictlySortedBy
-  rest_alone e es ascend alone m q there = by (list_any (grain_eq q) e.1.keys) refl (alone m q (ap (λ b. has q (cond b (Some e.1) (set_of es m))) other ∙ there))
-    where
-      other : is_eq (nat_cmp m e.0) ≡ false
-      other = refused (is_eq (nat_cmp m e.0)) (λ t. true≢false (sym there ∙ ap (has q) (none_there e.0 es ascend.0 m t)))
+  -- what AreApart says of the entries
+  record AreSets (es : List (ℕ × IndexSet Grain S)) : Type 0 where
+    ordered : IsStrictlySortedBy nat_cmp (keys_of es)
+    once : (m : ℕ) (s : IndexSet Grain S) → set_of es m ≡ Some s → IsDistinct grain_eq s.keys
+    alone : (m : ℕ) (q : Grain) → has q (set_of es m) ≡ true → moment_in es q ≡ Some m
 
-      by : (b : Bool) → list_any (grain_eq q) e.1.keys ≡ b → cond b (Some e.0) (moment_in es q) ≡ Some m → (list_any (grain_eq q) e.1.keys ≡ false) × (moment_in es q ≡ Some m)
-      by true t is = absurd (true≢false (sym (ap (λ k. is_eq (nat_cmp m k)) (same_Some e.0 m is) ∙ own_moment m) ∙ other))
-      by false t is = (t, is)
+  of_apart : (sets : BTreeMap ℕ (IndexSet Grain S)) → AreApart sets → AreSets sets.entries
+  of_apart sets apart = record { ordered = apart.ordered; once = apart.once; alone = λ m q there. sym (get-notes sets.entries q) ∙ apart.alone m q there }
+
+  -- what is behind the first set
+  module _ (e : ℕ × IndexSet Grain S) (es : List (ℕ × IndexSet Grain S)) (sets : AreSets (e ∷ es)) where
+    other_moments : (m : ℕ) {o : Option (IndexSet Grain S)} → set_of es m ≡ o → is_some o ≡ true → is_eq (nat_cmp m e.0) ≡ false
+    unfolding IsStrictlySortedBy
+    other_moments m is some = refused (is_eq (nat_cmp m e.0)) (λ t. true≢false (sym some ∙ ap is_some (sym is ∙ none_there e.0 es sets.ordered.0 m t)))
+
+    rest_alone : (m : ℕ) (q : Grain) → has q (set_of es m) ≡ true → (list_any (grain_eq q) e.1.keys ≡ false) × (moment_in es q ≡ Some m)
+    rest_alone m q there = by (list_any (grain_eq q) e.1.keys) refl (sets.alone m q (ap (λ b. has q (cond b (Some e.1) (set_of es m))) other ∙ there))
+      where
+        some : (o : Option (IndexSet Grain S)) → has q o ≡ true → is_some o ≡ true
+        some None here = absurd (true≢false (sym here))
+        some (Some s) here = refl
+
+        other : is_eq (nat_cmp m e.0) ≡ false
+        other = other_moments m refl (some (set_of es m) there)
+
+        by : (b : Bool) → list_any (grain_eq q) e.1.keys ≡ b → cond b (Some e.0) (moment_in es q) ≡ Some m → (list_any (grain_eq q) e.1.keys ≡ false) × (moment_in es q ≡ Some m)
+        by true t is = absurd (true≢false (sym (ap (λ k. is_eq (nat_cmp m k)) (same_Some e.0 m is) ∙ own_moment m) ∙ other))
+        by false t is = (t, is)
+
+    rest_sets : AreSets es
+    unfolding IsStrictlySortedBy
+    rest_sets = record {
+      ordered = sets.ordered.1;
+      once = λ m s is. sets.once m s (ap (λ b. cond b (Some e.1) (set_of es m)) (other_moments m is refl) ∙ is);
+      alone = λ m q there. (rest_alone m q there).1;
+    }
+
+    none_behind : (q : Grain) → list_any (grain_eq q) e.1.keys ≡ true → moment_in es q ≡ None
+    unfolding IsStrictlySortedBy
+    none_behind q here = by (moment_in es q) refl
+      where
+        by : (o : Option ℕ) → moment_in es q ≡ o → o ≡ None
+        by None is = refl
+        by (Some m) is = absurd (true≢false (sym here ∙ (rest_alone m q (found_at es sets.ordered.1 m q is)).0))
+
+    -- if it is due, the same is left
+    first_goes : (now : ℕ) → nat_le e.0 now ≡ true → not_due (notes_of (e ∷ es)) now ≡ not_due (notes_of es) now
+    first_goes now t = maps.alike grain_cmp_total grain_cmp_exact _ _ (λ q.
+        get-not_due (notes_of (e ∷ es)) now q ∙ ap (kept now) (get-notes (e ∷ es) q) ∙ by q (list_any (grain_eq q) e.1.keys) refl
+        ∙ sym (get-not_due (notes_of es) now q ∙ ap (kept now) (get-notes es q)))
+      where
+        by : (q : Grain) (b : Bool) → list_any (grain_eq q) e.1.keys ≡ b → kept now (cond b (Some e.0) (moment_in es q)) ≡ kept now (moment_in es q)
+        by q true here = ap (λ b. cond (not b) (Some e.0) None) t ∙ sym (ap (kept now) (none_behind q here))
+        by q false here = refl
 
   -- nothing is due that is later
   later : (now : ℕ) (es : List (ℕ × IndexSet Grain S)) → AllByRecursion (λ k. now < k) (keys_of es) → (q : Grain) → is_due now (moment_in es q) ≡ false
@@ -283,43 +325,53 @@ module _ {S : Type 0} where
   above_now now m [] after above = tt
   above_now now m (e ∷ es) after above = let below = is_below m e.0 above.0 in (omega (arith, after, below), above_now now m es after above.1)
 
+  none_now : (now : ℕ) (e : ℕ × IndexSet Grain S) (es : List (ℕ × IndexSet Grain S)) → IsStrictlySortedBy nat_cmp (keys_of (e ∷ es)) → now < e.0
+      → (q : Grain) → is_due now (map.get (notes_of (e ∷ es)) q) ≡ false
+  unfolding IsStrictlySortedBy
+  none_now now e es ordered after q = ap (is_due now) (get-notes (e ∷ es) q) ∙ later now (e ∷ es) (after, above_now now e.0 es after ordered.0) q
+
   -- the first sets have what is due
-  pub first_holds : (now : ℕ) (es : List (ℕ × IndexSet Grain S)) → IsStrictlySortedBy nat_cmp (keys_of es)
-      → ((m : ℕ) (s : IndexSet Grain S) → set_of es m ≡ Some s → IsDistinct grain_eq s.keys)
-      → ((m : ℕ) (q : Grain) → has q (set_of es m) ≡ true → moment_in es q ≡ Some m) → HoldsDue (notes_of es) now (first_due now es)
-  unfolding IsStrictlySortedBy IsDistinct
-  first_holds now [] ascend once alone = record { once = tt; each = λ q. ap (is_due now) (sym (map.get-empty grain_cmp q)) }
-  first_holds now (e ∷ es) ascend once alone = by (nat_le e.0 now) refl (first_holds now es ascend.1 once_behind (λ m q there. (rest m q there).1))
+  first_holds : (now : ℕ) (es : List (ℕ × IndexSet Grain S)) → AreSets es → HoldsDue (notes_of es) now (first_due now es)
+  unfolding IsDistinct
+  first_holds now [] sets = record { once = tt; each = λ q. ap (is_due now) (sym (map.get-empty grain_cmp q)) }
+  first_holds now (e ∷ es) sets = by (nat_le e.0 now) refl (first_holds now es (rest_sets e es sets))
     where
-      rest : (m : ℕ) (q : Grain) → has q (set_of es m) ≡ true → (list_any (grain_eq q) e.1.keys ≡ false) × (moment_in es q ≡ Some m)
-      rest = rest_alone e es ascend alone
-
-      none_behind : (q : Grain) (o : Option ℕ) → list_any (grain_eq q) e.1.keys ≡ true → moment_in es q ≡ o → o ≡ None
-      none_behind q None here is = refl
-      none_behind q (Some m) here is = absurd (true≢false (sym here ∙ (rest m q (found_at es ascend.1 m q is)).0))
-
-      other_sets : (m : ℕ) (s : IndexSet Grain S) → set_of es m ≡ Some s → is_eq (nat_cmp m e.0) ≡ false
-      other_sets m s is = refused (is_eq (nat_cmp m e.0)) (λ t. let none : Some s ≡ None = sym is ∙ none_there e.0 es ascend.0 m t in cc)
-
-      once_behind : (m : ℕ) (s : IndexSet Grain S) → set_of es m ≡ Some s → IsDistinct grain_eq s.keys
-      once_behind m s is = once m s (ap (λ b. cond b (Some e.1) (set_of es m)) (other_sets m s is) ∙ is)
-
       all : HoldsDue (notes_of es) now (first_due now es) → HoldsDue (notes_of (e ∷ es)) now (cond (nat_le e.0 now) e.1.keys [] ++ first_due now es)
-      all behind = due-all (notes_of es) e.1.keys e.0 now (first_due now es) (λ q here. get-notes es q ∙ none_behind q (moment_in es q) here refl)
-          (once e.0 e.1 (ap (λ b. cond b (Some e.1) (set_of es e.0)) (own_moment e.0))) behind
-
-      none_now : nat_le e.0 now ≡ false → (q : Grain) → is_due now (map.get (notes_of (e ∷ es)) q) ≡ false
-      none_now f q =
-          let after : now < e.0 = leb-false e.0 now f in
-          ap (is_due now) (get-notes (e ∷ es) q) ∙ later now (e ∷ es) (after, above_now now e.0 es after ascend.0) q
+      all behind = due-all (notes_of es) e.1.keys e.0 now (first_due now es) (λ q here. get-notes es q ∙ none_behind e es sets q here)
+          (sets.once e.0 e.1 (ap (λ b. cond b (Some e.1) (set_of es e.0)) (own_moment e.0))) behind
 
       by : (b : Bool) → nat_le e.0 now ≡ b → HoldsDue (notes_of es) now (first_due now es) → HoldsDue (notes_of (e ∷ es)) now (cond b (e.1.keys ++ first_due now es) [])
       by true t behind = subst (λ b. HoldsDue (notes_of (e ∷ es)) now (cond b e.1.keys [] ++ first_due now es)) t (all behind)
-      by false f behind = record { once = tt; each = λ q. sym (none_now f q) }
+      by false f behind = record { once = tt; each = λ q. sym (none_now now e es sets.ordered (leb-false e.0 now f) q) }
 
   pub first_due-holds : (sets : BTreeMap ℕ (IndexSet Grain S)) → AreApart sets → (now : ℕ) → HoldsDue (notes_of sets.entries) now (first_due now sets.entries)
-  first_due-holds sets apart now = first_holds now sets.entries apart.ordered apart.once (λ m q there. sym (get-notes sets.entries q) ∙ apart.alone m q there)
+  first_due-holds sets apart now = first_holds now sets.entries (of_apart sets apart)
 
   -- it ends where one is later
   pub first_due-stops : (now : ℕ) (e : ℕ × IndexSet Grain S) (es : List (ℕ × IndexSet Grain S)) → now < e.0 → first_due now (e ∷ es) ≡ []
   first_due-stops now e es h = ap (λ b. cond b (e.1.keys ++ first_due now es) []) (lt-leb e.0 now h)
+
+  -- ---- the sets that are due go
+
+  -- the first
+  pub first_let_go : (old new : BTreeMap ℕ (IndexSet Grain S)) (first : Option (ℕ × IndexSet Grain S)) (m now : ℕ) (set : IndexSet Grain S) → AreApart old → IsSome first
+      → IfSome first (λ e. old.entries ≡ e ∷ new.entries) → slice_get old.entries 0 ≡ Some (m, set) → m ≤ now
+      → AreApart new × (not_due (notes_of new.entries) now ≡ not_due (notes_of old.entries) now)
+  first_let_go old new None m now set apart some same is come = absurd cc
+  first_let_go old new (Some e) m now set apart some same is come =
+      let sets = subst AreSets same (of_apart old apart) in
+      let rest = rest_sets e new.entries sets in
+      let own : e ≡ (m, set) = same_Some e (m, set) (sym (ap (λ es. slice_get es 0) same) ∙ is) in (
+        record { ordered = rest.ordered; once = rest.once; alone = λ k q there. get-notes new.entries q ∙ rest.alone k q there },
+        sym (ap (λ es. not_due (notes_of es) now) same ∙ first_goes e new.entries sets now (ap (λ (f : ℕ × IndexSet Grain S). nat_le f.0 now) own ∙ le-leb m now come)),
+      )
+
+  -- none more, where the first is later, if there is one
+  pub none_let_go : (es : List (ℕ × IndexSet Grain S)) (now : ℕ) → IsStrictlySortedBy nat_cmp (keys_of es) → IfSome (slice_get es 0) (λ e. now < e.0)
+      → notes_of es ≡ not_due (notes_of es) now
+  none_let_go [] now ordered first = sym (none-due map.empty now (λ q. ap (is_due now) (map.get-empty grain_cmp q)))
+  none_let_go (e ∷ es) now ordered first = sym (none-due (notes_of (e ∷ es)) now (none_now now e es ordered first))
+
+  pub none_first : (P : ℕ × IndexSet Grain S → Type 0) (es : List (ℕ × IndexSet Grain S)) → (0 < length es → false ≡ true) → IfSome (slice_get es 0) P
+  none_first P [] none = tt
+  none_first P (e ∷ es) none = absurd (true≢false (sym (none (omega arith))))

@@ -2,7 +2,7 @@
 
 ghost use Rattle.std.specs.Prelude.{◌≡◌, OnOk, OnErr, IfOk, IfSome, None, Some, true, false};
 ghost use Rattle.std.specs.FinMap as map;
-ghost use Rattle.idle_collector.specs.Notes.{noted, noted_if, forgotten, due};
+ghost use Rattle.idle_collector.specs.Notes.{noted, noted_if, forgotten, due, not_due, HoldsDue};
 
 use crate::by_moment::ByMoment;
 use crate::latest::{self, Latest};
@@ -144,9 +144,38 @@ impl Collector {
     pub fn due(&self, alloc: Global, now: u64) -> Result<Vec<GrainId>, AllocError>
         ensures { IfOk result (λ grains. grains.items ≡ due self.now.notes now) }
     {
+        let mut grains = self.all_due(alloc, now)?;
+        grains.sort_unstable();
+        Ok(grains)
+    }
+
+    /// Takes out the grains whose moment is `now` or earlier: each of them once, in an order that isn't told. Their notes are
+    /// dropped. Looks at the grains that are due, and at two more.
+    ///
+    /// # Errors
+    ///
+    /// Out of memory: nothing changed.
+    pub fn take_due(&mut self, alloc: Global, now: u64) -> Result<Vec<GrainId>, AllocError>
+        ensures due { IfOk result (λ grains. HoldsDue self.old.notes now grains.items) }
+        ensures taken { OnOk result (self.new ≡ record self.old { notes = not_due self.old.notes now }) }
+        ensures unchanged { OnErr result (self.new ≡ self.old) }
+    {
+        let grains = self.all_due(alloc, now)?;
+        self.filed.forget_due(now);
+        latest::leave_due(&mut self.latest, now);
+        Ok(grains)
+    }
+
+    /// The grains that are due, each once, those of the earliest moment first.
+    ///
+    /// # Errors
+    ///
+    /// Out of memory.
+    fn all_due(&self, alloc: Global, now: u64) -> Result<Vec<GrainId>, AllocError>
+        ensures { IfOk result (λ grains. HoldsDue self.now.notes now grains.items) }
+    {
         let mut grains = self.filed.first_due(alloc, now)?;
         latest::add_due(&self.latest, now, &mut grains)?;
-        grains.sort_unstable();
         Ok(grains)
     }
 }

@@ -7,17 +7,12 @@ use Rattle.std.specs.List.{list_any, IsDistinct}
 use Rattle.std.specs.Ordering.{nat_cmp}
 use Rattle.indexmap.specs.IndexSet.{IndexSet}
 use Rattle.grain_id.specs.Names.{Grain, grain_eq}
-use Rattle.idle_collector.specs.Notes.{Notes, noted, is_due}
+use Rattle.idle_collector.specs.Notes.{Notes, noted}
 
 -- each of the grains is due from then on
 abbrev pub all_noted : Notes → List Grain → ℕ → Notes
 all_noted notes [] moment = notes
 all_noted notes (grain ∷ grains) moment = all_noted (noted notes grain moment) grains moment
-
--- Each grain that is due stands in the list once, and no other grain does.
-pub record HoldsDue (notes : Notes) (now : ℕ) (grains : List Grain) : Type 0 where
-  pub once : IsDistinct grain_eq grains
-  pub each : (grain : Grain) → list_any (grain_eq grain) grains ≡ is_due now (map.get notes grain)
 
 module _ {S : Type 0} where
   -- the grains of each moment are due from then on

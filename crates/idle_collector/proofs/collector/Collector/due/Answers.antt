@@ -1,17 +1,5 @@
-use Rattle.std.proofs.Common.{sym, subst}
-use Rattle.idle_collector.specs.inside.Aside.{with_latest}
-use Rattle.idle_collector.specs.Notes.{Collection}
-use Rattle.idle_collector.specs.inside.Sets.{HoldsDue}
 use Rattle.idle_collector.proofs.Due.{holds-due}
-use Rattle.idle_collector.proofs.Aside.{latest-due}
 use Rattle.idle_collector.proofs.collector.Collector.due.Goals as goal
 
 pub returns : goal.returns
-returns c =
-    let inside = c.self.inside in
-    let now = c.args.now in
-    let first = c.in_ok-grains.grains.items in
-    let all = c.add_due.new.grains.items in
-    let held = latest-due inside.latest inside.filed now first c.self.invariant c.in_ok-grains.ensures in
-    let holds = subst (λ (x : Collection). HoldsDue x.notes now all) c.self.view_is (subst (HoldsDue (with_latest inside.latest inside.filed) now) (sym c.in_ok-add_due.ensures) held) in
-    holds-due c.args.self.now.notes now all c.sort_unstable.new.self.items holds c.sort_unstable.ensures.permutation c.sort_unstable.ensures.sorted
+returns c = holds-due c.args.self.now.notes c.args.now c.in_ok-grains.grains.items c.sort_unstable.new.self.items c.in_ok-grains.ensures c.sort_unstable.ensures.permutation c.sort_unstable.ensures.sorted
