@@ -31,6 +31,10 @@ coded_turn =
     (λ p. record { grain = p.0; number = p.1.0; reading = p.1.1.0; state = p.1.1.1.0; message = p.1.1.1.1 })
     (λ _. refl)
 
--- the plan of a turn: its method's, on the grain's state and the argument
+-- the plan of a message at a grain in this state: its method's, on the state and the argument
+abbrev pub plan_at : Logic → Grain → Tree → Call → Plan
+plan_at logic grain state message = logic.plan grain.kind message.method state message.argument
+
+-- the plan of a turn
 abbrev pub turn_plan : Logic → OpenedTurn → Plan
-turn_plan logic t = logic.plan t.grain.kind t.message.method t.state t.message.argument
+turn_plan logic t = plan_at logic t.grain t.state t.message

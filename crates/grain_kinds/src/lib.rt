@@ -31,5 +31,5 @@ pub use kinds::Kinds;
 pub use logic::GrainLogic;
 pub use plan::{Keep, MAX_STAY_MILLISECONDS, Plan, Send, StoreCall};
 pub use resting::RestingKinds;
-pub use turn::{FinishedTurn, OpenedTurn, run_turn};
+pub use turn::{FinishedTurn, OpenedTurn, OwnedPlan, plan_turn, run_turn};
 pub use writing::state_of;

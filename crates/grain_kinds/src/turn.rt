@@ -1,7 +1,7 @@
 //! Turns: one that was opened, and one whose plan was made.
 
 ghost use Rattle.std.specs.Prelude.{◌≡◌, map, IfOk, MatchResult};
-ghost use Rattle.grain_kinds.specs.Finished.{planned_shown, sent, turn_plan};
+ghost use Rattle.grain_kinds.specs.Finished.{plan_at, planned_shown, sent, turn_plan};
 ghost use Rattle.grain_kinds.specs.Laws.{FitsState, IsKeep};
 ghost use Rattle.grain_kinds.specs.Planned.{keep_of, storage_call};
 
@@ -31,13 +31,17 @@ pub struct OpenedTurn {
 }
 
 /// What a turn came to, in bytes of its own.
-#[derive(Drop)]
-pub(crate) struct OwnedPlan {
+#[derive(Clone, Drop)]
+pub struct OwnedPlan {
     /// The state after the turn, if it is another one.
     pub state: Option<StateBytes>,
+    /// The answer, or the code of its fault.
     pub outcome: Result<StateBytes, MethodFault>,
+    /// What is asked of the storage.
     pub store: StoreCall,
+    /// What is sent, in order: at most 4 calls, a grain and the message for it, each.
     pub sends: Vec<(GrainId, Message)>,
+    /// What is said of the activation.
     pub keep: Keep,
 }
 
@@ -78,30 +82,36 @@ fn in_steps(bytes: usize) -> usize {
 }
 
 /// How many bytes the state after the turn has about: what a message adds to it is mostly no longer than the message.
-fn room_for(opened: &OpenedTurn) -> usize
-    ensures { FitsState opened.now.state }
+fn room_for(state: &StateBytes, message: &Message) -> usize
+    ensures { FitsState state.now }
 {
-    let state = opened.state.bytes().len();
-    in_steps(state.saturating_add(opened.message.bytes().len()))
+    let bytes = state.bytes().len();
+    in_steps(bytes.saturating_add(message.bytes().len()))
 }
 
-/// The plan of a turn, in bytes of its own.
-fn planned_by<L: GrainLogic>(
+/// The plan of a message at a grain in this state, in bytes of its own: what needs the arena is left there.
+///
+/// # Errors
+///
+/// Out of memory.
+pub fn plan_turn<L: GrainLogic>(
     alloc: Global,
     bump: &Bump,
     logic: &L,
-    opened: &OpenedTurn,
+    grain: &GrainId,
+    state: &StateBytes,
+    message: &Message,
 ) -> Result<OwnedPlan, AllocError>
-    ensures { IfOk result (λ planned. planned_shown opened.now.state planned ≡ turn_plan L.logic opened.now) }
+    ensures plan { IfOk result (λ planned. planned_shown state.now planned ≡ plan_at L.logic grain.now state.now message.now) }
 {
-    let room = room_for(opened);
-    let kind = opened.grain.kind();
-    let (method, argument) = asked_in(bump, &opened.message)?;
+    let room = room_for(state, message);
+    let kind = grain.kind();
+    let (method, argument) = asked_in(bump, message)?;
     if let Some((name, value)) = logic.sets(kind, method, argument) {
-        return set_planned(alloc, room, &opened.state, name, value);
+        return set_planned(alloc, room, state, name, value);
     }
-    let state = state_in(bump, &opened.state)?;
-    let plan = logic.plan(alloc, bump, kind, method, state, argument)?;
+    let read = state_in(bump, state)?;
+    let plan = logic.plan(alloc, bump, kind, method, read, argument)?;
     written(alloc, room, plan)
 }
 
@@ -114,7 +124,14 @@ pub fn run_turn<L: GrainLogic>(
 ) -> Result<FinishedTurn<L>, OpenedTurn>
     ensures { MatchResult result (λ finished. finished ≡ opened) (λ back. back ≡ opened) }
 {
-    match planned_by(alloc, bump, logic, &opened) {
+    match plan_turn(
+        alloc,
+        bump,
+        logic,
+        &opened.grain,
+        &opened.state,
+        &opened.message,
+    ) {
         Ok(planned) => Ok(FinishedTurn {
             opened,
             planned,
@@ -144,6 +161,13 @@ impl<L: GrainLogic> FinishedTurn<L> {
         ensures { result ≡ self.now.number }
     {
         self.opened.number
+    }
+
+    /// What the turn came to.
+    pub fn plan(&self) -> &OwnedPlan
+        ensures plan { planned_shown self.now.state result.now ≡ turn_plan L.logic self.now }
+    {
+        &self.planned
     }
 
     /// The state after the turn.

@@ -37,6 +37,8 @@ mod migrated_journals;
 #[cfg(test)]
 mod names;
 #[cfg(test)]
+mod plans;
+#[cfg(test)]
 mod resting;
 #[cfg(test)]
 mod spelled;

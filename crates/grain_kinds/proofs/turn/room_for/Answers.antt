@@ -2,4 +2,4 @@ use Rattle.grain_kinds.proofs.Fits.{state_fits}
 use Rattle.grain_kinds.proofs.turn.room_for.Goals as goal
 
 pub returns : goal.returns
-returns c = state_fits c.args.opened.now.state c.bytes-state.result.now c.bytes-state.ensures.spelled
+returns c = state_fits c.args.state.now c.bytes-bytes.result.now c.bytes-bytes.ensures.spelled
