@@ -3,13 +3,11 @@ use Rattle.std.proofs.Common.{◌≡◌, ℕ, ◌+◌, ◌-◌, cond, IsSome, Li
 use Rattle.std.specs.FinMap as map
 use Rattle.std.specs.Map.{lookup, keys_of}
 use Rattle.std.specs.List.{IsDistinct}
-use Rattle.std.specs.Prelude.{string_bytes, option_map}
+use Rattle.std.specs.Prelude.{bytes_eq, string_bytes, option_map}
 use Rattle.std.proofs.lemmas.Map.Entries.{place_from_lookup}
 use Rattle.std.proofs.lemmas.Option.{slice_get-map}
 use Rattle.grain_id.proofs.Keys.{grains}
 use Rattle.grain_id.proofs.Order.{grain_eq_decides}
-use Rattle.std.specs.Cmp.Lexicographic.{slice_cmp}
-use Rattle.std.specs.Ordering.{nat_cmp, is_eq}
 use Rattle.std.specs.declared.string.String.{String}
 use Rattle.std.specs.declared.alloc.Global.{Global}
 use Rattle.std.specs.Option.{unwrap_or}
@@ -44,14 +42,13 @@ pub shown-written : (s : Slab Activation) (es : List (Grain × ℕ)) → ArePlac
 shown-written s es ok id place at w = λ i. record { activations = map-written grains es s ok id place at w i; order = keys_of es }
 
 -- nothing is there at first
-pub opening : (es : List (Grain × ℕ)) (s : Slab Activation) (numbers : Numbers) → es ≡ [] → numbers.entries ≡ [] → IsDirectory es s numbers None
+pub opening : (es : List (Grain × ℕ)) (s : Slab Activation) (numbers : Numbers) → es ≡ [] → numbers.entries ≡ [] → IsDirectory es s numbers
 opening es s numbers e f = record {
   placed_all = placed-none grains es s e;
   counted = λ tenant.
-      ap (λ (ns : List (String Global × ℕ)). unwrap_or (lookup (λ k. is_eq (slice_cmp nat_cmp tenant (string_bytes k))) ns) 0) f
+      ap (λ (ns : List (String Global × ℕ)). unwrap_or (lookup (λ k. bytes_eq tenant (string_bytes k)) ns) 0) f
       ∙ sym (count_in-empty Activation tenant)
       ∙ ap (λ fs. count_in (shown fs s).activations tenant) (sym e);
-  latest_leads = tt;
 }
 
 -- an activation has a place of the grown slab, and its grain leads there
@@ -64,11 +61,10 @@ module _ (es fs : List (Grain × ℕ)) (s r t : Slab Activation) (ok : ArePlaced
   pub activations-inserted : (shown fs t).activations ≡ map.insert (shown es s).activations id a
   activations-inserted = map-inserted grains es fs r t grown_placed unique id place a l vacant u ∙ ap (λ (ps : List (Grain × Activation)). map.insert (map.from_entries ps) id a) (slots-regrown s r es grown)
 
-  pub directory-inserted : (old new : Numbers) → ((tenant : List ℕ) → kept old tenant ≡ count_in (shown es s).activations tenant) → map.get (shown es s).activations id ≡ None → NumbersTo old new id.tenant (kept old id.tenant + 1) → IsDirectory fs t new None
+  pub directory-inserted : (old new : Numbers) → ((tenant : List ℕ) → kept old tenant ≡ count_in (shown es s).activations tenant) → map.get (shown es s).activations id ≡ None → NumbersTo old new id.tenant (kept old id.tenant + 1) → IsDirectory fs t new
   directory-inserted old new counted absent n = record {
     placed_all = placed-inserted grains es fs r t grown_placed unique id place a l vacant u;
     counted = λ tenant. counted-inserted old new (shown es s).activations id a counted absent n tenant ∙ ap (λ m. count_in m tenant) (sym activations-inserted);
-    latest_leads = tt;
   }
 
 -- an activation leaves its place
@@ -77,7 +73,7 @@ module _ (es fs : List (Grain × ℕ)) (s t : Slab Activation) (ok : ArePlaced g
   pub activations-removed : (shown fs t).activations ≡ map.remove (shown es s).activations id
   activations-removed = map-removed grains es fs s t ok unique id place l at u
 
-  pub directory-removed : (old new : Numbers) → ((tenant : List ℕ) → kept old tenant ≡ count_in (shown es s).activations tenant) → NumbersTo old new id.tenant (kept old id.tenant - 1) → IsDirectory fs t new None
+  pub directory-removed : (old new : Numbers) → ((tenant : List ℕ) → kept old tenant ≡ count_in (shown es s).activations tenant) → NumbersTo old new id.tenant (kept old id.tenant - 1) → IsDirectory fs t new
   directory-removed old new counted n =
       let there = some_from_IsSome (get s place) (ok.filled id place at) in
       record {
@@ -85,5 +81,4 @@ module _ (es fs : List (Grain × ℕ)) (s t : Slab Activation) (ok : ArePlaced g
         counted = λ tenant.
             counted-removed old new (shown es s).activations id there.0 counted (get-shown s es ok id ∙ ap (at_place s) at ∙ there.1) n tenant
             ∙ ap (λ m. count_in m tenant) (sym activations-removed);
-        latest_leads = tt;
       }

@@ -4,12 +4,10 @@ use Rattle.std.specs.Prelude.{bytes_eq}
 use Rattle.std.specs.FinMap as map
 use Rattle.std.specs.FinMap.{FinMap, from_entries}
 use Rattle.slab.specs.Slab.{Slab, get}
-use Rattle.grain_id.proofs.Keys.{grains}
-use Rattle.grain_id.specs.Names.{Grain, grain_cmp, grain_eq}
-use Rattle.grain_id.proofs.Order.{grain_cmp_total, grain_cmp_exact, grain_eq_decides, same_text_decides}
+use Rattle.grain_id.specs.Names.{Grain, grain_cmp}
+use Rattle.grain_id.proofs.Order.{grain_cmp_total, grain_cmp_exact, same_text_decides}
 use Rattle.finite_maps.proofs.Maps as maps
 use Rattle.activation_directory.specs.inside.Places.{placed, with_value_at}
-use Rattle.finite_maps.specs.Keys.{AreKeys}
 use Rattle.activation_directory.specs.inside.Counts.{Numbers, is_of, count_in, kept, NumbersTo}
 
 -- no grains

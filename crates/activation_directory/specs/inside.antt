@@ -1,6 +1,5 @@
 -- What only the contracts of this crate's own parts cite. No promise stands on it.
 pub mod Counts
 pub mod Kept
-pub mod LatestPlace
 pub mod Lending
 pub mod Places

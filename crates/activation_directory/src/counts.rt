@@ -1,16 +1,17 @@
 //! How many grains each tenant has: a number by the tenant's name.
 
 ghost use Rattle.std.specs.Prelude.{◌≡◌, ◌<◌, ◌+◌, ◌-◌, ◌^◌, OnOk, IsSome};
-ghost use Rattle.std.specs.BTreeMap.{get_by_text};
+ghost use Rattle.indexmap.specs.IndexMap.{get_by_text};
 ghost use Rattle.activation_directory.specs.inside.Counts.{kept, SameNumbers, NumbersTo};
 
+use grain_id::HashSeed;
+use indexmap::IndexMap;
 use std::alloc::{AllocError, Global};
-use std::collections::BTreeMap;
 
 /// Makes a tenant's number, 0 at first.
 pub fn start(
     alloc: Global,
-    numbers: &mut BTreeMap<String, usize>,
+    numbers: &mut IndexMap<String, usize, HashSeed>,
     tenant: &str,
 ) -> Result<(), AllocError>
     ensures same { SameNumbers numbers.old numbers.new }
@@ -23,7 +24,7 @@ pub fn start(
 }
 
 /// Counts one grain more.
-pub fn add_one(numbers: &mut BTreeMap<String, usize>, tenant: &str)
+pub fn add_one(numbers: &mut IndexMap<String, usize, HashSeed>, tenant: &str)
     requires there { IsSome (get_by_text numbers.old tenant.now) }
     requires fits { kept numbers.old tenant.now + 1 < 2 ^ 64 }
     ensures { NumbersTo numbers.old numbers.new tenant.now (kept numbers.old tenant.now + 1) }
@@ -34,7 +35,7 @@ pub fn add_one(numbers: &mut BTreeMap<String, usize>, tenant: &str)
 }
 
 /// Counts one grain less.
-pub fn take_one(numbers: &mut BTreeMap<String, usize>, tenant: &str)
+pub fn take_one(numbers: &mut IndexMap<String, usize, HashSeed>, tenant: &str)
     requires { 0 < kept numbers.old tenant.now }
     ensures { NumbersTo numbers.old numbers.new tenant.now (kept numbers.old tenant.now - 1) }
 {
@@ -44,7 +45,7 @@ pub fn take_one(numbers: &mut BTreeMap<String, usize>, tenant: &str)
 }
 
 /// The number of a tenant's grains.
-pub fn of(numbers: &BTreeMap<String, usize>, tenant: &str) -> usize
+pub fn of(numbers: &IndexMap<String, usize, HashSeed>, tenant: &str) -> usize
     ensures { result ≡ kept numbers.now tenant.now }
 {
     match numbers.get(tenant) {

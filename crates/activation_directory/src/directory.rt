@@ -12,24 +12,23 @@ ghost use Rattle.activation_directory.specs.inside.Counts.{count_in};
 ghost use Rattle.activation_directory.specs.Register.{StandsIn};
 
 use crate::activation::Activation;
-use crate::latest_place::LatestPlace;
-use crate::{counts, latest_place};
+use crate::counts;
+use crate::latest_place::{Places, found};
 use grain_id::{GrainId, HashSeed};
 use indexmap::IndexMap;
 use slab::Slab;
 use std::alloc::Global;
-use std::collections::BTreeMap;
 use std::marker::Model;
 
 /// The activations of all grains. Each stands at a place of a slab, and its grain leads there; a place
-/// that was left is used again. Beside them stands the number of each tenant's grains, and the grain
-/// that was looked up last.
+/// that was left is used again. Beside them stands the number of each tenant's grains.
 #[derive(Drop)]
 pub struct Directory {
-    places: IndexMap<GrainId, usize, HashSeed>,
+    places: Places,
     activations: Slab<Activation>,
-    numbers: BTreeMap<String, usize>,
-    latest: Option<LatestPlace>,
+    numbers: IndexMap<String, usize, HashSeed>,
+    /// Where the grain that was looked up last stood among the places: a hint.
+    latest: usize,
 }
 
 impl Model for Directory {
@@ -45,7 +44,7 @@ impl Model for Directory {
 
     ghost view = { λ d. shown d.places.entries d.activations };
 
-    ghost invariant = { λ d. IsDirectory d.places.entries d.activations d.numbers d.latest };
+    ghost invariant = { λ d. IsDirectory d.places.entries d.activations d.numbers };
 }
 
 impl Directory {
@@ -65,8 +64,8 @@ impl Directory {
         Directory {
             places: IndexMap::with_hasher(alloc, seed),
             activations: Slab::new(alloc),
-            numbers: BTreeMap::new(alloc),
-            latest: None,
+            numbers: IndexMap::with_hasher(alloc, seed),
+            latest: 0,
         }
     }
 
@@ -74,8 +73,8 @@ impl Directory {
     pub fn get(&self, id: &GrainId) -> Option<&Activation>
         ensures { option_copied result ≡ map.get self.now.activations id.now }
     {
-        let place = latest_place::place_of(&self.latest, &self.places, id)?;
-        self.activations.get(place)
+        let found = found(self.latest, &self.places, id)?;
+        self.activations.get(found.place)
     }
 
     /// The grain's activation, which may be changed where it stands.
@@ -83,9 +82,9 @@ impl Directory {
         ensures* writes_back { sem 𝓛 (LendsActivation self.entry id.now result) }
         ensures value { option_copied_mut result ≡ map.get self.old.activations id.now }
     {
-        let place = latest_place::place_of(&self.latest, &self.places, id)?;
-        latest_place::remember(&mut self.latest, id, place);
-        self.activations.get_mut(place)
+        let found = found(self.latest, &self.places, id)?;
+        self.latest = found.index;
+        self.activations.get_mut(found.place)
     }
 
     /// Adds an activation of a grain that has none, as the last of the order.
@@ -117,7 +116,7 @@ impl Directory {
         let before = self.places.len();
         prove!(before < usize::MAX);
         counts::add_one(&mut self.numbers, id.tenant());
-        self.latest = None;
+        self.latest = before;
         let place = self.activations.insert_reserved(activation);
         match self.places.insert(id, place) {
             Ok(_) => Ok(()),
@@ -133,7 +132,6 @@ impl Directory {
         ensures unchanged { IfNone result (self.new ≡ self.old) }
     {
         let place = self.places.swap_remove(id)?;
-        self.latest = None;
         counts::take_one(&mut self.numbers, id.tenant());
         self.activations.try_remove(place)
     }

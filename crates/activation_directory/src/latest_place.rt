@@ -1,74 +1,59 @@
-//! The grain that was looked up last, and the place to which it leads.
+//! The place to which a grain leads. The grain that was looked up last is found with no hash.
 
-ghost use Rattle.std.specs.Prelude.{◌≡◌, ℕ, List, Some};
+ghost use Rattle.std.specs.Prelude.{◌≡◌, IfSome, Some};
+ghost use Rattle.std.specs.Option.{option_map};
 ghost use Rattle.std.specs.Map.{lookup};
-ghost use Rattle.grain_id.specs.Names.{Grain, grain_eq};
-ghost use Rattle.activation_directory.specs.inside.LatestPlace.{place_in, LeadsTo};
+ghost use Rattle.grain_id.specs.Names.{grain_eq};
 
 use grain_id::{GrainId, HashSeed};
 use indexmap::IndexMap;
 
-/// A grain, and the place to which it leads.
-#[derive(Drop)]
-pub struct LatestPlace {
-    pub id: GrainId,
+/// The place to which each grain leads.
+pub type Places = IndexMap<GrainId, usize, HashSeed>;
+
+/// A grain that was found: where it stands among the places, and the place to which it leads.
+#[derive(Clone, Copy)]
+pub struct FoundGrain {
+    pub index: usize,
     pub place: usize,
 }
 
-/// The place, if the grain is the one that was looked up last.
-fn place_in(latest: &Option<LatestPlace>, id: &GrainId) -> Option<usize>
-    ensures { result ≡ place_in id.now latest.now }
+/// The place to which the grain leads, if it stands at this index.
+fn place_at(places: &Places, index: usize, id: &GrainId) -> Option<usize>
+    ensures { IfSome result (λ place. lookup (grain_eq id.now) places.now.entries ≡ Some place) }
 {
-    let Some(found) = latest else {
+    let Some((found, place)) = places.get_index(index) else {
         return None;
     };
-    if found.id == *id {
-        return Some(found.place);
+    if *found == *id {
+        return Some(*place);
     }
     None
 }
 
-/// The place to which the grain leads, by its hash.
+/// The grain by its hash.
 #[inline(never)]
-fn place_by_hash(places: &IndexMap<GrainId, usize, HashSeed>, id: &GrainId) -> Option<usize>
-    ensures { result ≡ lookup (grain_eq id.now) places.now.entries }
+fn found_by_hash(places: &Places, id: &GrainId) -> Option<FoundGrain>
+    ensures { option_map (λ found. found.place) result ≡ lookup (grain_eq id.now) places.now.entries }
 {
-    places.get(id).copied()
-}
-
-/// The place to which the grain leads, with no look-up by hash if it was looked up last.
-pub fn place_of(
-    latest: &Option<LatestPlace>,
-    places: &IndexMap<GrainId, usize, HashSeed>,
-    id: &GrainId,
-) -> Option<usize>
-    requires { LeadsTo latest.now places.now.entries }
-    ensures { result ≡ lookup (grain_eq id.now) places.now.entries }
-{
-    if let Some(place) = place_in(latest, id) {
-        return Some(place);
-    }
-    place_by_hash(places, id)
-}
-
-/// Whether the grain that was looked up last leads to this place: no other does.
-fn is_place_of(latest: &Option<LatestPlace>, place: usize) -> bool {
-    match latest {
-        Some(found) => found.place == place,
-        None => false,
+    match places.get_full(id) {
+        Some((index, _, place)) => Some(FoundGrain {
+            index,
+            place: *place,
+        }),
+        None => None,
     }
 }
 
-/// The grain was looked up, and leads to this place. If no clone of its name can be made, another
-/// grain stays the one that was looked up last.
-pub fn remember(latest: &mut Option<LatestPlace>, id: &GrainId, place: usize)
-    ensures { (index : List (Grain × ℕ)) → LeadsTo latest.old index → lookup (grain_eq id.now) index ≡ Some place
-        → LeadsTo latest.new index }
+/// The grain, with no look-up by hash if it stands where one was found last. Whether it does is looked at.
+pub fn found(latest: usize, places: &Places, id: &GrainId) -> Option<FoundGrain>
+    ensures { option_map (λ found. found.place) result ≡ lookup (grain_eq id.now) places.now.entries }
 {
-    if is_place_of(latest, place) {
-        return;
+    if let Some(place) = place_at(places, latest, id) {
+        return Some(FoundGrain {
+            index: latest,
+            place,
+        });
     }
-    if let Ok(id) = id.clone() {
-        *latest = Some(LatestPlace { id, place });
-    }
+    found_by_hash(places, id)
 }

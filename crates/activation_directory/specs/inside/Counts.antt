@@ -3,9 +3,10 @@ use Rattle.std.specs.Prelude.{◌≡◌, ℕ, List, Bool, cond, bytes_eq}
 use Rattle.std.specs.Option.{unwrap_or}
 use Rattle.std.specs.FinMap as map
 use Rattle.std.specs.FinMap.{FinMap}
-use Rattle.std.specs.BTreeMap.{BTreeMap, get_by_text}
+use Rattle.indexmap.specs.IndexMap.{IndexMap, get_by_text}
 use Rattle.std.specs.declared.string.String.{String}
 use Rattle.std.specs.declared.alloc.Global.{Global}
+use Rattle.grain_id.specs.declared.hash_seed.HashSeed.{HashSeed}
 use Rattle.grain_id.specs.Names.{Grain, grain_cmp, same_text}
 
 -- the grain is the tenant's
@@ -19,7 +20,7 @@ count_in activations tenant = map.len (map.retain_keys activations (is_of tenant
 -- ---- the numbers that are kept, by the tenants' names
 
 abbrev pub Numbers : Type 0
-Numbers = BTreeMap (String Global) ℕ
+Numbers = IndexMap (String Global) ℕ HashSeed
 
 -- the number kept for a tenant, or 0
 abbrev pub kept : Numbers → List ℕ → ℕ

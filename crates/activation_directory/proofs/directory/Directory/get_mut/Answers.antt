@@ -15,22 +15,22 @@ use Rattle.activation_directory.proofs.Sizes.{count_in-written}
 use Rattle.activation_directory.proofs.Registers.{get-shown, shown-written}
 use Rattle.activation_directory.proofs.directory.Directory.get_mut.Goals as goal
 
-pub returns-in_err-place : goal.returns-in_err-place
-returns-in_err-place c = (
+pub returns-in_err-found : goal.returns-in_err-found
+returns-in_err-found c = (
   ap inr c.self.view_is ∙ sym (ap (λ r. read_of (ghost_name_of r) (with_activation c.args.self.now c.args.id.now) c.args.self.now) c.from_residual.ensures),
   record {
     writes_back = tt;
-    value = rw (c.from_residual.ensures, ← c.self.view_is) (sym (get-shown c.self.inside.activations _ c.self.invariant.placed_all _ ∙ ap (at_place c.self.inside.activations) (sym c.in_err-place.ensures)));
+    value = rw (c.from_residual.ensures, ← c.self.view_is) (sym (get-shown c.self.inside.activations _ c.self.invariant.placed_all _ ∙ ap (at_place c.self.inside.activations) (sym c.in_err-found.ensures)));
   },
 )
 
 pub returns : goal.returns
 returns c =
-    let written = λ (w : Activation). shown-written c.self.inside.activations c.self.inside.places.entries c.self.invariant.placed_all c.args.id.now c.in_ok-place.place (sym c.in_ok-place.ensures) w ∙ ap (λ d. with_activation d c.args.id.now w) c.self.view_is in (
+    let written = λ (w : Activation). shown-written c.self.inside.activations c.self.inside.places.entries c.self.invariant.placed_all c.args.id.now c.in_ok-found.found.place (sym c.in_ok-found.ensures) w ∙ ap (λ d. with_activation d c.args.id.now w) c.self.view_is in (
       λ i. read_of (ghost_name_of c.get_mut.result) (λ w. written w i) (c.self.view_is i),
       record {
         writes_back = tt;
-        value = rw (← c.self.view_is) (c.get_mut.ensures.value ∙ sym (get-shown c.self.inside.activations _ c.self.invariant.placed_all _ ∙ ap (at_place c.self.inside.activations) (sym c.in_ok-place.ensures)));
+        value = rw (← c.self.view_is) (c.get_mut.ensures.value ∙ sym (get-shown c.self.inside.activations _ c.self.invariant.placed_all _ ∙ ap (at_place c.self.inside.activations) (sym c.in_ok-found.ensures)));
       },
     )
 
@@ -38,9 +38,8 @@ pub invariant_of-self-lent : goal.invariant_of-self-lent
 invariant_of-self-lent c o =
     let s = c.self.inside.activations in
     let es = c.self.inside.places.entries in
-    let at = sym c.in_ok-place.ensures in
-    let place = c.in_ok-place.place in
-    let leads = c.remember.ensures es c.self.invariant.latest_leads at in
+    let at = sym c.in_ok-found.ensures in
+    let place = c.in_ok-found.found.place in
     let there = some_from_IsSome (slab.get s place) (c.self.invariant.placed_all.filled c.args.id.now place at) in (
       λ w. record {
         placed_all = placed-written grains es s c.self.invariant.placed_all c.args.id.now place at w;
@@ -48,7 +47,6 @@ invariant_of-self-lent c o =
             c.self.invariant.counted tenant
             ∙ sym (count_in-written (shown es s).activations c.args.id.now w there.0 tenant (get-shown s es c.self.invariant.placed_all c.args.id.now ∙ ap (at_place s) at ∙ there.1))
             ∙ ap (λ d. count_in d.activations tenant) (sym (shown-written s es c.self.invariant.placed_all c.args.id.now place at w));
-        latest_leads = leads;
       },
-      record { placed_all = c.self.invariant.placed_all; counted = c.self.invariant.counted; latest_leads = leads },
+      record { placed_all = c.self.invariant.placed_all; counted = c.self.invariant.counted },
     )
