@@ -3,6 +3,7 @@ use Rattle.silo_model.proofs.Common.{if◌then◌else◌, ◌++◌, ◌∙◌, �
 use Rattle.silo_model.proofs.Common.{Some, [], ap, append-nil, append_assoc, client_eq, client_eq_decides, cond, false, is_of_client}
 use Rattle.silo_model.proofs.Common.{map_list, option_map, refl, sym, true, unwrap_or, ℕ}
 use Rattle.std.specs.Global.{Vec}
+use Rattle.std.specs.Map.{lookup}
 use Rattle.indexmap.specs.IndexMap.{IndexMap, get}
 use Rattle.silo_event.specs.declared.reply.Party.TheVariants as party
 use Rattle.lane_model.specs.Lanes.{Lane, same_lane}
@@ -70,6 +71,21 @@ module _ {S : Type 0} (old new : IndexMap Client (Vec Reply) S) (caller : Client
       (client_eq caller client)
       (λ same. grown ∙ ap (λ (c : Client). told_to old c ++ reply ∷ []) ((client_eq_decides caller client).0 same))
       (λ _. sym (append-nil (told_to old client)))
+
+-- a client that was told nothing, beside others that were told nothing
+module _ {S : Type 0} (old new : IndexMap Client (Vec Reply) S) (caller : Client) (list : Vec Reply)
+    (put : (q : Client) → get client_eq new q ≡ cond (client_eq caller q) (Some list) (get client_eq old q)) where
+  items_of : Option (Vec Reply) → List Reply
+  items_of found = unwrap_or (option_map (λ v. v.items) found) []
+
+  pub none_more : list.items ≡ [] → ((client : Client) → told_to old client ≡ []) → (client : Client) → told_to new client ≡ []
+  unfolding items_of
+  none_more is none client =
+      ap items_of (put client) ∙ on_test (λ b. items_of (cond b (Some list) (get client_eq old client)) ≡ []) (client_eq caller client) (λ _. is) (λ _. none client)
+
+-- where nobody is there, nobody was told anything
+pub nobody_told : {S : Type 0} (told : IndexMap Client (Vec Reply) S) → told.entries ≡ [] → (client : Client) → told_to told client ≡ []
+nobody_told told nobody client = ap (λ (es : List (Client × Vec Reply)). unwrap_or (option_map (λ v. v.items) (lookup (client_eq client) es)) []) nobody
 
 -- one more of a list is answered
 pub answered_more : {V A B : Type 0} (items : V → B) (f : A → B) (vs : List V) (v : V) (x : A) (xs ys : List A) → items v ≡ f x → ys ≡ x ∷ xs

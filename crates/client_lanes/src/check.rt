@@ -83,7 +83,7 @@ fn done_steps<'l>(alloc: Global, lane: &'l Lane) -> Result<VecDeque<&'l Step>, A
 fn all_steps<'l>(alloc: Global, steps: &'l [Step]) -> Result<VecDeque<&'l Step>, AllocError>
     ensures { IfOk result (λ all. steps_at all ≡ steps.now) }
 {
-    let mut all = VecDeque::new(alloc);
+    let mut all = VecDeque::with_capacity(alloc, steps.len())?;
     for step in steps {
         all.push_back(step)?;
     }

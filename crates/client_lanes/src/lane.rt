@@ -1,6 +1,6 @@
 //! Lanes: what a client asks in order, or ticks and sweeps, which are nobody's.
 
-ghost use Rattle.std.specs.Prelude.{◌≡◌, ◌↔◌, ◌++◌, ◌∷◌, [], IsTrue, IsOk, IfOk, IfErr, OnOk, OnErr, if◌then◌else◌};
+ghost use Rattle.std.specs.Prelude.{◌≡◌, ◌↔◌, ◌++◌, ◌∷◌, [], true, IsTrue, IsOk, IfOk, IfErr, OnOk, OnErr, if◌then◌else◌};
 ghost use Rattle.std.specs.List.{list_any};
 ghost use Rattle.lane_model.specs.Lanes.{AreDistinct, IsLane, may_give, same_lane};
 ghost use Rattle.client_lanes.specs.Foreign.{FindsForeign, IsFirstForeign};
@@ -84,8 +84,22 @@ impl Lane {
         if !may_give(&self.from, &step) {
             return Ok(false);
         }
-        self.steps.push(step)?;
+        self.add(step)?;
         Ok(true)
+    }
+
+    /// Adds a step that the lane may give, behind the others.
+    ///
+    /// # Errors
+    ///
+    /// Out of memory: the lane is as before.
+    pub fn add(&mut self, step: Step) -> Result<(), AllocError>
+        requires { may_give self.old.from step ≡ true }
+        ensures added { OnOk result (self.new ≡ record self.old { steps = self.old.steps ++ step ∷ [] }) }
+        ensures unchanged { OnErr result (self.new ≡ self.old) }
+    {
+        self.steps.push(step)?;
+        Ok(())
     }
 
     /// Whose the lane is, or none if it is nobody's.

@@ -1,10 +1,10 @@
 //! What each lane is answered.
 
-ghost use Rattle.std.specs.Prelude.{◌≡◌, ◌++◌, IfOk, OnOk, Some, false, map as map_list};
+ghost use Rattle.std.specs.Prelude.{◌≡◌, ◌++◌, [], IfOk, OnOk, Some, false, map as map_list};
 ghost use Rattle.grain_id.specs.Names.{Client};
 ghost use Rattle.lane_model.specs.Lanes.{AreDistinct, same_lane};
 ghost use Rattle.lane_model.specs.Serving.{replies_to};
-ghost use Rattle.client_lanes.specs.inside.RepliesByClient.{HoldsReplies, only_to, told_by, told_to};
+ghost use Rattle.client_lanes.specs.inside.RepliesByClient.{only_to, told_by, told_to};
 
 use crate::lane::Lane;
 use grain_id::{Caller, HashSeed};
@@ -16,7 +16,8 @@ use std::alloc::{AllocError, Global};
 type RepliesByClient = IndexMap<Caller, Vec<Reply>, HashSeed>;
 
 /// For each lane the replies to its client, in order; for nobody's lane none. One pass over the
-/// replies, with a look-up for each that a client is told, by a hash from the seed.
+/// replies, with a look-up for each that a client is told, by a hash from the seed. A list has room for a
+/// reply to each of its lane's steps from the start.
 ///
 /// # Errors
 ///
@@ -31,8 +32,9 @@ pub fn answers(
     ensures { IfOk result (λ answers. map_list (λ v. v.items) answers.items
         ≡ map_list (λ lane. replies_to lane.from replies.now) lanes.now) }
 {
-    let mut told = told_by_client(alloc, seed, replies)?;
-    let mut answers = Vec::new(alloc);
+    let mut told = none_told(alloc, seed, lanes)?;
+    tell_all(alloc, &mut told, replies)?;
+    let mut answers = Vec::with_capacity(alloc, lanes.len())?;
     let mut rest = lanes;
     'lanes: while let Some((lane, others)) = rest.split_first() {
         answers.push(take_of(alloc, &mut told, lane.from()))?;
@@ -41,23 +43,42 @@ pub fn answers(
     Ok(answers)
 }
 
-/// The replies by the clients that they are told.
-fn told_by_client(
-    alloc: Global,
-    seed: HashSeed,
-    replies: &[Reply],
-) -> Result<RepliesByClient, AllocError>
-    ensures { IfOk result (λ told. HoldsReplies told replies.now) }
+/// No client was told anything. There is room for a reply to each step of the lanes.
+fn none_told(alloc: Global, seed: HashSeed, lanes: &[Lane]) -> Result<RepliesByClient, AllocError>
+    ensures { IfOk result (λ told. (client : Client) → told_to told client ≡ []) }
 {
     let mut told: RepliesByClient = IndexMap::with_hasher(alloc, seed);
-    let mut rest = replies;
-    'replies: while let Some((reply, others)) = rest.split_first() {
-        if let Party::Client(caller, _) = &reply.recipient {
-            add(alloc, &mut told, caller, reply)?;
-        }
+    let mut rest = lanes;
+    'lanes: while let Some((lane, others)) = rest.split_first() {
+        expect(alloc, &mut told, lane)?;
         rest = others;
     }
     Ok(told)
+}
+
+/// Makes room for a reply to each step of the lane, if it is a client's.
+fn expect(alloc: Global, told: &mut RepliesByClient, lane: &Lane) -> Result<(), AllocError>
+    ensures { OnOk result (((client : Client) → told_to told.old client ≡ []) → (client : Client) → told_to told.new client ≡ []) }
+{
+    if let Some(client) = lane.from() {
+        let room = Vec::with_capacity(alloc, lane.steps().len())?;
+        told.insert(client.clone()?, room)?;
+    }
+    Ok(())
+}
+
+/// Adds the replies behind those that their clients are told.
+fn tell_all(alloc: Global, told: &mut RepliesByClient, replies: &[Reply]) -> Result<(), AllocError>
+    ensures { OnOk result ((client : Client) → told_to told.new client ≡ told_to told.old client ++ replies_to (Some client) replies.now) }
+{
+    let mut rest = replies;
+    'replies: while let Some((reply, others)) = rest.split_first() {
+        if let Party::Client(caller, _) = &reply.recipient {
+            add(alloc, told, caller, reply)?;
+        }
+        rest = others;
+    }
+    Ok(())
 }
 
 /// Adds a reply behind those that the client is told.

@@ -44,6 +44,12 @@ pub record IsServed (logic : Logic) (setup : Setup) (input : List ℕ) (left : O
   pub refused : refusals ≡ refusals_of lines
   pub lanes : LeavesServed logic setup (lanes_of lines) silo answers
 
+-- These are the lanes of an input of which all was read.
+pub record AreLanesOf (input : List ℕ) (left : Option (List ℕ)) (lanes : List Lane) : Type 0 where
+  pub lines : List Line
+  pub read : ReadsAll input lines left
+  pub gathered : lanes ≡ lanes_of lines
+
 -- what becomes of a fault of serving lanes that were read
 abbrev pub serving_fault : ServeFault → ServiceFault
 serving_fault serve.Memory = service.Failed line.Memory

@@ -6,7 +6,7 @@ ghost use Rattle.lane_model.specs.Lanes.{AreDistinct};
 ghost use Rattle.line_protocol.specs.Reading.{left_of};
 ghost use Rattle.worker_host.specs.declared.report.ServeFault.{ServeFault as ServeFaultValue};
 ghost use Rattle.line_service.specs.Asked.{lanes_of, refusals_of};
-ghost use Rattle.line_service.specs.Serving.{IsServed, LeavesServed, StopsServing, serving_fault, setup_of};
+ghost use Rattle.line_service.specs.Serving.{AreLanesOf, IsServed, LeavesServed, StopsServing, serving_fault, setup_of};
 
 use crate::asked::asked_by;
 use crate::fault::ServiceFault;
@@ -156,6 +156,9 @@ pub fn serve_input<
     ensures served { IfOk result (λ served. IfSome (left_of input.old.lines (R.remaining input.old.reader)) (λ bytes.
         IsServed L.logic (setup_of tenants age ages) bytes (R.remaining input.new.reader) served.refusals.items served.report.silo
         (map_list (λ v. v.items) served.report.answers.items))) }
+
+    ensures served_lanes { IfOk result (λ served. IfSome (left_of input.old.lines (R.remaining input.old.reader)) (λ bytes.
+        AreLanesOf bytes (R.remaining input.new.reader) served.lanes.items)) }
 
     // The silo was opened with these tenants, this age and these ages, and no rows.
     ensures setup { IfOk result (λ served. served.report.silo.setup ≡ setup_of tenants age ages) }

@@ -8,8 +8,10 @@ use Rattle.client_lanes.proofs.replies_by_client.answers.Goals as goal
 
 pub lanes-init : goal.lanes-init
 lanes-init c = (
-  ap (λ vs. map_list (λ v. v.items) vs ++ map_list (λ (l : Lane). replies_to l.from c.args.replies.now) c.args.lanes.now) c.new-answers.ensures.items,
-  each_has c.in_ok-told.told c.args.replies.now c.in_ok-told.ensures c.args.lanes.now,
+  ap (λ vs. map_list (λ v. v.items) vs ++ map_list (λ (l : Lane). replies_to l.from c.args.replies.now) c.args.lanes.now) c.in_ok-answers.ensures.items,
+  each_has c.tell_all.new.told c.args.replies.now
+      (λ client. c.in_ok-tell_all.ensures client ∙ ap (λ list. list ++ replies_to (Some client) c.args.replies.now) (c.in_ok-told.ensures client))
+      c.args.lanes.now,
   c.requires,
 )
 
