@@ -21,7 +21,7 @@ fn limit_in(rows: &[u8]) -> Option<u64> {
     row.split_whitespace().next()?.parse::<u64>().ok()
 }
 
-/// Reads up to the end, or until there is no room or a call fails, and answers how many bytes were read.
+/// Reads up to the end, or until there is no room, and answers how many bytes were read: none if a call fails.
 fn read_rows<F: Read>(file: &mut F, rows: &mut [u8; ROWS_BYTES]) -> usize {
     let mut end = 0;
     for _ in 0..ROWS_BYTES {
@@ -31,7 +31,7 @@ fn read_rows<F: Read>(file: &mut F, rows: &mut [u8; ROWS_BYTES]) -> usize {
         match file.read(&mut rows[end..]) {
             Ok(0) => return end,
             Ok(count) => end += count,
-            Err(_) => return end,
+            Err(_) => return 0,
         }
     }
     end

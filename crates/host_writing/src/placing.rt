@@ -35,8 +35,8 @@ fn check_length(files: &impl Files, path: &str, bytes: &[u8]) -> io::Result<()> 
 ///
 /// # Errors
 ///
-/// A call at the path failed, or a regular file is shorter once it is closed, and then a part of the bytes may be there; or a
-/// regular file, or a link to one, may not be as long, and then nothing was done.
+/// A call at the path failed, or a regular file has another length once it is closed, and then a part of the bytes may be there;
+/// or a regular file, or a link to one, may not be as long, and then nothing was done.
 pub fn write_file(files: &impl Files, path: &str, bytes: &[u8]) -> io::Result<()> {
     if is_limited(files, path) {
         check_size(files, bytes)?;
@@ -56,7 +56,7 @@ fn write_to_disk(files: &impl Files, path: &str, bytes: &[u8]) -> io::Result<()>
 ///
 /// # Errors
 ///
-/// A call failed, or the new file is shorter once it is closed, or a file may not be as long. The older file stands as it was
+/// A call failed, or the new file has another length once it is closed, or a file may not be as long. The older file stands as it was
 /// then, and the new one was taken away again.
 pub fn replace_file(files: &impl Files, path: &str, beside: &str, bytes: &[u8]) -> io::Result<()> {
     check_size(files, bytes)?;
