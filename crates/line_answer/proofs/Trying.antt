@@ -2,6 +2,7 @@
 use Rattle.std.proofs.Common.{◌≡◌, ℕ, zero, suc, ◌+◌, ◌==◌, Bool, true, false, List, [], ◌∷◌, ◌++◌, length, Option, Some, None, unwrap_or, refl, ap, sym, ◌∙◌, subst, arith, append_assoc, true≢false}
 use Rattle.std.specs.Prelude.{is_some, option_and_then, if◌then◌else◌}
 use Rattle.std.specs.FinMap as map
+use Rattle.std.proofs.lemmas.Bool.Decides.{Decides-eqb}
 use Rattle.std.proofs.lemmas.List.{append-nil}
 use Rattle.std.proofs.lemmas.Option.{none-some, same_Some}
 use Rattle.grain_id.specs.Names.{Client, Grain}
@@ -26,6 +27,7 @@ use Rattle.silo_model.proofs.Runs.{whole_after, run_by-append, done_by-append}
 use Rattle.silo_state.specs.Sends.{first_source}
 use Rattle.silo_state.specs.Work.{first_number, first_waiting}
 use Rattle.silo_core.specs.History.{History, Failures, Advances, Fails, StaysAsItWas, failed_since}
+use Rattle.silo_core.specs.AtOnce as at_once
 use Rattle.answer_model.specs.Answering.{Luck, Closing, well, storage_failed, out_of_memory, whole_stepper, taken_by, raising, ending, closing, turn_of, turn_of_first, turning, serving, bringing, is_accepted, delivering, deliveries, deliveries_of, good, is_asked, called_grain}
 use Rattle.answer_model.proofs.Served.{source_own, target_is}
 use Rattle.line_answer.specs.Trying.{failed_among, Tries, is_possible, TakesNow, IsFirst, Begins, Opens, Brings, IsOldest, Delivers, AnswersAsked}
@@ -296,6 +298,22 @@ module _ (logic : Logic) where
               (subst (λ w. Tries logic mid (serving (whole_stepper logic) w g luck) new) all_of.1.whole serves.1)),
           all_of.2,
         )
+
+-- ---- a call that is served at once
+
+module _ (logic : Logic) (old new : History) (s : Step) (plain : has_failed s ≡ false) (d : at_once.Serves logic old s new) where
+  same_replies : (length d.called.whole.replies == length old.whole.replies) ≡ true
+  same_replies = (Decides-eqb _ _).1 (ap length d.untold)
+
+  pub brought_at_once : Brings logic old s (called_grain s) true new
+  brought_at_once =
+      let g = d.grain in
+      let begins = begun logic d.called d.begun g d.turn d.waits (takes_done logic d.called d.begun (Begin g) refl d.begins) in
+      let opens = opened_at_once logic d.called d.begun g d.turn begins in
+      let closes = closed logic d.begun new g d.turn (ended logic d.begun new g d.turn (takes_done logic d.begun new (End g d.turn) refl d.ends)) in
+      subst (λ grain. Brings logic old s grain true new) (sym (ap called_grain d.is_call.is))
+      (brought logic old d.called s true (takes_done logic old d.called s plain d.calls) g new same_replies
+      (served logic d.called opens.0 d.begun new g d.turn opens.1 opens.2 closes))
 
 -- ---- what a tenant's grains sent
 

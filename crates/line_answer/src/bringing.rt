@@ -192,6 +192,29 @@ fn asker_of(step: &Step) -> Result<Option<Caller>, AllocError>
     }
 }
 
+/// Takes what is asked, and serves the request that it brought, if it was accepted: a call is mostly served at once. Says whether
+/// the step was possible.
+///
+/// # Errors
+///
+/// Out of memory: some of it may have been done.
+fn take_asked<S: GrainStorage, L: GrainLogic>(
+    alloc: Global,
+    bump: &mut Bump,
+    silo: &mut Silo<S, L>,
+    step: Step,
+) -> Result<bool, AllocError>
+    requires { has_failed step ≡ false }
+    ensures { IfOk result (λ done. Brings L.logic silo.old step (called_grain step) done silo.new) }
+{
+    let Some(back) = silo.serve_at_once(alloc, bump, step) else {
+        drop(bump.reset());
+        return Ok(true);
+    };
+    let grain = called_grain(&back)?;
+    bring(alloc, bump, silo, back, grain)
+}
+
 /// Answers what is asked, with at most so many deliveries behind it. Says whether the step was possible. Turns run in the arena, one
 /// after another.
 ///
@@ -209,8 +232,7 @@ pub fn answer_step<S: GrainStorage, L: GrainLogic>(
     ensures { IfOk result (λ done. AnswersAsked L.logic most silo.old step done silo.new) }
 {
     let asker = asker_of(&step)?;
-    let grain = called_grain(&step)?;
-    let done = bring(alloc, bump, silo, step, grain)?;
+    let done = take_asked(alloc, bump, silo, step)?;
     let Some(caller) = asker else {
         return Ok(done);
     };

@@ -17,6 +17,7 @@ use std::alloc::{AllocError, Global};
 /// Makes the arena free for the next turn, if the last ones took more than half of its chunk.
 fn make_free(bump: &mut Bump) {
     if bump.chunk_capacity() < bump.allocated_bytes() / 2 {
+        // It fails only while a block of it is out as an `Allocator`, and no turn leaves one. Then it would only grow.
         drop(bump.reset());
     }
 }

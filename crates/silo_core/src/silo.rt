@@ -23,6 +23,7 @@ use std::alloc::{AllocError, Global};
 use std::marker::Model;
 use tenant_gate::{Age, TenantTable};
 
+mod at_once;
 mod run;
 mod steps;
 mod todo;

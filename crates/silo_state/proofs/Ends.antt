@@ -1,13 +1,19 @@
 -- What closing a turn by its own plan comes to, as a step of the whole.
-use Rattle.std.proofs.Common.{◌≡◌, ℕ, Bool, true, false, List, [], ◌∷◌, ◌++◌, Option, Some, None, refl, ap, sym, ◌∙◌}
-use Rattle.std.specs.Prelude.{Ok, option_and_then}
+use Rattle.std.proofs.Common.{◌≡◌, ℕ, Bool, true, false, List, [], ◌∷◌, ◌++◌, Option, Some, None, refl, ap, sym, subst, ◌∙◌}
+use Rattle.std.specs.Prelude.{Result, Ok, option_and_then, option_map, unwrap_or}
 use Rattle.std.specs.FinMap as map
 use Rattle.std.specs.FinMap.{FinMap}
 use Rattle.std.proofs.lemmas.Option.{same_Some}
 use Rattle.grain_id.specs.Names.{Grain, text_cmp}
-use Rattle.grain_kinds.specs.Logic.{Logic, Keep, Outgoing, StorageCall, asks_nothing, reads_row, writes_row, clears_row}
-use Rattle.grain_kinds.specs.Finished.{turn_plan}
+use Rattle.request_codec.specs.Tree.{Tree}
+use Rattle.activation_directory.specs.declared.activation.Phase.TheVariants.{Ready}
+use Rattle.grain_kinds.specs.Laws.{IsKeep, IsLawful}
+use Rattle.grain_kinds.specs.Logic.{Logic, Plan, Keep, Outgoing, StorageCall, asks_nothing, reads_row, writes_row, clears_row}
+use Rattle.grain_kinds.specs.Finished.{planned_shown, turn_plan}
+use Rattle.grain_kinds.specs.Planned.{keep_of}
 use Rattle.grain_kinds.specs.declared.turn.OpenedTurn.{OpenedTurn}
+use Rattle.grain_kinds.specs.declared.turn.OwnedPlan.{OwnedPlan}
+use Rattle.silo_event.specs.declared.fault.Fault.{Fault}
 use Rattle.silo_event.specs.declared.reply.Party.{Party}
 use Rattle.silo_event.specs.declared.reply.Reply.{Reply}
 use Rattle.silo_event.specs.declared.step.Answer.TheVariants.{Done}
@@ -15,7 +21,7 @@ use Rattle.silo_event.specs.declared.step.Step.TheVariants.{End}
 use Rattle.silo_model.specs.Machine.{Account, Entry, Entries, Phase, waiting, loading, ready}
 use Rattle.silo_model.specs.Effect.{change_at}
 use Rattle.silo_model.specs.Calls.{reply_to}
-use Rattle.silo_model.specs.Turns.{plan_of, sent_by, with_sends, outcome_of}
+use Rattle.silo_model.specs.Turns.{plan_of, sent_by, with_sends, outcome_of, stays_or_goes}
 use Rattle.silo_model.specs.Whole.{whole_step}
 use Rattle.silo_model.proofs.TurnSteps.{end_absent, end_closed, end_waiting, end_loading, end_reads, end_writes, end_clears, end_turn}
 use Rattle.silo_state.specs.inside.Activations.{Activations}
@@ -23,9 +29,10 @@ use Rattle.silo_state.specs.inside.Held.{Held}
 use Rattle.silo_state.specs.inside.Notes.{none_waits}
 use Rattle.silo_state.specs.Moves.{Moves}
 use Rattle.silo_state.specs.Sends.{with_more}
-use Rattle.silo_state.specs.Entries.{ClosesEntry}
+use Rattle.silo_state.specs.Entries.{ClosesEntry, closed_entry}
+use Rattle.silo_state.specs.Shown.{phase_of}
 use Rattle.silo_state.specs.Closings.{ClosesTold}
-use Rattle.silo_state.specs.Finds.{open_in, IsOwn, asks}
+use Rattle.silo_state.specs.Finds.{open_in, IsOwn, IsOwnPlan, asks}
 use Rattle.silo_state.proofs.Steps.{ages_of}
 
 -- what a turn sends comes to the account in one way
@@ -37,6 +44,43 @@ more_sent g (Some a) (o ∷ outgoing) = refl
 -- whether no request waits is known of the turn that is closed
 pub waits_known : (g : Grain) (found : Option Entry) (turn : ℕ) (version : Option ℕ) (idle_after : Bool) (input : OpenedTurn) → IsOwn g found turn version idle_after input → (e : Entry) → found ≡ Some e → idle_after ≡ none_waits e
 waits_known g found turn version idle_after input own e is = own.idle_after_is ∙ ap none_waits (same_Some own.entry e (sym own.is_open.found_is ∙ is))
+
+-- a turn that keeps the state leaves the phase as it is
+closes_ready : (entries : Entries) (told : List Reply) (g : Grain) (turn : ℕ) (version : Option ℕ) (idle_after : Bool) (input : OpenedTurn) → IsOwn g (map.get entries g) turn version idle_after input
+    → (next : Option Tree) (said : Keep) (last : ℕ) (outcome : Result Tree Fault) (new : Entries) (replies : List Reply)
+    → ClosesTold entries told g turn (option_map phase_of (option_map (λ state. Ready state version) next)) said last outcome new replies
+    → ClosesTold entries told g turn (Some (ready (unwrap_or next input.state) version)) said last outcome new replies
+closes_ready entries told g turn version idle_after input own (Some state) said last outcome new replies t = t
+closes_ready entries told g turn version idle_after input own None said last outcome new replies t =
+    let d = t.closes in
+    let entry_is = same_Some d.before own.entry (sym d.found ∙ own.is_open.found_is) in
+    let phase_is = ap (λ (e : Entry). e.phase) entry_is ∙ own.is_open.phase_is ∙ ap (λ state. ready state version) (sym own.is_of.state_is) in
+    record {
+      sender = t.sender;
+      closes = record {
+        before = d.before;
+        request = d.request;
+        found = d.found;
+        open_turn = d.open_turn;
+        sender_is = d.sender_is;
+        left = d.left ∙ ap (λ phase. change_at entries g (stays_or_goes (closed_entry d.before d.request (Some phase) said last))) phase_is;
+      };
+      told_is = t.told_is;
+    }
+
+-- what is closed by a turn's own plan in bytes is closed by the logic's plan
+pub plan_closes : (logic : Logic) (entries : Entries) (told : List Reply) (g : Grain) (turn : ℕ) (version : Option ℕ) (idle_after : Bool) (made : OwnedPlan) (r : IsOwnPlan logic g (map.get entries g) turn version idle_after made)
+    (last : ℕ) (new : Entries) (replies : List Reply)
+    → ClosesTold entries told g turn (option_map phase_of (option_map (λ state. Ready state version) made.state)) (keep_of made.keep) last (outcome_of made.outcome) new replies
+    → ClosesTold entries told g turn (Some (ready (turn_plan logic r.input).state version)) (turn_plan logic r.input).keep last (outcome_of (turn_plan logic r.input).outcome) new replies
+plan_closes logic entries told g turn version idle_after made r last new replies t =
+    subst (λ (p : Plan). ClosesTold entries told g turn (Some (ready p.state version)) p.keep last (outcome_of p.outcome) new replies) r.plan_is
+    (closes_ready entries told g turn version idle_after r.input r.own made.state (keep_of made.keep) last (outcome_of made.outcome) new replies t)
+
+-- a turn's own plan may say of the activation what it says
+pub plan_in_range : (logic : Logic) → IsLawful logic → (input : OpenedTurn) (made : OwnedPlan) → planned_shown input.state made ≡ turn_plan logic input → IsKeep (keep_of made.keep)
+plan_in_range logic law input made is =
+    subst IsKeep (sym (ap (λ (p : Plan). p.keep) is)) (law.stays_in_range input.grain.kind input.message.method input.state input.message.argument)
 
 -- no such turn is open
 pub end_none : (logic : Logic) (h : Held) (g : Grain) (turn : ℕ) → option_and_then (λ e. open_in e turn e.phase) (map.get h.whole.entries g) ≡ None → whole_step logic h.whole (End g turn) ≡ None

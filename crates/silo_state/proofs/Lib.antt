@@ -14,6 +14,7 @@ pub mod Asks
 pub mod Calls
 pub mod Sweeps
 pub mod Ends
+pub mod AtOnce
 pub mod Loads
 pub mod Stores
 pub mod AtRows

@@ -4,10 +4,14 @@ use Rattle.std.specs.FinMap as map
 use Rattle.grain_id.specs.Names.{Grain}
 use Rattle.request_codec.specs.Tree.{Tree}
 use Rattle.request_codec.specs.Call.{Call}
-use Rattle.grain_kinds.specs.Logic.{StorageCall, asks_nothing, reads_row, writes_row, clears_row}
+use Rattle.grain_kinds.specs.Logic.{Logic, StorageCall, asks_nothing, reads_row, writes_row, clears_row}
+use Rattle.grain_kinds.specs.Finished.{planned_shown, turn_plan}
+use Rattle.grain_kinds.specs.Planned.{storage_call}
 use Rattle.grain_kinds.specs.declared.turn.OpenedTurn.{OpenedTurn}
+use Rattle.grain_kinds.specs.declared.turn.OwnedPlan.{OwnedPlan}
 use Rattle.silo_model.specs.Machine.{Entry, Request, Phase, waiting, loading, ready}
 use Rattle.silo_state.specs.inside.Notes.{none_waits}
+use Rattle.silo_state.specs.declared.finding.AskedTurn.{AskedTurn}
 use Rattle.silo_state.specs.declared.finding.GrainAtClose.{GrainAtClose}
 use Rattle.silo_state.specs.declared.finding.TurnMatch.{TurnMatch}
 use Rattle.silo_state.specs.declared.finding.TurnMatch.TheVariants.{NotOpen, Stranger, Own}
@@ -49,15 +53,40 @@ pub record IsOwn (grain : Grain) (found : Option Entry) (turn : ℕ) (version : 
   pub idle_after_is : idle_after ≡ none_waits entry
   pub is_of : IsOf grain.kind state request.call input
 
+-- The turn is open, and this is its own plan.
+pub record IsOwnPlan (logic : Logic) (grain : Grain) (found : Option Entry) (turn : ℕ) (version : Option ℕ)
+    (idle_after : Bool) (planned : OwnedPlan) : Type 0 where
+  pub input : OpenedTurn
+  pub own : IsOwn grain found turn version idle_after input
+  pub plan_is : planned_shown input.state planned ≡ turn_plan logic input
+
+-- The turn is open, this is the grain's state, and this is what the turn's own plan asks of the storage.
+pub record IsOwnCall (logic : Logic) (grain : Grain) (found : Option Entry) (turn : ℕ) (version : Option ℕ)
+    (idle_after : Bool) (state : Tree) (call : StorageCall) : Type 0 where
+  pub input : OpenedTurn
+  pub own : IsOwn grain found turn version idle_after input
+  pub state_is : input.state ≡ state
+  pub call_is : call ≡ (turn_plan logic input).storage
+
 abbrev pub Finds : Grain → Option Entry → ℕ → OpenedTurn → TurnMatch → Type 0
 Finds grain found turn input NotOpen = option_and_then (λ e. open_in e turn e.phase) found ≡ None
 Finds grain found turn input Stranger = IsStranger grain found turn input
 Finds grain found turn input (Own version idle_after) = IsOwn grain found turn version idle_after input
 
--- An open turn, or what it came to, and how its grain stands; or that turn isn't open.
-abbrev pub IsOwnIfOpen : Grain → Option Entry → ℕ → Option (OpenedTurn × GrainAtClose) → Type 0
-IsOwnIfOpen grain found turn None = option_and_then (λ e. open_in e turn e.phase) found ≡ None
-IsOwnIfOpen grain found turn (Some own) = IsOwn grain found turn own.1.version own.1.idle_after own.0
+-- the turn of a message at a grain in this state
+abbrev pub turn_of : Grain → ℕ → Tree → Call → OpenedTurn
+turn_of grain turn state message = record { grain = grain; number = turn; reading = false; state = state; message = message }
+
+-- What an open turn comes to, and how its grain stands; or that turn isn't open.
+abbrev pub PlansIfOpen : Logic → Grain → Option Entry → ℕ → Option (OwnedPlan × GrainAtClose) → Type 0
+PlansIfOpen logic grain found turn None = option_and_then (λ e. open_in e turn e.phase) found ≡ None
+PlansIfOpen logic grain found turn (Some p) = IsOwnPlan logic grain found turn p.1.version p.1.idle_after p.0
+
+-- The grain's state, what an open turn asks of the storage, and how its grain stands; or that turn isn't open.
+abbrev pub AsksIfOpen : Logic → Grain → Option Entry → ℕ → Option (AskedTurn × GrainAtClose) → Type 0
+AsksIfOpen logic grain found turn None = option_and_then (λ e. open_in e turn e.phase) found ≡ None
+AsksIfOpen logic grain found turn (Some p) =
+    IsOwnCall logic grain found turn p.1.version p.1.idle_after p.0.state (storage_call p.0.call)
 
 -- the plan asks for the storage
 abbrev pub asks : StorageCall → Bool

@@ -2,6 +2,7 @@
 pub mod Accounts
 pub mod Activations
 pub mod Arrivals
+pub mod AtOnce
 pub mod Changes
 pub mod Deliveries
 pub mod Held

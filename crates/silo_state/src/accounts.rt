@@ -22,6 +22,7 @@ use std::collections::VecDeque;
 use std::marker::Model;
 use tenant_gate::Limits;
 
+mod accepted;
 mod changes;
 
 /// The accounts of the known tenants, found by the hash of the tenant's name. The account that was looked for last is found by its

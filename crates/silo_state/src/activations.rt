@@ -20,6 +20,7 @@ use tenant_gate::Age;
 
 mod accept;
 mod close;
+mod idle;
 mod walk;
 
 /// The activations of all grains. Each request is marked as one that only reads exactly if the logic

@@ -1,16 +1,19 @@
 //! What is found of a turn that is to be run, or closed.
 
 ghost use Rattle.std.specs.Prelude.{◌≡◌, Some, true, false, IfOk};
+ghost use Rattle.std.specs.Option.{option_map};
+ghost use Rattle.activation_directory.specs.declared.activation.Phase.TheVariants.{Ready};
 ghost use Rattle.silo_state.specs.Shown.{entry_of};
-ghost use Rattle.silo_state.specs.Finds.{IsOf, Finds, IsOwnIfOpen, asks};
+ghost use Rattle.silo_state.specs.Finds.{IsOf, Finds, PlansIfOpen, AsksIfOpen, asks};
 ghost use Rattle.grain_kinds.specs.Planned.{storage_call};
 
 use crate::change;
 use activation_directory::{Activation, Phase};
+use bumpalo::Bump;
 use grain_id::GrainId;
-use grain_kinds::{OpenedTurn, StoreCall};
+use grain_kinds::{GrainLogic, OpenedTurn, OwnedPlan, StoreCall, plan_turn};
 use request_codec::{Message, StateBytes};
-use std::alloc::AllocError;
+use std::alloc::{AllocError, Global};
 
 /// What is found of a turn that is to be closed.
 #[derive(Clone, Copy, Debug)]
@@ -83,19 +86,29 @@ pub fn find(grain: &GrainId, activation: &Activation, turn: u64, input: &OpenedT
     TurnMatch::Stranger
 }
 
-/// The activation's open turn of that number, as it was handed out when it began, and how its grain
-/// stands. None if the activation isn't ready, or no such turn is open.
+/// What an open turn asks of the storage, and the state of its grain.
+#[derive(Drop)]
+pub struct AskedTurn {
+    pub state: StateBytes,
+    pub call: StoreCall,
+}
+
+/// What the activation's open turn of that number comes to, and how its grain stands. None if the activation isn't ready, or no such
+/// turn is open.
 ///
 /// # Errors
 ///
 /// Out of memory.
 #[inline(always)]
-pub fn open_turn(
+pub fn plan_open<L: GrainLogic>(
+    alloc: Global,
+    bump: &Bump,
+    logic: &L,
     grain: &GrainId,
     activation: &Activation,
     turn: u64,
-) -> Result<Option<(OpenedTurn, GrainAtClose)>, AllocError>
-    ensures { IfOk result (λ found. IsOwnIfOpen grain.now (Some (entry_of activation.now)) turn found) }
+) -> Result<Option<(OwnedPlan, GrainAtClose)>, AllocError>
+    ensures { IfOk result (λ found. PlansIfOpen L.logic grain.now (Some (entry_of activation.now)) turn found) }
 {
     let Phase::Ready { state, version } = &activation.phase else {
         return Ok(None);
@@ -103,16 +116,54 @@ pub fn open_turn(
     let Some(request) = activation.mailbox.opened(turn) else {
         return Ok(None);
     };
-    let opened = OpenedTurn {
-        grain: grain.clone()?,
-        number: turn,
-        reading: request.reading,
-        state: state.clone()?,
-        message: request.message.clone()?,
+    let at_close = GrainAtClose {
+        version: *version,
+        idle_after: change::none_waits(activation),
+    };
+    let planned = plan_turn(alloc, bump, logic, grain, state, &request.message)?;
+    Ok(Some((planned, at_close)))
+}
+
+/// What the activation's open turn of that number asks of the storage, and how its grain stands. None if the activation isn't ready,
+/// or no such turn is open.
+///
+/// # Errors
+///
+/// Out of memory.
+#[inline(always)]
+pub fn ask_open<L: GrainLogic>(
+    alloc: Global,
+    bump: &Bump,
+    logic: &L,
+    grain: &GrainId,
+    activation: &Activation,
+    turn: u64,
+) -> Result<Option<(AskedTurn, GrainAtClose)>, AllocError>
+    ensures { IfOk result (λ found. AsksIfOpen L.logic grain.now (Some (entry_of activation.now)) turn found) }
+{
+    let Phase::Ready { state, version } = &activation.phase else {
+        return Ok(None);
+    };
+    let Some(request) = activation.mailbox.opened(turn) else {
+        return Ok(None);
     };
     let at_close = GrainAtClose {
         version: *version,
         idle_after: change::none_waits(activation),
     };
-    Ok(Some((opened, at_close)))
+    let state = state.clone()?;
+    let planned = plan_turn(alloc, bump, logic, grain, &state, &request.message)?;
+    let call = planned.store;
+    drop(planned);
+    Ok(Some((AskedTurn { state, call }, at_close)))
+}
+
+/// Ready in the state after a turn, if that is another one than before.
+pub fn ready_in(state: Option<StateBytes>, version: Option<u64>) -> Option<Phase>
+    ensures { result ≡ option_map (λ state. Ready state version) state }
+{
+    match state {
+        Some(state) => Some(Phase::Ready { state, version }),
+        None => None,
+    }
 }

@@ -15,6 +15,7 @@ use std::marker::Model;
 use tenant_gate::{Age, Limits};
 
 mod ask;
+mod at_once;
 mod call;
 mod clock;
 mod entry;

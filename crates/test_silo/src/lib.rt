@@ -10,6 +10,8 @@ mod ages;
 #[cfg(test)]
 mod arenas;
 #[cfg(test)]
+mod at_once;
+#[cfg(test)]
 mod lines;
 #[cfg(test)]
 mod methods;

@@ -114,16 +114,6 @@ impl<L: GrainLogic> Activations<L> {
         Some(activation)
     }
 
-    /// Takes the activations of these grains out. Takes no memory.
-    fn remove_all(&mut self, grains: &[GrainId])
-        ensures gone { self.new.entries ≡ without self.old.entries grains.now }
-        ensures ages { self.new.ages ≡ self.old.ages }
-    {
-        for grain in grains {
-            drop(self.remove(grain));
-        }
-    }
-
     /// The activations that are due go.
     ///
     /// # Errors
@@ -135,8 +125,8 @@ impl<L: GrainLogic> Activations<L> {
         ensures unchanged { OnErr result (self.new ≡ self.old) }
         ensures ages { self.new.ages ≡ self.old.ages }
     {
-        let due = self.collector.due(alloc, clock)?;
-        self.remove_all(due.as_slice());
+        let due = self.collector.take_due(alloc, clock)?;
+        let_all_go(&mut self.directory, due.as_slice());
         Ok(())
     }
 }
@@ -147,6 +137,15 @@ fn let_go(directory: &mut Directory, grain: &GrainId)
     ensures { directory.new.activations ≡ map.remove directory.old.activations grain.now }
 {
     drop(directory.remove(grain));
+}
+
+/// The activations of these grains go. Takes no memory.
+fn let_all_go(directory: &mut Directory, grains: &[GrainId])
+    ensures { directory.new.activations ≡ without directory.old.activations grains.now }
+{
+    for grain in grains {
+        let_go(directory, grain);
+    }
 }
 
 /// Drops the note of a grain whose activation is idle: when it was last used, and until when it stays. Takes no memory.

@@ -21,7 +21,7 @@ use tenant_gate::{GateRefusal, judge};
 use turn_mailbox::Request;
 
 /// The last number that a request may have.
-const LAST_NUMBER: u64 = i64::MAX as u64;
+pub(super) const LAST_NUMBER: u64 = i64::MAX as u64;
 
 impl<S: GrainStorage, L: GrainLogic> SiloState<S, L> {
     /// A client asks a grain for a method.

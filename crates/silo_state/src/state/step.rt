@@ -3,15 +3,15 @@
 ghost use Rattle.std.specs.Prelude.{IfOk};
 ghost use Rattle.std.specs.FinMap as map;
 ghost use Rattle.silo_event.specs.declared.step.Step.TheVariants as step;
-ghost use Rattle.silo_state.specs.Finds.{IsOwnIfOpen};
+ghost use Rattle.silo_state.specs.Finds.{PlansIfOpen, AsksIfOpen};
 ghost use Rattle.silo_state.specs.Moves.{Moves};
 
 use crate::finding;
-use crate::finding::GrainAtClose;
+use crate::finding::{AskedTurn, GrainAtClose};
 use crate::state::SiloState;
 use bumpalo::Bump;
 use grain_id::GrainId;
-use grain_kinds::{FinishedTurn, GrainLogic, run_turn};
+use grain_kinds::{GrainLogic, OwnedPlan};
 use grain_storage::GrainStorage;
 use silo_event::{Answer, Step, StepFault};
 use std::alloc::{AllocError, Global};
@@ -69,27 +69,38 @@ impl<S: GrainStorage, L: GrainLogic> SiloState<S, L> {
         }
     }
 
-    /// The open turn of that number, run in this arena, and how its grain stands.
+    /// What the open turn of that number comes to, and how its grain stands.
     #[inline(always)]
-    fn run(
+    fn plan_open(
         &self,
         alloc: Global,
         bump: &Bump,
         grain: &GrainId,
         turn: u64,
-    ) -> Result<Option<(FinishedTurn<L>, GrainAtClose)>, AllocError>
-        ensures { IfOk result (λ found. IsOwnIfOpen grain.now (map.get self.now.whole.entries grain.now) turn found) }
+    ) -> Result<Option<(OwnedPlan, GrainAtClose)>, AllocError>
+        ensures { IfOk result (λ found. PlansIfOpen L.logic grain.now (map.get self.now.whole.entries grain.now) turn found) }
     {
         let Some(activation) = self.activations.get(grain) else {
             return Ok(None);
         };
-        let Some((opened, at_close)) = finding::open_turn(grain, activation, turn)? else {
+        finding::plan_open(alloc, bump, &self.logic, grain, activation, turn)
+    }
+
+    /// What the open turn of that number asks of the storage, and how its grain stands.
+    #[inline(always)]
+    fn ask_open(
+        &self,
+        alloc: Global,
+        bump: &Bump,
+        grain: &GrainId,
+        turn: u64,
+    ) -> Result<Option<(AskedTurn, GrainAtClose)>, AllocError>
+        ensures { IfOk result (λ found. AsksIfOpen L.logic grain.now (map.get self.now.whole.entries grain.now) turn found) }
+    {
+        let Some(activation) = self.activations.get(grain) else {
             return Ok(None);
         };
-        match run_turn(alloc, bump, &self.logic, opened) {
-            Ok(finished) => Ok(Some((finished, at_close))),
-            Err(_opened) => Err(AllocError),
-        }
+        finding::ask_open(alloc, bump, &self.logic, grain, activation, turn)
     }
 
     /// An open turn that asks for nothing of the storage runs and is closed.
@@ -103,16 +114,14 @@ impl<S: GrainStorage, L: GrainLogic> SiloState<S, L> {
     ) -> Result<Answer, StepFault>
         ensures { Moves L.logic self.old (step.End grain.now turn) result self.new }
     {
-        let Some((finished, at_close)) = self.run(alloc, bump, grain, turn)? else {
+        let Some((planned, at_close)) = self.plan_open(alloc, bump, grain, turn)? else {
             return Ok(Answer::NotNow);
         };
         let GrainAtClose {
             version,
             idle_after,
         } = at_close;
-        let answer = self.end_own(alloc, grain, turn, version, idle_after, &finished);
-        drop(finished);
-        answer
+        self.end_planned(alloc, grain, turn, version, idle_after, planned)
     }
 
     /// An open turn that asks for the storage runs and is closed.
@@ -127,15 +136,18 @@ impl<S: GrainStorage, L: GrainLogic> SiloState<S, L> {
     ) -> Result<Answer, StepFault>
         ensures { Moves L.logic self.old (step.Store grain.now turn failed) result self.new }
     {
-        let Some((finished, at_close)) = self.run(alloc, bump, grain, turn)? else {
+        let Some((asked, at_close)) = self.ask_open(alloc, bump, grain, turn)? else {
             return Ok(Answer::NotNow);
         };
         let GrainAtClose {
             version,
             idle_after,
         } = at_close;
-        let answer = self.store_own(alloc, grain, turn, version, idle_after, &finished, failed);
-        drop(finished);
+        let AskedTurn { state, call } = asked;
+        let answer = self.store_own(
+            alloc, grain, turn, version, idle_after, &state, call, failed,
+        );
+        drop(state);
         answer
     }
 }

@@ -4,7 +4,8 @@ ghost use Rattle.std.specs.Prelude.{◌≡◌, ◌↔◌, Err};
 ghost use Rattle.std.specs.FinMap as map;
 ghost use Rattle.silo_event.specs.declared.step.Step.TheVariants as step;
 ghost use Rattle.silo_event.specs.declared.step.StepFault.TheVariants.{Stranger};
-ghost use Rattle.silo_state.specs.Finds.{IsStranger, IsOwn};
+ghost use Rattle.grain_kinds.specs.Planned.{storage_call};
+ghost use Rattle.silo_state.specs.Finds.{IsStranger, IsOwnCall};
 ghost use Rattle.silo_state.specs.Moves.{Moves, Ends};
 
 use crate::closing::{ClosedTurn, close_by};
@@ -12,8 +13,9 @@ use crate::finding::{TurnMatch, asks_storage};
 use crate::state::SiloState;
 use crate::storing::ask;
 use grain_id::GrainId;
-use grain_kinds::{FinishedTurn, GrainLogic};
+use grain_kinds::{FinishedTurn, GrainLogic, StoreCall};
 use grain_storage::GrainStorage;
+use request_codec::StateBytes;
 use silo_event::{Answer, StepFault};
 use std::alloc::Global;
 
@@ -43,7 +45,11 @@ impl<S: GrainStorage, L: GrainLogic> SiloState<S, L> {
             TurnMatch::Own {
                 version,
                 idle_after,
-            } => { self.store_own(alloc, grain, turn, version, idle_after, finished, failed) }
+            } => {
+                let state = &finished.input().state;
+                let call = finished.store_call();
+                self.store_own(alloc, grain, turn, version, idle_after, state, call, failed)
+            }
         }
     }
 
@@ -55,13 +61,14 @@ impl<S: GrainStorage, L: GrainLogic> SiloState<S, L> {
         turn: u64,
         version: Option<u64>,
         idle_after: bool,
-        finished: &FinishedTurn<L>,
+        state: &StateBytes,
+        call: StoreCall,
         failed: bool,
     ) -> Result<Answer, StepFault>
-        requires { IsOwn grain.now (map.get self.old.whole.entries grain.now) turn version idle_after finished.now }
+        requires { IsOwnCall L.logic grain.now (map.get self.old.whole.entries grain.now) turn version idle_after state.now
+            (storage_call call) }
         ensures { Moves L.logic self.old (step.Store grain.now turn failed) result self.new }
     {
-        let call = finished.store_call();
         if !asks_storage(call) {
             return Ok(Answer::NotNow);
         }
@@ -78,7 +85,7 @@ impl<S: GrainStorage, L: GrainLogic> SiloState<S, L> {
             &mut self.storage,
             &self.logic,
             grain,
-            &finished.input().state,
+            state,
             version,
             call,
             failed,

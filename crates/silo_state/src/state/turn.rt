@@ -5,17 +5,17 @@ ghost use Rattle.std.specs.FinMap as map;
 ghost use Rattle.silo_event.specs.declared.step.Step.TheVariants as step;
 ghost use Rattle.silo_state.specs.Entries.{opened_turn};
 ghost use Rattle.silo_event.specs.declared.step.StepFault.TheVariants.{Stranger};
-ghost use Rattle.silo_state.specs.Finds.{IsStranger, IsOwn, Finds};
+ghost use Rattle.silo_state.specs.Finds.{IsStranger, IsOwn, IsOwnPlan, Finds};
 ghost use Rattle.silo_state.specs.Moves.{Moves, Ends, done_if};
 
 use crate::closing::{ClosedTurn, close_turn};
-use crate::finding::{TurnMatch, asks_storage};
+use crate::finding::{TurnMatch, asks_storage, ready_in};
 use crate::state::SiloState;
 use crate::telling::{copied, told};
 use crate::{change, finding};
 use activation_directory::Phase;
 use grain_id::GrainId;
-use grain_kinds::{FinishedTurn, GrainLogic, Keep, OpenedTurn};
+use grain_kinds::{FinishedTurn, GrainLogic, Keep, OpenedTurn, OwnedPlan};
 use grain_storage::GrainStorage;
 use silo_event::{Answer, Fault, StepFault};
 use std::alloc::{AllocError, Global};
@@ -73,7 +73,7 @@ impl<S: GrainStorage, L: GrainLogic> SiloState<S, L> {
         }
     }
 
-    /// Closes an open turn by its own plan.
+    /// Closes an open turn by the plan of a finished turn, which is its own.
     pub(super) fn end_own(
         &mut self,
         alloc: Global,
@@ -108,6 +108,52 @@ impl<S: GrainStorage, L: GrainLogic> SiloState<S, L> {
             now,
             Some(phase),
             finished.keep(),
+            told(outcome),
+        );
+        Ok(Answer::Done)
+    }
+
+    /// Closes an open turn by its own plan, which is given.
+    pub(super) fn end_planned(
+        &mut self,
+        alloc: Global,
+        grain: &GrainId,
+        turn: u64,
+        version: Option<u64>,
+        idle_after: bool,
+        planned: OwnedPlan,
+    ) -> Result<Answer, StepFault>
+        requires { IsOwnPlan L.logic grain.now (map.get self.old.whole.entries grain.now) turn version idle_after planned }
+        ensures { Moves L.logic self.old (step.End grain.now turn) result self.new }
+    {
+        if asks_storage(planned.store) {
+            drop(planned);
+            return Ok(Answer::NotNow);
+        }
+        let now = self.clock;
+        self.replies.reserve(1)?;
+        self.activations.expect(grain, idle_after)?;
+        let OwnedPlan {
+            state,
+            outcome,
+            sends,
+            keep: said,
+            ..
+        } = planned;
+        self.accounts.send_each(alloc, grain, sends.as_slice())?;
+        drop(sends);
+        let closing = ClosedTurn {
+            grain,
+            turn,
+            idle_after,
+        };
+        close_turn(
+            &mut self.activations,
+            &mut self.replies,
+            closing,
+            now,
+            ready_in(state, version),
+            said,
             told(outcome),
         );
         Ok(Answer::Done)

@@ -4,7 +4,7 @@ ghost use Rattle.std.specs.Prelude.{◌≡◌, OnOk, OnErr};
 ghost use Rattle.std.specs.FinMap as map;
 ghost use Rattle.silo_event.specs.declared.step.Step.TheVariants as step;
 ghost use Rattle.silo_model.specs.Effect.{change_option};
-ghost use Rattle.silo_state.specs.Finds.{IsOwn};
+ghost use Rattle.silo_state.specs.Finds.{IsOwnPlan};
 ghost use Rattle.silo_state.specs.Sends.{with_more};
 ghost use Rattle.tenant_machine.specs.Machines.{StepAnswers};
 ghost use Rattle.tenant_machine.specs.inside.Sends.{sends_of};
@@ -12,11 +12,10 @@ ghost use Rattle.tenant_machine.specs.inside.Sends.{sends_of};
 use crate::account::{Account, Sent, sent_by};
 use crate::closing::{ClosedTurn, close_turn};
 use crate::machine::TenantMachine;
-use activation_directory::Phase;
 use grain_id::GrainId;
-use grain_kinds::{FinishedTurn, GrainLogic};
-use silo_state::finding::{GrainAtClose, asks_storage};
-use silo_state::telling::{copied, told};
+use grain_kinds::{GrainLogic, OwnedPlan};
+use silo_state::finding::{GrainAtClose, asks_storage, ready_in};
+use silo_state::telling::told;
 use std::alloc::{AllocError, Global};
 
 impl<L: GrainLogic> TenantMachine<L> {
@@ -34,12 +33,10 @@ impl<L: GrainLogic> TenantMachine<L> {
     ) -> Result<bool, AllocError>
         ensures { StepAnswers L.logic self.old (step.End grain.now turn) result self.new }
     {
-        let Some((finished, at_close)) = self.run(alloc, grain, turn)? else {
+        let Some((planned, at_close)) = self.plan_open(alloc, grain, turn)? else {
             return Ok(false);
         };
-        let answer = self.end_own(alloc, grain, turn, at_close, &finished);
-        drop(finished);
-        answer
+        self.end_own(alloc, grain, turn, at_close, planned)
     }
 
     /// Closes an open turn by its own plan.
@@ -49,25 +46,27 @@ impl<L: GrainLogic> TenantMachine<L> {
         grain: &GrainId,
         turn: u64,
         at_close: GrainAtClose,
-        finished: &FinishedTurn<L>,
+        planned: OwnedPlan,
     ) -> Result<bool, AllocError>
-        requires { IsOwn grain.now (map.get self.old.entries grain.now) turn at_close.version at_close.idle_after finished.now }
+        requires { IsOwnPlan L.logic grain.now (map.get self.old.entries grain.now) turn at_close.version at_close.idle_after planned }
         ensures { StepAnswers L.logic self.old (step.End grain.now turn) result self.new }
     {
-        if asks_storage(finished.store_call()) {
+        if asks_storage(planned.store) {
+            drop(planned);
             return Ok(false);
         }
         let now = self.clock;
-        let keep = finished.keep();
         self.replies.reserve(1)?;
-        let sent = sent_by(alloc, grain, finished.sends())?;
-        let outcome = copied(finished.outcome())?;
-        let state = finished.state().clone()?;
-        send(&mut self.account, sent)?;
-        let phase = Phase::Ready {
+        let OwnedPlan {
             state,
-            version: at_close.version,
-        };
+            outcome,
+            sends,
+            keep: said,
+            ..
+        } = planned;
+        let sent = sent_by(alloc, grain, sends.as_slice())?;
+        drop(sends);
+        send(&mut self.account, sent)?;
         let closing = ClosedTurn {
             grain,
             turn,
@@ -78,8 +77,8 @@ impl<L: GrainLogic> TenantMachine<L> {
             &mut self.replies,
             closing,
             now,
-            Some(phase),
-            keep,
+            ready_in(state, at_close.version),
+            said,
             told(outcome),
         );
         Ok(true)

@@ -2,14 +2,16 @@
 
 ghost use Rattle.std.specs.FinMap as map;
 ghost use Rattle.silo_event.specs.declared.step.Step.TheVariants as step;
-ghost use Rattle.silo_state.specs.Finds.{IsOwn};
+ghost use Rattle.grain_kinds.specs.Planned.{storage_call};
+ghost use Rattle.silo_state.specs.Finds.{IsOwnCall};
 ghost use Rattle.tenant_machine.specs.Machines.{StepAnswers};
 
 use crate::closing::{ClosedTurn, close_by};
 use crate::machine::TenantMachine;
 use grain_id::GrainId;
-use grain_kinds::{FinishedTurn, GrainLogic};
-use silo_state::finding::{GrainAtClose, asks_storage};
+use grain_kinds::{GrainLogic, StoreCall};
+use request_codec::StateBytes;
+use silo_state::finding::{AskedTurn, GrainAtClose, asks_storage};
 use silo_state::storing::ask;
 use std::alloc::{AllocError, Global};
 
@@ -30,11 +32,12 @@ impl<L: GrainLogic> TenantMachine<L> {
     ) -> Result<bool, AllocError>
         ensures { StepAnswers L.logic self.old (step.Store grain.now turn failed) result self.new }
     {
-        let Some((finished, at_close)) = self.run(alloc, grain, turn)? else {
+        let Some((asked, at_close)) = self.ask_open(alloc, grain, turn)? else {
             return Ok(false);
         };
-        let answer = self.store_own(alloc, grain, turn, at_close, &finished, failed);
-        drop(finished);
+        let AskedTurn { state, call } = asked;
+        let answer = self.store_own(alloc, grain, turn, at_close, &state, call, failed);
+        drop(state);
         answer
     }
 
@@ -45,13 +48,14 @@ impl<L: GrainLogic> TenantMachine<L> {
         grain: &GrainId,
         turn: u64,
         at_close: GrainAtClose,
-        finished: &FinishedTurn<L>,
+        state: &StateBytes,
+        call: StoreCall,
         failed: bool,
     ) -> Result<bool, AllocError>
-        requires { IsOwn grain.now (map.get self.old.entries grain.now) turn at_close.version at_close.idle_after finished.now }
+        requires { IsOwnCall L.logic grain.now (map.get self.old.entries grain.now) turn at_close.version at_close.idle_after
+            state.now (storage_call call) }
         ensures { StepAnswers L.logic self.old (step.Store grain.now turn failed) result self.new }
     {
-        let call = finished.store_call();
         if !asks_storage(call) {
             return Ok(false);
         }
@@ -67,7 +71,7 @@ impl<L: GrainLogic> TenantMachine<L> {
             &mut self.storage,
             &self.logic,
             grain,
-            &finished.input().state,
+            state,
             at_close.version,
             call,
             failed,

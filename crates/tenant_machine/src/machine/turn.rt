@@ -3,40 +3,50 @@
 ghost use Rattle.std.specs.Prelude.{IfOk};
 ghost use Rattle.std.specs.FinMap as map;
 ghost use Rattle.silo_event.specs.declared.step.Step.TheVariants as step;
-ghost use Rattle.silo_state.specs.Finds.{IsOwnIfOpen};
+ghost use Rattle.silo_state.specs.Finds.{PlansIfOpen, AsksIfOpen};
 ghost use Rattle.tenant_machine.specs.Machines.{StepAnswers};
 
 use crate::closing::{ClosedTurn, close_turn};
 use crate::machine::TenantMachine;
 use bumpalo::Bump;
 use grain_id::GrainId;
-use grain_kinds::{FinishedTurn, GrainLogic, Keep, run_turn};
+use grain_kinds::{GrainLogic, Keep, OwnedPlan};
 use silo_event::Fault;
 use silo_state::finding;
-use silo_state::finding::GrainAtClose;
+use silo_state::finding::{AskedTurn, GrainAtClose};
 use std::alloc::{AllocError, Global};
 
 impl<L: GrainLogic> TenantMachine<L> {
-    /// The open turn of that number, run in an arena of its own, and how its grain stands.
-    pub(super) fn run(
+    /// What the open turn of that number comes to, run in an arena of its own, and how its grain stands.
+    pub(super) fn plan_open(
         &self,
         alloc: Global,
         grain: &GrainId,
         turn: u64,
-    ) -> Result<Option<(FinishedTurn<L>, GrainAtClose)>, AllocError>
-        ensures { IfOk result (λ found. IsOwnIfOpen grain.now (map.get self.now.entries grain.now) turn found) }
+    ) -> Result<Option<(OwnedPlan, GrainAtClose)>, AllocError>
+        ensures { IfOk result (λ found. PlansIfOpen L.logic grain.now (map.get self.now.entries grain.now) turn found) }
     {
         let Some(activation) = self.entries.get(grain) else {
             return Ok(None);
         };
-        let Some((opened, at_close)) = finding::open_turn(grain, activation, turn)? else {
+        let bump = Bump::new(alloc);
+        finding::plan_open(alloc, &bump, &self.logic, grain, activation, turn)
+    }
+
+    /// What the open turn of that number asks of the storage, and how its grain stands.
+    pub(super) fn ask_open(
+        &self,
+        alloc: Global,
+        grain: &GrainId,
+        turn: u64,
+    ) -> Result<Option<(AskedTurn, GrainAtClose)>, AllocError>
+        ensures { IfOk result (λ found. AsksIfOpen L.logic grain.now (map.get self.now.entries grain.now) turn found) }
+    {
+        let Some(activation) = self.entries.get(grain) else {
             return Ok(None);
         };
         let bump = Bump::new(alloc);
-        match run_turn(alloc, &bump, &self.logic, opened) {
-            Ok(finished) => Ok(Some((finished, at_close))),
-            Err(_opened) => Err(AllocError),
-        }
+        finding::ask_open(alloc, &bump, &self.logic, grain, activation, turn)
     }
 
     /// A turn that ran out of memory is closed, and its sender is told so.

@@ -1,15 +1,15 @@
 use Rattle.std.proofs.Common.{List, refl, ap, sym, ◌∙◌, subst}
 use Rattle.std.specs.FinMap as map
 use Rattle.std.proofs.lemmas.Option.{same_Some}
+use Rattle.request_codec.specs.Tree.{Tree}
 use Rattle.grain_kinds.specs.Planned.{storage_call}
-use Rattle.grain_kinds.specs.declared.turn.OpenedTurn.{OpenedTurn}
 use Rattle.silo_event.specs.declared.reply.Reply.{Reply}
 use Rattle.silo_event.specs.declared.step.Step.TheVariants as step
 use Rattle.silo_model.specs.Machine.{Entry, Entries}
 use Rattle.silo_state.specs.inside.Held.{Held, held_of}
 use Rattle.silo_state.specs.Moves.{Moves}
 use Rattle.silo_state.specs.Shown.{entry_of}
-use Rattle.silo_state.specs.Finds.{IsOwn, asks}
+use Rattle.silo_state.specs.Finds.{IsOwnCall, asks}
 use Rattle.silo_state.specs.Closings.{ClosesBy}
 use Rattle.silo_state.specs.inside.Storing.{given, GivesMarked}
 use Rattle.silo_state.proofs.Ends.{waits_known}
@@ -18,12 +18,13 @@ use Rattle.silo_state.proofs.state.SiloState.store_own.Goals as goal
 
 pub returns-then-not-asks_storage : goal.returns-then-not-asks_storage
 returns-then-not-asks_storage g c =
-    (store_silent g.L.GrainLogic.logic c.args.self.now c.args.grain.now c.args.turn c.args.version c.args.idle_after c.args.finished.now c.requires c.args.failed (ap asks (sym c.store_call-call.ensures) ∙ sym c.if-not-asks_storage.ensures), refl)
+    let r = c.requires in
+    (store_silent g.L.GrainLogic.logic c.args.self.now c.args.grain.now c.args.turn c.args.version c.args.idle_after r.input r.own c.args.failed (ap asks (sym r.call_is) ∙ sym c.if-not-asks_storage.ensures), refl)
 
 pub expect-requires : goal.expect-requires
 expect-requires g c =
-    let own = subst (λ (h : Held). IsOwn c.args.grain.now (map.get h.whole.entries c.args.grain.now) c.args.turn c.args.version c.args.idle_after c.args.finished.now) (sym c.self.view_is) c.requires in
-    waits_known c.args.grain.now _ c.args.turn c.args.version c.args.idle_after c.args.finished.now own
+    let r = subst (λ (h : Held). IsOwnCall g.L.GrainLogic.logic c.args.grain.now (map.get h.whole.entries c.args.grain.now) c.args.turn c.args.version c.args.idle_after c.args.state.now (storage_call c.args.call)) (sym c.self.view_is) c.requires in
+    waits_known c.args.grain.now _ c.args.turn c.args.version c.args.idle_after r.input r.own
 
 pub returns : goal.returns
 returns g c =
@@ -35,17 +36,18 @@ returns g c =
     let turn = c.args.turn in
     let version = c.args.version in
     let idle_after = c.args.idle_after in
-    let input = c.args.finished.now in
-    let own = subst (λ (h : Held). IsOwn grain (map.get h.whole.entries grain) turn version idle_after input) (sym c.self.view_is) c.requires in
-    let call = storage_call c.store_call-call.result in
+    let call = storage_call c.args.call in
+    let r = subst (λ (h : Held). IsOwnCall logic grain (map.get h.whole.entries grain) turn version idle_after c.args.state.now call) (sym c.self.view_is) c.requires in
+    let input = r.input in
+    let own = r.own in
     let last = c.in-Some.activation.now.last in
     let still = ap (λ (e : Entry). e.last) (same_Some (entry_of c.in-Some.activation.now) own.entry (c.in-Some.ensures.entry ∙ own.is_open.found_is)) in
     let after = c.ask-stored.new.storage in
     let new = c.close_by.new.activations in
-    let gives = subst (λ (t : OpenedTurn). GivesMarked c.args.failed (given logic (rows b.storage) grain t.state version call) (rows b.storage) (failed b.storage) c.ask-stored.result (rows after) (failed after)) c.input.ensures c.ask-stored.ensures in
+    let gives = subst (λ (state : Tree). GivesMarked c.args.failed (given logic (rows b.storage) grain state version call) (rows b.storage) (failed b.storage) c.ask-stored.result (rows after) (failed after)) (sym r.state_is) c.ask-stored.ensures in
     let closes = subst (λ (p : Entries × List Reply). ClosesBy p.0 p.1 grain turn idle_after b.clock last c.args.failed c.ask-stored.result c.close_by.result new.entries c.close_by.new.replies.items)
     (λ i. (c.expect.ensures.entries i, c.in_ok-reserve.ensures.items i)) c.close_by.ensures.closes in
     let old = held_of b.accounts b.activations b.clock (rows b.storage) b.replies.items (failed b.storage) in
     subst (λ (h : Held). Moves logic h (step.Store grain turn c.args.failed) c.close_by.result (left logic old grain turn version idle_after input own new (rows after) c.close_by.new.replies.items (failed after))) c.self.view_is
-    (stored_moves logic old grain turn version idle_after input own call (sym c.store_call-call.ensures) (sym c.if-not-asks_storage.ensures) new (c.close_by.ensures.ages ∙ c.expect.ensures.ages) last still
+    (stored_moves logic old grain turn version idle_after input own call (sym r.call_is) (sym c.if-not-asks_storage.ensures) new (c.close_by.ensures.ages ∙ c.expect.ensures.ages) last still
     c.args.failed c.ask-stored.result (rows after) (failed after) gives c.close_by.result c.close_by.new.replies.items closes)

@@ -1,0 +1,116 @@
+//! A call that is served at once: it is accepted, and its turn begins and ends.
+
+ghost use Rattle.std.specs.Prelude.{◌≡◌, IfSome, IfOk, OnErr, true};
+ghost use Rattle.silo_event.specs.declared.step.Step.TheVariants as step;
+ghost use Rattle.grain_kinds.specs.Logic.{asks_nothing, same};
+ghost use Rattle.grain_kinds.specs.Planned.{keep_of, storage_call};
+ghost use Rattle.silo_state.specs.AtOnce.{ServesIf};
+ghost use Rattle.silo_state.specs.inside.AtOnce.{Admits, PlansIdle, IsPlain};
+
+use crate::finding::asks_storage;
+use crate::state::SiloState;
+use crate::state::call::LAST_NUMBER;
+use crate::telling::told;
+use bumpalo::Bump;
+use grain_id::{Caller, GrainId};
+use grain_kinds::{GrainLogic, Keep, OwnedPlan, plan_turn};
+use grain_storage::GrainStorage;
+use request_codec::Message;
+use silo_event::{Party, Reply};
+use std::alloc::{AllocError, Global};
+
+impl<S: GrainStorage, L: GrainLogic> SiloState<S, L> {
+    /// A client's call is accepted, and its turn begins and ends, if the grain has nothing to do and its turn asks for nothing of
+    /// the storage: the turn's number. It runs in this arena. If there is none, nothing changed, and the call is one to be
+    /// taken step by step.
+    ///
+    /// # Errors
+    ///
+    /// Out of memory: nothing changed.
+    pub fn serve(
+        &mut self,
+        alloc: Global,
+        bump: &Bump,
+        caller: &Caller,
+        id: u64,
+        grain: &GrainId,
+        message: &Message,
+    ) -> Result<Option<u64>, AllocError>
+        ensures served { IfOk result (λ turn. ServesIf L.logic self.old (step.Call caller.now id grain.now message.now) grain.now turn
+            self.new) }
+        ensures unchanged { OnErr result (self.new ≡ self.old) }
+    {
+        self.accounts.look_for(caller.tenant());
+        let Some(_waiting) = self.activations.waiting(grain) else {
+            return Ok(None);
+        };
+        let Some(number) = self.next_number(caller, grain) else {
+            return Ok(None);
+        };
+        let Some(plan) = self.plan_idle(alloc, bump, grain, message)? else {
+            return Ok(None);
+        };
+        if !is_plain(&plan) {
+            return Ok(None);
+        }
+        let recipient = Party::Client(caller.clone()?, id);
+        self.replies.reserve(1)?;
+        self.accounts
+            .send_each(alloc, grain, plan.sends.as_slice())?;
+        self.accounts.count_one(grain.tenant());
+        self.activations.renew(grain, plan.state);
+        self.replies.push_reserved(Reply {
+            recipient,
+            outcome: told(plan.outcome),
+        });
+        Ok(Some(number))
+    }
+
+    /// The number of the next request of the client, if it passes the gate.
+    fn next_number(&self, caller: &Caller, grain: &GrainId) -> Option<u64>
+        ensures { IfSome result (λ number. Admits self.now.whole caller.now.tenant grain.now number) }
+    {
+        let account = self.accounts.get(caller.tenant())?;
+        if grain.tenant() != caller.tenant() {
+            return None;
+        }
+        if account.count() == LAST_NUMBER {
+            return None;
+        }
+        if account.limits().mailbox == 0 {
+            return None;
+        }
+        Some(account.count() + 1)
+    }
+
+    /// The plan of a message at a grain that is idle.
+    fn plan_idle(
+        &self,
+        alloc: Global,
+        bump: &Bump,
+        grain: &GrainId,
+        message: &Message,
+    ) -> Result<Option<OwnedPlan>, AllocError>
+        ensures { IfOk result (λ found. IfSome found (λ planned. PlansIdle L.logic self.now.whole grain.now message.now planned)) }
+    {
+        let Some(state) = self.activations.idle_state(grain, self.clock) else {
+            return Ok(None);
+        };
+        let plan = plan_turn(alloc, bump, &self.logic, grain, state, message)?;
+        Ok(Some(plan))
+    }
+}
+
+/// Whether the plan asks for nothing of the storage, and says nothing of the activation.
+fn is_plain(plan: &OwnedPlan) -> bool
+    ensures { result ≡ true → IsPlain plan.now }
+{
+    if asks_storage(plan.store) {
+        return false;
+    }
+    match plan.keep {
+        Keep::Same => true,
+        Keep::Rest => false,
+        Keep::Stay(_) => false,
+    }
+}
