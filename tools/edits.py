@@ -42,11 +42,13 @@ SPOILING = f"\n{WRONG} : Unit {{0}} → Unit {{0}}\n{WRONG} = tt\n"
 
 @dataclasses.dataclass(frozen=True)
 class Body:
-    """A function of a file: its path in the crate as the prover prints it, the first and last line of it and of its body,
-    the lines round a copy of it, if a copy can stand beside it, and whether its proof is one of several functions."""
+    """A function of a file: its path in the crate as the prover prints it, how many lines of attributes and of what is said of it
+    stand above it, the first and last line of it and of its body, the lines round a copy of it, if a copy can stand beside it, and
+    whether its proof is one of several functions."""
 
     file: str
     path: str
+    above: int
     first: int
     opens: int
     last: int
@@ -57,7 +59,8 @@ class Body:
 @dataclasses.dataclass
 class Edit:
     """The pairs of texts to change in files, the functions whose bodies that changes, and those that a line names. In a check it may
-    be made in a copy of its function, which begins at some line, and the proof may be spoiled, so that it's no sign if there is none."""
+    be made in a copy of its function, which begins at some line, and the proof may be spoiled, so that it's no sign if there is none,
+    unless a check left that open, so that it's to be tried with its proof as it is."""
 
     crate: str
     name: str
@@ -67,6 +70,7 @@ class Edit:
     suffix: str = ""
     copied_at: int = 0
     is_spoiled: bool = False
+    as_it_is: bool = False
 
     def functions(self) -> list[str]:
         return self.named or [it.path + self.suffix for it in self.bodies]
@@ -81,10 +85,11 @@ class Edit:
         return is_named or function in {f"{self.crate}::{it.path}{self.suffix}" for it in self.bodies}
 
     def holds(self, file: str, line: int) -> bool:
-        """Whether a line of a file as a check has it is one of the bodies."""
+        """Whether a line of a file as a check has it is one of the bodies, or of the attributes above it: the prover tells a goal of
+        the whole function at the first of these."""
         for body in self.bodies:
             first = self.copied_at if self.suffix else body.first
-            if body.file == file and first <= line <= first + body.last - body.first:
+            if body.file == file and first - body.above <= line <= first + body.last - body.first:
                 return True
         return False
 
@@ -170,10 +175,10 @@ def block_name(line: str) -> tuple[str, str]:
     return ("Ref" if found["ref"] else "") + name + trait + "".join(re.findall(r"\w+", found["args"] or "")), name
 
 
-def attributes_above(lines: list[str], first: int) -> list[str]:
-    """The attributes that stand right above a line, a line each."""
+def lines_above(lines: list[str], first: int) -> list[str]:
+    """The attributes and the lines on what it is that stand right above a line."""
     start = first
-    while start > 0 and lines[start - 1].strip().startswith("#["):
+    while start > 0 and lines[start - 1].strip().startswith(("#[", "///")):
         start -= 1
     return [line.strip() for line in lines[start:first]]
 
@@ -215,9 +220,10 @@ def bodies_of(crate: Crate, file: str) -> list[Body]:
         held = lines_of_body(lines, first, head[1]) if head and not head["const"] else None
         if held:
             path = "::".join([*(block or module_of(file)), head["name"]])
-            in_cycle = any(it.startswith("#[cycle") for it in attributes_above(lines, first))
+            above = lines_above(lines, first)
+            in_cycle = any(it.startswith("#[cycle") for it in above)
             copied = None if opens is None or in_cycle else (opens, closes)
-            found.append(Body(file, path, first + 1, held[0] + 1, held[1] + 1, copied, in_cycle))
+            found.append(Body(file, path, len(above), first + 1, held[0] + 1, held[1] + 1, copied, in_cycle))
     return found
 
 
@@ -235,10 +241,13 @@ def read_edit(crate: Crate, file: pathlib.Path) -> Edit:
             edit.pairs.append((path, old, said))
         elif key == "refused":
             edit.named.append(said.strip())
-    for path, old, _new in edit.pairs:
+    for path, old, new in edit.pairs:
         text = crate.text(path)
         line = text[: text.index(old)].count("\n") + 1 if text.count(old) == 1 else 0
-        held = [it for it in bodies_of(crate, path) if it.opens <= line <= it.last] if path.startswith("src/") else []
+        # A function may get a whole one before it that takes its name, so that no line of its body need stand once.
+        is_put_before = edit.named and FUNCTION.match(old) and new.startswith(old)
+        bodies = bodies_of(crate, path) if path.startswith("src/") else []
+        held = [it for it in bodies if (it.first if is_put_before else it.opens) <= line <= it.last]
         edit.bodies += held[-1:]
         if not held and not edit.named:
             sys.exit(f"tools/try-edits: {crate.name}/{edit.name} changes no function's body, and no line `refused:` names one")
@@ -251,6 +260,7 @@ def batches_of(edits: list[Edit]) -> list[list[Edit]]:
     batches: list[list[Edit]] = []
     copies: dict[tuple[str, int], int] = {}
     for edit in edits:
+        edit.suffix = ""
         mine = {(it.file, it.first) for it in edit.bodies}
         for batch in batches:
             theirs = {(it.file, it.first) for other in batch for it in other.bodies if not other.suffix}
