@@ -5,8 +5,8 @@ use Rattle.std.proofs.lemmas.List.{length-append}
 use Rattle.json.specs.Token.{Token, begin_object}
 use Rattle.json.specs.Json.{value, items, members, parse_map, after_end_array, read_key}
 use Rattle.json.proofs.Grammar.{read_key-shorter, after_end_array-shorter, value-begin_object}
-use Rattle.serde_json.specs.Data.{Data, Items, no_items, item, Members, no_members, put, object}
-use Rattle.serde_json.specs.Read.{of_json, of_items, of_members, converted}
+use Rattle.serde_json.specs.Data.{Data, Items, no_items, item, no_members, put, object}
+use Rattle.serde_json.specs.Read.{of_json, of_items, converted}
 use Rattle.std.proofs.Math.Bool.{or-false, or_assoc}
 use Rattle.std.proofs.lemmas.Bool.{or_from}
 use Rattle.request_codec.specs.Tree.{members_count}

@@ -7,7 +7,6 @@ use Rattle.std.proofs.Math.Bool.{or-false, or_assoc}
 use Rattle.request_codec.specs.Formed.{IsFormed}
 use Rattle.request_codec.specs.Written.{spelling}
 use Rattle.silo_event.specs.declared.refusal.Refusal.{Refusal}
-use Rattle.request_codec.specs.Tree.{list, map}
 use Rattle.request_codec.specs.Json.{json_depth, is_not_whole}
 use Rattle.request_codec.specs.Lenient.{lenient_value, is_not_hex}
 use Rattle.request_codec.proofs.JsonShown.{read_deep, read_not_whole, read_whole}

@@ -1,5 +1,6 @@
 -- What only the contracts of this crate's own parts cite. No promise stands on it.
 pub mod Argument
+pub mod CallMembers
 pub mod Fields
 pub mod LineMembers
 pub mod Number

@@ -7,6 +7,7 @@
 mod argument;
 mod ascii;
 mod asked;
+mod call_members;
 mod faults;
 mod fields;
 mod line;

@@ -189,7 +189,8 @@ fn take_failed(members: &mut LineMembers<'_>, reader: &mut Tokens<'_>) -> Result
 }
 
 /// Whether there was a member whose bytes are kept.
-fn has_value(members: &LineMembers<'_>) -> bool
+#[inline(always)]
+pub(crate) fn has_value(members: &LineMembers<'_>) -> bool
     ensures { result ≡ (members.now.args || members.now.state) }
 {
     members.args || members.state
@@ -197,7 +198,7 @@ fn has_value(members: &LineMembers<'_>) -> bool
 
 /// Puts the next value's bytes in place of others, unless a value was put there before, and answers
 /// why the value is refused, if it is.
-fn take_value(
+pub(crate) fn take_value(
     taken: bool,
     bytes: &mut Vec<u8>,
     reader: &mut Tokens<'_>,

@@ -26,6 +26,7 @@ fn read_grain(
 }
 
 /// The caller of a text, if it is well formed.
+#[inline(never)]
 fn read_caller(
     alloc: Global,
     names: &mut NameCache,
@@ -41,6 +42,7 @@ fn read_caller(
 }
 
 /// The client that asks.
+#[inline(always)]
 pub(crate) fn caller_of(
     alloc: Global,
     names: &mut NameCache,

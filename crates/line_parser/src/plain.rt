@@ -19,7 +19,7 @@ use json::Token;
 
 /// The byte at a place, or a space past the end.
 #[inline(always)]
-fn byte_at(text: &str, place: usize) -> u8
+pub(crate) fn byte_at(text: &str, place: usize) -> u8
     ensures value { result ≡ head (drop place text.now) }
     ensures inside { result ≢ 32 → (place < length text.now) × (slice_index text.now place ≡ result) }
 {

@@ -130,6 +130,49 @@ pub(crate) fn take_short<'a>(members: &mut LineMembers<'a>, text: &'a str) -> bo
     ends_line(end)
 }
 
+/// Takes the two members of these names, if they stand in front in this order, each as `take_named` takes it: what follows
+/// them.
+#[inline(always)]
+fn take_both<'a>(
+    members: &mut LineMembers<'a>,
+    rest: &'a str,
+    first: Name,
+    second: Name,
+) -> Option<&'a str>
+    ensures { IfSome result (λ after. (begun : List Token) (l : List ℕ) → MembersRead begun (tokens rest.now) members.old l
+        → MembersRead begun (tokens after.now) members.new l) }
+{
+    let behind = take_named(members, rest, first)?;
+    take_named(members, behind, second)
+}
+
+/// Takes `op`, `from` and `id`, if they stand in front, `op` ahead of the two others or behind them: what follows them.
+#[inline(always)]
+fn past_client<'a>(members: &mut LineMembers<'a>, rest: &'a str) -> Option<&'a str>
+    ensures { IfSome result (λ after. (begun : List Token) (l : List ℕ) → MembersRead begun (tokens rest.now) members.old l
+        → MembersRead begun (tokens after.now) members.new l) }
+{
+    if past_name(rest, Name::Op).is_some() {
+        let behind = take_named(members, rest, Name::Op)?;
+        return take_both(members, behind, Name::From, Name::Id);
+    }
+    let behind = take_both(members, rest, Name::From, Name::Id)?;
+    take_named(members, behind, Name::Op)
+}
+
+/// Takes the members of a call but its argument, if a text begins an object with them in the order in which calls are
+/// mostly written, spelled plainly: what follows them.
+#[inline(always)]
+pub(crate) fn past_method<'a>(members: &mut LineMembers<'a>, text: &'a str) -> Option<&'a str>
+    requires { (l : List ℕ) → HoldsLineMembers no_members members.old l }
+    ensures { IfSome result (λ rest. (begun : List Token) × (tokens text.now ≡ begin_object ∷ begun)
+        × ((l : List ℕ) → MembersRead begun (tokens rest.now) members.new l)) }
+{
+    let begun = map_start(text)?;
+    let behind = past_client(members, begun)?;
+    take_both(members, behind, Name::Grain, Name::Method)
+}
+
 /// Takes the members that stand in front and are spelled plainly, each a text or a number: what follows them.
 #[inline(always)]
 pub(crate) fn past_plain_members<'a>(members: &mut LineMembers<'a>, text: &'a str) -> &'a str

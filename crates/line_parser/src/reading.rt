@@ -1,18 +1,21 @@
 //! What a line says.
 
-ghost use Rattle.std.specs.Prelude.{◌≡◌, IsUtf8, IfSome, IfOk, Some, option_map, option_and_then};
+ghost use Rattle.std.specs.Prelude.{◌≡◌, ◌==◌, ◌||◌, drop, IsUtf8, IfSome, IfOk, Some, option_map, option_and_then};
+ghost use Rattle.json.specs.Word.{head};
 ghost use Rattle.serde_json.specs.Read.{read};
 ghost use Rattle.serde_json.specs.View.{view};
 ghost use Rattle.line_parser.specs.Form.{step_of_json};
 ghost use Rattle.line_parser.specs.Meaning.{json_of_line, meaning_by, meaning_of};
 
 use crate::ascii::is_ascii;
+use crate::call_members::take_call;
 use crate::line::{Line, LineRefusal};
 use crate::line_members::{LineMembers, ValueIn, read_members};
 use crate::members::members_of_json;
+use crate::plain::byte_at;
 use crate::plain_members::take_short;
 use crate::quick_fault::QuickFault;
-use crate::step::{short_step_from, step_from};
+use crate::step::{call_step_from, short_step_from, step_from};
 use grain_id::NameCache;
 use json::Scratch;
 use serde_json::Value;
@@ -181,7 +184,49 @@ fn read_short_step(
     )
 }
 
-/// What a line says, in one pass over its tokens. A line that is left goes to `serde_json`.
+/// The step of a line, if it is a call in the order in which calls are mostly written: its members but the argument never go
+/// through a table. If there is none, the line may ask for a step still.
+#[inline(always)]
+fn read_call_step(
+    alloc: Global,
+    scratch: &mut LineScratch,
+    text: &str,
+) -> Result<Option<Step>, QuickFault>
+    ensures { IfOk result (λ found. IfSome found (λ step. option_and_then step_of_json (read text.now) ≡ Some step)) }
+{
+    let mut members = LineMembers::none();
+    let all = take_call(text, &mut scratch.texts, &mut members, &mut scratch.args)?;
+    if !all {
+        return Ok(None);
+    }
+    let found = call_step_from(
+        alloc,
+        &mut scratch.names,
+        &mut scratch.message,
+        &members,
+        ValueIn::Bytes(scratch.args.as_slice()),
+    )?;
+    Ok(found)
+}
+
+/// What a line says that wasn't read in one pass: one that was left goes to `serde_json`.
+#[cold]
+#[inline(never)]
+fn read_left(
+    alloc: Global,
+    scratch: &mut LineScratch,
+    text: &str,
+    fault: QuickFault,
+) -> Result<Line, AllocError>
+    ensures { IfOk result (λ said. said ≡ meaning_of text.now) }
+{
+    match fault {
+        QuickFault::Memory => Err(AllocError),
+        QuickFault::LeftToTree => read_any_line(alloc, scratch, text.as_bytes()),
+    }
+}
+
+/// What a line says, in one pass over its tokens.
 #[inline(never)]
 fn read_text(alloc: Global, scratch: &mut LineScratch, text: &str) -> Result<Line, AllocError>
     requires { meaning_of text.now ≡ meaning_by (option_and_then step_of_json (read text.now)) }
@@ -189,9 +234,30 @@ fn read_text(alloc: Global, scratch: &mut LineScratch, text: &str) -> Result<Lin
 {
     match read_text_step(alloc, scratch, text) {
         Ok(step) => Ok(line_of(step)),
-        Err(QuickFault::Memory) => Err(AllocError),
-        Err(QuickFault::LeftToTree) => read_any_line(alloc, scratch, text.as_bytes()),
+        Err(fault) => read_left(alloc, scratch, text, fault),
     }
+}
+
+/// What a line says that is most likely a call.
+#[inline(never)]
+fn read_call(alloc: Global, scratch: &mut LineScratch, text: &str) -> Result<Line, AllocError>
+    requires { meaning_of text.now ≡ meaning_by (option_and_then step_of_json (read text.now)) }
+    ensures { IfOk result (λ said. said ≡ meaning_of text.now) }
+{
+    match read_call_step(alloc, scratch, text) {
+        Ok(Some(step)) => Ok(Line::Step(step)),
+        Ok(None) => read_text(alloc, scratch, text),
+        Err(fault) => read_left(alloc, scratch, text, fault),
+    }
+}
+
+/// Whether a line most likely begins as a call does: with `op` and `call`, or with `from`.
+#[inline(always)]
+fn is_likely_call(text: &str) -> bool
+    ensures { result ≡ ((head (drop 7 text.now) == 99) || (head (drop 7 text.now) == 58)) }
+{
+    let byte = byte_at(text, 7);
+    byte == b'c' || byte == b':'
 }
 
 /// What a line says, without its LF. The quick reader tells it without a tree; a line that it leaves
@@ -205,6 +271,9 @@ pub fn read_line(alloc: Global, scratch: &mut LineScratch, line: &[u8]) -> Resul
     let Some(text) = text_of(line) else {
         return read_any_line(alloc, scratch, line);
     };
+    if is_likely_call(text) {
+        return read_call(alloc, scratch, text);
+    }
     if let Some(step) = read_short_step(alloc, scratch, text)? {
         return Ok(Line::Step(step));
     }

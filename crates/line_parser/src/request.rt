@@ -119,6 +119,7 @@ fn read_state(
 }
 
 /// The argument of a call: null if it is left out; none if the members are none of a call.
+#[inline(always)]
 fn argument_of<'t>(members: &LineMembers<'_>, value: ValueIn<'t>) -> Option<Argument<'t>>
     ensures { MatchOption result (FindsIn members.now value.entry argument_at None)
         (λ argument. (d : Data) → AreMembersOf d members.now value.entry

@@ -331,3 +331,24 @@ pub(crate) fn short_step_from(
     };
     read_form(alloc, names, out, members, value, form)
 }
+
+/// The step that the members of a line ask for, if `op` is `call`. If there is none, they may ask for a step still.
+#[inline(always)]
+pub(crate) fn call_step_from(
+    alloc: Global,
+    names: &mut NameCache,
+    out: &mut Vec<u8>,
+    members: &LineMembers<'_>,
+    value: ValueIn<'_>,
+) -> Result<Option<Step>, AllocError>
+    requires { (d : Data) × AreMembersOf d members.now value }
+    ensures { IfOk result (λ found. IfSome found (λ step. FindsIn members.now value.entry step_of_json (Some step))) }
+{
+    let Some(op) = members.op else {
+        return Ok(None);
+    };
+    if !same_text(op, word_of(Form::Call)) {
+        return Ok(None);
+    }
+    call_from(alloc, names, out, members, value)
+}

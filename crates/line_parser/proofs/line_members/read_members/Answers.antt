@@ -1,4 +1,4 @@
-use Rattle.std.proofs.Common.{◌≡◌, None, ◌∷◌, ap, sym, subst}
+use Rattle.std.proofs.Common.{◌≡◌, None, ap, sym, subst}
 use Rattle.std.specs.Prelude.{IfOk}
 use Rattle.std.specs.Bool.{MatchBool}
 use Rattle.json.specs.Json.{read_key}

@@ -1,4 +1,4 @@
-use Rattle.std.proofs.Common.{◌≡◌, ◌+◌, true, ap, refl, sym, subst, ◌∙◌}
+use Rattle.std.proofs.Common.{true, sym, subst, ◌∙◌}
 use Rattle.std.specs.Prelude.{OnOk}
 use Rattle.line_parser.specs.inside.LineMembers.{TakesMember}
 use Rattle.line_parser.specs.inside.PassedMembers.{TakesUncounted}

@@ -1,4 +1,3 @@
-use Rattle.std.proofs.Common.{◌≡◌, true}
 use Rattle.json.specs.Lex.{tokens}
 use Rattle.line_parser.proofs.plain_members.take_plain_text.Goals as goal
 

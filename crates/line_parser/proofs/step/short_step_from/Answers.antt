@@ -1,4 +1,4 @@
-use Rattle.std.proofs.Common.{Some, None, ◌≡◌, ◌∙◌, sym, ap}
+use Rattle.std.proofs.Common.{◌∙◌}
 use Rattle.line_parser.specs.Form.{step_of_json}
 use Rattle.line_parser.proofs.Results.{if_ok_as}
 use Rattle.line_parser.proofs.Steps.{form_is, found_as}

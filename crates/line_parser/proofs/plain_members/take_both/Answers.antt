@@ -1,0 +1,9 @@
+use Rattle.json.specs.Lex.{tokens}
+use Rattle.line_parser.proofs.ItemsRead.{passed_next}
+use Rattle.line_parser.proofs.Results.{if_some_as}
+use Rattle.line_parser.proofs.plain_members.take_both.Goals as goal
+
+pub returns : goal.returns
+returns c =
+    let behind = tokens c.in_ok-behind.behind.now in
+    if_some_as c.take_named-2.result c.take_named-2.ensures λ after passes begun l m. passed_next begun behind (tokens after.now) _ _ l (passed_next begun (tokens c.args.rest.now) behind _ _ l m c.in_ok-behind.ensures) passes
