@@ -28,6 +28,14 @@ pub record IsOpen (found : Option Entry) (turn : ℕ) (e : Entry) (state : Tree)
   pub phase_is : e.phase ≡ ready state version
   pub open_turn : map.get e.turns turn ≡ Some request
 
+-- The turn is open: the state of its grain, its message, and how its grain stands.
+pub record IsOpenTurn (found : Option Entry) (turn : ℕ) (state : Tree) (message : Call) (at_close : GrainAtClose) : Type 0 where
+  pub entry : Entry
+  pub request : Request
+  pub is_open : IsOpen found turn entry state at_close.version request
+  pub idle_after_is : at_close.idle_after ≡ none_waits entry
+  pub message_is : message ≡ request.call
+
 -- The finished turn was made of a grain of this kind, this state and this message.
 pub record IsOf (kind : List ℕ) (state : Tree) (message : Call) (input : OpenedTurn) : Type 0 where
   pub kind_is : input.grain.kind ≡ kind

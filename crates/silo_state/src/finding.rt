@@ -1,10 +1,10 @@
 //! What is found of a turn that is to be run, or closed.
 
-ghost use Rattle.std.specs.Prelude.{◌≡◌, Some, true, false, IfOk};
+ghost use Rattle.std.specs.Prelude.{◌≡◌, None, Some, true, false, IfNone, IfOk, IfSome};
 ghost use Rattle.std.specs.Option.{option_map};
 ghost use Rattle.activation_directory.specs.declared.activation.Phase.TheVariants.{Ready};
 ghost use Rattle.silo_state.specs.Shown.{entry_of};
-ghost use Rattle.silo_state.specs.Finds.{IsOf, Finds, PlansIfOpen, AsksIfOpen, asks};
+ghost use Rattle.silo_state.specs.Finds.{open_in, IsOf, IsOpenTurn, Finds, PlansIfOpen, AsksIfOpen, asks};
 ghost use Rattle.grain_kinds.specs.Planned.{storage_call};
 
 use crate::change;
@@ -67,20 +67,49 @@ pub fn asks_storage(call: StoreCall) -> bool
     }
 }
 
+/// An open turn of a ready activation, and how its grain stands.
+#[derive(Clone, Copy)]
+struct OpenTurn<'a> {
+    state: &'a StateBytes,
+    message: &'a Message,
+    at_close: GrainAtClose,
+}
+
+/// The activation's open turn of that number. None if the activation isn't ready, or no such turn is open.
+#[inline(always)]
+fn open_turn(activation: &Activation, turn: u64) -> Option<OpenTurn<'_>>
+    ensures none { IfNone result (open_in (entry_of activation.now) turn (entry_of activation.now).phase ≡ None) }
+    ensures found { IfSome result (λ found. IsOpenTurn (Some (entry_of activation.now)) turn found.state.now found.message.now
+        found.at_close) }
+{
+    let Phase::Ready { state, version } = &activation.phase else {
+        return None;
+    };
+    let Some(request) = activation.mailbox.opened(turn) else {
+        return None;
+    };
+    let at_close = GrainAtClose {
+        version: *version,
+        idle_after: change::none_waits(activation),
+    };
+    Some(OpenTurn {
+        state,
+        message: &request.message,
+        at_close,
+    })
+}
+
 /// What is found of the activation's turn of that number.
 pub fn find(grain: &GrainId, activation: &Activation, turn: u64, input: &OpenedTurn) -> TurnMatch
     ensures { Finds grain.now (Some (entry_of activation.now)) turn input.now result }
 {
-    let Phase::Ready { state, version } = &activation.phase else {
+    let Some(found) = open_turn(activation, turn) else {
         return TurnMatch::NotOpen;
     };
-    let Some(request) = activation.mailbox.opened(turn) else {
-        return TurnMatch::NotOpen;
-    };
-    if is_of(grain.kind(), state, &request.message, input) {
+    if is_of(grain.kind(), found.state, found.message, input) {
         return TurnMatch::Own {
-            version: *version,
-            idle_after: change::none_waits(activation),
+            version: found.at_close.version,
+            idle_after: found.at_close.idle_after,
         };
     }
     TurnMatch::Stranger
@@ -110,18 +139,11 @@ pub fn plan_open<L: GrainLogic>(
 ) -> Result<Option<(OwnedPlan, GrainAtClose)>, AllocError>
     ensures { IfOk result (λ found. PlansIfOpen L.logic grain.now (Some (entry_of activation.now)) turn found) }
 {
-    let Phase::Ready { state, version } = &activation.phase else {
+    let Some(found) = open_turn(activation, turn) else {
         return Ok(None);
     };
-    let Some(request) = activation.mailbox.opened(turn) else {
-        return Ok(None);
-    };
-    let at_close = GrainAtClose {
-        version: *version,
-        idle_after: change::none_waits(activation),
-    };
-    let planned = plan_turn(alloc, bump, logic, grain, state, &request.message)?;
-    Ok(Some((planned, at_close)))
+    let planned = plan_turn(alloc, bump, logic, grain, found.state, found.message)?;
+    Ok(Some((planned, found.at_close)))
 }
 
 /// What the activation's open turn of that number asks of the storage, and how its grain stands. None if the activation isn't ready,
@@ -141,21 +163,14 @@ pub fn ask_open<L: GrainLogic>(
 ) -> Result<Option<(AskedTurn, GrainAtClose)>, AllocError>
     ensures { IfOk result (λ found. AsksIfOpen L.logic grain.now (Some (entry_of activation.now)) turn found) }
 {
-    let Phase::Ready { state, version } = &activation.phase else {
+    let Some(found) = open_turn(activation, turn) else {
         return Ok(None);
     };
-    let Some(request) = activation.mailbox.opened(turn) else {
-        return Ok(None);
-    };
-    let at_close = GrainAtClose {
-        version: *version,
-        idle_after: change::none_waits(activation),
-    };
-    let state = state.clone()?;
-    let planned = plan_turn(alloc, bump, logic, grain, &state, &request.message)?;
+    let state = found.state.clone()?;
+    let planned = plan_turn(alloc, bump, logic, grain, &state, found.message)?;
     let call = planned.store;
     drop(planned);
-    Ok(Some((AskedTurn { state, call }, at_close)))
+    Ok(Some((AskedTurn { state, call }, found.at_close)))
 }
 
 /// Ready in the state after a turn, if that is another one than before.

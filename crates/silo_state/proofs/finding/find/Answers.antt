@@ -1,34 +1,30 @@
-use Rattle.std.proofs.Common.{refl, sym, subst}
-use Rattle.silo_state.specs.Shown.{request_of, entry_of}
+use Rattle.std.proofs.Common.{List, ℕ, refl, sym, subst}
+use Rattle.request_codec.specs.Call.{Call}
 use Rattle.silo_state.specs.Finds.{IsOf}
-use Rattle.silo_state.proofs.OpenTurns.{not_open, is_open}
 use Rattle.silo_state.proofs.finding.find.Goals as goal
-
-pub returns-in_default-opened : goal.returns-in_default-opened
-returns-in_default-opened c = not_open c.args.activation.now c.in-Ready.state c.in-Ready.version c.in-Ready.is c.args.turn (sym c.in_default-opened.ensures)
 
 pub returns-then-is_of : goal.returns-then-is_of
 returns-then-is_of c =
-    let a = c.args.activation.now in
-    let request = c.in-Some.request.now in
+    let found = c.in-Some.ensures.found in
+    let state = c.in-Some.found.state.now in
     record {
-      entry = entry_of a;
-      state = c.in-Ready.state;
-      request = request_of request;
-      is_open = is_open a c.in-Ready.state c.in-Ready.version c.in-Ready.is c.args.turn request (sym c.in-Some.ensures);
-      idle_after_is = c.none_waits.ensures;
-      is_of = subst (λ kind. IsOf kind c.in-Ready.state request.message c.args.input.now) c.kind.ensures (c.if-is_of.ensures.own refl);
+      entry = found.entry;
+      state = state;
+      request = found.request;
+      is_open = found.is_open;
+      idle_after_is = found.idle_after_is;
+      is_of = subst (λ (p : List ℕ × Call). IsOf p.0 state p.1 c.args.input.now) (λ i. (c.kind.ensures i, found.message_is i)) (c.if-is_of.ensures.own refl);
     }
 
 pub returns : goal.returns
 returns c =
-    let a = c.args.activation.now in
-    let request = c.in-Some.request.now in
+    let found = c.in-Some.ensures.found in
+    let state = c.in-Some.found.state.now in
     record {
-      entry = entry_of a;
-      state = c.in-Ready.state;
-      version = c.in-Ready.version;
-      request = request_of request;
-      is_open = is_open a c.in-Ready.state c.in-Ready.version c.in-Ready.is c.args.turn request (sym c.in-Some.ensures);
-      other = λ same. c.if-is_of.ensures.other refl (subst (λ kind. IsOf kind c.in-Ready.state request.message c.args.input.now) (sym c.kind.ensures) same);
+      entry = found.entry;
+      state = state;
+      version = c.in-Some.found.at_close.version;
+      request = found.request;
+      is_open = found.is_open;
+      other = λ same. c.if-is_of.ensures.other refl (subst (λ (p : List ℕ × Call). IsOf p.0 state p.1 c.args.input.now) (λ i. (sym c.kind.ensures i, sym found.message_is i)) same);
     }
