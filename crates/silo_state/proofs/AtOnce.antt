@@ -1,16 +1,14 @@
 -- A call to a grain that is idle, the begin of its turn and its end, as steps of the whole.
 use Rattle.std.proofs.Common.{◌≡◌, ℕ, ◌+◌, ◌==◌, ◌<◌, Bool, true, false, ◌&&◌, List, [], ◌∷◌, ◌++◌, length, Option, Some, None, refl, ap, sym, ◌∙◌, subst, arith}
-use Rattle.std.specs.Prelude.{nat_lt, IfSome, if◌then◌else◌}
-use Rattle.std.specs.Borrow.{Bor}
+use Rattle.std.specs.Prelude.{nat_lt, Result, Ok, Err, IfOk, IfSome, if◌then◌else◌}
 use Rattle.std.specs.Cmp.{nat_cmp_total}
-use Rattle.std.specs.List.{list_all}
 use Rattle.std.specs.FinMap as map
 use Rattle.std.specs.FinMap.{FinMap, nat_cmp-IsAntisymmetric}
 use Rattle.std.proofs.lemmas.Bool.{false_from_ne_true}
 use Rattle.std.proofs.lemmas.Bool.Decides.{Decides-eqb}
 use Rattle.std.proofs.lemmas.List.{nil_from_length}
 use Rattle.std.proofs.lemmas.Option.{none-some}
-use Rattle.grain_id.specs.Names.{Client, Grain, grain_cmp, text_cmp}
+use Rattle.grain_id.specs.Names.{Client, Grain, text_cmp}
 use Rattle.grain_id.proofs.Order.{grain_cmp_total, grain_cmp_exact, text_cmp_total, text_cmp_exact}
 use Rattle.finite_maps.proofs.Maps.{get-insert_same, get-none, insert-insert, taken_back}
 use Rattle.finite_maps.proofs.Values.{values_pass}
@@ -22,8 +20,9 @@ use Rattle.activation_directory.specs.declared.activation.Activation.{Activation
 use Rattle.activation_directory.specs.declared.activation.Phase.{Phase}
 use Rattle.activation_directory.specs.declared.activation.Phase.TheVariants.{Waiting, Loading, Ready}
 use Rattle.grain_kinds.specs.Logic.{Logic, Plan, Outgoing, asks_nothing, same}
-use Rattle.grain_kinds.specs.Finished.{plan_at}
-use Rattle.silo_model.specs.Machine.{Account, Entry, Entries, Request, ready}
+use Rattle.grain_kinds.specs.Finished.{planned_shown}
+use Rattle.grain_kinds.specs.declared.turn.OwnedPlan.{OwnedPlan}
+use Rattle.silo_model.specs.Machine.{Account, Entry, Request, ready}
 use Rattle.silo_model.specs.Calls.{told, last_number}
 use Rattle.silo_model.specs.Effect.{change_at, drop, put}
 use Rattle.silo_model.specs.Idle.{is_idle, is_ready, due_moment}
@@ -36,7 +35,7 @@ use Rattle.silo_state.specs.Sends.{with_more}
 use Rattle.silo_state.specs.Work.{first_number, first_waiting}
 use Rattle.silo_state.specs.AtOnce.{Serves}
 use Rattle.silo_state.specs.Shown.{phase_of, entry_of}
-use Rattle.silo_state.specs.inside.AtOnce.{Admits, IsIdleAt, IsIdleIn, put_state, renewed}
+use Rattle.silo_state.specs.inside.AtOnce.{Numbers, Admits, IsIdleAt, PlansAt, PlansIdle, put_state, renewed}
 use Rattle.silo_state.specs.inside.Deliveries.{changed_account}
 use Rattle.silo_state.specs.inside.Held.{Held}
 use Rattle.silo_state.specs.inside.Notes.{due_at}
@@ -93,8 +92,8 @@ either : (b x y : Bool) → x ≡ true → y ≡ true → (if b then x else y) �
 either true x y first second = first
 either false x y first second = second
 
-module _ (logic : Logic) (h : Held) (caller : Client) (id : ℕ) (g : Grain) (call : codec.Call) (n : ℕ) (admits : Admits h.whole caller.tenant g n) (state : Tree)
-    (found : IsIdleIn logic g (map.get h.whole.entries g) h.whole.clock state) where
+module _ (logic : Logic) (h : Held) (caller : Client) (id : ℕ) (g : Grain) (call : codec.Call) (n : ℕ) (admits : Admits h.whole.accounts caller.tenant n) (own : g.tenant ≡ caller.tenant)
+    (made : OwnedPlan) (found : PlansIdle logic g (map.get h.whole.entries g) h.whole.clock call made) where
   abbrev w : Whole
   w = h.whole
 
@@ -104,11 +103,17 @@ module _ (logic : Logic) (h : Held) (caller : Client) (id : ℕ) (g : Grain) (ca
   abbrev e : Entry
   e = found.entry
 
+  abbrev was : Tree
+  was = found.plans.state
+
+  abbrev idle : IsIdleAt e w.clock was
+  idle = found.plans.at
+
   abbrev request : Request
   request = next_request a (party.Client caller id) call
 
   parts : ((length e.queue == 0) ≡ true) × ((map.len e.turns == 0) ≡ true)
-  parts = both_parts _ _ _ found.at.idle
+  parts = both_parts _ _ _ idle.idle
 
   no_queue : e.queue ≡ []
   no_queue = nil_from_length e.queue ((Decides-eqb (length e.queue) 0).0 parts.0)
@@ -136,29 +141,32 @@ module _ (logic : Logic) (h : Held) (caller : Client) (id : ℕ) (g : Grain) (ca
   found1 = get-insert_same grain_cmp_total grain_cmp_exact w.entries g e1
 
   calls : whole_step logic w (Call caller id g call) ≡ Some w1
-  calls = call_again logic w caller id g call a admits.known admits.own found.knows (below a.count last_number admits.left) e found.found_is (ap (λ (queue : List Request). nat_lt (length queue) a.limits.mailbox) no_queue ∙ admits.room)
+  calls = call_again logic w caller id g call a admits.known own found.knows (below a.count last_number admits.next.left) e found.found_is (ap (λ (queue : List Request). nat_lt (length queue) a.limits.mailbox) no_queue ∙ admits.next.room)
 
   begins : whole_step logic w1 (Begin g) ≡ Some w2
-  begins = begin_first logic w1 g e1 found1 state found.at.version request [] found.at.phase_is (ap (λ (queue : List Request). queue ++ request ∷ []) no_queue) may
+  begins = begin_first logic w1 g e1 found1 was idle.version request [] idle.phase_is (ap (λ (queue : List Request). queue ++ request ∷ []) no_queue) may
 
-  module _ (plan : Plan) (planned : plan_at logic g state call ≡ plan) (silent : plan.storage ≡ asks_nothing) (says : plan.keep ≡ same) where
+  abbrev plan : Plan
+  plan = planned_shown was made
+
+  module _ (silent : plan.storage ≡ asks_nothing) (says : plan.keep ≡ same) where
     abbrev after : Entry
-    after = record e { phase = ready plan.state found.at.version }
+    after = record e { phase = ready plan.state idle.version }
 
-    closed_is : closed_entry w.clock e2 request plan.state found.at.version plan.keep ≡ after
+    closed_is : closed_entry w.clock e2 request plan.state idle.version plan.keep ≡ after
     closed_is = λ i. record {
-      phase = ready plan.state found.at.version;
+      phase = ready plan.state idle.version;
       queue = sym no_queue i;
       turns = taken_back nat_cmp_total nat_cmp-IsAntisymmetric e.turns request.number request (no_turn request.number) i;
-      last = sym found.at.used i;
+      last = sym idle.used i;
       until = until_by w.clock (says i) e.until;
       resting = resting_by (says i) e.resting;
     }
 
     stays : stays_or_goes after ≡ put after
-    stays = ap (λ b. if b && is_idle after then drop else put after) found.at.stays
+    stays = ap (λ b. if b && is_idle after then drop else put after) idle.stays
 
-    entries_are : change_at w2.entries g (stays_or_goes (closed_entry w.clock e2 request plan.state found.at.version plan.keep)) ≡ map.insert w.entries g after
+    entries_are : change_at w2.entries g (stays_or_goes (closed_entry w.clock e2 request plan.state idle.version plan.keep)) ≡ map.insert w.entries g after
     entries_are =
         ap (λ x. change_at w2.entries g (stays_or_goes x)) closed_is
         ∙ ap (change_at w2.entries g) stays
@@ -169,8 +177,8 @@ module _ (logic : Logic) (h : Held) (caller : Client) (id : ℕ) (g : Grain) (ca
         → accounts ≡ change_at w2.accounts g.tenant (with_sends g (map.get w2.accounts g.tenant) plan.sends)
     accounts_are accounts is =
         is
-        ∙ counts_at w.accounts g a g.tenant plan.sends (ap (map.get w.accounts) admits.own ∙ admits.known)
-        ∙ ap (λ t. called_then w.accounts g a (map.insert w.accounts t (counted a)) g.tenant (map.get (map.insert w.accounts t (counted a)) g.tenant) plan.sends) admits.own
+        ∙ counts_at w.accounts g a g.tenant plan.sends (ap (map.get w.accounts) own ∙ admits.known)
+        ∙ ap (λ t. called_then w.accounts g a (map.insert w.accounts t (counted a)) g.tenant (map.get (map.insert w.accounts t (counted a)) g.tenant) plan.sends) own
 
     pub serves : (new : Held) (accounts : FinMap text_cmp Account)
         → accounts ≡ changed_account counted (sent w.accounts g a g.tenant plan.sends) g.tenant (map.get (sent w.accounts g a g.tenant plan.sends) g.tenant)
@@ -187,12 +195,12 @@ module _ (logic : Logic) (h : Held) (caller : Client) (id : ℕ) (g : Grain) (ca
       begun = record h { whole = w2 };
       calls = (calls, refl);
       untold = refl;
-      waits = ap first_waiting found1 ∙ ap (λ (queue : List Request). first_number (queue ++ request ∷ [])) no_queue ∙ ap Some (sym admits.numbered);
+      waits = ap first_waiting found1 ∙ ap (λ (queue : List Request). first_number (queue ++ request ∷ [])) no_queue ∙ ap Some (sym admits.next.numbered);
       begins = (begins, refl);
       ends = (
-        ap (λ k. whole_step logic w2 (End g k)) admits.numbered
+        ap (λ k. whole_step logic w2 (End g k)) admits.next.numbered
             ∙ end_turn logic w2 g request.number e2 (get-insert_same grain_cmp_total grain_cmp_exact w1.entries g e2) request
-            (get-insert_same nat_cmp_total nat_cmp-IsAntisymmetric e.turns request.number request) state found.at.version found.at.phase_is plan planned silent
+            (get-insert_same nat_cmp_total nat_cmp-IsAntisymmetric e.turns request.number request) was idle.version idle.phase_is plan (sym found.plans.plan_is) silent
             ∙ (λ i. Some (record w2 {
               accounts = sym (accounts_are accounts kept) i;
               entries = entries_are i;
@@ -226,8 +234,14 @@ due_still age a state =
     let e = entry_of a in
     ap (λ b. if b && (length e.queue == 0) && (map.len e.turns == 0) then Some (due_moment age e) else None) (ready_still a.phase state)
 
--- what is found of an activation is found of its grain
-pub idle_in : (logic : Logic) (g : Grain) (entry : Entry) (found : Option Entry) (clock : ℕ) → found ≡ Some entry → logic.knows g.kind ≡ true → (r : Option (Bor Tree))
-    → IfSome r (λ state. IsIdleAt entry clock state.now) → IfSome r (λ state. IsIdleIn logic g found clock state.now)
-idle_in logic g entry found clock is knows None at = tt
-idle_in logic g entry found clock is knows (Some state) at = record { entry = entry; found_is = is; at = at; knows = knows }
+-- what is planned at an activation is planned at its grain
+pub plans_in : {E : Type 0} (logic : Logic) (g : Grain) (entry : Entry) (found : Option Entry) (clock : ℕ) (message : codec.Call) → found ≡ Some entry → logic.knows g.kind ≡ true
+    → (r : Result (Option OwnedPlan) E) → IfOk r (λ o. IfSome o (λ planned. PlansAt logic g entry clock message planned)) → IfOk r (λ o. IfSome o (λ planned. PlansIdle logic g found clock message planned))
+plans_in logic g entry found clock message is knows (Err e) at = tt
+plans_in logic g entry found clock message is knows (Ok None) at = tt
+plans_in logic g entry found clock message is knows (Ok (Some planned)) at = record { entry = entry; found_is = is; plans = at; knows = knows }
+
+-- the account that is found gives its tenant's next number
+pub admits_by : (accounts : FinMap text_cmp Account) (tenant : List ℕ) (account : Account) → map.get accounts tenant ≡ Some account → (o : Option ℕ) → IfSome o (Numbers account) → IfSome o (Admits accounts tenant)
+admits_by accounts tenant account known None next = tt
+admits_by accounts tenant account known (Some number) next = record { account = account; known = known; next = next }

@@ -25,6 +25,8 @@ use tenant_gate::Limits;
 mod accepted;
 mod changes;
 
+pub use accepted::LAST_NUMBER;
+
 /// The accounts of the known tenants, found by the hash of the tenant's name. The account that was looked for last is found by its
 /// place, with one comparison of names.
 #[derive(Drop)]

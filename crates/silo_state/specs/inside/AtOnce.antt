@@ -1,7 +1,8 @@
 -- What a call finds that is served at once.
-use Rattle.std.specs.Prelude.{◌≡◌, ℕ, ◌+◌, ◌<◌, true, false, nat_lt, List, Option, Some, None, unwrap_or}
+use Rattle.std.specs.Prelude.{◌≡◌, ℕ, ◌+◌, ◌<◌, true, false, nat_lt, List, Option, Some, unwrap_or}
 use Rattle.std.specs.FinMap as map
-use Rattle.grain_id.specs.Names.{Grain}
+use Rattle.std.specs.FinMap.{FinMap}
+use Rattle.grain_id.specs.Names.{Grain, text_cmp}
 use Rattle.request_codec.specs.Tree.{Tree}
 use Rattle.request_codec.specs.Call.{Call}
 use Rattle.activation_directory.specs.declared.activation.Phase as declared
@@ -13,16 +14,18 @@ use Rattle.grain_kinds.specs.declared.turn.OwnedPlan.{OwnedPlan}
 use Rattle.silo_model.specs.Machine.{Account, Entry, Phase, waiting, loading, ready}
 use Rattle.silo_model.specs.Calls.{last_number}
 use Rattle.silo_model.specs.Idle.{is_idle}
-use Rattle.silo_model.specs.Whole.{Whole}
 
--- The tenant is known, the grain is its own, a request may wait there, and the tenant's next request has this number.
-pub record Admits (w : Whole) (tenant : List ℕ) (grain : Grain) (number : ℕ) : Type 0 where
-  pub account : Account
-  pub known : map.get w.accounts tenant ≡ Some account
-  pub own : grain.tenant ≡ tenant
+-- The account's next request has this number, and requests may wait.
+pub record Numbers (account : Account) (number : ℕ) : Type 0 where
   pub left : account.count < last_number
   pub room : nat_lt 0 account.limits.mailbox ≡ true
   pub numbered : number ≡ account.count + 1
+
+-- The tenant is known, and so is its next request.
+pub record Admits (accounts : FinMap text_cmp Account) (tenant : List ℕ) (number : ℕ) : Type 0 where
+  pub account : Account
+  pub known : map.get accounts tenant ≡ Some account
+  pub next : Numbers account number
 
 -- The entry is ready in this state and idle, was last used at this moment, and doesn't rest.
 pub record IsIdleAt (e : Entry) (clock : ℕ) (state : Tree) : Type 0 where
@@ -32,18 +35,18 @@ pub record IsIdleAt (e : Entry) (clock : ℕ) (state : Tree) : Type 0 where
   pub used : e.last ≡ clock
   pub stays : e.resting ≡ false
 
+-- The entry is idle in some state, on which that is the plan of the message.
+pub record PlansAt (logic : Logic) (grain : Grain) (e : Entry) (clock : ℕ) (message : Call) (planned : OwnedPlan) : Type 0 where
+  pub state : Tree
+  pub at : IsIdleAt e clock state
+  pub plan_is : planned_shown state planned ≡ plan_at logic grain state message
+
 -- There is such an entry, of a kind that is known.
-pub record IsIdleIn (logic : Logic) (grain : Grain) (found : Option Entry) (clock : ℕ) (state : Tree) : Type 0 where
+pub record PlansIdle (logic : Logic) (grain : Grain) (found : Option Entry) (clock : ℕ) (message : Call) (planned : OwnedPlan) : Type 0 where
   pub entry : Entry
   pub found_is : found ≡ Some entry
-  pub at : IsIdleAt entry clock state
+  pub plans : PlansAt logic grain entry clock message planned
   pub knows : logic.knows grain.kind ≡ true
-
--- The grain is idle in some state, on which that is the plan of the message.
-pub record PlansIdle (logic : Logic) (w : Whole) (grain : Grain) (message : Call) (planned : OwnedPlan) : Type 0 where
-  pub state : Tree
-  pub idle : IsIdleIn logic grain (map.get w.entries grain) w.clock state
-  pub plan_is : planned_shown state planned ≡ plan_at logic grain state message
 
 -- It asks for nothing of the storage, and says nothing of the activation.
 pub record IsPlain (planned : OwnedPlan) : Type 0 where

@@ -1,27 +1,44 @@
-//! A grain that is idle, and gets another state.
+//! A grain that is idle: what a message comes to there, and how it gets another state.
 
-ghost use Rattle.std.specs.Prelude.{◌≡◌, ◌==◌, IfSome, Some};
+ghost use Rattle.std.specs.Prelude.{◌≡◌, ◌==◌, IfOk, IfSome, Some};
 ghost use Rattle.std.specs.FinMap as map;
 ghost use Rattle.silo_model.specs.Machine.{Entry};
 ghost use Rattle.silo_state.specs.Shown.{entry_of};
-ghost use Rattle.silo_state.specs.inside.AtOnce.{IsIdleAt, IsIdleIn, renewed, put_state};
+ghost use Rattle.silo_state.specs.inside.AtOnce.{IsIdleAt, PlansAt, PlansIdle, renewed, put_state};
 
 use crate::activations::Activations;
 use activation_directory::{Activation, Phase};
+use bumpalo::Bump;
 use grain_id::GrainId;
-use grain_kinds::GrainLogic;
-use request_codec::StateBytes;
+use grain_kinds::{GrainLogic, OwnedPlan, plan_turn};
+use request_codec::{Message, StateBytes};
 use silo_event::Moment;
+use std::alloc::{AllocError, Global};
 
 impl<L: GrainLogic> Activations<L> {
-    /// The state of the grain, if it is idle, doesn't rest, and was last used at this moment.
-    pub fn idle_state(&self, grain: &GrainId, clock: Moment) -> Option<&StateBytes>
-        ensures { IfSome result (λ state. IsIdleIn L.logic grain.now (map.get self.now.entries grain.now) clock state.now) }
+    /// What a message comes to at the grain, if it is idle, doesn't rest, and was last used at this moment. The turn runs in this
+    /// arena. What looks for the grain next finds it sooner.
+    ///
+    /// # Errors
+    ///
+    /// Out of memory.
+    pub fn plan_idle(
+        &mut self,
+        alloc: Global,
+        bump: &Bump,
+        logic: &L,
+        grain: &GrainId,
+        message: &Message,
+        clock: Moment,
+    ) -> Result<Option<OwnedPlan>, AllocError>
+        ensures planned { IfOk result (λ found. IfSome found (λ planned. PlansIdle L.logic grain.now (map.get self.old.entries grain.now)
+            clock message.now planned)) }
+        ensures unchanged { self.new ≡ self.old }
     {
-        let Some(activation) = self.get(grain) else {
-            return None;
+        let Some(activation) = self.directory.get_mut(grain) else {
+            return Ok(None);
         };
-        idle_state(activation, clock)
+        plan_idle(alloc, bump, logic, grain, activation, message, clock)
     }
 
     /// The grain, if it is ready, has this state, if one is given. Nothing else changes: if it was idle, it is, and is due as before.
@@ -61,6 +78,26 @@ fn idle_state(activation: &Activation, clock: Moment) -> Option<&StateBytes>
         return None;
     }
     Some(state)
+}
+
+/// What a message comes to at the grain's activation, if it is idle, doesn't rest, and was last used at this moment.
+fn plan_idle<L: GrainLogic>(
+    alloc: Global,
+    bump: &Bump,
+    logic: &L,
+    grain: &GrainId,
+    activation: &Activation,
+    message: &Message,
+    clock: Moment,
+) -> Result<Option<OwnedPlan>, AllocError>
+    ensures { IfOk result (λ found. IfSome found (λ planned. PlansAt L.logic grain.now (entry_of activation.now) clock message.now
+        planned)) }
+{
+    let Some(state) = idle_state(activation, clock) else {
+        return Ok(None);
+    };
+    let plan = plan_turn(alloc, bump, logic, grain, state, message)?;
+    Ok(Some(plan))
 }
 
 /// It has this state, if one is given and it is ready.

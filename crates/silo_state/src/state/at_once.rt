@@ -1,19 +1,18 @@
 //! A call that is served at once: it is accepted, and its turn begins and ends.
 
-ghost use Rattle.std.specs.Prelude.{◌≡◌, IfSome, IfOk, OnErr, true};
+ghost use Rattle.std.specs.Prelude.{◌≡◌, IfOk, OnErr, true};
 ghost use Rattle.silo_event.specs.declared.step.Step.TheVariants as step;
 ghost use Rattle.grain_kinds.specs.Logic.{asks_nothing, same};
 ghost use Rattle.grain_kinds.specs.Planned.{keep_of, storage_call};
 ghost use Rattle.silo_state.specs.AtOnce.{ServesIf};
-ghost use Rattle.silo_state.specs.inside.AtOnce.{Admits, PlansIdle, IsPlain};
+ghost use Rattle.silo_state.specs.inside.AtOnce.{IsPlain};
 
 use crate::finding::asks_storage;
 use crate::state::SiloState;
-use crate::state::call::LAST_NUMBER;
 use crate::telling::told;
 use bumpalo::Bump;
 use grain_id::{Caller, GrainId};
-use grain_kinds::{GrainLogic, Keep, OwnedPlan, plan_turn};
+use grain_kinds::{GrainLogic, Keep, OwnedPlan};
 use grain_storage::GrainStorage;
 use request_codec::Message;
 use silo_event::{Party, Reply};
@@ -40,14 +39,16 @@ impl<S: GrainStorage, L: GrainLogic> SiloState<S, L> {
             self.new) }
         ensures unchanged { OnErr result (self.new ≡ self.old) }
     {
-        self.accounts.look_for(caller.tenant());
-        let Some(_waiting) = self.activations.waiting(grain) else {
+        if grain.tenant() != caller.tenant() {
+            return Ok(None);
+        }
+        let Some(number) = self.accounts.next_number(caller.tenant()) else {
             return Ok(None);
         };
-        let Some(number) = self.next_number(caller, grain) else {
-            return Ok(None);
-        };
-        let Some(plan) = self.plan_idle(alloc, bump, grain, message)? else {
+        let planned = self
+            .activations
+            .plan_idle(alloc, bump, &self.logic, grain, message, self.clock)?;
+        let Some(plan) = planned else {
             return Ok(None);
         };
         if !is_plain(&plan) {
@@ -64,40 +65,6 @@ impl<S: GrainStorage, L: GrainLogic> SiloState<S, L> {
             outcome: told(plan.outcome),
         });
         Ok(Some(number))
-    }
-
-    /// The number of the next request of the client, if it passes the gate.
-    fn next_number(&self, caller: &Caller, grain: &GrainId) -> Option<u64>
-        ensures { IfSome result (λ number. Admits self.now.whole caller.now.tenant grain.now number) }
-    {
-        let account = self.accounts.get(caller.tenant())?;
-        if grain.tenant() != caller.tenant() {
-            return None;
-        }
-        if account.count() == LAST_NUMBER {
-            return None;
-        }
-        if account.limits().mailbox == 0 {
-            return None;
-        }
-        Some(account.count() + 1)
-    }
-
-    /// The plan of a message at a grain that is idle.
-    fn plan_idle(
-        &self,
-        alloc: Global,
-        bump: &Bump,
-        grain: &GrainId,
-        message: &Message,
-    ) -> Result<Option<OwnedPlan>, AllocError>
-        ensures { IfOk result (λ found. IfSome found (λ planned. PlansIdle L.logic self.now.whole grain.now message.now planned)) }
-    {
-        let Some(state) = self.activations.idle_state(grain, self.clock) else {
-            return Ok(None);
-        };
-        let plan = plan_turn(alloc, bump, &self.logic, grain, state, message)?;
-        Ok(Some(plan))
     }
 }
 

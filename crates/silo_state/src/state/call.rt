@@ -10,6 +10,7 @@ ghost use Rattle.silo_state.specs.Verdicts.{gated, verdict, Passes, Settles};
 ghost use Rattle.silo_state.specs.inside.Requests.{with_told, with_accepted};
 
 use crate::account::Account;
+use crate::accounts::LAST_NUMBER;
 use crate::state::SiloState;
 use grain_id::{Caller, GrainId};
 use grain_kinds::GrainLogic;
@@ -19,9 +20,6 @@ use silo_event::{Answer, Fault, Party, Reply, StepFault};
 use std::alloc::{AllocError, Global};
 use tenant_gate::{GateRefusal, judge};
 use turn_mailbox::Request;
-
-/// The last number that a request may have.
-pub(super) const LAST_NUMBER: u64 = i64::MAX as u64;
 
 impl<S: GrainStorage, L: GrainLogic> SiloState<S, L> {
     /// A client asks a grain for a method.
