@@ -67,7 +67,7 @@ not_whole_is (c ∷ cs) = ap (λ b. field_not_whole c || b) (not_whole_is cs)
 
 -- ---- how they are spelled
 
-spelled_is : (cs : List PlacedField) → fields_spelling (lenient_fields (members_of cs)) ≡ placed_spelling cs
+pub spelled_is : (cs : List PlacedField) → fields_spelling (lenient_fields (members_of cs)) ≡ placed_spelling cs
 unfolding spelling
 spelled_is [] = refl
 spelled_is (c ∷ cs) = sym (append_assoc (text_spelling c.name) (spelling (lenient_value c.value)) _) ∙ ap (λ l. placed_bytes c ++ l) (spelled_is cs)

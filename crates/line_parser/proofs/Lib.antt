@@ -13,6 +13,7 @@ pub mod NoBytes
 pub mod Counts
 pub mod Noted
 pub mod PutValues
+pub mod PlainArgument
 pub mod MembersTaken
 pub mod OtherNames
 pub mod OtherMembers

@@ -25,7 +25,8 @@ use request_codec::bytes::{Start, are_digits, put_digits, put_start, put_text};
 const TOO_DEEP: usize = 94;
 
 /// The same text; the proof sees that its bytes are UTF-8.
-fn known<'t>(text: &'t str) -> &'t str
+#[inline(always)]
+pub(crate) fn known<'t>(text: &'t str) -> &'t str
     ensures same { result.now ≡ text.now }
     ensures utf8 { IsUtf8 text.now }
 {

@@ -8,8 +8,9 @@ ghost use Rattle.line_parser.specs.inside.LineMembers.{HoldsLineMembers, HasLine
 ghost use Rattle.line_parser.specs.inside.PassedMembers.{MembersRead};
 ghost use Rattle.line_parser.specs.inside.CallMembers.{TakesLast};
 
-use crate::line_members::{LineMembers, Name, Next, has_value, take_value};
+use crate::line_members::{LineMembers, MAX_VALUE_BYTES, Name, Next, has_value, take_value};
 use crate::plain::past_name;
+use crate::plain_argument::put_plain;
 use crate::plain_members::{ends_line, past_method};
 use crate::quick_fault::QuickFault;
 use crate::tokens::Tokens;
@@ -28,6 +29,11 @@ pub(crate) enum Last {
 fn take_last(value: &str, scratch: &mut Scratch, bytes: &mut Vec<u8>) -> Result<Last, QuickFault>
     ensures { IfOk result (λ last. TakesLast (tokens value.now) last bytes.new.items) }
 {
+    if let Some(after) = put_plain(bytes, MAX_VALUE_BYTES, value)? {
+        if ends_line(after) {
+            return Ok(Last::Taken(None));
+        }
+    }
     let mut reader = Tokens::new(value, scratch);
     let refusal = take_value(false, bytes, &mut reader)?;
     let Next::End = reader.next_member()? else {

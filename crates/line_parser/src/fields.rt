@@ -35,7 +35,7 @@ pub(crate) struct Fields<'a> {
 
 /// Whether it is the name that bytes stand beside. Most names are of another length, which costs no call.
 #[inline(always)]
-fn is_hex_name(name: &str) -> bool
+pub(crate) fn is_hex_name(name: &str) -> bool
     ensures { result ≡ bytes_eq name.now hex_name }
 {
     if name.len() != 4 {

@@ -16,6 +16,7 @@ mod members;
 mod named;
 mod number;
 mod plain;
+mod plain_argument;
 mod plain_members;
 mod quick_fault;
 mod reading;

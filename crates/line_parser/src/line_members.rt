@@ -100,7 +100,7 @@ const MEMBER_DEPTH: usize = 126;
 
 /// The bytes that are put for a value, at most: more than any line spells, of which two bytes stand for nine at most.
 /// Whether a message or a state is too long is asked once they are known.
-const MAX_VALUE_BYTES: usize = 1_048_576;
+pub(crate) const MAX_VALUE_BYTES: usize = 1_048_576;
 
 #[tactic(auto, unfolding(crate::specs::inside::LineMembers::named))]
 /// The member of that name.

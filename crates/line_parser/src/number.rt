@@ -77,13 +77,22 @@ fn whole_number_of_any(text: &str) -> Option<i64>
     }
 }
 
+/// The number, if it is digits alone, and not too many.
+#[inline(always)]
+pub(crate) fn few_digits(text: &str) -> Option<i64>
+    ensures { IfSome result (λ n. IsWhole text.now n) }
+{
+    let n = natural_of(text)?;
+    Some(n as i64)
+}
+
 /// The number, if it is written as a whole one and has 64 bits: `1.0` and `-0` are none.
 #[inline(always)]
 pub(crate) fn whole_number(text: &str) -> Option<i64>
     ensures { IfSome result (λ n. IsWhole text.now n) }
 {
-    if let Some(n) = natural_of(text) {
-        return Some(n as i64);
+    if let Some(n) = few_digits(text) {
+        return Some(n);
     }
     whole_number_of_any(text)
 }

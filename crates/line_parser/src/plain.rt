@@ -151,7 +151,7 @@ pub(crate) fn plain_number<'t>(rest: &'t str) -> Option<(&'t str, &'t str)>
 
 /// What follows the null that is the first token.
 #[inline(always)]
-fn plain_null<'t>(rest: &'t str) -> Option<&'t str>
+pub(crate) fn plain_null<'t>(rest: &'t str) -> Option<&'t str>
     ensures { IfSome result (λ after. tokens rest.now ≡ null ∷ tokens after.now) }
 {
     let after = cut_null(rest)?;

@@ -1,12 +1,12 @@
 -- What is put for an argument: the bytes of the value that serde_json reads from the tokens, and what is noted of it.
-use Rattle.std.specs.Prelude.{◌≡◌, ℕ, ◌+◌, ◌<◌, ◌≤◌, Bool, true, false, ◌||◌, nat_lt, List, ◌∷◌, ◌++◌, length, Option, Some, None}
+use Rattle.std.specs.Prelude.{◌≡◌, ℕ, ◌+◌, ◌<◌, ◌≤◌, Bool, true, false, ◌||◌, nat_lt, List, ◌∷◌, ◌++◌, length, Option, Some, None, bytes_eq}
 use Rattle.std.specs.Int.{w32, to_be_bytes}
-use Rattle.json.specs.Token.{Token}
+use Rattle.json.specs.Token.{Token, begin_object, end_object, key as key_token}
 use Rattle.json.specs.Json.{value, items, members}
 use Rattle.serde_json.specs.Data.{Data, Items, Members, no_members}
 use Rattle.serde_json.specs.Read.{of_json, of_items, of_members, converted}
 use Rattle.request_codec.specs.Tree.{members_count, fields_count}
-use Rattle.request_codec.specs.Json.{hex_of, json_depth, items_depth, json_members_depth, is_not_whole, are_not_whole, fields_not_whole}
+use Rattle.request_codec.specs.Json.{hex_name, hex_of, json_depth, items_depth, json_members_depth, is_not_whole, are_not_whole, fields_not_whole}
 use Rattle.request_codec.specs.Formed.{IsFormed, AreFormed, FieldsFormed}
 use Rattle.silo_event.specs.declared.refusal.Refusal.{Refusal}
 use Rattle.silo_event.specs.declared.refusal.Refusal.TheVariants as refusal
@@ -68,3 +68,19 @@ pub record PutsFields (depth : ℕ) (old new : List Token) (before after : List 
   pub noted : AddsFaults noted_before noted_after (is_deep depth (json_members_depth json)) (fields_not_whole json)
   pub bytes : after ≡ before ++ (6 ∷ (to_be_bytes w32 (fields_count (lenient_fields json)) ++ fields_spelling (lenient_fields json)))
   pub shorter : length new ≤ length old
+
+-- Of the tokens `old` a value of one level was read, `new` is left, and these are its bytes: nothing of it is refused.
+abbrev pub ReadsPlain : List Token → List Token → List ℕ → Type 0
+ReadsPlain old new bytes = (depth : ℕ) (before after : List ℕ) (first last : Faults) → AddsFaults first last (is_deep depth 1) false
+    → after ≡ before ++ bytes → PutsValue depth old new before after first last
+
+-- Of the tokens `old` a map was read that has one field, of that name and of such a value, and doesn't stand for bytes.
+pub record IsField (old new : List Token) (name bytes : List ℕ) : Type 0 where
+  pub begun : List Token
+  pub behind : List Token
+  pub left : List Token
+  pub begins : old ≡ begin_object ∷ begun
+  pub key : begun ≡ key_token name ∷ behind
+  pub reads : ReadsPlain behind left bytes
+  pub over : left ≡ end_object ∷ new
+  pub other : bytes_eq name hex_name ≡ false
