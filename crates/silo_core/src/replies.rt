@@ -8,6 +8,10 @@ use silo_event::Reply;
 use std::alloc::{AllocError, Global};
 
 /// The replies whose recipients are the tenant's, in order.
+///
+/// # Errors
+///
+/// Out of memory.
 pub fn sent_to(alloc: Global, replies: &[Reply], tenant: &Tenant) -> Result<Vec<Reply>, AllocError>
     ensures { IfOk result (λ found. found.items ≡ filter (is_to tenant.now) replies.now) }
 {

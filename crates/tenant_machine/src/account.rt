@@ -129,6 +129,10 @@ impl Account {
 }
 
 /// The calls that a grain sends, of which a turn has the targets and the messages.
+///
+/// # Errors
+///
+/// Out of memory.
 pub fn sent_by(
     alloc: Global,
     source: &GrainId,

@@ -24,6 +24,10 @@ use std::alloc::{AllocError, Global};
 
 impl<S: GrainStorage, L: GrainLogic> Silo<S, L> {
     /// A client's line asked for something that can't be asked.
+    ///
+    /// # Errors
+    ///
+    /// `Memory`: nothing changed.
     pub fn refuse(
         &mut self,
         alloc: Global,
@@ -38,6 +42,10 @@ impl<S: GrainStorage, L: GrainLogic> Silo<S, L> {
     }
 
     /// A client asks a grain for a method.
+    ///
+    /// # Errors
+    ///
+    /// `Memory`: nothing changed.
     pub fn call(
         &mut self,
         alloc: Global,
@@ -60,6 +68,10 @@ impl<S: GrainStorage, L: GrainLogic> Silo<S, L> {
 
     /// A client overwrites a grain's stored row. If `failed`, the storage isn't called, and the step is
     /// taken as one whose storage call failed.
+    ///
+    /// # Errors
+    ///
+    /// `Memory`: nothing changed.
     pub fn poke(
         &mut self,
         alloc: Global,
@@ -83,6 +95,10 @@ impl<S: GrainStorage, L: GrainLogic> Silo<S, L> {
     }
 
     /// A client asks how much its tenant has.
+    ///
+    /// # Errors
+    ///
+    /// `Memory`: nothing changed.
     pub fn status(&mut self, alloc: Global, caller: Caller, id: u64) -> Result<Answer, StepFault>
         ensures answered { Answered L.logic self.old (step.Status caller id) result self.new }
         ensures parts { StepAnswersInParts L.logic self.old.whole (step.Status caller id) result self.new.whole }
@@ -91,6 +107,10 @@ impl<S: GrainStorage, L: GrainLogic> Silo<S, L> {
     }
 
     /// The first call that the grain sent, and that is not yet delivered, is asked of its target.
+    ///
+    /// # Errors
+    ///
+    /// `Memory`: nothing changed.
     pub fn deliver(&mut self, alloc: Global, grain: GrainId) -> Result<Answer, StepFault>
         ensures answered { Answered L.logic self.old (step.Deliver grain) result self.new }
         ensures parts { StepAnswersInParts L.logic self.old.whole (step.Deliver grain) result self.new.whole }
@@ -99,6 +119,10 @@ impl<S: GrainStorage, L: GrainLogic> Silo<S, L> {
     }
 
     /// A grain's entry that waits begins to load.
+    ///
+    /// # Errors
+    ///
+    /// `Memory`: nothing changed.
     pub fn activate(&mut self, alloc: Global, grain: GrainId) -> Result<Answer, StepFault>
         ensures answered { Answered L.logic self.old (step.Activate grain) result self.new }
         ensures parts { StepAnswersInParts L.logic self.old.whole (step.Activate grain) result self.new.whole }
@@ -108,6 +132,10 @@ impl<S: GrainStorage, L: GrainLogic> Silo<S, L> {
 
     /// A loading grain gets its row's content, or the empty state of its kind. If `failed`, the storage
     /// isn't called, and the step is taken as one whose storage call failed.
+    ///
+    /// # Errors
+    ///
+    /// `Memory`: nothing changed.
     pub fn load(&mut self, alloc: Global, grain: GrainId, failed: bool) -> Result<Answer, StepFault>
         ensures answered { Answered L.logic self.old (step.Load grain failed) result self.new }
         ensures parts { StepAnswersInParts L.logic self.old.whole (step.Load grain failed) result self.new.whole }
@@ -188,6 +216,10 @@ impl<S: GrainStorage, L: GrainLogic> Silo<S, L> {
     }
 
     /// An open turn that ran out of memory is closed, and its state stays.
+    ///
+    /// # Errors
+    ///
+    /// `Memory`: nothing changed.
     pub fn abandon(&mut self, alloc: Global, grain: GrainId, turn: u64) -> Result<Answer, StepFault>
         ensures answered { Answered L.logic self.old (step.Abandon grain turn) result self.new }
         ensures parts { StepAnswersInParts L.logic self.old.whole (step.Abandon grain turn) result self.new.whole }
@@ -196,6 +228,10 @@ impl<S: GrainStorage, L: GrainLogic> Silo<S, L> {
     }
 
     /// The clock is set, to milliseconds of one's own beginning. It never goes back.
+    ///
+    /// # Errors
+    ///
+    /// `Memory`: nothing changed.
     pub fn tick(&mut self, alloc: Global, now: Moment) -> Result<Answer, StepFault>
         ensures answered { Answered L.logic self.old (step.Tick now) result self.new }
         ensures parts { StepAnswersInParts L.logic self.old.whole (step.Tick now) result self.new.whole }
@@ -205,6 +241,10 @@ impl<S: GrainStorage, L: GrainLogic> Silo<S, L> {
 
     /// The activations that are due go: those that are idle, the age of their kind after they were last used and not before the
     /// moment until which they stay.
+    ///
+    /// # Errors
+    ///
+    /// `Memory`: nothing changed.
     pub fn sweep(&mut self, alloc: Global) -> Result<Answer, StepFault>
         ensures answered { Answered L.logic self.old step.Sweep result self.new }
         ensures parts { StepAnswersInParts L.logic self.old.whole step.Sweep result self.new.whole }
@@ -214,6 +254,10 @@ impl<S: GrainStorage, L: GrainLogic> Silo<S, L> {
 
     /// Takes a step of any kind. The turn of an `End` or a `Store` runs here, in an arena of its own, so
     /// that it is no stranger.
+    ///
+    /// # Errors
+    ///
+    /// `Memory`: nothing changed.
     pub fn apply(&mut self, alloc: Global, step: Step) -> Result<Answer, StepFault>
         ensures answered { Answered L.logic self.old step result self.new }
         ensures parts { StepAnswersInParts L.logic self.old.whole step result self.new.whole }
@@ -223,6 +267,10 @@ impl<S: GrainStorage, L: GrainLogic> Silo<S, L> {
 
     /// Takes a step as `apply` does, and runs a turn in this arena, which may be used for many steps: reset it between them, since what
     /// a turn needed stays there. Nothing that was there before is read.
+    ///
+    /// # Errors
+    ///
+    /// `Memory`: nothing changed.
     pub fn apply_in(&mut self, alloc: Global, bump: &Bump, step: Step) -> Result<Answer, StepFault>
         ensures answered { Answered L.logic self.old step result self.new }
         ensures parts { StepAnswersInParts L.logic self.old.whole step result self.new.whole }
