@@ -1,9 +1,9 @@
 -- Steps that are tried one after another.
 use Rattle.std.proofs.Common.{◌≡◌, ℕ, zero, suc, ◌+◌, ◌==◌, Bool, true, false, List, [], ◌∷◌, ◌++◌, length, Option, Some, None, unwrap_or, refl, ap, sym, ◌∙◌, subst, arith, append_assoc, true≢false}
-use Rattle.std.specs.Prelude.{is_some, option_and_then, if◌then◌else◌}
+use Rattle.std.specs.Prelude.{◌<◌, is_some, option_and_then, slice_get, if◌then◌else◌}
 use Rattle.std.specs.FinMap as map
 use Rattle.std.proofs.lemmas.Bool.Decides.{Decides-eqb}
-use Rattle.std.proofs.lemmas.List.{append-nil}
+use Rattle.std.proofs.lemmas.List.{append-nil, length-append}
 use Rattle.std.proofs.lemmas.Option.{none-some, same_Some}
 use Rattle.grain_id.specs.Names.{Client, Grain}
 use Rattle.silo_event.specs.Asker.{asker_of}
@@ -30,7 +30,7 @@ use Rattle.silo_core.specs.History.{History, Failures, Advances, Fails, StaysAsI
 use Rattle.silo_core.specs.AtOnce as at_once
 use Rattle.answer_model.specs.Answering.{Luck, Closing, well, storage_failed, out_of_memory, whole_stepper, taken_by, raising, ending, closing, turn_of, turn_of_first, turning, serving, bringing, is_accepted, delivering, deliveries, deliveries_of, good, is_asked, called_grain}
 use Rattle.answer_model.proofs.Served.{source_own, target_is}
-use Rattle.line_answer.specs.Trying.{failed_among, Tries, is_possible, TakesNow, IsFirst, Begins, Opens, Brings, IsOldest, Delivers, AnswersAsked}
+use Rattle.line_answer.specs.Trying.{failed_among, Tries, is_possible, TakesNow, IsFirst, Begins, Opens, Brings, EndsIn, IsOldest, Delivers, AnswersAsked}
 
 -- ---- lists of steps that are tried
 
@@ -315,7 +315,45 @@ module _ (logic : Logic) (old new : History) (s : Step) (plain : has_failed s �
       (brought logic old d.called s true (takes_done logic old d.called s plain d.calls) g new same_replies
       (served logic d.called opens.0 d.begun new g d.turn opens.1 opens.2 closes))
 
+  pub ends_in : EndsIn new.journal s
+  ends_in =
+      let g = d.grain in (
+        old.journal,
+        Begin g,
+        End g d.turn,
+        d.ends.journal
+            ∙ ap (λ j. j ++ End g d.turn ∷ []) (d.begins.journal ∙ ap (λ j. j ++ Begin g ∷ []) d.calls.journal)
+            ∙ ap (λ j. j ++ End g d.turn ∷ []) (append_assoc old.journal (s ∷ []) (Begin g ∷ []))
+            ∙ append_assoc old.journal (s ∷ Begin g ∷ []) (End g d.turn ∷ []),
+      )
+
+  pub asked_by : asker_of s ≡ Some d.is_call.caller
+  asked_by = ap asker_of d.is_call.is
+
+-- ---- the step that is the third from the end
+
+get_behind : {X : Type 0} (before : List X) (x : X) (xs : List X) → slice_get (before ++ x ∷ xs) (length before) ≡ Some x
+get_behind [] x xs = refl
+get_behind (y ∷ ys) x xs = get_behind ys x xs
+
+module _ (journal : List Step) (call : Step) (ends : EndsIn journal call) where
+  three_more : length journal ≡ length ends.0 + 3
+  three_more = ap length ends.3 ∙ length-append ends.0 _
+
+  pub not_short : length journal < 3 → ⊥
+  not_short short = let long = three_more in absurd (omega (arith, long, short))
+
+  pub third_last : (place : ℕ) → place + 3 ≡ length journal → slice_get journal place ≡ Some call
+  third_last place is =
+      let all = three_more in
+      let same : place ≡ length ends.0 = omega (arith, all, is) in
+      ap (slice_get journal) same ∙ ap (λ j. slice_get j (length ends.0)) ends.3 ∙ get_behind ends.0 call _
+
 -- ---- what a tenant's grains sent
+
+pub none_by : (sends : List Send) → first_source sends ≡ None → sends ≡ []
+none_by [] is = refl
+none_by (oldest ∷ others) is = absurd (none-some oldest.source (sym is))
 
 module _ (logic : Logic) (setup : Setup) (journal : List Step) (w : Whole) (tenant : List ℕ) (leads : LeadsTo logic setup journal w) where
   first_by : (source : Grain) (sends : List Send) → first_source sends ≡ Some source → (oldest : Send) × (others : List Send) × (sends ≡ oldest ∷ others) × (oldest.source ≡ source)
@@ -340,10 +378,6 @@ module _ (logic : Logic) (setup : Setup) (journal : List Step) (w : Whole) (tena
   oldest_is source target first second =
       let found = first_by source (sends_of (map.get w.accounts tenant)) first in
       (found.0, found.1, found.2, found.3, same_Some found.0.message.target target (sym (target_of source found.0 found.1 found.2 found.3) ∙ second))
-
-  none_by : (sends : List Send) → first_source sends ≡ None → sends ≡ []
-  none_by [] is = refl
-  none_by (oldest ∷ others) is = absurd (none-some oldest.source (sym is))
 
   pub oldest_none : first_source (sends_of (map.get w.accounts tenant)) ≡ None → IsOldest w tenant None
   oldest_none none = none_by (sends_of (map.get w.accounts tenant)) none
@@ -403,6 +437,9 @@ module _ (logic : Logic) (n : ℕ) (tenant : List ℕ) (old : History) where
   no_more (suc k) w none =
       ap (λ sends. delivering (whole_stepper logic) w sends good ++ deliveries (whole_stepper logic) k (whole_run logic w (delivering (whole_stepper logic) w sends good)) tenant []) none
       ∙ no_more k w none
+
+  pub goes_nowhere : first_source (sends_of (map.get old.whole.accounts tenant)) ≡ None → HasDelivered old
+  goes_nowhere none = ([], subst (λ steps. Tries logic old steps old) (sym (no_more n old.whole (none_by _ none))) (tries_none logic old))
 
   pub goes_out : (left : ℕ) (mid new : History) → Goes logic n tenant old left mid → Delivers logic mid tenant false new → HasDelivered new
   goes_out left mid new p (none, same) =

@@ -75,6 +75,10 @@ Delivers logic old tenant true new = (luck : Luck) × Tries logic old
     (delivering (whole_stepper logic) old.whole (sends_of (map.get old.whole.accounts tenant)) luck) new
 Delivers logic old tenant false new = (sends_of (map.get old.whole.accounts tenant) ≡ []) × (new ≡ old)
 
+-- A call is the third step from the end, as one is that was served at once last.
+abbrev pub EndsIn : List Step → Step → Type 0
+EndsIn journal call = (before : List Step) × (begin : Step) × (end : Step) × (journal ≡ before ++ call ∷ begin ∷ end ∷ [])
+
 -- What is asked was answered with some luck; and whether its step was possible.
 pub record AnswersAsked (logic : Logic) (n : ℕ) (old : History) (s : Step) (done : Bool) (new : History) : Type 0 where
   pub lucks : List Luck

@@ -1,12 +1,15 @@
 //! Steps that may bring a request, which is then served: what a client asks, and what a grain sent.
 
 ghost use Rattle.std.specs.Prelude.{◌≡◌, ◌==◌, false, true, IfOk, List, OnOk, Some, length};
+ghost use Rattle.std.specs.Option.{option_copied};
+ghost use Rattle.grain_id.specs.Names.{Client};
 ghost use Rattle.silo_event.specs.Failed.{has_failed};
 ghost use Rattle.answer_model.specs.Answering.{Luck, called_grain, deliveries, is_asked, whole_stepper};
-ghost use Rattle.line_answer.specs.Trying.{AnswersAsked, Brings, Delivers, IsOldest, Tries};
+ghost use Rattle.line_answer.specs.Trying.{AnswersAsked, Brings, Delivers, EndsIn, IsOldest, Tries};
 ghost use Rattle.silo_event.specs.Asker.{asker_of};
+ghost use Rattle.silo_event.specs.declared.step.Step.{Step};
 
-use crate::serving::{serve, take};
+use crate::serving::{make_free, serve, take};
 use bumpalo::Bump;
 use grain_id::{Caller, GrainId};
 use grain_kinds::GrainLogic;
@@ -192,31 +195,76 @@ fn asker_of(step: &Step) -> Result<Option<Caller>, AllocError>
     }
 }
 
-/// Takes what is asked, and serves the request that it brought, if it was accepted: a call is mostly served at once. Says whether
-/// the step was possible.
+/// The client whose call was served at once, if that was done last.
+fn last_caller<S: GrainStorage, L: GrainLogic>(silo: &Silo<S, L>) -> Option<&Caller>
+    ensures { (call : Step) → EndsIn silo.now.journal call → option_copied result ≡ asker_of call }
+{
+    let steps = silo.journal();
+    let Some(place) = steps.len().checked_sub(3) else {
+        return None;
+    };
+    let Some(call) = steps.get(place) else {
+        return None;
+    };
+    call.asker()
+}
+
+/// Delivers at most so many of what the tenant's grains sent whose client's call was served at once last, the oldest first. Mostly
+/// there is none.
 ///
 /// # Errors
 ///
 /// Out of memory: some of it may have been done.
-fn take_asked<S: GrainStorage, L: GrainLogic>(
+fn deliver_behind<S: GrainStorage, L: GrainLogic>(
+    alloc: Global,
+    bump: &mut Bump,
+    silo: &mut Silo<S, L>,
+    most: u64,
+) -> Result<(), AllocError>
+    ensures { OnOk result ((call : Step) (caller : Client) → EndsIn silo.old.journal call → asker_of call ≡ Some caller
+        → (lucks : List Luck) × Tries L.logic silo.old (deliveries (whole_stepper L.logic) most silo.old.whole caller.tenant lucks)
+        silo.new) }
+{
+    let Some(caller) = last_caller(silo) else {
+        return Ok(());
+    };
+    let Some(_source) = silo.oldest_sender(caller.tenant()) else {
+        return Ok(());
+    };
+    let caller = caller.clone()?;
+    let delivered = deliver(alloc, bump, silo, caller.tenant(), most);
+    drop(caller);
+    delivered
+}
+
+/// Answers what isn't served at once.
+///
+/// # Errors
+///
+/// Out of memory: some of it may have been done.
+fn answer_by_steps<S: GrainStorage, L: GrainLogic>(
     alloc: Global,
     bump: &mut Bump,
     silo: &mut Silo<S, L>,
     step: Step,
+    most: u64,
 ) -> Result<bool, AllocError>
-    requires { has_failed step ≡ false }
-    ensures { IfOk result (λ done. Brings L.logic silo.old step (called_grain step) done silo.new) }
+    requires { is_asked step ≡ true }
+    ensures { IfOk result (λ done. AnswersAsked L.logic most silo.old step done silo.new) }
 {
-    let Some(back) = silo.serve_at_once(alloc, bump, step) else {
-        drop(bump.reset());
-        return Ok(true);
+    let asker = asker_of(&step)?;
+    let grain = called_grain(&step)?;
+    let done = bring(alloc, bump, silo, step, grain)?;
+    let Some(caller) = asker else {
+        return Ok(done);
     };
-    let grain = called_grain(&back)?;
-    bring(alloc, bump, silo, back, grain)
+    deliver(alloc, bump, silo, caller.tenant(), most)?;
+    drop(caller);
+    Ok(done)
 }
 
-/// Answers what is asked, with at most so many deliveries behind it. Says whether the step was possible. Turns run in the arena, one
-/// after another.
+/// Answers what is asked, with at most so many deliveries behind it: a call is mostly served at once. Says whether the step was
+/// possible. Turns run in the arena, one after another.
 ///
 /// # Errors
 ///
@@ -231,12 +279,10 @@ pub fn answer_step<S: GrainStorage, L: GrainLogic>(
     requires { is_asked step ≡ true }
     ensures { IfOk result (λ done. AnswersAsked L.logic most silo.old step done silo.new) }
 {
-    let asker = asker_of(&step)?;
-    let done = take_asked(alloc, bump, silo, step)?;
-    let Some(caller) = asker else {
-        return Ok(done);
+    let Some(back) = silo.serve_at_once(alloc, bump, step) else {
+        make_free(bump);
+        deliver_behind(alloc, bump, silo, most)?;
+        return Ok(true);
     };
-    deliver(alloc, bump, silo, caller.tenant(), most)?;
-    drop(caller);
-    Ok(done)
+    answer_by_steps(alloc, bump, silo, back, most)
 }

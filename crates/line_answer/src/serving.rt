@@ -168,7 +168,15 @@ fn close<S: GrainStorage, L: GrainLogic>(
     }
 }
 
-/// The request that waits at the grain is served. Its turn runs in the arena, which is free again behind it.
+/// Makes the arena free for the next turn, if the last ones took more than half of its chunk.
+pub fn make_free(bump: &mut Bump) {
+    if bump.chunk_capacity() < bump.allocated_bytes() / 2 {
+        // It fails only while a block of it is out as an `Allocator`, and no turn leaves one. Then it would only grow.
+        drop(bump.reset());
+    }
+}
+
+/// The request that waits at the grain is served. Its turn runs in the arena, which is made free behind it.
 ///
 /// # Errors
 ///
@@ -186,6 +194,6 @@ pub fn serve<S: GrainStorage, L: GrainLogic>(
         return Ok(());
     };
     close(alloc, bump, silo, grain, turn)?;
-    drop(bump.reset());
+    make_free(bump);
     Ok(())
 }

@@ -1,30 +1,33 @@
-use Rattle.std.proofs.Common.{List, refl, sym, ◌∙◌, subst}
-use Rattle.answer_model.specs.Answering.{Luck, deliveries, whole_stepper}
-use Rattle.line_answer.specs.Trying.{Tries}
-use Rattle.line_answer.proofs.Trying.{answers_client, answers_nobody, asked_plain}
+use Rattle.std.proofs.Common.{true, ap, ◌∙◌, subst}
+use Rattle.std.specs.Prelude.{IfOk}
+use Rattle.silo_event.specs.declared.step.Step.{Step}
+use Rattle.silo_core.specs.AtOnce.{ServesOrNot}
+use Rattle.silo_core.specs.History.{History}
+use Rattle.answer_model.specs.Answering.{is_asked}
+use Rattle.line_answer.specs.Trying.{AnswersAsked}
+use Rattle.line_answer.proofs.Trying.{answers_client, asked_plain, asked_by, brought_at_once, ends_in}
 use Rattle.line_answer.proofs.bringing.answer_step.Goals as goal
-
-pub take_asked-requires : goal.take_asked-requires
-take_asked-requires g c = asked_plain _ c.requires
 
 pub returns-in_default : goal.returns-in_default
 returns-in_default g c =
     let logic = g.L.GrainLogic.logic in
     let old = c.args.silo.now in
-    let mid = c.take_asked.new.silo in
-    let done = c.in_ok-done.done in
-    answers_nobody logic c.args.most old mid mid c.args.step done
-    c.in_ok-done.ensures
-    (sym c.in_ok-asker.ensures ∙ c.in_default.is) c.requires refl
+    let step = c.args.step in
+    let mid = c.serve_at_once.new.self in
+    let plain = asked_plain _ c.requires in
+    let serves = subst (λ r. ServesOrNot logic old step r mid) c.in_default.is c.serve_at_once.ensures in
+    let asked = asked_by logic old mid step plain serves in
+    answers_client logic c.args.most old mid c.deliver_behind.new.silo step true (brought_at_once logic old mid step plain serves) serves.is_call.caller asked
+    (c.in_ok-deliver_behind.ensures step serves.is_call.caller (ends_in logic old mid step plain serves) asked)
+
+pub answer_by_steps-requires : goal.answer_by_steps-requires
+answer_by_steps-requires g c =
+    let back = subst (λ r. ServesOrNot g.L.GrainLogic.logic c.args.silo.now c.args.step r c.serve_at_once.new.self) c.in-Some.is c.serve_at_once.ensures in
+    ap is_asked back.0 ∙ c.requires
 
 pub returns : goal.returns
 returns g c =
     let logic = g.L.GrainLogic.logic in
-    let old = c.args.silo.now in
-    let mid = c.take_asked.new.silo in
-    let new = c.deliver.new.silo in
-    let done = c.in_ok-done.done in
-    answers_client logic c.args.most old mid new c.args.step done
-    c.in_ok-done.ensures
-    c.in-Some.caller (sym c.in_ok-asker.ensures ∙ c.in-Some.is)
-    (subst (λ t. (lucks : List Luck) × Tries logic mid (deliveries (whole_stepper logic) c.args.most mid.whole t lucks) new) c.tenant.ensures c.in_ok-deliver.ensures)
+    let back = subst (λ r. ServesOrNot logic c.args.silo.now c.args.step r c.serve_at_once.new.self) c.in-Some.is c.serve_at_once.ensures in
+    subst (λ (t : History × Step). IfOk c.answer_by_steps.result (λ done. AnswersAsked logic c.args.most t.0 t.1 done c.answer_by_steps.new.silo))
+    (λ i. (back.1 i, back.0 i)) c.answer_by_steps.ensures
