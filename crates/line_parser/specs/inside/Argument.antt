@@ -6,7 +6,8 @@ use Rattle.json.specs.Json.{value, items, members}
 use Rattle.serde_json.specs.Data.{Data, Items, Members, no_members}
 use Rattle.serde_json.specs.Read.{of_json, of_items, of_members, converted}
 use Rattle.request_codec.specs.Tree.{members_count, fields_count}
-use Rattle.request_codec.specs.Json.{hex_name, hex_of, json_depth, items_depth, json_members_depth, is_not_whole, are_not_whole, fields_not_whole}
+use Rattle.request_codec.specs.Json.{hex_name, hex_of, json_depth, items_depth, json_members_depth}
+use Rattle.request_codec.specs.Json.{is_not_whole, are_not_whole, fields_not_whole}
 use Rattle.request_codec.specs.Formed.{IsFormed, AreFormed, FieldsFormed}
 use Rattle.silo_event.specs.declared.refusal.Refusal.{Refusal}
 use Rattle.silo_event.specs.declared.refusal.Refusal.TheVariants as refusal

@@ -42,7 +42,8 @@ pub record PlansAt (logic : Logic) (grain : Grain) (e : Entry) (clock : ℕ) (me
   pub plan_is : planned_shown state planned ≡ plan_at logic grain state message
 
 -- There is such an entry, of a kind that is known.
-pub record PlansIdle (logic : Logic) (grain : Grain) (found : Option Entry) (clock : ℕ) (message : Call) (planned : OwnedPlan) : Type 0 where
+pub record PlansIdle (logic : Logic) (grain : Grain) (found : Option Entry) (clock : ℕ) (message : Call) (planned : OwnedPlan)
+    : Type 0 where
   pub entry : Entry
   pub found_is : found ≡ Some entry
   pub plans : PlansAt logic grain entry clock message planned
