@@ -75,12 +75,12 @@ fn add_step(
 {
     if let Some(place) = places.get(&giver) {
         let place = *place;
-        lanes[place].push(step)?;
+        lanes[place].add(step)?;
         return Ok(());
     }
     let from = copy_of(&giver)?;
     let mut lane = Lane::empty(alloc, from);
-    lane.push(step)?;
+    lane.add(step)?;
     let place = lanes.len();
     lanes.push(lane)?;
     places.insert(giver, place)?;
