@@ -18,15 +18,12 @@ use std::collections::VecDeque;
 pub struct Owed {
     /// How many answers it is owed.
     pub count: u64,
-    /// The place of its lane among the lanes: a hint.
-    pub lane: usize,
+    /// The place of its lane among the lanes, if it is known: a hint.
+    pub lane: Option<usize>,
 }
 
 /// How many answers each client is owed. One that isn't there is owed none.
 pub type Owing = IndexMap<Caller, Owed, HashSeed>;
-
-/// The place of no lane.
-const NO_LANE: usize = usize::MAX;
 
 /// Nobody is owed anything; the clients of the lanes are known. They are found by hashes from the seed.
 ///
@@ -52,7 +49,11 @@ fn know(owing: &mut Owing, client: &Option<Caller>, lane: usize) -> Result<(), A
     ensures { OnOk result (((client : Client) → owing_to owing.old client ≡ 0) → (client : Client) → owing_to owing.new client ≡ 0) }
 {
     if let Some(caller) = client {
-        owing.insert(caller.clone()?, Owed { count: 0, lane })?;
+        let known = Owed {
+            count: 0,
+            lane: Some(lane),
+        };
+        owing.insert(caller.clone()?, known)?;
     }
     Ok(())
 }
@@ -91,7 +92,7 @@ fn ask_once(owing: &mut Owing, caller: &Caller) -> Result<(), AllocError>
     }
     let first = Owed {
         count: 1,
-        lane: NO_LANE,
+        lane: None,
     };
     owing.insert(caller.clone()?, first)?;
     Ok(())
@@ -144,7 +145,7 @@ fn tell(owing: &mut Owing, caller: &Caller) -> Option<usize>
 {
     let owed = owing.get_mut(caller)?;
     owed.count = owed.count.saturating_sub(1);
-    Some(owed.lane)
+    owed.lane
 }
 
 /// The replies behind so many were told, and their clients' lanes are put behind those that were told before.

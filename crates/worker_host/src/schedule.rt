@@ -119,9 +119,29 @@ impl<S: GrainStorage + Drop, L: GrainLogic + Drop> Schedule<S, L> {
 }
 
 impl<S: GrainStorage, L: GrainLogic> Schedule<S, L> {
+    /// A worker comes to the lock: for the first time, or with turns whose bodies ran, which are closed. Maybe it met another there, and
+    /// before the bodies it woke another by this waking, if by any.
+    pub fn come(
+        &mut self,
+        alloc: Global,
+        first: bool,
+        met: bool,
+        waking: u64,
+        turns: &[TakenTurn<L>],
+    )
+        ensures { AreClosed L.logic self.old.silo turns.now self.new.silo }
+    {
+        if first {
+            self.pace.start();
+        } else {
+            self.pace.come_back(met, waking);
+        }
+        self.close_all(alloc, turns);
+    }
+
     /// Closes turns by what they came to, one after another. If memory is refused for more than that, all is
     /// given up.
-    pub fn close_all(&mut self, alloc: Global, turns: &[TakenTurn<L>])
+    fn close_all(&mut self, alloc: Global, turns: &[TakenTurn<L>])
         ensures { AreClosed L.logic self.old.silo turns.now self.new.silo }
     {
         let mut rest = turns;
@@ -226,8 +246,8 @@ impl<S: GrainStorage, L: GrainLogic> Schedule<S, L> {
         self.lanes.ready.len().saturating_add(self.grains.len())
     }
 
-    /// Takes steps until the worker has its share of turns, or nothing can be done now. If memory is
-    /// refused, all is given up.
+    /// Takes steps until the worker has its share of turns, or nothing can be done now, unless the worker is better off at rest. If
+    /// memory is refused, all is given up.
     pub fn fill(
         &mut self,
         alloc: Global,
@@ -237,6 +257,9 @@ impl<S: GrainStorage, L: GrainLogic> Schedule<S, L> {
     ) -> Task
         ensures { vec_len turns.old ≤ most_turns first → vec_len turns.new ≤ most_turns first }
     {
+        if self.pace.rests() {
+            return Task::Wait;
+        }
         if self.stopped {
             return Task::Over;
         }
@@ -289,7 +312,7 @@ impl<S: GrainStorage, L: GrainLogic> Schedule<S, L> {
         ensures { vec_len turns.new ≤ vec_len turns.old + 1 }
     {
         if let Some(grain) = self.grains.pop_front() {
-            self.go_on(alloc, &grain, turns)?;
+            self.go_on_waiting(alloc, &grain, turns)?;
             return Ok(true);
         }
         if let Some(grain) = self.senders.pop_front() {
@@ -309,6 +332,21 @@ impl<S: GrainStorage, L: GrainLogic> Schedule<S, L> {
         Ok(true)
     }
 
+    /// Opens a turn of a grain that was noted, as most of those are ready, or takes what other step is to do at it.
+    fn go_on_waiting(
+        &mut self,
+        alloc: Global,
+        grain: &GrainId,
+        turns: &mut Vec<TakenTurn<L>>,
+    ) -> Result<(), StepFault>
+        ensures { vec_len turns.new ≤ vec_len turns.old + 1 }
+    {
+        if self.begin(alloc, grain, turns)? {
+            return Ok(());
+        }
+        self.go_on(alloc, grain, turns)
+    }
+
     /// Takes what step is to do at the grain: opens a turn of it, or brings it up for one.
     fn go_on(
         &mut self,
@@ -319,7 +357,10 @@ impl<S: GrainStorage, L: GrainLogic> Schedule<S, L> {
         ensures { vec_len turns.new ≤ vec_len turns.old + 1 }
     {
         match self.silo.silo().work_on(grain) {
-            Some(PossibleStep::Begin) => self.begin(alloc, grain, turns),
+            Some(PossibleStep::Begin) => {
+                self.begin(alloc, grain, turns)?;
+                Ok(())
+            }
             Some(PossibleStep::Load) => self.load(alloc, grain, turns),
             Some(PossibleStep::Activate) => {
                 let own = grain.clone()?;
@@ -344,21 +385,23 @@ impl<S: GrainStorage, L: GrainLogic> Schedule<S, L> {
             failed: false,
         };
         self.silo.take(alloc, load)?;
-        self.begin(alloc, grain, turns)
+        self.begin(alloc, grain, turns)?;
+        Ok(())
     }
 
-    /// Opens a turn of the grain, if one begins.
+    /// Opens a turn of the grain, if one begins, and says whether one does.
     fn begin(
         &mut self,
         alloc: Global,
         grain: &GrainId,
         turns: &mut Vec<TakenTurn<L>>,
-    ) -> Result<(), StepFault>
-        ensures { vec_len turns.new ≤ vec_len turns.old + 1 }
+    ) -> Result<bool, StepFault>
+        ensures one { vec_len turns.new ≤ vec_len turns.old + 1 }
+        ensures none { IfOk result (λ begun. IsFalse begun → vec_len turns.new ≡ vec_len turns.old) }
     {
         let own = grain.clone()?;
         let Some(turn) = self.silo.begin(alloc, own)? else {
-            return Ok(());
+            return Ok(false);
         };
         self.open = self.open.saturating_add(1);
         if turn.reading {
@@ -367,7 +410,7 @@ impl<S: GrainStorage, L: GrainLogic> Schedule<S, L> {
         let Ok(()) = turns.push(Some(Err(turn))) else {
             return Err(StepFault::Memory);
         };
-        Ok(())
+        Ok(true)
     }
 
     /// Delivers what the grain sent first, and lets its target go on.

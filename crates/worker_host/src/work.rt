@@ -71,21 +71,10 @@ fn next_turns<S: GrainStorage, L: GrainLogic, R: Wait>(
 ) -> bool {
     let (mut held, met) = come(rt, schedule, waiting);
     let first = !worker.started;
-    if first {
-        held.pace.start();
-        worker.started = true;
-    } else {
-        held.pace.come_back(met, worker.waking);
-    }
-    held.close_all(alloc, worker.ran.as_slice());
-    let mut rests = held.pace.rests();
+    worker.started = true;
+    held.come(alloc, first, met, worker.waking, worker.ran.as_slice());
     for _ in rt.forever() {
-        let task = if rests {
-            Task::Wait
-        } else {
-            held.fill(alloc, lanes, &mut worker.taken, first)
-        };
-        match task {
+        match held.fill(alloc, lanes, &mut worker.taken, first) {
             Task::Run => {
                 let wakes = held.wakes();
                 worker.waking = if wakes { held.pace.last_waking() } else { 0 };
@@ -99,7 +88,6 @@ fn next_turns<S: GrainStorage, L: GrainLogic, R: Wait>(
                 held.pace.sleep();
                 held = changed.wait(rt, held);
                 held.pace.wake_up();
-                rests = held.pace.rests();
             }
             Task::Over => {
                 held.pace.leave();
