@@ -29,7 +29,7 @@ use Rattle.silo_core.specs.History.{Advances, Answered, History}
 use Rattle.silo_core.specs.Turns.{AnsweredTurn}
 use Rattle.silo_core.proofs.Steps.{done_parts}
 use Rattle.worker_host.specs.declared.owed.Owed.{Owed}
-use Rattle.worker_host.specs.inside.Working.{IsWorking, asks_once, may_ask_in, owing_to, was_done}
+use Rattle.worker_host.specs.inside.Working.{IsWorking, asks_once, is_told, may_ask_in, owing_to, was_done}
 use Rattle.worker_host.proofs.Owing.{owed_less, owed_on, owes_some, told_parts}
 use Rattle.worker_host.proofs.Paced.{asker_failed, paced_answer}
 
@@ -123,6 +123,20 @@ module _ {S : Type 0} (logic : Logic) (law : ReadersAskNothing logic) (h : Histo
       let counts = pending_by_counts logic law h.setup h.journal h.whole client had.leads in
       owes_some (has_pending client (shown_to client.tenant h.whole)) (owing_to owing client) (length (ids_told client (take seen h.whole.replies))) (length (ids_told client (drop seen h.whole.replies))) (length (ids_told client h.whole.replies))
       (length (ids_asked client h.journal)) (told_parts client seen h.whole.replies) (had.owed client) counts.0 counts.1
+
+  not_not : (b : Bool) → not (not b) ≡ b
+  not_not true = refl
+  not_not false = refl
+
+  -- a client may ask exactly if it is told as often as it is owed
+  may_by_told : (asker : Option Client) → is_told owing (drop seen h.whole.replies) asker ≡ may_ask_in h.whole asker
+  may_by_told None = refl
+  may_by_told (Some client) = sym (not_not (owing_to owing client == length (ids_told client (drop seen h.whole.replies)))) ∙ ap not (is_owed client)
+
+  -- told by the replies, as they stand there
+  pub told_is : (now : History) → h ≡ now → (replies : List Reply) → replies ≡ h.whole.replies → (asker : Option Client) → is_told owing (drop seen replies) asker ≡ may_ask_in now.whole asker
+  told_is now view replies at asker =
+      ap (λ (rs : List Reply). is_told owing (drop seen rs) asker) at ∙ may_by_told asker ∙ ap (λ (h : History). may_ask_in h.whole asker) view
 
 -- ---- where a silo opens
 

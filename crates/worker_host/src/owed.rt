@@ -1,10 +1,11 @@
 //! How many answers each client is owed, and which lane is its own. It is owed as often as it asked, less
 //! what it was told and that was looked at.
 
-ghost use Rattle.std.specs.Prelude.{◌≡◌, ◌+◌, ◌-◌, ◌≤◌, ◌==◌, not, IfOk, IsFalse, IsTrue, OnErr, OnOk, length, drop, if◌then◌else◌};
+ghost use Rattle.std.specs.Prelude.{◌≡◌, ◌+◌, ◌-◌, ◌≤◌, ◌==◌, true, false, is_some, None, length, drop, if◌then◌else◌};
+ghost use Rattle.std.specs.Prelude.{IfOk, IfSome, IsFalse, IsTrue, OnErr, OnOk};
 ghost use Rattle.grain_id.specs.Names.{Client, client_eq};
 ghost use Rattle.lane_model.specs.Asking.{asker_of, ids_told};
-ghost use Rattle.worker_host.specs.inside.Working.{asks_once, owing_to};
+ghost use Rattle.worker_host.specs.inside.Working.{asks_if, asks_once, is_told, owing_to};
 
 use client_lanes::Lane;
 use grain_id::{Caller, HashSeed};
@@ -58,60 +59,99 @@ fn know(owing: &mut Owing, client: &Option<Caller>, lane: usize) -> Result<(), A
     Ok(())
 }
 
-/// The client that asks by the step, if one does, asked once more.
+/// The client that asks by the step, if one does, asks once more, unless it is owed another number of answers than the replies behind
+/// so many tell it. Who asks, if anybody does; or none, if the client may not.
 ///
 /// # Errors
 ///
-/// Out of memory, or of numbers: each client is owed what it was owed.
-pub fn ask(owing: &mut Owing, step: &Step) -> Result<Option<Caller>, AllocError>
-    ensures asker { IfOk result (λ asker. asker ≡ asker_of step.now) }
-    ensures asked { OnOk result ((client : Client) → owing_to owing.new client
-        ≡ owing_to owing.old client + asks_once (asker_of step.now) client) }
+/// Out of memory, or of numbers, and the client may ask: each client is owed what it was owed.
+pub fn ask(
+    owing: &mut Owing,
+    step: &Step,
+    replies: &[Reply],
+    seen: usize,
+) -> Result<Option<Option<Caller>>, AllocError>
+    requires { seen ≤ length replies.now }
+    ensures may { IfOk result (λ asked. is_some asked ≡ is_told owing.old (drop seen replies.now) (asker_of step.now)) }
+    ensures asker { IfOk result (λ asked. IfSome asked (λ asker. asker ≡ asker_of step.now)) }
+    ensures asked { IfOk result (λ asked. (client : Client) → owing_to owing.new client
+        ≡ owing_to owing.old client + asks_if (is_some asked) (asker_of step.now) client) }
+    ensures refused { OnErr result (is_told owing.old (drop seen replies.now) (asker_of step.now) ≡ true) }
     ensures unchanged { OnErr result ((client : Client) → owing_to owing.new client ≡ owing_to owing.old client) }
 {
     let Some(caller) = step.asker() else {
-        return Ok(None);
+        return Ok(Some(None));
     };
-    let asker = caller.clone()?;
-    ask_once(owing, caller)?;
-    Ok(Some(asker))
+    let (_, new) = replies.split_at(seen);
+    let told = told_by(new, caller);
+    let Ok(asker) = caller.clone() else {
+        return refuse(owing, caller, told);
+    };
+    if ask_if(owing, caller, told)? {
+        return Ok(Some(Some(asker)));
+    }
+    drop(asker);
+    Ok(None)
 }
 
-/// The client asked once more.
+/// No memory is there for a client that asks: none if it may not ask in any case.
+#[cold]
+fn refuse(owing: &Owing, caller: &Caller, told: u64) -> Result<Option<Option<Caller>>, AllocError>
+    ensures none { IfOk result (λ asked. asked ≡ None) }
+    ensures may_not { OnOk result ((owing_to owing.now caller.now == told) ≡ false) }
+    ensures may { OnErr result ((owing_to owing.now caller.now == told) ≡ true) }
+{
+    if owing_of(owing, caller) == told {
+        return Err(AllocError);
+    }
+    Ok(None)
+}
+
+/// The client asks once more, if it is owed so many answers, and says whether it asks.
 ///
 /// # Errors
 ///
-/// Out of memory, or of numbers: each client is owed what it was owed.
-fn ask_once(owing: &mut Owing, caller: &Caller) -> Result<(), AllocError>
-    ensures asked { OnOk result ((client : Client) → owing_to owing.new client
-        ≡ owing_to owing.old client + (if client_eq caller.now client then 1 else 0)) }
+/// Out of memory, or of numbers, and the client may ask: each client is owed what it was owed.
+fn ask_if(owing: &mut Owing, caller: &Caller, told: u64) -> Result<bool, AllocError>
+    ensures may { IfOk result (λ asked. asked ≡ (owing_to owing.old caller.now == told)) }
+    ensures asked { IfOk result (λ asked. (client : Client) → owing_to owing.new client
+        ≡ owing_to owing.old client + (if client_eq caller.now client then (if asked then 1 else 0) else 0)) }
+    ensures refused { OnErr result ((owing_to owing.old caller.now == told) ≡ true) }
     ensures unchanged { OnErr result ((client : Client) → owing_to owing.new client ≡ owing_to owing.old client) }
 {
     if let Some(owed) = owing.get_mut(caller) {
-        return ask_more(owed);
+        return ask_more(owed, told);
+    }
+    if told != 0 {
+        return Ok(false);
     }
     let first = Owed {
         count: 1,
         lane: None,
     };
     owing.insert(caller.clone()?, first)?;
-    Ok(())
+    Ok(true)
 }
 
-/// One answer more is owed.
+/// One answer more is owed, if so many are, and says whether it is.
 ///
 /// # Errors
 ///
-/// Out of numbers: as many are owed as before.
-fn ask_more(owed: &mut Owed) -> Result<(), AllocError>
-    ensures asked { OnOk result (owed.new.count ≡ owed.old.count + 1) }
+/// Out of numbers, and so many are: as many are owed as before.
+fn ask_more(owed: &mut Owed, told: u64) -> Result<bool, AllocError>
+    ensures may { IfOk result (λ asked. asked ≡ (owed.old.count == told)) }
+    ensures asked { IfOk result (λ asked. owed.new.count ≡ owed.old.count + (if asked then 1 else 0)) }
+    ensures refused { OnErr result ((owed.old.count == told) ≡ true) }
     ensures unchanged { OnErr result (owed.new ≡ owed.old) }
 {
+    if owed.count != told {
+        return Ok(false);
+    }
     let Some(more) = owed.count.checked_add(1) else {
         return Err(AllocError);
     };
     owed.count = more;
-    Ok(())
+    Ok(true)
 }
 
 /// How many answers the client is owed.
@@ -198,16 +238,6 @@ fn note(told: &mut VecDeque<usize>, lane: Option<usize>) -> bool {
         Some(place) => told.push_back(place).is_ok(),
         None => true,
     }
-}
-
-/// Whether the client is owed another number of answers than the replies behind so many tell it.
-pub fn owes_beside(owing: &Owing, client: &Caller, replies: &[Reply], seen: usize) -> bool
-    requires { seen ≤ length replies.now }
-    ensures { result ≡ not (owing_to owing.now client.now == length (ids_told client.now (drop seen replies.now))) }
-{
-    let (_, new) = replies.split_at(seen);
-    let told = told_by(new, client);
-    owing_of(owing, client) != told
 }
 
 /// How often the client is told something by the replies.

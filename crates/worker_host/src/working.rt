@@ -4,10 +4,7 @@ ghost use Rattle.std.specs.Prelude.{◌≡◌, [], true, false, IfOk, IfErr, OnE
 ghost use Rattle.std.specs.FinMap as map;
 ghost use Rattle.silo_event.specs.declared.step.Answer.TheVariants as answer;
 ghost use Rattle.silo_event.specs.declared.step.Step.TheVariants as step;
-ghost use Rattle.silo_model.specs.Journal.{LeadsTo};
 ghost use Rattle.silo_model.specs.Opening.{opening};
-ghost use Rattle.silo_model.specs.Pending.{has_pending};
-ghost use Rattle.silo_model.specs.Whole.{shown_to};
 ghost use Rattle.lane_model.specs.Asking.{asker_of};
 ghost use Rattle.lane_model.specs.Pacing.{is_paced};
 ghost use Rattle.silo_state.specs.Entries.{opened_turn};
@@ -19,7 +16,7 @@ ghost use Rattle.worker_host.specs.inside.Working.{may_ask_in, was_done};
 use crate::owed;
 use crate::owed::Owing;
 use client_lanes::Lane;
-use grain_id::{Caller, GrainId, HashSeed};
+use grain_id::{GrainId, HashSeed};
 use grain_kinds::{FinishedTurn, GrainLogic, OpenedTurn};
 use grain_storage::GrainStorage;
 use silo_core::{Setup, Silo};
@@ -104,16 +101,6 @@ impl<S: GrainStorage, L: GrainLogic> WorkingSilo<S, L> {
         silo
     }
 
-    /// Whether a request of the client waits or is open.
-    pub fn has_pending(&self, client: &Caller) -> bool
-        ensures pending { result ≡ has_pending client.now (shown_to client.now.tenant self.now.whole) }
-
-        // What the tenant is shown is where the journal leads.
-        ensures leads { LeadsTo L.logic self.now.setup self.now.journal self.now.whole }
-    {
-        owed::owes_beside(&self.owing, client, self.silo.replies(), self.seen)
-    }
-
     /// Looks at the replies that weren't looked at yet, and puts the lanes of their clients behind those
     /// that were told before.
     ///
@@ -129,37 +116,8 @@ impl<S: GrainStorage, L: GrainLogic> WorkingSilo<S, L> {
         noted
     }
 
-    /// Takes a step by which nobody asks, or a client of whom nothing waits or is open.
-    ///
-    /// # Errors
-    ///
-    /// Out of memory: nothing changed.
-    fn apply(&mut self, alloc: Global, step: Step) -> Result<Answer, StepFault>
-        requires { may_ask_in self.old.whole (asker_of step) ≡ true }
-        ensures { Answered L.logic self.old step result self.new }
-    {
-        let Ok(asker) = owed::ask(&mut self.owing, &step) else {
-            drop(step);
-            return Err(StepFault::Memory);
-        };
-        let answer = self.silo.apply(alloc, step);
-        let done = was_done(&answer);
-        owed::settle(&mut self.owing, &asker, done);
-        answer
-    }
-
-    /// Whether nobody asks by the step, or nothing waits or is open of the client who does.
-    fn may_take(&self, step: &Step) -> bool
-        ensures { result ≡ may_ask_in self.now.whole (asker_of step.now) }
-    {
-        match step.asker() {
-            Some(caller) => !self.has_pending(caller),
-            None => true,
-        }
-    }
-
     /// Takes a step of any kind, unless a client asks by it of whom something waits or is open: then it
-    /// isn't taken now. Goes over the replies that weren't looked at, if a client asks.
+    /// isn't taken now. Goes over the replies that weren't looked at, if a client asks, and looks once for the client.
     ///
     /// # Errors
     ///
@@ -169,11 +127,21 @@ impl<S: GrainStorage, L: GrainLogic> WorkingSilo<S, L> {
         ensures refused { may_ask_in self.old.whole (asker_of step) ≡ false → result ≡ Ok answer.NotNow }
         ensures unchanged { may_ask_in self.old.whole (asker_of step) ≡ false → self.new ≡ self.old }
     {
-        if !self.may_take(&step) {
-            drop(step);
-            return Ok(Answer::NotNow);
-        }
-        self.apply(alloc, step)
+        let asker = match owed::ask(&mut self.owing, &step, self.silo.replies(), self.seen) {
+            Ok(Some(asker)) => asker,
+            Ok(None) => {
+                drop(step);
+                return Ok(Answer::NotNow);
+            }
+            Err(AllocError) => {
+                drop(step);
+                return Err(StepFault::Memory);
+            }
+        };
+        let answer = self.silo.apply(alloc, step);
+        let done = was_done(&answer);
+        owed::settle(&mut self.owing, &asker, done);
+        answer
     }
 
     /// The first waiting request of a ready grain becomes an open turn, if the turn rule allows it.
