@@ -3,3 +3,4 @@ pub mod Places
 pub mod Paced
 pub mod AtWork
 pub mod Served
+pub mod Batched

@@ -1,10 +1,11 @@
 //! What stands under the lock: the silo, the places in the lanes, and the grains at which something may be
 //! to do. All but the silo are hints: what was served is looked at once, when the workers have ended.
 
-ghost use Rattle.std.specs.Prelude.{◌≡◌, ◌+◌, ◌≤◌, IfOk, IsFalse, vec_len};
+ghost use Rattle.std.specs.Prelude.{◌≡◌, ◌+◌, ◌≤◌, IfOk, IsFalse};
+ghost use Rattle.std.specs.VecDeque.{deque_len};
 ghost use Rattle.silo_event.specs.declared.step.Step.TheVariants as step;
 ghost use Rattle.silo_core.specs.Turns.{AnsweredTurn};
-ghost use Rattle.worker_host.specs.inside.Batches.{closing_step, most_turns, turn_of, AreClosed, IsClosed, IsTried, TakenIsClosed};
+ghost use Rattle.worker_host.specs.inside.Batches.{closing_step, most_turns, turn_of, AreClosed, IsClosed, IsTried};
 
 use crate::pace::Pace;
 use crate::working::WorkingSilo;
@@ -17,9 +18,8 @@ use silo_event::{Answer, Step, StepFault};
 use std::alloc::{AllocError, Global};
 use std::collections::VecDeque;
 
-/// A turn that a worker took: opened, and once its body ran what it came to, or opened still if memory was
-/// refused. None while its body runs.
-pub type TakenTurn<L> = Option<Result<FinishedTurn<L>, OpenedTurn>>;
+/// A turn whose body ran: what it came to, or opened still if memory was refused.
+pub type RanTurn<L> = Result<FinishedTurn<L>, OpenedTurn>;
 
 /// What a worker does next.
 #[derive(Clone, Copy)]
@@ -121,14 +121,7 @@ impl<S: GrainStorage + Drop, L: GrainLogic + Drop> Schedule<S, L> {
 impl<S: GrainStorage, L: GrainLogic> Schedule<S, L> {
     /// A worker comes to the lock: for the first time, or with turns whose bodies ran, which are closed. Maybe it met another there, and
     /// before the bodies it woke another by this waking, if by any.
-    pub fn come(
-        &mut self,
-        alloc: Global,
-        first: bool,
-        met: bool,
-        waking: u64,
-        turns: &[TakenTurn<L>],
-    )
+    pub fn come(&mut self, alloc: Global, first: bool, met: bool, waking: u64, turns: &[RanTurn<L>])
         ensures { AreClosed L.logic self.old.silo turns.now self.new.silo }
     {
         if first {
@@ -141,23 +134,20 @@ impl<S: GrainStorage, L: GrainLogic> Schedule<S, L> {
 
     /// Closes turns by what they came to, one after another. If memory is refused for more than that, all is
     /// given up.
-    fn close_all(&mut self, alloc: Global, turns: &[TakenTurn<L>])
+    fn close_all(&mut self, alloc: Global, turns: &[RanTurn<L>])
         ensures { AreClosed L.logic self.old.silo turns.now self.new.silo }
     {
         let mut rest = turns;
-        'turns: while let Some((taken, others)) = rest.split_first() {
-            self.close_taken(alloc, taken);
+        'turns: while let Some((turn, others)) = rest.split_first() {
+            self.close_ran(alloc, turn);
             rest = others;
         }
     }
 
-    /// Closes a turn that was taken, if there is one.
-    fn close_taken(&mut self, alloc: Global, taken: &TakenTurn<L>)
-        ensures { TakenIsClosed L.logic self.old.silo taken.now self.new.silo }
+    /// Closes a turn whose body ran.
+    fn close_ran(&mut self, alloc: Global, turn: &RanTurn<L>)
+        ensures { IsClosed L.logic self.old.silo (turn_of turn.now) self.new.silo }
     {
-        let Some(turn) = taken else {
-            return;
-        };
         self.open = self.open.saturating_sub(1);
         if self.close(alloc, turn).is_err() {
             self.stopped = true;
@@ -165,11 +155,7 @@ impl<S: GrainStorage, L: GrainLogic> Schedule<S, L> {
     }
 
     /// Closes a turn by what it came to. If that fails, or its body got no memory, the turn is given up.
-    fn close(
-        &mut self,
-        alloc: Global,
-        turn: &Result<FinishedTurn<L>, OpenedTurn>,
-    ) -> Result<(), StepFault>
+    fn close(&mut self, alloc: Global, turn: &RanTurn<L>) -> Result<(), StepFault>
         ensures { IsClosed L.logic self.old.silo (turn_of turn.now) self.new.silo }
     {
         match turn {
@@ -191,6 +177,12 @@ impl<S: GrainStorage, L: GrainLogic> Schedule<S, L> {
             StoreCall::None => self.silo.end(alloc, finished),
             _ => self.silo.store(alloc, finished),
         }
+    }
+
+    /// All is given up, by a worker that ends.
+    pub fn give_up_all(&mut self) {
+        self.stopped = true;
+        self.pace.leave();
     }
 
     /// Gives up a turn that is open.
@@ -252,10 +244,10 @@ impl<S: GrainStorage, L: GrainLogic> Schedule<S, L> {
         &mut self,
         alloc: Global,
         lanes: &[Lane],
-        turns: &mut Vec<TakenTurn<L>>,
+        turns: &mut VecDeque<OpenedTurn>,
         first: bool,
     ) -> Task
-        ensures { vec_len turns.old ≤ most_turns first → vec_len turns.new ≤ most_turns first }
+        ensures { deque_len turns.old ≤ most_turns first → deque_len turns.new ≤ most_turns first }
     {
         if self.pace.rests() {
             return Task::Wait;
@@ -281,10 +273,10 @@ impl<S: GrainStorage, L: GrainLogic> Schedule<S, L> {
         &mut self,
         alloc: Global,
         lanes: &[Lane],
-        turns: &mut Vec<TakenTurn<L>>,
+        turns: &mut VecDeque<OpenedTurn>,
         first: bool,
     ) -> Result<(), StepFault>
-        ensures { vec_len turns.old ≤ most_turns first → vec_len turns.new ≤ most_turns first }
+        ensures { deque_len turns.old ≤ most_turns first → deque_len turns.new ≤ most_turns first }
     {
         self.note_told()?;
         let share = self.pace.share_of(first, self.seen_work());
@@ -307,9 +299,9 @@ impl<S: GrainStorage, L: GrainLogic> Schedule<S, L> {
         &mut self,
         alloc: Global,
         lanes: &[Lane],
-        turns: &mut Vec<TakenTurn<L>>,
+        turns: &mut VecDeque<OpenedTurn>,
     ) -> Result<bool, StepFault>
-        ensures { vec_len turns.new ≤ vec_len turns.old + 1 }
+        ensures { deque_len turns.new ≤ deque_len turns.old + 1 }
     {
         if let Some(grain) = self.grains.pop_front() {
             self.go_on_waiting(alloc, &grain, turns)?;
@@ -337,9 +329,9 @@ impl<S: GrainStorage, L: GrainLogic> Schedule<S, L> {
         &mut self,
         alloc: Global,
         grain: &GrainId,
-        turns: &mut Vec<TakenTurn<L>>,
+        turns: &mut VecDeque<OpenedTurn>,
     ) -> Result<(), StepFault>
-        ensures { vec_len turns.new ≤ vec_len turns.old + 1 }
+        ensures { deque_len turns.new ≤ deque_len turns.old + 1 }
     {
         if self.begin(alloc, grain, turns)? {
             return Ok(());
@@ -352,9 +344,9 @@ impl<S: GrainStorage, L: GrainLogic> Schedule<S, L> {
         &mut self,
         alloc: Global,
         grain: &GrainId,
-        turns: &mut Vec<TakenTurn<L>>,
+        turns: &mut VecDeque<OpenedTurn>,
     ) -> Result<(), StepFault>
-        ensures { vec_len turns.new ≤ vec_len turns.old + 1 }
+        ensures { deque_len turns.new ≤ deque_len turns.old + 1 }
     {
         match self.silo.silo().work_on(grain) {
             Some(PossibleStep::Begin) => {
@@ -376,9 +368,9 @@ impl<S: GrainStorage, L: GrainLogic> Schedule<S, L> {
         &mut self,
         alloc: Global,
         grain: &GrainId,
-        turns: &mut Vec<TakenTurn<L>>,
+        turns: &mut VecDeque<OpenedTurn>,
     ) -> Result<(), StepFault>
-        ensures { vec_len turns.new ≤ vec_len turns.old + 1 }
+        ensures { deque_len turns.new ≤ deque_len turns.old + 1 }
     {
         let load = Step::Load {
             grain: grain.clone()?,
@@ -394,10 +386,10 @@ impl<S: GrainStorage, L: GrainLogic> Schedule<S, L> {
         &mut self,
         alloc: Global,
         grain: &GrainId,
-        turns: &mut Vec<TakenTurn<L>>,
+        turns: &mut VecDeque<OpenedTurn>,
     ) -> Result<bool, StepFault>
-        ensures one { vec_len turns.new ≤ vec_len turns.old + 1 }
-        ensures none { IfOk result (λ begun. IsFalse begun → vec_len turns.new ≡ vec_len turns.old) }
+        ensures one { deque_len turns.new ≤ deque_len turns.old + 1 }
+        ensures none { IfOk result (λ begun. IsFalse begun → deque_len turns.new ≡ deque_len turns.old) }
     {
         let own = grain.clone()?;
         let Some(turn) = self.silo.begin(alloc, own)? else {
@@ -407,7 +399,7 @@ impl<S: GrainStorage, L: GrainLogic> Schedule<S, L> {
         if turn.reading {
             self.note_more(&turn.grain)?;
         }
-        let Ok(()) = turns.push(Some(Err(turn))) else {
+        let Ok(()) = turns.push_back(turn) else {
             return Err(StepFault::Memory);
         };
         Ok(true)
@@ -418,9 +410,9 @@ impl<S: GrainStorage, L: GrainLogic> Schedule<S, L> {
         &mut self,
         alloc: Global,
         grain: GrainId,
-        turns: &mut Vec<TakenTurn<L>>,
+        turns: &mut VecDeque<OpenedTurn>,
     ) -> Result<(), StepFault>
-        ensures { vec_len turns.new ≤ vec_len turns.old + 1 }
+        ensures { deque_len turns.new ≤ deque_len turns.old + 1 }
     {
         let target = match self.silo.silo().first_target(&grain) {
             Some(target) => target.clone()?,
@@ -440,9 +432,9 @@ impl<S: GrainStorage, L: GrainLogic> Schedule<S, L> {
         alloc: Global,
         lane: &Lane,
         index: usize,
-        turns: &mut Vec<TakenTurn<L>>,
+        turns: &mut VecDeque<OpenedTurn>,
     ) -> Result<(), StepFault>
-        ensures { vec_len turns.new ≤ vec_len turns.old + 1 }
+        ensures { deque_len turns.new ≤ deque_len turns.old + 1 }
     {
         let Some(step) = self.lanes.next_step(lane, index) else {
             return Ok(());

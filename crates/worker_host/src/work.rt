@@ -1,26 +1,27 @@
 //! Serving lanes by threads.
 
-ghost use Rattle.std.specs.Prelude.{◌≡◌, ◌≤◌, ℕ, List, IfOk, map as map_list};
+ghost use Rattle.std.specs.Prelude.{◌≡◌, ◌+◌, ◌≤◌, ◌++◌, ℕ, List, IfOk, map as map_list, vec_len, vec_capacity};
+ghost use Rattle.std.specs.VecDeque.{deque_len};
 ghost use Rattle.silo_model.specs.Opening.{start_of};
 ghost use Rattle.silo_model.specs.Run.{machine_run, restricted_to};
 ghost use Rattle.silo_model.specs.Whole.{shown_to};
 ghost use Rattle.lane_model.specs.Lanes.{AreDistinct};
 ghost use Rattle.lane_model.specs.Serving.{AreServed};
 ghost use Rattle.worker_host.specs.SetupCopy.{AreAnswered};
-ghost use Rattle.worker_host.specs.inside.Batches.{turn_in};
+ghost use Rattle.worker_host.specs.inside.Batches.{turn_of};
 
 use crate::gate::TurnGate;
 use crate::report::{ServeFault, ServeReport, SetupCopy, settle};
-use crate::schedule::{LanePlaces, Schedule, TakenTurn, Task};
+use crate::schedule::{LanePlaces, RanTurn, Schedule, Task};
 use crate::working::WorkingSilo;
 use bumpalo::Bump;
 use client_lanes::Lane;
 use grain_id::HashSeed;
-use grain_kinds::{GrainLogic, run_turn};
+use grain_kinds::{GrainLogic, OpenedTurn, run_turn};
 use grain_storage::GrainStorage;
 use silo_core::Setup;
 use std::alloc::Global;
-use std::mem::swap;
+use std::collections::VecDeque;
 use std::sync::atomic::{AtomicUsize, Ordering};
 use std::sync::{Condvar, Mutex, MutexGuard, Wait};
 use std::thread;
@@ -30,9 +31,9 @@ use std::thread::Threads;
 #[derive(Drop)]
 struct Worker<L: GrainLogic> {
     /// Those whose bodies ran.
-    ran: Vec<TakenTurn<L>>,
+    ran: Vec<RanTurn<L>>,
     /// Those that it took since.
-    taken: Vec<TakenTurn<L>>,
+    taken: VecDeque<OpenedTurn>,
     started: bool,
     /// By which waking it woke another before their bodies, or 0 if by none.
     waking: u64,
@@ -100,39 +101,22 @@ fn next_turns<S: GrainStorage, L: GrainLogic, R: Wait>(
     unreachable!()
 }
 
-/// The turn with what its body came to, if it is opened still.
-fn with_body<L: GrainLogic, G: TurnGate>(
-    alloc: Global,
-    arena: &Bump,
-    gate: &G,
-    logic: &L,
-    taken: TakenTurn<L>,
-) -> TakenTurn<L>
-    ensures { turn_in result ≡ turn_in taken }
-{
-    match taken {
-        Some(Err(opened)) => {
-            gate.entered(&opened.grain, opened.number);
-            Some(run_turn(alloc, arena, logic, opened))
-        }
-        other => other,
-    }
-}
-
 /// Runs the body of a turn, in an arena that is reset after it.
 fn run<L: GrainLogic, G: TurnGate>(
     alloc: Global,
     arena: &mut Bump,
     gate: &G,
     logic: &L,
-    taken: &mut TakenTurn<L>,
-)
-    ensures { turn_in taken.new ≡ turn_in taken.old }
+    opened: OpenedTurn,
+) -> RanTurn<L>
+    ensures { turn_of result ≡ opened }
 {
-    *taken = with_body(alloc, arena, gate, logic, taken.take());
+    gate.entered(&opened.grain, opened.number);
+    let ran = run_turn(alloc, arena, logic, opened);
     if arena.reset().is_err() {
         *arena = Bump::new(alloc);
     }
+    ran
 }
 
 /// Runs the bodies of turns, one after another. Each has its own result then, and none is lost.
@@ -141,16 +125,30 @@ fn run_all<L: GrainLogic, G: TurnGate>(
     arena: &mut Bump,
     gate: &G,
     logic: &L,
-    turns: &mut [TakenTurn<L>],
+    taken: &mut VecDeque<OpenedTurn>,
+    ran: &mut Vec<RanTurn<L>>,
 )
-    ensures { map_list turn_in turns.new ≡ map_list turn_in turns.old }
+    requires { vec_len ran.old + deque_len taken.old ≤ vec_capacity ran.old }
+    ensures { map_list turn_of ran.new.items ≡ map_list turn_of ran.old.items ++ taken.old.items }
 {
-    'turns: for taken in turns.iter_mut() {
-        run(alloc, arena, gate, logic, taken);
+    'turns: while let Some(opened) = taken.pop_front() {
+        ran.push_reserved(run(alloc, arena, gate, logic, opened));
     }
 }
 
-/// One worker, with an arena of its own.
+/// A worker gives all up, and ends.
+fn give_up<S: GrainStorage, L: GrainLogic, R: Wait>(
+    rt: &R,
+    schedule: &Mutex<Schedule<S, L>>,
+    changed: &Condvar,
+) {
+    let mut held = schedule.lock(rt);
+    held.give_up_all();
+    drop(held);
+    changed.notify_all();
+}
+
+/// One worker, with an arena of its own. If there is no memory for what its turns come to, all is given up.
 fn work<S: GrainStorage, L: GrainLogic + Drop, G: TurnGate, R: Wait>(
     rt: &R,
     alloc: Global,
@@ -164,7 +162,7 @@ fn work<S: GrainStorage, L: GrainLogic + Drop, G: TurnGate, R: Wait>(
     let mut arena = Bump::new(alloc);
     let mut worker = Worker {
         ran: Vec::new(alloc),
-        taken: Vec::new(alloc),
+        taken: VecDeque::new(alloc),
         started: false,
         waking: 0,
     };
@@ -173,8 +171,12 @@ fn work<S: GrainStorage, L: GrainLogic + Drop, G: TurnGate, R: Wait>(
             break;
         }
         worker.ran.clear();
-        swap(&mut worker.ran, &mut worker.taken);
-        run_all(alloc, &mut arena, gate, &logic, worker.ran.as_mut_slice());
+        let Ok(()) = worker.ran.reserve(worker.taken.len()) else {
+            give_up(rt, schedule, changed);
+            break;
+        };
+        let Worker { ran, taken, .. } = &mut worker;
+        run_all(alloc, &mut arena, gate, &logic, taken, ran);
     }
 }
 

@@ -1,5 +1,5 @@
 -- Turns that a worker took at once: how many they are, which they are, and what closing them leaves.
-use Rattle.std.specs.Prelude.{◌≡◌, ◌⊎◌, ℕ, Bool, false, List, [], ◌∷◌, Option, Some, None, option_map, Result, Ok, Err, if◌then◌else◌}
+use Rattle.std.specs.Prelude.{◌≡◌, ◌⊎◌, ℕ, Bool, false, List, [], ◌∷◌, Result, Ok, Err, if◌then◌else◌}
 use Rattle.silo_event.specs.declared.step.Answer.{Answer}
 use Rattle.silo_event.specs.declared.step.Step.{Step}
 use Rattle.silo_event.specs.declared.step.Step.TheVariants.{Abandon, End, Store}
@@ -15,18 +15,14 @@ most_turns first = if first then 1 else 32
 
 -- ---- which turn it is
 
--- what a worker has of a turn that it took: the turn whose plan was made, or the one that is opened still
-abbrev pub Taken : Type 0
-Taken = Option (Result OpenedTurn OpenedTurn)
+-- what a worker has of a turn whose body ran: the turn whose plan was made, or the one that is opened still
+abbrev pub Ran : Type 0
+Ran = Result OpenedTurn OpenedTurn
 
 -- the turn, with a plan or without
-abbrev pub turn_of : Result OpenedTurn OpenedTurn → OpenedTurn
+abbrev pub turn_of : Ran → OpenedTurn
 turn_of (Ok finished) = finished
 turn_of (Err opened) = opened
-
--- the turn that was taken, if one was
-abbrev pub turn_in : Taken → Option OpenedTurn
-turn_in taken = option_map turn_of taken
 
 -- ---- what closing turns leaves
 
@@ -49,12 +45,7 @@ IsTried logic old s new = (answer : Result Answer StepFault) × Answered logic o
 abbrev pub IsClosed : Logic → History → OpenedTurn → History → Type 0
 IsClosed logic old turn new = IsTried logic old (closing_step logic turn) new ⊎ IsTried logic old (Abandon turn.grain turn.number) new
 
--- That turn was closed so. If there is none, nothing changed.
-abbrev pub TakenIsClosed : Logic → History → Taken → History → Type 0
-TakenIsClosed logic old None new = new ≡ old
-TakenIsClosed logic old (Some turn) new = IsClosed logic old (turn_of turn) new
-
 -- Each was closed so, one after another.
-abbrev pub AreClosed : Logic → History → List Taken → History → Type 0
+abbrev pub AreClosed : Logic → History → List Ran → History → Type 0
 AreClosed logic old [] new = new ≡ old
-AreClosed logic old (taken ∷ others) new = (mid : History) × TakenIsClosed logic old taken mid × AreClosed logic mid others new
+AreClosed logic old (turn ∷ others) new = (mid : History) × IsClosed logic old (turn_of turn) mid × AreClosed logic mid others new

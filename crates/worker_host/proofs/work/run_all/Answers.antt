@@ -1,7 +1,19 @@
-use Rattle.std.proofs.Common.{◌∙◌}
-use Rattle.std.proofs.Math.Seq.{map-set_same}
-use Rattle.worker_host.specs.inside.Batches.{turn_in}
+use Rattle.std.proofs.Common.{List, [], ◌∷◌, ◌++◌, length, ap, sym, ◌∙◌, arith, length-append}
+use Rattle.std.specs.Prelude.{map as map_list}
+use Rattle.std.proofs.lemmas.List.{map-append}
+use Rattle.grain_kinds.specs.declared.turn.OpenedTurn.{OpenedTurn}
+use Rattle.worker_host.specs.inside.Batches.{Ran, turn_of}
+use Rattle.worker_host.proofs.Batched.{one_ran}
 use Rattle.worker_host.proofs.work.run_all.Goals as goal
 
 pub turns-preserved : goal.turns-preserved
-turns-preserved g c = map-set_same turn_in c.turns.turns c.turns.taken-index c.run.new.taken c.taken-item.result c.run.ensures ∙ c.turns.invariant
+turns-preserved g c =
+    let had = c.turns.ran.items in
+    let left = c.pop_front.new.self.items in
+    let turn = c.run.result in
+    let grown = c.push_reserved.ensures.items in
+    let front = c.in-Some.ensures.items in
+    record {
+      turns = one_ran had left turn c.in-Some.opened c.push_reserved.new.self.items c.turns.taken.items grown front c.run.ensures ∙ c.turns.invariant.turns;
+      room = omega (arith, ap length grown, length-append had (turn ∷ []), ap length front, c.turns.invariant.room, c.push_reserved.ensures.capacity);
+    }
