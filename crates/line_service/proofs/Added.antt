@@ -31,10 +31,6 @@ gives_at lanes s giver place lane given placed at =
     let from_is : lane.from ≡ giver = ap (λ (l : Lane). l.from) at ∙ sym (from_at lanes place lane) ∙ placed.1 lane.from in
     subst (λ (from : Option Client). may_give from s ≡ true) (sym from_is) (gives s giver given)
 
--- a lane of the giver may give the step
-pub gives_from : (s : Step) (giver from : Option Client) (lane : Lane) → giver_of s ≡ Some giver → from ≡ giver → lane ≡ record { from = from; steps = [] } → may_give lane.from s ≡ true
-gives_from s giver from lane given from_is lane_is = subst (λ (f : Option Client). may_give f s ≡ true) (sym (ap (λ (l : Lane). l.from) lane_is ∙ from_is)) (gives s giver given)
-
 -- a step more leaves whose the lanes are
 pub froms_stay : (lanes : List Lane) (place : ℕ) (lane new : Lane) → lane ≡ slice_index_or lanes place lane → new.from ≡ lane.from → froms_of (slice_set lanes place new) ≡ froms_of lanes
 froms_stay [] place lane new at same = refl

@@ -2,14 +2,15 @@
 
 ghost use Rattle.std.specs.Prelude.{◌≡◌, ◌++◌, ◌∷◌, [], IfOk, List, OnOk, Some};
 ghost use Rattle.silo_event.specs.declared.step.Step.{Step as StepValue};
+ghost use Rattle.lane_model.specs.Asking.{asker_of};
 ghost use Rattle.lane_model.specs.Lanes.{AreDistinct};
 ghost use Rattle.line_service.specs.Asked.{giver_of, lanes_by, lanes_of, refusals_of};
 ghost use Rattle.line_service.specs.inside.Places.{ArePlaced};
 
-use crate::giver::{copy_of, giver_of};
+use crate::giver::{asker_of, is_given};
+use crate::lane_places::LanePlaces;
 use client_lanes::Lane;
-use grain_id::{Caller, HashSeed};
-use indexmap::IndexMap;
+use grain_id::HashSeed;
 use line_parser::{Line, LineRefusal};
 use silo_event::Step;
 use std::alloc::{AllocError, Global};
@@ -22,9 +23,6 @@ pub struct LanesAndRefusals {
     /// The refusals of the lines that are of no lane, in order.
     pub refusals: Vec<LineRefusal>,
 }
-
-/// The place of each lane, by whose it is.
-type Places = IndexMap<Option<Caller>, usize, HashSeed>;
 
 /// The lanes that the lines ask for, and the refusals of the other lines. A step goes to the lane that
 /// gives it; a step that no lane gives, or that has the mark of a failure, is refused as no request. One
@@ -44,15 +42,18 @@ pub fn asked_by(
 {
     let mut lanes = Vec::new(alloc);
     let mut refusals = Vec::new(alloc);
-    let mut places = IndexMap::with_hasher(alloc, seed);
+    let mut places = LanePlaces::seeded(alloc, seed);
     'lines: for line in lines {
         match line {
             Line::Nothing => {}
             Line::Refusal(refusal) => refusals.push(refusal)?,
-            Line::Step(step) => match giver_of(&step)? {
-                Some(giver) => add_step(alloc, &mut lanes, &mut places, giver, step)?,
-                None => refusals.push(LineRefusal::NotARequest)?,
-            },
+            Line::Step(step) => {
+                if is_given(&step) {
+                    add_step(alloc, &mut lanes, &mut places, step)?;
+                } else {
+                    refusals.push(LineRefusal::NotARequest)?;
+                }
+            }
         }
     }
     Ok(LanesAndRefusals { lanes, refusals })
@@ -63,26 +64,25 @@ pub fn asked_by(
 fn add_step(
     alloc: Global,
     lanes: &mut Vec<Lane>,
-    places: &mut Places,
-    giver: Option<Caller>,
+    places: &mut LanePlaces,
     step: Step,
 ) -> Result<(), AllocError>
-    requires given { giver_of step ≡ Some giver }
+    requires given { giver_of step ≡ Some (asker_of step) }
     requires placed { ArePlaced places.now lanes.now.items }
     ensures lanes { OnOk result ((steps : List StepValue) → lanes.old.items ≡ lanes_by steps → lanes.new.items
         ≡ lanes_by (steps ++ step ∷ [])) }
     ensures placed { OnOk result (ArePlaced places.new lanes.new.items) }
 {
-    if let Some(place) = places.get(&giver) {
-        let place = *place;
+    if let Some(place) = places.place_for(&step) {
         lanes[place].add(step)?;
         return Ok(());
     }
-    let from = copy_of(&giver)?;
+    let giver = asker_of(&step)?;
+    let from = asker_of(&step)?;
     let mut lane = Lane::empty(alloc, from);
     lane.add(step)?;
     let place = lanes.len();
     lanes.push(lane)?;
-    places.insert(giver, place)?;
+    places.put(giver, place)?;
     Ok(())
 }

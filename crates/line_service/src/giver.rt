@@ -1,48 +1,42 @@
-//! Whose lane gives a step.
+//! Whether a lane gives a step, and whose it is.
 
-ghost use Rattle.std.specs.Prelude.{◌≡◌, IfOk, Some};
+ghost use Rattle.std.specs.Prelude.{◌≡◌, Some, None, IfOk, if◌then◌else◌};
+ghost use Rattle.lane_model.specs.Asking.{asker_of};
 ghost use Rattle.line_service.specs.Asked.{giver_of};
 
 use grain_id::Caller;
 use silo_event::Step;
 use std::alloc::AllocError;
 
-/// Whose lane gives the step, if one does: that of the client who asks, or nobody's.
-pub(crate) fn giver_of(step: &Step) -> Result<Option<Option<Caller>>, AllocError>
-    ensures { IfOk result (λ giver. giver ≡ giver_of step.now) }
+/// Whether a lane gives the step: that of the client who asks, or nobody's if none does.
+pub(crate) fn is_given(step: &Step) -> bool
+    ensures { giver_of step.now ≡ (if result then Some (asker_of step.now) else None) }
 {
     if step.has_failed() {
-        return Ok(None);
+        return false;
     }
     match step {
-        Step::Refuse { caller, .. } => lane_of_client(caller),
-        Step::Call { caller, .. } => lane_of_client(caller),
-        Step::Poke { caller, .. } => lane_of_client(caller),
-        Step::Status { caller, .. } => lane_of_client(caller),
-        Step::Deliver { .. } => Ok(None),
-        Step::Activate { .. } => Ok(None),
-        Step::Load { .. } => Ok(None),
-        Step::Begin { .. } => Ok(None),
-        Step::Store { .. } => Ok(None),
-        Step::End { .. } => Ok(None),
-        Step::Abandon { .. } => Ok(None),
-        Step::Tick { .. } => Ok(Some(None)),
-        Step::Sweep => Ok(Some(None)),
+        Step::Refuse { .. } => true,
+        Step::Call { .. } => true,
+        Step::Poke { .. } => true,
+        Step::Status { .. } => true,
+        Step::Deliver { .. } => false,
+        Step::Activate { .. } => false,
+        Step::Load { .. } => false,
+        Step::Begin { .. } => false,
+        Step::Store { .. } => false,
+        Step::End { .. } => false,
+        Step::Abandon { .. } => false,
+        Step::Tick { .. } => true,
+        Step::Sweep => true,
     }
 }
 
-/// The lane of this client.
-fn lane_of_client(caller: &Caller) -> Result<Option<Option<Caller>>, AllocError>
-    ensures { IfOk result (λ giver. giver ≡ Some (Some caller.now)) }
+/// The client who asks by the step, if one does.
+pub(crate) fn asker_of(step: &Step) -> Result<Option<Caller>, AllocError>
+    ensures { IfOk result (λ asker. asker ≡ asker_of step.now) }
 {
-    Ok(Some(Some(caller.clone()?)))
-}
-
-/// A copy of whose a lane is.
-pub(crate) fn copy_of(giver: &Option<Caller>) -> Result<Option<Caller>, AllocError>
-    ensures { IfOk result (λ copy. copy ≡ giver.now) }
-{
-    match giver {
+    match step.asker() {
         Some(caller) => Ok(Some(caller.clone()?)),
         None => Ok(None),
     }

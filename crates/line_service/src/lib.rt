@@ -5,12 +5,13 @@
 //! `serve_input` reads all lines before it serves any, and what it answers is what serving their lanes
 //! leaves, over no rows at the start; `write_served` writes exactly the text of that. What lines ask for
 //! is defined in `specs/Asked.antt`, what was served in `specs/Serving.antt`, the text in
-//! `specs/ServedText.antt`; how code keeps the place of each lane is in `specs/Places.antt`.
+//! `specs/ServedText.antt`; how code keeps the place of each lane is in `specs/inside/Places.antt`.
 #![tactic(auto)]
 
 mod asked;
 mod fault;
 mod giver;
+mod lane_places;
 mod serving;
 mod told;
 mod writing;
