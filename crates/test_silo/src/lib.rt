@@ -1,31 +1,21 @@
-//! Worked runs of whole silos: lines of JSON in, lines of JSON out, over storages, readers and writers that
-//! fail, and memory that is refused.
+//! Worked runs of whole silos, by each way in which one is asked: steps, lines that are answered at once, lanes that threads
+//! serve, and journals that are audited; over storages, readers and writers that fail, and memory that is refused.
 //!
-//! They stand in a crate of their own, since a crate with tests is proved twice, with them and without.
-//! Any of them may be refused its memory: it passes all the same, or says so.
+//! They stand in a crate of their own, since a crate with tests is proved twice, with them and without; and in one, since
+//! each crate of tests loads anew what it calls, which takes longer than most tests do.
 #![tactic(auto)]
 
 #[cfg(test)]
-mod ages;
+mod answers;
 #[cfg(test)]
-mod arenas;
+mod audits;
 #[cfg(test)]
-mod at_once;
+mod failing;
 #[cfg(test)]
-mod lines;
+mod meeting;
 #[cfg(test)]
-mod methods;
+mod serving;
 #[cfg(test)]
-mod refusals;
+mod setups;
 #[cfg(test)]
-mod rows;
-#[cfg(test)]
-mod silos;
-#[cfg(test)]
-mod strangers;
-#[cfg(test)]
-mod streams;
-#[cfg(test)]
-mod todo;
-#[cfg(test)]
-mod worked;
+mod steps;

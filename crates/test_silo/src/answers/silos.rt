@@ -1,0 +1,101 @@
+//! Silos that answer at once, and calls of them, each in a function without clauses: the clauses of a call stand before
+//! all later goals of the body that makes it.
+
+use crate::setups::setup_over;
+use grain_id::HashSeed;
+use grain_kinds::Kinds;
+use grain_storage::{FusedStorage, MemoryStorage};
+use line_answer::{AnsweringSilo, Input, LineFault, Output, answer_lines};
+use silo_core::{Setup, Silo};
+use silo_event::{Moment, Reply, Step};
+use std::alloc::{AllocError, Global};
+use std::io::{Read, Write};
+use std::test::Fail;
+
+/// A silo of counters, sheets and relays over rows in memory, of whose calls one may fail.
+pub type TestedSilo = AnsweringSilo<FusedStorage, Kinds>;
+
+/// Over no rows. The storage fails that call, or none if it is 0. Red and blue have 3 activations, and grains are idle for 5
+/// milliseconds.
+fn setup(alloc: Global, fails_at: u64) -> Result<Setup<FusedStorage, Kinds>, Fail> {
+    let storage = FusedStorage::new(MemoryStorage::new(alloc), fails_at);
+    setup_over(alloc, &["red", "blue"], 3, 5, storage, Kinds)
+}
+
+fn opened(alloc: Global, setup: Setup<FusedStorage, Kinds>) -> Result<TestedSilo, AllocError> {
+    AnsweringSilo::new(alloc, setup)
+}
+
+fn opened_by(
+    alloc: Global,
+    setup: Setup<FusedStorage, Kinds>,
+    seed: u64,
+) -> Result<TestedSilo, AllocError> {
+    AnsweringSilo::seeded(alloc, setup, HashSeed::new(seed))
+}
+
+/// A silo over no rows, whose storage fails that call, or none if it is 0.
+pub fn new_silo(alloc: Global, fails_at: u64) -> Result<TestedSilo, Fail> {
+    Ok(opened(alloc, setup(alloc, fails_at)?)?)
+}
+
+/// A silo over no rows, whose grains are found by hashes from this seed.
+pub fn seeded_silo(alloc: Global, seed: u64) -> Result<TestedSilo, Fail> {
+    Ok(opened_by(alloc, setup(alloc, 0)?, seed)?)
+}
+
+/// Answers the lines of the reader: how that ends, but for want of memory.
+pub fn ended<R: Read, W: Write>(
+    alloc: Global,
+    silo: &mut TestedSilo,
+    most: u64,
+    input: &mut Input<R>,
+    output: &mut Output<W>,
+) -> Result<Result<u64, LineFault>, Fail> {
+    if silo.is_stopped() {
+        return Err(Fail::from("the silo has stopped"));
+    }
+    match answer_lines(alloc, input, output, silo, most) {
+        Err(LineFault::Memory) => Err(Fail::from(AllocError)),
+        end => Ok(end),
+    }
+}
+
+/// Answers a tick.
+pub fn tick(alloc: Global, silo: &mut TestedSilo, now: u64) -> Result<bool, Fail> {
+    if silo.is_stopped() {
+        return Err(Fail::from("the silo has stopped"));
+    }
+    let now = Moment::new(now).ok_or("no moment")?;
+    Ok(silo.answer(alloc, Step::Tick { now }, 0)?)
+}
+
+/// Answers sweeping.
+pub fn sweep(alloc: Global, silo: &mut TestedSilo) -> Result<bool, Fail> {
+    if silo.is_stopped() {
+        return Err(Fail::from("the silo has stopped"));
+    }
+    Ok(silo.answer(alloc, Step::Sweep, 0)?)
+}
+
+pub fn replies(silo: &TestedSilo) -> &[Reply] {
+    silo.replies()
+}
+
+pub fn journal(silo: &TestedSilo) -> &[Step] {
+    silo.journal()
+}
+
+/// How many steps the silo inside took.
+pub fn taken(silo: &TestedSilo) -> usize {
+    taken_alone(silo.silo())
+}
+
+/// How many steps the silo took.
+pub fn taken_alone(silo: &Silo<FusedStorage, Kinds>) -> usize {
+    silo.journal().len()
+}
+
+pub fn alone(silo: TestedSilo) -> Silo<FusedStorage, Kinds> {
+    silo.into_silo()
+}

@@ -1,0 +1,5 @@
+//! Journals, and their audit.
+
+mod reports;
+mod resting;
+mod served;

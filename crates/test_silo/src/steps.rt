@@ -1,0 +1,16 @@
+//! Silos that take steps: worked rows of lines, with what is told and stored after them.
+//!
+//! Any of these tests may be refused its memory: it passes all the same, or says so.
+
+mod ages;
+mod arenas;
+mod at_once;
+mod lines;
+mod methods;
+mod refusals;
+mod rows;
+mod silos;
+mod strangers;
+mod streams;
+mod todo;
+mod worked;

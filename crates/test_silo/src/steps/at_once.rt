@@ -1,0 +1,145 @@
+//! Calls that are served at once, beside the same calls taken step by step.
+
+use crate::steps::lines::{shown, steps_of};
+use crate::steps::silos::{TestedSilo, apply, new_silo};
+use bumpalo::Bump;
+use grain_id::GrainId;
+use silo_event::Step;
+use std::alloc::Global;
+use std::test::Fail;
+
+/// What brings two grains up.
+static BEFORE: &str =
+    r#"{"op":"call","from":"red/c1","id":1,"grain":"counter/red:a","method":"add","args":{"by":1}}
+{"op":"activate","grain":"counter/red:a"}
+{"op":"load","grain":"counter/red:a"}
+{"op":"begin","grain":"counter/red:a"}
+{"op":"end","grain":"counter/red:a","turn":1}
+{"op":"call","from":"red/c1","id":2,"grain":"relay/red:r","method":"join","args":{"grain":"counter/red:a"}}
+{"op":"activate","grain":"relay/red:r"}
+{"op":"load","grain":"relay/red:r"}
+{"op":"begin","grain":"relay/red:r"}
+{"op":"end","grain":"relay/red:r","turn":2}
+"#;
+
+/// The calls behind that: of a turn that writes, of one that reads, of one that has no value, and of one that sends; then of a turn that
+/// asks for the storage, of a grain that has no activation, of a caller of another tenant, and of the grain whose turn is open.
+static CALLS: &str =
+    r#"{"op":"call","from":"red/c1","id":3,"grain":"counter/red:a","method":"add","args":{"by":2}}
+{"op":"call","from":"red/c2","id":4,"grain":"counter/red:a","method":"get","args":null}
+{"op":"call","from":"red/c1","id":5,"grain":"counter/red:a","method":"add","args":{"by":"two"}}
+{"op":"call","from":"red/c1","id":6,"grain":"relay/red:r","method":"send","args":{"method":"add","args":{"by":3}}}
+{"op":"call","from":"red/c1","id":7,"grain":"counter/red:a","method":"save","args":null}
+{"op":"call","from":"blue/c1","id":8,"grain":"counter/blue:b","method":"get","args":null}
+{"op":"call","from":"blue/c1","id":9,"grain":"counter/red:a","method":"get","args":null}
+{"op":"call","from":"red/c1","id":10,"grain":"counter/red:a","method":"get","args":null}
+"#;
+
+/// Which of the calls were served at once.
+static AT_ONCE: &str = "yes yes yes yes no no no no ";
+
+fn serve_at_once(alloc: Global, bump: &Bump, silo: &mut TestedSilo, step: Step) -> Option<Step> {
+    silo.serve_at_once(alloc, bump, step)
+}
+
+fn first_waiting(silo: &TestedSilo, grain: &GrainId) -> Option<u64> {
+    silo.first_waiting(grain)
+}
+
+/// Takes a call, and begins its turn and ends it, step by step.
+fn serve_by_steps(alloc: Global, silo: &mut TestedSilo, call: Step) -> Result<(), Fail> {
+    let Step::Call { grain, .. } = &call else {
+        return Err(Fail::from("a line says no call"));
+    };
+    let grain = grain.clone()?;
+    apply(alloc, silo, call)?;
+    let Some(turn) = first_waiting(silo, &grain) else {
+        return Ok(());
+    };
+    let begin = Step::Begin {
+        grain: grain.clone()?,
+    };
+    apply(alloc, silo, begin)?;
+    apply(alloc, silo, Step::End { grain, turn })?;
+    Ok(())
+}
+
+/// Serves a call at once, if the silo does so. A call comes back as it was, too, if memory is refused on its way: so it is tried
+/// once more.
+fn serve_or_give_back(
+    alloc: Global,
+    bump: &Bump,
+    silo: &mut TestedSilo,
+    call: Step,
+) -> Option<Step> {
+    match serve_at_once(alloc, bump, silo, call) {
+        Some(back) => serve_at_once(alloc, bump, silo, back),
+        None => None,
+    }
+}
+
+/// Takes a call at once, if the silo does so; and tells whether it did.
+fn serve_one(
+    alloc: Global,
+    bump: &mut Bump,
+    silo: &mut TestedSilo,
+    call: Step,
+    told: &mut String,
+) -> Result<(), Fail> {
+    match serve_or_give_back(alloc, bump, silo, call) {
+        Some(back) => {
+            serve_by_steps(alloc, silo, back)?;
+            told.push_str("no ")?;
+        }
+        None => told.push_str("yes ")?,
+    }
+    drop(bump.reset());
+    Ok(())
+}
+
+/// Takes the steps that bring the grains up.
+fn bring_up(alloc: Global, silo: &mut TestedSilo) -> Result<(), Fail> {
+    for step in steps_of(alloc, BEFORE)? {
+        apply(alloc, silo, step)?;
+    }
+    Ok(())
+}
+
+/// What the silo shows after the calls, each taken at once if the silo does so; behind it which of them it took.
+fn shown_at_once(alloc: Global, silo: &mut TestedSilo) -> Result<(String, String), Fail> {
+    bring_up(alloc, silo)?;
+    let mut bump = Bump::new(alloc);
+    let mut told = String::new(alloc);
+    for call in steps_of(alloc, CALLS)? {
+        serve_one(alloc, &mut bump, silo, call, &mut told)?;
+    }
+    Ok((shown(alloc, silo)?, told))
+}
+
+/// What the silo shows after the calls, each taken step by step.
+fn shown_by_steps(alloc: Global, silo: &mut TestedSilo) -> Result<String, Fail> {
+    bring_up(alloc, silo)?;
+    for call in steps_of(alloc, CALLS)? {
+        serve_by_steps(alloc, silo, call)?;
+    }
+    shown(alloc, silo)
+}
+
+/// Whether the silos show the same, and which calls were taken at once.
+fn are_alike(alloc: Global, one: &mut TestedSilo, other: &mut TestedSilo) -> Result<bool, Fail> {
+    let (shown, told) = shown_at_once(alloc, one)?;
+    let wanted = shown_by_steps(alloc, other)?;
+    Ok(shown.as_str() == wanted.as_str() && told.as_str() == AT_ONCE)
+}
+
+#[test]
+fn a_call_at_once_is_its_three_steps(rt: HostRuntime) -> Result<(), Fail> {
+    let alloc = rt.alloc();
+    let mut one = new_silo(alloc)?;
+    let mut other = new_silo(alloc)?;
+    let alike = are_alike(alloc, &mut one, &mut other);
+    drop(one);
+    drop(other);
+    assert!(rt; alike?);
+    Ok(())
+}
