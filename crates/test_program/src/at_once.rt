@@ -1,6 +1,6 @@
 //! As many threads serve lanes as the words ask for, and 4 audit.
 
-use crate::journals::{file_of, words_of};
+use crate::runs::{file_of, words_of};
 use grain_id::{GrainId, Tenant};
 use silo_program::{Input, Output, answer};
 use std::random::RandomSource;
@@ -85,11 +85,11 @@ const QUIET: &str =
 /// Whether the program does what the words ask for, and so many turns or tenants are at the gate at once.
 fn meet<H: AllocGlobal + RandomSource + Threads + Wait + Sync>(
     rt: &H,
-    texts: &[&str],
+    words: &str,
     meeting: &Meeting,
 ) -> Result<bool, Fail> {
     let alloc = rt.alloc();
-    let words = words_of(alloc, texts)?;
+    let words = words_of(alloc, words)?;
     let mut files = file_of(alloc, QUIET)?;
     let mut input = Input::new(alloc, CALLS.as_bytes())?;
     let mut output = Output::new(Vec::new(alloc));
@@ -108,41 +108,26 @@ fn meet<H: AllocGlobal + RandomSource + Threads + Wait + Sync>(
     Ok(meeting.was_held())
 }
 
-/// Whether so many turns are open at once if so many workers are asked for.
-fn turns_meet<H: AllocGlobal + RandomSource + Threads + Wait + Sync>(
+/// Whether so many turns or tenants are at a gate at once.
+fn so_many_meet<H: AllocGlobal + RandomSource + Threads + Wait + Sync>(
     rt: &H,
-    workers: &str,
+    words: &str,
     wanted: u64,
     polls: u32,
 ) -> Result<bool, Fail> {
-    let meeting = Meeting::new(wanted, polls);
-    meet(
-        rt,
-        &["silo", "serve", "--workers", workers, "red:4:4"],
-        &meeting,
-    )
-}
-
-/// Whether so many tenants are audited at once.
-fn tenants_meet<H: AllocGlobal + RandomSource + Threads + Wait + Sync>(
-    rt: &H,
-    wanted: u64,
-    polls: u32,
-) -> Result<bool, Fail> {
-    let meeting = Meeting::new(wanted, polls);
-    meet(rt, &["silo", "audit", "j"], &meeting)
+    meet(rt, words, &Meeting::new(wanted, polls))
 }
 
 #[test]
 fn as_many_workers_serve_as_are_asked_for(rt: HostRuntime) -> Result<(), Fail> {
-    assert!(rt; turns_meet(&rt, "4", 4, MANY)?);
-    assert!(rt; !turns_meet(&rt, "3", 4, FEW)?);
+    assert!(rt; so_many_meet(&rt, "silo serve --workers 4 red:4:4", 4, MANY)?);
+    assert!(rt; !so_many_meet(&rt, "silo serve --workers 3 red:4:4", 4, FEW)?);
     Ok(())
 }
 
 #[test]
 fn four_tenants_are_audited_at_once(rt: HostRuntime) -> Result<(), Fail> {
-    assert!(rt; tenants_meet(&rt, 4, MANY)?);
-    assert!(rt; !tenants_meet(&rt, 5, FEW)?);
+    assert!(rt; so_many_meet(&rt, "silo audit j", 4, MANY)?);
+    assert!(rt; !so_many_meet(&rt, "silo audit j", 5, FEW)?);
     Ok(())
 }

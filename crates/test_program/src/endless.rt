@@ -1,7 +1,7 @@
 //! A file whose end is not met.
 
-use crate::journals::words_of;
-use silo_program::{FileFault, Input, Output, WholeFiles, run_program};
+use crate::runs::left_by;
+use silo_program::{FileFault, WholeFiles};
 use std::alloc::Global;
 use std::random::RandomSource;
 use std::sync::Wait;
@@ -27,15 +27,10 @@ fn is_too_much<H: AllocGlobal + RandomSource + Threads + Wait + Sync>(
     rt: &H,
     command: &str,
 ) -> Result<bool, Fail> {
-    let alloc = rt.alloc();
-    let words = words_of(alloc, &["silo", command, "j"])?;
-    let mut files = EndlessFile;
-    let mut input = Input::new(alloc, "".as_bytes())?;
-    let mut output = Output::new(Vec::new(alloc));
-    let mut errors = Output::new(Vec::new(alloc));
-    let status = run_program(rt, &words, &mut files, &mut input, &mut output, &mut errors);
-    let told = errors.writer.as_slice() == "silo: too much input\n".as_bytes();
-    Ok(status == 1 && told && output.writer.is_empty())
+    let words = format!(in rt.alloc(); "silo {command} j")?;
+    let left = left_by(rt, words.as_str(), "", &mut EndlessFile)?;
+    let told = left.errors.as_slice() == "silo: too much input\n".as_bytes();
+    Ok(left.status == 1 && told && left.output.is_empty())
 }
 
 #[test]

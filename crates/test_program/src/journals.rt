@@ -1,7 +1,6 @@
 //! The journal that is kept, audited and migrated: statuses, texts, and what stands in the file.
 
-use silo_program::{Input, MemoryFile, Output, run_program};
-use std::alloc::Global;
+use crate::runs::{file_of, left_by};
 use std::random::RandomSource;
 use std::sync::Wait;
 use std::test::Fail;
@@ -55,10 +54,10 @@ const AGED: &str = "silo-journal 3\nkinds 2\nage 900000\nkind sheet 9\ntenant re
 const RESTED: &str =
     "silo-journal 3\nkinds 2\nage 900000\ntenant red 2 4\ncall red/c1 1 counter/red:a 02000000047265737400\nactivate counter/red:a\nload counter/red:a ok\nbegin counter/red:a\nend counter/red:a 1\nreply red/c1 1 ok 00\nclose 5\n";
 
-/// A run of the program: its words, with the program's name first; the input; and what the file at `j` has before it.
-/// Then its status, and what the file, the output and the errors have after it.
+/// A run of the program: its words, with the program's name first and a space between each two; the input; and what the file at
+/// `j` has before it. Then its status, and what the file, the output and the errors have after it.
 type Run = (
-    &'static [&'static str],
+    &'static str,
     &'static str,
     &'static str,
     u8,
@@ -69,15 +68,7 @@ type Run = (
 
 static RUNS: [Run; 28] = [
     (
-        &[
-            "silo",
-            "serve",
-            "--workers",
-            "1",
-            "--journal",
-            "j",
-            "red:2:4",
-        ],
+        "silo serve --workers 1 --journal j red:2:4",
         CALL,
         "old",
         0,
@@ -86,7 +77,7 @@ static RUNS: [Run; 28] = [
         "",
     ),
     (
-        &["silo", "serve", "--workers", "1", "red:2:4"],
+        "silo serve --workers 1 red:2:4",
         CALL,
         "old",
         0,
@@ -95,7 +86,7 @@ static RUNS: [Run; 28] = [
         "",
     ),
     (
-        &["silo", "serve", "--journal", "k", "red:2:4"],
+        "silo serve --journal k red:2:4",
         CALL,
         "old",
         1,
@@ -104,7 +95,7 @@ static RUNS: [Run; 28] = [
         "silo: writing failed\n",
     ),
     (
-        &["silo", "serve", "--journal", "j", "red:0:4"],
+        "silo serve --journal j red:0:4",
         CALL,
         "old",
         2,
@@ -113,7 +104,7 @@ static RUNS: [Run; 28] = [
         "silo: tenant argument 1 is refused\n",
     ),
     (
-        &["silo", "answer", "--journal", "j", "red:2:4"],
+        "silo answer --journal j red:2:4",
         CALL,
         "old",
         0,
@@ -122,7 +113,7 @@ static RUNS: [Run; 28] = [
         "",
     ),
     (
-        &["silo", "answer", "--sends", "0", "red:2:4"],
+        "silo answer --sends 0 red:2:4",
         CALL,
         "old",
         0,
@@ -131,7 +122,7 @@ static RUNS: [Run; 28] = [
         "",
     ),
     (
-        &["silo", "answer", "--journal", "j", "red:2:4"],
+        "silo answer --journal j red:2:4",
         "",
         "old",
         0,
@@ -140,7 +131,7 @@ static RUNS: [Run; 28] = [
         "",
     ),
     (
-        &["silo", "answer", "--journal", "k", "red:2:4"],
+        "silo answer --journal k red:2:4",
         CALL,
         "old",
         1,
@@ -149,7 +140,7 @@ static RUNS: [Run; 28] = [
         "silo: writing failed\n",
     ),
     (
-        &["silo", "answer", "--journal", "j", "red:0:4"],
+        "silo answer --journal j red:0:4",
         CALL,
         "old",
         2,
@@ -158,7 +149,7 @@ static RUNS: [Run; 28] = [
         "silo: tenant argument 1 is refused\n",
     ),
     (
-        &["silo", "answer", "--journal", "j", "red:2:4"],
+        "silo answer --journal j red:2:4",
         REST,
         "old",
         0,
@@ -167,15 +158,7 @@ static RUNS: [Run; 28] = [
         "",
     ),
     (
-        &[
-            "silo",
-            "answer",
-            "--ages",
-            "sheet=9",
-            "--journal",
-            "j",
-            "red:2:4",
-        ],
+        "silo answer --ages sheet=9 --journal j red:2:4",
         "",
         "old",
         0,
@@ -184,15 +167,7 @@ static RUNS: [Run; 28] = [
         "",
     ),
     (
-        &[
-            "silo",
-            "answer",
-            "--ages",
-            "sheet=09",
-            "--journal",
-            "j",
-            "red:2:4",
-        ],
+        "silo answer --ages sheet=09 --journal j red:2:4",
         CALL,
         "old",
         2,
@@ -201,15 +176,7 @@ static RUNS: [Run; 28] = [
         "silo: ages are refused\n",
     ),
     (
-        &[
-            "silo",
-            "serve",
-            "--ages",
-            "sheet=9,sheet=8",
-            "--journal",
-            "j",
-            "red:2:4",
-        ],
+        "silo serve --ages sheet=9,sheet=8 --journal j red:2:4",
         CALL,
         "old",
         2,
@@ -218,15 +185,7 @@ static RUNS: [Run; 28] = [
         "silo: ages are refused\n",
     ),
     (
-        &[
-            "silo",
-            "serve",
-            "--ages",
-            "sheet=0",
-            "--journal",
-            "j",
-            "red:0:4",
-        ],
+        "silo serve --ages sheet=0 --journal j red:0:4",
         CALL,
         "old",
         2,
@@ -235,7 +194,7 @@ static RUNS: [Run; 28] = [
         "silo: tenant argument 1 is refused\n",
     ),
     (
-        &["silo", "steps", "--ages", "", "red:2:4"],
+        "silo steps --ages  red:2:4",
         CALL,
         "old",
         2,
@@ -244,7 +203,7 @@ static RUNS: [Run; 28] = [
         "silo: ages are refused\n",
     ),
     (
-        &["silo", "audit", "j"],
+        "silo audit j",
         "",
         JOURNAL,
         0,
@@ -253,7 +212,7 @@ static RUNS: [Run; 28] = [
         "",
     ),
     (
-        &["silo", "audit", "j"],
+        "silo audit j",
         "",
         OLD,
         0,
@@ -262,7 +221,7 @@ static RUNS: [Run; 28] = [
         "",
     ),
     (
-        &["silo", "audit", "j"],
+        "silo audit j",
         "",
         RESTED,
         0,
@@ -271,7 +230,7 @@ static RUNS: [Run; 28] = [
         "",
     ),
     (
-        &["silo", "audit", "j"],
+        "silo audit j",
         "",
         CHANGED,
         3,
@@ -280,7 +239,7 @@ static RUNS: [Run; 28] = [
         "",
     ),
     (
-        &["silo", "audit", "j"],
+        "silo audit j",
         "",
         CUT,
         4,
@@ -289,7 +248,7 @@ static RUNS: [Run; 28] = [
         "silo: journal line 11 is refused\n",
     ),
     (
-        &["silo", "audit", "k"],
+        "silo audit k",
         "",
         JOURNAL,
         1,
@@ -298,7 +257,7 @@ static RUNS: [Run; 28] = [
         "silo: reading failed\n",
     ),
     (
-        &["silo", "audit", "j"],
+        "silo audit j",
         "",
         SECOND,
         0,
@@ -306,36 +265,12 @@ static RUNS: [Run; 28] = [
         "tenant red: 5 steps, 1 replies, 0 rows\n",
         "",
     ),
-    (&["silo", "migrate", "j"], "", OLD, 0, OLD, MIGRATED, ""),
+    ("silo migrate j", "", OLD, 0, OLD, MIGRATED, ""),
+    ("silo migrate j", "", SECOND, 0, SECOND, JOURNAL, ""),
+    ("silo migrate j", "", JOURNAL, 0, JOURNAL, JOURNAL, ""),
+    ("silo migrate j", "", CHANGED, 0, CHANGED, CHANGED, ""),
     (
-        &["silo", "migrate", "j"],
-        "",
-        SECOND,
-        0,
-        SECOND,
-        JOURNAL,
-        "",
-    ),
-    (
-        &["silo", "migrate", "j"],
-        "",
-        JOURNAL,
-        0,
-        JOURNAL,
-        JOURNAL,
-        "",
-    ),
-    (
-        &["silo", "migrate", "j"],
-        "",
-        CHANGED,
-        0,
-        CHANGED,
-        CHANGED,
-        "",
-    ),
-    (
-        &["silo", "migrate", "j"],
+        "silo migrate j",
         "",
         CUT,
         4,
@@ -344,7 +279,7 @@ static RUNS: [Run; 28] = [
         "silo: journal line 11 is refused\n",
     ),
     (
-        &["silo", "migrate", "k"],
+        "silo migrate k",
         "",
         JOURNAL,
         1,
@@ -354,61 +289,16 @@ static RUNS: [Run; 28] = [
     ),
 ];
 
-/// What a run leaves: its status, and what stands in the file, the output and the errors.
-#[derive(Drop)]
-struct Left {
-    status: u8,
-    file: Vec<u8>,
-    output: Vec<u8>,
-    errors: Vec<u8>,
-}
-
-pub fn words_of(alloc: Global, texts: &[&str]) -> Result<Vec<String>, Fail> {
-    let mut words = Vec::new(alloc);
-    for text in texts {
-        words.push(String::from_str(alloc, *text)?)?;
-    }
-    Ok(words)
-}
-
-/// A file at `j` that has this text.
-pub fn file_of(alloc: Global, text: &str) -> Result<MemoryFile, Fail> {
-    let path = String::from_str(alloc, "j")?;
-    let bytes = Vec::from_slice(alloc, text.as_bytes())?;
-    Ok(MemoryFile { path, bytes })
-}
-
-/// Runs the program on these words, this input and this file at `j`.
-fn left_by<H: AllocGlobal + RandomSource + Threads + Wait + Sync>(
-    rt: &H,
-    texts: &[&str],
-    input: &str,
-    file: &str,
-) -> Result<Left, Fail> {
-    let alloc = rt.alloc();
-    let words = words_of(alloc, texts)?;
-    let mut files = file_of(alloc, file)?;
-    let mut input = Input::new(alloc, input.as_bytes())?;
-    let mut output = Output::new(Vec::new(alloc));
-    let mut errors = Output::new(Vec::new(alloc));
-    let status = run_program(rt, &words, &mut files, &mut input, &mut output, &mut errors);
-    Ok(Left {
-        status,
-        file: files.bytes,
-        output: output.writer,
-        errors: errors.writer,
-    })
-}
-
 /// Whether the run leaves what it should.
 fn leaves<H: AllocGlobal + RandomSource + Threads + Wait + Sync>(
     rt: &H,
     run: &Run,
 ) -> Result<bool, Fail> {
     let (words, input, before, status, after, told, failed) = *run;
-    let left = left_by(rt, words, input, before)?;
+    let mut files = file_of(rt.alloc(), before)?;
+    let left = left_by(rt, words, input, &mut files)?;
     let same = left.status == status
-        && left.file.as_slice() == after.as_bytes()
+        && files.bytes.as_slice() == after.as_bytes()
         && left.output.as_slice() == told.as_bytes()
         && left.errors.as_slice() == failed.as_bytes();
     drop(left);

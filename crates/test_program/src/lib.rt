@@ -12,4 +12,6 @@ mod endless;
 #[cfg(test)]
 mod journals;
 #[cfg(test)]
+mod runs;
+#[cfg(test)]
 mod told;

@@ -1,7 +1,6 @@
 //! What is told on standard error of the lines that were served.
 
-use crate::journals::{file_of, words_of};
-use silo_program::{Input, Output, run_program};
+use crate::runs::{file_of, left_by};
 use std::random::RandomSource;
 use std::sync::Wait;
 use std::test::Fail;
@@ -44,32 +43,23 @@ const BOTH: &str = concat!(
     "silo: lines: 5\nsilo: answers: 1\nsilo: refusals 10: 2\nsilo: refusals 60: 1\nsilo: steps: 8\n"
 );
 
-/// Whether serving these lines under these flags ends well, with the same answers, and tells this.
+/// Whether these words serve the lines well, with the same answers, and tell this.
 fn tells<H: AllocGlobal + RandomSource + Threads + Wait + Sync>(
     rt: &H,
-    texts: &[&str],
+    words: &str,
     told: &str,
 ) -> Result<bool, Fail> {
-    let alloc = rt.alloc();
-    let words = words_of(alloc, texts)?;
-    let mut files = file_of(alloc, "old")?;
-    let mut input = Input::new(alloc, LINES.as_bytes())?;
-    let mut output = Output::new(Vec::new(alloc));
-    let mut errors = Output::new(Vec::new(alloc));
-    let status = run_program(rt, &words, &mut files, &mut input, &mut output, &mut errors);
-    let answered = output.writer.as_slice() == ANSWERS.as_bytes();
-    Ok(status == 0 && answered && errors.writer.as_slice() == told.as_bytes())
+    let mut files = file_of(rt.alloc(), "old")?;
+    let left = left_by(rt, words, LINES, &mut files)?;
+    let answered = left.output.as_slice() == ANSWERS.as_bytes();
+    Ok(left.status == 0 && answered && left.errors.as_slice() == told.as_bytes())
 }
 
 #[test]
 fn lines_are_told_and_counted_if_that_is_asked_for(rt: HostRuntime) -> Result<(), Fail> {
-    let serve = ["silo", "serve", "red:2:4"];
-    assert!(rt; tells(&rt, &serve, "")?);
-    let explain = ["silo", "serve", "--explain-lines", "red:2:4"];
-    assert!(rt; tells(&rt, &explain, REASONS)?);
-    let count = ["silo", "serve", "--summary", "red:2:4"];
-    assert!(rt; tells(&rt, &count, COUNTS)?);
-    let both = ["silo", "serve", "--summary", "--explain-lines", "red:2:4"];
-    assert!(rt; tells(&rt, &both, BOTH)?);
+    assert!(rt; tells(&rt, "silo serve red:2:4", "")?);
+    assert!(rt; tells(&rt, "silo serve --explain-lines red:2:4", REASONS)?);
+    assert!(rt; tells(&rt, "silo serve --summary red:2:4", COUNTS)?);
+    assert!(rt; tells(&rt, "silo serve --summary --explain-lines red:2:4", BOTH)?);
     Ok(())
 }

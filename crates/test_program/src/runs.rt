@@ -1,0 +1,52 @@
+//! Runs of the program over files, a reader and writers in memory.
+
+use silo_program::{Input, MemoryFile, Output, WholeFiles, run_program};
+use std::alloc::Global;
+use std::random::RandomSource;
+use std::sync::Wait;
+use std::test::Fail;
+use std::thread::Threads;
+
+/// What a run leaves: its status, and what stands in the output and the errors.
+#[derive(Drop)]
+pub struct Left {
+    pub status: u8,
+    pub output: Vec<u8>,
+    pub errors: Vec<u8>,
+}
+
+/// The words of a command line, a space between each two.
+pub fn words_of(alloc: Global, text: &str) -> Result<Vec<String>, Fail> {
+    let mut words = Vec::new(alloc);
+    for word in text.split(' ') {
+        words.push(String::from_str(alloc, word)?)?;
+    }
+    Ok(words)
+}
+
+/// A file at `j` that has this text.
+pub fn file_of(alloc: Global, text: &str) -> Result<MemoryFile, Fail> {
+    let path = String::from_str(alloc, "j")?;
+    let bytes = Vec::from_slice(alloc, text.as_bytes())?;
+    Ok(MemoryFile { path, bytes })
+}
+
+/// Runs the program on these words, this input and these files.
+pub fn left_by<H: AllocGlobal + RandomSource + Threads + Wait + Sync, F: WholeFiles>(
+    rt: &H,
+    words: &str,
+    input: &str,
+    files: &mut F,
+) -> Result<Left, Fail> {
+    let alloc = rt.alloc();
+    let words = words_of(alloc, words)?;
+    let mut input = Input::new(alloc, input.as_bytes())?;
+    let mut output = Output::new(Vec::new(alloc));
+    let mut errors = Output::new(Vec::new(alloc));
+    let status = run_program(rt, &words, files, &mut input, &mut output, &mut errors);
+    Ok(Left {
+        status,
+        output: output.writer,
+        errors: errors.writer,
+    })
+}
