@@ -1,11 +1,15 @@
 -- The number that digits spell, as serde_json reads it.
-use Rattle.std.proofs.Common.{◌≡◌, ℕ, ◌+◌, ◌-◌, ◌*◌, ◌^◌, ◌<◌, ◌≤◌, true, false, ◌&&◌, ◌==◌, nat_lt, List, [], ◌∷◌, ◌++◌, length, length-take, take, drop, get_or, Some, refl, sym, ap, ◌∙◌, append-nil, arith}
+use Rattle.std.proofs.Common.{◌≡◌, ℕ, zero, suc, cond, ◌+◌, ◌-◌, ◌*◌, ◌^◌, ◌<◌, ◌≤◌, true, false, ◌&&◌, ◌==◌, nat_lt, List, [], ◌∷◌, ◌++◌, length, length-take, take, drop, get_or, Some, refl, sym, ap, ◌∙◌, append-nil, arith}
 use Rattle.std.specs.Char.{digit_value, is_ascii_digit}
 use Rattle.std.specs.Str.Parse.{AllDigits, digits_value}
 use Rattle.std.specs.Float.Numeral.{Parts, IsWellFormed}
 use Rattle.std.proofs.lemmas.Str.{digit_value_digit}
 use Rattle.std.proofs.lemmas.Bool.{lt-ltb, ne_eqb, and_from, cond-true, cond-false}
 use Rattle.std.proofs.lemmas.Int.Digits.{digits_value-lt, digits_value_more, digits_more}
+use Rattle.std.proofs.lemmas.Bool.Decides.{nat_tests}
+use Rattle.std.specs.List.{prefix_len}
+use Rattle.json.specs.Word.{head}
+use Rattle.line_parser.specs.inside.Plain.{is_number_end}
 use Rattle.std.proofs.Math.Nat.{pow-le-pow_right}
 use Rattle.std.proofs.lemmas.Str.Parse.{digit_from_value}
 use Rattle.std.proofs.lemmas.Float.Parse.{scan_numeral-text_of}
@@ -61,7 +65,7 @@ pub record DigitTaken (bs : List ℕ) (i n : ℕ) : Type 0 where
   pub fits : n * 10 + (get_or bs i 0 - 48) < 10 ^ 18
   pub digits : AllDigits 10 (take (i + 1) bs)
 
-pub digit_taken : (bs : List ℕ) (i n : ℕ) → AllDigits 10 (take i bs) → is_ascii_digit (get_or bs i 0) ≡ true → length bs ≤ 18 → i < length bs → n ≡ digits_value 10 (take i bs) → DigitTaken bs i n
+pub digit_taken : (bs : List ℕ) (i n : ℕ) → AllDigits 10 (take i bs) → is_ascii_digit (get_or bs i 0) ≡ true → i < 18 → i < length bs → n ≡ digits_value 10 (take i bs) → DigitTaken bs i n
 digit_taken bs i n h digit short l is =
     let d = get_or bs i 0 in
     let range = digit_bounds d digit in
@@ -71,3 +75,18 @@ digit_taken bs i n h digit short l is =
     let all = digits_more 10 bs i l h (digit_is d digit) in
     let most = few_digits (take (i + 1) bs) all (omega (arith, length-take (i + 1) bs)) in
     record { low = range.0; next = next; fits = omega (arith, next, most); digits = all }
+
+-- ---- where they end
+
+after_digits : (x : ℕ) → is_number_end x ≡ true → is_ascii_digit x ≡ false
+after_digits x e = grind (arith, nat_tests)
+
+in_digits : (x : ℕ) → digit_value x < 10 → is_ascii_digit x ≡ true
+in_digits x h = let range = digit_from_value x h in grind (arith, nat_tests)
+
+pub digits_end : (t : List ℕ) (n : ℕ) → AllDigits 10 (take n t) → n ≤ length t → is_number_end (head (drop n t)) ≡ true → n ≡ prefix_len is_ascii_digit t
+digits_end [] n h l e = omega (arith, l)
+digits_end (x ∷ xs) zero h l e = sym (ap (λ b. cond b (1 + prefix_len is_ascii_digit xs) 0) (after_digits x e))
+digits_end (x ∷ xs) (suc n) h l e =
+    let rest : suc n ≡ 1 + prefix_len is_ascii_digit xs = omega (arith, digits_end xs n h.1 (omega (arith, l)) e) in
+    rest ∙ sym (ap (λ b. cond b (1 + prefix_len is_ascii_digit xs) 0) (in_digits x h.0))

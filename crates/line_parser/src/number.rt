@@ -1,7 +1,9 @@
 //! Whole numbers of 64 bits in JSON, and those that are none.
 
-ghost use Rattle.std.specs.Prelude.{◌≡◌, ◌<◌, ◌==◌, ◌^◌, length, slice_index, IsTrue, IfSome, IfNone, Some, true, false, Float, FitsSigned};
+ghost use Rattle.std.specs.Prelude.{◌≡◌, ◌<◌, ◌≤◌, ◌==◌, ◌^◌, length, take, slice_index};
+ghost use Rattle.std.specs.Prelude.{IsTrue, IfSome, IfNone, Some, true, false, Float, FitsSigned};
 ghost use Rattle.std.specs.Int.{w64};
+ghost use Rattle.std.specs.Str.Parse.{AllDigits, digits_value};
 ghost use Rattle.serde_json.specs.Data.{unsigned, float};
 ghost use Rattle.serde_json.specs.Find.{of_integer};
 ghost use Rattle.serde_json.specs.Read.{number_of, number_from, float_of};
@@ -11,6 +13,23 @@ use fast_float::Numeral;
 
 /// The digits of a number that is surely below 2^63.
 const MOST_DIGITS: usize = 18;
+
+/// The number that the digits at the front spell, and how many these are; of more than 18 the first 18.
+#[inline(always)]
+pub(crate) fn leading_digits(text: &str) -> (u64, usize)
+    ensures digits { AllDigits 10 (take result.1 text.now) }
+    ensures value { result.0 ≡ digits_value 10 (take result.1 text.now) }
+    ensures bound { (result.1 ≤ length text.now) × (result.1 ≤ 18) }
+{
+    let bytes = text.as_bytes();
+    let mut n = 0u64;
+    let mut i = 0;
+    'digits: while i < bytes.len() && i < MOST_DIGITS && bytes[i].is_ascii_digit() {
+        n = n * 10 + u64::from(bytes[i] - b'0');
+        i += 1;
+    }
+    (n, i)
+}
 
 /// The number that a text spells, if it is digits alone, and not too many.
 #[inline(always)]

@@ -10,10 +10,11 @@ ghost use Rattle.json.specs.Json.{after_end_array};
 ghost use Rattle.json.specs.Run.{is_plain};
 ghost use Rattle.json.specs.Reads.{token_of};
 ghost use Rattle.request_codec.specs.Json.{hex_name};
-ghost use Rattle.line_parser.specs.inside.LineMembers.{name_text};
-ghost use Rattle.line_parser.specs.inside.Plain.{name_spelling, is_opener, is_number_end, PassesValue};
+ghost use Rattle.line_parser.specs.inside.LineMembers.{name_text, IsNatural};
+ghost use Rattle.line_parser.specs.inside.Plain.{name_spelling, is_opener, is_number_end, PassesValue, CutsNatural};
 
 use crate::line_members::Name;
+use crate::number::leading_digits;
 use crate::scan::{begins_with, digits_len, plain_len, same_text};
 use json::Token;
 
@@ -65,6 +66,21 @@ fn ends_number(byte: u8) -> bool
     byte == b',' || byte == b'}' || byte == b']'
 }
 
+/// Whether so many digits at the front are a number's: there are some, and no zero in front of others.
+#[inline(always)]
+fn are_of_number(rest: &str, len: usize) -> bool
+    ensures some { IsTrue result → 0 < len }
+    ensures zero { IsTrue result → head rest.now ≡ 48 → len ≡ 1 }
+{
+    if len == 1 {
+        return true;
+    }
+    if len == 0 {
+        return false;
+    }
+    byte_at(rest, 0) != b'0'
+}
+
 /// The digits that stand at the front, and what follows them, if that ends a number: a comma or a closing bracket. No
 /// number begins with a zero but 0.
 #[inline(always)]
@@ -72,18 +88,28 @@ fn cut_digits<'t>(rest: &'t str) -> Option<(&'t str, &'t str)>
     ensures { IfSome result (λ cut. lex between rest.now ≡ token (number cut.0.now) ∷ lex between cut.1.now) }
 {
     let len = digits_len(rest);
-    if len == 0 {
+    if !are_of_number(rest, len) {
         return None;
-    }
-    if len != 1 {
-        if byte_at(rest, 0) == b'0' {
-            return None;
-        }
     }
     if !ends_number(byte_at(rest, len)) {
         return None;
     }
     Some((&rest[..len], &rest[len..]))
+}
+
+/// The number of the digits that stand at the front, if they are few, and what follows them, under the same conditions.
+#[inline(always)]
+fn cut_natural<'t>(rest: &'t str) -> Option<(u64, &'t str)>
+    ensures { IfSome result (λ cut. CutsNatural rest.now cut.0 cut.1.now) }
+{
+    let (n, len) = leading_digits(rest);
+    if !are_of_number(rest, len) {
+        return None;
+    }
+    if !ends_number(byte_at(rest, len)) {
+        return None;
+    }
+    Some((n, &rest[len..]))
 }
 
 /// What follows `null`, if that stands at the front and ends there: before a comma or a closing bracket.
@@ -109,6 +135,17 @@ fn opens(byte: u8) -> bool
     byte == b'"' || byte == b'{' || byte == b'[' || byte.is_ascii_digit()
 }
 
+/// What follows the comma behind a value, if a name or a text follows it.
+#[inline(always)]
+fn pass_comma<'t>(rest: &'t str) -> Option<&'t str>
+    ensures { IfSome result (λ after. PassesValue rest.now after.now) }
+{
+    if byte_at(rest, 1) != b'"' || byte_at(rest, 0) != b',' {
+        return None;
+    }
+    Some(past(rest, 0))
+}
+
 /// What follows a value and its comma, if there is one: a name or a value, a closing bracket, or nothing.
 #[inline(always)]
 fn pass_value<'t>(rest: &'t str) -> Option<&'t str>
@@ -131,6 +168,17 @@ fn pass_value<'t>(rest: &'t str) -> Option<&'t str>
     }
 }
 
+/// The same behind the value of a member, where mostly a name comes.
+#[inline(always)]
+fn pass_member<'t>(rest: &'t str) -> Option<&'t str>
+    ensures { IfSome result (λ after. PassesValue rest.now after.now) }
+{
+    if let Some(after) = pass_comma(rest) {
+        return Some(after);
+    }
+    pass_value(rest)
+}
+
 /// The text that is the first token, and what follows it.
 #[inline(always)]
 pub(crate) fn plain_text<'t>(rest: &'t str) -> Option<(&'t str, &'t str)>
@@ -138,6 +186,24 @@ pub(crate) fn plain_text<'t>(rest: &'t str) -> Option<(&'t str, &'t str)>
 {
     let (text, after) = cut_text(rest)?;
     Some((text, pass_value(after)?))
+}
+
+/// The same of a text that is the value of a member.
+#[inline(always)]
+pub(crate) fn member_text<'t>(rest: &'t str) -> Option<(&'t str, &'t str)>
+    ensures { IfSome result (λ cut. tokens rest.now ≡ string cut.0.now ∷ tokens cut.1.now) }
+{
+    let (text, after) = cut_text(rest)?;
+    Some((text, pass_member(after)?))
+}
+
+/// The number from 0 up that is the value of a member and the first token, if it has few digits, and what follows it.
+#[inline(always)]
+pub(crate) fn member_natural<'t>(rest: &'t str) -> Option<(u64, &'t str)>
+    ensures { IfSome result (λ cut. IsNatural (tokens rest.now) cut.0 (tokens cut.1.now)) }
+{
+    let (n, after) = cut_natural(rest)?;
+    Some((n, pass_member(after)?))
 }
 
 /// The digits of the number that is the first token, and what follows it.

@@ -8,8 +8,9 @@ ghost use Rattle.line_parser.specs.inside.LineMembers.{name_text, HoldsLineMembe
 ghost use Rattle.line_parser.specs.inside.PassedMembers.{MembersRead, PassesMember, TakesUncounted};
 
 use crate::line_members::{LineMembers, Name};
-use crate::number::natural_of;
-use crate::plain::{map_end, map_start, past_name, plain_name, plain_number, plain_text};
+use crate::plain::{
+    byte_at, map_end, map_start, member_natural, member_text, past_name, plain_name,
+};
 use crate::slots::{put_natural, put_text};
 
 /// Takes the text that is the first token, if it is spelled plainly and the member had none: what follows it.
@@ -19,7 +20,7 @@ fn take_plain_text<'a>(members: &mut LineMembers<'a>, name: Name, value: &'a str
         → TakesUncounted name (tokens value.now) (tokens after.now) members.old l members.new l) }
     ensures unchanged { IfNone result (members.new ≡ members.old) }
 {
-    let (text, after) = plain_text(value)?;
+    let (text, after) = member_text(value)?;
     if !put_text(members, name, text) {
         return None;
     }
@@ -37,8 +38,7 @@ fn take_plain_natural<'a>(
         → TakesUncounted name (tokens value.now) (tokens after.now) members.old l members.new l) }
     ensures unchanged { IfNone result (members.new ≡ members.old) }
 {
-    let (digits, after) = plain_number(value)?;
-    let n = natural_of(digits)?;
+    let (n, after) = member_natural(value)?;
     if !put_natural(members, name, n) {
         return None;
     }
@@ -152,7 +152,7 @@ fn past_client<'a>(members: &mut LineMembers<'a>, rest: &'a str) -> Option<&'a s
     ensures { IfSome result (λ after. (begun : List Token) (l : List ℕ) → MembersRead begun (tokens rest.now) members.old l
         → MembersRead begun (tokens after.now) members.new l) }
 {
-    if past_name(rest, Name::Op).is_some() {
+    if byte_at(rest, 1) == b'o' {
         let behind = take_named(members, rest, Name::Op)?;
         return take_both(members, behind, Name::From, Name::Id);
     }

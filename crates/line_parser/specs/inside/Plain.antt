@@ -1,10 +1,12 @@
 -- What is known of bytes that begin or end a token, and of what follows a value.
-use Rattle.std.specs.Prelude.{◌≡◌, ℕ, List, [], ◌∷◌, ◌++◌, Bool, false, ◌||◌, ◌==◌, nat_le, Option, Some, None}
+use Rattle.std.specs.Prelude.{◌≡◌, ◌<◌, ◌^◌, ℕ, List, [], ◌∷◌, ◌++◌, Bool, false, ◌||◌, ◌==◌, nat_le, Option, Some, None}
 use Rattle.std.specs.Char.{is_ascii_digit}
-use Rattle.json.specs.Token.{Token}
+use Rattle.json.specs.Token.{Token, number}
+use Rattle.serde_json.specs.Data.{unsigned}
+use Rattle.serde_json.specs.Read.{number_of}
 use Rattle.line_parser.specs.inside.LineMembers.{name_text}
 use Rattle.line_parser.specs.declared.line_members.Name.{Name}
-use Rattle.json.specs.Lex.{between, lex, after_value, begins_colon, punctuate, tokens}
+use Rattle.json.specs.Lex.{token, between, lex, after_value, begins_colon, punctuate, tokens}
 
 -- a member's name with its quotes and its colon
 abbrev pub name_spelling : Name → List ℕ
@@ -31,3 +33,10 @@ tokens_left (Some ts) text = ts
 -- a byte that is no ASCII
 abbrev pub is_high : ℕ → Bool
 is_high x = nat_le 128 x
+
+-- A number of few digits stands in front of `new`.
+pub record CutsNatural (old : List ℕ) (n : ℕ) (new : List ℕ) : Type 0 where
+  pub digits : List ℕ
+  pub lexed : lex between old ≡ token (number digits) ∷ lex between new
+  pub read : number_of digits ≡ Some (unsigned n)
+  pub fits : n < 2 ^ 63
