@@ -8,7 +8,7 @@ use Rattle.std.proofs.lemmas.Bool.{false_from_ne_true}
 use Rattle.std.proofs.lemmas.Bool.Decides.{Decides-eqb}
 use Rattle.std.proofs.lemmas.List.{nil_from_length}
 use Rattle.std.proofs.lemmas.Option.{none-some}
-use Rattle.grain_id.specs.Names.{Client, Grain, text_cmp}
+use Rattle.grain_id.specs.Names.{Client, Grain, text_cmp, grain_cmp}
 use Rattle.grain_id.proofs.Order.{grain_cmp_total, grain_cmp_exact, text_cmp_total, text_cmp_exact}
 use Rattle.finite_maps.proofs.Maps.{get-insert_same, get-none, insert-insert, taken_back}
 use Rattle.finite_maps.proofs.Values.{values_pass}
@@ -34,11 +34,12 @@ use Rattle.silo_model.proofs.TurnSteps.{end_turn}
 use Rattle.silo_state.specs.Sends.{with_more}
 use Rattle.silo_state.specs.Work.{first_number, first_waiting}
 use Rattle.silo_state.specs.AtOnce.{Serves}
-use Rattle.silo_state.specs.Shown.{phase_of, entry_of}
+use Rattle.silo_state.specs.Shown.{phase_of, entry_of, entries_of}
 use Rattle.silo_state.specs.inside.AtOnce.{Numbers, Admits, IsIdleAt, PlansAt, PlansIdle, put_state, renewed}
 use Rattle.silo_state.specs.inside.Deliveries.{changed_account}
 use Rattle.silo_state.specs.inside.Held.{Held}
 use Rattle.silo_state.specs.inside.Notes.{due_at}
+use Rattle.silo_state.proofs.Shows.{entries-put}
 
 -- ---- accounts: what is sent, and then one request more, comes to the same as the other way round
 
@@ -93,7 +94,7 @@ either true x y first second = first
 either false x y first second = second
 
 module _ (logic : Logic) (h : Held) (caller : Client) (id : ℕ) (g : Grain) (call : codec.Call) (n : ℕ) (admits : Admits h.whole.accounts caller.tenant n) (own : g.tenant ≡ caller.tenant)
-    (made : OwnedPlan) (found : PlansIdle logic g (map.get h.whole.entries g) h.whole.clock call made) where
+    (made : OwnedPlan) (stays_so : Bool) (found : PlansIdle logic g (map.get h.whole.entries g) h.whole.clock call made stays_so) where
   abbrev w : Whole
   w = h.whole
 
@@ -106,7 +107,7 @@ module _ (logic : Logic) (h : Held) (caller : Client) (id : ℕ) (g : Grain) (ca
   abbrev was : Tree
   was = found.plans.state
 
-  abbrev idle : IsIdleAt e w.clock was
+  abbrev idle : IsIdleAt e was
   idle = found.plans.at
 
   abbrev request : Request
@@ -151,14 +152,14 @@ module _ (logic : Logic) (h : Held) (caller : Client) (id : ℕ) (g : Grain) (ca
 
   module _ (silent : plan.storage ≡ asks_nothing) (says : plan.keep ≡ same) where
     abbrev after : Entry
-    after = record e { phase = ready plan.state idle.version }
+    after = record e { phase = ready plan.state idle.version; last = w.clock }
 
     closed_is : closed_entry w.clock e2 request plan.state idle.version plan.keep ≡ after
     closed_is = λ i. record {
       phase = ready plan.state idle.version;
       queue = sym no_queue i;
       turns = taken_back nat_cmp_total nat_cmp-IsAntisymmetric e.turns request.number request (no_turn request.number) i;
-      last = sym idle.used i;
+      last = w.clock;
       until = until_by w.clock (says i) e.until;
       resting = resting_by (says i) e.resting;
     }
@@ -228,18 +229,42 @@ ready_still Waiting state = refl
 ready_still Loading state = refl
 ready_still (Ready old version) state = refl
 
--- an activation with another state is idle as before, and due as before
-pub due_still : (age : ℕ) (a : Activation) (state : Option Tree) → due_at age (Some (entry_of (record a { phase = put_state a.phase state }))) ≡ due_at age (Some (entry_of a))
-due_still age a state =
+-- an activation with another state, which was last used then
+abbrev pub renewed_at : Activation → Option Tree → ℕ → Activation
+renewed_at a state clock = record a { phase = put_state a.phase state; last = clock }
+
+-- it is idle as before
+still_idle : (age : ℕ) (a : Activation) (state : Option Tree) (clock : ℕ)
+    → due_at age (Some (entry_of (renewed_at a state clock))) ≡ (if is_idle (entry_of a) then Some (due_moment age (record (entry_of a) { last = clock })) else None)
+still_idle age a state clock =
     let e = entry_of a in
-    ap (λ b. if b && (length e.queue == 0) && (map.len e.turns == 0) then Some (due_moment age e) else None) (ready_still a.phase state)
+    ap (λ b. if b && (length e.queue == 0) && (map.len e.turns == 0) then Some (due_moment age (record e { last = clock })) else None) (ready_still a.phase state)
+
+-- and due as before, if it was last used then before
+pub due_still : (age : ℕ) (a : Activation) (state : Option Tree) (clock : ℕ) → a.last ≡ clock → due_at age (Some (entry_of (renewed_at a state clock))) ≡ due_at age (Some (entry_of a))
+due_still age a state clock used =
+    still_idle age a state clock ∙ ap (λ last. if is_idle (entry_of a) then Some (due_moment age (record (entry_of a) { last = last })) else None) (sym used)
+
+-- or due by that moment
+pub due_then : (age : ℕ) (a : Activation) (state : Option Tree) (clock : ℕ) → is_idle (entry_of a) ≡ true
+    → due_at age (Some (entry_of (renewed_at a state clock))) ≡ Some (due_moment age (record (entry_of a) { last = clock }))
+due_then age a state clock idle =
+    still_idle age a state clock ∙ ap (λ b. if b then Some (due_moment age (record (entry_of a) { last = clock })) else None) idle
+
+-- the entries with it
+pub renewed_put : (m : FinMap grain_cmp Activation) (g : Grain) (a after : Activation) (state : Option Tree) (clock : ℕ) → after ≡ renewed_at a state clock
+    → entries_of (map.insert m g after) ≡ map.insert (entries_of m) g (record (entry_of a) { phase = renewed (phase_of a.phase) state; last = clock })
+renewed_put m g a after state clock is =
+    entries-put m g after
+    ∙ ap (λ (x : Activation). map.insert (entries_of m) g (entry_of x)) is
+    ∙ ap (λ p. map.insert (entries_of m) g (record (entry_of a) { phase = p; last = clock })) (put_shown a.phase state)
 
 -- what is planned at an activation is planned at its grain
 pub plans_in : {E : Type 0} (logic : Logic) (g : Grain) (entry : Entry) (found : Option Entry) (clock : ℕ) (message : codec.Call) → found ≡ Some entry → logic.knows g.kind ≡ true
-    → (r : Result (Option OwnedPlan) E) → IfOk r (λ o. IfSome o (λ planned. PlansAt logic g entry clock message planned)) → IfOk r (λ o. IfSome o (λ planned. PlansIdle logic g found clock message planned))
+    → (r : Result (Option (OwnedPlan × Bool)) E) → IfOk r (λ o. IfSome o (λ p. PlansAt logic g entry clock message p.0 p.1)) → IfOk r (λ o. IfSome o (λ p. PlansIdle logic g found clock message p.0 p.1))
 plans_in logic g entry found clock message is knows (Err e) at = tt
 plans_in logic g entry found clock message is knows (Ok None) at = tt
-plans_in logic g entry found clock message is knows (Ok (Some planned)) at = record { entry = entry; found_is = is; plans = at; knows = knows }
+plans_in logic g entry found clock message is knows (Ok (Some p)) at = record { entry = entry; found_is = is; plans = at; knows = knows }
 
 -- the account that is found gives its tenant's next number
 pub admits_by : (accounts : FinMap text_cmp Account) (tenant : List ℕ) (account : Account) → map.get accounts tenant ≡ Some account → (o : Option ℕ) → IfSome o (Numbers account) → IfSome o (Admits accounts tenant)

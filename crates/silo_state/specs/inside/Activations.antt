@@ -1,5 +1,5 @@
 -- The activations of all grains, of which the idle ones are noted.
-use Rattle.std.specs.Prelude.{◌≡◌, ℕ, true, Option, Some}
+use Rattle.std.specs.Prelude.{◌≡◌, ◌==◌, ℕ, true, false, Option, Some}
 use Rattle.std.specs.FinMap as map
 use Rattle.std.specs.FinMap.{FinMap}
 use Rattle.grain_id.specs.Names.{Grain, grain_cmp}
@@ -29,6 +29,10 @@ shown age ages activations c =
 -- Where no request waits at the grain, there is room for its note.
 abbrev pub HasRoom : Activations → Grain → Type 0
 HasRoom a grain = (e : Entry) → map.get a.entries grain ≡ Some e → none_waits e ≡ true → a.expected ≡ Some grain
+
+-- If the grain was last used at another moment than this one, there is room for its note.
+abbrev pub CanMove : Activations → Grain → ℕ → Type 0
+CanMove a grain clock = (e : Entry) → map.get a.entries grain ≡ Some e → (e.last == clock) ≡ false → a.expected ≡ Some grain
 
 -- There is an entry, and it loads.
 abbrev pub IsLoading : Option Entry → Type 0

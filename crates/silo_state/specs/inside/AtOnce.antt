@@ -1,5 +1,5 @@
 -- What a call finds that is served at once.
-use Rattle.std.specs.Prelude.{◌≡◌, ℕ, ◌+◌, ◌<◌, true, false, nat_lt, List, Option, Some, unwrap_or}
+use Rattle.std.specs.Prelude.{◌≡◌, ◌==◌, ℕ, ◌+◌, ◌<◌, Bool, true, false, nat_lt, List, Option, Some, unwrap_or}
 use Rattle.std.specs.FinMap as map
 use Rattle.std.specs.FinMap.{FinMap}
 use Rattle.grain_id.specs.Names.{Grain, text_cmp}
@@ -27,26 +27,27 @@ pub record Admits (accounts : FinMap text_cmp Account) (tenant : List ℕ) (numb
   pub known : map.get accounts tenant ≡ Some account
   pub next : Numbers account number
 
--- The entry is ready in this state and idle, was last used at this moment, and doesn't rest.
-pub record IsIdleAt (e : Entry) (clock : ℕ) (state : Tree) : Type 0 where
+-- The entry is ready in this state and idle, and doesn't rest.
+pub record IsIdleAt (e : Entry) (state : Tree) : Type 0 where
   pub version : Option ℕ
   pub phase_is : e.phase ≡ ready state version
   pub idle : is_idle e ≡ true
-  pub used : e.last ≡ clock
   pub stays : e.resting ≡ false
 
--- The entry is idle in some state, on which that is the plan of the message.
-pub record PlansAt (logic : Logic) (grain : Grain) (e : Entry) (clock : ℕ) (message : Call) (planned : OwnedPlan) : Type 0 where
+-- The entry is idle in some state, on which that is the plan of the message; and whether it was last used at this moment.
+pub record PlansAt (logic : Logic) (grain : Grain) (e : Entry) (clock : ℕ) (message : Call) (planned : OwnedPlan)
+    (stays : Bool) : Type 0 where
   pub state : Tree
-  pub at : IsIdleAt e clock state
+  pub at : IsIdleAt e state
   pub plan_is : planned_shown state planned ≡ plan_at logic grain state message
+  pub stays_is : stays ≡ (e.last == clock)
 
 -- There is such an entry, of a kind that is known.
 pub record PlansIdle (logic : Logic) (grain : Grain) (found : Option Entry) (clock : ℕ) (message : Call) (planned : OwnedPlan)
-    : Type 0 where
+    (stays : Bool) : Type 0 where
   pub entry : Entry
   pub found_is : found ≡ Some entry
-  pub plans : PlansAt logic grain entry clock message planned
+  pub plans : PlansAt logic grain entry clock message planned stays
   pub knows : logic.knows grain.kind ≡ true
 
 -- It asks for nothing of the storage, and says nothing of the activation.

@@ -1,5 +1,4 @@
 use Rattle.std.proofs.Common.{ap, sym, ◌∙◌}
-use Rattle.std.proofs.lemmas.Bool.Decides.{Decides-eqb}
 use Rattle.silo_state.specs.Shown.{phase_of}
 use Rattle.silo_state.proofs.Shows.{idle_mail}
 use Rattle.silo_state.proofs.activations.idle.idle_state.Goals as goal
@@ -11,6 +10,5 @@ returns c =
       version = c.in-Ready.version;
       phase_is = ap phase_of c.in-Ready.is;
       idle = sym (idle_mail a c.in-Ready.state c.in-Ready.version c.in-Ready.is) ∙ sym c.if-not-is_idle.ensures;
-      used = (Decides-eqb a.last c.args.clock).0 (sym c.if-not-was_used_at.ensures);
       stays = c.if-activation.false;
     }
