@@ -1,11 +1,11 @@
 //! The subcommands with their options and arguments, as `clap` is told of them.
 
 ghost use Rattle.std.specs.Prelude.{◌≡◌, IfOk, false, true};
-ghost use Rattle.clap.specs.Words.{app_of, rule_of, with_rule};
+ghost use Rattle.clap.specs.Words.{App, Rule, app_of, new_app, rule_of, with_rule, with_subcommand};
 ghost use Rattle.clap.specs.declared.builder.command.Command.TheViews.{out-Command as fields_of};
-ghost use Rattle.silo_words.specs.Words.{age_rule, ages_rule, answer_app, answering_app, audit_app, auditing_app, explain_rule};
-ghost use Rattle.silo_words.specs.Words.{journal_rule, kept_app, migrate_app, path_rule, sends_rule, serve_app, serving_app, silo_app};
-ghost use Rattle.silo_words.specs.Words.{stepping_app, steps_app, summary_rule, tenants_rule, workers_rule};
+ghost use Rattle.silo_words.specs.Commands.{IsApp, bare_app, flag_rule, text_rule};
+ghost use Rattle.silo_words.specs.Words.{age_rule, ages_rule, answer_app, audit_app, explain_rule, journal_rule, migrate_app, path_rule};
+ghost use Rattle.silo_words.specs.Words.{sends_rule, serve_app, silo_app, steps_app, summary_rule, tenants_rule, workers_rule};
 
 use clap::{Arg, ArgAction, Command, value_parser};
 use std::alloc::{AllocError, Global};
@@ -16,79 +16,83 @@ const PROGRAM: &str = "silo";
 /// The version of the program.
 const VERSION: &str = "0.1.0";
 
+/// An option that takes a text, by the name that stands behind its two hyphens.
+fn text_option<'a>(alloc: Global, name: &'a str, value: &'a str, help: &'a str) -> Arg<'a>
+    ensures rule { rule_of result ≡ text_rule name.entry.now }
+    ensures local { result.global ≡ false }
+{
+    Arg::new(alloc, name)
+        .long(name)
+        .value_name(value)
+        .help(help)
+}
+
+/// An option that takes no text.
+fn flag_option<'a>(alloc: Global, name: &'a str, help: &'a str) -> Arg<'a>
+    ensures rule { rule_of result ≡ flag_rule name.entry.now }
+    ensures local { result.global ≡ false }
+{
+    Arg::new(alloc, name)
+        .long(name)
+        .action(ArgAction::SetTrue)
+        .help(help)
+}
+
 fn age_option<'a>(alloc: Global) -> Arg<'a>
     ensures rule { rule_of result ≡ age_rule }
     ensures local { result.global ≡ false }
 {
-    Arg::new(alloc, "age")
-        .long("age")
-        .value_name("MS")
-        .help("Milliseconds after which an idle activation goes, 1 to 86400000 [default: 900000]")
-        .value_parser(value_parser!(u64).range(1..=86_400_000))
+    let help = "Milliseconds after which an idle activation goes, 1 to 86400000 [default: 900000]";
+    text_option(alloc, "age", "MS", help).value_parser(value_parser!(u64).range(1..=86_400_000))
 }
 
 fn ages_option<'a>(alloc: Global) -> Arg<'a>
     ensures rule { rule_of result ≡ ages_rule }
     ensures local { result.global ≡ false }
 {
-    Arg::new(alloc, "ages")
-        .long("ages")
-        .value_name("KIND=MS,..")
-        .help("Ages of their own for up to 64 kinds, each as `--age`")
+    let help = "Ages of their own for up to 64 kinds, each as `--age`";
+    text_option(alloc, "ages", "KIND=MS,..", help)
 }
 
 fn workers_option<'a>(alloc: Global) -> Arg<'a>
     ensures rule { rule_of result ≡ workers_rule }
     ensures local { result.global ≡ false }
 {
-    Arg::new(alloc, "workers")
-        .long("workers")
-        .value_name("N")
-        .help("How many workers serve at once, 1 to 64 [default: 4]")
-        .value_parser(value_parser!(u64).range(1..=64))
+    let help = "How many workers serve at once, 1 to 64 [default: 4]";
+    text_option(alloc, "workers", "N", help).value_parser(value_parser!(u64).range(1..=64))
 }
 
 fn sends_option<'a>(alloc: Global) -> Arg<'a>
     ensures rule { rule_of result ≡ sends_rule }
     ensures local { result.global ≡ false }
 {
-    Arg::new(alloc, "sends")
-        .long("sends")
-        .value_name("N")
-        .help(
-            "How many calls that grains sent are delivered behind a line, 0 to 1000000 [default: 1000]",
-        )
-        .value_parser(value_parser!(u64).range(0..=1_000_000))
+    let help =
+        "How many calls that grains sent are delivered behind a line, 0 to 1000000 [default: 1000]";
+    text_option(alloc, "sends", "N", help).value_parser(value_parser!(u64).range(0..=1_000_000))
 }
 
 fn journal_option<'a>(alloc: Global) -> Arg<'a>
     ensures rule { rule_of result ≡ journal_rule }
     ensures local { result.global ≡ false }
 {
-    Arg::new(alloc, "journal")
-        .long("journal")
-        .value_name("PATH")
-        .help("The file that the journal goes to, for `silo audit`")
+    let help = "The file that the journal goes to, for `silo audit`";
+    text_option(alloc, "journal", "PATH", help)
 }
 
 fn explain_option<'a>(alloc: Global) -> Arg<'a>
     ensures rule { rule_of result ≡ explain_rule }
     ensures local { result.global ≡ false }
 {
-    Arg::new(alloc, "explain-lines")
-        .long("explain-lines")
-        .action(ArgAction::SetTrue)
-        .help("Tells on standard error which lines made no step, and why")
+    let help = "Tells on standard error which lines made no step, and why";
+    flag_option(alloc, "explain-lines", help)
 }
 
 fn summary_option<'a>(alloc: Global) -> Arg<'a>
     ensures rule { rule_of result ≡ summary_rule }
     ensures local { result.global ≡ false }
 {
-    Arg::new(alloc, "summary")
-        .long("summary")
-        .action(ArgAction::SetTrue)
-        .help("Counts lines, answers, refusals by code and steps on standard error")
+    let help = "Counts lines, answers, refusals by code and steps on standard error";
+    flag_option(alloc, "summary", help)
 }
 
 fn tenant_arguments<'a>(alloc: Global) -> Arg<'a>
@@ -113,113 +117,108 @@ fn path_argument<'a>(alloc: Global) -> Arg<'a>
         .required(true)
 }
 
-/// The command with the options for ages.
-fn with_ages<'a>(alloc: Global, command: Command<'a>) -> Result<Command<'a>, AllocError>
-    ensures app { IfOk result (λ c. app_of c ≡ with_rule (with_rule (app_of command.entry) age_rule) ages_rule) }
-    ensures local { (fields_of command.entry).has_globals ≡ false → IfOk result (λ c. (fields_of c).has_globals ≡ false) }
+/// A command with no argument yet.
+fn bare<'a>(alloc: Global, name: &'a str, about: &'a str) -> Command<'a>
+    ensures { IsApp (new_app name.entry.now) result }
 {
-    command.arg(age_option(alloc))?.arg(ages_option(alloc))
+    Command::new(alloc, name).about(about)
+}
+
+/// The command with one argument more, if there was memory for it so far.
+fn with_arg<'a>(
+    command: Result<Command<'a>, AllocError>,
+    arg: Arg<'a>,
+) -> Result<Command<'a>, AllocError>
+    ensures { (app : App) (rule : Rule) → IfOk command.entry (λ c. IsApp app c) → rule_of arg.entry ≡ rule → arg.entry.global ≡ false
+        → IfOk result (λ c. IsApp (with_rule app rule) c) }
+{
+    let known = command?;
+    let added = known.arg(arg)?;
+    Ok(added)
+}
+
+/// The command with the options for ages.
+fn with_ages<'a>(
+    alloc: Global,
+    command: Result<Command<'a>, AllocError>,
+) -> Result<Command<'a>, AllocError>
+    ensures { (app : App) → IfOk command.entry (λ c. IsApp app c)
+        → IfOk result (λ c. IsApp (with_rule (with_rule app age_rule) ages_rule) c) }
+{
+    with_arg(with_arg(command, age_option(alloc)), ages_option(alloc))
 }
 
 fn steps_command<'a>(alloc: Global) -> Result<Command<'a>, AllocError>
-    ensures app { IfOk result (λ c. app_of c ≡ steps_app) }
-    ensures local { IfOk result (λ c. (fields_of c).has_globals ≡ false) }
+    ensures { IfOk result (λ c. IsApp steps_app c) }
 {
-    let command = Command::new(alloc, "steps").about("Reads every step from standard input");
-    with_ages(alloc, command)?.arg(tenant_arguments(alloc))
+    let about = "Reads every step from standard input";
+    with_arg(
+        with_ages(alloc, Ok(bare(alloc, "steps", about))),
+        tenant_arguments(alloc),
+    )
 }
 
 fn answer_command<'a>(alloc: Global) -> Result<Command<'a>, AllocError>
-    ensures app { IfOk result (λ c. app_of c ≡ answer_app) }
-    ensures local { IfOk result (λ c. (fields_of c).has_globals ≡ false) }
+    ensures { IfOk result (λ c. IsApp answer_app c) }
 {
-    let command = Command::new(alloc, "answer").about(
-        "Answers each line on standard input before the next is read",
-    );
-    with_ages(alloc, command)?
-        .arg(sends_option(alloc))?
-        .arg(journal_option(alloc))?
-        .arg(tenant_arguments(alloc))
-}
-
-/// `serve` with its options, but for those of what is told.
-fn kept_command<'a>(alloc: Global) -> Result<Command<'a>, AllocError>
-    ensures app { IfOk result (λ c. app_of c ≡ kept_app) }
-    ensures local { IfOk result (λ c. (fields_of c).has_globals ≡ false) }
-{
-    let command = Command::new(alloc, "serve")
-        .about("Serves the clients on standard input by workers")
-        .arg(workers_option(alloc))?;
-    with_ages(alloc, command)?.arg(journal_option(alloc))
+    let about = "Answers each line on standard input before the next is read";
+    let command = with_ages(alloc, Ok(bare(alloc, "answer", about)));
+    let command = with_arg(command, sends_option(alloc));
+    let command = with_arg(command, journal_option(alloc));
+    with_arg(command, tenant_arguments(alloc))
 }
 
 fn serve_command<'a>(alloc: Global) -> Result<Command<'a>, AllocError>
-    ensures app { IfOk result (λ c. app_of c ≡ serve_app) }
-    ensures local { IfOk result (λ c. (fields_of c).has_globals ≡ false) }
+    ensures { IfOk result (λ c. IsApp serve_app c) }
 {
-    kept_command(alloc)?
-        .arg(explain_option(alloc))?
-        .arg(summary_option(alloc))?
-        .arg(tenant_arguments(alloc))
+    let about = "Serves the clients on standard input by workers";
+    let command = with_arg(Ok(bare(alloc, "serve", about)), workers_option(alloc));
+    let command = with_ages(alloc, command);
+    let command = with_arg(command, journal_option(alloc));
+    let command = with_arg(command, explain_option(alloc));
+    let command = with_arg(command, summary_option(alloc));
+    with_arg(command, tenant_arguments(alloc))
 }
 
 fn audit_command<'a>(alloc: Global) -> Result<Command<'a>, AllocError>
-    ensures app { IfOk result (λ c. app_of c ≡ audit_app) }
-    ensures local { IfOk result (λ c. (fields_of c).has_globals ≡ false) }
+    ensures { IfOk result (λ c. IsApp audit_app c) }
 {
-    Command::new(alloc, "audit")
-        .about("Tells of each tenant in a journal whether it went as for this tenant alone")
-        .arg(path_argument(alloc))
+    let about = "Tells of each tenant in a journal whether it went as for this tenant alone";
+    bare(alloc, "audit", about).arg(path_argument(alloc))
 }
 
 fn migrate_command<'a>(alloc: Global) -> Result<Command<'a>, AllocError>
-    ensures app { IfOk result (λ c. app_of c ≡ migrate_app) }
-    ensures local { IfOk result (λ c. (fields_of c).has_globals ≡ false) }
+    ensures { IfOk result (λ c. IsApp migrate_app c) }
 {
-    Command::new(alloc, "migrate")
-        .about("Writes the journal of a file in the form of today, on standard output")
-        .arg(path_argument(alloc))
+    let about = "Writes the journal of a file in the form of today, on standard output";
+    bare(alloc, "migrate", about).arg(path_argument(alloc))
 }
 
-/// The command line with `steps` alone.
-fn stepping_command<'a>(alloc: Global) -> Result<Command<'a>, AllocError>
-    ensures app { IfOk result (λ c. app_of c ≡ stepping_app) }
-    ensures local { IfOk result (λ c. (fields_of c).has_globals ≡ false) }
-    ensures wanted { IfOk result (λ c. (fields_of c).subcommand_required ≡ true) }
+/// The command line with no subcommand yet.
+fn bare_silo<'a>(alloc: Global) -> Result<Command<'a>, AllocError>
+    ensures { IfOk result (λ c. IsApp bare_app c) }
 {
-    Command::new(alloc, PROGRAM)
-        .bin_name(PROGRAM)?
-        .version(VERSION)
-        .about("A silo of grains that tenants share")
-        .subcommand_required(true)
-        .subcommand(steps_command(alloc)?)
+    let command = Command::new(alloc, PROGRAM).bin_name(PROGRAM)?;
+    Ok(
+        command
+            .version(VERSION)
+            .about("A silo of grains that tenants share")
+            .subcommand_required(true),
+    )
 }
 
-/// The command line with `steps` and `answer`.
-fn answering_command<'a>(alloc: Global) -> Result<Command<'a>, AllocError>
-    ensures app { IfOk result (λ c. app_of c ≡ answering_app) }
-    ensures local { IfOk result (λ c. (fields_of c).has_globals ≡ false) }
-    ensures wanted { IfOk result (λ c. (fields_of c).subcommand_required ≡ true) }
+/// The command with one subcommand more, if there was memory for both.
+fn with_command<'a>(
+    command: Result<Command<'a>, AllocError>,
+    subcommand: Result<Command<'a>, AllocError>,
+) -> Result<Command<'a>, AllocError>
+    ensures { (app sub : App) → IfOk command.entry (λ c. IsApp app c) → IfOk subcommand.entry (λ c. IsApp sub c)
+        → IfOk result (λ c. IsApp (with_subcommand app sub.top) c) }
 {
-    stepping_command(alloc)?.subcommand(answer_command(alloc)?)
-}
-
-/// The command line with `steps`, `answer` and `serve`.
-fn serving_command<'a>(alloc: Global) -> Result<Command<'a>, AllocError>
-    ensures app { IfOk result (λ c. app_of c ≡ serving_app) }
-    ensures local { IfOk result (λ c. (fields_of c).has_globals ≡ false) }
-    ensures wanted { IfOk result (λ c. (fields_of c).subcommand_required ≡ true) }
-{
-    answering_command(alloc)?.subcommand(serve_command(alloc)?)
-}
-
-/// The command line with `steps`, `answer`, `serve` and `audit`.
-fn auditing_command<'a>(alloc: Global) -> Result<Command<'a>, AllocError>
-    ensures app { IfOk result (λ c. app_of c ≡ auditing_app) }
-    ensures local { IfOk result (λ c. (fields_of c).has_globals ≡ false) }
-    ensures wanted { IfOk result (λ c. (fields_of c).subcommand_required ≡ true) }
-{
-    serving_command(alloc)?.subcommand(audit_command(alloc)?)
+    let under = subcommand?;
+    let known = command?;
+    let added = known.subcommand(under)?;
+    Ok(added)
 }
 
 /// The whole command line.
@@ -228,5 +227,9 @@ pub fn silo_command<'a>(alloc: Global) -> Result<Command<'a>, AllocError>
     ensures local { IfOk result (λ c. (fields_of c).has_globals ≡ false) }
     ensures wanted { IfOk result (λ c. (fields_of c).subcommand_required ≡ true) }
 {
-    auditing_command(alloc)?.subcommand(migrate_command(alloc)?)
+    let command = with_command(bare_silo(alloc), steps_command(alloc));
+    let command = with_command(command, answer_command(alloc));
+    let command = with_command(command, serve_command(alloc));
+    let command = with_command(command, audit_command(alloc));
+    with_command(command, migrate_command(alloc))
 }
