@@ -17,6 +17,7 @@ use turn_arena::Node;
 
 /// What a turn of a counter comes to.
 #[tactic(auto, unfolding(crate::specs::Counter::counter_plan, crate::specs::Counter::number_plan))]
+#[inline(always)]
 pub(crate) fn plan_of<'a>(alloc: Global, method: &str, state: Node<'a>, args: Node<'a>) -> Plan<'a>
     ensures { plan_shown (node_value state.entry) result ≡ counter_plan method.now (node_value state.entry) (node_value args.entry) }
 {

@@ -70,6 +70,7 @@ fn empty_of<'a>(kind: &str) -> Node<'a>
 }
 
 /// The plan by the module of the kind. A kind that isn't known has no method.
+#[inline(always)]
 fn plan_by<'a>(
     alloc: Global,
     bump: &'a Bump,
@@ -118,6 +119,7 @@ impl GrainLogic for Kinds {
     }
 
     #[tactic(auto, using(crate::proofs::Fits::formed_ascends), unfolding(crate::specs::Kinds::kinds))]
+    #[inline(always)]
     fn plan<'a>(
         &self,
         alloc: Global,

@@ -11,6 +11,7 @@ use std::alloc::AllocError;
 use turn_arena::{Node, formed_call_in, formed_in};
 
 /// The method and the argument of a message, whose texts are lent from its bytes.
+#[inline(always)]
 pub(crate) fn asked_in<'a>(
     bump: &'a Bump,
     message: &'a Message,
@@ -22,6 +23,7 @@ pub(crate) fn asked_in<'a>(
 }
 
 /// The value of a state, whose texts are lent from its bytes.
+#[inline(always)]
 pub(crate) fn state_in<'a>(bump: &'a Bump, state: &'a StateBytes) -> Result<Node<'a>, AllocError>
     ensures same { IfOk result (λ node. node_value node ≡ state.now) }
     ensures fits { IfOk result (λ node. FitsState (node_value node)) }

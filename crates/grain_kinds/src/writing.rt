@@ -23,6 +23,7 @@ use turn_arena::{Node, encode_call, encode_formed};
 /// # Errors
 ///
 /// Out of memory.
+#[inline(always)]
 pub fn state_of(alloc: Global, node: Node<'_>) -> Result<StateBytes, AllocError>
     requires { FitsState (node_value node) }
     ensures { IfOk result (λ state. state ≡ node_value node.entry) }
@@ -48,6 +49,7 @@ fn message_of(alloc: Global, method: &str, argument: Node<'_>) -> Result<Message
 }
 
 /// The new state, if there is one, written into room for that many bytes at first.
+#[inline(always)]
 fn next_of(
     alloc: Global,
     room: usize,
@@ -63,6 +65,7 @@ fn next_of(
 }
 
 /// The answer, or the code of its fault.
+#[inline(always)]
 fn outcome_of(
     alloc: Global,
     outcome: Result<Node<'_>, MethodFault>,
@@ -77,10 +80,15 @@ fn outcome_of(
 }
 
 /// Each call that is sent, with the grain that it is sent to.
+#[inline(always)]
 fn sends_of(alloc: Global, sends: Vec<Send<'_>>) -> Result<Vec<(GrainId, Message)>, AllocError>
     requires { AllByRecursion (λ send. FitsMessage (asks send.method.now (node_value send.args))) sends.items }
     ensures { IfOk result (λ written. map sent written.items ≡ map send_shown sends.entry.items) }
 {
+    if sends.is_empty() {
+        drop(sends);
+        return Ok(Vec::new(alloc));
+    }
     let mut written = Vec::new(alloc);
     'sends: for Send {
         target,
@@ -93,6 +101,7 @@ fn sends_of(alloc: Global, sends: Vec<Send<'_>>) -> Result<Vec<(GrainId, Message
 }
 
 /// All that a plan holds. The new state is written into room for that many bytes at first.
+#[inline(always)]
 pub(crate) fn written(alloc: Global, room: usize, plan: Plan<'_>) -> Result<OwnedPlan, AllocError>
     requires { NodesFit plan }
     ensures { IfOk result (λ planned. (state : Tree) → planned_shown state planned ≡ plan_shown state plan.entry) }

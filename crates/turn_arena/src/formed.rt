@@ -120,6 +120,7 @@ fn formed_fields<'a>(
 
 /// The value of bytes that are known to be a state's. Its texts, bytes and names are lent from the bytes, and its
 /// lists and maps lie in the arena. The only error: the arena can't grow.
+#[inline(always)]
 pub fn formed_in<'a>(bump: &'a Bump, bytes: &'a [u8]) -> Result<Node<'a>, AllocError>
     requires { IsSome (state_value bytes.now) }
     ensures { IfOk result (λ node. state_value bytes.now ≡ Some (node_value node)) }
@@ -130,6 +131,7 @@ pub fn formed_in<'a>(bump: &'a Bump, bytes: &'a [u8]) -> Result<Node<'a>, AllocE
 
 /// The method and the argument of bytes that are known to be a message's. The method, texts, bytes and names are lent from
 /// the bytes, and lists and maps lie in the arena. The only error: the arena can't grow.
+#[inline(always)]
 pub fn formed_call_in<'a>(
     bump: &'a Bump,
     bytes: &'a [u8],
