@@ -70,6 +70,7 @@ impl Directory {
     }
 
     /// The grain's activation.
+    #[inline(never)]
     pub fn get(&self, id: &GrainId) -> Option<&Activation>
         ensures { option_copied result ≡ map.get self.now.activations id.now }
     {
@@ -78,6 +79,7 @@ impl Directory {
     }
 
     /// The grain's activation, which may be changed where it stands.
+    #[inline(never)]
     pub fn get_mut(&mut self, id: &GrainId) -> Option<&mut Activation>
         ensures* writes_back { sem 𝓛 (LendsActivation self.entry id.now result) }
         ensures value { option_copied_mut result ≡ map.get self.old.activations id.now }

@@ -19,6 +19,7 @@ pub struct FoundGrain {
 }
 
 /// The place to which the grain leads, if it stands at this index.
+#[inline(always)]
 fn place_at(places: &Places, index: usize, id: &GrainId) -> Option<usize>
     ensures { IfSome result (λ place. lookup (grain_eq id.now) places.now.entries ≡ Some place) }
 {
@@ -46,6 +47,7 @@ fn found_by_hash(places: &Places, id: &GrainId) -> Option<FoundGrain>
 }
 
 /// The grain, with no look-up by hash if it stands where one was found last. Whether it does is looked at.
+#[inline(always)]
 pub fn found(latest: usize, places: &Places, id: &GrainId) -> Option<FoundGrain>
     ensures { option_map (λ found. found.place) result ≡ lookup (grain_eq id.now) places.now.entries }
 {
