@@ -54,6 +54,7 @@ impl<S: GrainStorage, L: GrainLogic> SiloState<S, L> {
     }
 
     /// Closes an open turn by what the storage answers to its own plan.
+    #[inline(never)]
     pub(super) fn store_own(
         &mut self,
         alloc: Global,

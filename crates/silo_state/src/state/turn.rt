@@ -114,6 +114,7 @@ impl<S: GrainStorage, L: GrainLogic> SiloState<S, L> {
     }
 
     /// Closes an open turn by its own plan, which is given.
+    #[inline(never)]
     pub(super) fn end_planned(
         &mut self,
         alloc: Global,
