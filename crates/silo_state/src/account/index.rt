@@ -53,7 +53,8 @@ pub(super) fn take_first(
         return None;
     };
     let first = numbers.pop_front();
-    forget_if_none(index, grain);
+    let is_last = numbers.is_empty();
+    forget_if_none(index, grain, is_last);
     first
 }
 
@@ -69,14 +70,18 @@ pub(super) fn take_last(
         return None;
     };
     let last = numbers.pop_back();
-    forget_if_none(index, grain);
+    let is_last = numbers.is_empty();
+    forget_if_none(index, grain, is_last);
     last
 }
 
-/// A grain of which nothing is left has no queue. Takes no memory.
-fn forget_if_none(index: &mut BTreeMap<GrainId, VecDeque<u64>>, grain: &GrainId)
+/// A grain of which nothing is left has no queue. It is looked for only if that may be so. Takes no memory.
+fn forget_if_none(index: &mut BTreeMap<GrainId, VecDeque<u64>>, grain: &GrainId, may_be_none: bool)
     ensures { IsSameIndex index.old index.new }
 {
+    if !may_be_none {
+        return;
+    }
     let Some(numbers) = index.get(grain) else {
         return;
     };
