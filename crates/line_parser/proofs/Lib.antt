@@ -15,6 +15,7 @@ pub mod Noted
 pub mod PutValues
 pub mod PlainArgument
 pub mod MembersTaken
+pub mod ShortMembers
 pub mod OtherNames
 pub mod OtherMembers
 pub mod NoObject

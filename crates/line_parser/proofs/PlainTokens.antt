@@ -10,7 +10,10 @@ use Rattle.json.specs.Json.{after_end_array}
 use Rattle.line_parser.specs.inside.LineMembers.{name_text}
 use Rattle.line_parser.specs.declared.line_members.Name.{Name}
 use Rattle.line_parser.specs.declared.line_members.Name.TheVariants.{Op, From, Grain, Method, Id, Turn, Now, Failed, Args, State}
-use Rattle.line_parser.specs.inside.Plain.{name_spelling, is_opener, PassesValue}
+use Rattle.line_parser.specs.inside.Plain.{name_spelling, word_spelling, is_opener, PassesValue}
+use Rattle.line_parser.specs.inside.Step.{form_text}
+use Rattle.line_parser.specs.declared.step.Form.{Form}
+use Rattle.line_parser.specs.declared.step.Form.TheVariants as form
 use Rattle.line_parser.proofs.PlainLexemes.{digit_class}
 
 -- ---- a token that closes nothing
@@ -189,6 +192,25 @@ name_token State after = refl
 pub text_token : (d s r after : List ℕ) → lex between d ≡ token (string s) ∷ lex between r → PassesValue r after → tokens d ≡ string s ∷ tokens after
 unfolding punctuate
 text_token d s r after e p = ap (punctuate fresh) e ∙ ap (λ b. place_token fresh (string s) b (λ n. punctuate n (lex between r))) p.no_colon ∙ ap (λ ts. string s ∷ ts) p.same
+
+-- a form's word
+word_lexed : (form : Form) (after : List ℕ) → lex between (word_spelling form ++ after) ≡ token (string (form_text form)) ∷ lex between (44 ∷ after)
+unfolding lex content
+word_lexed form.Call after = refl
+word_lexed form.Poke after = refl
+word_lexed form.Status after = refl
+word_lexed form.Deliver after = refl
+word_lexed form.Activate after = refl
+word_lexed form.Load after = refl
+word_lexed form.Begin after = refl
+word_lexed form.Store after = refl
+word_lexed form.End after = refl
+word_lexed form.Abandon after = refl
+word_lexed form.Tick after = refl
+word_lexed form.Sweep after = refl
+
+pub word_token : (form : Form) (after : List ℕ) → head after ≡ 34 → tokens (word_spelling form ++ after) ≡ string (form_text form) ∷ tokens after
+word_token form after quote = text_token (word_spelling form ++ after) (form_text form) (44 ∷ after) after (word_lexed form after) (passes_comma (44 ∷ after) refl (ap is_opener quote))
 
 pub number_token : (d s r after : List ℕ) → lex between d ≡ token (number s) ∷ lex between r → PassesValue r after → tokens d ≡ number s ∷ tokens after
 unfolding punctuate

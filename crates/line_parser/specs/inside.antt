@@ -7,4 +7,5 @@ pub mod Number
 pub mod PassedMembers
 pub mod Plain
 pub mod QuickFault
+pub mod ShortLine
 pub mod Step

@@ -22,6 +22,7 @@ mod quick_fault;
 mod reading;
 mod request;
 mod scan;
+mod short_line;
 mod slots;
 mod step;
 mod tokens;

@@ -11,11 +11,13 @@ ghost use Rattle.json.specs.Run.{is_plain};
 ghost use Rattle.json.specs.Reads.{token_of};
 ghost use Rattle.request_codec.specs.Json.{hex_name};
 ghost use Rattle.line_parser.specs.inside.LineMembers.{name_text, IsNatural};
-ghost use Rattle.line_parser.specs.inside.Plain.{name_spelling, is_opener, is_number_end, PassesValue, CutsNatural};
+ghost use Rattle.line_parser.specs.inside.Plain.{name_spelling, word_spelling, is_opener, is_number_end, PassesValue, CutsNatural};
+ghost use Rattle.line_parser.specs.inside.Step.{form_text};
 
 use crate::line_members::Name;
 use crate::number::leading_digits;
 use crate::scan::{begins_with, digits_len, plain_len, same_text};
+use crate::step::Form;
 use json::Token;
 
 /// The byte at a place, or a space past the end.
@@ -309,6 +311,63 @@ pub(crate) fn plain_name<'t>(rest: &'t str) -> Option<(Name, &'t str)>
         b'n' => past_name(rest, Name::Now),
         b'a' => past_name(rest, Name::Args),
         b's' => past_name(rest, Name::State),
+        _ => None,
+    }
+}
+
+/// A form's word as it is spelled plainly, with its quotes and the comma behind it.
+#[inline(always)]
+fn spelled_word(form: Form) -> &'static str
+    ensures { result.now ≡ word_spelling form }
+{
+    match form {
+        Form::Call => "\"call\",",
+        Form::Poke => "\"poke\",",
+        Form::Status => "\"status\",",
+        Form::Deliver => "\"deliver\",",
+        Form::Activate => "\"activate\",",
+        Form::Load => "\"load\",",
+        Form::Begin => "\"begin\",",
+        Form::Store => "\"store\",",
+        Form::End => "\"end\",",
+        Form::Abandon => "\"abandon\",",
+        Form::Tick => "\"tick\",",
+        Form::Sweep => "\"sweep\",",
+    }
+}
+
+/// The form, if its word is the text that is the first token and a name or a text stands behind it, and what follows its
+/// comma.
+#[inline(always)]
+pub(crate) fn past_word<'t>(rest: &'t str, form: Form) -> Option<(Form, &'t str)>
+    ensures { IfSome result (λ cut. tokens rest.now ≡ string (form_text cut.0) ∷ tokens cut.1.now) }
+{
+    let front = spelled_word(form);
+    if !begins_with(rest.as_bytes(), front.as_bytes()) {
+        return None;
+    }
+    let after = past(rest, front.len() - 1);
+    if byte_at(after, 0) != b'"' {
+        return None;
+    }
+    Some((form, after))
+}
+
+/// The same of the form that the text most likely names, of those that name a grain and no client: a byte tells it, or two.
+#[inline(always)]
+pub(crate) fn past_likely_word<'t>(rest: &'t str) -> Option<(Form, &'t str)>
+    ensures { IfSome result (λ cut. tokens rest.now ≡ string (form_text cut.0) ∷ tokens cut.1.now) }
+{
+    match byte_at(rest, 1) {
+        b'e' => past_word(rest, Form::End),
+        b'b' => past_word(rest, Form::Begin),
+        b'd' => past_word(rest, Form::Deliver),
+        b's' => past_word(rest, Form::Store),
+        b'l' => past_word(rest, Form::Load),
+        b'a' => match byte_at(rest, 2) {
+            b'c' => past_word(rest, Form::Activate),
+            _ => past_word(rest, Form::Abandon),
+        },
         _ => None,
     }
 }

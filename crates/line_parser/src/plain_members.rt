@@ -4,14 +4,15 @@ ghost use Rattle.std.specs.Prelude.{◌≡◌, ◌∷◌, [], ℕ, List, IsTrue,
 ghost use Rattle.json.specs.Token.{Token, key, begin_object, end_object};
 ghost use Rattle.json.specs.Lex.{tokens};
 ghost use Rattle.serde_json.specs.Data.{no_members};
-ghost use Rattle.line_parser.specs.inside.LineMembers.{name_text, HoldsLineMembers, HasLineMembers};
+ghost use Rattle.line_parser.specs.inside.LineMembers.{name_text, HoldsLineMembers};
 ghost use Rattle.line_parser.specs.inside.PassedMembers.{MembersRead, PassesMember, TakesUncounted};
 
 use crate::line_members::{LineMembers, Name};
 use crate::plain::{
-    byte_at, map_end, map_start, member_natural, member_text, past_name, plain_name,
+    byte_at, map_end, map_start, member_natural, member_text, past_name, past_word, plain_name,
 };
 use crate::slots::{put_natural, put_text};
+use crate::step::{Form, word_of};
 
 /// Takes the text that is the first token, if it is spelled plainly and the member had none: what follows it.
 #[inline(always)]
@@ -99,35 +100,21 @@ fn take_named<'a>(members: &mut LineMembers<'a>, rest: &'a str, name: Name) -> O
     take_passed(members, name, value)
 }
 
-/// Takes `op` and `grain`, if a text begins an object with these two in this order, spelled plainly: what follows them.
+/// Takes `op`, if it stands in front, is spelled plainly and is `call`, and wasn't there yet: what follows it.
 #[inline(always)]
-fn past_grain<'a>(members: &mut LineMembers<'a>, text: &'a str) -> Option<&'a str>
-    requires { (l : List ℕ) → HoldsLineMembers no_members members.old l }
-    ensures { IfSome result (λ rest. (begun : List Token) × (tokens text.now ≡ begin_object ∷ begun)
-        × ((l : List ℕ) → MembersRead begun (tokens rest.now) members.new l)) }
+fn take_call_word<'a>(members: &mut LineMembers<'a>, rest: &'a str) -> Option<&'a str>
+    ensures { IfSome result (λ after. PassesMember (tokens rest.now) (tokens after.now) members.old members.new) }
 {
-    let begun = map_start(text)?;
-    let behind = take_named(members, begun, Name::Op)?;
-    take_named(members, behind, Name::Grain)
-}
-
-/// Takes the members of the object that a text is, if they are `op`, `grain` and maybe `turn`, in this order and spelled
-/// plainly: whether they are. If not, some of them may be taken.
-#[inline(always)]
-pub(crate) fn take_short<'a>(members: &mut LineMembers<'a>, text: &'a str) -> bool
-    requires { (l : List ℕ) → HoldsLineMembers no_members members.old l }
-    ensures { IsTrue result → (l : List ℕ) → HasLineMembers (tokens text.now) members.new l }
-{
-    let Some(rest) = past_grain(members, text) else {
-        return false;
+    let Some((Name::Op, value)) = past_name(rest, Name::Op) else {
+        return None;
     };
-    if ends_line(rest) {
-        return true;
+    let (form, after) = past_word(value, Form::Call)?;
+    let counted = members.count.checked_add(1)?;
+    if !put_text(members, Name::Op, word_of(form)) {
+        return None;
     }
-    let Some(end) = take_named(members, rest, Name::Turn) else {
-        return false;
-    };
-    ends_line(end)
+    members.count = counted;
+    Some(after)
 }
 
 /// Takes the two members of these names, if they stand in front in this order, each as `take_named` takes it: what follows
@@ -146,18 +133,19 @@ fn take_both<'a>(
     take_named(members, behind, second)
 }
 
-/// Takes `op`, `from` and `id`, if they stand in front, `op` ahead of the two others or behind them: what follows them.
+/// Takes `op`, if it is `call`, `from` and `id`, if they stand in front, `op` ahead of the two others or behind them: what
+/// follows them.
 #[inline(always)]
 fn past_client<'a>(members: &mut LineMembers<'a>, rest: &'a str) -> Option<&'a str>
     ensures { IfSome result (λ after. (begun : List Token) (l : List ℕ) → MembersRead begun (tokens rest.now) members.old l
         → MembersRead begun (tokens after.now) members.new l) }
 {
     if byte_at(rest, 1) == b'o' {
-        let behind = take_named(members, rest, Name::Op)?;
+        let behind = take_call_word(members, rest)?;
         return take_both(members, behind, Name::From, Name::Id);
     }
     let behind = take_both(members, rest, Name::From, Name::Id)?;
-    take_named(members, behind, Name::Op)
+    take_call_word(members, behind)
 }
 
 /// Takes the members of a call but its argument, if a text begins an object with them in the order in which calls are

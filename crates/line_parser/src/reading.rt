@@ -13,9 +13,9 @@ use crate::line::{Line, LineRefusal};
 use crate::line_members::{LineMembers, ValueIn, read_members};
 use crate::members::members_of_json;
 use crate::plain::byte_at;
-use crate::plain_members::take_short;
 use crate::quick_fault::QuickFault;
-use crate::step::{call_step_from, short_step_from, step_from};
+use crate::short_line::{members_of_short, short_line};
+use crate::step::{call_step_from, step_from, step_of_form};
 use grain_id::NameCache;
 use json::Scratch;
 use serde_json::Value;
@@ -171,16 +171,17 @@ fn read_short_step(
 ) -> Result<Option<Step>, AllocError>
     ensures { IfOk result (λ found. IfSome found (λ step. option_and_then step_of_json (read text.now) ≡ Some step)) }
 {
-    let mut members = LineMembers::none();
-    if !take_short(&mut members, text) {
+    let Some(line) = short_line(text) else {
         return Ok(None);
-    }
-    short_step_from(
+    };
+    let members = members_of_short(line);
+    step_of_form(
         alloc,
         &mut scratch.names,
         &mut scratch.message,
         &members,
         ValueIn::Bytes(&[]),
+        line.form,
     )
 }
 

@@ -179,6 +179,7 @@ pub(crate) fn call_from(
 
 /// The poke, if the members are those of a poke; it is refused if its state is, or is too large, or its
 /// grain isn't well formed.
+#[inline(always)]
 pub(crate) fn poke_from(
     alloc: Global,
     names: &mut NameCache,
@@ -213,6 +214,7 @@ pub(crate) fn poke_from(
 }
 
 /// The question for a tenant's status, if the members are those of one.
+#[inline(always)]
 pub(crate) fn status_from(
     alloc: Global,
     names: &mut NameCache,

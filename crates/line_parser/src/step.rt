@@ -1,6 +1,6 @@
 //! The step that the members of a line ask for.
 
-ghost use Rattle.std.specs.Prelude.{◌≡◌, Some, None, IfSome, IfNone, IfOk};
+ghost use Rattle.std.specs.Prelude.{◌≡◌, Some, None, IfSome, IfNone, IfOk, option_map};
 ghost use Rattle.serde_json.specs.Data.{Data};
 ghost use Rattle.line_parser.specs.Form.{where_so, has_members, grain_at, turn_alone, load_of, store_of, tick_of, sweep_of, form_of};
 ghost use Rattle.line_parser.specs.Form.{step_of_json};
@@ -33,7 +33,7 @@ pub(crate) enum Form {
 
 /// The word that names a form.
 #[inline(always)]
-fn word_of(form: Form) -> &'static str
+pub(crate) fn word_of(form: Form) -> &'static str
     ensures { result.now ≡ form_text form }
 {
     match form {
@@ -288,47 +288,20 @@ pub(crate) fn step_from(
     read_form(alloc, names, out, members, value, form)
 }
 
-/// The form that `op` most likely names, of those that name a grain and no client.
+/// The step that the members of a line ask for, if `op` names the form.
 #[inline(always)]
-fn likely_grain_form(op: &str) -> Option<Form>
-    ensures { IfSome result (λ form. op.now ≡ form_text form) }
-{
-    let bytes = op.as_bytes();
-    match bytes.len() {
-        3 => if_named(op, Form::End),
-        4 => if_named(op, Form::Load),
-        5 => match bytes[1] {
-            b'e' => if_named(op, Form::Begin),
-            _ => if_named(op, Form::Store),
-        },
-        7 => match bytes[0] {
-            b'd' => if_named(op, Form::Deliver),
-            _ => if_named(op, Form::Abandon),
-        },
-        8 => if_named(op, Form::Activate),
-        _ => None,
-    }
-}
-
-/// The step that the members of a line ask for, if its form names a grain and no client. If there is none, they may ask for
-/// a step still.
-#[inline(always)]
-pub(crate) fn short_step_from(
+pub(crate) fn step_of_form(
     alloc: Global,
     names: &mut NameCache,
     out: &mut Vec<u8>,
     members: &LineMembers<'_>,
     value: ValueIn<'_>,
+    form: Form,
 ) -> Result<Option<Step>, AllocError>
-    requires { (d : Data) × AreMembersOf d members.now value }
-    ensures { IfOk result (λ found. IfSome found (λ step. FindsIn members.now value.entry step_of_json (Some step))) }
+    requires members { (d : Data) × AreMembersOf d members.now value }
+    requires named { option_map (λ op. op.now) members.now.op ≡ Some (form_text form) }
+    ensures { IfOk result (λ step. FindsIn members.now value.entry step_of_json step) }
 {
-    let Some(op) = members.op else {
-        return Ok(None);
-    };
-    let Some(form) = likely_grain_form(op) else {
-        return Ok(None);
-    };
     read_form(alloc, names, out, members, value, form)
 }
 

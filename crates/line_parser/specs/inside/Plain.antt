@@ -5,12 +5,18 @@ use Rattle.json.specs.Token.{Token, number}
 use Rattle.serde_json.specs.Data.{unsigned}
 use Rattle.serde_json.specs.Read.{number_of}
 use Rattle.line_parser.specs.inside.LineMembers.{name_text}
+use Rattle.line_parser.specs.inside.Step.{form_text}
 use Rattle.line_parser.specs.declared.line_members.Name.{Name}
+use Rattle.line_parser.specs.declared.step.Form.{Form}
 use Rattle.json.specs.Lex.{token, between, lex, after_value, begins_colon, punctuate, tokens}
 
 -- a member's name with its quotes and its colon
 abbrev pub name_spelling : Name → List ℕ
 name_spelling name = 34 ∷ (name_text name ++ (34 ∷ 58 ∷ []))
+
+-- a form's word with its quotes and the comma behind it
+abbrev pub word_spelling : Form → List ℕ
+word_spelling form = 34 ∷ (form_text form ++ (34 ∷ 44 ∷ []))
 
 -- a text, digits, a list or a map begin with it
 abbrev pub is_opener : ℕ → Bool

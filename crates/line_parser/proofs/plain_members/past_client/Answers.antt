@@ -11,4 +11,4 @@ returns-then-byte_at-eq111 c =
 pub returns : goal.returns
 returns c =
     let behind = tokens c.in_ok-behind-2.behind.now in
-    if_some_as c.take_named-2.result c.take_named-2.ensures λ after passes begun l m. passed_next begun behind (tokens after.now) _ _ l (c.in_ok-behind-2.ensures begun l m) passes
+    if_some_as c.take_call_word-2.result c.take_call_word-2.ensures λ after passes begun l m. passed_next begun behind (tokens after.now) _ _ l (c.in_ok-behind-2.ensures begun l m) passes
