@@ -132,9 +132,13 @@ fn with_arg<'a>(
     ensures { (app : App) (rule : Rule) → IfOk command.entry (λ c. IsApp app c) → rule_of arg.entry ≡ rule → arg.entry.global ≡ false
         → IfOk result (λ c. IsApp (with_rule app rule) c) }
 {
-    let known = command?;
-    let added = known.arg(arg)?;
-    Ok(added)
+    match command {
+        Ok(known) => known.arg(arg),
+        Err(why) => {
+            drop(arg);
+            Err(why)
+        }
+    }
 }
 
 /// The command with the options for ages.
@@ -215,10 +219,20 @@ fn with_command<'a>(
     ensures { (app sub : App) → IfOk command.entry (λ c. IsApp app c) → IfOk subcommand.entry (λ c. IsApp sub c)
         → IfOk result (λ c. IsApp (with_subcommand app sub.top) c) }
 {
-    let under = subcommand?;
-    let known = command?;
-    let added = known.subcommand(under)?;
-    Ok(added)
+    let under = match subcommand {
+        Ok(under) => under,
+        Err(why) => {
+            drop(command);
+            return Err(why);
+        }
+    };
+    match command {
+        Ok(known) => known.subcommand(under),
+        Err(why) => {
+            drop(under);
+            Err(why)
+        }
+    }
 }
 
 /// The whole command line.
