@@ -19,5 +19,6 @@ short_count (Some n) = 3
 -- the tokens are those of such a line
 pub record IsShort (ts : List Token) (line : ShortLine) : Type 0 where
   pub behind : List Token
-  pub begins : ts ≡ begin_object ∷ key (name_text Op) ∷ string (form_text line.form) ∷ key (name_text Grain) ∷ string line.grain.now ∷ behind
+  pub begins : ts ≡ begin_object ∷ key (name_text Op) ∷ string (form_text line.form)
+      ∷ key (name_text Grain) ∷ string line.grain.now ∷ behind
   pub ends : EndsWithTurn line.turn behind
