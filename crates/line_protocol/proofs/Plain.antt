@@ -1,5 +1,5 @@
 -- Texts that stand in JSON as they are.
-use Rattle.std.proofs.Common.{◌≡◌, ◌≢◌, ◌≤◌, ◌++◌, ℕ, List, [], ◌∷◌, true, false, ◌==◌, nat_lt, refl, ap, ap₂, ◌∙◌, arith}
+use Rattle.std.proofs.Common.{◌≡◌, ◌≢◌, ◌≤◌, ◌++◌, ℕ, List, [], ◌∷◌, true, false, ◌==◌, nat_lt, refl, ap, ap₂, ◌∙◌, append_assoc, arith}
 use Rattle.std.specs.Prelude.{IsTrue}
 use Rattle.std.specs.List.{list_all}
 use Rattle.std.proofs.lemmas.Bool.Decides.{nat_tests}
@@ -42,3 +42,7 @@ quoted-client_text c h =
     let parts = and_parts (is_word c.tenant) (is_word c.client) h in
     let slash : escape (47 ∷ c.client) ≡ 47 ∷ c.client = flat_map-cons escape_byte 47 c.client ∙ ap₂ (λ l m. l ++ m) (escape_byte-plain 47 (omega arith) (omega arith)) (escape-word c.client parts.1) in
     ap (λ l. 34 ∷ (l ++ 34 ∷ [])) (flat_map-append escape_byte c.tenant (47 ∷ c.client) ∙ ap₂ (λ l m. l ++ m) (escape-word c.tenant parts.0) slash)
+
+-- the same before what follows it
+pub client_text-before : (c : Client) (rest : List ℕ) → IsTrue (is_client c) → quoted (client_text c) ++ rest ≡ 34 ∷ (client_text c ++ 34 ∷ rest)
+client_text-before c rest h = ap (λ l. l ++ rest) (quoted-client_text c h) ∙ ap (λ l. 34 ∷ l) (append_assoc (client_text c) (34 ∷ []) rest)

@@ -27,7 +27,7 @@ fn push_client(text: &mut String, from: &Caller) -> Result<(), AllocError>
     Ok(())
 }
 
-/// Adds `{"from":F,"id":I,"ok":V}`.
+/// Adds `{"from":F,"id":I,"ok":V}`. Nothing in the caller's text has to be escaped.
 fn push_done(
     alloc: Global,
     text: &mut String,
@@ -37,9 +37,9 @@ fn push_done(
 ) -> Result<(), AllocError>
     ensures { OnOk result (string_bytes text.new ≡ string_bytes text.old ++ done_line (client_text from.now) id state.now) }
 {
-    push(text, "{\"from\":")?;
-    push_client(text, from)?;
-    push(text, ",\"id\":")?;
+    push(text, "{\"from\":\"")?;
+    push(text, from.text())?;
+    push(text, "\",\"id\":")?;
     push_natural(text, id)?;
     push(text, ",\"ok\":")?;
     push_state(alloc, text, state)?;
