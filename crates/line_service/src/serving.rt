@@ -82,7 +82,7 @@ fn serve_lanes<
 
 /// Serves lines that were read, by so many threads, 1 to 64, over no rows at the start. Requests go to
 /// the lane of their client, ticks and sweeps to nobody's, lanes in the order of their first lines; a line
-/// that no lane gives is refused. The gate is told of each turn before its body runs. Grains, rows and
+/// that no lane gives is refused. A gate that watches is told of each turn before its body runs. Grains, rows and
 /// clients are found by hashes from the seed, on which nothing that is answered depends.
 ///
 /// # Errors

@@ -11,7 +11,7 @@ use Rattle.grain_kinds.specs.declared.turn.OpenedTurn.{OpenedTurn}
 use Rattle.silo_event.specs.Failed.{as_failed}
 use Rattle.silo_event.specs.declared.reply.Reply.{Reply}
 use Rattle.silo_event.specs.declared.step.Step.{Step}
-use Rattle.silo_event.specs.declared.step.Step.TheVariants.{Begin}
+use Rattle.silo_event.specs.declared.step.Step.TheVariants.{Begin, End}
 use Rattle.silo_event.specs.declared.step.Answer.{Answer}
 use Rattle.silo_event.specs.declared.step.Answer.TheVariants.{Done, Failed, NotNow}
 use Rattle.silo_event.specs.declared.step.StepFault.{StepFault}
@@ -26,10 +26,11 @@ use Rattle.lane_model.specs.Pacing.{is_paced}
 use Rattle.lane_model.proofs.CountsOfAll.{pending_by_counts, told_within}
 use Rattle.silo_state.specs.Moves.{done_if}
 use Rattle.silo_core.specs.History.{Advances, Answered, History}
+use Rattle.silo_core.specs.AtOnce.{Serves}
 use Rattle.silo_core.specs.Turns.{AnsweredTurn}
 use Rattle.silo_core.proofs.Steps.{done_parts}
 use Rattle.worker_host.specs.declared.owed.Owed.{Owed}
-use Rattle.worker_host.specs.inside.Working.{IsWorking, asks_once, is_told, may_ask_in, owing_to, was_done}
+use Rattle.worker_host.specs.inside.Working.{IsWorking, ServedOrAnswered, asks_once, is_told, may_ask_in, owing_to, was_done, was_taken, with_answer}
 use Rattle.worker_host.proofs.Owing.{owed_less, owed_on, owes_some, told_parts}
 use Rattle.worker_host.proofs.Paced.{asker_failed, paced_answer}
 
@@ -101,6 +102,35 @@ module _ {S : Type 0} (logic : Logic) (old new : History) (owing : IndexMap Clie
   working_closed s none input (Ok a) h = working_unasked s none (Ok a) h.0
   working_closed s none input (Err Memory) h = working_same owing h (λ client. refl)
   working_closed s none input (Err Stranger) h = working_same owing h.1 (λ client. refl)
+
+-- a call was served: its own step was done, and then its turn's two, by which nobody asks
+pub working_served : {S : Type 0} (logic : Logic) (old new : History) (owing after : IndexMap Client Owed S) (seen : ℕ) → IsWorking logic old owing seen
+    → (s : Step) → may_ask_in old.whole (asker_of s) ≡ true → Serves logic old s new
+    → ((client : Client) → owing_to after client ≡ owing_to owing client + asks_once (asker_of s) client) → IsWorking logic new after seen
+working_served logic old new owing after seen had s may h asks =
+    let called = working_on logic old h.called owing seen had s 0 h.calls (paced_answer logic old h.called had.paced had.leads s (Ok Done) may h.calls) after asks in
+    let begun = working_unasked logic h.called h.begun after seen called (Begin h.grain) refl (Ok Done) h.begins in
+    working_unasked logic h.begun new after seen begun (End h.grain h.turn) refl (Ok Done) h.ends
+
+-- the step was served, or answered as any, and what was asked by it is accounted for
+pub working_taken : {S : Type 0} (logic : Logic) (old new : History) (owing asked after : IndexMap Client Owed S) (seen : ℕ) → IsWorking logic old owing seen
+    → (s : Step) → may_ask_in old.whole (asker_of s) ≡ true → (r : Result (Option Answer) StepFault) → ServedOrAnswered logic old s r new
+    → ((client : Client) → owing_to asked client ≡ owing_to owing client + asks_once (asker_of s) client)
+    → (was_taken r ≡ true → (client : Client) → owing_to after client ≡ owing_to asked client)
+    → (was_taken r ≡ false → (client : Client) → owing_to after client ≡ owing_to asked client - asks_once (asker_of s) client) → IsWorking logic new after seen
+working_taken logic old new owing asked after seen had s may (Ok None) h asks done back =
+    working_served logic old new owing after seen had s may h (λ client. done refl client ∙ asks client)
+working_taken logic old new owing asked after seen had s may (Ok (Some a)) h asks done back = working_settled logic old new owing seen had s may (Ok a) h asked after asks done back
+working_taken logic old new owing asked after seen had s may (Err why) h asks done back = working_settled logic old new owing seen had s may (Err why) h asked after asks done back
+
+-- it was answered as any
+pub answered_so : (logic : Logic) (old new : History) (s : Step) (r : Result Answer StepFault) → Answered logic old s r new → ServedOrAnswered logic old s (with_answer r) new
+answered_so logic old new s (Ok answer) h = h
+answered_so logic old new s (Err why) h = h
+
+pub taken_so : (r : Result Answer StepFault) → was_taken (with_answer r) ≡ was_done r
+taken_so (Ok answer) = refl
+taken_so (Err why) = refl
 
 -- ---- what a client is owed
 

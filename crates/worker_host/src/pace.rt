@@ -15,14 +15,20 @@ ghost use Rattle.worker_host.specs.inside.Batches.{most_turns};
 const MOST_TURNS: usize = 32;
 
 /// How many meetings at the lock make it crowded.
-const CROWDED: u32 = 4;
+const CROWDED: u32 = 16;
 
 /// How many times in a row workers come back to the lock without a crowd, until it isn't known as crowded
 /// any more.
 const CALM: u32 = 32;
 
 /// For how many turns at the lock nobody is woken, at most.
-const LONGEST_REST: u32 = 31;
+const LONGEST_REST: u32 = 127;
+
+/// How much of its arena a body takes that is short, in bytes.
+const SHORT_BODY: usize = 4096;
+
+/// How many calls are served at once until a rest is one shorter.
+const SERVED_AT_ONCE: u32 = 256;
 
 /// How the workers of one silo go on.
 #[derive(Drop)]
@@ -48,11 +54,17 @@ pub struct Pace {
     /// For how many turns at the lock nobody is woken: from now on, and when one rested last.
     rest: u32,
     rested: u32,
+    /// Each turn is told to a gate, so none may be served at once.
+    watched: bool,
+    /// A body wasn't short that ran under the lock, so others are to run without it until the worker comes back.
+    long: bool,
+    /// How many calls were served at once since a rest got shorter.
+    served: u32,
 }
 
 impl Pace {
     /// The pace of so many workers that are about to start: each takes one turn.
-    pub fn new(workers: usize) -> Pace {
+    pub fn new(workers: usize, watched: bool) -> Pace {
         Pace {
             workers,
             come: 0,
@@ -65,6 +77,9 @@ impl Pace {
             late: false,
             rest: 0,
             rested: 0,
+            watched,
+            long: false,
+            served: 0,
         }
     }
 
@@ -77,8 +92,10 @@ impl Pace {
     /// A worker comes back from the bodies of its turns, and maybe met another at the lock. Before them
     /// it woke another by this waking, if by any.
     pub fn come_back(&mut self, met: bool, waking: u64) {
+        self.long = false;
         if self.woken && self.wakings == waking {
             self.late = true;
+            self.rest = self.rest.max(self.rested).max(1);
         }
         if self.awake <= 1 {
             self.crowd = 0;
@@ -183,5 +200,29 @@ impl Pace {
         ensures { self.new.rest ≡ self.old.rest - 1 }
     {
         self.rest = self.rest.saturating_sub(1);
+    }
+
+    /// Whether a call may be served at once: its turn begins and ends under the lock. No other worker is awake then, and none is to be
+    /// woken soon; or nothing else is to do.
+    pub fn serves_at_once(&self, alone: bool) -> bool
+        ensures { IsTrue result → IsFalse self.now.watched × (self.now.awake ≤ 1) × (self.now.workers ≤ self.now.come) }
+    {
+        if self.watched || self.awake > 1 || self.come < self.workers {
+            return false;
+        }
+        alone || self.workers <= 1 || (self.rest > 0 && !self.long)
+    }
+
+    /// A call was served at once, or wasn't one for that, and its body took so much of the arena. Behind many of them a rest is one
+    /// shorter.
+    pub fn note_body(&mut self, taken: usize) {
+        if taken > SHORT_BODY {
+            self.long = true;
+        }
+        self.served = self.served.saturating_add(1);
+        if self.served >= SERVED_AT_ONCE {
+            self.served = 0;
+            self.pass();
+        }
     }
 }

@@ -9,6 +9,7 @@ ghost use Rattle.worker_host.specs.inside.Batches.{closing_step, most_turns, tur
 
 use crate::pace::Pace;
 use crate::working::WorkingSilo;
+use bumpalo::Bump;
 use client_lanes::Lane;
 use grain_id::GrainId;
 use grain_kinds::{FinishedTurn, GrainLogic, OpenedTurn, StoreCall};
@@ -93,12 +94,12 @@ impl LanePlaces {
 }
 
 impl<S: GrainStorage + Drop, L: GrainLogic + Drop> Schedule<S, L> {
-    /// The silo with the places before any step was given, for so many workers.
+    /// The silo with the places before any step was given, for workers that are about to start.
     pub fn new(
         alloc: Global,
         silo: WorkingSilo<S, L>,
         lanes: LanePlaces,
-        workers: usize,
+        pace: Pace,
     ) -> Schedule<S, L> {
         Schedule {
             silo,
@@ -106,7 +107,7 @@ impl<S: GrainStorage + Drop, L: GrainLogic + Drop> Schedule<S, L> {
             grains: VecDeque::new(alloc),
             senders: VecDeque::new(alloc),
             open: 0,
-            pace: Pace::new(workers),
+            pace,
             stopped: false,
         }
     }
@@ -243,6 +244,7 @@ impl<S: GrainStorage, L: GrainLogic> Schedule<S, L> {
     pub fn fill(
         &mut self,
         alloc: Global,
+        arena: &mut Bump,
         lanes: &[Lane],
         turns: &mut VecDeque<OpenedTurn>,
         first: bool,
@@ -255,7 +257,7 @@ impl<S: GrainStorage, L: GrainLogic> Schedule<S, L> {
         if self.stopped {
             return Task::Over;
         }
-        if self.take_turns(alloc, lanes, turns, first).is_err() {
+        if self.take_turns(alloc, arena, lanes, turns, first).is_err() {
             self.stopped = true;
             return Task::Over;
         }
@@ -272,6 +274,7 @@ impl<S: GrainStorage, L: GrainLogic> Schedule<S, L> {
     fn take_turns(
         &mut self,
         alloc: Global,
+        arena: &mut Bump,
         lanes: &[Lane],
         turns: &mut VecDeque<OpenedTurn>,
         first: bool,
@@ -281,7 +284,7 @@ impl<S: GrainStorage, L: GrainLogic> Schedule<S, L> {
         self.note_told()?;
         let share = self.pace.share_of(first, self.seen_work());
         'steps: for _step in 0..u64::MAX {
-            if turns.len() >= share || !self.advance(alloc, lanes, turns)? {
+            if turns.len() >= share || !self.advance(alloc, arena, lanes, turns)? {
                 return Ok(());
             }
         }
@@ -298,6 +301,7 @@ impl<S: GrainStorage, L: GrainLogic> Schedule<S, L> {
     fn advance(
         &mut self,
         alloc: Global,
+        arena: &mut Bump,
         lanes: &[Lane],
         turns: &mut VecDeque<OpenedTurn>,
     ) -> Result<bool, StepFault>
@@ -320,7 +324,7 @@ impl<S: GrainStorage, L: GrainLogic> Schedule<S, L> {
         let Some(lane) = lanes.get(index) else {
             return Ok(true);
         };
-        self.ask(alloc, lane, index, turns)?;
+        self.ask(alloc, arena, lane, index, turns)?;
         Ok(true)
     }
 
@@ -430,6 +434,7 @@ impl<S: GrainStorage, L: GrainLogic> Schedule<S, L> {
     fn ask(
         &mut self,
         alloc: Global,
+        arena: &mut Bump,
         lane: &Lane,
         index: usize,
         turns: &mut VecDeque<OpenedTurn>,
@@ -441,12 +446,54 @@ impl<S: GrainStorage, L: GrainLogic> Schedule<S, L> {
         };
         let own = step.clone()?;
         self.note_told()?;
-        self.silo.take(alloc, own)?;
+        let served = self.give(alloc, arena, own)?;
         self.lanes.note_given(lane, index)?;
-        match step {
-            Step::Call { grain, .. } => self.go_on(alloc, grain, turns),
-            _ => Ok(()),
+        let Step::Call { grain, .. } = step else {
+            return Ok(());
+        };
+        if served {
+            return self.note_sent(grain);
         }
+        self.go_on(alloc, grain, turns)
+    }
+
+    /// Takes a lane's step, and says whether it is a call that was served at once.
+    fn give(&mut self, alloc: Global, arena: &mut Bump, step: Step) -> Result<bool, StepFault> {
+        if !self.pace.serves_at_once(!self.has_more()) {
+            self.silo.take(alloc, step)?;
+            return Ok(false);
+        }
+        let before = taken_of(arena);
+        let answer = self.silo.take_at_once(alloc, arena, step)?;
+        self.pace.note_body(taken_of(arena).saturating_sub(before));
+        make_free(alloc, arena);
+        Ok(answer.is_none())
+    }
+
+    /// Notes the grain, if it sent something that is left to deliver.
+    fn note_sent(&mut self, grain: &GrainId) -> Result<(), StepFault> {
+        if self.silo.silo().first_target(grain).is_none() {
+            return Ok(());
+        }
+        let sender = grain.clone()?;
+        push(&mut self.senders, sender)
+    }
+}
+
+/// How much of the arena was taken.
+fn taken_of(arena: &Bump) -> usize {
+    arena
+        .allocated_bytes()
+        .saturating_sub(arena.chunk_capacity())
+}
+
+/// Makes the arena free for the next turn, if the last ones took more than half of its chunk.
+fn make_free(alloc: Global, arena: &mut Bump) {
+    if arena.chunk_capacity() >= arena.allocated_bytes() / 2 {
+        return;
+    }
+    if arena.reset().is_err() {
+        *arena = Bump::new(alloc);
     }
 }
 

@@ -11,6 +11,7 @@ ghost use Rattle.worker_host.specs.SetupCopy.{AreAnswered};
 ghost use Rattle.worker_host.specs.inside.Batches.{turn_of};
 
 use crate::gate::TurnGate;
+use crate::pace::Pace;
 use crate::report::{ServeFault, ServeReport, SetupCopy, settle};
 use crate::schedule::{LanePlaces, RanTurn, Schedule, Task};
 use crate::working::WorkingSilo;
@@ -68,6 +69,7 @@ fn next_turns<S: GrainStorage, L: GrainLogic, R: Wait>(
     waiting: &AtomicUsize,
     changed: &Condvar,
     lanes: &[Lane],
+    arena: &mut Bump,
     worker: &mut Worker<L>,
 ) -> bool {
     let (mut held, met) = come(rt, schedule, waiting);
@@ -75,7 +77,7 @@ fn next_turns<S: GrainStorage, L: GrainLogic, R: Wait>(
     worker.started = true;
     held.come(alloc, first, met, worker.waking, worker.ran.as_slice());
     for _ in rt.forever() {
-        match held.fill(alloc, lanes, &mut worker.taken, first) {
+        match held.fill(alloc, arena, lanes, &mut worker.taken, first) {
             Task::Run => {
                 let wakes = held.wakes();
                 worker.waking = if wakes { held.pace.last_waking() } else { 0 };
@@ -167,7 +169,16 @@ fn work<S: GrainStorage, L: GrainLogic + Drop, G: TurnGate, R: Wait>(
         waking: 0,
     };
     for _ in rt.forever() {
-        if !next_turns(rt, alloc, schedule, waiting, changed, lanes, &mut worker) {
+        if !next_turns(
+            rt,
+            alloc,
+            schedule,
+            waiting,
+            changed,
+            lanes,
+            &mut arena,
+            &mut worker,
+        ) {
             break;
         }
         worker.ran.clear();
@@ -301,7 +312,8 @@ pub fn serve_seeded<
     let places = LanePlaces::new(alloc, lanes)?;
     let logic = setup.logic;
     let silo = WorkingSilo::seeded(alloc, setup, seed, lanes)?;
-    let schedule = Mutex::new(Schedule::new(alloc, silo, places, workers));
+    let pace = Pace::new(workers, gate.watches());
+    let schedule = Mutex::new(Schedule::new(alloc, silo, places, pace));
     let changed = Condvar::new();
     let waiting = AtomicUsize::new(0);
     if !run_workers(

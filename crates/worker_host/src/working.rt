@@ -1,9 +1,10 @@
 //! A silo at work: with what each client is owed, and a journal that is paced.
 
-ghost use Rattle.std.specs.Prelude.{◌≡◌, [], true, false, IfOk, IfErr, OnErr, Ok};
+ghost use Rattle.std.specs.Prelude.{◌≡◌, ◌-◌, [], true, false, IfOk, IfErr, OnErr, Ok, Some};
 ghost use Rattle.std.specs.FinMap as map;
 ghost use Rattle.silo_event.specs.declared.step.Answer.TheVariants as answer;
 ghost use Rattle.silo_event.specs.declared.step.Step.TheVariants as step;
+ghost use Rattle.grain_id.specs.Names.{Client};
 ghost use Rattle.silo_model.specs.Opening.{opening};
 ghost use Rattle.lane_model.specs.Asking.{asker_of};
 ghost use Rattle.lane_model.specs.Pacing.{is_paced};
@@ -11,12 +12,13 @@ ghost use Rattle.silo_state.specs.Entries.{opened_turn};
 ghost use Rattle.silo_state.specs.Moves.{done_if};
 ghost use Rattle.silo_core.specs.History.{Answered};
 ghost use Rattle.silo_core.specs.Turns.{AnsweredTurn};
-ghost use Rattle.worker_host.specs.inside.Working.{may_ask_in, was_done};
+ghost use Rattle.worker_host.specs.inside.Working.{ServedOrAnswered, asks_once, may_ask_in, owing_to, was_done, was_taken, with_answer};
 
 use crate::owed;
 use crate::owed::Owing;
+use bumpalo::Bump;
 use client_lanes::Lane;
-use grain_id::{GrainId, HashSeed};
+use grain_id::{Caller, GrainId, HashSeed};
 use grain_kinds::{FinishedTurn, GrainLogic, OpenedTurn};
 use grain_storage::GrainStorage;
 use silo_core::{Setup, Silo};
@@ -57,6 +59,55 @@ fn was_done(answer: &Result<Answer, StepFault>) -> bool
     ensures { result ≡ was_done answer.now }
 {
     matches!(answer, Ok(Answer::Done | Answer::Failed))
+}
+
+/// Takes a step by which this client, if any, asked, and accounts for it.
+fn apply_asked<S: GrainStorage, L: GrainLogic>(
+    alloc: Global,
+    silo: &mut Silo<S, L>,
+    owing: &mut Owing,
+    asker: &Option<Caller>,
+    step: Step,
+) -> Result<Answer, StepFault>
+    ensures answered { Answered L.logic silo.old step result silo.new }
+    ensures done { was_done result ≡ true → (client : Client) → owing_to owing.new client ≡ owing_to owing.old client }
+    ensures not_done { was_done result ≡ false → (client : Client)
+        → owing_to owing.new client ≡ owing_to owing.old client - asks_once asker.now client }
+{
+    let answer = silo.apply(alloc, step);
+    let done = was_done(&answer);
+    owed::settle(owing, asker, done);
+    answer
+}
+
+/// The same, but a call is served at once if its turn is short: then there is no answer.
+fn serve_asked<S: GrainStorage, L: GrainLogic>(
+    alloc: Global,
+    bump: &Bump,
+    silo: &mut Silo<S, L>,
+    owing: &mut Owing,
+    asker: &Option<Caller>,
+    step: Step,
+) -> Result<Option<Answer>, StepFault>
+    ensures answered { ServedOrAnswered L.logic silo.old step result silo.new }
+    ensures done { was_taken result ≡ true → (client : Client) → owing_to owing.new client ≡ owing_to owing.old client }
+    ensures not_done { was_taken result ≡ false → (client : Client)
+        → owing_to owing.new client ≡ owing_to owing.old client - asks_once asker.now client }
+{
+    let Some(step) = silo.serve_at_once(alloc, bump, step) else {
+        return Ok(None);
+    };
+    as_answered(apply_asked(alloc, silo, owing, asker, step))
+}
+
+/// The answer of a step that wasn't served.
+fn as_answered(answer: Result<Answer, StepFault>) -> Result<Option<Answer>, StepFault>
+    ensures { result ≡ with_answer answer }
+{
+    match answer {
+        Ok(answer) => Ok(Some(answer)),
+        Err(fault) => Err(fault),
+    }
 }
 
 impl<S: GrainStorage + Drop, L: GrainLogic + Drop> WorkingSilo<S, L> {
@@ -138,10 +189,37 @@ impl<S: GrainStorage, L: GrainLogic> WorkingSilo<S, L> {
                 return Err(StepFault::Memory);
             }
         };
-        let answer = self.silo.apply(alloc, step);
-        let done = was_done(&answer);
-        owed::settle(&mut self.owing, &asker, done);
-        answer
+        apply_asked(alloc, &mut self.silo, &mut self.owing, &asker, step)
+    }
+
+    /// Takes a step as `take` does; but if it is a call, and its turn is short, this begins and ends, too: then there is no answer. The
+    /// turn runs in this arena.
+    ///
+    /// # Errors
+    ///
+    /// Out of memory: nothing changed.
+    pub fn take_at_once(
+        &mut self,
+        alloc: Global,
+        bump: &Bump,
+        step: Step,
+    ) -> Result<Option<Answer>, StepFault>
+        ensures taken { may_ask_in self.old.whole (asker_of step) ≡ true → ServedOrAnswered L.logic self.old step result self.new }
+        ensures refused { may_ask_in self.old.whole (asker_of step) ≡ false → result ≡ Ok (Some answer.NotNow) }
+        ensures unchanged { may_ask_in self.old.whole (asker_of step) ≡ false → self.new ≡ self.old }
+    {
+        let client = match owed::ask(&mut self.owing, &step, self.silo.replies(), self.seen) {
+            Ok(Some(client)) => client,
+            Ok(None) => {
+                drop(step);
+                return Ok(Some(Answer::NotNow));
+            }
+            Err(AllocError) => {
+                drop(step);
+                return Err(StepFault::Memory);
+            }
+        };
+        serve_asked(alloc, bump, &mut self.silo, &mut self.owing, &client, step)
     }
 
     /// The first waiting request of a ready grain becomes an open turn, if the turn rule allows it.

@@ -9,11 +9,13 @@ use Rattle.silo_event.specs.declared.step.Answer.{Answer}
 use Rattle.silo_event.specs.declared.step.Answer.TheVariants.{Done, Failed, NotNow}
 use Rattle.silo_event.specs.declared.step.StepFault.{StepFault}
 use Rattle.silo_event.specs.declared.reply.Reply.{Reply}
+use Rattle.silo_event.specs.declared.step.Step.{Step}
 use Rattle.silo_model.specs.Whole.{Whole, shown_to}
 use Rattle.silo_model.specs.Journal.{LeadsTo}
 use Rattle.lane_model.specs.Asking.{ids_asked, ids_told}
 use Rattle.lane_model.specs.Pacing.{is_paced, may_ask}
-use Rattle.silo_core.specs.History.{History}
+use Rattle.silo_core.specs.History.{Answered, History}
+use Rattle.silo_core.specs.AtOnce.{Serves}
 use Rattle.worker_host.specs.declared.owed.Owed.{Owed}
 
 -- a step with this answer was done
@@ -58,3 +60,20 @@ pub record IsWorking {S : Type 0} (logic : Logic) (h : History) (owing : IndexMa
 -- nobody asks, or nothing of the client who asks waits or is open in the whole
 abbrev pub may_ask_in : Whole → Option Client → Bool
 may_ask_in w asker = may_ask (λ client. shown_to client.tenant w) asker
+
+-- it was served, or done with this answer
+abbrev pub was_taken : Result (Option Answer) StepFault → Bool
+was_taken (Ok None) = true
+was_taken (Ok (Some answer)) = was_done (Ok answer)
+was_taken (Err why) = was_done (Err why)
+
+-- the answer of a step that has one
+abbrev pub with_answer : Result Answer StepFault → Result (Option Answer) StepFault
+with_answer (Ok answer) = Ok (Some answer)
+with_answer (Err why) = Err why
+
+-- The step is a call that was served, and has no answer; or it was answered as any.
+abbrev pub ServedOrAnswered : Logic → History → Step → Result (Option Answer) StepFault → History → Type 0
+ServedOrAnswered logic old s (Ok None) new = Serves logic old s new
+ServedOrAnswered logic old s (Ok (Some answer)) new = Answered logic old s (Ok answer) new
+ServedOrAnswered logic old s (Err why) new = Answered logic old s (Err why) new

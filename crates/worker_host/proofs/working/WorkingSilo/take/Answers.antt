@@ -27,11 +27,11 @@ invariant_of-self-2 g c =
     let asker = asker_of c.args.step in
     let told = told_is logic (lawful_readers logic g.met.L.GrainLogic.lawful) a.silo a.owing a.seen c.self.invariant a.silo refl c.replies.result.now c.replies.ensures asker in
     let asker_is = rw c.in-Ok-Some.field-0-is at c.in-Ok-Some.ensures.asker in
-    working_settled logic a.silo c.apply-answer.new.self a.owing a.seen c.self.invariant c.args.step (sym told ∙ sym c.in-Ok-Some.ensures.may ∙ ap is_some c.in-Ok-Some.field-0-is)
-    c.apply-answer.result c.apply-answer.ensures.answered c.ask.new.owing c.settle.new.owing
+    working_settled logic a.silo c.apply_asked.new.silo a.owing a.seen c.self.invariant c.args.step (sym told ∙ sym c.in-Ok-Some.ensures.may ∙ ap is_some c.in-Ok-Some.field-0-is)
+    c.apply_asked.result c.apply_asked.ensures.answered c.ask.new.owing c.apply_asked.new.owing
     (λ client. c.in-Ok-Some.ensures.asked client ∙ ap (λ asked. owing_to a.owing client + asks_if (is_some asked) asker client) c.in-Ok-Some.field-0-is)
-    (λ done. c.settle.ensures.done (c.was_done-done.ensures ∙ done))
-    (λ not_done client. c.settle.ensures.not_done (c.was_done-done.ensures ∙ not_done) client ∙ ap (λ who. owing_to c.ask.new.owing client - asks_once who client) asker_is)
+    c.apply_asked.ensures.done
+    (λ not_done client. c.apply_asked.ensures.not_done not_done client ∙ ap (λ who. owing_to c.ask.new.owing client - asks_once who client) asker_is)
 
 pub returns-clause-refused : goal.returns-clause-refused
 returns-clause-refused g c = λ may_not.
