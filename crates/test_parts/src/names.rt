@@ -28,69 +28,58 @@ const OF_NAME: Option<IdFault> = Some(IdFault::Name);
 
 const OF_CLIENT: Option<IdFault> = Some(IdFault::Client);
 
-/// Parts of a text, and the fault of the whole.
-static FAULTS: [(Form, &[&str], Option<IdFault>); 44] = [
-    (Form::Grain, &["counter/red:a/b:c"], None),
-    (Form::Grain, &[""], OF_KIND),
-    (Form::Grain, &["counter"], OF_KIND),
-    (Form::Grain, &["counter:a"], OF_KIND),
-    (Form::Grain, &["/red:a"], OF_KIND),
-    (Form::Grain, &["Counter/Red:"], OF_KIND),
-    (Form::Grain, &["coun:ter/red:a"], OF_KIND),
-    (Form::Grain, &["counter/red"], OF_TENANT),
-    (Form::Grain, &["counter/:a"], OF_TENANT),
-    (Form::Grain, &["counter/Red:"], OF_TENANT),
-    (Form::Grain, &["counter/red/x:a"], OF_TENANT),
-    (Form::Grain, &["counter/red:"], OF_NAME),
-    (Form::Grain, &["counter/red:a b"], OF_NAME),
-    (Form::Grain, &["counter/red:é"], OF_NAME),
-    (Form::Grain, &["counter/red:\x7f"], OF_NAME),
+/// Texts in which each `@` stands for `WORD`, and their faults.
+static FAULTS: [(Form, &str, Option<IdFault>); 44] = [
+    (Form::Grain, "counter/red:a/b:c", None),
+    (Form::Grain, "", OF_KIND),
+    (Form::Grain, "counter", OF_KIND),
+    (Form::Grain, "counter:a", OF_KIND),
+    (Form::Grain, "/red:a", OF_KIND),
+    (Form::Grain, "Counter/Red:", OF_KIND),
+    (Form::Grain, "coun:ter/red:a", OF_KIND),
+    (Form::Grain, "counter/red", OF_TENANT),
+    (Form::Grain, "counter/:a", OF_TENANT),
+    (Form::Grain, "counter/Red:", OF_TENANT),
+    (Form::Grain, "counter/red/x:a", OF_TENANT),
+    (Form::Grain, "counter/red:", OF_NAME),
+    (Form::Grain, "counter/red:a b", OF_NAME),
+    (Form::Grain, "counter/red:é", OF_NAME),
+    (Form::Grain, "counter/red:\x7f", OF_NAME),
     // The greatest lengths, and one byte more.
-    (
-        Form::Grain,
-        &[WORD, "/", WORD, ":", WORD, WORD, WORD, WORD],
-        None,
-    ),
-    (Form::Grain, &[WORD, "5/red:a"], OF_KIND),
-    (Form::Grain, &["counter/", WORD, "5:a"], OF_TENANT),
-    (
-        Form::Grain,
-        &["counter/red:", WORD, WORD, WORD, WORD, "5"],
-        OF_NAME,
-    ),
-    (Form::Caller, &["red/c1"], None),
-    (Form::Caller, &[""], OF_TENANT),
-    (Form::Caller, &["red"], OF_TENANT),
-    (Form::Caller, &["/c1"], OF_TENANT),
-    (Form::Caller, &["Red/C1"], OF_TENANT),
-    (Form::Caller, &["red/"], OF_CLIENT),
-    (Form::Caller, &["red/C1"], OF_CLIENT),
-    (Form::Caller, &["red/c1/x"], OF_CLIENT),
-    (Form::Caller, &[WORD, "/", WORD], None),
-    (Form::Caller, &[WORD, "5/c1"], OF_TENANT),
-    (Form::Caller, &["red/", WORD, "5"], OF_CLIENT),
-    (Form::Tenant, &["red-2"], None),
-    (Form::Tenant, &[""], OF_TENANT),
-    (Form::Tenant, &["2red"], OF_TENANT),
-    (Form::Tenant, &["-red"], OF_TENANT),
-    (Form::Tenant, &["Red"], OF_TENANT),
-    (Form::Tenant, &["red_2"], OF_TENANT),
-    (Form::Tenant, &["réd"], OF_TENANT),
-    (Form::Kind, &["counter"], None),
-    (Form::Kind, &[""], OF_KIND),
-    (Form::Kind, &["2red"], OF_KIND),
-    (Form::Kind, &["-red"], OF_KIND),
-    (Form::Kind, &["Red"], OF_KIND),
-    (Form::Kind, &["red_2"], OF_KIND),
-    (Form::Kind, &["red "], OF_KIND),
+    (Form::Grain, "@/@:@@@@", None),
+    (Form::Grain, "@5/red:a", OF_KIND),
+    (Form::Grain, "counter/@5:a", OF_TENANT),
+    (Form::Grain, "counter/red:@@@@5", OF_NAME),
+    (Form::Caller, "red/c1", None),
+    (Form::Caller, "", OF_TENANT),
+    (Form::Caller, "red", OF_TENANT),
+    (Form::Caller, "/c1", OF_TENANT),
+    (Form::Caller, "Red/C1", OF_TENANT),
+    (Form::Caller, "red/", OF_CLIENT),
+    (Form::Caller, "red/C1", OF_CLIENT),
+    (Form::Caller, "red/c1/x", OF_CLIENT),
+    (Form::Caller, "@/@", None),
+    (Form::Caller, "@5/c1", OF_TENANT),
+    (Form::Caller, "red/@5", OF_CLIENT),
+    (Form::Tenant, "red-2", None),
+    (Form::Tenant, "", OF_TENANT),
+    (Form::Tenant, "2red", OF_TENANT),
+    (Form::Tenant, "-red", OF_TENANT),
+    (Form::Tenant, "Red", OF_TENANT),
+    (Form::Tenant, "red_2", OF_TENANT),
+    (Form::Tenant, "réd", OF_TENANT),
+    (Form::Kind, "counter", None),
+    (Form::Kind, "", OF_KIND),
+    (Form::Kind, "2red", OF_KIND),
+    (Form::Kind, "-red", OF_KIND),
+    (Form::Kind, "Red", OF_KIND),
+    (Form::Kind, "red_2", OF_KIND),
+    (Form::Kind, "red ", OF_KIND),
 ];
 
-fn joined(alloc: Global, parts: &[&str]) -> Result<String, Fail> {
-    let mut text = String::new(alloc);
-    for part in parts {
-        text.push_str(*part)?;
-    }
-    Ok(text)
+/// The text of a row.
+fn spelled_out(alloc: Global, row: &str) -> Result<String, Fail> {
+    Ok(row.replace(alloc, "@", WORD)?)
 }
 
 fn fault_of(alloc: Global, form: Form, text: &str) -> Option<IdFault> {
@@ -104,8 +93,8 @@ fn fault_of(alloc: Global, form: Form, text: &str) -> Option<IdFault> {
 
 #[test]
 fn texts_are_read_or_their_faults_told(rt: HostRuntime) -> Result<(), Fail> {
-    for (form, parts, wanted) in &FAULTS {
-        let text = joined(rt.alloc(), *parts)?;
+    for (form, row, wanted) in &FAULTS {
+        let text = spelled_out(rt.alloc(), *row)?;
         same_at(&text, fault_of(rt.alloc(), *form, &text), *wanted)?;
     }
     Ok(())
