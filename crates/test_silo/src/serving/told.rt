@@ -202,12 +202,15 @@ fn most_open(grains: &[GrainId], journal: &[Step]) -> u32 {
     most
 }
 
-/// Serves forty readers by one worker: how many turns are open at once, at most.
-fn most_open_by_one<R: AllocGlobal + Threads + Wait + Sync>(rt: &R) -> Result<u32, Fail> {
+/// Serves forty readers by one worker with this gate: how many turns are open at once, at most.
+fn most_open_by_one<R: AllocGlobal + Threads + Wait + Sync, G: TurnGate + Sync>(
+    rt: &R,
+    gate: &G,
+) -> Result<u32, Fail> {
     let alloc = rt.alloc();
     let lanes = lanes_of_readers(alloc, 40)?;
     let setup = setup_of(alloc, &["red"], Kinds)?;
-    let report = reported(rt, setup, &lanes, 1, &FreeGate)?;
+    let report = reported(rt, setup, &lanes, 1, gate)?;
     let most = most_open(&[], report.silo.journal());
     drop(report);
     Ok(most)
@@ -215,6 +218,14 @@ fn most_open_by_one<R: AllocGlobal + Threads + Wait + Sync>(rt: &R) -> Result<u3
 
 #[test]
 fn a_worker_alone_takes_several_turns_at_once(rt: HostRuntime) -> Result<(), Fail> {
-    assert_eq!(rt; most_open_by_one(&rt)?, 32);
+    let gate = Keeper::new(rt.alloc(), &["counter/red:a"], 0)?;
+    assert_eq!(rt; most_open_by_one(&rt, &gate)?, 32);
+    Ok(())
+}
+
+/// Where no gate watches, short turns are served one after another.
+#[test]
+fn a_worker_alone_serves_short_turns_at_once(rt: HostRuntime) -> Result<(), Fail> {
+    assert_eq!(rt; most_open_by_one(&rt, &FreeGate)?, 1);
     Ok(())
 }
