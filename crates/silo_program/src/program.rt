@@ -268,8 +268,8 @@ fn serve_tenants<
 }
 
 /// Does what the words ask for, and answers how it ended or why it didn't. The words begin with the program's name, and
-/// nothing of the input is read ahead. The gates are told of each turn that is served, before its body runs, and of each
-/// tenant that is audited: `run_program` has free ones.
+/// nothing of the input is read ahead. A gate that watches is told of each turn that is served, before its body runs, and the other of
+/// each tenant that is audited: `run_program` has free ones.
 ///
 /// # Errors
 ///

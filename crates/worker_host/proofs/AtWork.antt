@@ -128,10 +128,6 @@ pub answered_so : (logic : Logic) (old new : History) (s : Step) (r : Result Ans
 answered_so logic old new s (Ok answer) h = h
 answered_so logic old new s (Err why) h = h
 
-pub taken_so : (r : Result Answer StepFault) → was_taken (with_answer r) ≡ was_done r
-taken_so (Ok answer) = refl
-taken_so (Err why) = refl
-
 -- ---- what a client is owed
 
 module _ {S : Type 0} (logic : Logic) (law : ReadersAskNothing logic) (h : History) (owing : IndexMap Client Owed S) (seen : ℕ) (had : IsWorking logic h owing seen) where

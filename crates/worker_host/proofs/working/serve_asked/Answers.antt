@@ -3,7 +3,7 @@ use Rattle.silo_event.specs.declared.step.Step.{Step}
 use Rattle.silo_core.specs.AtOnce.{ServesOrNot}
 use Rattle.silo_core.specs.History.{Answered, History}
 use Rattle.worker_host.specs.inside.Working.{ServedOrAnswered}
-use Rattle.worker_host.proofs.AtWork.{answered_so, taken_so}
+use Rattle.worker_host.proofs.AtWork.{answered_so}
 use Rattle.worker_host.proofs.working.serve_asked.Goals as goal
 
 pub returns-in_default-clause-answered : goal.returns-in_default-clause-answered
