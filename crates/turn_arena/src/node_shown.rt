@@ -9,14 +9,21 @@ use crate::node::{Field, Node};
 use request_codec::{Level, Shown};
 use std::slice;
 
-impl<'a> Shown for Node<'a> {
+/// A node, for what writes values. Nothing outside names it: an `impl` of `Shown` at `Node` itself would stand in the
+/// crate's interface, and with `Shown` all that `request_codec` shows, `serde_json`'s values too. Each crate above would load them.
+#[derive(Clone, Copy)]
+pub struct ShownNode<'a> {
+    pub node: Node<'a>,
+}
+
+impl<'a> Shown for ShownNode<'a> {
     type Items = slice::Iter<'a, Node<'a>>;
 
     type Fields = slice::Iter<'a, Field<'a>>;
 
     type Field = &'a Field<'a>;
 
-    ghost value = { node_value };
+    ghost value = { λ shown. node_value shown.node };
 
     ghost listed = { λ items. map node_value (iter_rest items) };
 
@@ -31,7 +38,7 @@ impl<'a> Shown for Node<'a> {
     #[tactic(auto, using(crate::proofs::Levels::node_levels))]
     #[inline(always)]
     fn level(&self) -> Level<'_, slice::Iter<'a, Node<'a>>, slice::Iter<'a, Field<'a>>> {
-        match *self {
+        match self.node {
             Node::Null => Level::Null,
             Node::Bool(truth) => Level::Bool(truth),
             Node::Int(number) => Level::Int(number),
@@ -43,9 +50,9 @@ impl<'a> Shown for Node<'a> {
     }
 
     #[inline(always)]
-    fn next_item(items: &mut slice::Iter<'a, Node<'a>>) -> Option<Node<'a>> {
+    fn next_item(items: &mut slice::Iter<'a, Node<'a>>) -> Option<ShownNode<'a>> {
         match items.next() {
-            Some(node) => Some(*node),
+            Some(node) => Some(ShownNode { node: *node }),
             None => None,
         }
     }
@@ -59,8 +66,8 @@ impl<'a> Shown for Node<'a> {
     }
 
     #[inline(always)]
-    fn parts<'f>(field: &'f &'a Field<'a>) -> (&'f str, Node<'a>) {
+    fn parts<'f>(field: &'f &'a Field<'a>) -> (&'f str, ShownNode<'a>) {
         let Field { name, node } = **field;
-        (name, node)
+        (name, ShownNode { node })
     }
 }

@@ -15,6 +15,7 @@ ghost use Rattle.turn_arena.specs.inside.Places.{IsPlaceIn, behind_map};
 
 use crate::formed::known_text;
 use crate::node::Node;
+use crate::node_shown::ShownNode;
 use request_codec::bytes::{Start, put, put_start, put_text, put_value, u32_of, value_end};
 use request_codec::limits::{MAX_DEPTH, MAX_STATE_BYTES};
 use request_codec::{CodecFault, StateBytes};
@@ -116,7 +117,7 @@ fn joined(
     put_start(&mut out, MAX_STATE_BYTES, Start::Map(place.count))?;
     put(&mut out, MAX_STATE_BYTES, place.front)?;
     put_text(&mut out, MAX_STATE_BYTES, name)?;
-    put_value(&mut out, MAX_STATE_BYTES, value)?;
+    put_value(&mut out, MAX_STATE_BYTES, ShownNode { node: value })?;
     put(&mut out, MAX_STATE_BYTES, place.behind)?;
     Ok(out)
 }

@@ -10,6 +10,7 @@ ghost use Rattle.turn_arena.specs.Ascending.{MapsAscend};
 ghost use Rattle.turn_arena.specs.NodeValue.{node_value};
 
 use crate::node::Node;
+use crate::node_shown::ShownNode;
 use request_codec::bytes::state_bytes;
 use request_codec::{CodecFault, Message, StateBytes, message_of, state_of};
 use std::alloc::{AllocError, Global};
@@ -20,7 +21,7 @@ pub fn encode_call(alloc: Global, method: &str, argument: Node<'_>) -> Result<Me
     ensures { Writes result (asks method.now (node_value argument.entry)) (node_value argument.entry)
         (message_length method.now (node_value argument.entry)) message_limit }
 {
-    message_of(alloc, method, argument)
+    message_of(alloc, method, ShownNode { node: argument })
 }
 
 /// The state of a value. `TooDeep` comes before `TooLong`.
@@ -28,7 +29,7 @@ pub fn encode_node(alloc: Global, node: Node<'_>) -> Result<StateBytes, CodecFau
     requires { MapsAscend (node_value node) }
     ensures { Writes result (node_value node.entry) (node_value node.entry) (spelled_length (node_value node.entry)) state_limit }
 {
-    state_of(alloc, node)
+    state_of(alloc, ShownNode { node })
 }
 
 /// The state of a value that is known to fit one, which is not tested again: `encode_node`'s, and the only error is
@@ -43,7 +44,7 @@ pub fn encode_formed(alloc: Global, room: usize, node: Node<'_>) -> Result<State
     if let Node::Int(number) = node {
         return Ok(StateBytes::integer(number));
     }
-    match state_bytes(alloc, room, node) {
+    match state_bytes(alloc, room, ShownNode { node }) {
         Ok(bytes) => Ok(StateBytes::from_spelling(bytes)?),
         Err(CodecFault::Memory) => Err(AllocError),
         Err(CodecFault::TooLong) => unreachable!(),
