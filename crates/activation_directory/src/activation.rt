@@ -29,4 +29,6 @@ pub struct Activation {
     pub until: u64,
     /// Whether it goes as soon as it's idle.
     pub resting: bool,
+    /// The moment of its note, if a collector has one: 0 if none has.
+    pub noted: u64,
 }

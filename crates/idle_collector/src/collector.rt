@@ -166,12 +166,13 @@ impl Collector {
         Ok(grains)
     }
 
-    /// The grains that are due, each once, those of the earliest moment first.
+    /// The grains whose moment is `now` or earlier: each of them once, in an order that isn't told. Looks at the grains that are
+    /// due, and at two more.
     ///
     /// # Errors
     ///
     /// Out of memory.
-    fn all_due(&self, alloc: Global, now: u64) -> Result<Vec<GrainId>, AllocError>
+    pub fn all_due(&self, alloc: Global, now: u64) -> Result<Vec<GrainId>, AllocError>
         ensures { IfOk result (λ grains. HoldsDue self.now.notes now grains.items) }
     {
         let mut grains = self.filed.first_due(alloc, now)?;

@@ -1,5 +1,5 @@
 -- What an activation, or a new one, is once a request came to it.
-use Rattle.std.proofs.Common.{◌≡◌, ℕ, true, [], ◌∷◌, Some, None, ap, sym, ◌∙◌, subst}
+use Rattle.std.proofs.Common.{◌≡◌, ◌≤◌, ℕ, ◌+◌, arith, true, List, [], ◌∷◌, Some, None, ap, sym, ◌∙◌, subst, true≢false}
 use Rattle.std.specs.Prelude.{Result, Ok, Err, OnOk, OnErr}
 use Rattle.std.specs.FinMap as map
 use Rattle.std.specs.FinMap.{FinMap, nat_cmp-IsAntisymmetric}
@@ -17,7 +17,10 @@ use Rattle.silo_model.specs.Machine.{Entries}
 use Rattle.silo_model.specs.Calls.{with_request}
 use Rattle.silo_state.specs.Shown.{request_of, entry_of, entries_of}
 use Rattle.silo_state.specs.Marks.{IsMarked, AreMarked, AllMarked}
-use Rattle.silo_state.specs.inside.Arrivals.{arrived, IsFirst}
+use Rattle.silo_model.specs.Idle.{is_idle}
+use Rattle.silo_state.specs.inside.Arrivals.{arrived, IsFirst, EntersFirst}
+use Rattle.silo_state.specs.inside.Notes.{IsInTime, AreNoted}
+use Rattle.silo_state.proofs.Idle.{in_time_by, note_moves, now_noted, still_noted}
 use Rattle.silo_state.proofs.Requests.{marked-put}
 use Rattle.silo_state.proofs.Shows.{get-entries, entries-put, unmoved, same_mail}
 
@@ -58,6 +61,13 @@ module _ (logic : Logic) (m : FinMap grain_cmp Activation) (g : Grain) (request 
           by (Ok u) k = tt
           by (Err e) k = unmoved logic m g a after found k
 
+      pub arrive_noted : (age_of : List ℕ → ℕ) (moments : FinMap grain_cmp ℕ) → AreNoted clock age_of m moments → AreNoted clock age_of (map.insert m g after) moments
+      arrive_noted age_of moments all = by result done kept
+        where
+          by : (r : Result A E) → OnOk r (after ≡ arrived a capacity request clock) → OnErr r (after ≡ a) → AreNoted clock age_of (map.insert m g after) moments
+          by (Ok u) d k = now_noted clock age_of m moments all g a after found (ap (λ (x : Activation). x.noted) d) (ap (λ (x : Activation). x.last) d)
+          by (Err e) d k = still_noted clock age_of m moments all g a after found (ap (λ (x : Activation). x.noted) k) (unmoved logic m g a after found k)
+
       pub arrive_marked : AllMarked logic m → IsMarked logic g request → AllMarked logic (map.insert m g after)
       arrive_marked all mark = by result done kept
         where
@@ -67,18 +77,36 @@ module _ (logic : Logic) (m : FinMap grain_cmp Activation) (g : Grain) (request 
 
   -- ---- at none
 
-  module _ (a : Activation) (is : IsFirst request clock a) (absent : map.get m g ≡ None) where
-    pub first_shows : entries_of (map.insert m g a) ≡ waits
+  module _ (a : Activation) (is : IsFirst request clock a) (noted : ℕ) (absent : map.get m g ≡ None) where
+    abbrev after : Activation
+    after = record a { noted = noted }
+
+    first_shows : entries_of (map.insert m g after) ≡ waits
     first_shows =
-        entries-put m g a
+        entries-put m g after
         ∙ ap (λ x. map.insert (entries_of m) g (entry_of x)) is
         ∙ ap (λ turns. map.insert (entries_of m) g (record (with_request clock (request_of request) None) { turns = turns })) (mapped-empty nat_cmp_total nat_cmp-IsAntisymmetric request_of)
         ∙ ap (λ o. map.insert (entries_of m) g (with_request clock (request_of request) o)) (sym (get-entries m g None absent))
 
-    pub first_marked : AllMarked logic m → logic.knows g.kind ≡ true → IsMarked logic g request → AllMarked logic (map.insert m g a)
-    first_marked all known mark = marked-put logic m g a all (subst (λ (x : Activation). AreMarked logic g x.mailbox) (sym is) (record {
+    first_marked : AllMarked logic m → logic.knows g.kind ≡ true → IsMarked logic g request → AllMarked logic (map.insert m g after)
+    first_marked all known mark = marked-put logic m g after all (subst (λ (x : Activation). AreMarked logic g x.mailbox) (sym is) (record {
       known = known;
       waiting = (mark, tt);
       opened = λ number turn there. absurd (none-some turn (sym (map.get-empty nat_cmp number) ∙ there));
       numbered = λ number turn there. absurd (none-some turn (sym (map.get-empty nat_cmp number) ∙ there));
     }))
+
+    -- it isn't ready, so it isn't idle
+    first_in_time : (age : ℕ) → noted ≡ clock + age → IsInTime clock age after
+    first_in_time age told = in_time_by clock age a noted (omega (arith, told)) (λ idle. absurd (true≢false (sym idle ∙ ap (λ (x : Activation). is_idle (entry_of x)) is)))
+
+  module _ (noted : ℕ) (new : FinMap grain_cmp Activation) (e : EntersFirst m g request clock noted new) (absent : map.get m g ≡ None) where
+    pub enter_shows : entries_of new ≡ waits
+    enter_shows = ap entries_of e.put ∙ first_shows e.first e.is_first noted absent
+
+    pub enter_marked : AllMarked logic m → logic.knows g.kind ≡ true → IsMarked logic g request → AllMarked logic new
+    enter_marked all known mark = subst (AllMarked logic) (sym e.put) (first_marked e.first e.is_first noted absent all known mark)
+
+    pub enter_noted : (age_of : List ℕ → ℕ) (moments later : FinMap grain_cmp ℕ) → AreNoted clock age_of m moments → noted ≡ clock + age_of g.kind → later ≡ map.insert moments g noted → AreNoted clock age_of new later
+    enter_noted age_of moments later all told is =
+        subst (λ k. AreNoted clock age_of k later) (sym e.put) (note_moves clock age_of m moments all g (record e.first { noted = noted }) later is (first_in_time e.first e.is_first noted absent (age_of g.kind) told))

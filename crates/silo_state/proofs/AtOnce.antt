@@ -94,7 +94,7 @@ either true x y first second = first
 either false x y first second = second
 
 module _ (logic : Logic) (h : Held) (caller : Client) (id : ℕ) (g : Grain) (call : codec.Call) (n : ℕ) (admits : Admits h.whole.accounts caller.tenant n) (own : g.tenant ≡ caller.tenant)
-    (made : OwnedPlan) (stays_so : Bool) (found : PlansIdle logic g (map.get h.whole.entries g) h.whole.clock call made stays_so) where
+    (made : OwnedPlan) (found : PlansIdle logic g (map.get h.whole.entries g) call made) where
   abbrev w : Whole
   w = h.whole
 
@@ -224,32 +224,9 @@ put_none Waiting = refl
 put_none Loading = refl
 put_none (Ready old version) = refl
 
-ready_still : (p : Phase) (state : Option Tree) → is_ready (phase_of (put_state p state)) ≡ is_ready (phase_of p)
-ready_still Waiting state = refl
-ready_still Loading state = refl
-ready_still (Ready old version) state = refl
-
 -- an activation with another state, which was last used then
 abbrev pub renewed_at : Activation → Option Tree → ℕ → Activation
 renewed_at a state clock = record a { phase = put_state a.phase state; last = clock }
-
--- it is idle as before
-still_idle : (age : ℕ) (a : Activation) (state : Option Tree) (clock : ℕ)
-    → due_at age (Some (entry_of (renewed_at a state clock))) ≡ (if is_idle (entry_of a) then Some (due_moment age (record (entry_of a) { last = clock })) else None)
-still_idle age a state clock =
-    let e = entry_of a in
-    ap (λ b. if b && (length e.queue == 0) && (map.len e.turns == 0) then Some (due_moment age (record e { last = clock })) else None) (ready_still a.phase state)
-
--- and due as before, if it was last used then before
-pub due_still : (age : ℕ) (a : Activation) (state : Option Tree) (clock : ℕ) → a.last ≡ clock → due_at age (Some (entry_of (renewed_at a state clock))) ≡ due_at age (Some (entry_of a))
-due_still age a state clock used =
-    still_idle age a state clock ∙ ap (λ last. if is_idle (entry_of a) then Some (due_moment age (record (entry_of a) { last = last })) else None) (sym used)
-
--- or due by that moment
-pub due_then : (age : ℕ) (a : Activation) (state : Option Tree) (clock : ℕ) → is_idle (entry_of a) ≡ true
-    → due_at age (Some (entry_of (renewed_at a state clock))) ≡ Some (due_moment age (record (entry_of a) { last = clock }))
-due_then age a state clock idle =
-    still_idle age a state clock ∙ ap (λ b. if b then Some (due_moment age (record (entry_of a) { last = clock })) else None) idle
 
 -- the entries with it
 pub renewed_put : (m : FinMap grain_cmp Activation) (g : Grain) (a after : Activation) (state : Option Tree) (clock : ℕ) → after ≡ renewed_at a state clock
@@ -260,11 +237,11 @@ renewed_put m g a after state clock is =
     ∙ ap (λ p. map.insert (entries_of m) g (record (entry_of a) { phase = p; last = clock })) (put_shown a.phase state)
 
 -- what is planned at an activation is planned at its grain
-pub plans_in : {E : Type 0} (logic : Logic) (g : Grain) (entry : Entry) (found : Option Entry) (clock : ℕ) (message : codec.Call) → found ≡ Some entry → logic.knows g.kind ≡ true
-    → (r : Result (Option (OwnedPlan × Bool)) E) → IfOk r (λ o. IfSome o (λ p. PlansAt logic g entry clock message p.0 p.1)) → IfOk r (λ o. IfSome o (λ p. PlansIdle logic g found clock message p.0 p.1))
-plans_in logic g entry found clock message is knows (Err e) at = tt
-plans_in logic g entry found clock message is knows (Ok None) at = tt
-plans_in logic g entry found clock message is knows (Ok (Some p)) at = record { entry = entry; found_is = is; plans = at; knows = knows }
+pub plans_in : {E : Type 0} (logic : Logic) (g : Grain) (entry : Entry) (found : Option Entry) (message : codec.Call) → found ≡ Some entry → logic.knows g.kind ≡ true
+    → (r : Result (Option OwnedPlan) E) → IfOk r (λ o. IfSome o (λ plan. PlansAt logic g entry message plan)) → IfOk r (λ o. IfSome o (λ plan. PlansIdle logic g found message plan))
+plans_in logic g entry found message is knows (Err e) at = tt
+plans_in logic g entry found message is knows (Ok None) at = tt
+plans_in logic g entry found message is knows (Ok (Some p)) at = record { entry = entry; found_is = is; plans = at; knows = knows }
 
 -- the account that is found gives its tenant's next number
 pub admits_by : (accounts : FinMap text_cmp Account) (tenant : List ℕ) (account : Account) → map.get accounts tenant ≡ Some account → (o : Option ℕ) → IfSome o (Numbers account) → IfSome o (Admits accounts tenant)

@@ -33,7 +33,7 @@ use Rattle.silo_state.specs.Entries.{ClosesEntry, closed_entry}
 use Rattle.silo_state.specs.Shown.{phase_of}
 use Rattle.silo_state.specs.Closings.{ClosesTold}
 use Rattle.silo_state.specs.Finds.{open_in, IsOwn, IsOwnPlan, asks}
-use Rattle.silo_state.proofs.Steps.{ages_of}
+use Rattle.silo_state.proofs.Steps.{times_of}
 
 -- what a turn sends comes to the account in one way
 pub more_sent : (g : Grain) (account : Option Account) (outgoing : List Outgoing) → with_sends g account outgoing ≡ with_more account (sent_by g outgoing)
@@ -130,10 +130,10 @@ module _ (logic : Logic) (h : Held) (g : Grain) (turn : ℕ) (version : Option �
     same_plan = ap (plan_of logic g own.state) same_request ∙ planned
 
   -- the plan's state stands, its sends go out, and its outcome is the reply
-  pub end_moves : (accounts : FinMap text_cmp Account) (new : Activations) (replies : List Reply) → asks (turn_plan logic input).storage ≡ false → new.ages ≡ ages_of h
+  pub end_moves : (accounts : FinMap text_cmp Account) (new : Activations) (replies : List Reply) → asks (turn_plan logic input).storage ≡ false → new.times ≡ times_of h
       → ClosesTold h.whole.entries h.whole.replies g turn (Some (ready (turn_plan logic input).state version)) (turn_plan logic input).keep h.whole.clock (outcome_of (turn_plan logic input).outcome) new.entries replies
       → accounts ≡ change_at h.whole.accounts g.tenant (with_more (map.get h.whole.accounts g.tenant) (sent_by g (turn_plan logic input).sends))
-      → Moves logic h (End g turn) (Ok Done) (record h { whole = record h.whole { accounts = accounts; age = new.ages.age; ages = new.ages.ages; entries = new.entries; replies = replies } })
+      → Moves logic h (End g turn) (Ok Done) (record h { whole = record h.whole { accounts = accounts; clock = new.times.clock; age = new.times.age; ages = new.times.ages; entries = new.entries; replies = replies } })
   end_moves accounts new replies silent aged t sent =
       let plan = turn_plan logic input in
       let phase = Some (ready plan.state version) in
@@ -141,6 +141,7 @@ module _ (logic : Logic) (h : Held) (g : Grain) (turn : ℕ) (version : Option �
         end_turn logic h.whole g turn d.before d.found d.request d.open_turn own.state version (same_phase phase plan.keep h.whole.clock t.sender new.entries d) plan (same_plan phase plan.keep h.whole.clock t.sender new.entries d) (nothing_asked plan.storage silent)
             ∙ (λ i. Some (record h.whole {
               accounts = sym (sent ∙ ap (change_at h.whole.accounts g.tenant) (sym (more_sent g (map.get h.whole.accounts g.tenant) plan.sends))) i;
+              clock = (sym aged i).clock;
               age = (sym aged i).age;
               ages = (sym aged i).ages;
               entries = sym d.left i;

@@ -1,175 +1,229 @@
--- Which entries are idle, and that the notes stay those of the idle ones.
-use Rattle.std.proofs.Common.{◌≡◌, ℕ, ◌==◌, Bool, true, false, ◌&&◌, ◌<◌, suc, arith, cond, List, [], ◌∷◌, ◌++◌, length, Option, Some, None, refl, ap, sym, ◌∙◌, subst}
-use Rattle.std.specs.Prelude.{Result, Ok, Err, IfOk, OnErr, IfSome}
-use Rattle.std.specs.Ordering.{eq_by_cmp, nat_cmp}
-use Rattle.std.specs.Cmp.{nat_cmp_total}
+-- Which entries are idle, and that the notes stay those of the activations.
+use Rattle.std.proofs.Common.{◌≡◌, ◌≤◌, ◌⊎◌, ⊎_elim, ℕ, ◌+◌, min, ◌==◌, Bool, true, false, ◌&&◌, arith, cond, List, Option, Some, None, refl, ap, sym, ◌∙◌, subst, true≢false}
+use Rattle.std.specs.Prelude.{Result, Ok, Err, IfOk, OnOk, OnErr, IfSome, unwrap_or}
+use Rattle.std.specs.Ordering.{eq_by_cmp}
 use Rattle.std.specs.FinMap as map
-use Rattle.std.specs.FinMap.{FinMap, nat_cmp-IsAntisymmetric}
-use Rattle.std.proofs.lemmas.Bool.Decides.{Decides-eqb}
-use Rattle.std.proofs.Math.Bool.{and-false}
-use Rattle.std.proofs.lemmas.Option.{same_Some}
+use Rattle.std.specs.FinMap.{FinMap}
+use Rattle.std.proofs.lemmas.Option.{none-some, same_Some}
 use Rattle.grain_id.specs.Names.{Grain, grain_cmp}
 use Rattle.grain_id.proofs.Order.{grain_cmp_total, grain_cmp_exact, eq_by_cmp-Decides}
 use Rattle.finite_maps.proofs.Maps as maps
-use Rattle.grain_kinds.specs.Logic.{Logic}
+use Rattle.activation_directory.specs.declared.activation.Activation.{Activation}
+use Rattle.activation_directory.specs.declared.activation.Phase.{Phase}
+use Rattle.activation_directory.specs.declared.activation.Phase.TheVariants.{Waiting}
+use Rattle.grain_kinds.specs.Logic.{Logic, Keep}
+use Rattle.idle_collector.specs.Notes.{Collection, noted_if, forgotten}
+use Rattle.silo_event.specs.declared.reply.Party.{Party}
 use Rattle.silo_event.specs.declared.step.Answer.{Answer}
 use Rattle.silo_event.specs.declared.step.Answer.TheVariants.{Done, Failed, NotNow}
-use Rattle.silo_model.specs.Machine.{Entry, Entries, Request, Phase, loading}
+use Rattle.silo_model.specs.Effect.{put, drop}
+use Rattle.silo_model.specs.Machine.{Entry, Entries}
 use Rattle.silo_model.specs.Idle.{is_ready, is_idle, due_moment}
-use Rattle.silo_model.specs.Calls.{with_request}
-use Rattle.std.proofs.lemmas.Bool.{false_from_ne_true}
-use Rattle.silo_state.specs.inside.Activations.{IsLoading}
+use Rattle.silo_state.specs.inside.Changes.{Starts, mail_begun, ClosesTurn}
+use Rattle.silo_state.specs.inside.Notes.{IsInTime, AreNoted, due_at, noted_at, none_waits}
 use Rattle.silo_state.specs.Entries.{Activates, Begins}
-use Rattle.silo_state.specs.inside.Notes.{due_at, none_waits, AreNoted}
-use Rattle.idle_collector.specs.Notes.{Collection, noted_if}
+use Rattle.silo_state.specs.Shown.{phase_of, entry_of, entries_of}
+use Rattle.silo_state.proofs.Shows.{get-entries}
+use Rattle.silo_model.proofs.Changes.{changed_all}
 
 -- at first nothing is noted
-pub none_noted : (age_of : List ℕ → ℕ) → AreNoted age_of map.empty map.empty
-none_noted age_of g = map.get-empty grain_cmp g ∙ ap (due_at (age_of g.kind)) (sym (map.get-empty grain_cmp g))
+pub none_noted : (clock : ℕ) (age_of : List ℕ → ℕ) → AreNoted clock age_of map.empty map.empty
+none_noted clock age_of = record {
+  notes = λ g. map.get-empty grain_cmp g ∙ ap noted_at (sym (map.get-empty grain_cmp g));
+  in_time = λ g a found. absurd (none-some a (sym (map.get-empty grain_cmp g) ∙ found));
+}
 
-module _ (age_of : List ℕ → ℕ) (entries : Entries) (moments : FinMap grain_cmp ℕ) (noted : AreNoted age_of entries moments) (g : Grain) where
-  -- the grain has the age of its own kind
-  either_at : (q : Grain) (b : Bool) → eq_by_cmp grain_cmp q g ≡ b → (o p : Option Entry)
-      → cond b (due_at (age_of g.kind) o) (due_at (age_of q.kind) p) ≡ due_at (age_of q.kind) (cond b o p)
-  either_at q true tied o p = ap (λ (x : Grain). due_at (age_of x.kind) o) (sym ((eq_by_cmp-Decides grain_cmp_total grain_cmp_exact q g).0 tied))
-  either_at q false tied o p = refl
+-- the note of either
+either_at : (b : Bool) (o p : Option Activation) → cond b (noted_at o) (noted_at p) ≡ noted_at (cond b o p)
+either_at true o p = refl
+either_at false o p = refl
 
+module _ (clock : ℕ) (age_of : List ℕ → ℕ) (m : FinMap grain_cmp Activation) (moments : FinMap grain_cmp ℕ) (noted : AreNoted clock age_of m moments) (g : Grain) where
   -- both change at one grain
-  noted-at : (o : Option Entry) (after : Entries) (notes : FinMap grain_cmp ℕ) → ((q : Grain) → map.get after q ≡ cond (eq_by_cmp grain_cmp q g) o (map.get entries q))
-      → ((q : Grain) → map.get notes q ≡ cond (eq_by_cmp grain_cmp q g) (due_at (age_of g.kind) o) (map.get moments q)) → AreNoted age_of after notes
-  noted-at o after notes e l q =
-      l q
-      ∙ ap (cond (eq_by_cmp grain_cmp q g) (due_at (age_of g.kind) o)) (noted q)
-      ∙ either_at q (eq_by_cmp grain_cmp q g) refl o (map.get entries q)
-      ∙ ap (due_at (age_of q.kind)) (sym (e q))
+  notes-at : (o : Option Activation) (after : FinMap grain_cmp Activation) (notes : FinMap grain_cmp ℕ) → ((q : Grain) → map.get after q ≡ cond (eq_by_cmp grain_cmp q g) o (map.get m q))
+      → ((q : Grain) → map.get notes q ≡ cond (eq_by_cmp grain_cmp q g) (noted_at o) (map.get moments q)) → (q : Grain) → map.get notes q ≡ noted_at (map.get after q)
+  notes-at o after notes e l q =
+      l q ∙ ap (cond (eq_by_cmp grain_cmp q g) (noted_at o)) (noted.notes q) ∙ either_at (eq_by_cmp grain_cmp q g) o (map.get m q) ∙ ap noted_at (sym (e q))
 
   kept_at : (q : Grain) (b : Bool) → eq_by_cmp grain_cmp q g ≡ b → (o : Option ℕ) → map.get moments g ≡ o → map.get moments q ≡ cond b o (map.get moments q)
   kept_at q true tied o is = ap (map.get moments) ((eq_by_cmp-Decides grain_cmp_total grain_cmp_exact q g).0 tied) ∙ is
   kept_at q false tied o is = refl
 
-  -- an entry that counts as before needs no note
-  pub noted-same : (after : Entry) → due_at (age_of g.kind) (Some after) ≡ due_at (age_of g.kind) (map.get entries g) → AreNoted age_of (map.insert entries g after) moments
-  noted-same after same = noted-at (Some after) _ moments (map.get-insert grain_cmp_total entries g after) (λ q. kept_at q (eq_by_cmp grain_cmp q g) refl (due_at (age_of g.kind) (Some after)) (noted g ∙ sym same))
+  -- the note stays
+  pub note_stays : (a after : Activation) → map.get m g ≡ Some a → after.noted ≡ a.noted → IsInTime clock (age_of g.kind) after → AreNoted clock age_of (map.insert m g after) moments
+  note_stays a after found same at = record {
+    notes = notes-at (Some after) _ moments (map.get-insert grain_cmp_total m g after) (λ q. kept_at q (eq_by_cmp grain_cmp q g) refl (Some after.noted) (noted.notes g ∙ ap noted_at found ∙ ap Some (sym same)));
+    in_time = changed_all grain_cmp_total grain_cmp_exact (λ q b. IsInTime clock (age_of q.kind) b) m (Some g) (put after) noted.in_time at;
+  }
 
-  -- one that is idle now has a note
-  pub noted-idle : (after : Entry) (moment : ℕ) → due_at (age_of g.kind) (Some after) ≡ Some moment → AreNoted age_of (map.insert entries g after) (map.insert moments g moment)
-  noted-idle after moment idle = noted-at (Some after) _ _ (map.get-insert grain_cmp_total entries g after) (λ q. map.get-insert grain_cmp_total moments g moment q ∙ ap (λ o. cond (eq_by_cmp grain_cmp q g) o (map.get moments q)) (sym idle))
-
-  -- one that is in use has none
-  pub noted-used : (after : Entry) → due_at (age_of g.kind) (Some after) ≡ None → AreNoted age_of (map.insert entries g after) (map.remove moments g)
-  noted-used after used = noted-at (Some after) _ _ (map.get-insert grain_cmp_total entries g after) (λ q. map.get-remove grain_cmp_total moments g q ∙ ap (λ o. cond (eq_by_cmp grain_cmp q g) o (map.get moments q)) (sym used))
-
-  -- and one that goes has none
-  pub noted-gone : AreNoted age_of (map.remove entries g) (map.remove moments g)
-  noted-gone = noted-at None _ _ (map.get-remove grain_cmp_total entries g) (map.get-remove grain_cmp_total moments g)
-
-  -- one that goes and has none needs no change of the notes
-  pub noted-left : map.get moments g ≡ None → AreNoted age_of (map.remove entries g) moments
-  noted-left none = noted-at None _ moments (map.get-remove grain_cmp_total entries g) (λ q. kept_at q (eq_by_cmp grain_cmp q g) refl None none)
-
--- ---- entries in use
-
--- some turn is open
-pub some_open : (turns : FinMap nat_cmp Request) (n : ℕ) (turn : Request) → (map.len (map.insert turns n turn) == 0) ≡ false
-some_open turns n turn = false_from_ne_true _ (λ none. maps.found_some (map.insert turns n turn) n turn (maps.get-insert_same nat_cmp_total nat_cmp-IsAntisymmetric turns n turn) ((Decides-eqb _ 0).0 none))
-
--- some request waits
-pub some_waits : (n : ℕ) → 0 < n → (n == 0) ≡ false
-some_waits n some = false_from_ne_true _ (λ none. let zero = (Decides-eqb n 0).0 none in absurd (omega (arith, some, zero)))
-
--- an entry with an open turn is in use
-pub used-turn : (e : Entry) (n : ℕ) (turn : Request) → map.get e.turns n ≡ Some turn → is_idle e ≡ false
-used-turn e n turn at =
-    let some : (map.len e.turns == 0) ≡ false = false_from_ne_true _ (λ none. maps.found_some e.turns n turn at ((Decides-eqb _ 0).0 none)) in
-    ap (λ b. is_ready e.phase && none_waits e && b) some ∙ and-false (is_ready e.phase && none_waits e)
-
--- and one that isn't ready
-used-phase : (e : Entry) (phase : Phase) → is_ready phase ≡ false → e.phase ≡ phase → is_idle e ≡ false
-used-phase e phase not is = ap (λ p. is_ready p && none_waits e && (map.len e.turns == 0)) is ∙ ap (λ b. b && none_waits e && (map.len e.turns == 0)) not
-
--- one that loads
-pub used_loading : (e : Entry) (o : Option Entry) → o ≡ Some e → IsLoading o → is_idle e ≡ false
-used_loading e o found is = used-phase e loading refl (ap (λ (x : Entry). x.phase) (same_Some e is.0 (sym found ∙ is.1)) ∙ is.2)
-
-due_used : (age : ℕ) (e : Entry) → is_idle e ≡ false → due_at age (Some e) ≡ None
-due_used age e used = ap (λ b. cond b (Some (due_moment age e)) None) used
-
--- at an idle entry no request waits
-due-none_waits : (age : ℕ) (e : Entry) (moment : ℕ) → due_at age (Some e) ≡ Some moment → none_waits e ≡ true
-due-none_waits age e moment due = by (is_ready e.phase) (none_waits e) (map.len e.turns == 0) due
-  where
-    by : (r w o : Bool) → cond (r && w && o) (Some (due_moment age e)) None ≡ Some moment → w ≡ true
-    by true true o is = refl
-    by true false o is = absurd cc
-    by false w o is = absurd cc
-
--- ---- the entry of one grain changes
-
-module _ (age_of : List ℕ → ℕ) (entries : Entries) (moments : FinMap grain_cmp ℕ) (noted : AreNoted age_of entries moments) (g : Grain) where
-  moved : (after new : Entries) → AreNoted age_of after moments → new ≡ after → AreNoted age_of new moments
-  moved after new still same = subst (λ (es : Entries). AreNoted age_of es moments) (sym same) still
-
-  -- it was in use, and is
-  used_still : (before after : Entry) → map.get entries g ≡ Some before → is_idle before ≡ false → due_at (age_of g.kind) (Some after) ≡ None → (new : Entries) → new ≡ map.insert entries g after → AreNoted age_of new moments
-  used_still before after found used in_use new put = moved _ new (noted-same age_of entries moments noted g after (in_use ∙ sym (ap (due_at (age_of g.kind)) found ∙ due_used (age_of g.kind) before used))) put
-
-  pub activate_noted : (answer : Answer) (new : Entries) → Activates entries g answer new → AreNoted age_of new moments
-  activate_noted Done new d = used_still d.before _ d.found (used-phase d.before _ refl d.waits) refl new d.put
-  activate_noted Failed new d = absurd d
-  activate_noted NotNow new d = moved entries new noted d.1
-
-  begin_noted : (logic : Logic) (opened : Bool) (new : Entries) → Begins logic entries g opened new → AreNoted age_of new moments
-  begin_noted logic false new d = moved entries new noted d.1
-  begin_noted logic true new d = used_still d.before d.after d.found d.used (due_used (age_of g.kind) d.after d.in_use) new d.put
-
-  pub begins_noted : {A E : Type 0} (logic : Logic) (shown : A → Bool) (result : Result A E) (new : Entries) → IfOk result (λ x. Begins logic entries g (shown x) new) → OnErr result (new ≡ entries) → AreNoted age_of new moments
-  begins_noted logic shown (Ok x) new d same = begin_noted logic (shown x) new d
-  begins_noted logic shown (Err e) new d same = moved entries new noted same
-
-  -- a request waits there
-  pub wait_noted : (clock : ℕ) (r : Request) (new : Entries) (later : FinMap grain_cmp ℕ) → new ≡ map.insert entries g (with_request clock r (map.get entries g)) → later ≡ map.remove moments g → AreNoted age_of new later
-  wait_noted clock r new later is gone =
-      subst (λ (p : Entries × FinMap grain_cmp ℕ). AreNoted age_of p.0 p.1) (λ i. (sym is i, sym gone i))
-      (noted-used age_of entries moments noted g (with_request clock r (map.get entries g)) (due_used (age_of g.kind) (with_request clock r (map.get entries g)) (used_with (map.get entries g))))
-    where
-      some_there : (n : ℕ) → (suc n == 0) ≡ false
-      some_there n = some_waits (suc n) (omega arith)
-
-      by : (ready : Bool) (queue : List Request) (o : Bool) → ready && (length (queue ++ r ∷ []) == 0) && o ≡ false
-      by true [] o = refl
-      by true (x ∷ xs) o = ap (λ b. b && o) (some_there (length (xs ++ r ∷ [])))
-      by false queue o = refl
-
-      used_with : (found : Option Entry) → is_idle (with_request clock r found) ≡ false
-      used_with None = refl
-      used_with (Some e) = by (is_ready e.phase) e.queue (map.len e.turns == 0)
-
-  -- it was in use, and goes
-  used_gone : (before : Entry) → map.get entries g ≡ Some before → is_idle before ≡ false → (new : Entries) → new ≡ map.remove entries g → AreNoted age_of new moments
-  used_gone before found used new gone = moved _ new (noted-left age_of entries moments noted g (noted g ∙ ap (due_at (age_of g.kind)) found ∙ due_used (age_of g.kind) before used)) gone
+  -- it is another
+  pub note_moves : (after : Activation) (later : FinMap grain_cmp ℕ) → later ≡ map.insert moments g after.noted → IsInTime clock (age_of g.kind) after → AreNoted clock age_of (map.insert m g after) later
+  note_moves after later is at = record {
+    notes = notes-at (Some after) _ later (map.get-insert grain_cmp_total m g after) (λ q. ap (λ (l : FinMap grain_cmp ℕ). map.get l q) is ∙ map.get-insert grain_cmp_total moments g after.noted q);
+    in_time = changed_all grain_cmp_total grain_cmp_exact (λ q b. IsInTime clock (age_of q.kind) b) m (Some g) (put after) noted.in_time at;
+  }
 
   -- it goes
-  pub gone_noted : (new : Entries) (later : FinMap grain_cmp ℕ) → new ≡ map.remove entries g → later ≡ map.remove moments g → AreNoted age_of new later
-  gone_noted new later is gone = subst (λ (p : Entries × FinMap grain_cmp ℕ). AreNoted age_of p.0 p.1) (λ i. (sym is i, sym gone i)) (noted-gone age_of entries moments noted g)
+  pub note_goes : (left : FinMap grain_cmp Activation) (later : FinMap grain_cmp ℕ) → left ≡ map.remove m g → later ≡ map.remove moments g → AreNoted clock age_of left later
+  note_goes left later gone is = record {
+    notes = notes-at None left later (λ q. ap (λ (l : FinMap grain_cmp Activation). map.get l q) gone ∙ map.get-remove grain_cmp_total m g q) (λ q. ap (λ (l : FinMap grain_cmp ℕ). map.get l q) is ∙ map.get-remove grain_cmp_total moments g q);
+    in_time = subst (λ (l : FinMap grain_cmp Activation). (q : Grain) (b : Activation) → map.get l q ≡ Some b → IsInTime clock (age_of q.kind) b) (sym gone)
+        (changed_all grain_cmp_total grain_cmp_exact (λ q b. IsInTime clock (age_of q.kind) b) m (Some g) drop noted.in_time tt);
+  }
 
--- ---- it was in use, and becomes another
+  -- it is what the grain has
+  pub note_is : (a : Activation) → map.get m g ≡ Some a → map.get moments g ≡ Some a.noted
+  note_is a found = noted.notes g ∙ ap noted_at found
 
-module _ (age_of : List ℕ → ℕ) (entries : Entries) (c : Collection) (noted : AreNoted age_of entries c.notes) (g : Grain) (before after : Entry) (found : map.get entries g ≡ Some before) (used : is_idle before ≡ false) where
-  pub becomes_used : None ≡ due_at (age_of g.kind) (Some after) → (new : Entries) → new ≡ map.insert entries g after → AreNoted age_of new c.notes
-  becomes_used still new put = used_still age_of entries c.notes noted g before after found used (sym still) new put
+  pub note_is_there : (a : Activation) → map.get m g ≡ Some a → IfSome (map.get moments g) (λ moment. moment ≡ a.noted)
+  note_is_there a found = subst (λ o. IfSome o (λ moment. moment ≡ a.noted)) (sym (note_is a found)) refl
 
-  pub becomes_none : (new : Entries) → new ≡ map.remove entries g → AreNoted age_of new c.notes
-  becomes_none new gone = used_gone age_of entries c.notes noted g before found used new gone
+-- ---- notes that are in time
 
-  -- where no request waits there is room for its note
-  module _ (room : none_waits before ≡ true → c.expected ≡ Some g) (same : none_waits after ≡ none_waits before) (moment : ℕ) (due : Some moment ≡ due_at (age_of g.kind) (Some after)) where
-    expected_is : c.expected ≡ Some g
-    expected_is = room (sym same ∙ due-none_waits (age_of g.kind) after moment (sym due))
+-- as long as it's in use
+pub in_time_used : (clock age : ℕ) (a after : Activation) → IsInTime clock age a → after.noted ≡ a.noted → is_idle (entry_of after) ≡ false → IsInTime clock age after
+in_time_used clock age a after h same used = record {
+  if_used = subst (λ n. n ≤ clock + age) (sym same) h.if_used;
+  if_idle = λ idle. absurd (true≢false (sym idle ∙ used));
+}
 
-    pub expected_apart : IfSome c.expected (λ id. map.get c.notes id ≡ None)
-    expected_apart = subst (λ o. IfSome o (λ id. map.get c.notes id ≡ None)) (sym expected_is) (noted g ∙ ap (due_at (age_of g.kind)) found ∙ due_used (age_of g.kind) before used)
+-- if it was used now
+pub in_time_now : (clock age : ℕ) (a after : Activation) → IsInTime clock age a → after.noted ≡ a.noted → after.last ≡ clock → IsInTime clock age after
+in_time_now clock age a after h same now = record {
+  if_used = subst (λ n. n ≤ clock + age) (sym same) h.if_used;
+  if_idle = λ idle. omega (arith, same, now, h.if_used);
+}
 
-    pub becomes_idle : (new : Entries) → new ≡ map.insert entries g after → (next : Collection) → next ≡ record { notes = noted_if c.notes c.expected moment; expected = None } → AreNoted age_of new next.notes
-    becomes_idle new put next is =
-        subst (λ (p : Entries × Collection). AreNoted age_of p.0 p.1.notes) (λ i. (sym put i, sym (is ∙ ap (λ o. record { notes = noted_if c.notes o moment; expected = None }) expected_is) i))
-        (noted-idle age_of entries c.notes noted g after moment (sym due))
+-- if it is the earlier of both moments
+pub in_time_by : (clock age : ℕ) (a : Activation) (moment : ℕ) → moment ≤ clock + age → (is_idle (entry_of a) ≡ true → moment ≤ due_moment age (entry_of a)) → IsInTime clock age (record a { noted = moment })
+in_time_by clock age a moment used idle = record { if_used = used; if_idle = idle }
+
+-- as the clock goes on
+pub in_time_later : (clock next age : ℕ) (a : Activation) → clock ≤ next → IsInTime clock age a → IsInTime next age a
+in_time_later clock next age a on h = record { if_used = omega (arith, on, h.if_used); if_idle = h.if_idle }
+
+pub noted_later : (clock next : ℕ) (age_of : List ℕ → ℕ) (m : FinMap grain_cmp Activation) (moments : FinMap grain_cmp ℕ) → clock ≤ next → AreNoted clock age_of m moments → AreNoted next age_of m moments
+noted_later clock next age_of m moments on h = record { notes = h.notes; in_time = λ g a found. in_time_later clock next (age_of g.kind) a on (h.in_time g a found) }
+
+-- ---- idle, by the moment that is told
+
+pub busy_by_due : (age : ℕ) (e : Entry) → due_at age (Some e) ≡ None → is_idle e ≡ false
+busy_by_due age e = by (is_idle e)
+  where
+    by : (idle : Bool) → cond idle (Some (due_moment age e)) None ≡ None → idle ≡ false
+    by true told = absurd (none-some _ (sym told))
+    by false told = refl
+
+pub idle_by_due : (age : ℕ) (e : Entry) (due : ℕ) → due_at age (Some e) ≡ Some due → (is_idle e ≡ true) × (due_moment age e ≡ due)
+idle_by_due age e due = by (is_idle e)
+  where
+    by : (idle : Bool) → cond idle (Some (due_moment age e)) None ≡ Some due → (idle ≡ true) × (due_moment age e ≡ due)
+    by true told = (refl, same_Some _ _ told)
+    by false told = absurd (none-some due told)
+
+pub idle_none_waits : (e : Entry) → is_idle e ≡ true → none_waits e ≡ true
+idle_none_waits e = by (is_ready e.phase) (none_waits e) (map.len e.turns == 0)
+  where
+    by : (r q t : Bool) → r && q && t ≡ true → q ≡ true
+    by true true t idle = refl
+    by true false t idle = idle
+    by false q t idle = absurd (true≢false (sym idle))
+
+-- it is the earlier of the moment from which it is due and the one from which it would be due if it were used now
+pub in_time_least : (clock age : ℕ) (a : Activation) (due latest moment : ℕ) → due_at age (Some (entry_of a)) ≡ Some due → latest ≡ clock + age → moment ≡ min due latest → IsInTime clock age (record a { noted = moment })
+in_time_least clock age a due latest moment told is least =
+    let is_due = (idle_by_due age (entry_of a) due told).1 in
+    in_time_by clock age a moment (omega (arith, is, least)) (λ idle. omega (arith, is_due, least))
+
+-- ---- a note moves in a collector that expects its grain
+
+module _ (old forgot : Collection) (g : Grain) (expected : old.expected ≡ Some g) (forgets : forgot ≡ record old { notes = forgotten old.notes g }) where
+  pub may_note : IfSome forgot.expected (λ id. map.get forgot.notes id ≡ None)
+  may_note =
+      subst (λ (k : Collection). IfSome k.expected (λ id. map.get k.notes id ≡ None)) (sym (forgets ∙ (λ i. record { notes = forgotten old.notes g; expected = expected i })))
+      (maps.get-remove_same grain_cmp_total grain_cmp_exact old.notes g)
+
+  pub notes_anew : (new : Collection) (moment : ℕ) → new ≡ record { notes = noted_if forgot.notes forgot.expected moment; expected = None } → new.notes ≡ map.insert old.notes g moment
+  notes_anew new moment noted =
+      ap (λ (k : Collection). k.notes) noted
+      ∙ ap (λ (k : Collection). noted_if k.notes k.expected moment) forgets
+      ∙ ap (λ o. noted_if (forgotten old.notes g) o moment) expected
+      ∙ maps.insert-remove grain_cmp_total grain_cmp_exact old.notes g moment
+
+-- ---- the activation of one grain changes, and its note stays
+
+-- it counts as before
+in_time_as : (clock age : ℕ) (a after : Activation) → IsInTime clock age a → after.noted ≡ a.noted → entry_of after ≡ entry_of a → IsInTime clock age after
+in_time_as clock age a after h same alike = record {
+  if_used = subst (λ n. n ≤ clock + age) (sym same) h.if_used;
+  if_idle = λ idle. subst (λ n. n ≤ due_moment age (entry_of after)) (sym same)
+      (subst (λ (e : Entry). a.noted ≤ due_moment age e) (sym alike) (h.if_idle (ap is_idle (sym alike) ∙ idle)));
+}
+
+-- what the entries have at the grain is the activation's
+entry_put : (m : FinMap grain_cmp Activation) (g : Grain) (after : Activation) (e : Entry) → entries_of (map.insert m g after) ≡ map.insert (entries_of m) g e → entry_of after ≡ e
+entry_put m g after e is =
+    same_Some (entry_of after) e
+    (sym (get-entries (map.insert m g after) g (Some after) (maps.get-insert_same grain_cmp_total grain_cmp_exact m g after))
+    ∙ ap (λ (es : Entries). map.get es g) is ∙ maps.get-insert_same grain_cmp_total grain_cmp_exact (entries_of m) g e)
+
+entry_kept : (m : FinMap grain_cmp Activation) (g : Grain) (a after : Activation) → map.get m g ≡ Some a → entries_of (map.insert m g after) ≡ entries_of m → entry_of after ≡ entry_of a
+entry_kept m g a after found kept =
+    same_Some (entry_of after) (entry_of a)
+    (sym (get-entries (map.insert m g after) g (Some after) (maps.get-insert_same grain_cmp_total grain_cmp_exact m g after))
+    ∙ ap (λ (es : Entries). map.get es g) kept ∙ get-entries m g (Some a) found)
+
+module _ (clock : ℕ) (age_of : List ℕ → ℕ) (m : FinMap grain_cmp Activation) (moments : FinMap grain_cmp ℕ) (noted : AreNoted clock age_of m moments) (g : Grain) (a after : Activation) (found : map.get m g ≡ Some a) (same : after.noted ≡ a.noted) where
+  pub still_noted : entries_of (map.insert m g after) ≡ entries_of m → AreNoted clock age_of (map.insert m g after) moments
+  still_noted kept = note_stays clock age_of m moments noted g a after found same (in_time_as clock (age_of g.kind) a after (noted.in_time g a found) same (entry_kept m g a after found kept))
+
+  pub used_noted : (e : Entry) → entries_of (map.insert m g after) ≡ map.insert (entries_of m) g e → is_idle e ≡ false → AreNoted clock age_of (map.insert m g after) moments
+  used_noted e is used = note_stays clock age_of m moments noted g a after found same (in_time_used clock (age_of g.kind) a after (noted.in_time g a found) same (ap is_idle (entry_put m g after e is) ∙ used))
+
+  pub busy_noted : is_idle (entry_of after) ≡ false → AreNoted clock age_of (map.insert m g after) moments
+  busy_noted used = note_stays clock age_of m moments noted g a after found same (in_time_used clock (age_of g.kind) a after (noted.in_time g a found) same used)
+
+  pub now_noted : after.last ≡ clock → AreNoted clock age_of (map.insert m g after) moments
+  now_noted now = note_stays clock age_of m moments noted g a after found same (in_time_now clock (age_of g.kind) a after (noted.in_time g a found) same now)
+
+  pub activate_noted : (answer : Answer) → Activates (entries_of m) g answer (entries_of (map.insert m g after)) → AreNoted clock age_of (map.insert m g after) moments
+  activate_noted Done d = used_noted _ d.put refl
+  activate_noted Failed d = absurd d
+  activate_noted NotNow d = still_noted d.1
+
+  begin_noted : (logic : Logic) (opened : Bool) → Begins logic (entries_of m) g opened (entries_of (map.insert m g after)) → AreNoted clock age_of (map.insert m g after) moments
+  begin_noted logic false d = still_noted d.1
+  begin_noted logic true d = used_noted d.after d.put d.in_use
+
+  pub begins_noted : {A E : Type 0} (logic : Logic) (shown : A → Bool) (result : Result A E) → IfOk result (λ x. Begins logic (entries_of m) g (shown x) (entries_of (map.insert m g after))) → OnErr result (entries_of (map.insert m g after) ≡ entries_of m) → AreNoted clock age_of (map.insert m g after) moments
+  begins_noted logic shown (Ok x) d kept = begin_noted logic (shown x) d
+  begins_noted logic shown (Err e) d kept = still_noted kept
+
+-- it begins to load
+pub start_noted : (a after : Activation) (answer : Answer) → Starts a answer after → after.noted ≡ a.noted
+start_noted a after Done d = ap (λ (x : Activation). x.noted) d.1
+start_noted a after Failed d = absurd d
+start_noted a after NotNow d = ap (λ (x : Activation). x.noted) d.1
+
+-- a turn begins
+pub begun_noted : {A E : Type 0} (a after : Activation) (result : Result A E) → OnOk result (after ≡ record a { mailbox = mail_begun a.mailbox a.phase }) → OnErr result (after ≡ a) → after.noted ≡ a.noted
+begun_noted a after (Ok x) begun kept = ap (λ (x : Activation). x.noted) begun
+begun_noted a after (Err e) begun kept = ap (λ (x : Activation). x.noted) kept
+
+-- ---- a turn is closed
+
+pub closed_noted : (a after : Activation) (turn : ℕ) (phase : Option Phase) (said : Keep) (last : ℕ) (sender : Party) → ClosesTurn a turn phase said last sender after → after.noted ≡ a.noted
+closed_noted a after turn phase said last sender d = ap (λ (x : Activation). x.noted) d.left
+
+-- it is used now, or its activation ends and isn't ready
+pub closes_noted : (clock : ℕ) (age_of : List ℕ → ℕ) (m : FinMap grain_cmp Activation) (moments : FinMap grain_cmp ℕ) (noted : AreNoted clock age_of m moments) (g : Grain) (a after : Activation) (found : map.get m g ≡ Some a)
+    (turn : ℕ) (phase : Option Phase) (said : Keep) (last : ℕ) (sender : Party) → ClosesTurn a turn phase said last sender after → (last ≡ clock) ⊎ (phase ≡ Some Waiting) → AreNoted clock age_of (map.insert m g after) moments
+closes_noted clock age_of m moments noted g a after found turn phase said last sender d used =
+    let same = closed_noted a after turn phase said last sender d in
+    ⊎_elim
+    (λ now. now_noted clock age_of m moments noted g a after found same (ap (λ (x : Activation). x.last) d.left ∙ now))
+    (λ ends. busy_noted clock age_of m moments noted g a after found same (waits after (ap (λ (x : Activation). x.phase) d.left ∙ ap (λ p. unwrap_or p a.phase) ends)))
+    used
+  where
+    waits : (x : Activation) → x.phase ≡ Waiting → is_idle (entry_of x) ≡ false
+    waits x is = ap (λ (p : Phase). is_ready (phase_of p) && none_waits (entry_of x) && (map.len (entry_of x).turns == 0)) is

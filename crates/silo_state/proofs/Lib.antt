@@ -3,6 +3,7 @@ pub mod Requests
 pub mod Tables
 pub mod Turns
 pub mod Idle
+pub mod InUse
 pub mod Shows
 pub mod OpenTurns
 pub mod Steps

@@ -18,19 +18,19 @@ use Rattle.silo_model.specs.Calls.{reply_to}
 use Rattle.silo_model.proofs.TurnSteps.{abandon_absent, abandon_closed, abandon_turn}
 use Rattle.silo_model.proofs.EntrySteps.{activate_waiting, begin_does}
 use Rattle.silo_model.specs.Machine.{Entry}
-use Rattle.silo_state.specs.inside.Activations.{Activations, KindAges}
+use Rattle.silo_state.specs.inside.Activations.{Activations, Times}
 use Rattle.silo_state.specs.inside.Held.{Held}
 use Rattle.silo_state.specs.Moves.{Moves, done_if}
 use Rattle.silo_state.specs.Entries.{Activates, Begins}
 use Rattle.silo_state.specs.Closings.{ClosesTold}
 
 -- the ages of all kinds
-abbrev pub ages_of : Held → KindAges
-ages_of h = record { age = h.whole.age; ages = h.whole.ages }
+abbrev pub times_of : Held → Times
+times_of h = record { clock = h.whole.clock; age = h.whole.age; ages = h.whole.ages }
 
 -- the state with other activations
 abbrev pub with_activations : Held → Activations → Held
-with_activations h c = record h { whole = record h.whole { age = c.ages.age; ages = c.ages.ages; entries = c.entries } }
+with_activations h c = record h { whole = record h.whole { clock = c.times.clock; age = c.times.age; ages = c.times.ages; entries = c.entries } }
 
 module _ (logic : Logic) (h : Held) (g : Grain) where
   -- no entry is possible to change so
@@ -42,17 +42,17 @@ module _ (logic : Logic) (h : Held) (g : Grain) where
   unfolding effect_of
   begin_none none = step_at_own logic h.whole (Begin g) g.tenant g None refl refl refl none
 
-  module _ (new : Activations) (aged : new.ages ≡ ages_of h) where
+  module _ (new : Activations) (aged : new.times ≡ times_of h) where
     pub activate_moves : (answer : Answer) → Activates h.whole.entries g answer new.entries → Moves logic h (Activate g) (Ok answer) (with_activations h new)
-    activate_moves Done d = (activate_waiting logic h.whole g d.before d.found d.waits ∙ (λ i. Some (record h.whole { age = (sym aged i).age; ages = (sym aged i).ages; entries = sym d.put i })), refl)
+    activate_moves Done d = (activate_waiting logic h.whole g d.before d.found d.waits ∙ (λ i. Some (record h.whole { clock = (sym aged i).clock; age = (sym aged i).age; ages = (sym aged i).ages; entries = sym d.put i })), refl)
     activate_moves Failed d = absurd d
-    activate_moves NotNow d = (activate_none d.0, (λ i. record h { whole = record h.whole { age = (aged i).age; ages = (aged i).ages; entries = d.1 i } }))
+    activate_moves NotNow d = (activate_none d.0, (λ i. record h { whole = record h.whole { clock = (aged i).clock; age = (aged i).age; ages = (aged i).ages; entries = d.1 i } }))
 
     pub begin_moves : Begins logic h.whole.entries g true new.entries → Moves logic h (Begin g) (Ok Done) (with_activations h new)
-    begin_moves d = (begin_does logic h.whole g d.before d.found d.after d.does ∙ (λ i. Some (record h.whole { age = (sym aged i).age; ages = (sym aged i).ages; entries = sym d.put i })), refl)
+    begin_moves d = (begin_does logic h.whole g d.before d.found d.after d.does ∙ (λ i. Some (record h.whole { clock = (sym aged i).clock; age = (sym aged i).age; ages = (sym aged i).ages; entries = sym d.put i })), refl)
 
     pub begin_stays : Begins logic h.whole.entries g false new.entries → Moves logic h (Begin g) (Ok NotNow) (with_activations h new)
-    begin_stays d = (begin_none d.0, (λ i. record h { whole = record h.whole { age = (aged i).age; ages = (aged i).ages; entries = d.1 i } }))
+    begin_stays d = (begin_none d.0, (λ i. record h { whole = record h.whole { clock = (aged i).clock; age = (aged i).age; ages = (aged i).ages; entries = d.1 i } }))
 
     pub begins_move : {E : Type 0} (result : Result (Option OpenedTurn) E) → IfOk result (λ turn. Begins logic h.whole.entries g (is_some turn) new.entries) → IfOk result (λ turn. Moves logic h (Begin g) (Ok (done_if turn)) (with_activations h new))
     begins_move (Ok None) d = begin_stays d
@@ -72,13 +72,14 @@ module _ (logic : Logic) (h : Held) (g : Grain) (turn : ℕ) where
 
   -- the state with other activations and other replies
   abbrev pub closed_held : Activations → List Reply → Held
-  closed_held c replies = record h { whole = record h.whole { age = c.ages.age; ages = c.ages.ages; entries = c.entries; replies = replies } }
+  closed_held c replies = record h { whole = record h.whole { clock = c.times.clock; age = c.times.age; ages = c.times.ages; entries = c.entries; replies = replies } }
 
-  pub abandon_moves : (new : Activations) (replies : List Reply) → new.ages ≡ ages_of h → ClosesTold h.whole.entries h.whole.replies g turn None same h.whole.clock (Err NoMemory) new.entries replies
+  pub abandon_moves : (new : Activations) (replies : List Reply) → new.times ≡ times_of h → ClosesTold h.whole.entries h.whole.replies g turn None same h.whole.clock (Err NoMemory) new.entries replies
       → Moves logic h (Abandon g turn) (Ok Done) (closed_held new replies)
   abandon_moves new replies aged t = (
     abandon_turn logic h.whole g turn t.closes.before t.closes.found t.closes.request t.closes.open_turn
         ∙ (λ i. Some (record h.whole {
+          clock = (sym aged i).clock;
           age = (sym aged i).age;
           ages = (sym aged i).ages;
           entries = sym t.closes.left i;

@@ -29,7 +29,7 @@ use Rattle.silo_model.specs.Whole.{Whole, whole_step}
 use Rattle.silo_model.proofs.Leaving.{busy_stays}
 use Rattle.silo_model.proofs.Stored.{stores_at_one_row}
 use Rattle.silo_model.proofs.TurnSteps.{left_at, closed_at, seen_at, store_absent, store_closed, store_waiting, store_loading, store_not, store_failed, store_read, store_changed, store_spent, store_stale}
-use Rattle.silo_state.specs.inside.Activations.{Activations, KindAges}
+use Rattle.silo_state.specs.inside.Activations.{Activations, Times}
 use Rattle.silo_state.specs.inside.Held.{Held}
 use Rattle.silo_state.specs.Moves.{Moves}
 use Rattle.silo_state.specs.Entries.{closed_entry, ClosesEntry}
@@ -37,10 +37,10 @@ use Rattle.silo_state.specs.Finds.{open_in, IsOwn, asks}
 use Rattle.silo_state.specs.Closings.{ClosesTold, ClosesBy}
 use Rattle.silo_state.specs.inside.Storing.{read_again, with_state, given, Gives, GivesMarked}
 use Rattle.silo_state.specs.declared.storing.StorageAnswer.{StorageAnswer}
-use Rattle.silo_state.proofs.Steps.{ages_of}
+use Rattle.silo_state.proofs.Steps.{times_of}
 use Rattle.silo_state.proofs.Ends.{planned, same_entry, same_phase, same_plan}
 use Rattle.silo_state.proofs.AtRows.{same_Ok, done_at, refused_at}
-use Rattle.silo_state.proofs.Idle.{some_waits}
+use Rattle.silo_state.proofs.InUse.{some_waits}
 
 -- no such turn is open
 pub store_none : (logic : Logic) (h : Held) (g : Grain) (turn : ℕ) (failed : Bool) → option_and_then (λ e. open_in e turn e.phase) (map.get h.whole.entries g) ≡ None → whole_step logic h.whole (Store g turn failed) ≡ None
@@ -213,18 +213,18 @@ module _ (logic : Logic) (h : Held) (g : Grain) (turn : ℕ) (version : Option �
 
   -- the state with other activations, other rows, replies and failures
   abbrev pub left : Activations → Rows → List Reply → ℕ → Held
-  left c rows replies count = record { whole = record h.whole { age = c.ages.age; ages = c.ages.ages; entries = c.entries; rows = rows; replies = replies }; failures = count }
+  left c rows replies count = record { whole = record h.whole { clock = c.times.clock; age = c.times.age; ages = c.times.ages; entries = c.entries; rows = rows; replies = replies }; failures = count }
 
   -- the step's parts, put together
   put_together : (failed : Bool) (entries : Entries) (rows : Rows) (sender : Party) (outcome : Result Tree Fault) → stores failed (told_whole entries rows sender outcome)
-      → (ages : KindAges) → ages ≡ ages_of h → (at : Rows) → at ≡ rows → (replies : List Reply) → replies ≡ h.whole.replies ++ reply_to sender outcome → stores failed (record h.whole { age = ages.age; ages = ages.ages; entries = entries; rows = at; replies = replies })
-  put_together failed entries rows sender outcome step ages aged at are replies told = step ∙ (λ i. Some (record h.whole { age = (sym aged i).age; ages = (sym aged i).ages; entries = entries; rows = sym are i; replies = sym told i }))
+      → (ages : Times) → ages ≡ times_of h → (at : Rows) → at ≡ rows → (replies : List Reply) → replies ≡ h.whole.replies ++ reply_to sender outcome → stores failed (record h.whole { clock = ages.clock; age = ages.age; ages = ages.ages; entries = entries; rows = at; replies = replies })
+  put_together failed entries rows sender outcome step ages aged at are replies told = step ∙ (λ i. Some (record h.whole { clock = (sym aged i).clock; age = (sym aged i).age; ages = (sym aged i).ages; entries = entries; rows = sym are i; replies = sym told i }))
 
-  module _ (call : StorageCall) (is : plan.storage ≡ call) (asking : asks call ≡ true) (new : Activations) (aged : new.ages ≡ ages_of h) (last : ℕ) (still : last ≡ own.entry.last) where
+  module _ (call : StorageCall) (is : plan.storage ≡ call) (asking : asks call ≡ true) (new : Activations) (aged : new.times ≡ times_of h) (last : ℕ) (still : last ≡ own.entry.last) where
     failed_moves : (replies : List Reply) → ClosesTold h.whole.entries h.whole.replies g turn None same h.whole.clock (Err StorageFailed) new.entries replies → (rows : Rows) → rows ≡ h.whole.rows
-        → stores true (record h.whole { age = new.ages.age; ages = new.ages.ages; entries = new.entries; rows = rows; replies = replies })
+        → stores true (record h.whole { clock = new.times.clock; age = new.times.age; ages = new.times.ages; entries = new.entries; rows = rows; replies = replies })
     failed_moves replies d rows are =
-        put_together true new.entries h.whole.rows d.sender (Err StorageFailed) (failed_step d.sender new.entries d.closes (ap asks is ∙ asking)) new.ages aged rows are replies d.told_is
+        put_together true new.entries h.whole.rows d.sender (Err StorageFailed) (failed_step d.sender new.entries d.closes (ap asks is ∙ asking)) new.times aged rows are replies d.told_is
 
     answer_moves : (r : Result StorageAnswer StoreFault) (rows : Rows) (count : ℕ) → Gives (given logic h.whole.rows g input.state version call) h.whole.rows h.failures r rows count
         → (result : Result Answer StepFault) (replies : List Reply) → ClosesBy h.whole.entries h.whole.replies g turn idle_after h.whole.clock last false r result new.entries replies
@@ -232,20 +232,20 @@ module _ (logic : Logic) (h : Held) (g : Grain) (turn : ℕ) (version : Option �
     answer_moves (Ok s) rows count gives result replies d =
         let step = given_step call is asking s.state s.version rows (sym (own_given call) ∙ gives.0) d.1.sender new.entries d.1.closes in
         subst (λ x. Moves logic h (Store g turn false) x (left new rows replies count)) (sym d.0)
-        (put_together false new.entries rows d.1.sender (Ok (version_value s.version)) step new.ages aged rows refl replies (d.1.told_is ∙ ap (λ t. h.whole.replies ++ reply_to d.1.sender (Ok t)) gives.1), gives.2)
+        (put_together false new.entries rows d.1.sender (Ok (version_value s.version)) step new.times aged rows refl replies (d.1.told_is ∙ ap (λ t. h.whole.replies ++ reply_to d.1.sender (Ok t)) gives.1), gives.2)
     answer_moves (Err storage.Failed) rows count gives result replies d =
         subst (λ x. Moves logic h (Store g turn false) x (left new rows replies count)) (sym d.0) (refl, failed_moves replies d.1 rows gives.0, gives.1)
     answer_moves (Err (storage.Stale found)) rows count gives result replies d =
         let step = refused_stale call is asking found (sym (own_given call) ∙ gives.0) last still d.1.sender d.1.between new.entries d.1.closes d.1.left in
         subst (λ x. Moves logic h (Store g turn false) x (left new rows replies count)) (sym d.0)
-        (put_together false new.entries h.whole.rows d.1.sender (Err (StateChanged g)) step new.ages aged rows gives.1 replies d.1.told_is, gives.2)
+        (put_together false new.entries h.whole.rows d.1.sender (Err (StateChanged g)) step new.times aged rows gives.1 replies d.1.told_is, gives.2)
     answer_moves (Err storage.Spent) rows count gives result replies d =
         let step = refused_spent call is asking (sym (own_given call) ∙ gives.0) d.1.sender new.entries d.1.closes in
         subst (λ x. Moves logic h (Store g turn false) x (left new rows replies count)) (sym d.0)
-        (put_together false new.entries h.whole.rows d.1.sender (Err (VersionsSpent g)) step new.ages aged rows gives.1 replies d.1.told_is, gives.2)
+        (put_together false new.entries h.whole.rows d.1.sender (Err (VersionsSpent g)) step new.times aged rows gives.1 replies d.1.told_is, gives.2)
     answer_moves (Err storage.Memory) rows count gives result replies d =
         subst (λ x. Moves logic h (Store g turn false) x (left new rows replies count)) (sym d.0)
-        (λ i. record { whole = record h.whole { age = (aged i).age; ages = (aged i).ages; entries = d.1 i; rows = gives.0 i; replies = d.2 i }; failures = gives.1 i })
+        (λ i. record { whole = record h.whole { clock = (aged i).clock; age = (aged i).age; ages = (aged i).ages; entries = d.1 i; rows = gives.0 i; replies = d.2 i }; failures = gives.1 i })
 
     pub stored_moves : (failed : Bool) (r : Result StorageAnswer StoreFault) (rows : Rows) (count : ℕ) → GivesMarked failed (given logic h.whole.rows g input.state version call) h.whole.rows h.failures r rows count
         → (result : Result Answer StepFault) (replies : List Reply) → ClosesBy h.whole.entries h.whole.replies g turn idle_after h.whole.clock last failed r result new.entries replies

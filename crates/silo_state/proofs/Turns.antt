@@ -27,7 +27,7 @@ use Rattle.silo_model.specs.Idle.{is_idle}
 use Rattle.silo_state.specs.inside.Changes.{turn_at, opens_at, mail_begun}
 use Rattle.silo_state.specs.Entries.{front_turn, turn_in, opened_turn, Begins}
 use Rattle.silo_state.proofs.Requests.{may_open-marked}
-use Rattle.silo_state.proofs.Idle.{some_open, some_waits}
+use Rattle.silo_state.proofs.InUse.{some_open, some_waits}
 
 module _ (logic : Logic) (g : Grain) (a : Activation) (marked : AreMarked logic g a.mailbox) where
   -- ---- the turn

@@ -1,6 +1,6 @@
 //! The activations of all grains, as entries, and the notes of those that are idle.
 
-ghost use Rattle.std.specs.Prelude.{◌≡◌, ◌<◌, ◌^◌, IfOk, OnOk, OnErr, IfSome, None};
+ghost use Rattle.std.specs.Prelude.{◌≡◌, ◌≤◌, ◌<◌, ◌^◌, IfOk, OnOk, OnErr, IfSome, None};
 ghost use Rattle.std.specs.Option.{is_some, option_copied, option_map};
 ghost use Rattle.std.specs.FinMap as map;
 ghost use Rattle.silo_model.specs.Contexts.{active_in};
@@ -13,7 +13,7 @@ use activation_directory::{Activation, Directory};
 use grain_id::{GrainId, HashSeed};
 use grain_kinds::{GrainLogic, OpenedTurn};
 use idle_collector::{AgeTable, Collector};
-use silo_event::Answer;
+use silo_event::{Answer, Moment};
 use std::alloc::{AllocError, Global};
 use std::marker::{Model, PhantomData};
 use tenant_gate::Age;
@@ -21,13 +21,17 @@ use tenant_gate::Age;
 mod accept;
 mod close;
 mod idle;
+mod sweep;
 mod walk;
 
-/// The activations of all grains. Each request is marked as one that only reads exactly if the logic
-/// says so of its method. The collector has notes of exactly those that are idle, each of the moment from
-/// which it is due. What makes one idle takes no memory: room for its note is made before.
+/// The activations of all grains, and the clock. Each request is marked as one that only reads exactly if the logic
+/// says so of its method. The collector has a note of each activation, of a moment that isn't later than the one from which it
+/// is due if it is idle, nor than the one from which it would be due if it were used now. So a use of an activation needs no
+/// other note: a sweep looks at those whose note's moment has come, and gives those that aren't due yet a later one. (Orleans's
+/// collector of activations does so, too.)
 #[derive(Drop)]
 pub struct Activations<L: GrainLogic> {
+    clock: Moment,
     age: Age,
     ages: AgeTable,
     directory: Directory,
@@ -42,7 +46,6 @@ impl<L: GrainLogic> Model for Activations<L> {
     ghost use Rattle.idle_collector.specs.Ages.{kind_age};
     ghost use Rattle.silo_model.specs.Codes.{by_grain_code, by_number_code};
     ghost use Rattle.silo_state.specs.inside.Activations.{Activations, shown};
-    ghost use Rattle.silo_state.specs.Shown.{entries_of};
     ghost use Rattle.silo_state.specs.Marks.{AllMarked};
     ghost use Rattle.silo_state.specs.inside.Notes.{AreNoted};
 
@@ -50,20 +53,27 @@ impl<L: GrainLogic> Model for Activations<L> {
 
     ghost coded = { Prim.hlevel (codes, coded_grain, by_grain_code, by_number_code, coded_tree) };
 
-    ghost view = { λ a. shown a.age a.ages a.directory.activations a.collector };
+    ghost view = { λ a. shown a.clock a.age a.ages a.directory.activations a.collector };
 
     ghost invariant = { λ a. AllMarked L.logic a.directory.activations
-        × AreNoted (kind_age a.ages a.age) (entries_of a.directory.activations) a.collector.notes };
+        × AreNoted a.clock (kind_age a.ages a.age) a.directory.activations a.collector.notes };
 }
 
 impl<L: GrainLogic> Activations<L> {
-    /// No grain has an activation. An idle one is due the age of its kind after it was last used, or
+    /// No grain has an activation, and this is the moment. An idle one is due the age of its kind after it was last used, or
     /// later if it stays longer: the age that the table has of the kind, or else the one beside it. Grains are found by hashes
     /// from the seed.
-    pub fn new(alloc: Global, age: Age, ages: AgeTable, seed: HashSeed) -> Activations<L>
-        ensures { result ≡ record { ages = record { age = age; ages = ages }; entries = map.empty; expected = None } }
+    pub fn new(
+        alloc: Global,
+        clock: Moment,
+        age: Age,
+        ages: AgeTable,
+        seed: HashSeed,
+    ) -> Activations<L>
+        ensures { result ≡ record { times = record { clock = clock; age = age; ages = ages }; entries = map.empty; expected = None } }
     {
         Activations {
+            clock,
             age,
             ages,
             directory: Directory::seeded(alloc, seed),
@@ -72,16 +82,31 @@ impl<L: GrainLogic> Activations<L> {
         }
     }
 
+    /// The moment.
+    pub fn clock(&self) -> Moment
+        ensures { result ≡ self.now.times.clock }
+    {
+        self.clock
+    }
+
+    /// The clock goes on to this moment.
+    pub fn advance(&mut self, now: Moment)
+        requires { self.old.times.clock ≤ now }
+        ensures { self.new ≡ record self.old { times = record self.old.times { clock = now } } }
+    {
+        self.clock = now;
+    }
+
     /// The age of the kinds that have none of their own.
     pub fn age(&self) -> Age
-        ensures { result ≡ self.now.ages.age }
+        ensures { result ≡ self.now.times.age }
     {
         self.age
     }
 
     /// The ages of the kinds that have one of their own.
     pub fn ages(&self) -> &AgeTable
-        ensures { result.now ≡ self.now.ages.ages }
+        ensures { result.now ≡ self.now.times.ages }
     {
         &self.ages
     }
@@ -105,7 +130,7 @@ impl<L: GrainLogic> Activations<L> {
     /// The grain's activation begins to load, if it waits.
     pub fn activate(&mut self, grain: &GrainId) -> Answer
         ensures activates { Activates self.old.entries grain.now result self.new.entries }
-        ensures ages { self.new.ages ≡ self.old.ages }
+        ensures times { self.new.times ≡ self.old.times }
     {
         let Some(activation) = self.directory.get_mut(grain) else {
             return Answer::NotNow;
@@ -122,7 +147,7 @@ impl<L: GrainLogic> Activations<L> {
         ensures begins { IfOk result (λ turn. Begins L.logic self.old.entries grain.now (is_some turn) self.new.entries) }
         ensures turn { IfOk result (λ turn. turn ≡ opened_turn L.logic grain.now (map.get self.old.entries grain.now)) }
         ensures unchanged { OnErr result (self.new.entries ≡ self.old.entries) }
-        ensures ages { self.new.ages ≡ self.old.ages }
+        ensures times { self.new.times ≡ self.old.times }
     {
         let Some(activation) = self.directory.get_mut(grain) else {
             return Ok(None);
@@ -138,7 +163,7 @@ impl<L: GrainLogic> Activations<L> {
     pub fn open(&mut self, grain: &GrainId) -> Result<bool, AllocError>
         ensures begins { IfOk result (λ opened. Begins L.logic self.old.entries grain.now opened self.new.entries) }
         ensures unchanged { OnErr result (self.new.entries ≡ self.old.entries) }
-        ensures ages { self.new.ages ≡ self.old.ages }
+        ensures times { self.new.times ≡ self.old.times }
     {
         let Some(activation) = self.directory.get_mut(grain) else {
             return Ok(false);

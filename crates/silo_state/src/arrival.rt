@@ -43,5 +43,6 @@ pub fn first(alloc: Global, request: Request, clock: Moment) -> Result<Activatio
         last: clock,
         until: 0,
         resting: false,
+        noted: 0,
     })
 }

@@ -1,6 +1,6 @@
 //! What becomes of one activation.
 
-ghost use Rattle.std.specs.Prelude.{◌≡◌, ℕ, ◌+◌, ◌&&◌, max, false, IfOk, OnOk, OnErr, Some};
+ghost use Rattle.std.specs.Prelude.{◌≡◌, ◌+◌, ◌&&◌, false, IfOk, OnOk, OnErr, Some};
 ghost use Rattle.activation_directory.specs.declared.activation.Phase.TheVariants.{Ready};
 ghost use Rattle.grain_kinds.specs.Laws.{IsKeep};
 ghost use Rattle.grain_kinds.specs.Planned.{keep_of};
@@ -9,7 +9,7 @@ ghost use Rattle.silo_model.specs.Turns.{until_by, resting_by};
 ghost use Rattle.silo_state.specs.inside.Changes.{Starts, turn_at, opens_at, mail_begun, EndsTurn};
 ghost use Rattle.silo_state.specs.Shown.{phase_of, entry_of};
 ghost use Rattle.silo_model.specs.Idle.{is_idle, due_moment};
-ghost use Rattle.silo_state.specs.inside.Notes.{none_waits, due_at, noted_by};
+ghost use Rattle.silo_state.specs.inside.Notes.{none_waits, due_at};
 ghost use Rattle.silo_state.specs.Reads.{is_loading, is_quiet};
 ghost use Rattle.silo_state.specs.Work.{first_number, step_at, work_at};
 
@@ -208,25 +208,14 @@ pub fn goes(activation: &Activation) -> bool
 pub fn due_moment(grain: &GrainId, activation: &Activation, ages: &AgeTable, age: Age) -> u64
     ensures { result ≡ due_moment (kind_age ages.now age grain.now.kind) (entry_of activation.now) }
 {
-    due_after(grain, activation.last, activation.until, ages, age)
+    due_if_used(grain, activation.last, ages, age).max(activation.until)
 }
 
-/// The moment from which an activation of the grain is due that was last used at this moment, and stays until then.
-pub fn due_after(grain: &GrainId, last: Moment, until: u64, ages: &AgeTable, age: Age) -> u64
-    ensures { result ≡ max (last + kind_age ages.now age grain.now.kind) until }
+/// The moment from which an activation of the grain is due that was last used at this moment, unless it stays longer.
+pub fn due_if_used(grain: &GrainId, last: Moment, ages: &AgeTable, age: Age) -> u64
+    ensures { result ≡ last + kind_age ages.now age grain.now.kind }
 {
-    let aged = last.get() + ages.age_of(grain.kind(), age);
-    aged.max(until)
-}
-
-/// When it was last used and until when it stays, if it is ready, no request waits and no turn is open.
-pub fn idle_since(activation: &Activation) -> Option<(Moment, u64)>
-    ensures { (age : ℕ) → due_at age (Some (entry_of activation.now)) ≡ noted_by age result }
-{
-    if is_idle(activation) {
-        return Some((activation.last, activation.until));
-    }
-    None
+    last.get() + ages.age_of(grain.kind(), age)
 }
 
 /// The moment from which it is due, if it is ready, no request waits and no turn is open.

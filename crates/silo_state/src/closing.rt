@@ -6,7 +6,6 @@ ghost use Rattle.std.specs.FinMap as map;
 ghost use Rattle.grain_kinds.specs.Laws.{IsKeep};
 ghost use Rattle.grain_kinds.specs.Planned.{keep_of};
 ghost use Rattle.silo_state.specs.Shown.{phase_of};
-ghost use Rattle.silo_state.specs.inside.Activations.{HasRoom};
 ghost use Rattle.silo_state.specs.Closings.{ClosesTold, EndsTold, ClosesBy, answer_failed};
 
 use crate::activations::Activations;
@@ -27,27 +26,26 @@ pub struct ClosedTurn<'a> {
     pub idle_after: bool,
 }
 
-/// Closes an open turn, and tells its sender. The activation rests or stays as the turn said, and goes
+/// Closes an open turn now, and tells its sender. The activation rests or stays as the turn said, and goes
 /// if it rests and is idle then. Takes no memory.
 #[inline(always)]
 pub fn close_turn<L: GrainLogic>(
     activations: &mut Activations<L>,
     replies: &mut Vec<Reply>,
     closing: ClosedTurn<'_>,
-    now: Moment,
     phase: Option<Phase>,
     keep: Keep,
     outcome: Result<StateBytes, Fault>,
 )
     requires in_range { IsKeep (keep_of keep) }
     requires is_open { IsSome (option_and_then (λ e. map.get e.turns closing.turn) (map.get activations.old.entries closing.grain.now)) }
-    requires expected { HasRoom activations.old closing.grain.now }
     requires room { vec_len replies.old < vec_capacity replies.old }
     ensures closes { ClosesTold activations.old.entries replies.old.items closing.entry.grain.now closing.entry.turn
         (option_map phase_of phase) (keep_of keep)
-        now outcome activations.new.entries replies.new.items }
-    ensures ages { activations.new.ages ≡ activations.old.ages }
+        activations.old.times.clock outcome activations.new.entries replies.new.items }
+    ensures times { activations.new.times ≡ activations.old.times }
 {
+    let now = activations.clock();
     let Some(sender) = activations.close(closing.grain, closing.turn, phase, keep, now) else {
         unreachable!()
     };
@@ -64,12 +62,11 @@ fn end_activation<L: GrainLogic>(
     why: Fault,
 )
     requires is_open { IsSome (option_and_then (λ e. map.get e.turns closing.turn) (map.get activations.old.entries closing.grain.now)) }
-    requires expected { HasRoom activations.old closing.grain.now }
     requires room { vec_len replies.old < vec_capacity replies.old }
     ensures ends { EndsTold activations.old.entries replies.old.items closing.entry.grain.now closing.entry.turn closing.entry.idle_after
         last
         (Err why) activations.new.entries replies.new.items }
-    ensures ages { activations.new.ages ≡ activations.old.ages }
+    ensures times { activations.new.times ≡ activations.old.times }
 {
     let phase = Some(Phase::Waiting);
     let Some(sender) = activations.close(closing.grain, closing.turn, phase, Keep::Same, last)
@@ -84,7 +81,7 @@ fn end_activation<L: GrainLogic>(
 fn drop_if<L: GrainLogic>(activations: &mut Activations<L>, grain: &GrainId, idle_after: bool)
     ensures left { activations.new.entries ≡ (if idle_after then map.remove activations.old.entries grain.now
         else activations.old.entries) }
-    ensures ages { activations.new.ages ≡ activations.old.ages }
+    ensures times { activations.new.times ≡ activations.old.times }
 {
     if idle_after {
         drop(activations.remove(grain));
@@ -101,19 +98,17 @@ pub fn close_by<L: GrainLogic>(
     activations: &mut Activations<L>,
     replies: &mut Vec<Reply>,
     closing: ClosedTurn<'_>,
-    now: Moment,
     last: Moment,
     failed: bool,
     stored: Result<StorageAnswer, StoreFault>,
     named: GrainId,
 ) -> Result<Answer, StepFault>
     requires is_open { IsSome (option_and_then (λ e. map.get e.turns closing.turn) (map.get activations.old.entries closing.grain.now)) }
-    requires expected { HasRoom activations.old closing.grain.now }
     requires room { vec_len replies.old < vec_capacity replies.old }
     requires named { named ≡ closing.grain.now }
     ensures closes { ClosesBy activations.old.entries replies.old.items closing.entry.grain.now closing.entry.turn closing.entry.idle_after
-        now last failed stored result activations.new.entries replies.new.items }
-    ensures ages { activations.new.ages ≡ activations.old.ages }
+        activations.old.times.clock last failed stored result activations.new.entries replies.new.items }
+    ensures times { activations.new.times ≡ activations.old.times }
 {
     let stored = match stored {
         Ok(stored) => stored,
@@ -121,7 +116,6 @@ pub fn close_by<L: GrainLogic>(
             activations,
             replies,
             closing,
-            now,
             last,
             failed,
             fault,
@@ -136,7 +130,6 @@ pub fn close_by<L: GrainLogic>(
         activations,
         replies,
         closing,
-        now,
         Some(phase),
         Keep::Same,
         Ok(stored.told),
@@ -149,29 +142,27 @@ fn close_refused<L: GrainLogic>(
     activations: &mut Activations<L>,
     replies: &mut Vec<Reply>,
     closing: ClosedTurn<'_>,
-    now: Moment,
     last: Moment,
     failed: bool,
     fault: StoreFault,
     named: GrainId,
 ) -> Result<Answer, StepFault>
     requires is_open { IsSome (option_and_then (λ e. map.get e.turns closing.turn) (map.get activations.old.entries closing.grain.now)) }
-    requires expected { HasRoom activations.old closing.grain.now }
     requires room { vec_len replies.old < vec_capacity replies.old }
     requires named { named ≡ closing.grain.now }
     ensures closes { ClosesBy activations.old.entries replies.old.items closing.entry.grain.now closing.entry.turn closing.entry.idle_after
-        now last failed (Err fault) result activations.new.entries replies.new.items }
-    ensures ages { activations.new.ages ≡ activations.old.ages }
+        activations.old.times.clock last failed (Err fault) result activations.new.entries replies.new.items }
+    ensures times { activations.new.times ≡ activations.old.times }
 {
     match fault {
         StoreFault::Failed => {
             let why = Err(Fault::StorageFailed);
-            close_turn(activations, replies, closing, now, None, Keep::Same, why);
+            close_turn(activations, replies, closing, None, Keep::Same, why);
             Ok(answer_failed(failed))
         }
         StoreFault::Spent => {
             let why = Err(Fault::VersionsSpent(named));
-            close_turn(activations, replies, closing, now, None, Keep::Same, why);
+            close_turn(activations, replies, closing, None, Keep::Same, why);
             Ok(Answer::Done)
         }
         StoreFault::Stale(_) => {

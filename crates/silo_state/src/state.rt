@@ -29,7 +29,6 @@ mod work;
 #[derive(Drop)]
 pub struct SiloState<S: GrainStorage, L: GrainLogic> {
     accounts: Accounts,
-    clock: Moment,
     activations: Activations<L>,
     storage: S,
     logic: L,
@@ -47,7 +46,7 @@ impl<S: GrainStorage, L: GrainLogic> Model for SiloState<S, L> {
 
     ghost coded = { Prim.hlevel (codes, by_grain_code, by_text_code, by_number_code, coded_tree, state.the_row.coded) };
 
-    ghost view = { λ b. held_of b.accounts b.activations b.clock (S.rows b.storage) b.replies.items (S.failed b.storage) };
+    ghost view = { λ b. held_of b.accounts b.activations (S.rows b.storage) b.replies.items (S.failed b.storage) };
 }
 
 /// The moment at which the clock begins.
@@ -85,8 +84,7 @@ impl<S: GrainStorage + Drop, L: GrainLogic + Drop> SiloState<S, L> {
     {
         Ok(SiloState {
             accounts: Accounts::new(alloc, tenants)?,
-            clock: beginning(),
-            activations: Activations::new(alloc, age, ages, seed),
+            activations: Activations::new(alloc, beginning(), age, ages, seed),
             storage,
             logic,
             replies: Vec::new(alloc),

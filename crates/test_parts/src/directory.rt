@@ -43,6 +43,7 @@ fn activation(alloc: Global, last: Moment) -> Result<Activation, Fail> {
         last,
         until: 0,
         resting: false,
+        noted: 0,
     })
 }
 

@@ -1,5 +1,5 @@
 -- What a call finds that is served at once.
-use Rattle.std.specs.Prelude.{◌≡◌, ◌==◌, ℕ, ◌+◌, ◌<◌, Bool, true, false, nat_lt, List, Option, Some, unwrap_or}
+use Rattle.std.specs.Prelude.{◌≡◌, ℕ, ◌+◌, ◌<◌, true, false, nat_lt, List, Option, Some, unwrap_or}
 use Rattle.std.specs.FinMap as map
 use Rattle.std.specs.FinMap.{FinMap}
 use Rattle.grain_id.specs.Names.{Grain, text_cmp}
@@ -34,20 +34,17 @@ pub record IsIdleAt (e : Entry) (state : Tree) : Type 0 where
   pub idle : is_idle e ≡ true
   pub stays : e.resting ≡ false
 
--- The entry is idle in some state, on which that is the plan of the message; and whether it was last used at this moment.
-pub record PlansAt (logic : Logic) (grain : Grain) (e : Entry) (clock : ℕ) (message : Call) (planned : OwnedPlan)
-    (stays : Bool) : Type 0 where
+-- The entry is idle in some state, on which that is the plan of the message.
+pub record PlansAt (logic : Logic) (grain : Grain) (e : Entry) (message : Call) (planned : OwnedPlan) : Type 0 where
   pub state : Tree
   pub at : IsIdleAt e state
   pub plan_is : planned_shown state planned ≡ plan_at logic grain state message
-  pub stays_is : stays ≡ (e.last == clock)
 
 -- There is such an entry, of a kind that is known.
-pub record PlansIdle (logic : Logic) (grain : Grain) (found : Option Entry) (clock : ℕ) (message : Call) (planned : OwnedPlan)
-    (stays : Bool) : Type 0 where
+pub record PlansIdle (logic : Logic) (grain : Grain) (found : Option Entry) (message : Call) (planned : OwnedPlan) : Type 0 where
   pub entry : Entry
   pub found_is : found ≡ Some entry
-  pub plans : PlansAt logic grain entry clock message planned stays
+  pub plans : PlansAt logic grain entry message planned
   pub knows : logic.knows grain.kind ≡ true
 
 -- It asks for nothing of the storage, and says nothing of the activation.

@@ -14,13 +14,13 @@ pub record Held : Type 0 where
   pub failures : ℕ
 
 -- what these parts hold
-abbrev pub held_of : FinMap text_cmp Account → Activations → ℕ → Rows → List Reply → ℕ → Held
-held_of accounts c clock rows replies failures = record {
+abbrev pub held_of : FinMap text_cmp Account → Activations → Rows → List Reply → ℕ → Held
+held_of accounts c rows replies failures = record {
   whole = record {
     accounts = accounts;
-    age = c.ages.age;
-    ages = c.ages.ages;
-    clock = clock;
+    age = c.times.age;
+    ages = c.times.ages;
+    clock = c.times.clock;
     entries = c.entries;
     rows = rows;
     replies = replies;

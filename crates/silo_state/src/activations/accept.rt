@@ -1,15 +1,13 @@
 //! How requests come to an activation.
 
-ghost use Rattle.std.specs.Prelude.{◌≡◌, ℕ, true, IfOk, OnOk, OnErr, length};
+ghost use Rattle.std.specs.Prelude.{◌≡◌, None, true, OnOk, OnErr, length};
 ghost use Rattle.std.specs.Option.{option_map};
 ghost use Rattle.std.specs.FinMap as map;
-ghost use Rattle.silo_state.specs.inside.Arrivals.{with_waiting};
-ghost use Rattle.silo_state.specs.Shown.{request_of, entries_of};
-ghost use Rattle.silo_state.specs.Marks.{IsMarked, AllMarked};
-ghost use Rattle.silo_state.specs.inside.Notes.{due_at, noted_by};
+ghost use Rattle.silo_state.specs.inside.Arrivals.{EntersFirst, with_waiting};
+ghost use Rattle.silo_state.specs.Shown.{request_of};
+ghost use Rattle.silo_state.specs.Marks.{IsMarked};
 
 use crate::activations::Activations;
-use crate::activations::close::forget;
 use crate::{arrival, change};
 use activation_directory::Directory;
 use grain_id::GrainId;
@@ -30,8 +28,8 @@ impl<L: GrainLogic> Activations<L> {
         Some(activation.mailbox.len())
     }
 
-    /// One request more waits at the grain, from this moment on. A grain that has no activation gets
-    /// one, whose mailbox has memory for this request alone.
+    /// One request more waits at the grain, from now on. A grain that has no activation gets one, and a note of it. Its mailbox has
+    /// memory for this request alone.
     ///
     /// # Errors
     ///
@@ -41,53 +39,46 @@ impl<L: GrainLogic> Activations<L> {
         alloc: Global,
         grain: &GrainId,
         request: Request,
-        clock: Moment,
     ) -> Result<(), AllocError>
         requires known { L.logic.knows grain.now.kind ≡ true }
         requires marked { IsMarked L.logic grain.now request }
-        ensures waits { OnOk result (self.new.entries ≡ with_waiting self.old.entries grain.now (request_of request) clock) }
+        ensures waits { OnOk result (self.new.entries
+            ≡ with_waiting self.old.entries grain.now (request_of request) self.old.times.clock) }
         ensures unchanged { OnErr result (self.new.entries ≡ self.old.entries) }
-        ensures ages { self.new.ages ≡ self.old.ages }
+        ensures times { self.new.times ≡ self.old.times }
     {
-        let entered = enter::<L>(alloc, &mut self.directory, grain, request, clock)?;
-        let Some(idle) = entered else {
-            return Ok(());
-        };
-        forget(&mut self.collector, grain, idle, &self.ages, self.age);
+        if let Some(activation) = self.directory.get_mut(grain) {
+            return arrival::arrive(activation, request, self.clock);
+        }
+        let due = change::due_if_used(grain, self.clock, &self.ages, self.age);
+        self.collector.expect(grain)?;
+        enter(alloc, &mut self.directory, grain, request, self.clock, due)?;
+        self.collector.note_expected(due);
         Ok(())
     }
 }
 
-/// One request more waits at the grain, or at a new activation of it: when the grain's activation was last used before and until
-/// when it stays, if it was idle.
+/// The grain gets an activation, which was used at this moment and is noted with that one, and at which the request waits.
 ///
 /// # Errors
 ///
 /// Out of memory: nothing changed.
-fn enter<L: GrainLogic>(
+#[inline(never)]
+fn enter(
     alloc: Global,
     directory: &mut Directory,
     grain: &GrainId,
     request: Request,
     clock: Moment,
-) -> Result<Option<(Moment, u64)>, AllocError>
-    requires marks { AllMarked L.logic directory.old.activations }
-    requires known { L.logic.knows grain.now.kind ≡ true }
-    requires marked { IsMarked L.logic grain.now request }
-    ensures waits { OnOk result (entries_of directory.new.activations ≡ with_waiting (entries_of directory.old.activations) grain.now
-        (request_of request) clock) }
-    ensures unchanged { OnErr result (entries_of directory.new.activations ≡ entries_of directory.old.activations) }
-    ensures marks { AllMarked L.logic directory.new.activations }
-    ensures noted { IfOk result (λ idle. (age : ℕ)
-        → due_at age (map.get (entries_of directory.old.activations) grain.now) ≡ noted_by age idle) }
+    noted: u64,
+) -> Result<(), AllocError>
+    requires { map.get directory.old.activations grain.now ≡ None }
+    ensures entered { OnOk result (EntersFirst directory.old.activations grain.now request clock noted directory.new.activations) }
+    ensures unchanged { OnErr result (directory.new.activations ≡ directory.old.activations) }
 {
-    if let Some(activation) = directory.get_mut(grain) {
-        let idle = change::idle_since(activation);
-        arrival::arrive(activation, request, clock)?;
-        return Ok(idle);
-    }
     let named = grain.clone()?;
-    let activation = arrival::first(alloc, request, clock)?;
+    let mut activation = arrival::first(alloc, request, clock)?;
+    activation.noted = noted;
     match directory.insert(alloc, named, activation) {
         Ok(()) => {}
         Err(refused) => {
@@ -95,5 +86,5 @@ fn enter<L: GrainLogic>(
             return Err(AllocError);
         }
     }
-    Ok(None)
+    Ok(())
 }

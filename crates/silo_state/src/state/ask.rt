@@ -42,7 +42,7 @@ impl<S: GrainStorage, L: GrainLogic> SiloState<S, L> {
             Some(account) => {
                 let requests = account.count();
                 let active = self.activations.count(caller.tenant());
-                Ok(status_value(alloc, active, self.clock.get(), requests)?)
+                Ok(status_value(alloc, active, self.activations.clock().get(), requests)?)
             }
             None => Err(Fault::UnknownTenant(caller.to_tenant(alloc)?)),
         };

@@ -47,8 +47,8 @@ impl<S: GrainStorage, L: GrainLogic> SiloState<S, L> {
         };
         let planned = self
             .activations
-            .plan_idle(alloc, bump, &self.logic, grain, message, self.clock)?;
-        let Some((plan, stays)) = planned else {
+            .plan_idle(alloc, bump, &self.logic, grain, message)?;
+        let Some(plan) = planned else {
             return Ok(None);
         };
         if !is_plain(&plan) {
@@ -56,11 +56,10 @@ impl<S: GrainStorage, L: GrainLogic> SiloState<S, L> {
         }
         let recipient = Party::Client(caller.clone()?, id);
         self.replies.reserve(1)?;
-        self.activations.expect_again(grain, stays)?;
         self.accounts
             .send_each(alloc, grain, plan.sends.as_slice())?;
         self.accounts.count_one(grain.tenant());
-        self.activations.renew(grain, plan.state, self.clock);
+        self.activations.renew(grain, plan.state);
         self.replies.push_reserved(Reply {
             recipient,
             outcome: told(plan.outcome),

@@ -144,7 +144,7 @@ impl<S: GrainStorage, L: GrainLogic> SiloState<S, L> {
             sender,
             message,
         };
-        self.activations.wait(alloc, grain, request, self.clock)?;
+        self.activations.wait(alloc, grain, request)?;
         account.count_one();
         Ok(())
     }

@@ -15,10 +15,10 @@ impl<S: GrainStorage, L: GrainLogic> SiloState<S, L> {
     pub fn tick(&mut self, now: Moment) -> Answer
         ensures { Moves L.logic self.old (step.Tick now) (Ok result) self.new }
     {
-        if now.get() < self.clock.get() {
+        if now.get() < self.activations.clock().get() {
             return Answer::NotNow;
         }
-        self.clock = now;
+        self.activations.advance(now);
         Answer::Done
     }
 
@@ -30,7 +30,7 @@ impl<S: GrainStorage, L: GrainLogic> SiloState<S, L> {
     pub fn sweep(&mut self, alloc: Global) -> Result<Answer, StepFault>
         ensures { Moves L.logic self.old step.Sweep result self.new }
     {
-        self.activations.sweep(alloc, self.clock.get())?;
+        self.activations.sweep(alloc)?;
         Ok(Answer::Done)
     }
 }

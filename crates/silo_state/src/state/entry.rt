@@ -79,7 +79,7 @@ fn unload<L: GrainLogic>(
     requires { (e : Entry) → map.get activations.old.entries grain.now ≡ Some e → length e.queue + vec_len replies.old ≤ vec_capacity
         replies.old }
     ensures gone { activations.new.entries ≡ map.remove activations.old.entries grain.now }
-    ensures ages { activations.new.ages ≡ activations.old.ages }
+    ensures times { activations.new.times ≡ activations.old.times }
     ensures told { (e : Entry) → map.get activations.old.entries grain.now ≡ Some e
         → replies.new.items ≡ replies.old.items ++ flat_map (λ q.
         reply_to q.sender (Err StorageFailed)) e.queue }

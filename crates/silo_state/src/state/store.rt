@@ -77,10 +77,8 @@ impl<S: GrainStorage, L: GrainLogic> SiloState<S, L> {
             unreachable!()
         };
         let last = activation.last;
-        let now = self.clock;
         let named = grain.clone()?;
         self.replies.reserve(1)?;
-        self.activations.expect(grain, idle_after)?;
         let stored = ask(
             alloc,
             &mut self.storage,
@@ -100,7 +98,6 @@ impl<S: GrainStorage, L: GrainLogic> SiloState<S, L> {
             &mut self.activations,
             &mut self.replies,
             closing,
-            now,
             last,
             failed,
             stored,

@@ -89,9 +89,7 @@ impl<S: GrainStorage, L: GrainLogic> SiloState<S, L> {
         if asks_storage(finished.store_call()) {
             return Ok(Answer::NotNow);
         }
-        let now = self.clock;
         self.replies.reserve(1)?;
-        self.activations.expect(grain, idle_after)?;
         let outcome = copied(finished.outcome())?;
         let state = finished.state().clone()?;
         self.accounts.send_each(alloc, grain, finished.sends())?;
@@ -105,7 +103,6 @@ impl<S: GrainStorage, L: GrainLogic> SiloState<S, L> {
             &mut self.activations,
             &mut self.replies,
             closing,
-            now,
             Some(phase),
             finished.keep(),
             told(outcome),
@@ -131,9 +128,7 @@ impl<S: GrainStorage, L: GrainLogic> SiloState<S, L> {
             drop(planned);
             return Ok(Answer::NotNow);
         }
-        let now = self.clock;
         self.replies.reserve(1)?;
-        self.activations.expect(grain, idle_after)?;
         let OwnedPlan {
             state,
             outcome,
@@ -152,7 +147,6 @@ impl<S: GrainStorage, L: GrainLogic> SiloState<S, L> {
             &mut self.activations,
             &mut self.replies,
             closing,
-            now,
             ready_in(state, version),
             said,
             told(outcome),
@@ -175,9 +169,7 @@ impl<S: GrainStorage, L: GrainLogic> SiloState<S, L> {
             return Ok(Answer::NotNow);
         };
         let idle_after = change::none_waits(activation);
-        let now = self.clock;
         self.replies.reserve(1)?;
-        self.activations.expect(grain, idle_after)?;
         let closing = ClosedTurn {
             grain,
             turn,
@@ -187,7 +179,6 @@ impl<S: GrainStorage, L: GrainLogic> SiloState<S, L> {
             &mut self.activations,
             &mut self.replies,
             closing,
-            now,
             None,
             Keep::Same,
             Err(Fault::NoMemory),

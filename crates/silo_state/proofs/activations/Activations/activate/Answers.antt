@@ -5,7 +5,7 @@ use Rattle.silo_model.specs.Turns.{activated}
 use Rattle.silo_state.specs.inside.Activations.{Activations}
 use Rattle.silo_state.specs.Shown.{entries_of}
 use Rattle.silo_state.specs.Entries.{Activates}
-use Rattle.silo_state.proofs.Idle.{activate_noted}
+use Rattle.silo_state.proofs.Idle.{activate_noted, start_noted}
 use Rattle.silo_state.proofs.Shows.{get-entries, start_shows, start_marked}
 use Rattle.std.specs.FinMap as map
 use Rattle.idle_collector.specs.Ages.{kind_age}
@@ -35,5 +35,5 @@ invariant_of-self-2 g c =
     let after = c.start.new.activation in
     let found = sym c.in-Some.ensures.value in (
       start_marked g.L.GrainLogic.logic m grain a after found c.self.invariant.0 c.start.result c.start.ensures,
-      activate_noted (kind_age inside.ages inside.age) (entries_of m) inside.collector.notes c.self.invariant.1 grain c.start.result (entries_of (map.insert m grain after)) (start_shows g.L.GrainLogic.logic m grain a after found c.start.result c.start.ensures),
+      activate_noted inside.clock (kind_age inside.ages inside.age) m inside.collector.notes c.self.invariant.1 grain a after found (start_noted a after c.start.result c.start.ensures) c.start.result (start_shows g.L.GrainLogic.logic m grain a after found c.start.result c.start.ensures),
     )

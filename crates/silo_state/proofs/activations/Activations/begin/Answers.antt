@@ -6,7 +6,7 @@ use Rattle.idle_collector.specs.Ages.{kind_age}
 use Rattle.silo_model.specs.Turns.{opened_if_ready}
 use Rattle.silo_state.specs.inside.Activations.{Activations}
 use Rattle.silo_state.specs.Shown.{entries_of}
-use Rattle.silo_state.proofs.Idle.{begins_noted}
+use Rattle.silo_state.proofs.Idle.{begins_noted, begun_noted}
 use Rattle.silo_state.specs.Entries.{Begins, opened_turn}
 use Rattle.silo_state.proofs.Shows.{get-entries, begin_shows, begin_turn, begin_marked, unmoved}
 use Rattle.silo_state.proofs.activations.Activations.begin.Goals as goal
@@ -53,6 +53,6 @@ invariant_of-self-2 g c =
     let after = c.begin.new.activation in
     let found = sym c.in-Some.ensures.value in (
       begin_marked logic m grain a after found c.self.invariant.0 c.begin.result c.begin.ensures.begun c.begin.ensures.unchanged,
-      begins_noted (kind_age inside.ages inside.age) (entries_of m) inside.collector.notes c.self.invariant.1 grain logic is_some c.begin.result (entries_of (map.insert m grain after))
+      begins_noted inside.clock (kind_age inside.ages inside.age) m inside.collector.notes c.self.invariant.1 grain a after found (begun_noted a after c.begin.result c.begin.ensures.begun c.begin.ensures.unchanged) logic is_some c.begin.result
           (begin_shows logic m grain a after found c.self.invariant.0 c.begin.result c.begin.ensures.turn c.begin.ensures.begun) (on_err_weaker c.begin.result (unmoved logic m grain a after found) c.begin.ensures.unchanged),
     )

@@ -6,7 +6,7 @@ use Rattle.idle_collector.specs.Ages.{kind_age}
 use Rattle.silo_model.specs.Turns.{opened_if_ready}
 use Rattle.silo_state.specs.inside.Activations.{Activations}
 use Rattle.silo_state.specs.Shown.{entries_of}
-use Rattle.silo_state.proofs.Idle.{begins_noted}
+use Rattle.silo_state.proofs.Idle.{begins_noted, begun_noted}
 use Rattle.silo_state.specs.Entries.{Begins}
 use Rattle.silo_state.proofs.Shows.{get-entries, open_shows, begin_marked, unmoved}
 use Rattle.silo_state.proofs.activations.Activations.open.Goals as goal
@@ -40,6 +40,6 @@ invariant_of-self-2 g c =
     let after = c.open.new.activation in
     let found = sym c.in-Some.ensures.value in (
       begin_marked logic m grain a after found c.self.invariant.0 c.open.result c.open.ensures.begun c.open.ensures.unchanged,
-      begins_noted (kind_age inside.ages inside.age) (entries_of m) inside.collector.notes c.self.invariant.1 grain logic (λ opened. opened) c.open.result (entries_of (map.insert m grain after))
+      begins_noted inside.clock (kind_age inside.ages inside.age) m inside.collector.notes c.self.invariant.1 grain a after found (begun_noted a after c.open.result c.open.ensures.begun c.open.ensures.unchanged) logic (λ opened. opened) c.open.result
           (open_shows logic m grain a after found c.self.invariant.0 c.open.result c.open.ensures.opened c.open.ensures.begun) (on_err_weaker c.open.result (unmoved logic m grain a after found) c.open.ensures.unchanged),
     )

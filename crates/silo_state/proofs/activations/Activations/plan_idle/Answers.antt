@@ -19,17 +19,17 @@ returns-clause-planned g c =
     let grain = c.args.grain.now in
     let a = c.in-Some.activation.now in
     let found = sym c.in-Some.ensures.value in
-    plans_in g.L.GrainLogic.logic grain (entry_of a) _ c.args.clock c.args.message.now (sym (ap (λ (k : Activations). map.get k.entries grain) c.self.view_is) ∙ get-entries m grain (Some a) found)
+    plans_in g.L.GrainLogic.logic grain (entry_of a) _ c.args.message.now (sym (ap (λ (k : Activations). map.get k.entries grain) c.self.view_is) ∙ get-entries m grain (Some a) found)
     (c.self.invariant.0 grain a found).known c.plan_idle.result c.plan_idle.ensures
 
 pub invariant_of-self-2 : goal.invariant_of-self-2
 invariant_of-self-2 g c =
     let inside = c.self.inside in
     let m = inside.directory.activations in
-    subst (λ (n : FinMap grain_cmp Activation). AllMarked g.L.GrainLogic.logic n × AreNoted (kind_age inside.ages inside.age) (entries_of n) inside.collector.notes) (sym (insert-again m c.args.grain.now c.in-Some.activation.now (sym c.in-Some.ensures.value))) c.self.invariant
+    subst (λ (n : FinMap grain_cmp Activation). AllMarked g.L.GrainLogic.logic n × AreNoted inside.clock (kind_age inside.ages inside.age) n inside.collector.notes) (sym (insert-again m c.args.grain.now c.in-Some.activation.now (sym c.in-Some.ensures.value))) c.self.invariant
 
 pub returns-clause-unchanged : goal.returns-clause-unchanged
 returns-clause-unchanged g c =
     let inside = c.self.inside in
     let m = inside.directory.activations in
-    ap (λ (n : FinMap grain_cmp Activation). shown inside.age inside.ages n inside.collector) (insert-again m c.args.grain.now c.in-Some.activation.now (sym c.in-Some.ensures.value)) ∙ c.self.view_is
+    ap (λ (n : FinMap grain_cmp Activation). shown inside.clock inside.age inside.ages n inside.collector) (insert-again m c.args.grain.now c.in-Some.activation.now (sym c.in-Some.ensures.value)) ∙ c.self.view_is

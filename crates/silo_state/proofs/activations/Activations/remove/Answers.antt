@@ -1,5 +1,4 @@
-use Rattle.std.proofs.Common.{◌≡◌, None, Some, refl, ap, sym, ◌∙◌, subst}
-use Rattle.std.specs.Prelude.{option_map}
+use Rattle.std.proofs.Common.{◌≡◌, None, Some, ap, sym, ◌∙◌, subst}
 use Rattle.std.specs.FinMap as map
 use Rattle.std.specs.FinMap.{FinMap}
 use Rattle.grain_id.specs.Names.{grain_cmp}
@@ -10,11 +9,11 @@ use Rattle.idle_collector.specs.Ages.{kind_age}
 use Rattle.activation_directory.specs.declared.activation.Activation.{Activation}
 use Rattle.idle_collector.specs.Notes.{Collection}
 use Rattle.silo_state.specs.inside.Activations.{Activations}
-use Rattle.silo_state.specs.inside.Notes.{due_at}
+use Rattle.silo_state.specs.inside.Notes.{noted_at}
 use Rattle.silo_state.specs.Shown.{entry_of, entries_of}
 use Rattle.silo_state.specs.Marks.{AllMarked}
 use Rattle.silo_state.proofs.Requests.{marked-removed}
-use Rattle.silo_state.proofs.Idle.{gone_noted}
+use Rattle.silo_state.proofs.Idle.{note_goes, note_is_there}
 use Rattle.silo_state.proofs.Shows.{get-entries}
 use Rattle.silo_state.proofs.activations.Activations.remove.Goals as goal
 
@@ -25,10 +24,9 @@ invariant_of-self g c =
     let inside = c.self.inside in
     let m = inside.directory.activations in
     let grain = c.args.grain.now in
-    let removed = ap entries_of c.remove.ensures.removed ∙ mapped-remove grain_cmp_total grain_cmp_exact entry_of m grain in
-    let none : map.get inside.collector.notes grain ≡ None = c.self.invariant.1 grain ∙ ap (due_at (kind_age inside.ages inside.age grain.kind)) (get-entries m grain None (sym c.in_default.ensures.found)) in (
+    let none : map.get inside.collector.notes grain ≡ None = c.self.invariant.1.notes grain ∙ ap noted_at (sym c.in_default.ensures.found) in (
       subst (λ (m : FinMap grain_cmp Activation). AllMarked g.L.GrainLogic.logic m) (sym c.remove.ensures.removed) (marked-removed g.L.GrainLogic.logic m grain c.self.invariant.0),
-      gone_noted (kind_age inside.ages inside.age) (entries_of m) inside.collector.notes c.self.invariant.1 grain _ _ removed (sym (maps.remove-absent grain_cmp_total grain_cmp_exact inside.collector.notes grain none)),
+      note_goes inside.clock (kind_age inside.ages inside.age) m inside.collector.notes c.self.invariant.1 grain _ _ c.remove.ensures.removed (sym (maps.remove-absent grain_cmp_total grain_cmp_exact inside.collector.notes grain none)),
     )
 
 pub returns-in_default-clause-found : goal.returns-in_default-clause-found
@@ -41,48 +39,20 @@ returns-in_default-clause-removed g c =
     ∙ mapped-remove grain_cmp_total grain_cmp_exact entry_of c.self.inside.directory.activations c.args.grain.now
     ∙ ap (λ (k : Activations). map.remove k.entries c.args.grain.now) c.self.view_is
 
--- ---- it has one that isn't idle, and no note
+-- ---- it has one, and its note goes
 
-pub invariant_of-self-in_default-idle_since : goal.invariant_of-self-in_default-idle_since
-invariant_of-self-in_default-idle_since g c =
+pub forget_at-requires : goal.forget_at-requires
+forget_at-requires g c =
     let inside = c.self.inside in
-    let m = inside.directory.activations in
-    let grain = c.args.grain.now in
-    let age = kind_age inside.ages inside.age grain.kind in
-    let removed = ap entries_of c.remove.ensures.removed ∙ mapped-remove grain_cmp_total grain_cmp_exact entry_of m grain in
-    let none : map.get inside.collector.notes grain ≡ None =
-    c.self.invariant.1 grain ∙ ap (due_at age) (get-entries m grain (Some c.in-Some.activation) (sym c.in-Some.ensures.found)) ∙ c.in_default-idle_since.ensures age in (
-      subst (λ (m : FinMap grain_cmp Activation). AllMarked g.L.GrainLogic.logic m) (sym c.remove.ensures.removed) (marked-removed g.L.GrainLogic.logic m grain c.self.invariant.0),
-      gone_noted (kind_age inside.ages inside.age) (entries_of m) inside.collector.notes c.self.invariant.1 grain _ _ removed (sym (maps.remove-absent grain_cmp_total grain_cmp_exact inside.collector.notes grain none)),
-    )
-
-pub returns-in_default-idle_since-clause-found : goal.returns-in_default-idle_since-clause-found
-returns-in_default-idle_since-clause-found g c =
-    sym (get-entries c.self.inside.directory.activations c.args.grain.now (Some c.in-Some.activation) (sym c.in-Some.ensures.found)) ∙ ap (λ (k : Activations). map.get k.entries c.args.grain.now) c.self.view_is
-
-pub returns-in_default-idle_since-clause-removed : goal.returns-in_default-idle_since-clause-removed
-returns-in_default-idle_since-clause-removed g c =
-    ap entries_of c.remove.ensures.removed
-    ∙ mapped-remove grain_cmp_total grain_cmp_exact entry_of c.self.inside.directory.activations c.args.grain.now
-    ∙ ap (λ (k : Activations). map.remove k.entries c.args.grain.now) c.self.view_is
-
--- ---- it has one that is idle, and its note goes
-
-pub forget-requires : goal.forget-requires
-forget-requires g c =
-    let inside = c.self.inside in
-    let grain = c.args.grain.now in
-    let age = kind_age inside.ages inside.age grain.kind in
-    c.self.invariant.1 grain ∙ ap (due_at age) (get-entries inside.directory.activations grain (Some c.in-Some.activation) (sym c.in-Some.ensures.found)) ∙ c.in-Some-idle_since.ensures age
+    note_is_there inside.clock (kind_age inside.ages inside.age) inside.directory.activations inside.collector.notes c.self.invariant.1 c.args.grain.now c.in-Some.activation (sym c.in-Some.ensures.found)
 
 pub invariant_of-self-2 : goal.invariant_of-self-2
 invariant_of-self-2 g c =
     let inside = c.self.inside in
     let m = inside.directory.activations in
-    let grain = c.args.grain.now in
-    let removed = ap entries_of c.remove.ensures.removed ∙ mapped-remove grain_cmp_total grain_cmp_exact entry_of m grain in (
+    let grain = c.args.grain.now in (
       subst (λ (m : FinMap grain_cmp Activation). AllMarked g.L.GrainLogic.logic m) (sym c.remove.ensures.removed) (marked-removed g.L.GrainLogic.logic m grain c.self.invariant.0),
-      gone_noted (kind_age inside.ages inside.age) (entries_of m) inside.collector.notes c.self.invariant.1 grain _ _ removed (ap (λ (k : Collection). k.notes) c.forget.ensures),
+      note_goes inside.clock (kind_age inside.ages inside.age) m inside.collector.notes c.self.invariant.1 grain _ _ c.remove.ensures.removed (ap (λ (k : Collection). k.notes) c.forget_at.ensures),
     )
 
 pub returns-clause-found : goal.returns-clause-found

@@ -1,50 +1,58 @@
-use Rattle.std.proofs.Common.{◌≡◌, None, ap, sym, ◌∙◌, subst}
-use Rattle.std.specs.FinMap as map
-use Rattle.grain_id.proofs.Order.{grain_cmp_total, grain_cmp_exact}
-use Rattle.finite_maps.proofs.Maps as maps
+use Rattle.std.proofs.Common.{ap, sym, ◌∙◌}
+use Rattle.std.specs.Prelude.{OnOk, OnErr}
 use Rattle.idle_collector.specs.Ages.{kind_age}
-use Rattle.idle_collector.specs.Notes.{Collection}
-use Rattle.silo_model.specs.Machine.{Entries}
+use Rattle.idle_collector.specs.Notes.{Collection, noted_if}
 use Rattle.silo_state.specs.inside.Activations.{Activations}
 use Rattle.silo_state.specs.inside.Arrivals.{with_waiting}
-use Rattle.silo_state.specs.inside.Notes.{AreNoted, noted_by}
 use Rattle.silo_state.specs.Shown.{request_of, entries_of}
-use Rattle.silo_state.proofs.Idle.{wait_noted}
+use Rattle.silo_state.proofs.Arrivals.{arrive_shows, arrive_leaves, arrive_marked, arrive_noted, enter_shows, enter_marked, enter_noted}
 use Rattle.silo_state.proofs.activations.Activations.wait.Goals as goal
 
+-- ---- at an activation
+
 pub invariant_of-self : goal.invariant_of-self
-invariant_of-self g c = (c.enter.ensures.marks, subst (λ (es : Entries). AreNoted (kind_age c.self.inside.ages c.self.inside.age) es c.self.inside.collector.notes) (sym c.in_err-entered.ensures.unchanged) c.self.invariant.1)
-
--- ---- it wasn't idle, and has no note
-
-pub invariant_of-self-in_default : goal.invariant_of-self-in_default
-invariant_of-self-in_default g c =
+invariant_of-self g c =
     let inside = c.self.inside in
-    let age_of = kind_age inside.ages inside.age in
+    let logic = g.L.GrainLogic.logic in
+    let m = inside.directory.activations in
     let grain = c.args.grain.now in
-    let none : map.get inside.collector.notes grain ≡ None = c.self.invariant.1 grain ∙ c.in_ok-entered.ensures.noted (age_of grain.kind) ∙ ap (noted_by (age_of grain.kind)) c.in_default.is in (
-      c.enter.ensures.marks,
-      wait_noted age_of (entries_of inside.directory.activations) inside.collector.notes c.self.invariant.1 grain c.args.clock (request_of c.args.request) _ _ c.in_ok-entered.ensures.waits
-          (sym (maps.remove-absent grain_cmp_total grain_cmp_exact inside.collector.notes grain none)),
+    let a = c.in-Some.activation.now in
+    let after = c.arrive.new.activation in
+    let found = sym c.in-Some.ensures.value in
+    let capacity = after.mailbox.capacity in (
+      arrive_marked logic m grain c.args.request inside.clock a after found capacity c.arrive.result c.arrive.ensures.arrived c.arrive.ensures.unchanged c.self.invariant.0 c.requires.marked,
+      arrive_noted logic m grain c.args.request inside.clock a after found capacity c.arrive.result c.arrive.ensures.arrived c.arrive.ensures.unchanged (kind_age inside.ages inside.age) inside.collector.notes c.self.invariant.1,
     )
 
-pub returns-in_default-clause-waits : goal.returns-in_default-clause-waits
-returns-in_default-clause-waits g c = c.in_ok-entered.ensures.waits ∙ ap (λ (k : Activations). with_waiting k.entries c.args.grain.now (request_of c.args.request) c.args.clock) c.self.view_is
+pub returns-in-Some-clause-waits : goal.returns-in-Some-clause-waits
+returns-in-Some-clause-waits g c =
+    let after = c.arrive.new.activation in
+    rw (← c.self.view_is)
+    (arrive_shows g.L.GrainLogic.logic c.self.inside.directory.activations c.args.grain.now c.args.request c.self.inside.clock c.in-Some.activation.now after (sym c.in-Some.ensures.value) after.mailbox.capacity c.arrive.result c.arrive.ensures.arrived c.arrive.ensures.unchanged)
 
--- ---- it was
+pub returns-in-Some-clause-unchanged : goal.returns-in-Some-clause-unchanged
+returns-in-Some-clause-unchanged g c =
+    let after = c.arrive.new.activation in
+    rw (← c.self.view_is)
+    (arrive_leaves g.L.GrainLogic.logic c.self.inside.directory.activations c.args.grain.now c.args.request c.self.inside.clock c.in-Some.activation.now after (sym c.in-Some.ensures.value) after.mailbox.capacity c.arrive.result c.arrive.ensures.arrived c.arrive.ensures.unchanged)
 
-pub forget-requires : goal.forget-requires
-forget-requires g c =
-    let inside = c.self.inside in
-    let grain = c.args.grain.now in
-    c.self.invariant.1 grain ∙ c.in_ok-entered.ensures.noted (kind_age inside.ages inside.age grain.kind) ∙ ap (noted_by (kind_age inside.ages inside.age grain.kind)) c.in-Some.is
+-- ---- at none
 
 pub invariant_of-self-2 : goal.invariant_of-self-2
 invariant_of-self-2 g c =
-    let inside = c.self.inside in (
-      c.enter.ensures.marks,
-      wait_noted (kind_age inside.ages inside.age) (entries_of inside.directory.activations) inside.collector.notes c.self.invariant.1 c.args.grain.now c.args.clock (request_of c.args.request) _ _ c.in_ok-entered.ensures.waits (ap (λ (k : Collection). k.notes) c.forget.ensures),
+    let inside = c.self.inside in
+    let logic = g.L.GrainLogic.logic in
+    let m = inside.directory.activations in
+    let grain = c.args.grain.now in
+    let due = c.due_if_used-due.result in
+    let new = c.enter.new.directory.activations in
+    let absent = sym c.in_default.ensures.value in (
+      enter_marked logic m grain c.args.request inside.clock due new c.in_ok-enter.ensures.entered absent c.self.invariant.0 c.requires.known c.requires.marked,
+      enter_noted logic m grain c.args.request inside.clock due new c.in_ok-enter.ensures.entered absent (kind_age inside.ages inside.age) inside.collector.notes _ c.self.invariant.1 c.due_if_used-due.ensures
+          (ap (λ (k : Collection). k.notes) c.note_expected.ensures ∙ ap (λ (k : Collection). noted_if k.notes k.expected due) c.in_ok-expect.ensures.expected),
     )
 
 pub returns-clause-waits : goal.returns-clause-waits
-returns-clause-waits g c = c.in_ok-entered.ensures.waits ∙ ap (λ (k : Activations). with_waiting k.entries c.args.grain.now (request_of c.args.request) c.args.clock) c.self.view_is
+returns-clause-waits g c =
+    rw (← c.self.view_is)
+    (enter_shows g.L.GrainLogic.logic c.self.inside.directory.activations c.args.grain.now c.args.request c.self.inside.clock c.due_if_used-due.result c.enter.new.directory.activations c.in_ok-enter.ensures.entered (sym c.in_default.ensures.value))

@@ -34,10 +34,10 @@ pub invariant_of-self-2 : goal.invariant_of-self-2
 invariant_of-self-2 g c =
     let inside = c.self.inside in
     let m = inside.directory.activations in
-    subst (λ (n : FinMap grain_cmp Activation). AllMarked g.L.GrainLogic.logic n × AreNoted (kind_age inside.ages inside.age) (entries_of n) inside.collector.notes) (sym (insert-again m c.args.grain.now c.in-Some.activation.now (sym c.in-Some.ensures.value))) c.self.invariant
+    subst (λ (n : FinMap grain_cmp Activation). AllMarked g.L.GrainLogic.logic n × AreNoted inside.clock (kind_age inside.ages inside.age) n inside.collector.notes) (sym (insert-again m c.args.grain.now c.in-Some.activation.now (sym c.in-Some.ensures.value))) c.self.invariant
 
 pub returns-clause-unchanged : goal.returns-clause-unchanged
 returns-clause-unchanged g c =
     let inside = c.self.inside in
     let m = inside.directory.activations in
-    ap (λ (n : FinMap grain_cmp Activation). shown inside.age inside.ages n inside.collector) (insert-again m c.args.grain.now c.in-Some.activation.now (sym c.in-Some.ensures.value)) ∙ c.self.view_is
+    ap (λ (n : FinMap grain_cmp Activation). shown inside.clock inside.age inside.ages n inside.collector) (insert-again m c.args.grain.now c.in-Some.activation.now (sym c.in-Some.ensures.value)) ∙ c.self.view_is

@@ -1,14 +1,11 @@
 use Rattle.std.proofs.Common.{List, None, Some, refl, ap, sym, ◌∙◌, subst}
 use Rattle.std.specs.Prelude.{Err, IsSome, option_and_then}
 use Rattle.std.specs.FinMap as map
-use Rattle.std.proofs.lemmas.Option.{same_Some}
 use Rattle.grain_kinds.specs.Logic.{same}
 use Rattle.silo_event.specs.declared.fault.Fault.TheVariants.{NoMemory}
 use Rattle.silo_event.specs.declared.reply.Reply.{Reply}
 use Rattle.silo_model.specs.Machine.{Entries}
 use Rattle.silo_state.specs.Closings.{ClosesTold}
-use Rattle.silo_state.specs.inside.Notes.{none_waits}
-use Rattle.silo_state.specs.Shown.{entry_of}
 use Rattle.silo_state.proofs.Shows.{turn_shown}
 use Rattle.silo_state.proofs.Steps.{abandon_none, abandon_moves}
 use Rattle.silo_state.proofs.state.SiloState.abandon.Goals as goal
@@ -24,17 +21,14 @@ returns-in_default-opened g c =
     let closed = turn_shown c.self.inside.activations.entries c.args.grain.now c.in-Some.activation.now c.args.turn None (sym c.in-Some.ensures.entry) (sym c.in_default-opened.ensures) in
     (rw (← c.self.view_is) (abandon_none g.L.GrainLogic.logic (record { whole = _; failures = 0 }) c.args.grain.now c.args.turn closed), refl)
 
-pub expect-requires : goal.expect-requires
-expect-requires g c e found = c.none_waits-idle_after.ensures ∙ ap none_waits (same_Some (entry_of c.in-Some.activation.now) e (c.in-Some.ensures.entry ∙ found))
-
 pub close_turn-requires-clause-is_open : goal.close_turn-requires-clause-is_open
 close_turn-requires-clause-is_open g c =
     let there = turn_shown c.self.inside.activations.entries c.args.grain.now c.in-Some.activation.now c.args.turn (Some c.in-Some-opened._open.now) (sym c.in-Some.ensures.entry) (sym c.in-Some-opened.ensures) in
-    subst IsSome (sym (ap (λ (es : Entries). option_and_then (λ e. map.get e.turns c.args.turn) (map.get es c.args.grain.now)) c.expect.ensures.entries ∙ there)) refl
+    subst IsSome (sym there) refl
 
 pub returns : goal.returns
 returns g c =
     let new = c.close_turn.new.activations in
-    let closed = subst (λ (p : Entries × List Reply). ClosesTold p.0 p.1 c.args.grain.now c.args.turn None same c.self.inside.clock (Err NoMemory) new.entries c.close_turn.new.replies.items)
-    (λ i. (c.expect.ensures.entries i, c.in_ok-reserve.ensures.items i)) c.close_turn.ensures.closes in
-    rw (← c.self.view_is) (abandon_moves g.L.GrainLogic.logic _ c.args.grain.now c.args.turn new c.close_turn.new.replies.items (c.close_turn.ensures.ages ∙ c.expect.ensures.ages) closed)
+    let closed = subst (λ (p : Entries × List Reply). ClosesTold p.0 p.1 c.args.grain.now c.args.turn None same c.self.inside.activations.times.clock (Err NoMemory) new.entries c.close_turn.new.replies.items)
+    (λ i. (c.self.inside.activations.entries, c.in_ok-reserve.ensures.items i)) c.close_turn.ensures.closes in
+    rw (← c.self.view_is) (abandon_moves g.L.GrainLogic.logic _ c.args.grain.now c.args.turn new c.close_turn.new.replies.items c.close_turn.ensures.times closed)

@@ -8,4 +8,4 @@ on_any_error (Err e) p = p
 
 pub returns-in_err-wait-clause-unchanged : goal.returns-in_err-wait-clause-unchanged
 returns-in_err-wait-clause-unchanged g c =
-    on_any_error c.from_residual.result (rw (text_insert-again c.self.inside.accounts c.tenant.result.now c.in-Some.account.now (sym c.in-Some.ensures.value), c.in_err-wait.ensures.unchanged, c.wait.ensures.ages) c.self.view_is)
+    on_any_error c.from_residual.result (rw (text_insert-again c.self.inside.accounts c.tenant.result.now c.in-Some.account.now (sym c.in-Some.ensures.value), c.in_err-wait.ensures.unchanged, c.wait.ensures.times) c.self.view_is)

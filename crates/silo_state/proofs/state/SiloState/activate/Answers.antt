@@ -8,6 +8,6 @@ use Rattle.silo_state.proofs.state.SiloState.activate.Goals as goal
 pub returns : goal.returns
 returns g c =
     let b = c.self.inside in
-    let old = held_of b.accounts b.activations b.clock (g.S.GrainStorage.rows b.storage) b.replies.items (g.S.GrainStorage.failed b.storage) in
+    let old = held_of b.accounts b.activations (g.S.GrainStorage.rows b.storage) b.replies.items (g.S.GrainStorage.failed b.storage) in
     subst (λ (h : Held). Moves g.L.GrainLogic.logic h (step.Activate c.args.grain.now) (Ok c.activate.result) (with_activations old c.activate.new.self)) c.self.view_is
-    (activate_moves g.L.GrainLogic.logic old c.args.grain.now c.activate.new.self c.activate.ensures.ages c.activate.result c.activate.ensures.activates)
+    (activate_moves g.L.GrainLogic.logic old c.args.grain.now c.activate.new.self c.activate.ensures.times c.activate.result c.activate.ensures.activates)

@@ -18,7 +18,7 @@ pub returns-in_ok-tell-in-Some : goal.returns-in_ok-tell-in-Some
 returns-in_ok-tell-in-Some g c =
     let logic = g.L.GrainLogic.logic in
     let b = c.self.inside in
-    let shown = λ (accounts : FinMap text_cmp Account). held_of accounts b.activations b.clock (g.S.GrainStorage.rows b.storage) b.replies.items (g.S.GrainStorage.failed b.storage) in
+    let shown = λ (accounts : FinMap text_cmp Account). held_of accounts b.activations (g.S.GrainStorage.rows b.storage) b.replies.items (g.S.GrainStorage.failed b.storage) in
     let h = shown c.look_for.new.self in
     let client = c.in_ok-clone.field-0 in
     subst (λ (old : Held). Moves logic old (step.Call c.args.caller.now c.args.id c.args.grain.now c.args.message.now) (Ok Done) c.tell.new.self) (ap shown c.look_for.ensures ∙ c.self.view_is)
@@ -29,7 +29,7 @@ pub returns-in_ok-accept-in-None : goal.returns-in_ok-accept-in-None
 returns-in_ok-accept-in-None g c =
     let logic = g.L.GrainLogic.logic in
     let b = c.self.inside in
-    let shown = λ (accounts : FinMap text_cmp Account). held_of accounts b.activations b.clock (g.S.GrainStorage.rows b.storage) b.replies.items (g.S.GrainStorage.failed b.storage) in
+    let shown = λ (accounts : FinMap text_cmp Account). held_of accounts b.activations (g.S.GrainStorage.rows b.storage) b.replies.items (g.S.GrainStorage.failed b.storage) in
     let h = shown c.look_for.new.self in
     let client = c.in_ok-clone.field-0 in
     subst (λ (old : Held). Moves logic old (step.Call c.args.caller.now c.args.id c.args.grain.now c.args.message.now) (Ok Done) c.accept.new.self) (ap shown c.look_for.ensures ∙ c.self.view_is)

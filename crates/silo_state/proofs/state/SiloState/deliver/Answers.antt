@@ -36,9 +36,9 @@ returns g c =
     let known = sym (ap option_copied (sym c.in-Some.is) ∙ c.get.ensures ∙ (λ i. map.get (c.self.view_is i).whole.accounts (c.tenant.ensures i))) in
     let rows = g.S.GrainStorage.rows b.storage in
     let failures = g.S.GrainStorage.failed b.storage in
-    let new = held_of c.take_first.new.self b.activations b.clock rows b.replies.items failures in
+    let new = held_of c.take_first.new.self b.activations rows b.replies.items failures in
     let left : new ≡ without_sent c.match-branch-5.self grain =
-    ap (λ accounts. held_of accounts b.activations b.clock rows b.replies.items failures) c.take_first.ensures ∙ ap (λ (x : Held). without_sent x grain) c.self-2.view_is in
+    ap (λ accounts. held_of accounts b.activations rows b.replies.items failures) c.take_first.ensures ∙ ap (λ (x : Held). without_sent x grain) c.self-2.view_is in
     elim c.match-branch-5.branch [
       | in-Some-2 w ↦
           deliver_told logic h c.match-branch-5.self new grain c.in-Some.account.now known (send_of c.in-Some-first_from.sent.now) c.in-Some-first_from.ensures left

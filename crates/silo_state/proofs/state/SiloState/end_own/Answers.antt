@@ -12,17 +12,12 @@ use Rattle.silo_state.specs.inside.Held.{Held}
 use Rattle.silo_state.specs.Sends.{with_more}
 use Rattle.silo_state.specs.Closings.{ClosesTold}
 use Rattle.silo_state.specs.Finds.{IsOwn, asks}
-use Rattle.silo_state.proofs.Ends.{waits_known, end_asks, end_moves}
+use Rattle.silo_state.proofs.Ends.{end_asks, end_moves}
 use Rattle.silo_state.proofs.state.SiloState.end_own.Goals as goal
 
 pub returns-then-asks_storage : goal.returns-then-asks_storage
 returns-then-asks_storage g c =
     (end_asks g.L.GrainLogic.logic c.args.self.now c.args.grain.now c.args.turn c.args.version c.args.idle_after c.args.finished.now c.requires (ap asks (sym c.store_call.ensures) ∙ sym c.if-asks_storage.ensures), refl)
-
-pub expect-requires : goal.expect-requires
-expect-requires g c =
-    let own = subst (λ (h : Held). IsOwn c.args.grain.now (map.get h.whole.entries c.args.grain.now) c.args.turn c.args.version c.args.idle_after c.args.finished.now) (sym c.self.view_is) c.requires in
-    waits_known c.args.grain.now _ c.args.turn c.args.version c.args.idle_after c.args.finished.now own
 
 pub returns : goal.returns
 returns g c =
@@ -37,9 +32,9 @@ returns g c =
     let state = c.in_ok-state.ensures.cases ∙ c.state.ensures in
     let outcome = c.told.ensures ∙ ap outcome_of (c.in_ok-outcome.ensures ∙ c.outcome.ensures) in
     let closed = subst (λ (p : (Entries × List Reply) × (Tree × (Keep × Result Tree Fault))).
-    ClosesTold p.0.0 p.0.1 grain turn (Some (ready p.1.0 version)) p.1.1.0 b.clock p.1.1.1 new.entries c.close_turn.new.replies.items)
-    (λ i. ((c.expect.ensures.entries i, c.in_ok-reserve.ensures.items i), (state i, (c.keep.ensures.same i, outcome i)))) c.close_turn.ensures.closes in
+    ClosesTold p.0.0 p.0.1 grain turn (Some (ready p.1.0 version)) p.1.1.0 b.activations.times.clock p.1.1.1 new.entries c.close_turn.new.replies.items)
+    (λ i. ((b.activations.entries, c.in_ok-reserve.ensures.items i), (state i, (c.keep.ensures.same i, outcome i)))) c.close_turn.ensures.closes in
     let sent = c.in_ok-send_each.ensures.done ∙ (λ i. change_at b.accounts grain.tenant (with_more (map.get b.accounts grain.tenant) (sent_by grain (c.sends.ensures i)))) in
     rw (← c.self.view_is)
     (end_moves g.L.GrainLogic.logic _ grain turn version idle_after input own c.send_each.new.self new c.close_turn.new.replies.items
-    (ap asks (sym c.store_call.ensures) ∙ sym c.if-asks_storage.ensures) (c.close_turn.ensures.ages ∙ c.expect.ensures.ages) closed sent)
+    (ap asks (sym c.store_call.ensures) ∙ sym c.if-asks_storage.ensures) c.close_turn.ensures.times closed sent)

@@ -24,7 +24,7 @@ returns-then-failed g c =
     let found = sym c.in-Some.ensures.entry in
     let told = c.unload.ensures.told e found ∙ ap (λ items. items ++ flat_map (λ q. reply_to q.sender (Err StorageFailed)) e.queue) c.in_ok-reserve.ensures.items in
     rw (← c.self.view_is)
-    (load_marked g.L.GrainLogic.logic _ c.args.grain.now e found (loads e.phase (sym c.if-not-is_loading.ensures)) c.unload.new.activations c.unload.ensures.ages c.unload.new.replies.items c.unload.ensures.gone told c.args.failed c.if-failed.true)
+    (load_marked g.L.GrainLogic.logic _ c.args.grain.now e found (loads e.phase (sym c.if-not-is_loading.ensures)) c.unload.new.activations c.unload.ensures.times c.unload.new.replies.items c.unload.ensures.gone told c.args.failed c.if-failed.true)
 
 pub expect-requires : goal.expect-requires
 expect-requires g c e found = c.none_waits-idle_after.ensures ∙ ap none_waits (same_Some (entry_of c.in-Some.activation.now) e (c.in-Some.ensures.entry ∙ found))
@@ -43,7 +43,7 @@ returns-in-Ok g c =
     let put = c.make_ready.ensures.put e (ap (λ (es : Entries). map.get es grain) same ∙ found) ∙ ap (λ (es : Entries). map.insert es grain (record e { phase = ready c.in-Ok.state c.in-Ok.version; until = 0; resting = false })) same in
     let storage = c.read_state.new.storage in
     rw (← c.self.view_is)
-    (load_moves g.L.GrainLogic.logic _ grain e found (loads e.phase (sym c.if-not-is_loading.ensures)) c.make_ready.new.self (c.make_ready.ensures.ages ∙ c.expect.ensures.ages) c.reserve.new.self.items c.in_ok-reserve.ensures.items
+    (load_moves g.L.GrainLogic.logic _ grain e found (loads e.phase (sym c.if-not-is_loading.ensures)) c.make_ready.new.self (c.make_ready.ensures.times ∙ c.expect.ensures.times) c.reserve.new.self.items c.in_ok-reserve.ensures.items
     c.args.failed c.in-Ok.state c.in-Ok.version (g.S.GrainStorage.rows storage) (g.S.GrainStorage.failed storage) c.if-failed.false put c.in-Ok.ensures.0 c.in-Ok.ensures.1 c.in-Ok.ensures.2 c.in-Ok.ensures.3)
 
 pub returns-in-Err-Failed : goal.returns-in-Err-Failed
@@ -57,5 +57,5 @@ returns-in-Err-Failed g c =
     let left = c.unload-in-Err-Failed.ensures in
     let told = left.told e (ap (λ (es : Entries). map.get es grain) same ∙ found) ∙ ap (λ items. items ++ flat_map (λ q. reply_to q.sender (Err StorageFailed)) e.queue) c.in_ok-reserve.ensures.items in
     rw (← c.self.view_is)
-    (load_failed g.L.GrainLogic.logic _ grain e found (loads e.phase (sym c.if-not-is_loading.ensures)) c.unload-in-Err-Failed.new.activations (left.ages ∙ c.expect.ensures.ages) c.unload-in-Err-Failed.new.replies.items (left.gone ∙ ap (λ (es : Entries). map.remove es grain) same) told
+    (load_failed g.L.GrainLogic.logic _ grain e found (loads e.phase (sym c.if-not-is_loading.ensures)) c.unload-in-Err-Failed.new.activations (left.times ∙ c.expect.ensures.times) c.unload-in-Err-Failed.new.replies.items (left.gone ∙ ap (λ (es : Entries). map.remove es grain) same) told
     c.args.failed (g.S.GrainStorage.rows storage) (g.S.GrainStorage.failed storage) fails.0 fails.1.one_more)

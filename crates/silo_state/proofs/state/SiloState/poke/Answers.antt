@@ -43,7 +43,7 @@ returns g c =
     let grain = c.args.grain.now in
     let same = c.in_ok-clone.ensures.cases in
     let passes = subst (Passes (gated logic c.args.self.now.whole c.in_ok-clone.field-0.tenant grain)) c.in_default.is c.in_ok-why.ensures in
-    let old = held_of b.accounts b.activations b.clock (g.S.GrainStorage.rows b.storage) b.replies.items (g.S.GrainStorage.failed b.storage) in
+    let old = held_of b.accounts b.activations (g.S.GrainStorage.rows b.storage) b.replies.items (g.S.GrainStorage.failed b.storage) in
     subst (λ (h : Held). Moves logic h (step.Poke c.args.failed caller c.args.id grain c.args.state.now) (Ok c.in_ok-answer.answer)
     (record old { whole = record old.whole { rows = g.S.GrainStorage.rows c.overwrite.new.storage; replies = c.push_reserved.new.self.items }; failures = g.S.GrainStorage.failed c.overwrite.new.storage })) c.self.view_is
     (poke_moves logic old caller c.args.id grain c.args.state.now c.args.failed c.in_default.field-0.now ((λ i. gated logic (c.self.view_is i).whole (sym same i).tenant grain) ∙ passes) c.if-failed.false

@@ -24,7 +24,7 @@ returns g c =
           let account = w.in-Some.account.now in
           let known : map.get h.whole.accounts caller.tenant ≡ Some account = (λ i. map.get (sym c.self.view_is i).whole.accounts (sym c.tenant.ensures i)) ∙ sym w.in-Some.ensures in
           let active = w.count-active.ensures.count ∙ (λ i. active_in (c.self.view_is i).whole.entries (w.tenant-in-Some.ensures i)) in
-          let clock = w.get-in-Some.ensures.value ∙ ap (λ (x : Held). x.whole.clock) c.self.view_is in
+          let clock = w.get-in-Some.ensures.value ∙ w.clock.ensures ∙ ap (λ (x : Held). x.whole.clock) c.self.view_is in
           let status = w.in_ok-status_value-in-Some.ensures ∙ (λ i. status_value (active i) (clock i) (w.count-requests.ensures.count i)) in
           told_moves logic h c.tell.new.self (step.Status caller id) (party.Client caller id) (Ok (status_value (active_in h.whole.entries caller.tenant) h.whole.clock account.count)) (status_is logic h.whole caller id account known)
           (c.in_ok-tell.ensures.told

@@ -12,7 +12,6 @@ use Rattle.silo_state.specs.Shown.{entry_of}
 use Rattle.silo_state.specs.Finds.{IsOwnCall, asks}
 use Rattle.silo_state.specs.Closings.{ClosesBy}
 use Rattle.silo_state.specs.inside.Storing.{given, GivesMarked}
-use Rattle.silo_state.proofs.Ends.{waits_known}
 use Rattle.silo_state.proofs.Stores.{store_silent, stored_moves, left}
 use Rattle.silo_state.proofs.state.SiloState.store_own.Goals as goal
 
@@ -20,11 +19,6 @@ pub returns-then-not-asks_storage : goal.returns-then-not-asks_storage
 returns-then-not-asks_storage g c =
     let r = c.requires in
     (store_silent g.L.GrainLogic.logic c.args.self.now c.args.grain.now c.args.turn c.args.version c.args.idle_after r.input r.own c.args.failed (ap asks (sym r.call_is) ∙ sym c.if-not-asks_storage.ensures), refl)
-
-pub expect-requires : goal.expect-requires
-expect-requires g c =
-    let r = subst (λ (h : Held). IsOwnCall g.L.GrainLogic.logic c.args.grain.now (map.get h.whole.entries c.args.grain.now) c.args.turn c.args.version c.args.idle_after c.args.state.now (storage_call c.args.call)) (sym c.self.view_is) c.requires in
-    waits_known c.args.grain.now _ c.args.turn c.args.version c.args.idle_after r.input r.own
 
 pub returns : goal.returns
 returns g c =
@@ -45,9 +39,9 @@ returns g c =
     let after = c.ask-stored.new.storage in
     let new = c.close_by.new.activations in
     let gives = subst (λ (state : Tree). GivesMarked c.args.failed (given logic (rows b.storage) grain state version call) (rows b.storage) (failed b.storage) c.ask-stored.result (rows after) (failed after)) (sym r.state_is) c.ask-stored.ensures in
-    let closes = subst (λ (p : Entries × List Reply). ClosesBy p.0 p.1 grain turn idle_after b.clock last c.args.failed c.ask-stored.result c.close_by.result new.entries c.close_by.new.replies.items)
-    (λ i. (c.expect.ensures.entries i, c.in_ok-reserve.ensures.items i)) c.close_by.ensures.closes in
-    let old = held_of b.accounts b.activations b.clock (rows b.storage) b.replies.items (failed b.storage) in
+    let closes = subst (λ (p : Entries × List Reply). ClosesBy p.0 p.1 grain turn idle_after b.activations.times.clock last c.args.failed c.ask-stored.result c.close_by.result new.entries c.close_by.new.replies.items)
+    (λ i. (b.activations.entries, c.in_ok-reserve.ensures.items i)) c.close_by.ensures.closes in
+    let old = held_of b.accounts b.activations (rows b.storage) b.replies.items (failed b.storage) in
     subst (λ (h : Held). Moves logic h (step.Store grain turn c.args.failed) c.close_by.result (left logic old grain turn version idle_after input own new (rows after) c.close_by.new.replies.items (failed after))) c.self.view_is
-    (stored_moves logic old grain turn version idle_after input own call (sym r.call_is) (sym c.if-not-asks_storage.ensures) new (c.close_by.ensures.ages ∙ c.expect.ensures.ages) last still
+    (stored_moves logic old grain turn version idle_after input own call (sym r.call_is) (sym c.if-not-asks_storage.ensures) new c.close_by.ensures.times last still
     c.args.failed c.ask-stored.result (rows after) (failed after) gives c.close_by.result c.close_by.new.replies.items closes)
