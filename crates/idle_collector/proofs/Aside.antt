@@ -1,7 +1,7 @@
 -- The note of the latest grain, beside the others.
 use Rattle.std.proofs.Common.{◌≡◌, ℕ, Bool, true, false, cond, List, [], ◌∷◌, ◌++◌, Option, Some, None, refl, ap, sym, ◌∙◌, subst, true≢false}
 use Rattle.std.proofs.lemmas.List.{append-nil}
-use Rattle.std.specs.Prelude.{IfSome, ◌||◌, nat_le, not}
+use Rattle.std.specs.Prelude.{IfSome, ◌||◌}
 use Rattle.std.specs.FinMap as map
 use Rattle.finite_maps.proofs.Choices.{cond-apart}
 use Rattle.finite_maps.proofs.Entries.{get-remove_key}
@@ -11,9 +11,9 @@ use Rattle.grain_id.specs.Names.{Grain, grain_eq}
 use Rattle.grain_id.proofs.Order.{grain_cmp_total, grain_cmp_exact, grain_eq_decides}
 use Rattle.idle_collector.specs.declared.latest.Latest.{Latest}
 use Rattle.idle_collector.specs.declared.latest.Latest.TheVariants.{Nobody, Left, Expected, Noted}
-use Rattle.idle_collector.specs.inside.Aside.{is_of, left, left_due, with_latest, expected_of, held_with, IsApart, due_of}
-use Rattle.idle_collector.specs.Notes.{Notes, Collection, noted, forgotten, not_due, HoldsDue}
-use Rattle.idle_collector.proofs.Due.{kept, get-noted, get-not_due, due-behind}
+use Rattle.idle_collector.specs.inside.Aside.{is_of, left, with_latest, expected_of, held_with, IsApart, due_of}
+use Rattle.idle_collector.specs.Notes.{Notes, Collection, noted, forgotten, HoldsDue}
+use Rattle.idle_collector.proofs.Due.{get-noted, due-behind}
 use Rattle.std.specs.List.{IsDistinct}
 
 -- ---- a note that is dropped
@@ -73,43 +73,6 @@ latest-due (Noted id moment) n now held apart holds = due-behind n (id ∷ []) m
     by : (q : Grain) (b : Bool) → grain_eq q id ≡ b → b || false ≡ true → map.get n q ≡ None
     by q true same here = ap (map.get n) ((grain_eq_decides q id).0 same) ∙ apart
     by q false same here = absurd (true≢false (sym here))
-
--- those that are due go
-pub apart-left : (latest : Latest) (n : Notes) (now : ℕ) → IsApart latest n → IsApart (left_due now latest) (not_due n now)
-apart-left Nobody n now apart = tt
-apart-left (Left id) n now apart = tt
-apart-left (Expected id) n now apart = tt
-apart-left (Noted id moment) n now apart = by (nat_le moment now)
-  where
-    by : (b : Bool) → IsApart (cond b (Left id) (Noted id moment)) (not_due n now)
-    by true = tt
-    by false = get-not_due n now id ∙ ap (kept now) apart
-
-pub due-left : (latest : Latest) (n : Notes) (now : ℕ) → IsApart latest n
-    → held_with (left_due now latest) (not_due n now) ≡ record { notes = not_due (with_latest latest n) now; expected = expected_of latest }
-due-left Nobody n now apart = refl
-due-left (Left id) n now apart = refl
-due-left (Expected id) n now apart = refl
-due-left (Noted id moment) n now apart = by (nat_le moment now) refl
-  where
-    after : (q : Grain) → map.get (not_due (noted n id moment) now) q ≡ kept now (cond (grain_eq id q) (Some moment) (map.get n q))
-    after q = get-not_due (noted n id moment) now q ∙ ap (kept now) (get-noted n id moment q)
-
-    gone : (q : Grain) (b : Bool) → grain_eq id q ≡ b → nat_le moment now ≡ true → kept now (map.get n q) ≡ kept now (cond b (Some moment) (map.get n q))
-    gone q true same t = ap (λ id. kept now (map.get n id)) (sym ((grain_eq_decides id q).0 same)) ∙ ap (kept now) apart ∙ sym (ap (λ b. cond (not b) (Some moment) None) t)
-    gone q false same t = refl
-
-    stays : (b : Bool) (o : Option ℕ) → nat_le moment now ≡ false → cond b (Some moment) (kept now o) ≡ kept now (cond b (Some moment) o)
-    stays true o f = sym (ap (λ b. cond (not b) (Some moment) None) f)
-    stays false o f = refl
-
-    by : (b : Bool) → nat_le moment now ≡ b
-        → held_with (cond b (Left id) (Noted id moment)) (not_due n now) ≡ record { notes = not_due (noted n id moment) now; expected = None }
-    by true t = ap (held_with Nobody) (maps.alike grain_cmp_total grain_cmp_exact _ _ (λ q.
-        get-not_due n now q ∙ gone q (grain_eq id q) refl t ∙ sym (after q)))
-    by false f = ap (held_with Nobody) (maps.alike grain_cmp_total grain_cmp_exact _ _ (λ q.
-        get-noted (not_due n now) id moment q ∙ ap (cond (grain_eq id q) (Some moment)) (get-not_due n now q)
-        ∙ stays (grain_eq id q) (map.get n q) f ∙ sym (after q)))
 
 -- ---- a grain that is expected, and whose note was dropped
 

@@ -3,7 +3,7 @@ use Rattle.std.proofs.Common.{◌≡◌, ℕ, Bool, true, false, ◌||◌, cond,
 use Rattle.std.proofs.lemmas.List.Folds.{list_any-append}
 use Rattle.std.proofs.lemmas.List.Sorted.{IsPermutation-append_comm, list_any-IsPermutation}
 use Rattle.std.proofs.lemmas.Map.Keys.{IsDistinct-IsPermutation}
-use Rattle.std.specs.Prelude.{nat_le, not}
+use Rattle.std.specs.Prelude.{nat_le}
 use Rattle.std.specs.Ordering.{eq_by_cmp}
 use Rattle.std.specs.List.{list_any, IsDistinct}
 use Rattle.std.specs.List.Sorted.{IsSorted, IsPermutation}
@@ -18,7 +18,7 @@ use Rattle.finite_maps.proofs.Sorted.{ascending_from_sorted}
 use Rattle.grain_id.specs.Names.{Grain, grain_cmp, grain_eq}
 use Rattle.grain_id.proofs.Keys.{grains}
 use Rattle.grain_id.proofs.Order.{grain_cmp_total, grain_cmp_exact, grain_ties}
-use Rattle.idle_collector.specs.Notes.{Notes, noted, is_due, due, not_due, HoldsDue}
+use Rattle.idle_collector.specs.Notes.{Notes, noted, is_due, due, HoldsDue}
 use Rattle.idle_collector.specs.inside.Sets.{all_noted}
 
 -- a grain stands among the due ones exactly if it's due
@@ -49,19 +49,6 @@ holds-due notes now held gs holds permuted sorted =
     sym (keys-set_of grains gs (ascending_from_sorted grains gs all.once sorted))
     ∙ ap map.keys (set_of-alike grains gs (due notes now) (λ q. all.each q ∙ sym (due-there notes now q) ∙ (λ i. list_any (λ g. sym (grain_ties q g) i) (due notes now))))
     ∙ keys-set_of grains (due notes now) (keys_ascend grain_cmp _)
-
--- ---- the notes of those that aren't due
-
--- what is left of a note
-abbrev pub kept : ℕ → Option ℕ → Option ℕ
-kept now o = cond (not (is_due now o)) o None
-
-pub get-not_due : (n : Notes) (now : ℕ) (q : Grain) → map.get (not_due n now) q ≡ kept now (map.get n q)
-get-not_due n now q = maps.get-part grain_cmp_total grain_cmp_exact n (λ grain. not (is_due now (map.get n grain))) q
-
--- all of them where none is
-pub none-due : (n : Notes) (now : ℕ) → ((q : Grain) → is_due now (map.get n q) ≡ false) → not_due n now ≡ n
-none-due n now none = maps.alike grain_cmp_total grain_cmp_exact _ _ (λ q. get-not_due n now q ∙ ap (λ b. cond (not b) (map.get n q) None) (none q))
 
 -- ---- grains that are due from one moment on, beside other notes
 

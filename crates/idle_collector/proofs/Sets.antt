@@ -20,9 +20,9 @@ use Rattle.finite_maps.proofs.Maps as maps
 use Rattle.grain_id.proofs.Keys.{grains}
 use Rattle.grain_id.specs.Names.{Grain, grain_cmp, grain_eq}
 use Rattle.grain_id.proofs.Order.{grain_cmp_total, grain_cmp_exact, grain_eq_decides}
-use Rattle.idle_collector.specs.Notes.{Notes, noted, forgotten, is_due, not_due, HoldsDue}
+use Rattle.idle_collector.specs.Notes.{Notes, noted, forgotten, is_due, HoldsDue}
 use Rattle.idle_collector.specs.inside.Sets.{notes_of, has, is_at, AreApart, LeavesNotes, first_due}
-use Rattle.idle_collector.proofs.Due.{kept, get-noted, get-all, get-not_due, due-all, none-due}
+use Rattle.idle_collector.proofs.Due.{get-noted, get-all, due-all}
 
 -- ---- moments
 
@@ -302,16 +302,6 @@ module _ {S : Type 0} where
         by None is = refl
         by (Some m) is = absurd (true≢false (sym here ∙ (rest_alone m q (found_at es sets.ordered.1 m q is)).0))
 
-    -- if it is due, the same is left
-    first_goes : (now : ℕ) → nat_le e.0 now ≡ true → not_due (notes_of (e ∷ es)) now ≡ not_due (notes_of es) now
-    first_goes now t = maps.alike grain_cmp_total grain_cmp_exact _ _ (λ q.
-        get-not_due (notes_of (e ∷ es)) now q ∙ ap (kept now) (get-notes (e ∷ es) q) ∙ by q (list_any (grain_eq q) e.1.keys) refl
-        ∙ sym (get-not_due (notes_of es) now q ∙ ap (kept now) (get-notes es q)))
-      where
-        by : (q : Grain) (b : Bool) → list_any (grain_eq q) e.1.keys ≡ b → kept now (cond b (Some e.0) (moment_in es q)) ≡ kept now (moment_in es q)
-        by q true here = ap (λ b. cond (not b) (Some e.0) None) t ∙ sym (ap (kept now) (none_behind q here))
-        by q false here = refl
-
   -- nothing is due that is later
   later : (now : ℕ) (es : List (ℕ × IndexSet Grain S)) → AllByRecursion (λ k. now < k) (keys_of es) → (q : Grain) → is_due now (moment_in es q) ≡ false
   later now [] after q = refl
@@ -350,28 +340,3 @@ module _ {S : Type 0} where
   -- it ends where one is later
   pub first_due-stops : (now : ℕ) (e : ℕ × IndexSet Grain S) (es : List (ℕ × IndexSet Grain S)) → now < e.0 → first_due now (e ∷ es) ≡ []
   first_due-stops now e es h = ap (λ b. cond b (e.1.keys ++ first_due now es) []) (lt-leb e.0 now h)
-
-  -- ---- the sets that are due go
-
-  -- the first
-  pub first_let_go : (old new : BTreeMap ℕ (IndexSet Grain S)) (first : Option (ℕ × IndexSet Grain S)) (m now : ℕ) (set : IndexSet Grain S) → AreApart old → IsSome first
-      → IfSome first (λ e. old.entries ≡ e ∷ new.entries) → slice_get old.entries 0 ≡ Some (m, set) → m ≤ now
-      → AreApart new × (not_due (notes_of new.entries) now ≡ not_due (notes_of old.entries) now)
-  first_let_go old new None m now set apart some same is come = absurd cc
-  first_let_go old new (Some e) m now set apart some same is come =
-      let sets = subst AreSets same (of_apart old apart) in
-      let rest = rest_sets e new.entries sets in
-      let own : e ≡ (m, set) = same_Some e (m, set) (sym (ap (λ es. slice_get es 0) same) ∙ is) in (
-        record { ordered = rest.ordered; once = rest.once; alone = λ k q there. get-notes new.entries q ∙ rest.alone k q there },
-        sym (ap (λ es. not_due (notes_of es) now) same ∙ first_goes e new.entries sets now (ap (λ (f : ℕ × IndexSet Grain S). nat_le f.0 now) own ∙ le-leb m now come)),
-      )
-
-  -- none more, where the first is later, if there is one
-  pub none_let_go : (es : List (ℕ × IndexSet Grain S)) (now : ℕ) → IsStrictlySortedBy nat_cmp (keys_of es) → IfSome (slice_get es 0) (λ e. now < e.0)
-      → notes_of es ≡ not_due (notes_of es) now
-  none_let_go [] now ordered first = sym (none-due map.empty now (λ q. ap (is_due now) (map.get-empty grain_cmp q)))
-  none_let_go (e ∷ es) now ordered first = sym (none-due (notes_of (e ∷ es)) now (none_now now e es ordered first))
-
-  pub none_first : (P : ℕ × IndexSet Grain S → Type 0) (es : List (ℕ × IndexSet Grain S)) → (0 < length es → false ≡ true) → IfSome (slice_get es 0) P
-  none_first P [] none = tt
-  none_first P (e ∷ es) none = absurd (true≢false (sym (none (omega arith))))

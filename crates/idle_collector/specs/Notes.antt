@@ -1,5 +1,5 @@
 -- The moments from which grains are due to go, and which of them are due.
-use Rattle.std.specs.Prelude.{◌≡◌, ℕ, Bool, false, not, nat_le, List, Option, Some, None, refl}
+use Rattle.std.specs.Prelude.{◌≡◌, ℕ, Bool, false, nat_le, List, Option, Some, None, refl}
 use Rattle.std.specs.Coded.{Coded, code_by, coded×, coded_ℕ, coded_option}
 use Rattle.std.specs.FinMap as map
 use Rattle.std.specs.FinMap.{FinMap}
@@ -44,10 +44,6 @@ is_due now (Some moment) = nat_le moment now
 -- the grains that are due, ascending
 abbrev pub due : Notes → ℕ → List Grain
 due notes now = map.keys (map.retain_keys notes (λ grain. is_due now (map.get notes grain)))
-
--- the notes of those that aren't
-abbrev pub not_due : Notes → ℕ → Notes
-not_due notes now = map.retain_keys notes (λ grain. not (is_due now (map.get notes grain)))
 
 -- Each grain that is due stands in the list once, and no other grain does.
 pub record HoldsDue (notes : Notes) (now : ℕ) (grains : List Grain) : Type 0 where

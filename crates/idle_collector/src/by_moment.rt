@@ -2,7 +2,7 @@
 
 ghost use Rattle.std.specs.Prelude.{◌≡◌, [], ◌++◌, None, OnOk, OnErr, IfOk, IfSome};
 ghost use Rattle.std.specs.FinMap as map;
-ghost use Rattle.idle_collector.specs.Notes.{noted, forgotten, not_due, HoldsDue};
+ghost use Rattle.idle_collector.specs.Notes.{noted, forgotten, HoldsDue};
 ghost use Rattle.idle_collector.specs.inside.Sets.{notes_of, AreApart, LeavesNotes};
 
 use grain_id::{GrainId, HashSeed};
@@ -112,27 +112,6 @@ impl ByMoment {
             add_all(grains.as_slice(), &mut due)?;
         }
         Ok(due)
-    }
-
-    /// Drops the notes of the grains that are due. Takes no memory. Looks at these, and at two moments more at most.
-    pub fn forget_due(&mut self, now: u64)
-        ensures { self.new ≡ not_due self.old now }
-    {
-        let_due_go(&mut self.sets, now);
-    }
-}
-
-/// Lets the sets of the moments that have come go.
-fn let_due_go(sets: &mut BTreeMap<u64, IndexSet<GrainId, HashSeed>>, now: u64)
-    requires { AreApart sets.old }
-    ensures apart { AreApart sets.new }
-    ensures notes { notes_of sets.new.entries ≡ not_due (notes_of sets.old.entries) now }
-{
-    while let Some((moment, _)) = sets.first_key_value() {
-        if now < *moment {
-            return;
-        }
-        drop(sets.pop_first());
     }
 }
 

@@ -1,8 +1,8 @@
 //! The moments from which grains are due.
 
-ghost use Rattle.std.specs.Prelude.{◌≡◌, OnOk, OnErr, IfOk, IfSome, None, Some, true, false};
+ghost use Rattle.std.specs.Prelude.{◌≡◌, OnOk, OnErr, IfOk, IfSome, None, Some};
 ghost use Rattle.std.specs.FinMap as map;
-ghost use Rattle.idle_collector.specs.Notes.{noted, noted_if, forgotten, due, not_due, HoldsDue};
+ghost use Rattle.idle_collector.specs.Notes.{noted, noted_if, forgotten, due, HoldsDue};
 
 use crate::by_moment::ByMoment;
 use crate::latest::{self, Latest};
@@ -11,8 +11,8 @@ use std::alloc::{AllocError, Global};
 use std::marker::Model;
 use std::mem::replace;
 
-/// The grains that are idle, and the moment from which each of them is due. The note that came last is held aside; the others
-/// are filed by their moments. A grain that may be idle soon is expected: there is room for its note.
+/// The moment of each grain that is noted. The note that came last is held aside; the others are filed by their moments. A grain
+/// that is to be noted is expected: there is room for its note.
 #[derive(Drop)]
 pub struct Collector {
     latest: Latest,
@@ -111,18 +111,6 @@ impl Collector {
         self.filed.forget(id, noted_at);
     }
 
-    /// Drops the note of a grain if it is the one that came last: whether it is. Takes no memory, and compares two names.
-    pub fn forget_latest(&mut self, id: &GrainId) -> bool
-        ensures forgotten { result ≡ true → self.new ≡ record self.old { notes = forgotten self.old.notes id.now } }
-        ensures unchanged { result ≡ false → self.new ≡ self.old }
-    {
-        if latest::is_of(&self.latest, id) {
-            latest::leave(&mut self.latest);
-            return true;
-        }
-        false
-    }
-
     /// Drops the note of a grain, if there is one: it is of this moment. Takes no memory.
     pub fn forget_at(&mut self, id: &GrainId, moment: u64)
         requires { IfSome (map.get self.old.notes id.now) (λ noted. noted ≡ moment) }
@@ -146,23 +134,6 @@ impl Collector {
     {
         let mut grains = self.all_due(alloc, now)?;
         grains.sort_unstable();
-        Ok(grains)
-    }
-
-    /// Takes out the grains whose moment is `now` or earlier: each of them once, in an order that isn't told. Their notes are
-    /// dropped. Looks at the grains that are due, and at two more.
-    ///
-    /// # Errors
-    ///
-    /// Out of memory: nothing changed.
-    pub fn take_due(&mut self, alloc: Global, now: u64) -> Result<Vec<GrainId>, AllocError>
-        ensures due { IfOk result (λ grains. HoldsDue self.old.notes now grains.items) }
-        ensures taken { OnOk result (self.new ≡ record self.old { notes = not_due self.old.notes now }) }
-        ensures unchanged { OnErr result (self.new ≡ self.old) }
-    {
-        let grains = self.all_due(alloc, now)?;
-        self.filed.forget_due(now);
-        latest::leave_due(&mut self.latest, now);
         Ok(grains)
     }
 

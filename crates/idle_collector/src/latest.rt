@@ -1,7 +1,7 @@
 //! The grain that came last, which is held aside from the others.
 
 ghost use Rattle.std.specs.Prelude.{◌≡◌, ◌++◌, OnOk, OnErr};
-ghost use Rattle.idle_collector.specs.inside.Aside.{is_of, is_free, left, left_due, called, with_latest, due_of, IsApart};
+ghost use Rattle.idle_collector.specs.inside.Aside.{is_of, is_free, left, called, with_latest, due_of, IsApart};
 
 use crate::by_moment::ByMoment;
 use grain_id::GrainId;
@@ -52,17 +52,6 @@ pub fn leave(latest: &mut Latest)
     match replace(latest, Latest::Nobody) {
         Latest::Noted(id, _) => *latest = Latest::Left(id),
         other => *latest = other,
-    }
-}
-
-/// Drops the note of the latest grain, if it is noted and due: its name is left.
-pub fn leave_due(latest: &mut Latest, now: u64)
-    ensures { latest.new ≡ left_due now latest.old }
-{
-    if let Latest::Noted(_, moment) = latest {
-        if *moment <= now {
-            leave(latest);
-        }
     }
 }
 

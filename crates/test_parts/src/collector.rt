@@ -13,12 +13,8 @@ enum Call {
     /// A grain is due from that moment on.
     Note(&'static str, u64),
     Forget(&'static str),
-    /// The same, if it is the note that came last: whether it is.
-    ForgetLatest(&'static str, bool),
     /// The grains that are due at a moment, each with a space behind it.
     Due(u64, &'static str),
-    /// The same, and they are taken out.
-    Take(u64, &'static str),
 }
 
 /// The texts of grains, each with a space behind it.
@@ -35,21 +31,11 @@ fn due(alloc: Global, collector: &Collector, now: u64) -> Result<String, Fail> {
     texts(alloc, &collector.due(alloc, now)?)
 }
 
-fn taken(alloc: Global, collector: &mut Collector, now: u64) -> Result<String, Fail> {
-    let mut grains = collector.take_due(alloc, now)?;
-    grains.sort_unstable();
-    texts(alloc, grains.as_slice())
-}
-
 fn make(alloc: Global, collector: &mut Collector, call: Call) -> Result<(), Fail> {
     match call {
         Call::Note(text, moment) => Ok(collector.note(grain(alloc, text)?, moment)?),
         Call::Forget(text) => Ok(collector.forget(&grain(alloc, text)?)),
-        Call::ForgetLatest(text, wanted) => {
-            same(collector.forget_latest(&grain(alloc, text)?), wanted)
-        }
         Call::Due(now, wanted) => same(due(alloc, collector, now)?.as_str(), wanted),
-        Call::Take(now, wanted) => same(taken(alloc, collector, now)?.as_str(), wanted),
     }
 }
 
@@ -105,7 +91,7 @@ static ONE_MOMENT: [Call; 11] = [
 ];
 
 /// Notes of two moments in turn, as where two kinds have an age of their own.
-static IN_TURN: [Call; 13] = [
+static IN_TURN: [Call; 12] = [
     Call::Note("counter/red:a", 7),
     Call::Note("sheet/red:a", 9),
     Call::Note("counter/red:b", 7),
@@ -113,9 +99,8 @@ static IN_TURN: [Call; 13] = [
     Call::Due(6, ""),
     Call::Due(7, "counter/red:a counter/red:b "),
     Call::Due(9, "counter/red:a counter/red:b sheet/red:a sheet/red:b "),
-    Call::ForgetLatest("sheet/red:a", false),
-    Call::ForgetLatest("sheet/red:b", true),
-    Call::ForgetLatest("sheet/red:b", false),
+    Call::Forget("sheet/red:b"),
+    Call::Forget("sheet/red:b"),
     Call::Forget("counter/red:a"),
     Call::Note("counter/red:b", 9),
     Call::Due(9, "counter/red:b sheet/red:a "),
@@ -124,7 +109,7 @@ static IN_TURN: [Call; 13] = [
 /// A grain whose note was dropped is noted again, at the same moment and at another one.
 static NOTED_AGAIN: [Call; 9] = [
     Call::Note("counter/red:a", 7),
-    Call::ForgetLatest("counter/red:a", true),
+    Call::Forget("counter/red:a"),
     Call::Due(9, ""),
     Call::Note("counter/red:a", 7),
     Call::Note("counter/red:b", 7),
@@ -133,28 +118,6 @@ static NOTED_AGAIN: [Call; 9] = [
     Call::Due(8, "counter/red:b "),
     Call::Due(9, "counter/red:a counter/red:b "),
 ];
-
-/// Grains that are due are taken out, the one that came last too; the others stay.
-static TAKEN: [Call; 13] = [
-    Call::Note("counter/red:c", 7),
-    Call::Note("sheet/red:a", 9),
-    Call::Note("counter/red:a", 7),
-    Call::Note("counter/red:b", 8),
-    Call::Take(6, ""),
-    Call::Take(8, "counter/red:a counter/red:b counter/red:c "),
-    Call::Take(8, ""),
-    Call::Due(9, "sheet/red:a "),
-    Call::Note("counter/red:a", 7),
-    Call::Note("counter/red:b", 10),
-    Call::Take(9, "counter/red:a sheet/red:a "),
-    Call::ForgetLatest("counter/red:b", true),
-    Call::Due(11, ""),
-];
-
-#[test]
-fn due_grains_are_taken_out(rt: HostRuntime) -> Result<(), Fail> {
-    run(rt.alloc(), &TAKEN)
-}
 
 #[test]
 fn notes_of_two_moments_in_turn(rt: HostRuntime) -> Result<(), Fail> {

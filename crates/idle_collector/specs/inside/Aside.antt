@@ -27,13 +27,6 @@ left (Left id) = Left id
 left (Expected id) = Expected id
 left (Noted id moment) = Left id
 
--- the same, if it is due
-abbrev pub left_due : ℕ → Latest → Latest
-left_due now Nobody = Nobody
-left_due now (Left id) = Left id
-left_due now (Expected id) = Expected id
-left_due now (Noted id moment) = if nat_le moment now then Left id else Noted id moment
-
 -- the latest grain is expected, if it isn't noted
 abbrev pub called : Latest → Latest
 called Nobody = Nobody
