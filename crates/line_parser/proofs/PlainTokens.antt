@@ -1,13 +1,14 @@
 -- The tokens of a text whose first lexeme is known.
-use Rattle.std.proofs.Common.{◌≡◌, ℕ, Bool, true, false, cond, ◌||◌, ◌==◌, List, [], ◌∷◌, ◌++◌, length, drop, Option, Some, None, refl, sym, ap, ◌∙◌, subst, ⊎_elim, arith}
+use Rattle.std.proofs.Common.{◌≡◌, ◌≢◌, ◌<◌, ℕ, Bool, true, false, cond, ◌||◌, ◌==◌, List, [], ◌∷◌, ◌++◌, length, drop, Option, Some, None, refl, sym, ap, ◌∙◌, subst, ⊎_elim, arith}
 use Rattle.std.specs.Char.{is_ascii_digit}
-use Rattle.std.proofs.lemmas.Bool.{or_cases, eqb-true}
+use Rattle.std.proofs.lemmas.Bool.{or_cases, eqb-true, ne_eqb}
+use Rattle.std.proofs.lemmas.Bool.Decides.{nat_tests}
 use Rattle.json.specs.Token.{Token, begin_object, end_object, begin_array, end_array, key, string, number, boolean, null, bad}
 use Rattle.json.specs.Text.{content, plain}
-use Rattle.json.specs.Word.{head, ends_word, after_number, number_before, word}
-use Rattle.json.specs.Lex.{Lexeme, token, string_token, between, in_word, lex_byte, lex, Place, fresh, after_comma, begins_colon, place_token, punctuate, tokens}
+use Rattle.json.specs.Word.{is_operator, is_space, head, ends_word, after_number, number_before, word}
+use Rattle.json.specs.Lex.{Lexeme, token, comma, colon, Class, space, other, class, operator_lexeme, string_token, Mode, between, in_word, in_string, lex_byte, lex, Place, fresh, after_comma, begins_colon, place_token, punctuate, tokens}
 use Rattle.json.specs.Json.{after_end_array}
-use Rattle.line_parser.specs.inside.LineMembers.{name_text}
+use Rattle.line_parser.specs.inside.LineMembers.{begins_object, name_text}
 use Rattle.line_parser.specs.declared.line_members.Name.{Name}
 use Rattle.line_parser.specs.declared.line_members.Name.TheVariants.{Op, From, Grain, Method, Id, Turn, Now, Failed, Args, State}
 use Rattle.line_parser.specs.inside.Plain.{name_spelling, word_spelling, is_opener, PassesValue}
@@ -30,19 +31,21 @@ Opens (boolean b) = Unit {0}
 Opens null = Unit {0}
 Opens bad = Unit {0}
 
-either : (b : Bool) (x y : Token) → Opens x → Opens y → Opens (cond b x y)
-either true x y p q = p
-either false x y p q = q
+either : {A : Type 0} (P : A → Type 0) (b : Bool) (x y : A) → P x → P y → P (cond b x y)
+either P true x y p q = p
+either P false x y p q = q
 
-number_opens : (t : List ℕ) (o : Option (List ℕ)) → Opens (number_before t o)
-number_opens t None = tt
-number_opens t (Some r) = either (ends_word r) _ bad tt tt
+-- what holds of each token that is no bracket and no text holds of a word's
+module _ (P : Token → Type 0) (of_number : (s : List ℕ) → P (number s)) (of_truth : (b : Bool) → P (boolean b)) (of_null : P null) (of_bad : P bad) where
+  of_number_before : (t : List ℕ) (o : Option (List ℕ)) → P (number_before t o)
+  of_number_before t None = of_bad
+  of_number_before t (Some r) = either P (ends_word r) _ bad (of_number _) of_bad
 
-word_opens : (t : List ℕ) → Opens (word t)
-unfolding word
-word_opens t =
-    either (head t == 116) _ _ (either _ (boolean true) bad tt tt) (either (head t == 102) _ _ (either _ (boolean false) bad tt tt)
-    (either (head t == 110) _ _ (either _ null bad tt tt) (number_opens t (after_number t))))
+  of_word : (t : List ℕ) → P (word t)
+  unfolding word
+  of_word t =
+      either P (head t == 116) _ _ (either P _ (boolean true) bad (of_truth true) of_bad) (either P (head t == 102) _ _ (either P _ (boolean false) bad (of_truth false) of_bad)
+      (either P (head t == 110) _ _ (either P _ null bad of_null of_bad) (of_number_before t (after_number t))))
 
 text_opens : (o : Option (List ℕ)) → Opens (string_token o)
 text_opens None = tt
@@ -72,7 +75,7 @@ opens_list xs = record { first = begin_array; more = _; lexed = refl; opening = 
 
 opens_digit : (x : ℕ) (xs : List ℕ) → is_ascii_digit x ≡ true → OpensWith (x ∷ xs)
 unfolding lex
-opens_digit x xs e = record { first = word (x ∷ xs); more = lex in_word xs; lexed = ap (λ c. lex_byte between c x xs (λ m. lex m xs)) (digit_class x e); opening = word_opens (x ∷ xs) }
+opens_digit x xs e = record { first = word (x ∷ xs); more = lex in_word xs; lexed = ap (λ c. lex_byte between c x xs (λ m. lex m xs)) (digit_class x e); opening = of_word Opens (λ t. tt) (λ b. tt) tt tt (x ∷ xs) }
 
 pub opens_with : (x : ℕ) (xs : List ℕ) → is_opener x ≡ true → OpensWith (x ∷ xs)
 opens_with x xs e =
@@ -119,6 +122,67 @@ opening_goes_on bad ls o = refl
 pub goes_on : (d : List ℕ) → is_opener (head d) ≡ true → after_end_array (tokens d) ≡ None
 goes_on [] e = absurd (cc)
 goes_on (x ∷ xs) e = let o = opens_with x xs e in ap (λ ls. after_end_array (punctuate fresh ls)) o.lexed ∙ opening_goes_on o.first o.more o.opening
+
+-- ---- a text that begins no map
+
+abbrev NoMap : Token → Type 0
+NoMap begin_object = ⊥
+NoMap end_object = Unit {0}
+NoMap begin_array = Unit {0}
+NoMap end_array = Unit {0}
+NoMap (key s) = Unit {0}
+NoMap (string s) = Unit {0}
+NoMap (number s) = Unit {0}
+NoMap (boolean b) = Unit {0}
+NoMap null = Unit {0}
+NoMap bad = Unit {0}
+
+-- the lexeme is no map's, before others
+abbrev IsNoMap : List Lexeme → Type 0
+IsNoMap ls = begins_object (punctuate fresh ls) ≡ false
+
+text_no_map : (s : List ℕ) (b : Bool) (k : Place → List Token) → begins_object (place_token fresh (string s) b k) ≡ false
+text_no_map s true k = refl
+text_no_map s false k = refl
+
+token_no_map : (t : Token) (ls : List Lexeme) → NoMap t → IsNoMap (token t ∷ ls)
+unfolding punctuate
+token_no_map begin_object ls n = absurd n
+token_no_map end_object ls n = refl
+token_no_map begin_array ls n = refl
+token_no_map end_array ls n = refl
+token_no_map (key s) ls n = refl
+token_no_map (string s) ls n = text_no_map s (begins_colon ls) (λ p. punctuate p ls)
+token_no_map (number s) ls n = refl
+token_no_map (boolean b) ls n = refl
+token_no_map null ls n = refl
+token_no_map bad ls n = refl
+
+string_no_map : (o : Option (List ℕ)) → NoMap (string_token o)
+string_no_map None = tt
+string_no_map (Some s) = tt
+
+operator_no_map : (x : ℕ) (ls : List Lexeme) → (x == 123) ≡ false → IsNoMap (operator_lexeme x ∷ ls)
+unfolding punctuate
+operator_no_map x ls e =
+    let P : Lexeme → Type 0 = λ l. IsNoMap (l ∷ ls) in
+    rw e (either P (x == 125) _ _ refl (either P (x == 91) _ _ refl (either P (x == 93) _ _ refl (either P (x == 44) comma colon refl refl))))
+
+no_space : (x : ℕ) → 32 < x → is_space x ≡ false
+no_space x h = grind (arith, nat_tests)
+
+byte_no_map : (x : ℕ) (xs : List ℕ) (k : Mode → List Lexeme) → 32 < x → (x == 123) ≡ false → IsNoMap (lex_byte between (class x) x xs k)
+unfolding punctuate
+byte_no_map x xs k h e =
+    let P : Class → Type 0 = λ c. IsNoMap (lex_byte between c x xs k) in
+    let word : P other = token_no_map (word (x ∷ xs)) (k in_word) (of_word NoMap (λ t. tt) (λ b. tt) tt tt (x ∷ xs)) in
+    either P (x == 34) _ _ (token_no_map (string_token (content plain xs)) (k in_string) (string_no_map (content plain xs)))
+    (either P (x == 92) _ _ refl (either P (is_operator x) _ _ (operator_no_map x (k between) e) (subst (λ b. P (cond b space other)) (sym (no_space x h)) word)))
+
+pub no_map : (d : List ℕ) → 32 < head d → head d ≢ 123 → begins_object (tokens d) ≡ false
+unfolding lex
+no_map [] h n = absurd (omega (arith, h))
+no_map (x ∷ xs) h n = byte_no_map x xs (λ m. lex m xs) h (ne_eqb x 123 n)
 
 -- ---- what may follow a value
 

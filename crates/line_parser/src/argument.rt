@@ -99,6 +99,7 @@ fn put_hex(out: &mut Vec<u8>, limit: usize, digits: &str) -> Result<(), QuickFau
 
 /// Puts the value that the tokens begin with, and notes its faults.
 #[cycle(argument)]
+#[inline(always)]
 pub(crate) fn put_value(
     out: &mut Vec<u8>,
     limit: usize,
@@ -112,6 +113,10 @@ pub(crate) fn put_value(
     ensures within { OnOk result (length out.new.items ≤ limit) }
 {
     note_depth(faults, depth);
+    if let Some(n) = reader.take_natural() {
+        put_start(out, limit, Start::Int(n as i64))?;
+        return Ok(());
+    }
     let token = reader.next()?;
     match token {
         Token::Null => put_start(out, limit, Start::Null)?,

@@ -14,7 +14,7 @@ ghost use Rattle.line_parser.specs.declared.line_members.Name.TheVariants as nam
 use crate::argument::put_value;
 use crate::faults::Faults;
 use crate::number::whole_number;
-use crate::plain::map_start;
+use crate::plain::{begins_no_map, map_start};
 use crate::plain_members::{ends_line, past_plain_members};
 use crate::quick_fault::QuickFault;
 use crate::slots::{put_failed, put_natural, put_text};
@@ -310,6 +310,9 @@ fn read_any_members<'a>(
     ensures { IfOk result (λ all. MatchBool all (HasLineMembers (tokens text.now) members.new bytes.new.items)
         (asked_by (tokens text.now) ≡ None)) }
 {
+    if begins_no_map(text) {
+        return Ok(false);
+    }
     let mut reader = Tokens::new(text, scratch);
     let begins = reader.take_begin_map()?;
     if !begins {

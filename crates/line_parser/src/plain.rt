@@ -1,6 +1,6 @@
 //! Tokens that are spelled plainly, read straight from the text: texts with no escape, digits, brackets.
 
-ghost use Rattle.std.specs.Prelude.{◌≡◌, ◌≢◌, ◌+◌, ◌<◌, ◌≤◌, ◌∷◌, length, take, drop, get_or, slice_index, IsTrue, IfSome, None};
+ghost use Rattle.std.specs.Prelude.{◌≡◌, ◌≢◌, ◌+◌, ◌<◌, ◌≤◌, ◌∷◌, length, take, drop, get_or, slice_index, IsTrue, IfSome, None, false};
 ghost use Rattle.std.specs.List.{prefix_len};
 ghost use Rattle.std.specs.Char.{is_ascii_digit};
 ghost use Rattle.json.specs.Token.{string, number, null, key, begin_object, end_object, end_array};
@@ -10,7 +10,7 @@ ghost use Rattle.json.specs.Json.{after_end_array};
 ghost use Rattle.json.specs.Run.{is_plain};
 ghost use Rattle.json.specs.Reads.{token_of};
 ghost use Rattle.request_codec.specs.Json.{hex_name};
-ghost use Rattle.line_parser.specs.inside.LineMembers.{name_text, IsNatural};
+ghost use Rattle.line_parser.specs.inside.LineMembers.{begins_object, name_text, IsNatural};
 ghost use Rattle.line_parser.specs.inside.Plain.{name_spelling, word_spelling, is_opener, is_number_end, PassesValue, CutsNatural};
 ghost use Rattle.line_parser.specs.inside.Step.{form_text};
 
@@ -208,6 +208,15 @@ pub(crate) fn member_natural<'t>(rest: &'t str) -> Option<(u64, &'t str)>
     Some((n, pass_member(after)?))
 }
 
+/// The number from 0 up that is the first token, if it has few digits, and what follows it.
+#[inline(always)]
+pub(crate) fn plain_natural<'t>(rest: &'t str) -> Option<(u64, &'t str)>
+    ensures { IfSome result (λ cut. IsNatural (tokens rest.now) cut.0 (tokens cut.1.now)) }
+{
+    let (n, after) = cut_natural(rest)?;
+    Some((n, pass_value(after)?))
+}
+
 /// The digits of the number that is the first token, and what follows it.
 #[inline(always)]
 pub(crate) fn plain_number<'t>(rest: &'t str) -> Option<(&'t str, &'t str)>
@@ -381,6 +390,18 @@ pub(crate) fn map_start<'t>(rest: &'t str) -> Option<&'t str>
         return None;
     }
     Some(past(rest, 0))
+}
+
+/// Whether the text surely begins no map: another byte stands in front, and no white space.
+#[inline(always)]
+pub(crate) fn begins_no_map(text: &str) -> bool
+    ensures { IsTrue result → begins_object (tokens text.now) ≡ false }
+{
+    let byte = byte_at(text, 0);
+    if byte == b'{' {
+        return false;
+    }
+    byte > b' '
 }
 
 /// What follows the map that ends here.

@@ -8,12 +8,12 @@ ghost use Rattle.json.specs.Lex.{tokens};
 ghost use Rattle.json.specs.Json.{read_key, after_end_array};
 ghost use Rattle.json.specs.Reads.{token_of};
 ghost use Rattle.request_codec.specs.Json.{hex_name};
-ghost use Rattle.line_parser.specs.inside.LineMembers.{begins_object, IsNext};
+ghost use Rattle.line_parser.specs.inside.LineMembers.{begins_object, IsNext, IsNatural};
 
 use crate::line_members::{Next, name_of};
 use crate::plain::{
-    has_item, list_end, map_end, map_start, plain_hex, plain_key, plain_name, plain_number,
-    plain_text, plain_token,
+    has_item, list_end, map_end, map_start, plain_hex, plain_key, plain_name, plain_natural,
+    plain_number, plain_text, plain_token,
 };
 use crate::quick_fault::QuickFault;
 use json::{Reader, Scratch, Token};
@@ -242,6 +242,20 @@ impl<'a> Tokens<'a> {
             Token::Number(text) => Ok(text),
             _ => Err(QuickFault::LeftToTree),
         }
+    }
+
+    /// Takes the number from 0 up that is next, if it is spelled plainly and has few digits.
+    #[inline(always)]
+    pub(crate) fn take_natural(&mut self) -> Option<u64>
+        ensures { MatchOption result (self.new ≡ self.old) (λ n. IsNatural self.old n self.new) }
+    {
+        if self.reader.is_none() {
+            if let Some((n, rest)) = plain_natural(self.rest) {
+                self.rest = rest;
+                return Some(n);
+            }
+        }
+        None
     }
 
     /// Takes the end of a list, if it is next, by json's reader.

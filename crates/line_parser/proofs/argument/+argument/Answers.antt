@@ -1,4 +1,5 @@
-use Rattle.std.proofs.Common.{◌≡◌, ◌-◌, ◌++◌, ◌∷◌, [], ℕ, List, length, Some, None, to_z-of_z, ap, sym, subst, ◌∙◌, arith}
+use Rattle.std.proofs.Common.{◌≡◌, ◌-◌, ◌++◌, ◌∷◌, [], ℕ, List, length, pos, Some, None, w64, to_z, to_z-of_z, ap, sym, subst, ◌∙◌, arith}
+use Rattle.std.proofs.lemmas.Int.{to_z_pos}
 use Rattle.std.proofs.lemmas.List.{length-append}
 use Rattle.json.specs.Json.{after_end_array, read_key}
 use Rattle.json.specs.Token.{Token, begin_object}
@@ -93,22 +94,29 @@ put_fields-returns-clause-value t c =
     let none = none_told (hex_of (members_of f.placed)) (c.is_hex.ensures f.placed f.holds) c.if-is_hex.false in
     fields_stop c.args.depth c.args.reader.now l.reader c.next_key.new.self c.args.out.now.items l.out.items c.sort.new.out.items c.set_count.new.out.items l.fields c.args.faults.now l.faults (c.len-start.result - 4) c.count-count.result f (grind arith) sorted (omega (arith, l.invariant.place)) (c.count-count.ensures f.placed f.holds) c.set_count.ensures.bytes none
 
+pub put_value-returns-in-Some-clause-value : goal.put_value-returns-in-Some-clause-value
+put_value-returns-in-Some-clause-value t c =
+    let found = c.in-Some.ensures in
+    let is : to_z w64 c.in-Some.n ≡ pos c.in-Some.n = to_z_pos w64 c.in-Some.n found.fits in
+    put_number c.args.depth c.args.reader.now c.take_natural.new.self c.args.out.now.items c.put_start.new.out.items found.text c.args.faults.now c.note_depth.new.faults (pos c.in-Some.n) c.note_depth.ensures found.token (record { read = found.read; fits = record { sfits = found.fits } })
+    (c.in_ok-put_start.ensures.0 ∙ ap (λ i. c.args.out.now.items ++ spelling (tree.integer i)) is)
+
 pub put_value-returns-in_ok-put_start-in-Null-clause-value : goal.put_value-returns-in_ok-put_start-in-Null-clause-value
 put_value-returns-in_ok-put_start-in-Null-clause-value t c =
     let first : c.args.reader.now ≡ token_of c.in_ok-token.token ∷ c.next.new.self = grind arith in
-    put_null c.args.depth c.args.reader.now c.next.new.self c.args.out.now.items c.put_start.new.out.items c.args.faults.now c.note_depth.new.faults c.note_depth.ensures (first ∙ ap (λ k. token_of k ∷ c.next.new.self) c.in-Null.is) c.in_ok-put_start-in-Null.ensures.0
+    put_null c.args.depth c.args.reader.now c.next.new.self c.args.out.now.items c.put_start-in-Null.new.out.items c.args.faults.now c.note_depth.new.faults c.note_depth.ensures (first ∙ ap (λ k. token_of k ∷ c.next.new.self) c.in-Null.is) c.in_ok-put_start-in-Null.ensures.0
 
 pub put_value-returns-in_ok-put_start-in-Bool-clause-value : goal.put_value-returns-in_ok-put_start-in-Bool-clause-value
 put_value-returns-in_ok-put_start-in-Bool-clause-value t c =
     let first : c.args.reader.now ≡ token_of c.in_ok-token.token ∷ c.next.new.self = grind arith in
     put_bool c.args.depth c.args.reader.now c.next.new.self c.args.out.now.items c.put_start-in-Bool.new.out.items c.args.faults.now c.note_depth.new.faults c.in-Bool.b c.note_depth.ensures (first ∙ ap (λ k. token_of k ∷ c.next.new.self) c.in-Bool.is) c.in_ok-put_start-in-Bool.ensures.0
 
-pub put_value-returns-in_ok-put_start-in-Some-clause-value : goal.put_value-returns-in_ok-put_start-in-Some-clause-value
-put_value-returns-in_ok-put_start-in-Some-clause-value t c =
+pub put_value-returns-in_ok-put_start-in-Some-whole_number-clause-value : goal.put_value-returns-in_ok-put_start-in-Some-whole_number-clause-value
+put_value-returns-in_ok-put_start-in-Some-whole_number-clause-value t c =
     let first : c.args.reader.now ≡ token_of c.in_ok-token.token ∷ c.next.new.self = grind arith in
-    let is = to_z-of_z c.in-Some.ensures.fits in
-    put_number c.args.depth c.args.reader.now c.next.new.self c.args.out.now.items c.put_start-in-Some.new.out.items c.in-Number.text.now c.args.faults.now c.note_depth.new.faults c.in-Some.number c.note_depth.ensures (first ∙ ap (λ k. token_of k ∷ c.next.new.self) c.in-Number.is) c.in-Some.ensures
-    (c.in_ok-put_start-in-Some.ensures.0 ∙ ap (λ i. c.args.out.now.items ++ spelling (tree.integer i)) is)
+    let is = to_z-of_z c.in-Some-whole_number.ensures.fits in
+    put_number c.args.depth c.args.reader.now c.next.new.self c.args.out.now.items c.put_start-in-Some-whole_number.new.out.items c.in-Number.text.now c.args.faults.now c.note_depth.new.faults c.in-Some-whole_number.number c.note_depth.ensures (first ∙ ap (λ k. token_of k ∷ c.next.new.self) c.in-Number.is) c.in-Some-whole_number.ensures
+    (c.in_ok-put_start-in-Some-whole_number.ensures.0 ∙ ap (λ i. c.args.out.now.items ++ spelling (tree.integer i)) is)
 
 pub put_value-returns-in-None-clause-value : goal.put_value-returns-in-None-clause-value
 put_value-returns-in-None-clause-value t c =

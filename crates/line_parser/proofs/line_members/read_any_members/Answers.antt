@@ -8,6 +8,9 @@ use Rattle.line_parser.proofs.ItemsRead.{members_start}
 use Rattle.line_parser.proofs.NoObject.{asked_by-no_object}
 use Rattle.line_parser.proofs.line_members.read_any_members.Goals as goal
 
+pub returns-then-begins_no_map : goal.returns-then-begins_no_map
+returns-then-begins_no_map c = asked_by-no_object (tokens c.args.text.now) (c.begins_no_map.ensures c.if-begins_no_map.true)
+
 pub returns-then-not-begins : goal.returns-then-not-begins
 returns-then-not-begins c = subst (λ ts. asked_by ts ≡ None) c.new-reader.ensures (asked_by-no_object c.new-reader.result (rw c.if-not-begins.true at c.in_ok-begins.ensures))
 
