@@ -21,4 +21,5 @@ pub mod OtherMembers
 pub mod NoObject
 pub mod NoRequest
 pub mod Steps
+pub mod OddMembers
 pub mod Results

@@ -1,12 +1,13 @@
--- A text that begins no object is no request.
-use Rattle.std.proofs.Common.{◌≡◌, false, List, [], ◌∷◌, Option, Some, None, option_map, option_and_then, refl, ap, ◌∙◌, arith}
+-- A text that begins no object, or that is no JSON, is no request.
+use Rattle.std.proofs.Common.{◌≡◌, ℕ, false, List, [], ◌∷◌, Option, Some, None, option_map, option_and_then, refl, ap, ◌∙◌, arith}
 use Rattle.json.specs.Token.{Token}
 use Rattle.json.specs.Json as json
-use Rattle.json.specs.Json.{parse_map, items, value}
+use Rattle.json.specs.Json.{parse_map, items, value, skip_value}
+use Rattle.json.specs.Lex.{tokens}
 use Rattle.json.proofs.Grammar.{value_is, value-begin_array}
 use Rattle.serde_json.specs.Data.{Data, null, boolean, number, string, array, object}
 use Rattle.serde_json.specs.Find.{as_object}
-use Rattle.serde_json.specs.Read.{of_json, of_items, number_of}
+use Rattle.serde_json.specs.Read.{of_json, of_items, number_of, read}
 use Rattle.silo_event.specs.declared.step.Step.{Step}
 use Rattle.line_parser.specs.Form.{step_of_json}
 use Rattle.line_parser.specs.inside.LineMembers.{begins_object, asked_by}
@@ -48,3 +49,12 @@ asked_by-no_object (Token.number s ∷ ts) e = ap asked (value_is 127 (Token.num
 asked_by-no_object (Token.boolean b ∷ ts) e = ap asked (value_is 127 (Token.boolean b ∷ ts)) ∙ if_alone (json.boolean b) ts (no_form (boolean b) refl)
 asked_by-no_object (Token.null ∷ ts) e = ap asked (value_is 127 (Token.null ∷ ts)) ∙ if_alone json.null ts (no_form null refl)
 asked_by-no_object (Token.bad ∷ ts) e = ap asked (value_is 127 (Token.bad ∷ ts))
+
+-- ---- a text that is no JSON
+
+none_left : (o : Option (json.Json × List Token)) → option_map (λ p. p.1) o ≡ None → o ≡ None
+none_left None e = refl
+none_left (Some p) e = absurd (cc)
+
+pub no_json : (text : List ℕ) → skip_value 127 (tokens text) ≡ None → read text ≡ None
+no_json text e = ap whole (none_left (value 127 (tokens text)) e)

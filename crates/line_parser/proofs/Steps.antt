@@ -36,7 +36,7 @@ text_in : {A : Type 0} (o : Option A) (f : A → List ℕ) (name : List ℕ) (fo
 text_in None f name found h = ap (option_and_then as_str) h
 text_in (Some t) f name found h = ap (option_and_then as_str) (h.1 ∙ ap (λ x. Some x) h.2)
 
-abbrev natural_of : Option Data → Option ℕ
+abbrev pub natural_of : Option Data → Option ℕ
 natural_of o = option_and_then (λ v. option_and_then (λ n. option_and_then natural (as_i64 n)) (as_number v)) o
 
 natural_in : (o : Option ℕ) (name : List ℕ) (found : Members) → Holds (option_map a_number o) (get_member name found) → natural_at name (object found) ≡ o
@@ -62,7 +62,7 @@ value_known : (l : List ℕ) (a : ValueIn) (why : Option Refusal) (json : Data) 
 value_known l (Bytes b) why json same is = subst (IsAsked why json) (sym same) is
 value_known l (Json v) why json same is = absurd same
 
-value_in : (l : List ℕ) (a : ValueIn) (there : Bool) (why : Option Refusal) (o : Option Data) → AreBytes l a → Holds (put_bytes there why l) o → IsValueOf a there why o
+pub value_in : (l : List ℕ) (a : ValueIn) (there : Bool) (why : Option Refusal) (o : Option Data) → AreBytes l a → Holds (put_bytes there why l) o → IsValueOf a there why o
 value_in l a true why o same h = (h.0, h.1, value_known l a why h.0 same h.2)
 value_in l a false why o same h = h
 

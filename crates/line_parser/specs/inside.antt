@@ -4,6 +4,7 @@ pub mod CallMembers
 pub mod Fields
 pub mod LineMembers
 pub mod Number
+pub mod OddLine
 pub mod PassedMembers
 pub mod Plain
 pub mod QuickFault

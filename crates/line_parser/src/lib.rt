@@ -15,6 +15,7 @@ mod line_members;
 mod members;
 mod named;
 mod number;
+mod odd_line;
 mod plain;
 mod plain_argument;
 mod plain_members;

@@ -1,6 +1,6 @@
 //! What a line says.
 
-ghost use Rattle.std.specs.Prelude.{◌≡◌, ◌==◌, ◌||◌, drop, IsUtf8, IfSome, IfOk, Some, option_map, option_and_then};
+ghost use Rattle.std.specs.Prelude.{◌≡◌, ◌==◌, ◌||◌, drop, IsTrue, IsUtf8, IfSome, IfOk, None, Some, option_map, option_and_then};
 ghost use Rattle.json.specs.Word.{head};
 ghost use Rattle.serde_json.specs.Read.{read};
 ghost use Rattle.serde_json.specs.View.{view};
@@ -12,12 +12,13 @@ use crate::call_members::take_call;
 use crate::line::{Line, LineRefusal};
 use crate::line_members::{LineMembers, ValueIn, read_members};
 use crate::members::members_of_json;
+use crate::odd_line::take_odd;
 use crate::plain::byte_at;
 use crate::quick_fault::QuickFault;
 use crate::short_line::{members_of_short, short_line};
 use crate::step::{call_step_from, step_from, step_of_form};
 use grain_id::NameCache;
-use json::Scratch;
+use json::{Reader, Scratch};
 use serde_json::Value;
 use silo_event::Step;
 use simdutf8::compat::from_utf8;
@@ -25,6 +26,9 @@ use std::alloc::{AllocError, Global};
 
 /// The bytes that a line may have, without its LF.
 pub const LINE_LIMIT: usize = 65536;
+
+/// The levels to which JSON may nest.
+const MOST_LEVELS: usize = 127;
 
 #[tactic(auto, using(crate::proofs::Meaning::json_of_line_none))]
 /// The JSON of a line, if it is JSON.
@@ -210,7 +214,43 @@ fn read_call_step(
     Ok(found)
 }
 
-/// What a line says that wasn't read in one pass: one that was left goes to `serde_json`.
+/// What a line says, if its last member has another value than the whole number that is asked for.
+#[inline(never)]
+fn read_odd(
+    alloc: Global,
+    scratch: &mut LineScratch,
+    text: &str,
+) -> Result<Option<Line>, QuickFault>
+    ensures { IfOk result (λ found. IfSome found (λ said. said ≡ meaning_by (option_and_then step_of_json (read text.now)))) }
+{
+    let mut members = LineMembers::none();
+    let taken = take_odd(text, &mut scratch.texts, &mut members)?;
+    if !taken {
+        return Ok(None);
+    }
+    let step = step_from(
+        alloc,
+        &mut scratch.names,
+        &mut scratch.message,
+        &members,
+        ValueIn::Bytes(&[]),
+    )?;
+    Ok(Some(line_of(step)))
+}
+
+/// Whether a text is surely no JSON: it breaks off, or nests deeper than 127 levels.
+#[inline(never)]
+fn is_no_json(scratch: &mut Scratch, text: &str) -> Result<bool, AllocError>
+    ensures { IfOk result (λ none. IsTrue none → read text.now ≡ None) }
+{
+    let mut reader = Reader::new(text, scratch)?;
+    match reader.skip_value(MOST_LEVELS) {
+        Ok(()) => Ok(false),
+        Err(_) => Ok(true),
+    }
+}
+
+/// What a line says that wasn't read in one pass: one that is no such line as above goes to `serde_json`.
 #[cold]
 #[inline(never)]
 fn read_left(
@@ -219,12 +259,21 @@ fn read_left(
     text: &str,
     fault: QuickFault,
 ) -> Result<Line, AllocError>
+    requires { meaning_of text.now ≡ meaning_by (option_and_then step_of_json (read text.now)) }
     ensures { IfOk result (λ said. said ≡ meaning_of text.now) }
 {
-    match fault {
-        QuickFault::Memory => Err(AllocError),
-        QuickFault::LeftToTree => read_any_line(alloc, scratch, text.as_bytes()),
+    if let QuickFault::Memory = fault {
+        return Err(AllocError);
     }
+    match read_odd(alloc, scratch, text) {
+        Ok(Some(said)) => return Ok(said),
+        Ok(None) | Err(QuickFault::LeftToTree) => {}
+        Err(QuickFault::Memory) => return Err(AllocError),
+    }
+    if is_no_json(&mut scratch.texts, text)? {
+        return Ok(line_of(None));
+    }
+    read_any_line(alloc, scratch, text.as_bytes())
 }
 
 /// What a line says, in one pass over its tokens.
