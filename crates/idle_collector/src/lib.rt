@@ -1,4 +1,4 @@
-//! The moments from which idle grains are due to go, and which of them are due.
+//! A moment for each grain that is noted, and the grains whose moment has come.
 //!
 //! A layer above may rely on this: a collector is a finite map from grains to moments, its calls change
 //! that map as they say, and `due` gives exactly the grains whose moment has come, ascending. How long

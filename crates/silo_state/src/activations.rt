@@ -1,4 +1,4 @@
-//! The activations of all grains, as entries, and the notes of those that are idle.
+//! The activations of all grains, as entries, the note of each, and the clock.
 
 ghost use Rattle.std.specs.Prelude.{◌≡◌, ◌≤◌, ◌<◌, ◌^◌, IfOk, OnOk, OnErr, IfSome, None};
 ghost use Rattle.std.specs.Option.{is_some, option_copied, option_map};
