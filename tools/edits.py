@@ -255,24 +255,22 @@ def read_edit(crate: Crate, file: pathlib.Path) -> Edit:
 
 
 def batches_of(edits: list[Edit]) -> list[list[Edit]]:
-    """Puts edits together of which no two change the same function: a second edit of a function is made in a copy of it,
-    if it can be. One that changes more than bodies stands alone."""
+    """Puts edits together of which no two change the same function. An edit is made in a copy of its function, if it can be:
+    the prover leaves the goals of what calls a wrong body untried. One that changes more than bodies stands alone."""
     batches: list[list[Edit]] = []
     copies: dict[tuple[str, int], int] = {}
     for edit in edits:
         edit.suffix = ""
         mine = {(it.file, it.first) for it in edit.bodies}
+        if edit.may_be_copied():
+            (of,) = mine
+            copies[of] = copies.get(of, 0) + 1
+            edit.suffix = f"_edited_{copies[of]}"
         for batch in batches:
             theirs = {(it.file, it.first) for other in batch for it in other.bodies if not other.suffix}
             if edit.stands_alone() or any(other.stands_alone() for other in batch):
                 continue
-            if not mine & theirs:
-                batch.append(edit)
-                break
-            if edit.may_be_copied():
-                (of,) = mine
-                copies[of] = copies.get(of, 0) + 1
-                edit.suffix = f"_edited_{copies[of]}"
+            if edit.suffix or not mine & theirs:
                 batch.append(edit)
                 break
         else:
