@@ -16,7 +16,7 @@ use Rattle.silo_state.specs.Finds.{open_in, IsOwn, asks}
 use Rattle.silo_state.specs.inside.Storing.{read_again, with_state, given, Gives, GivesMarked}
 use Rattle.silo_state.specs.declared.storing.StorageAnswer.{StorageAnswer}
 use Rattle.silo_state.proofs.AtRows.{same_Ok, done_at, refused_at}
-use Rattle.silo_state.proofs.Idle.{some_waits}
+use Rattle.silo_state.proofs.InUse.{some_waits}
 use Rattle.silo_state.specs.Closings.{ClosesTold}
 use Rattle.tenant_machine.specs.inside.Closings.{ClosesBy}
 use Rattle.tenant_machine.specs.Machines.{StepAnswers}

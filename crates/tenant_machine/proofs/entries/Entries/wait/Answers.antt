@@ -4,7 +4,7 @@ use Rattle.std.specs.FinMap as map
 use Rattle.activation_directory.specs.declared.activation.Activation.{Activation}
 use Rattle.silo_state.specs.Shown.{request_of, entries_of}
 use Rattle.silo_state.specs.Marks.{AllMarked}
-use Rattle.silo_state.proofs.Arrivals.{arrive_shows, arrive_leaves, arrive_marked, first_shows, first_marked}
+use Rattle.silo_state.proofs.Arrivals.{arrive_shows, arrive_leaves, arrive_marked, enter_shows, enter_marked}
 use Rattle.tenant_machine.proofs.entries.Entries.wait.Goals as goal
 
 pub invariant_of-self : goal.invariant_of-self
@@ -31,18 +31,20 @@ returns-in-Some-clause-unchanged g c =
 pub invariant_of-self-2 : goal.invariant_of-self-2
 invariant_of-self-2 g c =
     let m = c.self.inside.by_grain in
+    let grain = c.args.grain.now in
     let a = c.in_ok-activation.activation in
-    subst (λ (after : FinMap grain_cmp Activation). AllMarked g.L.GrainLogic.logic after) (sym (c.in_ok-insert.ensures.entered ∙ ap (λ k. map.insert m k a) c.in_ok-named.ensures.cases))
-    (first_marked g.L.GrainLogic.logic m c.args.grain.now c.args.request c.args.clock a c.in_ok-activation.ensures (sym c.in_default.ensures.value) c.self.invariant c.requires.known c.requires.marked)
+    let entered = c.in_ok-insert.ensures.entered ∙ ap (λ k. map.insert m k a) c.in_ok-named.ensures.cases in
+    enter_marked g.L.GrainLogic.logic m grain c.args.request c.args.clock a.noted c.insert.new.self (record { first = a; is_first = c.in_ok-activation.ensures; put = entered })
+    (sym c.in_default.ensures.value) c.self.invariant c.requires.known c.requires.marked
 
 pub returns-clause-waits : goal.returns-clause-waits
 returns-clause-waits g c =
     let m = c.self.inside.by_grain in
     let grain = c.args.grain.now in
     let a = c.in_ok-activation.activation in
+    let entered = c.in_ok-insert.ensures.entered ∙ ap (λ k. map.insert m k a) c.in_ok-named.ensures.cases in
     subst (λ (old : Entries). entries_of c.insert.new.self ≡ map.insert old grain (with_request c.args.clock (request_of c.args.request) (map.get old grain))) c.self.view_is
-    (ap entries_of (c.in_ok-insert.ensures.entered ∙ ap (λ k. map.insert m k a) c.in_ok-named.ensures.cases)
-    ∙ first_shows g.L.GrainLogic.logic m grain c.args.request c.args.clock a c.in_ok-activation.ensures (sym c.in_default.ensures.value))
+    (enter_shows g.L.GrainLogic.logic m grain c.args.request c.args.clock a.noted c.insert.new.self (record { first = a; is_first = c.in_ok-activation.ensures; put = entered }) (sym c.in_default.ensures.value))
 
 pub invariant_of-self-in_err-insert : goal.invariant_of-self-in_err-insert
 invariant_of-self-in_err-insert g c = subst (λ (m : FinMap grain_cmp Activation). AllMarked g.L.GrainLogic.logic m) (sym c.in_err-insert.ensures.unchanged) c.self.invariant
