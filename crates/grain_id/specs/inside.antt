@@ -1,2 +1,3 @@
 -- What only the contracts of this crate's own parts cite. No promise stands on it.
 pub mod Places
+pub mod NameTexts

@@ -11,6 +11,7 @@ ghost use Rattle.grain_id.specs.inside.Places.{IsPlacedClient};
 ghost use Rattle.grain_id.specs.Order.{client_cmp_total, client_cmp_partial, client_eq_equiv, client_eq_decides, client_ties};
 
 use crate::fault::IdFault;
+use crate::name_text::NameText;
 use crate::tenant::Tenant;
 use crate::words;
 use std::alloc::{AllocError, Global};
@@ -31,21 +32,21 @@ pub struct Caller {
 /// The text and the place of its `/`, shared by all clones.
 #[derive(Debug, Drop)]
 struct Placed {
-    text: String,
+    text: NameText,
     slash: u8,
 }
 
 impl Model for Caller {
     ghost use Rattle.std.specs.Arc.{arc_value};
-    ghost use Rattle.std.specs.Prelude.{string_bytes};
     ghost use Rattle.grain_id.specs.Names.{Client};
+    ghost use Rattle.grain_id.specs.inside.NameTexts.{bytes_of};
     ghost use Rattle.grain_id.specs.inside.Places.{client_at, IsPlacedClient};
 
     ghost Value = { Client };
 
-    ghost view = { λ c. client_at (string_bytes (arc_value c.placed).text) (arc_value c.placed).slash };
+    ghost view = { λ c. client_at (bytes_of (arc_value c.placed).text) (arc_value c.placed).slash };
 
-    ghost invariant = { λ c. IsPlacedClient (string_bytes (arc_value c.placed).text) (arc_value c.placed).slash };
+    ghost invariant = { λ c. IsPlacedClient (bytes_of (arc_value c.placed).text) (arc_value c.placed).slash };
 }
 
 /// The place of the `/`, or the first part from the left that isn't well formed.
@@ -85,7 +86,7 @@ impl Caller {
         ensures none { IfFaulty result (IsTextOfNoClient text.now) }
     {
         let slash = place(text)?;
-        let text = String::from_str(alloc, text)?;
+        let text = NameText::of(alloc, text)?;
         Ok(Caller {
             placed: share(alloc, Placed { text, slash })?,
         })

@@ -12,6 +12,7 @@ ghost use Rattle.grain_id.specs.Order.{grain_cmp_total, grain_cmp_partial, grain
 
 use crate::fault::IdFault;
 use crate::kind::Kind;
+use crate::name_text::NameText;
 use crate::tenant::Tenant;
 use crate::words;
 use std::alloc::{AllocError, Global};
@@ -32,22 +33,22 @@ pub struct GrainId {
 /// The text and the places of its separators, shared by all clones.
 #[derive(Debug, Drop)]
 struct Placed {
-    text: String,
+    text: NameText,
     slash: u8,
     colon: u8,
 }
 
 impl Model for GrainId {
     ghost use Rattle.std.specs.Arc.{arc_value};
-    ghost use Rattle.std.specs.Prelude.{string_bytes};
     ghost use Rattle.grain_id.specs.Names.{Grain};
+    ghost use Rattle.grain_id.specs.inside.NameTexts.{bytes_of};
     ghost use Rattle.grain_id.specs.inside.Places.{grain_at, IsPlacedGrain};
 
     ghost Value = { Grain };
 
-    ghost view = { λ g. grain_at (string_bytes (arc_value g.placed).text) (arc_value g.placed).slash (arc_value g.placed).colon };
+    ghost view = { λ g. grain_at (bytes_of (arc_value g.placed).text) (arc_value g.placed).slash (arc_value g.placed).colon };
 
-    ghost invariant = { λ g. IsPlacedGrain (string_bytes (arc_value g.placed).text) (arc_value g.placed).slash (arc_value g.placed).colon };
+    ghost invariant = { λ g. IsPlacedGrain (bytes_of (arc_value g.placed).text) (arc_value g.placed).slash (arc_value g.placed).colon };
 }
 
 /// The places of the `/` and the `:`, or the first part from the left that isn't well formed.
@@ -96,7 +97,7 @@ impl GrainId {
         ensures none { IfFaulty result (IsTextOfNoGrain text.now) }
     {
         let (slash, colon) = places(text)?;
-        let text = String::from_str(alloc, text)?;
+        let text = NameText::of(alloc, text)?;
         Ok(GrainId {
             placed: share(alloc, Placed { text, slash, colon })?,
         })

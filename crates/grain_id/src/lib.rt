@@ -15,6 +15,7 @@ mod hash_seed;
 mod kind;
 pub mod laws;
 mod name_cache;
+mod name_text;
 mod tenant;
 mod words;
 

@@ -11,8 +11,8 @@ returns-in_err-slash-clause-none c =
 
 pub returns-clause-whole : goal.returns-clause-whole
 returns-clause-whole c =
-    rw c.in_ok-share.ensures (rw c.in_ok-text.ensures.ok (is_text-client_at c.args.text.now c.in_ok-slash.slash c.in_ok-slash.ensures))
+    rw c.in_ok-share.ensures (rw c.in_ok-text.ensures (is_text-client_at c.args.text.now c.in_ok-slash.slash c.in_ok-slash.ensures))
 
 pub returns-clause-gives : goal.returns-clause-gives
 returns-clause-gives c =
-    rw c.in_ok-share.ensures (rw c.in_ok-text.ensures.ok (caller_read-found c.args.text.now _ (is_text-client_at c.args.text.now c.in_ok-slash.slash c.in_ok-slash.ensures)))
+    rw c.in_ok-share.ensures (rw c.in_ok-text.ensures (caller_read-found c.args.text.now _ (is_text-client_at c.args.text.now c.in_ok-slash.slash c.in_ok-slash.ensures)))
