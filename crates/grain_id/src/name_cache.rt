@@ -1,6 +1,6 @@
 //! Names that were read lately, so that the next reading of the same text shares them.
 
-ghost use Rattle.std.specs.Prelude.{◌≡◌, ◌<◌, IfOk, IfSome, None, replicate};
+ghost use Rattle.std.specs.Prelude.{◌≡◌, ◌<◌, IfOk, IfSome, OnOk, [], length};
 ghost use Rattle.grain_id.specs.Names.{IsTextOfGrain, IsTextOfNoGrain, IsTextOfClient, IsTextOfNoClient};
 ghost use Rattle.grain_id.specs.Reading.{Gives, IfFaulty, grain_read, caller_read};
 
@@ -9,15 +9,19 @@ use crate::fault::IdFault;
 use crate::grain::GrainId;
 use std::alloc::{AllocError, Global};
 
-/// The most grains that are kept, and the most callers.
-const PLACES: usize = 16_384;
+/// The most grains that are kept.
+const GRAINS: usize = 16_384;
+
+/// The most callers that are kept.
+const CALLERS: usize = 8_192;
 
 /// Names that were read lately, each at the place of its text's hash. A name takes the place of the
-/// one before it. It takes 16 bytes a place, 512 kB in all, as it is made.
+/// one before it, and the first stands at all places till then. It takes 8 bytes a place: 128 kB as the
+/// first grain is read, and 64 kB as the first caller is.
 #[derive(Drop)]
 pub struct NameCache {
-    grains: Vec<Option<GrainId>>,
-    callers: Vec<Option<Caller>>,
+    grains: Vec<GrainId>,
+    callers: Vec<Caller>,
 }
 
 /// The hash of what came before and eight bytes more.
@@ -45,9 +49,12 @@ fn last_word(bytes: &[u8]) -> u64 {
     packed(bytes)
 }
 
-/// The place of a text, by the hash of its length, of each eight bytes from the front on, and of its last eight.
-fn place_of(text: &str) -> usize
-    ensures { result < 16384 }
+/// The place of a text among so many, by the hash of its length, of each eight bytes from the front on, and of its last
+/// eight.
+#[inline(always)]
+fn place_of(text: &str, places: usize) -> usize
+    requires { 0 < places }
+    ensures { result < places }
 {
     let bytes = text.as_bytes();
     let (words, _) = bytes.as_chunks::<8>();
@@ -55,50 +62,61 @@ fn place_of(text: &str) -> usize
     'words: for word in words {
         sum = stirred(sum, u64::from_le_bytes(*word));
     }
-    (stirred(sum, last_word(bytes)) >> 50) as usize % PLACES
+    (stirred(sum, last_word(bytes)) >> 50) as usize % places
 }
 
 /// The grain at that place, if its text is this one.
-fn grain_at(
-    grains: &[Option<GrainId>],
-    place: usize,
-    text: &str,
-) -> Result<Option<GrainId>, AllocError>
+fn grain_at(grains: &[GrainId], place: usize, text: &str) -> Result<Option<GrainId>, AllocError>
     ensures { IfOk result (λ found. IfSome found (λ grain. IsTextOfGrain text.now grain)) }
 {
     match grains.get(place) {
-        Some(Some(grain)) if grain.text() == text => Ok(Some(grain.clone()?)),
+        Some(grain) if grain.text() == text => Ok(Some(grain.clone()?)),
         _ => Ok(None),
     }
 }
 
 /// The caller at that place, if its text is this one.
-fn caller_at(
-    callers: &[Option<Caller>],
-    place: usize,
-    text: &str,
-) -> Result<Option<Caller>, AllocError>
+fn caller_at(callers: &[Caller], place: usize, text: &str) -> Result<Option<Caller>, AllocError>
     ensures { IfOk result (λ found. IfSome found (λ caller. IsTextOfClient text.now caller)) }
 {
     match callers.get(place) {
-        Some(Some(caller)) if caller.text() == text => Ok(Some(caller.clone()?)),
+        Some(caller) if caller.text() == text => Ok(Some(caller.clone()?)),
         _ => Ok(None),
     }
 }
 
+/// Keeps a name at its place, or at all of so many places if it is the first.
+///
+/// # Errors
+///
+/// Out of memory: nothing more is kept.
+fn keep<T: Clone>(
+    names: &mut Vec<T>,
+    places: usize,
+    place: usize,
+    name: T,
+) -> Result<(), AllocError>
+    requires { place < places }
+    ensures { OnOk result (length names.new.items ≡ places) }
+{
+    if names.len() != places {
+        names.resize(places, name)?;
+        return Ok(());
+    }
+    names[place] = name;
+    Ok(())
+}
+
 impl NameCache {
-    /// No name was read yet: each place is empty.
-    pub fn new(alloc: Global) -> Result<NameCache, AllocError>
-        ensures grains { IfOk result (λ cache. cache.grains.items ≡ replicate 16384 None) }
-        ensures callers { IfOk result (λ cache. cache.callers.items ≡ replicate 16384 None) }
+    /// No name was read yet.
+    pub fn new(alloc: Global) -> NameCache
+        ensures grains { result.grains.items ≡ [] }
+        ensures callers { result.callers.items ≡ [] }
     {
-        let mut grains = Vec::with_capacity(alloc, PLACES)?;
-        let mut callers = Vec::with_capacity(alloc, PLACES)?;
-        'places: for _ in 0..PLACES {
-            grains.push(None)?;
-            callers.push(None)?;
+        NameCache {
+            grains: Vec::new(alloc),
+            callers: Vec::new(alloc),
         }
-        Ok(NameCache { grains, callers })
     }
 
     /// Reads a grain, as `GrainId::read` does, and shares one that was read lately.
@@ -111,14 +129,12 @@ impl NameCache {
         ensures whole { IfOk result (λ grain. IsTextOfGrain text.now grain) }
         ensures none { IfFaulty result (IsTextOfNoGrain text.now) }
     {
-        let place = place_of(text);
+        let place = place_of(text, GRAINS);
         if let Some(grain) = grain_at(self.grains.as_slice(), place, text)? {
             return Ok(grain);
         }
         let grain = GrainId::read(alloc, text)?;
-        if let Some(kept) = self.grains.get_mut(place) {
-            *kept = Some(grain.clone()?);
-        }
+        keep(&mut self.grains, GRAINS, place, grain.clone()?)?;
         Ok(grain)
     }
 
@@ -132,14 +148,12 @@ impl NameCache {
         ensures whole { IfOk result (λ caller. IsTextOfClient text.now caller) }
         ensures none { IfFaulty result (IsTextOfNoClient text.now) }
     {
-        let place = place_of(text);
+        let place = place_of(text, CALLERS);
         if let Some(caller) = caller_at(self.callers.as_slice(), place, text)? {
             return Ok(caller);
         }
         let caller = Caller::read(alloc, text)?;
-        if let Some(kept) = self.callers.get_mut(place) {
-            *kept = Some(caller.clone()?);
-        }
+        keep(&mut self.callers, CALLERS, place, caller.clone()?)?;
         Ok(caller)
     }
 }

@@ -261,7 +261,7 @@ fn read_parts(
 pub fn read_journal(alloc: Global, bytes: &[u8]) -> Result<Journal, JournalFault>
     ensures { ReadsJournal bytes.now result }
 {
-    let mut scratch = LineScratch::new(alloc)?;
+    let mut scratch = LineScratch::new(alloc);
     match read_start(alloc, &mut scratch, bytes) {
         Ok(start) => read_parts(
             alloc,

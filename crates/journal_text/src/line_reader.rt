@@ -39,11 +39,11 @@ pub(crate) struct LineScratch {
 }
 
 impl LineScratch {
-    pub(crate) fn new(alloc: Global) -> Result<LineScratch, AllocError> {
-        Ok(LineScratch {
-            names: NameCache::new(alloc)?,
+    pub(crate) fn new(alloc: Global) -> LineScratch {
+        LineScratch {
+            names: NameCache::new(alloc),
             written: String::new(alloc),
-        })
+        }
     }
 }
 

@@ -80,7 +80,7 @@ pub fn answer_lines<R: Read, W: Write, S: GrainStorage, L: GrainLogic>(
     // For the proof: where the silo's journal leads.
     let _ = silo.journal();
     let mut bump = Bump::new(alloc);
-    let mut scratch = LineScratch::new(alloc)?;
+    let mut scratch = LineScratch::new(alloc);
     let mut text = String::new(alloc);
     for count in 0..ANSWERED_LIMIT {
         if !input.lines.next_flushed(&mut input.reader, output)? {

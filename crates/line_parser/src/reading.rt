@@ -64,14 +64,14 @@ pub struct LineScratch {
 }
 
 impl LineScratch {
-    /// No name was read yet. The names have room at once, the rest grows to what the lines need.
-    pub fn new(alloc: Global) -> Result<LineScratch, AllocError> {
-        Ok(LineScratch {
-            names: NameCache::new(alloc)?,
+    /// No name was read yet. All of it grows to what the lines need.
+    pub fn new(alloc: Global) -> LineScratch {
+        LineScratch {
+            names: NameCache::new(alloc),
             texts: Scratch::new(alloc),
             args: Vec::new(alloc),
             message: Vec::new(alloc),
-        })
+        }
     }
 }
 

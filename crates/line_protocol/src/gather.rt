@@ -23,7 +23,7 @@ pub fn read_all<R: Read>(alloc: Global, input: &mut Input<R>) -> Result<Vec<Line
     ensures bound { IfOk result (λ all. vec_len all ≤ lines_limit) }
     ensures err { IfErr result (λ e. StopsGathering e (left_of input.old.lines (R.remaining input.old.reader)) input.new.lines.calls) }
 {
-    let mut scratch = LineScratch::new(alloc)?;
+    let mut scratch = LineScratch::new(alloc);
     let mut all = Vec::new(alloc);
     'lines: while (all.len() as u64) < LINES_LIMIT {
         if !input.lines.next_line(&mut input.reader)? {

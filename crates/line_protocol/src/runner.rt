@@ -70,7 +70,7 @@ pub fn run_lines<R: Read, W: Write, S: GrainStorage, L: GrainLogic>(
     // For the proof: the silo's type keeps that its journal leads to what it holds.
     let _ = silo.journal();
     let mut bump = Bump::new(alloc);
-    let mut scratch = LineScratch::new(alloc)?;
+    let mut scratch = LineScratch::new(alloc);
     let mut text = String::new(alloc);
     for count in 0..LINES_LIMIT {
         if !input.lines.next_flushed(&mut input.reader, output)? {

@@ -235,7 +235,7 @@ fn reads_client(names: &mut NameCache, alloc: Global) -> Result<(), Fail> {
 /// More names are read than are kept, so that some take the place of others.
 #[test]
 fn names_read_lately(rt: HostRuntime) -> Result<(), Fail> {
-    let mut names = NameCache::new(rt.alloc())?;
+    let mut names = NameCache::new(rt.alloc());
     reads_many(&mut names, rt.alloc())?;
     reads_client(&mut names, rt.alloc())?;
     reads_client(&mut names, rt.alloc())

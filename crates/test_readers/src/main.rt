@@ -80,7 +80,7 @@ fn print_lines<R: BufRead, W: Write>(
     reader: &mut R,
     writer: &mut W,
 ) -> io::Result<()> {
-    let mut scratch = LineScratch::new(alloc)?;
+    let mut scratch = LineScratch::new(alloc);
     let mut line = Vec::new(alloc);
     for _ in 0..u64::MAX {
         line.clear();

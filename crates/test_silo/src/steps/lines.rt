@@ -30,7 +30,7 @@ fn add_step(
 
 /// The steps of the lines behind the first so many.
 pub fn steps_behind(alloc: Global, lines: &str, first: usize) -> Result<Vec<Step>, Fail> {
-    let mut scratch = LineScratch::new(alloc)?;
+    let mut scratch = LineScratch::new(alloc);
     let mut steps = Vec::new(alloc);
     for line in lines.lines().skip(first) {
         add_step(alloc, &mut scratch, line, &mut steps)?;

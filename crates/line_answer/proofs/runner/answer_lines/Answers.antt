@@ -37,7 +37,7 @@ pub returns-in_err-next_flushed-clause-err : goal.returns-in_err-next_flushed-cl
 returns-in_err-next_flushed-clause-err g c =
     let read = c.in_err-next_flushed.ensures in
     let so_far = done_flushed _ _ _ _ _ _ _ _ _ _ c.loop-count.invariant.0 read.written in
-    handed c.from_residual-in_err-next_flushed.result _ _ c.from_residual-in_err-next_flushed.ensures.1 (stops_reading _ _ _ c.next_flushed.new.self (g.R.Read.remaining c.next_flushed.new.reader) _ _ _ _ _ _ _ _ read.cause read.failed read.part so_far (Keeps-same _))
+    handed c.from_residual.result _ _ c.from_residual.ensures.1 (stops_reading _ _ _ c.next_flushed.new.self (g.R.Read.remaining c.next_flushed.new.reader) _ _ _ _ _ _ _ _ read.cause read.failed read.part so_far (Keeps-same _))
 
 pub returns-in_err-write_answer-clause-err : goal.returns-in_err-write_answer-clause-err
 returns-in_err-write_answer-clause-err g c =
@@ -69,11 +69,6 @@ returns-then-branch-clause-err g c =
     let so_far = done_flushed _ _ _ _ _ _ _ _ _ _ c.loop-count.invariant.0 c.in_ok-flush.ensures.kept in
     stops_full _ _ c.fill.new.self (g.R.Read.remaining c.fill.new.reader) c.flush.new.self.calls _ _ _ _ _ _ (omega arith) (filled.some (ap Ok c.if-branch.true)) (done_left _ _ _ _ _ _ _ _ _ _ so_far filled.bytes)
 
-pub returns-in_err-scratch-clause-err : goal.returns-in_err-scratch-clause-err
-returns-in_err-scratch-clause-err g c =
-    let input = c.args.input.now in
-    handed c.from_residual.result _ _ c.from_residual.ensures.1 (stops_reading _ _ fault.Memory input.lines (g.R.Read.remaining input.reader) c.args.output.now.calls _ _ _ _ _ _ _ tt tt (TakesPart-none _) (done_none _ _ _ _ _ _ c.journal.ensures.leads (c.journal.ensures.idle c.requires) (LinesTaken-self _) (Took-none _)) (Keeps-same _))
-
 -- it hasn't stopped, unless for want of memory
 
 pub returns-then-not-branch-clause-ready : goal.returns-then-not-branch-clause-ready
@@ -84,7 +79,7 @@ returns-clause-ready g c = c.loop-count.invariant.2
 
 pub returns-in_err-next_flushed-clause-stopped : goal.returns-in_err-next_flushed-clause-stopped
 returns-in_err-next_flushed-clause-stopped g c =
-    handed c.from_residual-in_err-next_flushed.result _ _ c.from_residual-in_err-next_flushed.ensures.1 (may_stop _ _ c.loop-count.invariant.2)
+    handed c.from_residual.result _ _ c.from_residual.ensures.1 (may_stop _ _ c.loop-count.invariant.2)
 
 pub returns-in_err-write_answer-clause-stopped : goal.returns-in_err-write_answer-clause-stopped
 returns-in_err-write_answer-clause-stopped g c =
@@ -100,10 +95,6 @@ returns-in_err-flush-clause-stopped g c =
 
 pub returns-then-branch-clause-stopped : goal.returns-then-branch-clause-stopped
 returns-then-branch-clause-stopped g c = c.loop-count.invariant.2
-
-pub returns-in_err-scratch-clause-stopped : goal.returns-in_err-scratch-clause-stopped
-returns-in_err-scratch-clause-stopped g c =
-    handed c.from_residual.result _ fault.Memory c.from_residual.ensures.1 (may_stop fault.Memory c.args.silo.now.stopped c.requires)
 
 -- no call of the writer failed
 
@@ -123,7 +114,7 @@ returns-clause-setup g c = c.loop-count.invariant.0.hears.tries.setup
 
 pub returns-in_err-next_flushed-clause-kept : goal.returns-in_err-next_flushed-clause-kept
 returns-in_err-next_flushed-clause-kept g c =
-    handed c.from_residual-in_err-next_flushed.result _ _ c.from_residual-in_err-next_flushed.ensures.1 (setup_kept _ _ _ c.loop-count.invariant.0.hears.tries.setup)
+    handed c.from_residual.result _ _ c.from_residual.ensures.1 (setup_kept _ _ _ c.loop-count.invariant.0.hears.tries.setup)
 
 pub returns-in_err-write_answer-clause-kept : goal.returns-in_err-write_answer-clause-kept
 returns-in_err-write_answer-clause-kept g c =
@@ -139,7 +130,3 @@ returns-in_err-flush-clause-kept g c =
 
 pub returns-then-branch-clause-kept : goal.returns-then-branch-clause-kept
 returns-then-branch-clause-kept g c = c.loop-count.invariant.0.hears.tries.setup
-
-pub returns-in_err-scratch-clause-kept : goal.returns-in_err-scratch-clause-kept
-returns-in_err-scratch-clause-kept g c =
-    handed c.from_residual.result _ _ c.from_residual.ensures.1 (setup_kept fault.Memory c.args.silo.now.history c.args.silo.now.history refl)

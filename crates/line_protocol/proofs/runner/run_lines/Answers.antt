@@ -1,5 +1,4 @@
 use Rattle.std.proofs.Common.{Ok, refl, ap, ◌∙◌, arith}
-use Rattle.line_protocol.specs.declared.fault.LineFault.TheVariants as fault
 use Rattle.line_protocol.proofs.LinesOfBytes.{LinesTaken-self}
 use Rattle.line_protocol.proofs.ReadLines.{same_said, handed}
 use Rattle.line_protocol.proofs.TakenLines.{Took-none, TakesPart-none}
@@ -36,7 +35,7 @@ pub returns-in_err-next_flushed-clause-err : goal.returns-in_err-next_flushed-cl
 returns-in_err-next_flushed-clause-err g c =
     let read = c.in_err-next_flushed.ensures in
     let so_far = LinesDone-flushed _ _ _ _ _ _ _ _ _ c.loop-count.invariant.0 read.written in
-    handed c.from_residual-in_err-next_flushed.result _ _ c.from_residual-in_err-next_flushed.ensures.1 (stops_reading _ _ c.next_flushed.new.self (g.R.Read.remaining c.next_flushed.new.reader) _ _ _ _ _ _ _ _ read.cause read.failed read.part so_far)
+    handed c.from_residual.result _ _ c.from_residual.ensures.1 (stops_reading _ _ c.next_flushed.new.self (g.R.Read.remaining c.next_flushed.new.reader) _ _ _ _ _ _ _ _ read.cause read.failed read.part so_far)
 
 pub returns-in_err-write_answer-clause-err : goal.returns-in_err-write_answer-clause-err
 returns-in_err-write_answer-clause-err g c =
@@ -67,11 +66,6 @@ returns-then-branch-clause-err g c =
     let filled = c.in_ok-fill.ensures in
     let so_far = LinesDone-flushed _ _ _ _ _ _ _ _ _ c.loop-count.invariant.0 c.in_ok-flush.ensures.kept in
     stops_full _ c.fill.new.self (g.R.Read.remaining c.fill.new.reader) c.flush.new.self.calls _ _ _ _ _ _ (omega arith) (filled.some (ap Ok c.if-branch.true)) (LinesDone-kept _ _ _ _ _ _ _ _ _ so_far filled.bytes)
-
-pub returns-in_err-scratch-clause-err : goal.returns-in_err-scratch-clause-err
-returns-in_err-scratch-clause-err g c =
-    let input = c.args.input.now in
-    handed c.from_residual.result _ _ c.from_residual.ensures.1 (stops_reading _ fault.Memory input.lines (g.R.Read.remaining input.reader) c.args.output.now.calls _ _ _ _ _ _ _ tt tt (TakesPart-none _) (LinesDone-none _ _ _ _ _ c.journal.ensures.leads (LinesTaken-self _) (Took-none _)))
 
 -- no call of the writer failed
 
