@@ -21,5 +21,5 @@ pub mod OtherMembers
 pub mod NoObject
 pub mod NoRequest
 pub mod Steps
-pub mod OddMembers
+pub mod NotNaturals
 pub mod Results

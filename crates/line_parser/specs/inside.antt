@@ -4,7 +4,7 @@ pub mod CallMembers
 pub mod Fields
 pub mod LineMembers
 pub mod Number
-pub mod OddLine
+pub mod NotNatural
 pub mod PassedMembers
 pub mod Plain
 pub mod QuickFault

@@ -96,7 +96,7 @@ impl<'a> LineMembers<'a> {
 }
 
 /// The levels that a member's value may have: what is left of 127 behind the line's object.
-const MEMBER_DEPTH: usize = 126;
+pub(crate) const MEMBER_DEPTH: usize = 126;
 
 /// The bytes that are put for a value, at most: more than any line spells, of which two bytes stand for nine at most.
 /// Whether a message or a state is too long is asked once they are known.

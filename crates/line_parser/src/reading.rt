@@ -10,9 +10,9 @@ ghost use Rattle.line_parser.specs.Meaning.{json_of_line, meaning_by, meaning_of
 use crate::ascii::is_ascii;
 use crate::call_members::take_call;
 use crate::line::{Line, LineRefusal};
-use crate::line_members::{LineMembers, ValueIn, read_members};
+use crate::line_members::{LineMembers, MEMBER_DEPTH, ValueIn, read_members};
 use crate::members::members_of_json;
-use crate::odd_line::take_odd;
+use crate::not_natural::take_not_natural;
 use crate::plain::byte_at;
 use crate::quick_fault::QuickFault;
 use crate::short_line::{members_of_short, short_line};
@@ -27,8 +27,8 @@ use std::alloc::{AllocError, Global};
 /// The bytes that a line may have, without its LF.
 pub const LINE_LIMIT: usize = 65536;
 
-/// The levels to which JSON may nest.
-const MOST_LEVELS: usize = 127;
+/// The levels to which JSON may nest: 127.
+const MOST_LEVELS: usize = MEMBER_DEPTH + 1;
 
 #[tactic(auto, using(crate::proofs::Meaning::json_of_line_none))]
 /// The JSON of a line, if it is JSON.
@@ -216,7 +216,7 @@ fn read_call_step(
 
 /// What a line says, if its last member has another value than the whole number that is asked for.
 #[inline(never)]
-fn read_odd(
+fn read_not_natural(
     alloc: Global,
     scratch: &mut LineScratch,
     text: &str,
@@ -224,7 +224,7 @@ fn read_odd(
     ensures { IfOk result (λ found. IfSome found (λ said. said ≡ meaning_by (option_and_then step_of_json (read text.now)))) }
 {
     let mut members = LineMembers::none();
-    let taken = take_odd(text, &mut scratch.texts, &mut members)?;
+    let taken = take_not_natural(text, &mut scratch.texts, &mut members)?;
     if !taken {
         return Ok(None);
     }
@@ -265,7 +265,7 @@ fn read_left(
     if let QuickFault::Memory = fault {
         return Err(AllocError);
     }
-    match read_odd(alloc, scratch, text) {
+    match read_not_natural(alloc, scratch, text) {
         Ok(Some(said)) => return Ok(said),
         Ok(None) | Err(QuickFault::LeftToTree) => {}
         Err(QuickFault::Memory) => return Err(AllocError),

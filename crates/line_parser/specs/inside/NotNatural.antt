@@ -29,29 +29,29 @@ abbrev pub NoNatural : Data → Type 0
 NoNatural json = (as_number json >>= λ n. as_i64 n >>= natural) ≡ None
 
 -- The token is a value of its own, and no such number.
-pub record IsOdd (t : Token) : Type 0 where
+pub record IsNotNatural (t : Token) : Type 0 where
   pub json : Data
   pub read : (ts : List Token) → converted of_json (value 126 (t ∷ ts)) ≡ Some (json, ts)
-  pub odd : NoNatural json
+  pub none : NoNatural json
 
 -- The tokens are such a value, behind which the object ends, and nothing follows.
-pub record EndsOdd (ts : List Token) : Type 0 where
+pub record EndsNotNatural (ts : List Token) : Type 0 where
   pub json : Data
   pub rest : List Token
   pub read : converted of_json (value 126 ts) ≡ Some (json, rest)
-  pub odd : NoNatural json
+  pub none : NoNatural json
   pub shorter : length rest < length ts
   pub over : read_key rest ≡ Some (None, [])
 
 -- The tokens are one object, whose members went to their slots, but for the last, whose value is no number for its own.
-pub record HasOddMember (ts : List Token) (s : LineMembers) : Type 0 where
+pub record HasNotNatural (ts : List Token) (s : LineMembers) : Type 0 where
   pub line : LineMembers
   pub found : Members
   pub holds : HoldsLineMembers found line []
   pub name : Name
   pub unset : IsUnset name line
   pub json : Data
-  pub odd : NoNatural json
+  pub none : NoNatural json
   pub read : option_and_then of_json (option_and_then (λ p. if_last p.0 p.1) (value 127 ts))
       ≡ Some (object (put (name_text name) json found))
   pub count : ℕ

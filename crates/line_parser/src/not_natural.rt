@@ -9,7 +9,7 @@ ghost use Rattle.serde_json.specs.Find.{as_i64};
 ghost use Rattle.serde_json.specs.Read.{number_of};
 ghost use Rattle.line_parser.specs.Form.{natural};
 ghost use Rattle.line_parser.specs.inside.LineMembers.{HoldsLineMembers};
-ghost use Rattle.line_parser.specs.inside.OddLine.{IsUnset, IsOdd, EndsOdd, HasOddMember};
+ghost use Rattle.line_parser.specs.inside.NotNatural.{IsUnset, IsNotNatural, EndsNotNatural, HasNotNatural};
 
 use crate::line_members::{LineMembers, Name, Next};
 use crate::number::{is_not_whole, whole_number};
@@ -43,8 +43,8 @@ fn is_no_natural(text: &str) -> bool
 }
 
 /// Whether the token is a value of its own, and no whole number from 0 up.
-fn is_odd(token: Token<'_>) -> bool
-    ensures { IsTrue result → IsOdd (token_of token.entry) }
+fn is_not_natural(token: Token<'_>) -> bool
+    ensures { IsTrue result → IsNotNatural (token_of token.entry) }
 {
     match token {
         Token::String(_) | Token::Bool(_) | Token::Null => true,
@@ -55,12 +55,12 @@ fn is_odd(token: Token<'_>) -> bool
 }
 
 /// Whether a text begins with such a token, and the object and the line end behind it.
-fn ends_behind_odd(value: &str, scratch: &mut Scratch) -> Result<bool, QuickFault>
-    ensures { IfOk result (λ so. IsTrue so → EndsOdd (tokens value.now)) }
+fn ends_not_natural(value: &str, scratch: &mut Scratch) -> Result<bool, QuickFault>
+    ensures { IfOk result (λ so. IsTrue so → EndsNotNatural (tokens value.now)) }
 {
     let mut reader = Tokens::new(value, scratch);
     let token = reader.next()?;
-    if !is_odd(token) {
+    if !is_not_natural(token) {
         return Ok(false);
     }
     let Next::End = reader.next_member()? else {
@@ -71,13 +71,13 @@ fn ends_behind_odd(value: &str, scratch: &mut Scratch) -> Result<bool, QuickFaul
 
 /// Takes the members of the object that a text is, if it is such a line: whether it is. The last is counted, and stays
 /// out of its slot.
-pub(crate) fn take_odd<'a>(
+pub(crate) fn take_not_natural<'a>(
     text: &'a str,
     scratch: &mut Scratch,
     members: &mut LineMembers<'a>,
 ) -> Result<bool, QuickFault>
     requires { (l : List ℕ) → HoldsLineMembers no_members members.old l }
-    ensures { IfOk result (λ taken. IsTrue taken → HasOddMember (tokens text.now) members.new) }
+    ensures { IfOk result (λ taken. IsTrue taken → HasNotNatural (tokens text.now) members.new) }
 {
     let Some(begun) = map_start(text) else {
         return Ok(false);
@@ -92,7 +92,7 @@ pub(crate) fn take_odd<'a>(
     let Some(count) = members.count.checked_add(1) else {
         return Ok(false);
     };
-    let ends = ends_behind_odd(value, scratch)?;
+    let ends = ends_not_natural(value, scratch)?;
     if !ends {
         return Ok(false);
     }
