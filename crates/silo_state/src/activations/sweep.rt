@@ -24,7 +24,7 @@ impl<L: GrainLogic> Activations<L> {
     ///
     /// # Errors
     ///
-    /// Out of memory: nothing changed.
+    /// Out of memory: no activation went. Notes may have moved to their later moments, which no answer shows.
     pub fn sweep(&mut self, alloc: Global) -> Result<(), AllocError>
         ensures swept { OnOk result (self.new.entries
             ≡ kept_entries self.old.times.clock (kind_age self.old.times.ages self.old.times.age) self.old.entries) }
@@ -43,7 +43,7 @@ impl<L: GrainLogic> Activations<L> {
     ///
     /// # Errors
     ///
-    /// Out of memory: nothing changed.
+    /// Out of memory: the note stays where it was.
     fn note_later(&mut self, grain: &GrainId) -> Result<(), AllocError>
         ensures entries { self.new.entries ≡ self.old.entries }
         ensures times { self.new.times ≡ self.old.times }
