@@ -3,8 +3,10 @@ use Rattle.std.proofs.Common.{arith, ◌≡◌, ℕ, ◌-◌, ◌<◌, Bool, tru
 use Rattle.std.specs.Prelude.{IsSome, nat_lt, length, if◌then◌else◌, ◌==◌}
 use Rattle.std.specs.Int.{w32}
 use Rattle.std.specs.Str.{IsUtf8, is_utf8}
+use Rattle.std.proofs.lemmas.Option.{same_Some}
 use Rattle.std.proofs.lemmas.Str.{IsUtf8-from_is_utf8}
 use Rattle.request_codec.specs.inside.Build.{Named}
+use Rattle.request_codec.specs.inside.Ends.{end_of}
 use Rattle.request_codec.specs.Call.{Call, asks, call_behind, versioned_call, message_call, state_value}
 use Rattle.request_codec.specs.Limits.{message_version, depth_limit, message_limit, state_limit}
 use Rattle.request_codec.specs.Reading.{Parse, ◌>>=◌, bytes_at, text_at, members_at, fields_at, value_at, is_above, if_ended}
@@ -21,6 +23,11 @@ some_unless (Some x) h = refl
 pub not_none : {A : Type 0} (o : Option A) → o ≡ None → IsSome o → ⊥
 not_none None e h = cc (h)
 not_none (Some x) e h = cc (e)
+
+-- what was read to those bytes
+pub read_to : {A : Type 0} (o : Option (A × List ℕ)) (rest : List ℕ) → Some rest ≡ end_of o → (x : A) × (o ≡ Some (x, rest))
+read_to None rest h = absurd (cc (h))
+read_to (Some (x, behind)) rest h = (x, ap (λ (b : List ℕ). Some (x, b)) (same_Some behind rest (sym h)))
 
 true_unless : (b : Bool) → (b ≡ false → ⊥) → b ≡ true
 true_unless true h = refl

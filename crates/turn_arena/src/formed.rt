@@ -28,7 +28,7 @@ pub(crate) fn known_text(bytes: &[u8]) -> Option<(&str, &[u8])>
 /// The start of a value that is known to stand at the front, and the bytes after it.
 #[tactic(auto, unfolding(request_codec::specs::Start::start_at))]
 #[inline(always)]
-fn known_start(bytes: &[u8]) -> Option<(Start<'_>, &[u8])>
+pub(crate) fn known_start(bytes: &[u8]) -> Option<(Start<'_>, &[u8])>
     requires { IsSome (start_at bytes.now) }
     ensures { option_map (λ x. (begun x.0, x.1.now)) result ≡ start_at bytes.now }
 {

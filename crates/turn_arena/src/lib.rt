@@ -13,6 +13,7 @@ mod node;
 mod node_builder;
 mod node_reader;
 mod node_shown;
+mod passing;
 mod reading;
 mod setting;
 mod trees;

@@ -16,7 +16,8 @@ ghost use Rattle.turn_arena.specs.inside.Places.{IsPlaceIn, behind_map};
 use crate::formed::known_text;
 use crate::node::Node;
 use crate::node_shown::ShownNode;
-use request_codec::bytes::{Start, put, put_start, put_text, put_value, u32_of, value_end};
+use crate::passing::known_end;
+use request_codec::bytes::{Start, put, put_start, put_text, put_value, u32_of};
 use request_codec::limits::{MAX_DEPTH, MAX_STATE_BYTES};
 use request_codec::{CodecFault, StateBytes};
 use std::alloc::{AllocError, Global};
@@ -77,9 +78,7 @@ fn place_of<'a>(state: &'a StateBytes, name: &str) -> Place<'a>
         let Some((other, value)) = known_text(left) else {
             unreachable!();
         };
-        let Some(after) = value_end(value, MAX_DEPTH - 1) else {
-            unreachable!();
-        };
+        let after = known_end(value, MAX_DEPTH - 1);
         let front = front_of(fields, left);
         match name.cmp(other) {
             Ordering::Less => return Place {
