@@ -32,6 +32,8 @@ pub use accepted::LAST_NUMBER;
 #[derive(Drop)]
 pub struct Accounts {
     by_name: IndexMap<String, Account>,
+    /// The names of the tenants, in the order of their accounts: a copy of one shares its text.
+    names: Vec<Tenant>,
     latest: usize,
 }
 
@@ -59,12 +61,31 @@ impl Accounts {
         ensures { IfOk result (λ a. a ≡ fresh_accounts tenants.now) }
     {
         let mut by_name = IndexMap::new(alloc);
+        let mut names = Vec::new(alloc);
         for (tenant, limits) in tenants {
             if !by_name.contains_key(tenant.text()) {
                 add(alloc, &mut by_name, tenant, *limits)?;
+                names.push(tenant.clone()?)?;
             }
         }
-        Ok(Accounts { by_name, latest: 0 })
+        Ok(Accounts {
+            by_name,
+            names,
+            latest: 0,
+        })
+    }
+
+    /// The tenant's name, to be copied with no text of its own. It may be left out.
+    pub fn name(&self, tenant: &str) -> Option<&Tenant>
+        ensures { IfSome result (λ name. name.now ≡ tenant.now) }
+    {
+        let place = place_of(&self.by_name, self.latest, tenant)?;
+        let name = self.names.get(place)?;
+        if name.text() == tenant {
+            Some(name)
+        } else {
+            None
+        }
     }
 
     /// The tenant's account, or nothing if the tenant isn't known.

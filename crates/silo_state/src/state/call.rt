@@ -12,7 +12,7 @@ ghost use Rattle.silo_state.specs.inside.Requests.{with_told, with_accepted};
 use crate::account::Account;
 use crate::accounts::LAST_NUMBER;
 use crate::state::SiloState;
-use grain_id::{Caller, GrainId};
+use grain_id::{Caller, GrainId, Tenant};
 use grain_kinds::GrainLogic;
 use grain_storage::GrainStorage;
 use request_codec::{Message, StateBytes};
@@ -65,7 +65,7 @@ impl<S: GrainStorage, L: GrainLogic> SiloState<S, L> {
             }
             Err(GateRefusal::AcrossTenants) => {
                 return Ok(Err(Fault::AcrossTenants {
-                    from: asker.to_tenant(alloc)?,
+                    from: self.tenant_of(alloc, asker)?,
                     to: grain.to_tenant(alloc)?,
                 }));
             }
@@ -74,6 +74,17 @@ impl<S: GrainStorage, L: GrainLogic> SiloState<S, L> {
             return Ok(Err(Fault::UnknownKind(grain.to_kind(alloc)?)));
         }
         Ok(Ok(account))
+    }
+
+    /// The tenant of a client or a grain. That of one that is known takes no memory.
+    #[inline(never)]
+    fn tenant_of(&self, alloc: Global, asker: &Party) -> Result<Tenant, AllocError>
+        ensures { IfOk result (λ tenant. tenant ≡ tenant_of asker.now) }
+    {
+        match self.accounts.name(asker.tenant()) {
+            Some(name) => name.clone(),
+            None => asker.to_tenant(alloc),
+        }
     }
 
     /// Why a request is refused, if it is: it doesn't pass the gate, no number is left, the tenant may
@@ -93,14 +104,14 @@ impl<S: GrainStorage, L: GrainLogic> SiloState<S, L> {
             Err(why) => return Ok(Some(why)),
         };
         if account.count() == LAST_NUMBER {
-            return Ok(Some(Fault::NoNumber(sender.to_tenant(alloc)?)));
+            return Ok(Some(Fault::NoNumber(self.tenant_of(alloc, sender)?)));
         }
         let limits = account.limits();
         let Some(waiting) = self.activations.waiting(grain) else {
             if self.activations.count(sender.tenant()) < limits.activations as usize {
                 return Ok(None);
             }
-            return Ok(Some(Fault::NoActivation(sender.to_tenant(alloc)?)));
+            return Ok(Some(Fault::NoActivation(self.tenant_of(alloc, sender)?)));
         };
         if waiting < limits.mailbox as usize {
             return Ok(None);

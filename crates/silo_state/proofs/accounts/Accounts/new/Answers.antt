@@ -10,7 +10,7 @@ use Rattle.silo_model.proofs.Opening.{get-fresh_accounts}
 use Rattle.silo_state.proofs.AccountMaps.{get-by_bytes}
 use Rattle.silo_state.proofs.Tables.{pushed_new, pushed_again}
 use Rattle.silo_state.proofs.accounts.Accounts.new.Goals as goal
-use Rattle.silo_state.proofs.accounts.Accounts.new.Goals.{then-not-contains_key+in_ok-add, else-not-contains_key}
+use Rattle.silo_state.proofs.accounts.Accounts.new.Goals.{then-not-contains_key+in_ok-add+in_ok-clone+in_ok-push, else-not-contains_key}
 
 pub loop-tenant-preserved : goal.loop-tenant-preserved
 loop-tenant-preserved c name =
@@ -21,7 +21,7 @@ loop-tenant-preserved c name =
     let kept = c.loop-tenant.invariant in
     let longer : take i list ++ entry ∷ [] ≡ take (i + 1) list = ap (λ e. take i list ++ e ∷ []) c.loop-tenant-item.is ∙ sym (take_more list i entry c.loop-tenant-test.true) in
     elim c.if-not-contains_key.branch [
-      | then-not-contains_key+in_ok-add w ↦
+      | then-not-contains_key+in_ok-add+in_ok-clone+in_ok-push w ↦
           let absent : is_some (get_by_text before entry.0) ≡ false = ap (λ n. is_some (get_by_text before n)) (sym c.text.ensures.text) ∙ sym w.if-not-contains_key.ensures in
           ap (λ m. get_by_text m name) w.by_name-is
           ∙ w.in_ok-add.ensures name
