@@ -191,7 +191,8 @@ fn work<S: GrainStorage, L: GrainLogic + Drop, G: TurnGate, R: Wait>(
     }
 }
 
-/// Runs the workers in threads of a scope, and says whether one was started.
+/// Runs the workers: one in this thread, the others in threads of a scope. Says whether one of these was started, if there are any;
+/// if none was, nothing is done.
 fn run_workers<
     'x,
     S: GrainStorage + Send,
@@ -210,14 +211,17 @@ fn run_workers<
     logic: L,
 ) -> bool {
     thread::scope(thread::scope_env(), rt, |scope| {
-        let mut started = false;
-        for _ in 0..workers {
+        let mut started = workers == 1;
+        for _ in 1..workers {
             if scope
                 .spawn(move || work(rt, alloc, schedule, waiting, changed, lanes, gate, logic))
                 .is_ok()
             {
                 started = true;
             }
+        }
+        if started {
+            work(rt, alloc, schedule, waiting, changed, lanes, gate, logic);
         }
         started
     })
