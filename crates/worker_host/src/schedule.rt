@@ -22,6 +22,9 @@ use std::collections::VecDeque;
 /// A turn whose body ran: what it came to, or opened still if memory was refused.
 pub type RanTurn<L> = Result<FinishedTurn<L>, OpenedTurn>;
 
+/// How many steps in a row the lane gives that was told something last, until it is the turn of the one that has waited for longest.
+const IN_A_ROW: u32 = 16;
+
 /// What a worker does next.
 #[derive(Clone, Copy)]
 pub enum Task {
@@ -53,8 +56,10 @@ pub struct Schedule<S: GrainStorage, L: GrainLogic> {
 pub struct LanePlaces {
     /// How many steps of each lane were given.
     given: Vec<usize>,
-    /// The lanes that may give their next step.
+    /// The lanes that may give their next step: last those that were told something last.
     ready: VecDeque<usize>,
+    /// How many steps the last of them gave in a row.
+    in_a_row: u32,
 }
 
 impl LanePlaces {
@@ -70,7 +75,11 @@ impl LanePlaces {
             given.push(0)?;
             ready.push_back(index)?;
         }
-        Ok(LanePlaces { given, ready })
+        Ok(LanePlaces {
+            given,
+            ready,
+            in_a_row: IN_A_ROW,
+        })
     }
 
     /// The lane's next step, if it has one.
@@ -79,6 +88,17 @@ impl LanePlaces {
             Some(place) => lane.steps().get(*place),
             None => None,
         }
+    }
+
+    /// The lane that gives the next step, if one may: the one that was told something last, and behind so many of these the one that
+    /// has been ready for longest.
+    fn next_ready(&mut self) -> Option<usize> {
+        if self.in_a_row < IN_A_ROW {
+            self.in_a_row += 1;
+            return self.ready.pop_back();
+        }
+        self.in_a_row = 0;
+        self.ready.pop_front()
     }
 
     /// The lane gave its next step. A lane of nobody is ready again at once.
@@ -239,8 +259,8 @@ impl<S: GrainStorage, L: GrainLogic> Schedule<S, L> {
         self.lanes.ready.len().saturating_add(self.grains.len())
     }
 
-    /// Takes steps until the worker has its share of turns, or nothing can be done now, unless the worker is better off at rest. If
-    /// memory is refused, all is given up.
+    /// Takes steps until the worker has its share of turns, or nothing can be done now, unless the worker is better off at rest and
+    /// isn't one that stays awake. If memory is refused, all is given up.
     pub fn fill(
         &mut self,
         alloc: Global,
@@ -248,10 +268,11 @@ impl<S: GrainStorage, L: GrainLogic> Schedule<S, L> {
         lanes: &[Lane],
         turns: &mut VecDeque<OpenedTurn>,
         first: bool,
+        stays: bool,
     ) -> Task
         ensures { deque_len turns.old ≤ most_turns first → deque_len turns.new ≤ most_turns first }
     {
-        if self.pace.rests() {
+        if !stays && self.pace.rests() {
             return Task::Wait;
         }
         if self.stopped {
@@ -315,10 +336,8 @@ impl<S: GrainStorage, L: GrainLogic> Schedule<S, L> {
             self.deliver(alloc, grain, turns)?;
             return Ok(true);
         }
-        if self.lanes.ready.is_empty() {
-            self.note_told()?;
-        }
-        let Some(index) = self.lanes.ready.pop_front() else {
+        self.note_told()?;
+        let Some(index) = self.lanes.next_ready() else {
             return Ok(false);
         };
         let Some(lane) = lanes.get(index) else {
@@ -445,7 +464,6 @@ impl<S: GrainStorage, L: GrainLogic> Schedule<S, L> {
             return Ok(());
         };
         let own = step.clone()?;
-        self.note_told()?;
         let served = self.give(alloc, arena, own)?;
         self.lanes.note_given(lane, index)?;
         let Step::Call { grain, .. } = step else {

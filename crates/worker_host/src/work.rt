@@ -36,6 +36,8 @@ struct Worker<L: GrainLogic> {
     /// Those that it took since.
     taken: VecDeque<OpenedTurn>,
     started: bool,
+    /// Whether it stays awake where others rest.
+    stays: bool,
     /// By which waking it woke another before their bodies, or 0 if by none.
     waking: u64,
 }
@@ -77,7 +79,7 @@ fn next_turns<S: GrainStorage, L: GrainLogic, R: Wait>(
     worker.started = true;
     held.come(alloc, first, met, worker.waking, worker.ran.as_slice());
     for _ in rt.forever() {
-        match held.fill(alloc, arena, lanes, &mut worker.taken, first) {
+        match held.fill(alloc, arena, lanes, &mut worker.taken, first, worker.stays) {
             Task::Run => {
                 let wakes = held.wakes();
                 worker.waking = if wakes { held.pace.last_waking() } else { 0 };
@@ -150,7 +152,8 @@ fn give_up<S: GrainStorage, L: GrainLogic, R: Wait>(
     changed.notify_all();
 }
 
-/// One worker, with an arena of its own. If there is no memory for what its turns come to, all is given up.
+/// One worker, with an arena of its own, and maybe one that stays awake where others rest. If there is no memory for what its turns
+/// come to, all is given up.
 fn work<S: GrainStorage, L: GrainLogic + Drop, G: TurnGate, R: Wait>(
     rt: &R,
     alloc: Global,
@@ -160,12 +163,14 @@ fn work<S: GrainStorage, L: GrainLogic + Drop, G: TurnGate, R: Wait>(
     lanes: &[Lane],
     gate: &G,
     logic: L,
+    stays: bool,
 ) {
     let mut arena = Bump::new(alloc);
     let mut worker = Worker {
         ran: Vec::new(alloc),
         taken: VecDeque::new(alloc),
         started: false,
+        stays,
         waking: 0,
     };
     for _ in rt.forever() {
@@ -214,14 +219,18 @@ fn run_workers<
         let mut started = workers == 1;
         for _ in 1..workers {
             if scope
-                .spawn(move || work(rt, alloc, schedule, waiting, changed, lanes, gate, logic))
+                .spawn(move || work(
+                    rt, alloc, schedule, waiting, changed, lanes, gate, logic, false,
+                ))
                 .is_ok()
             {
                 started = true;
             }
         }
         if started {
-            work(rt, alloc, schedule, waiting, changed, lanes, gate, logic);
+            work(
+                rt, alloc, schedule, waiting, changed, lanes, gate, logic, true,
+            );
         }
         started
     })
