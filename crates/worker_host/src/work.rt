@@ -42,6 +42,19 @@ struct Worker<L: GrainLogic> {
     waking: u64,
 }
 
+impl<L: GrainLogic> Worker<L> {
+    /// A worker that was never at the lock.
+    fn new(alloc: Global, stays: bool) -> Worker<L> {
+        Worker {
+            ran: Vec::new(alloc),
+            taken: VecDeque::new(alloc),
+            started: false,
+            stays,
+            waking: 0,
+        }
+    }
+}
+
 /// Takes the lock, and says whether another had it, or others wait for it.
 fn come<'b, S: GrainStorage, L: GrainLogic, R: Wait>(
     rt: &R,
@@ -152,8 +165,35 @@ fn give_up<S: GrainStorage, L: GrainLogic, R: Wait>(
     changed.notify_all();
 }
 
-/// One worker, with an arena of its own, and maybe one that stays awake where others rest. If there is no memory for what its turns
-/// come to, all is given up.
+/// A worker runs the turns that it took, and goes on until all is over. If there is no memory for what its turns come to, all is given
+/// up.
+fn go_on<S: GrainStorage, L: GrainLogic + Drop, G: TurnGate, R: Wait>(
+    rt: &R,
+    alloc: Global,
+    schedule: &Mutex<Schedule<S, L>>,
+    waiting: &AtomicUsize,
+    changed: &Condvar,
+    lanes: &[Lane],
+    gate: &G,
+    logic: L,
+    arena: &mut Bump,
+    worker: &mut Worker<L>,
+) {
+    for _ in rt.forever() {
+        worker.ran.clear();
+        let Ok(()) = worker.ran.reserve(worker.taken.len()) else {
+            give_up(rt, schedule, changed);
+            break;
+        };
+        let Worker { ran, taken, .. } = &mut *worker;
+        run_all(alloc, arena, gate, &logic, taken, ran);
+        if !next_turns(rt, alloc, schedule, waiting, changed, lanes, arena, worker) {
+            break;
+        }
+    }
+}
+
+/// One worker, with an arena of its own, that may rest.
 fn work<S: GrainStorage, L: GrainLogic + Drop, G: TurnGate, R: Wait>(
     rt: &R,
     alloc: Global,
@@ -163,41 +203,37 @@ fn work<S: GrainStorage, L: GrainLogic + Drop, G: TurnGate, R: Wait>(
     lanes: &[Lane],
     gate: &G,
     logic: L,
-    stays: bool,
 ) {
     let mut arena = Bump::new(alloc);
-    let mut worker = Worker {
-        ran: Vec::new(alloc),
-        taken: VecDeque::new(alloc),
-        started: false,
-        stays,
-        waking: 0,
-    };
-    for _ in rt.forever() {
-        if !next_turns(
+    let mut worker = Worker::new(alloc, false);
+    if next_turns(
+        rt,
+        alloc,
+        schedule,
+        waiting,
+        changed,
+        lanes,
+        &mut arena,
+        &mut worker,
+    ) {
+        go_on(
             rt,
             alloc,
             schedule,
             waiting,
             changed,
             lanes,
+            gate,
+            logic,
             &mut arena,
             &mut worker,
-        ) {
-            break;
-        }
-        worker.ran.clear();
-        let Ok(()) = worker.ran.reserve(worker.taken.len()) else {
-            give_up(rt, schedule, changed);
-            break;
-        };
-        let Worker { ran, taken, .. } = &mut worker;
-        run_all(alloc, &mut arena, gate, &logic, taken, ran);
+        );
     }
 }
 
-/// Runs the workers: one in this thread, the others in threads of a scope. Says whether one of these was started, if there are any;
-/// if none was, nothing is done.
+/// Runs the workers: one in this thread, which stays awake, and once it has its first turn the others in threads of a scope. So what
+/// grows as steps are taken has its memory from this thread, whose memory what is looked at later comes from, too. Says whether one of
+/// the others was started, if there are any: if none was, nothing is served.
 fn run_workers<
     'x,
     S: GrainStorage + Send,
@@ -215,21 +251,42 @@ fn run_workers<
     gate: &'x G,
     logic: L,
 ) -> bool {
+    let mut arena = Bump::new(alloc);
+    let mut worker = Worker::new(alloc, true);
+    if !next_turns(
+        rt,
+        alloc,
+        schedule,
+        waiting,
+        changed,
+        lanes,
+        &mut arena,
+        &mut worker,
+    ) {
+        return true;
+    }
     thread::scope(thread::scope_env(), rt, |scope| {
         let mut started = workers == 1;
         for _ in 1..workers {
             if scope
-                .spawn(move || work(
-                    rt, alloc, schedule, waiting, changed, lanes, gate, logic, false,
-                ))
+                .spawn(move || work(rt, alloc, schedule, waiting, changed, lanes, gate, logic))
                 .is_ok()
             {
                 started = true;
             }
         }
         if started {
-            work(
-                rt, alloc, schedule, waiting, changed, lanes, gate, logic, true,
+            go_on(
+                rt,
+                alloc,
+                schedule,
+                waiting,
+                changed,
+                lanes,
+                gate,
+                logic,
+                &mut arena,
+                &mut worker,
             );
         }
         started
