@@ -1,8 +1,8 @@
 //! How many answers each client is owed, and which lane is its own. It is owed as often as it asked, less
 //! what it was told and that was looked at.
 
-ghost use Rattle.std.specs.Prelude.{◌≡◌, ◌+◌, ◌-◌, ◌≤◌, ◌==◌, true, false, is_some, None, length, drop, if◌then◌else◌};
-ghost use Rattle.std.specs.Prelude.{IfOk, IfSome, IsFalse, IsTrue, OnErr, OnOk};
+ghost use Rattle.std.specs.Prelude.{◌≡◌, ◌+◌, ◌-◌, ◌≤◌, ◌==◌, true, false, length, drop, if◌then◌else◌};
+ghost use Rattle.std.specs.Prelude.{IfOk, IsFalse, IsTrue, OnErr, OnOk};
 ghost use Rattle.grain_id.specs.Names.{Client, client_eq};
 ghost use Rattle.lane_model.specs.Asking.{asker_of, ids_told};
 ghost use Rattle.worker_host.specs.inside.Working.{asks_if, asks_once, is_told, owing_to};
@@ -60,7 +60,7 @@ fn know(owing: &mut Owing, client: &Option<Caller>, lane: usize) -> Result<(), A
 }
 
 /// The client that asks by the step, if one does, asks once more, unless it is owed another number of answers than the replies behind
-/// so many tell it. Who asks, if anybody does; or none, if the client may not.
+/// so many tell it. Whether it may ask, or nobody asks.
 ///
 /// # Errors
 ///
@@ -70,41 +70,20 @@ pub fn ask(
     step: &Step,
     replies: &[Reply],
     seen: usize,
-) -> Result<Option<Option<Caller>>, AllocError>
+) -> Result<bool, AllocError>
     requires { seen ≤ length replies.now }
-    ensures may { IfOk result (λ asked. is_some asked ≡ is_told owing.old (drop seen replies.now) (asker_of step.now)) }
-    ensures asker { IfOk result (λ asked. IfSome asked (λ asker. asker ≡ asker_of step.now)) }
+    ensures may { IfOk result (λ asked. asked ≡ is_told owing.old (drop seen replies.now) (asker_of step.now)) }
     ensures asked { IfOk result (λ asked. (client : Client) → owing_to owing.new client
-        ≡ owing_to owing.old client + asks_if (is_some asked) (asker_of step.now) client) }
+        ≡ owing_to owing.old client + asks_if asked (asker_of step.now) client) }
     ensures refused { OnErr result (is_told owing.old (drop seen replies.now) (asker_of step.now) ≡ true) }
     ensures unchanged { OnErr result ((client : Client) → owing_to owing.new client ≡ owing_to owing.old client) }
 {
     let Some(caller) = step.asker() else {
-        return Ok(Some(None));
+        return Ok(true);
     };
     let (_, new) = replies.split_at(seen);
     let told = told_by(new, caller);
-    let Ok(asker) = caller.clone() else {
-        return refuse(owing, caller, told);
-    };
-    if ask_if(owing, caller, told)? {
-        return Ok(Some(Some(asker)));
-    }
-    drop(asker);
-    Ok(None)
-}
-
-/// No memory is there for a client that asks: none if it may not ask in any case.
-#[cold]
-fn refuse(owing: &Owing, caller: &Caller, told: u64) -> Result<Option<Option<Caller>>, AllocError>
-    ensures none { IfOk result (λ asked. asked ≡ None) }
-    ensures may_not { OnOk result ((owing_to owing.now caller.now == told) ≡ false) }
-    ensures may { OnErr result ((owing_to owing.now caller.now == told) ≡ true) }
-{
-    if owing_of(owing, caller) == told {
-        return Err(AllocError);
-    }
-    Ok(None)
+    ask_if(owing, caller, told)
 }
 
 /// The client asks once more, if it is owed so many answers, and says whether it asks.
@@ -154,16 +133,6 @@ fn ask_more(owed: &mut Owed, told: u64) -> Result<bool, AllocError>
     Ok(true)
 }
 
-/// How many answers the client is owed.
-fn owing_of(owing: &Owing, client: &Caller) -> u64
-    ensures { result ≡ owing_to owing.now client.now }
-{
-    match owing.get(client) {
-        Some(owed) => owed.count,
-        None => 0,
-    }
-}
-
 /// Accounts for a step by which this client, if any, asked last: if it wasn't done, it isn't asked. Takes no
 /// memory.
 pub fn settle(owing: &mut Owing, asker: &Option<Caller>, done: bool)
@@ -175,6 +144,15 @@ pub fn settle(owing: &mut Owing, asker: &Option<Caller>, done: bool)
         return;
     }
     if let Some(caller) = asker {
+        let _ = tell(owing, caller);
+    }
+}
+
+/// Accounts for a step by which a client, if any, asked last, and that is asked no more. Takes no memory.
+pub fn take_back(owing: &mut Owing, step: &Step)
+    ensures { (client : Client) → owing_to owing.new client ≡ owing_to owing.old client - asks_once (asker_of step.now) client }
+{
+    if let Some(caller) = step.asker() {
         let _ = tell(owing, caller);
     }
 }

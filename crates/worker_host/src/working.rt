@@ -61,22 +61,40 @@ fn was_done(answer: &Result<Answer, StepFault>) -> bool
     matches!(answer, Ok(Answer::Done | Answer::Failed))
 }
 
-/// Takes a step by which this client, if any, asked, and accounts for it.
+/// The client that asks by the step, if one does.
+///
+/// # Errors
+///
+/// Out of memory.
+fn asker_of(step: &Step) -> Result<Option<Caller>, AllocError>
+    ensures { IfOk result (λ asker. asker ≡ asker_of step.now) }
+{
+    match step.asker() {
+        Some(caller) => Ok(Some(caller.clone()?)),
+        None => Ok(None),
+    }
+}
+
+/// Takes a step by which its client, if any asks by it, asked, and accounts for it.
 fn apply_asked<S: GrainStorage, L: GrainLogic>(
     alloc: Global,
     silo: &mut Silo<S, L>,
     owing: &mut Owing,
-    asker: &Option<Caller>,
     step: Step,
 ) -> Result<Answer, StepFault>
     ensures answered { Answered L.logic silo.old step result silo.new }
     ensures done { was_done result ≡ true → (client : Client) → owing_to owing.new client ≡ owing_to owing.old client }
     ensures not_done { was_done result ≡ false → (client : Client)
-        → owing_to owing.new client ≡ owing_to owing.old client - asks_once asker.now client }
+        → owing_to owing.new client ≡ owing_to owing.old client - asks_once (asker_of step) client }
 {
+    let Ok(asker) = asker_of(&step) else {
+        owed::take_back(owing, &step);
+        drop(step);
+        return Err(StepFault::Memory);
+    };
     let answer = silo.apply(alloc, step);
     let done = was_done(&answer);
-    owed::settle(owing, asker, done);
+    owed::settle(owing, &asker, done);
     answer
 }
 
@@ -86,18 +104,17 @@ fn serve_asked<S: GrainStorage, L: GrainLogic>(
     bump: &Bump,
     silo: &mut Silo<S, L>,
     owing: &mut Owing,
-    asker: &Option<Caller>,
     step: Step,
 ) -> Result<Option<Answer>, StepFault>
     ensures answered { ServedOrAnswered L.logic silo.old step result silo.new }
     ensures done { was_taken result ≡ true → (client : Client) → owing_to owing.new client ≡ owing_to owing.old client }
     ensures not_done { was_taken result ≡ false → (client : Client)
-        → owing_to owing.new client ≡ owing_to owing.old client - asks_once asker.now client }
+        → owing_to owing.new client ≡ owing_to owing.old client - asks_once (asker_of step) client }
 {
     let Some(step) = silo.serve_at_once(alloc, bump, step) else {
         return Ok(None);
     };
-    as_answered(apply_asked(alloc, silo, owing, asker, step))
+    as_answered(apply_asked(alloc, silo, owing, step))
 }
 
 /// The answer of a step that wasn't served.
@@ -178,18 +195,18 @@ impl<S: GrainStorage, L: GrainLogic> WorkingSilo<S, L> {
         ensures refused { may_ask_in self.old.whole (asker_of step) ≡ false → result ≡ Ok answer.NotNow }
         ensures unchanged { may_ask_in self.old.whole (asker_of step) ≡ false → self.new ≡ self.old }
     {
-        let asker = match owed::ask(&mut self.owing, &step, self.silo.replies(), self.seen) {
-            Ok(Some(asker)) => asker,
-            Ok(None) => {
-                drop(step);
-                return Ok(Answer::NotNow);
-            }
+        let asked = match owed::ask(&mut self.owing, &step, self.silo.replies(), self.seen) {
+            Ok(asked) => asked,
             Err(AllocError) => {
                 drop(step);
                 return Err(StepFault::Memory);
             }
         };
-        apply_asked(alloc, &mut self.silo, &mut self.owing, &asker, step)
+        if !asked {
+            drop(step);
+            return Ok(Answer::NotNow);
+        }
+        apply_asked(alloc, &mut self.silo, &mut self.owing, step)
     }
 
     /// Takes a step as `take` does; but if it is a call, and its turn is short, this begins and ends, too: then there is no answer. The
@@ -208,18 +225,18 @@ impl<S: GrainStorage, L: GrainLogic> WorkingSilo<S, L> {
         ensures refused { may_ask_in self.old.whole (asker_of step) ≡ false → result ≡ Ok (Some answer.NotNow) }
         ensures unchanged { may_ask_in self.old.whole (asker_of step) ≡ false → self.new ≡ self.old }
     {
-        let client = match owed::ask(&mut self.owing, &step, self.silo.replies(), self.seen) {
-            Ok(Some(client)) => client,
-            Ok(None) => {
-                drop(step);
-                return Ok(Some(Answer::NotNow));
-            }
+        let asked = match owed::ask(&mut self.owing, &step, self.silo.replies(), self.seen) {
+            Ok(asked) => asked,
             Err(AllocError) => {
                 drop(step);
                 return Err(StepFault::Memory);
             }
         };
-        serve_asked(alloc, bump, &mut self.silo, &mut self.owing, &client, step)
+        if !asked {
+            drop(step);
+            return Ok(Some(Answer::NotNow));
+        }
+        serve_asked(alloc, bump, &mut self.silo, &mut self.owing, step)
     }
 
     /// The first waiting request of a ready grain becomes an open turn, if the turn rule allows it.

@@ -1,17 +1,16 @@
-use Rattle.std.proofs.Common.{◌+◌, ◌-◌, refl, ap, sym, ◌∙◌, true≢false}
-use Rattle.std.specs.Option.{is_some}
+use Rattle.std.proofs.Common.{◌+◌, refl, ap, sym, ◌∙◌, true≢false}
 use Rattle.silo_model.proofs.Lawful.{lawful_readers}
 use Rattle.lane_model.specs.Asking.{asker_of}
-use Rattle.worker_host.specs.inside.Working.{asks_if, asks_once, owing_to}
+use Rattle.worker_host.specs.inside.Working.{asks_if, owing_to}
 use Rattle.worker_host.proofs.AtWork.{told_is, working_settled}
 use Rattle.worker_host.proofs.working.WorkingSilo.take.Goals as goal
 
-pub returns-in-Ok-None-clause-taken : goal.returns-in-Ok-None-clause-taken
-returns-in-Ok-None-clause-taken g c = λ may.
+pub returns-then-not-asked-clause-taken : goal.returns-then-not-asked-clause-taken
+returns-then-not-asked-clause-taken g c = λ may.
     let a = c.self.inside in
     let logic = g.L.GrainLogic.logic in
     let told = told_is logic (lawful_readers logic g.met.L.GrainLogic.lawful) a.silo a.owing a.seen c.self.invariant c.args.self.now c.self.view_is c.replies.result.now c.replies.ensures (asker_of c.args.step) in
-    absurd (true≢false (sym may ∙ sym told ∙ sym c.in-Ok-None.ensures.may ∙ ap is_some c.in-Ok-None.field-0-is))
+    absurd (true≢false (sym may ∙ sym told ∙ sym c.in-Ok.ensures.may ∙ c.if-not-asked.true))
 
 pub returns-in-Err-clause-refused : goal.returns-in-Err-clause-refused
 returns-in-Err-clause-refused g c = λ may_not.
@@ -26,23 +25,22 @@ invariant_of-self-2 g c =
     let logic = g.L.GrainLogic.logic in
     let asker = asker_of c.args.step in
     let told = told_is logic (lawful_readers logic g.met.L.GrainLogic.lawful) a.silo a.owing a.seen c.self.invariant a.silo refl c.replies.result.now c.replies.ensures asker in
-    let asker_is = rw c.in-Ok-Some.field-0-is at c.in-Ok-Some.ensures.asker in
-    working_settled logic a.silo c.apply_asked.new.silo a.owing a.seen c.self.invariant c.args.step (sym told ∙ sym c.in-Ok-Some.ensures.may ∙ ap is_some c.in-Ok-Some.field-0-is)
+    working_settled logic a.silo c.apply_asked.new.silo a.owing a.seen c.self.invariant c.args.step (sym told ∙ sym c.in-Ok.ensures.may ∙ c.if-not-asked.false)
     c.apply_asked.result c.apply_asked.ensures.answered c.ask.new.owing c.apply_asked.new.owing
-    (λ client. c.in-Ok-Some.ensures.asked client ∙ ap (λ asked. owing_to a.owing client + asks_if (is_some asked) asker client) c.in-Ok-Some.field-0-is)
+    (λ client. c.in-Ok.ensures.asked client ∙ ap (λ asked. owing_to a.owing client + asks_if asked asker client) c.if-not-asked.false)
     c.apply_asked.ensures.done
-    (λ not_done client. c.apply_asked.ensures.not_done not_done client ∙ ap (λ who. owing_to c.ask.new.owing client - asks_once who client) asker_is)
+    c.apply_asked.ensures.not_done
 
 pub returns-clause-refused : goal.returns-clause-refused
 returns-clause-refused g c = λ may_not.
     let a = c.self.inside in
     let logic = g.L.GrainLogic.logic in
     let told = told_is logic (lawful_readers logic g.met.L.GrainLogic.lawful) a.silo a.owing a.seen c.self.invariant c.args.self.now c.self.view_is c.replies.result.now c.replies.ensures (asker_of c.args.step) in
-    absurd (true≢false (sym (sym c.in-Ok-Some.ensures.may ∙ ap is_some c.in-Ok-Some.field-0-is) ∙ told ∙ may_not))
+    absurd (true≢false (sym (sym c.in-Ok.ensures.may ∙ c.if-not-asked.false) ∙ told ∙ may_not))
 
 pub returns-clause-unchanged : goal.returns-clause-unchanged
 returns-clause-unchanged g c = λ may_not.
     let a = c.self.inside in
     let logic = g.L.GrainLogic.logic in
     let told = told_is logic (lawful_readers logic g.met.L.GrainLogic.lawful) a.silo a.owing a.seen c.self.invariant c.args.self.now c.self.view_is c.replies.result.now c.replies.ensures (asker_of c.args.step) in
-    absurd (true≢false (sym (sym c.in-Ok-Some.ensures.may ∙ ap is_some c.in-Ok-Some.field-0-is) ∙ told ∙ may_not))
+    absurd (true≢false (sym (sym c.in-Ok.ensures.may ∙ c.if-not-asked.false) ∙ told ∙ may_not))
