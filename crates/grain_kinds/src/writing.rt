@@ -1,9 +1,9 @@
 //! A plan's values, written as bytes of their own.
 
-ghost use Rattle.std.specs.Prelude.{◌≡◌, map, option_map, IfOk, IfSome};
+ghost use Rattle.std.specs.Prelude.{◌≡◌, [], Ok, map, option_map, IfOk, IfSome};
 ghost use Rattle.std.specs.List.{AllByRecursion};
 ghost use Rattle.request_codec.specs.Call.{asks};
-ghost use Rattle.request_codec.specs.Tree.{Tree};
+ghost use Rattle.request_codec.specs.Tree.{Tree, integer};
 ghost use Rattle.turn_arena.specs.NodeValue.{node_value};
 ghost use Rattle.grain_kinds.specs.Finished.{planned_shown, sent};
 ghost use Rattle.grain_kinds.specs.Laws.{FitsState, FitsMessage};
@@ -100,9 +100,58 @@ fn sends_of(alloc: Global, sends: Vec<Send<'_>>) -> Result<Vec<(GrainId, Message
     Ok(written)
 }
 
+/// The new state and the answer, if each is a whole number and nothing is sent.
+#[inline(always)]
+fn numbers_of(plan: &Plan<'_>) -> Option<(Option<i64>, i64)>
+    ensures state { IfSome result (λ numbers. option_map node_value plan.now.state ≡ option_map integer numbers.0) }
+    ensures outcome { IfSome result (λ numbers. outcome_shown plan.now.outcome ≡ Ok (integer numbers.1)) }
+    ensures sends { IfSome result (λ numbers. plan.now.sends.items ≡ []) }
+{
+    if !plan.sends.is_empty() {
+        return None;
+    }
+    let Ok(Node::Int(answer)) = plan.outcome else {
+        return None;
+    };
+    match plan.state {
+        Some(Node::Int(next)) => Some((Some(next), answer)),
+        None => Some((None, answer)),
+        Some(_) => None,
+    }
+}
+
+/// The state of a number, if there is one.
+#[inline(always)]
+fn number_state(number: Option<i64>) -> Option<StateBytes>
+    ensures { result ≡ option_map integer number }
+{
+    match number {
+        Some(number) => Some(StateBytes::integer(number)),
+        None => None,
+    }
+}
+
 /// All that a plan holds. The new state is written into room for that many bytes at first.
 #[inline(always)]
 pub(crate) fn written(alloc: Global, room: usize, plan: Plan<'_>) -> Result<OwnedPlan, AllocError>
+    requires { NodesFit plan }
+    ensures { IfOk result (λ planned. (state : Tree) → planned_shown state planned ≡ plan_shown state plan.entry) }
+{
+    if let Some((next, answer)) = numbers_of(&plan) {
+        return Ok(OwnedPlan {
+            state: number_state(next),
+            outcome: Ok(StateBytes::integer(answer)),
+            store: plan.store,
+            sends: Vec::new(alloc),
+            keep: plan.keep,
+        });
+    }
+    written_all(alloc, room, plan)
+}
+
+/// All that a plan holds. The new state is written into room for that many bytes at first.
+#[inline(never)]
+fn written_all(alloc: Global, room: usize, plan: Plan<'_>) -> Result<OwnedPlan, AllocError>
     requires { NodesFit plan }
     ensures { IfOk result (λ planned. (state : Tree) → planned_shown state planned ≡ plan_shown state plan.entry) }
 {
