@@ -1,3 +1,4 @@
+pub mod Sums
 pub mod Fits
 pub mod Nodes
 pub mod Shapes

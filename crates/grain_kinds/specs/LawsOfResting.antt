@@ -95,16 +95,30 @@ resting_lawful = record {
   empty_fits = kinds_lawful.empty_fits;
 }
 
--- ---- setting a field
+-- ---- the methods that are neither `rest` nor `stay`
+
+-- the word of such a method has the plan that it has without them
+as_before : (word : List ℕ) → ((kind : List ℕ) (state argument : Tree) → resting_plan kind word state argument ≡ kinds.plan kind word state argument)
+    → (kind method : List ℕ) (state argument : Tree) → same_text method word ≡ true
+    → resting_plan kind method state argument ≡ kinds.plan kind method state argument
+as_before word by_word kind method state argument is =
+    subst (λ (m : List ℕ). resting_plan kind m state argument ≡ kinds.plan kind m state argument)
+    (sym ((same_text_decides method word).0 is)) (by_word kind state argument)
 
 by_put : (kind : List ℕ) (state argument : Tree)
     → resting_plan kind (codes "put") state argument ≡ kinds.plan kind (codes "put") state argument
 unfolding resting_plan
 by_put kind state argument = refl
 
--- `put` has the plan that it has without `rest` and `stay`
+by_add : (kind : List ℕ) (state argument : Tree)
+    → resting_plan kind (codes "add") state argument ≡ kinds.plan kind (codes "add") state argument
+unfolding resting_plan
+by_add kind state argument = refl
+
 pub put_as_before : (kind method : List ℕ) (state argument : Tree) → same_text method (codes "put") ≡ true
     → resting_plan kind method state argument ≡ kinds.plan kind method state argument
-put_as_before kind method state argument is =
-    subst (λ (m : List ℕ). resting_plan kind m state argument ≡ kinds.plan kind m state argument)
-    (sym ((same_text_decides method (codes "put")).0 is)) (by_put kind state argument)
+put_as_before = as_before (codes "put") by_put
+
+pub add_as_before : (kind method : List ℕ) (state argument : Tree) → same_text method (codes "add") ≡ true
+    → resting_plan kind method state argument ≡ kinds.plan kind method state argument
+add_as_before = as_before (codes "add") by_add

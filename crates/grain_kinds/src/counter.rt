@@ -1,7 +1,8 @@
 //! The kind `counter`.
 
-ghost use Rattle.std.specs.Prelude.{◌≡◌};
-ghost use Rattle.request_codec.specs.Tree.{Tree};
+ghost use Rattle.std.specs.Prelude.{◌≡◌, true, ℤ};
+ghost use Rattle.request_codec.specs.Tree as tree;
+ghost use Rattle.request_codec.specs.Tree.{Tree, integer, field, no_fields};
 ghost use Rattle.turn_arena.specs.NodeValue.{node_value};
 ghost use Rattle.grain_kinds.specs.Counter as counter;
 ghost use Rattle.grain_kinds.specs.Counter.{add_plan, counter_plan};
@@ -30,6 +31,14 @@ pub(crate) fn plan_of<'a>(alloc: Global, method: &str, state: Node<'a>, args: No
     shared_plan(alloc, method, args)
 }
 
+/// Whether a turn of the method adds the number that stands under the name: `add` does, under `by`.
+pub(crate) fn adds(method: &str, name: &str) -> bool
+    ensures { result ≡ true → (state : Tree) → (number : ℤ)
+        → counter_plan method.now state (tree.map (field name.now (integer number) no_fields)) ≡ add_plan state number }
+{
+    method == "add" && name == "by"
+}
+
 /// The sum is the new number and the answer.
 fn add<'a>(alloc: Global, number: i64, by: Option<i64>) -> Plan<'a>
     ensures { (state : Tree) → counter.number_of state ≡ number → plan_shown state result ≡ for_shape state by (add_plan state) }
@@ -55,7 +64,8 @@ fn get<'a>(alloc: Global, number: i64, args: Node<'a>) -> Plan<'a>
 }
 
 /// A counter's number. A state that is no whole number counts as 0.
-fn number_of(state: Node<'_>) -> i64
+#[inline(always)]
+pub(crate) fn number_of(state: Node<'_>) -> i64
     ensures { result ≡ counter.number_of (node_value state.entry) }
 {
     match state {

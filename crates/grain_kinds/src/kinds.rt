@@ -139,4 +139,9 @@ impl GrainLogic for Kinds {
         }
         None
     }
+
+    #[tactic(auto, unfolding(crate::specs::Kinds::kinds))]
+    fn adds(&self, kind: &str, method: &str, name: &str) -> bool {
+        kind == "counter" && counter::adds(method, name)
+    }
 }

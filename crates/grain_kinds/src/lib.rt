@@ -9,6 +9,7 @@
 //! kind, `length` says whether a value is too long for a state, and `state_of` writes a state.
 #![tactic(auto)]
 
+mod adding;
 pub mod arguments;
 mod counter;
 mod fault;

@@ -8,8 +8,11 @@ use turn_arena::Node;
 
 /// What grains do with their messages. The functions belong to the type: two values of one type plan alike.
 pub trait GrainLogic {
-    ghost use Rattle.std.specs.Prelude.{◌≡◌, true, IfOk, IfSome};
+    ghost use Rattle.std.specs.Prelude.{◌≡◌, true, ℤ, IfOk, IfSome};
     ghost use Rattle.request_codec.specs.Call.{asks};
+    ghost use Rattle.request_codec.specs.Tree as tree;
+    ghost use Rattle.request_codec.specs.Tree.{integer, field, no_fields};
+    ghost use Rattle.grain_kinds.specs.Counter.{add_plan};
     ghost use Rattle.turn_arena.specs.NodeValue.{node_value};
     ghost use Rattle.grain_kinds.specs.Logic.{Logic};
     ghost use Rattle.request_codec.specs.Tree.{Tree};
@@ -59,6 +62,16 @@ pub trait GrainLogic {
         ensures fits { IfSome result (λ put. FitsField (node_value put.1)) }
     {
         None
+    }
+
+    /// Whether adding the number is all that a turn of the method does if its argument is `{name: number}` with a whole
+    /// number: its plan is that of a counter's `add`, whatever the state. A turn that is told so reads no argument into its
+    /// arena. A logic needn't say so.
+    fn adds(&self, _kind: &str, _method: &str, _name: &str) -> bool
+        ensures { result ≡ true → (state : Tree) → (number : ℤ)
+            → logic.plan _kind.now _method.now state (tree.map (field _name.now (integer number) no_fields)) ≡ add_plan state number }
+    {
+        false
     }
 
     // The laws of a logic.

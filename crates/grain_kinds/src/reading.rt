@@ -1,7 +1,9 @@
 //! A turn's message and state, read into its arena.
 
-ghost use Rattle.std.specs.Prelude.{◌≡◌, IfOk};
+ghost use Rattle.std.specs.Prelude.{◌≡◌, IfOk, IfSome};
 ghost use Rattle.request_codec.specs.Call.{asks};
+ghost use Rattle.request_codec.specs.Tree as tree;
+ghost use Rattle.request_codec.specs.Tree.{integer, field, no_fields};
 ghost use Rattle.turn_arena.specs.NodeValue.{node_value};
 ghost use Rattle.grain_kinds.specs.Laws.{FitsState, FitsMessage};
 
@@ -20,6 +22,15 @@ pub(crate) fn asked_in<'a>(
     ensures fits { IfOk result (λ found. FitsMessage (asks found.0.now (node_value found.1))) }
 {
     formed_call_in(bump, message.bytes())
+}
+
+/// The method, the name and the number of a message, if its argument is `{name: number}`.
+#[inline(always)]
+pub(crate) fn number_asked(message: &Message) -> Option<(&str, &str, i64)>
+    ensures { IfSome result
+        (λ found. message.now ≡ asks found.0.now (tree.map (field found.1.now (integer found.2) no_fields))) }
+{
+    turn_arena::number_asked(message.bytes())
 }
 
 /// The value of a state, whose texts are lent from its bytes.

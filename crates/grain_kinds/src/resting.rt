@@ -119,4 +119,9 @@ impl GrainLogic for RestingKinds {
         }
         None
     }
+
+    #[tactic(auto, unfolding(crate::specs::Resting::resting_kinds))]
+    fn adds(&self, kind: &str, method: &str, name: &str) -> bool {
+        method == "add" && Kinds.adds(kind, method, name)
+    }
 }

@@ -37,7 +37,8 @@ pub(crate) fn set_planned(
 }
 
 /// The plan of this state, if there is another one, and this answer: it asks nothing, sends nothing and says nothing.
-fn plain(
+#[inline(always)]
+pub(crate) fn plain(
     alloc: Global,
     state: Option<StateBytes>,
     outcome: Result<StateBytes, MethodFault>,

@@ -1,14 +1,17 @@
 //! Turns: one that was opened, and one whose plan was made.
 
-ghost use Rattle.std.specs.Prelude.{◌≡◌, map, IfOk, MatchResult};
+ghost use Rattle.std.specs.Prelude.{◌≡◌, map, IfOk, IfSome, MatchResult};
+ghost use Rattle.request_codec.specs.Tree.{Tree};
+ghost use Rattle.grain_kinds.specs.Counter.{add_plan};
 ghost use Rattle.grain_kinds.specs.Finished.{plan_at, planned_shown, sent, turn_plan};
 ghost use Rattle.grain_kinds.specs.Laws.{FitsState, IsKeep};
 ghost use Rattle.grain_kinds.specs.Planned.{keep_of, storage_call};
 
+use crate::adding::{added, number_in};
 use crate::fault::MethodFault;
 use crate::logic::GrainLogic;
 use crate::plan::{Keep, StoreCall};
-use crate::reading::{asked_in, state_in};
+use crate::reading::{asked_in, number_asked, state_in};
 use crate::setting::set_planned;
 use crate::writing::written;
 use bumpalo::Bump;
@@ -89,6 +92,41 @@ fn room_for(state: &StateBytes, message: &Message) -> usize
     in_steps(bytes.saturating_add(message.bytes().len()))
 }
 
+/// The number, if adding it to the state is all that a turn of the message does.
+#[inline(always)]
+fn addend<L: GrainLogic>(logic: &L, grain: &GrainId, message: &Message) -> Option<i64>
+    ensures { IfSome result (λ by. (state : Tree) → plan_at L.logic grain.now state message.now ≡ add_plan state by) }
+{
+    let (method, name, number) = number_asked(message)?;
+    if logic.adds(grain.kind(), method, name) {
+        return Some(number);
+    }
+    None
+}
+
+/// The plan by the values of the message and the state, which are read into the arena.
+#[inline(never)]
+fn plan_in<L: GrainLogic>(
+    alloc: Global,
+    bump: &Bump,
+    logic: &L,
+    grain: &GrainId,
+    state: &StateBytes,
+    message: &Message,
+) -> Result<OwnedPlan, AllocError>
+    ensures { IfOk result (λ planned. planned_shown state.now planned ≡ plan_at L.logic grain.now state.now message.now) }
+{
+    let room = room_for(state, message);
+    let kind = grain.kind();
+    let (method, argument) = asked_in(bump, message)?;
+    if let Some((name, value)) = logic.sets(kind, method, argument) {
+        return set_planned(alloc, room, state, name, value);
+    }
+    let read = state_in(bump, state)?;
+    let plan = logic.plan(alloc, bump, kind, method, read, argument)?;
+    written(alloc, room, plan)
+}
+
 /// The plan of a message at a grain in this state, in bytes of its own: what needs the arena is left there.
 ///
 /// # Errors
@@ -104,15 +142,10 @@ pub fn plan_turn<L: GrainLogic>(
 ) -> Result<OwnedPlan, AllocError>
     ensures plan { IfOk result (λ planned. planned_shown state.now planned ≡ plan_at L.logic grain.now state.now message.now) }
 {
-    let room = room_for(state, message);
-    let kind = grain.kind();
-    let (method, argument) = asked_in(bump, message)?;
-    if let Some((name, value)) = logic.sets(kind, method, argument) {
-        return set_planned(alloc, room, state, name, value);
+    if let Some(by) = addend(logic, grain, message) {
+        return Ok(added(alloc, number_in(bump, state)?, by));
     }
-    let read = state_in(bump, state)?;
-    let plan = logic.plan(alloc, bump, kind, method, read, argument)?;
-    written(alloc, room, plan)
+    plan_in(alloc, bump, logic, grain, state, message)
 }
 
 /// Makes the plan of a turn. If memory is refused, the opened turn comes back.

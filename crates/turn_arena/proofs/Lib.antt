@@ -5,3 +5,4 @@ pub mod FieldPlaces
 pub mod MapBytes
 pub mod NamePlaces
 pub mod Known
+pub mod OnlyNumber

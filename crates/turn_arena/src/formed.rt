@@ -1,9 +1,11 @@
 //! Reading bytes that are known to be a state's or a message's: nothing of that is tested again, and texts and bytes are lent.
 
-ghost use Rattle.std.specs.Prelude.{◌≡◌, Some, None, IsSome, IfOk, option_map};
+ghost use Rattle.std.specs.Prelude.{ℕ, ◌≡◌, List, Some, None, IsSome, IfOk, option_map};
 ghost use Rattle.request_codec.specs.Call.{message_call, state_value, asks};
+ghost use Rattle.request_codec.specs.Limits.{depth_limit};
 ghost use Rattle.request_codec.specs.Reading.{text_at, value_at, members_at, fields_at};
 ghost use Rattle.request_codec.specs.Start.{begun, start_at};
+ghost use Rattle.request_codec.specs.Tree.{Tree};
 ghost use Rattle.turn_arena.specs.NodeValue.{node_value, node_values, field_values};
 
 use crate::node::{Field, Node};
@@ -129,6 +131,23 @@ pub fn formed_in<'a>(bump: &'a Bump, bytes: &'a [u8]) -> Result<Node<'a>, AllocE
     Ok(node)
 }
 
+/// The method of bytes that are known to be a message's, and the bytes that spell its argument.
+#[inline(always)]
+pub(crate) fn known_call(bytes: &[u8]) -> (&str, &[u8])
+    requires { IsSome (message_call bytes.now) }
+    ensures stands { IsSome (value_at depth_limit result.1.now) }
+    ensures asked { (argument : Tree) → (rest : List ℕ) → value_at depth_limit result.1.now ≡ Some (argument, rest)
+        → message_call bytes.now ≡ Some (asks result.0.now argument) }
+{
+    let [_, behind @ ..] = bytes else {
+        unreachable!();
+    };
+    let Some((method, argument)) = known_text(behind) else {
+        unreachable!();
+    };
+    (method, argument)
+}
+
 /// The method and the argument of bytes that are known to be a message's. The method, texts, bytes and names are lent from
 /// the bytes, and lists and maps lie in the arena. The only error: the arena can't grow.
 #[inline(always)]
@@ -139,12 +158,7 @@ pub fn formed_call_in<'a>(
     requires { IsSome (message_call bytes.now) }
     ensures { IfOk result (λ found. message_call bytes.now ≡ Some (asks found.0.now (node_value found.1))) }
 {
-    let [_, behind @ ..] = bytes else {
-        unreachable!();
-    };
-    let Some((method, rest)) = known_text(behind) else {
-        unreachable!();
-    };
-    let (argument, _) = formed_node(bump, rest, MAX_DEPTH)?;
+    let (method, spelled) = known_call(bytes);
+    let (argument, _) = formed_node(bump, spelled, MAX_DEPTH)?;
     Ok((method, argument))
 }

@@ -1,6 +1,6 @@
 use Rattle.turn_arena.specs.NodeValue.{node_value}
 use Rattle.grain_kinds.proofs.Nodes.{nodes_fit}
-use Rattle.grain_kinds.proofs.turn.plan_turn.Goals as goal
+use Rattle.grain_kinds.proofs.turn.plan_in.Goals as goal
 
 pub written-requires : goal.written-requires
 written-requires g c =

@@ -1,0 +1,40 @@
+//! A turn that adds a number to its state, by the state's bytes.
+
+ghost use Rattle.std.specs.Prelude.{◌≡◌, IfOk};
+ghost use Rattle.request_codec.specs.Tree.{Tree};
+ghost use Rattle.grain_kinds.specs.Counter as counter;
+ghost use Rattle.grain_kinds.specs.Counter.{add_plan};
+ghost use Rattle.grain_kinds.specs.Finished.{planned_shown};
+
+use crate::counter::number_of;
+use crate::fault::MethodFault;
+use crate::reading::state_in;
+use crate::setting::plain;
+use crate::turn::OwnedPlan;
+use bumpalo::Bump;
+use request_codec::StateBytes;
+use std::alloc::{AllocError, Global};
+
+/// The number of a state. A state that is no whole number counts as 0.
+#[inline(always)]
+pub(crate) fn number_in<'a>(bump: &'a Bump, state: &'a StateBytes) -> Result<i64, AllocError>
+    ensures { IfOk result (λ number. number ≡ counter.number_of state.now) }
+{
+    Ok(number_of(state_in(bump, state)?))
+}
+
+/// What a turn comes to that adds to a number, as a counter's `add` does: the sum is the new state and the answer; or
+/// `OutOfRange`.
+#[inline(always)]
+pub(crate) fn added(alloc: Global, number: i64, by: i64) -> OwnedPlan
+    ensures { (state : Tree) → counter.number_of state ≡ number → planned_shown state result ≡ add_plan state by }
+{
+    match number.checked_add(by) {
+        Some(sum) => plain(
+            alloc,
+            Some(StateBytes::integer(sum)),
+            Ok(StateBytes::integer(sum)),
+        ),
+        None => plain(alloc, None, Err(MethodFault::OutOfRange)),
+    }
+}
