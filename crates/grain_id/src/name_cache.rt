@@ -15,13 +15,19 @@ const GRAINS: usize = 16_384;
 /// The most callers that are kept.
 const CALLERS: usize = 8_192;
 
+/// How many grains there are places for till as many came, and how many callers.
+const FEW: usize = 512;
+
 /// Names that were read lately, each at the place of its text's hash. A name takes the place of the
-/// one before it, and the first stands at all places till then. It takes 8 bytes a place: 128 kB as the
-/// first grain is read, and 64 kB as the first caller is.
+/// one before it, and the first stands at all places till then. It takes 8 bytes a place: 4 kB for grains and as
+/// much for callers, till 512 came; 128 kB for more grains, and 64 kB for more callers.
 #[derive(Drop)]
 pub struct NameCache {
     grains: Vec<GrainId>,
     callers: Vec<Caller>,
+    /// How many grains came that weren't there, and how many callers.
+    new_grains: usize,
+    new_callers: usize,
 }
 
 /// The hash of what came before and eight bytes more.
@@ -49,20 +55,30 @@ fn last_word(bytes: &[u8]) -> u64 {
     packed(bytes)
 }
 
-/// The place of a text among so many, by the hash of its length, of each eight bytes from the front on, and of its last
-/// eight.
+/// The hash of a text, below 16,384: of its length, of each eight bytes from the front on, and of its last eight.
 #[inline(always)]
-fn place_of(text: &str, places: usize) -> usize
-    requires { 0 < places }
-    ensures { result < places }
-{
+fn hash_of(text: &str) -> usize {
     let bytes = text.as_bytes();
     let (words, _) = bytes.as_chunks::<8>();
     let mut sum = bytes.len() as u64;
     'words: for word in words {
         sum = stirred(sum, u64::from_le_bytes(*word));
     }
-    (stirred(sum, last_word(bytes)) >> 50) as usize % places
+    (stirred(sum, last_word(bytes)) >> 50) as usize
+}
+
+/// How many places there are once so many names came that weren't there, and the place of a text among them.
+#[inline(always)]
+fn places_for(text: &str, new: usize, most: usize) -> (usize, usize)
+    requires { 0 < most }
+    ensures { result.1 < result.0 }
+{
+    let hash = hash_of(text);
+    if new < FEW {
+        (FEW, hash % FEW)
+    } else {
+        (most, hash % most)
+    }
 }
 
 /// The grain at that place, if its text is this one.
@@ -116,6 +132,8 @@ impl NameCache {
         NameCache {
             grains: Vec::new(alloc),
             callers: Vec::new(alloc),
+            new_grains: 0,
+            new_callers: 0,
         }
     }
 
@@ -129,12 +147,13 @@ impl NameCache {
         ensures whole { IfOk result (λ grain. IsTextOfGrain text.now grain) }
         ensures none { IfFaulty result (IsTextOfNoGrain text.now) }
     {
-        let place = place_of(text, GRAINS);
+        let (places, place) = places_for(text, self.new_grains, GRAINS);
         if let Some(grain) = grain_at(self.grains.as_slice(), place, text)? {
             return Ok(grain);
         }
         let grain = GrainId::read(alloc, text)?;
-        keep(&mut self.grains, GRAINS, place, grain.clone()?)?;
+        keep(&mut self.grains, places, place, grain.clone()?)?;
+        self.new_grains = self.new_grains.saturating_add(1);
         Ok(grain)
     }
 
@@ -148,12 +167,13 @@ impl NameCache {
         ensures whole { IfOk result (λ caller. IsTextOfClient text.now caller) }
         ensures none { IfFaulty result (IsTextOfNoClient text.now) }
     {
-        let place = place_of(text, CALLERS);
+        let (places, place) = places_for(text, self.new_callers, CALLERS);
         if let Some(caller) = caller_at(self.callers.as_slice(), place, text)? {
             return Ok(caller);
         }
         let caller = Caller::read(alloc, text)?;
-        keep(&mut self.callers, CALLERS, place, caller.clone()?)?;
+        keep(&mut self.callers, places, place, caller.clone()?)?;
+        self.new_callers = self.new_callers.saturating_add(1);
         Ok(caller)
     }
 }
