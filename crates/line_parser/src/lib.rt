@@ -13,6 +13,7 @@ mod fields;
 mod line;
 mod line_members;
 mod members;
+mod messages;
 mod named;
 mod not_natural;
 mod number;

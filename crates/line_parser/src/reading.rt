@@ -12,6 +12,7 @@ use crate::call_members::take_call;
 use crate::line::{Line, LineRefusal};
 use crate::line_members::{LineMembers, MEMBER_DEPTH, ValueIn, read_members};
 use crate::members::members_of_json;
+use crate::messages::Messages;
 use crate::not_natural::take_not_natural;
 use crate::plain::byte_at;
 use crate::quick_fault::QuickFault;
@@ -53,14 +54,14 @@ fn line_of(step: Option<Step>) -> Line
     }
 }
 
-/// What is used again from line to line: names that were read lately, and memory for the parts of a
+/// What is used again from line to line: names and short messages that were read lately, and memory for the parts of a
 /// line. What a line says doesn't depend on it.
 #[derive(Drop)]
 pub struct LineScratch {
     names: NameCache,
     texts: Scratch,
     args: Vec<u8>,
-    message: Vec<u8>,
+    messages: Messages,
 }
 
 impl LineScratch {
@@ -70,7 +71,7 @@ impl LineScratch {
             names: NameCache::new(alloc),
             texts: Scratch::new(alloc),
             args: Vec::new(alloc),
-            message: Vec::new(alloc),
+            messages: Messages::new(alloc),
         }
     }
 }
@@ -89,7 +90,7 @@ fn read_step(
     step_from(
         alloc,
         &mut scratch.names,
-        &mut scratch.message,
+        &mut scratch.messages,
         &members,
         asked,
     )
@@ -158,7 +159,7 @@ fn read_text_step(
     let step = step_from(
         alloc,
         &mut scratch.names,
-        &mut scratch.message,
+        &mut scratch.messages,
         &members,
         ValueIn::Bytes(scratch.args.as_slice()),
     )?;
@@ -182,7 +183,7 @@ fn read_short_step(
     step_of_form(
         alloc,
         &mut scratch.names,
-        &mut scratch.message,
+        &mut scratch.messages,
         &members,
         ValueIn::Bytes(&[]),
         line.form,
@@ -207,7 +208,7 @@ fn read_call_step(
     let found = call_step_from(
         alloc,
         &mut scratch.names,
-        &mut scratch.message,
+        &mut scratch.messages,
         &members,
         ValueIn::Bytes(scratch.args.as_slice()),
     )?;
@@ -231,7 +232,7 @@ fn read_not_natural(
     let step = step_from(
         alloc,
         &mut scratch.names,
-        &mut scratch.message,
+        &mut scratch.messages,
         &members,
         ValueIn::Bytes(&[]),
     )?;

@@ -10,6 +10,7 @@ ghost use Rattle.line_parser.specs.inside.Step.{IsValue, AreMembersOf, FindsIn, 
 
 use crate::asked::{call_with, message_of_json, poke_with, state_of_json};
 use crate::line_members::{LineMembers, ValueIn};
+use crate::messages::{Messages, message_at};
 use crate::named::caller_of;
 use grain_id::NameCache;
 use request_codec::limits::{MAX_MESSAGE_BYTES, MAX_STATE_BYTES, MESSAGE_VERSION};
@@ -43,7 +44,7 @@ fn write_message(out: &mut Vec<u8>, method: &str, argument: &[u8]) -> Result<(),
 /// would be too long.
 fn message_of_bytes(
     alloc: Global,
-    out: &mut Vec<u8>,
+    messages: &mut Messages,
     method: &str,
     refusal: Option<Refusal>,
     argument: &[u8],
@@ -57,15 +58,15 @@ fn message_of_bytes(
     if method.len() + argument.len() > MAX_MESSAGE_BYTES - MESSAGE_HEAD_BYTES {
         return Ok(Err(Refusal::TooLong));
     }
-    write_message(out, method, argument)?;
-    let message = Message::copy_spelling(alloc, out.as_slice())?;
+    write_message(&mut messages.bytes, method, argument)?;
+    let message = message_at(alloc, &mut messages.kept, messages.bytes.as_slice())?;
     Ok(Ok(message))
 }
 
 /// The message of a method and its argument, or why the call is refused.
 fn read_message(
     alloc: Global,
-    out: &mut Vec<u8>,
+    messages: &mut Messages,
     method: &str,
     argument: Argument<'_>,
 ) -> Result<Result<Message, Refusal>, AllocError>
@@ -74,7 +75,7 @@ fn read_message(
         → message_asked method.now json ≡ asked) }
 {
     match argument.value {
-        ValueIn::Bytes(bytes) => message_of_bytes(alloc, out, method, argument.refusal, bytes),
+        ValueIn::Bytes(bytes) => message_of_bytes(alloc, messages, method, argument.refusal, bytes),
         ValueIn::Json(value) => message_of_json(alloc, method, value),
     }
 }
@@ -146,7 +147,7 @@ fn argument_of<'t>(members: &LineMembers<'_>, value: ValueIn<'t>) -> Option<Argu
 pub(crate) fn call_from(
     alloc: Global,
     names: &mut NameCache,
-    out: &mut Vec<u8>,
+    messages: &mut Messages,
     members: &LineMembers<'_>,
     value: ValueIn<'_>,
 ) -> Result<Option<Step>, AllocError>
@@ -168,7 +169,7 @@ pub(crate) fn call_from(
     let Some(method) = members.method else {
         return Ok(None);
     };
-    match read_message(alloc, out, method, argument)? {
+    match read_message(alloc, messages, method, argument)? {
         Ok(message) => {
             let step = call_with(alloc, names, caller, id, grain, message)?;
             Ok(Some(step))

@@ -7,6 +7,7 @@ ghost use Rattle.line_parser.specs.Form.{step_of_json};
 ghost use Rattle.line_parser.specs.inside.Step.{form_text, of_form, said_by, AreMembersOf, FindsIn, Finds};
 
 use crate::line_members::{LineMembers, ValueIn};
+use crate::messages::Messages;
 use crate::named::{failed_of, grain_of};
 use crate::request::{call_from, poke_from, status_from};
 use crate::scan::same_text;
@@ -233,7 +234,7 @@ fn sweep_from(members: &LineMembers<'_>) -> Option<Step>
 fn read_form(
     alloc: Global,
     names: &mut NameCache,
-    out: &mut Vec<u8>,
+    messages: &mut Messages,
     members: &LineMembers<'_>,
     value: ValueIn<'_>,
     form: Form,
@@ -242,7 +243,7 @@ fn read_form(
     ensures { IfOk result (λ step. FindsIn members.now value.entry (of_form form) step) }
 {
     match form {
-        Form::Call => call_from(alloc, names, out, members, value),
+        Form::Call => call_from(alloc, names, messages, members, value),
         Form::Poke => poke_from(alloc, names, members, value),
         Form::Status => status_from(alloc, names, members),
         Form::Deliver => Ok(grain_from(alloc, names, members)?.map(|grain| Step::Deliver {
@@ -272,7 +273,7 @@ fn read_form(
 pub(crate) fn step_from(
     alloc: Global,
     names: &mut NameCache,
-    out: &mut Vec<u8>,
+    messages: &mut Messages,
     members: &LineMembers<'_>,
     value: ValueIn<'_>,
 ) -> Result<Option<Step>, AllocError>
@@ -285,7 +286,7 @@ pub(crate) fn step_from(
     let Some(form) = form_of(op) else {
         return Ok(None);
     };
-    read_form(alloc, names, out, members, value, form)
+    read_form(alloc, names, messages, members, value, form)
 }
 
 /// The step that the members of a line ask for, if `op` names the form.
@@ -293,7 +294,7 @@ pub(crate) fn step_from(
 pub(crate) fn step_of_form(
     alloc: Global,
     names: &mut NameCache,
-    out: &mut Vec<u8>,
+    messages: &mut Messages,
     members: &LineMembers<'_>,
     value: ValueIn<'_>,
     form: Form,
@@ -302,7 +303,7 @@ pub(crate) fn step_of_form(
     requires named { option_map (λ op. op.now) members.now.op ≡ Some (form_text form) }
     ensures { IfOk result (λ step. FindsIn members.now value.entry step_of_json step) }
 {
-    read_form(alloc, names, out, members, value, form)
+    read_form(alloc, names, messages, members, value, form)
 }
 
 /// The step that the members of a line ask for, if `op` is `call`. If there is none, they may ask for a step still.
@@ -310,7 +311,7 @@ pub(crate) fn step_of_form(
 pub(crate) fn call_step_from(
     alloc: Global,
     names: &mut NameCache,
-    out: &mut Vec<u8>,
+    messages: &mut Messages,
     members: &LineMembers<'_>,
     value: ValueIn<'_>,
 ) -> Result<Option<Step>, AllocError>
@@ -323,5 +324,5 @@ pub(crate) fn call_step_from(
     if !same_text(op, word_of(Form::Call)) {
         return Ok(None);
     }
-    call_from(alloc, names, out, members, value)
+    call_from(alloc, names, messages, members, value)
 }

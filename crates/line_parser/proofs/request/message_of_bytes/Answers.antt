@@ -13,8 +13,8 @@ returns-in-Some c json is = message_refused c.args.refusal c.in-Some.code c.args
 pub returns-then-method-argument : goal.returns-then-method-argument
 returns-then-method-argument c json is = message_too_long c.args.method.now c.args.argument.now json (not_refused c.args.refusal json c.args.argument.now is c.in_default.is) (omega arith)
 
-pub copy_spelling-requires : goal.copy_spelling-requires
-copy_spelling-requires c =
+pub message_at-requires : goal.message_at-requires
+message_at-requires c =
     let json = c.requires.0 in
     let is = not_refused c.args.refusal json c.args.argument.now c.requires.1 c.in_default.is in
     message_is_some _ (asks c.args.method.now (lenient_value json)) (message_of _ c.args.method.now c.args.argument.now json c.utf8.method is (c.as_slice.ensures.value ∙ c.in_ok-write_message.ensures) (omega arith))
