@@ -1,13 +1,16 @@
 //! Turns of each method of each kind. States, arguments and answers are JSON.
 
 use crate::compare::{same, same_at};
-use crate::spelled::{Parts, joined};
+use crate::spelled::{ADD, Parts, joined};
 use crate::values::{grain, message, read_state, state};
 use bumpalo::Bump;
-use grain_kinds::{FinishedTurn, GrainLogic, Kinds, MethodFault, OpenedTurn, StoreCall, run_turn};
-use request_codec::StateBytes;
+use grain_kinds::{
+    FinishedTurn, GrainLogic, Kinds, MethodFault, OpenedTurn, RestingKinds, StoreCall, run_turn,
+};
+use request_codec::{Message, StateBytes};
 use std::alloc::{AllocError, Global};
 use std::test::Fail;
+use turn_arena::number_asked;
 
 const FOUR: &str = "[\"counter/red:b\",\"counter/red:c\",\"counter/red:d\",\"counter/red:e\"]";
 
@@ -443,6 +446,28 @@ fn three_kinds_are_known(rt: HostRuntime) -> Result<(), Fail> {
         same_at(*kind, is_read(*kind, *method), *reading)?;
     }
     begins_as(rt.alloc(), &Kinds, "relay", b"\x05\0\0\0\0")
+}
+
+/// A kind, a method, a name, and whether adding the number of that name is all that the method does.
+static ADDING: [(&str, &str, &str, bool); 6] = [
+    ("counter", "add", "by", true),
+    ("counter", "add", "to", false),
+    ("counter", "get", "by", false),
+    ("sheet", "add", "by", false),
+    ("relay", "add", "by", false),
+    ("counters", "add", "by", false),
+];
+
+#[test]
+fn add_of_a_counter_adds(rt: HostRuntime) -> Result<(), Fail> {
+    for (kind, method, name, adds) in &ADDING {
+        same_at(*kind, Kinds.adds(*kind, *method, *name), *adds)?;
+        same_at(*kind, RestingKinds.adds(*kind, *method, *name), *adds)?;
+    }
+    let message = Message::read(rt.alloc(), ADD)?;
+    same(number_asked(message.bytes()), Some(("add", "by", 3)))?;
+    let other = Message::read(rt.alloc(), b"\x02\0\0\0\x03add\0")?;
+    same(number_asked(other.bytes()), None)
 }
 
 /// What each fault of a method shows.
