@@ -98,7 +98,8 @@ resting_lawful = record {
 -- ---- the methods that are neither `rest` nor `stay`
 
 -- the word of such a method has the plan that it has without them
-as_before : (word : List ℕ) → ((kind : List ℕ) (state argument : Tree) → resting_plan kind word state argument ≡ kinds.plan kind word state argument)
+as_before : (word : List ℕ)
+    → ((kind : List ℕ) (state argument : Tree) → resting_plan kind word state argument ≡ kinds.plan kind word state argument)
     → (kind method : List ℕ) (state argument : Tree) → same_text method word ≡ true
     → resting_plan kind method state argument ≡ kinds.plan kind method state argument
 as_before word by_word kind method state argument is =
