@@ -6,3 +6,4 @@ pub mod MapBytes
 pub mod NamePlaces
 pub mod Known
 pub mod OnlyNumber
+pub mod NumberFound

@@ -1,6 +1,6 @@
 //! A message whose argument is one named number, read with no arena.
 
-ghost use Rattle.std.specs.Prelude.{◌≡◌, Some, IsSome, IfSome};
+ghost use Rattle.std.specs.Prelude.{ℕ, ℤ, ◌≡◌, List, Some, None, IsSome, IfSome};
 ghost use Rattle.request_codec.specs.Call.{message_call, asks};
 ghost use Rattle.request_codec.specs.Limits.{depth_limit};
 ghost use Rattle.request_codec.specs.Reading.{value_at};
@@ -15,7 +15,8 @@ use request_codec::bytes::Start;
 #[inline(always)]
 fn only_field(bytes: &[u8]) -> Option<&[u8]>
     requires { IsSome (start_at bytes.now) }
-    ensures { IfSome result (λ field. start_at bytes.now ≡ Some (map_of 1, field.now)) }
+    ensures found { IfSome result (λ field. start_at bytes.now ≡ Some (map_of 1, field.now)) }
+    ensures none { result ≡ None → (field : List ℕ) → start_at bytes.now ≡ Some (map_of 1, field) → ⊥ }
 {
     match known_start(bytes)? {
         (Start::Map(1), field) => Some(field),
@@ -27,7 +28,8 @@ fn only_field(bytes: &[u8]) -> Option<&[u8]>
 #[inline(always)]
 fn number_in(bytes: &[u8]) -> Option<(i64, &[u8])>
     requires { IsSome (start_at bytes.now) }
-    ensures { IfSome result (λ found. start_at bytes.now ≡ Some (leaf (integer found.0), found.1.now)) }
+    ensures found { IfSome result (λ found. start_at bytes.now ≡ Some (leaf (integer found.0), found.1.now)) }
+    ensures none { result ≡ None → (number : ℤ) → (rest : List ℕ) → start_at bytes.now ≡ Some (leaf (integer number), rest) → ⊥ }
 {
     match known_start(bytes)? {
         (Start::Int(number), rest) => Some((number, rest)),
@@ -40,8 +42,10 @@ fn number_in(bytes: &[u8]) -> Option<(i64, &[u8])>
 #[inline(always)]
 fn named_number(bytes: &[u8]) -> Option<(&str, i64, &[u8])>
     requires { IsSome (value_at depth_limit bytes.now) }
-    ensures { IfSome result
+    ensures found { IfSome result
         (λ found. value_at depth_limit bytes.now ≡ Some (tree.map (field found.0.now (integer found.1) no_fields), found.2.now)) }
+    ensures none { result ≡ None → (name : List ℕ) → (number : ℤ) → (rest : List ℕ)
+        → value_at depth_limit bytes.now ≡ Some (tree.map (field name (integer number) no_fields), rest) → ⊥ }
 {
     let only = only_field(bytes)?;
     let Some((name, value)) = known_text(only) else {
@@ -55,8 +59,10 @@ fn named_number(bytes: &[u8]) -> Option<(&str, i64, &[u8])>
 /// a whole number. The texts are lent from the bytes.
 pub fn number_asked(bytes: &[u8]) -> Option<(&str, &str, i64)>
     requires { IsSome (message_call bytes.now) }
-    ensures { IfSome result
+    ensures found { IfSome result
         (λ found. message_call bytes.now ≡ Some (asks found.0.now (tree.map (field found.1.now (integer found.2) no_fields)))) }
+    ensures none { result ≡ None → (method : List ℕ) → (name : List ℕ) → (number : ℤ)
+        → message_call bytes.now ≡ Some (asks method (tree.map (field name (integer number) no_fields))) → ⊥ }
 {
     let (method, argument) = known_call(bytes);
     let (name, number, _) = named_number(argument)?;
