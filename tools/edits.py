@@ -7,6 +7,7 @@ that constants may be made by, takes no second edit in one check.
 from __future__ import annotations
 
 import dataclasses
+import functools
 import pathlib
 import re
 import sys
@@ -17,6 +18,9 @@ ROOT = pathlib.Path(__file__).resolve().parent.parent
 FUNCTION = re.compile(r"( *)(?:pub(?:\([a-z: ]+\))? )?(?P<const>const )?(?:unsafe )?fn (?P<name>\w+)")
 CLAUSE = re.compile(r"(?:requires|ensures|ghost|where)\b")
 BLOCK = re.compile(r"impl(?:<.*?>)? (?:(?P<trait>[\w:]+)(?:<(?P<args>[^>]*)>)? for )?(?P<ref>&(?:'\w+ )?)?(?P<type>[\w:]+|\([^()]*\))")
+
+TRAIT = re.compile(r"^(?:pub(?:\([a-z: ]+\))? )?(?:unsafe )?trait (\w+)")
+ENSURES = re.compile(r"\s*ensures\s+(?:(\w+)\s+)?\*?\{")
 
 TYPE = re.compile(r"^(?:pub(?:\([a-z: ]+\))? )?(?:struct|enum) (\w+)", re.M)
 
@@ -33,7 +37,15 @@ BY_CONTRACT, BY_BODY, BY_PROOF = range(3)
 KINDS = ("a goal of the contract", "another goal of the body", "a proof that no longer fits")
 OPEN_GOAL = re.compile(r"not proved that .*\(`([^`]+)`\)")
 OPEN_GOALS = re.compile(r"did not prove (.*)")
-OF_CONTRACT = ("returns", "invariant_of")
+# In a cycle of functions each goal has its function's name before it.
+OF_CONTRACT = re.compile(r"(?:\w+-)?(?:returns|invariant_of)")
+IN_CLAUSE = re.compile(r"-clause-(\w+)")
+
+# The name of a contract's clause that has none, and of a type's invariant.
+UNNAMED, INVARIANT = "result", "invariant"
+
+# The lines of an edit by which it may take long, or be refused by a proof alone.
+REASONS = ("dear", "proof")
 
 # What is written into the proof of a wrong body, and is wrong by itself.
 WRONG = "wrong-by-itself"
@@ -43,8 +55,8 @@ SPOILING = f"\n{WRONG} : Unit {{0}} → Unit {{0}}\n{WRONG} = tt\n"
 @dataclasses.dataclass(frozen=True)
 class Body:
     """A function of a file: its path in the crate as the prover prints it, how many lines of attributes and of what is said of it
-    stand above it, the first and last line of it and of its body, the lines round a copy of it, if a copy can stand beside it, and
-    whether its proof is one of several functions."""
+    stand above it, the first and last line of it and of its body, the lines round a copy of it, if a copy can stand beside it,
+    whether its proof is one of several functions, the type or trait that it is a method of, and the clauses of its own contract."""
 
     file: str
     path: str
@@ -54,12 +66,20 @@ class Body:
     last: int
     round: tuple[tuple[str, ...], tuple[str, ...]] | None
     in_cycle: bool
+    type: str
+    clauses: tuple[str, ...]
+
+
+    def call(self) -> str:
+        """The function as code names it: a method behind its type."""
+        return "::".join(it for it in (self.type, self.path.split("::")[-1]) if it)
 
 
 @dataclasses.dataclass
 class Edit:
-    """The pairs of texts to change in files, the functions whose bodies that changes, and those that a line names. In a check it may
-    be made in a copy of its function, which begins at some line, and the proof may be spoiled, so that it's no sign if there is none,
+    """The pairs of texts to change in files, the functions whose bodies that changes, those that a line names, the call and the clause
+    that it breaks, why it may be dear (`dear`) or refused by a proof alone (`proof`), and the crate below whose files it changes, if it is
+    not its own that it changes. In a check it may be made in a copy of its function, which begins at some line, and the proof may be spoiled, so that it's no sign if there is none,
     unless a check left that open, so that it's to be tried with its proof as it is."""
 
     crate: str
@@ -67,6 +87,9 @@ class Edit:
     pairs: list[tuple[str, str, str]] = dataclasses.field(default_factory=list)
     bodies: list[Body] = dataclasses.field(default_factory=list)
     named: list[str] = dataclasses.field(default_factory=list)
+    breaks: tuple[str, ...] = ()
+    reasons: dict[str, str] = dataclasses.field(default_factory=dict)
+    below: str = ""
     suffix: str = ""
     copied_at: int = 0
     is_spoiled: bool = False
@@ -98,7 +121,7 @@ class Edit:
         return not self.named and not self.stands_alone() and len(set(self.bodies)) == 1 and self.bodies[0].round is not None
 
 
-@dataclasses.dataclass
+@dataclasses.dataclass(eq=False)
 class Crate:
     """A line of crates.txt: the toolchain's libraries and the project's own ones that a crate stands on."""
 
@@ -113,9 +136,11 @@ class Crate:
     def top(self) -> str:
         return "src/main.rt" if (self.folder / "src/main.rt").is_file() else "src/lib.rt"
 
+    @functools.cache
     def text(self, file: str) -> str:
         return (self.folder / file).read_text(encoding="utf-8")
 
+    @functools.cache
     def types(self) -> dict[str, list[list[str]]]:
         """The modules that have a type of a name."""
         found: dict[str, list[list[str]]] = {}
@@ -132,6 +157,16 @@ class Result:
     is_refused: bool
     said: str
     seconds: float = 0.0
+    clauses: tuple[str, ...] = ()
+    is_alone: bool = False
+
+    def own_seconds(self) -> float:
+        """The seconds of a processor that the edit took by itself; 0 where a check of it alone holds the reading of its crate, too."""
+        return 0.0 if self.is_alone else self.seconds
+
+    def breaks_another(self) -> bool:
+        """Whether a contract refused it, and by no clause that it names."""
+        return self.kind() == BY_CONTRACT and bool(self.clauses) and self.edit.breaks[1:] != () and self.edit.breaks[1] not in self.clauses
 
     def kind(self) -> int:
         return kind_of(self.said)
@@ -201,12 +236,15 @@ def module_of(file: str) -> list[str]:
     return [it for it in pathlib.PurePosixPath(file).with_suffix("").parts[1:] if it not in ("lib", "main", "mod")]
 
 
+@functools.cache
 def bodies_of(crate: Crate, file: str) -> list[Body]:
     """The functions of a file, but for those that constants may be made by. The prover names a method by the module of its type,
     and one of a trait by the module of its block."""
     types, lines = crate.types(), crate.text(file).split("\n")
-    found, block, opens, closes = [], [], (), ()
+    found, block, opens, closes, owner = [], [], (), (), ""
     for first, line in enumerate(lines):
+        if not line.startswith(" "):
+            owner = block_name(line)[1] or "".join(TRAIT.findall(line)) or (owner if not line.endswith(("{", "}")) else "")
         if line.startswith("impl"):
             name, of = block_name(line)
             is_here = name != of or module_of(file) in types.get(of, [module_of(file)])
@@ -223,7 +261,9 @@ def bodies_of(crate: Crate, file: str) -> list[Body]:
             above = lines_above(lines, first)
             in_cycle = any(it.startswith("#[cycle") for it in above)
             copied = None if opens is None or in_cycle else (opens, closes)
-            found.append(Body(file, path, len(above), first + 1, held[0] + 1, held[1] + 1, copied, in_cycle))
+            own = tuple(it[1] or UNNAMED for it in map(ENSURES.match, lines[first : held[0] + 1]) if it)
+            of_type = owner if line.startswith(" ") else ""
+            found.append(Body(file, path, len(above), first + 1, held[0] + 1, held[1] + 1, copied, in_cycle, of_type, own))
     return found
 
 
@@ -233,7 +273,9 @@ def read_edit(crate: Crate, file: pathlib.Path) -> Edit:
     for line in file.read_text(encoding="utf-8").split("\n"):
         key, _colon, said = line.partition(":")
         said = said.removeprefix(" ")
-        if key == "file":
+        if key == "below":
+            edit.below = said.strip()
+        elif key == "file":
             path = said.strip()
         elif key == "old":
             old = said
@@ -241,7 +283,13 @@ def read_edit(crate: Crate, file: pathlib.Path) -> Edit:
             edit.pairs.append((path, old, said))
         elif key == "refused":
             edit.named.append(said.strip())
-    for path, old, new in edit.pairs:
+        elif key == "breaks":
+            edit.breaks = tuple(said.split())
+        elif key in REASONS:
+            edit.reasons[key] = said.strip()
+    if edit.below and not edit.named:
+        sys.exit(f"tools/try-edits: {crate.name}/{edit.name} changes a crate below, and no line `refused:` names a law")
+    for path, old, new in edit.pairs if not edit.below else ():
         text = crate.text(path)
         line = text[: text.index(old)].count("\n") + 1 if text.count(old) == 1 else 0
         # A function may get a whole one before it that takes its name, so that no line of its body need stand once.
@@ -280,11 +328,24 @@ def batches_of(edits: list[Edit]) -> list[list[Edit]]:
 
 # ---- what the prover says
 
+def goals_in(line: str) -> list[str]:
+    """The open goals that the prover names in a line."""
+    one, several = OPEN_GOAL.search(line), OPEN_GOALS.search(line)
+    return [one[1]] if one else re.findall(r"`([^`]+)`", several[1]) if several else []
+
+
+def clause_of(goal: str) -> str:
+    """The clause of a contract that a goal stands for."""
+    if "invariant_of" in goal:
+        return INVARIANT
+    found = IN_CLAUSE.findall(goal)
+    return found[-1] if found else UNNAMED
+
+
 def kind_of(line: str) -> int:
     """What refused an edit of which the prover says this."""
-    one, several = OPEN_GOAL.search(line), OPEN_GOALS.search(line)
-    goals = [one[1]] if one else re.findall(r"`([^`]+)`", several[1]) if several else []
-    if any(goal.startswith(OF_CONTRACT) for goal in goals):
+    goals = goals_in(line)
+    if any(map(OF_CONTRACT.match, goals)):
         return BY_CONTRACT
     return BY_BODY if goals else BY_PROOF
 
@@ -312,6 +373,12 @@ def refusal(edit: Edit, lines: list[str]) -> str | None:
     return min(refusals(edit, lines), key=kind_of, default=None)
 
 
+def clauses(edit: Edit, lines: list[str]) -> tuple[str, ...]:
+    """The clauses of the contract that a body of the edit leaves open."""
+    goals = [it for line in refusals(edit, lines) for it in goals_in(line)]
+    return tuple(sorted({clause_of(it) for it in goals if OF_CONTRACT.match(it)}))
+
+
 def refusals(edit: Edit, lines: list[str]) -> Iterator[str]:
     paths = {(it.path + edit.suffix).replace("::", "/") for it in edit.bodies}
     at_proof = [line for line in lines if (found := AT_PROOF.match(line)) and found[1] in paths and f"`{WRONG}`" not in found[2]]
@@ -333,6 +400,6 @@ def verdict_alone(edit: Edit, status: int, lines: list[str]) -> Result:
         told = OF_FUNCTION.match(line)
         if told and any(f"::{told[1]}".endswith(f"::{it}") for it in edit.functions()):
             if status == 1 or status == 3 and told[2] == "could not tell":
-                return Result(edit, True, refusal(edit, lines) or line)
+                return Result(edit, True, refusal(edit, lines) or line, clauses=clauses(edit, lines))
     rejected = next((it for it in lines if re.search(r"\berror\[[\w-]+\]", it)), "")
     return Result(edit, False, rejected or f"status {status}: {lines[-1]}")

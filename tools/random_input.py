@@ -14,7 +14,7 @@ from random_lines import (BAD_CALLERS, BAD_GRAINS, HEXED, NUMBERS, ODD_ARGUMENTS
                           some_value, with_extra)
 from slow_silo import codes, lines, program
 from slow_silo.journal import LAST_FORM, journal_of, journal_text
-from slow_silo.kinds import KINDS, RESTING, RESTING_METHODS, STORING
+from slow_silo.kinds import EVERY_KIND, FIRST_KINDS, METHODS
 from slow_silo.machine import LOADING, WAITING, Limits
 from slow_silo.serve import lanes_of, serve
 from slow_silo.silo import Setup, Silo
@@ -82,7 +82,7 @@ class World:
         held = [grain.text() for grain in self.silo.machine(tenant).entries]
         if held and self.random.random() < self.again:
             return self.random.choice(held)
-        kind = self.random.choice(sorted(RESTING_METHODS))
+        kind = self.random.choice(sorted(METHODS))
         return f"{kind}/{tenant}:{self.random.choice(self.names)}"
 
     def any_grain(self) -> str:
@@ -94,8 +94,8 @@ class World:
     def method_and_argument(self, kind: str) -> tuple[str, str]:
         """A method of the kind as a rule, with an argument that fits it as a rule."""
         random = self.random
-        known = sorted(RESTING_METHODS.get(kind, ["get"]))
-        own = [method for method in known if method not in STORING and method not in RESTING]
+        known = sorted(METHODS.get(kind, ["get"]))
+        own = [method for method in known if method not in EVERY_KIND]
         chance = random.random()
         method = random.choice(ODD_METHODS if chance < 0.15 else own if chance < 0.75 else known)
         if random.random() < 0.12:
@@ -329,7 +329,7 @@ def set_up_input(random: Random) -> tuple[Input, Setup]:
 
 def as_written_before(setup: Setup) -> Setup:
     """What a silo was set up with whose journal has the first form."""
-    return setup._replace(logic=KINDS, ages=())
+    return setup._replace(logic=FIRST_KINDS, ages=())
 
 
 def has_form(step: Step, form: int) -> bool:

@@ -6,7 +6,7 @@ from itertools import zip_longest
 from typing import NamedTuple, Optional
 
 from .journal import Journal
-from .kinds import logic_of
+from .kinds import Logic
 from .machine import Machine
 from .names import Grain
 from .steps import Reply, concerns, owner
@@ -55,7 +55,7 @@ def tenants_of(journal: Journal) -> list[str]:
 
 def machine_of(journal: Journal, tenant: str) -> Machine:
     """The tenant's machine at the start, under the logic that the journal names."""
-    limits, logic = dict(journal.tenants).get(tenant), logic_of(journal.kinds)
+    limits, logic = dict(journal.tenants).get(tenant), Logic(journal.kinds)
     return Machine(tenant, limits, journal.age, dict(journal.ages), logic, Storage([], Fuse()))
 
 
@@ -74,10 +74,14 @@ def first_difference(machine: Machine, steps: list, replies: list[Reply], rows: 
         if added is None:
             return f"step {place}"
         made += added
+    return difference_of(replies, made, rows, machine.storage.rows)
+
+
+def difference_of(replies: list[Reply], made: list[Reply], rows: dict[Grain, Row], own_rows: dict[Grain, Row]) -> Optional[str]:
+    """The first reply that was recorded otherwise than it was made, or else the first such row."""
     for place, (recorded, own) in enumerate(zip_longest(replies, made), 1):
         if not same_reply(recorded, own):
             return f"reply {place}"
-    own_rows = machine.storage.rows
     for grain in sorted(set(rows) | set(own_rows)):
         if not same_row(rows.get(grain), own_rows.get(grain)):
             return f"row {grain.text()}"

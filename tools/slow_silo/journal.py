@@ -9,10 +9,12 @@ A silo's journal is written in the third, and all three are read.
 from __future__ import annotations
 
 import re
-from functools import partial
-from typing import NamedTuple, Optional
+from functools import lru_cache, partial
+from itertools import islice
+from typing import Callable, NamedTuple, Optional
 
 from . import codes
+from .kinds import NEWEST
 from .machine import Limits
 from .names import Caller, Grain, is_word, read_caller, read_grain
 from .silo import Silo
@@ -29,6 +31,9 @@ MAX_AGES = 64
 MAX_TENANTS = 1_000
 MAX_ACTIVATIONS = 10_000
 MAX_MAILBOX = 1_000
+# what short fields read as is kept, since a journal says the same names and messages again and again
+MOST_KEPT = 8_192
+SHORT = 1_024
 
 
 class Journal(NamedTuple):
@@ -38,7 +43,7 @@ class Journal(NamedTuple):
     replies: tuple[Reply, ...]
     rows: tuple[tuple[Grain, Row], ...]
     # which logic the kinds have, by its number
-    kinds: int = 2
+    kinds: int = NEWEST
     # the kinds that have an age of their own, ascending
     ages: tuple[tuple[str, int], ...] = ()
     form: int = LAST_FORM
@@ -118,16 +123,31 @@ def fits(value: object) -> object:
     return value
 
 
+IS_NUMBER = re.compile("0|[1-9][0-9]{0,19}", re.ASCII).fullmatch
+IS_HEX = re.compile("([0-9a-f]{2})*", re.ASCII).fullmatch
+
+
 def number(field: str, least: int = 0, most: int = MAX_NUMBER) -> int:
-    fits(re.fullmatch("0|[1-9][0-9]{0,19}", field, re.ASCII))
-    fits(least <= int(field) <= most)
-    return int(field)
+    found = int(field) if IS_NUMBER(field) else -1
+    fits(least <= found <= most)
+    return found
 
 
+def kept(read: Callable) -> Callable:
+    """The same reader of a value's field, which keeps what short ones read as. Nobody changes a value."""
+    keep = lru_cache(maxsize=MOST_KEPT)(read)
+
+    def reader(form: int, field: str) -> object:
+        return keep(form, field) if len(field) <= SHORT else read(form, field)
+    return reader
+
+
+@lru_cache(maxsize=MOST_KEPT)
 def caller(field: str) -> Caller:
     return fits(read_caller(field))
 
 
+@lru_cache(maxsize=MOST_KEPT)
 def grain(field: str) -> Grain:
     return fits(read_grain(field))
 
@@ -138,7 +158,7 @@ def failed(field: str) -> bool:
 
 
 def data(field: str) -> bytes:
-    fits(re.fullmatch("([0-9a-f]{2})*", field, re.ASCII))
+    fits(IS_HEX(field))
     return bytes.fromhex(field)
 
 
@@ -149,10 +169,12 @@ def spelled_as(read, field: str) -> object:
         raise Misfit from error
 
 
+@kept
 def message(form: int, field: str) -> tuple[str, object]:
     return spelled_as(read_message if form == LAST_FORM else read_old_message, field)
 
 
+@kept
 def state(form: int, field: str) -> object:
     return spelled_as(read_state if form == LAST_FORM else read_old_state, field)
 
@@ -204,9 +226,9 @@ def read_tenant(line: str, before: list) -> tuple[str, Limits]:
 
 def read_step(line: str, _before: list, form: int = LAST_FORM) -> Step:
     word, *fields = line.split(" ")
-    fits(word in STEP_LINES)
-    count, read = STEP_LINES[word]
-    fits(len(fields) == count)
+    count, read = STEP_LINES.get(word, (None, None))
+    if len(fields) != count:
+        raise Misfit
     return read(form, *fields)
 
 
@@ -235,7 +257,7 @@ def split(line: str, count: int) -> list[str]:
 
 
 class Reader:
-    """The lines of a text, each looked at until it fits."""
+    """The lines of a text, which are read one after the other."""
 
     def __init__(self, text: bytes):
         *self.lines, self.rest = text.split(b"\n")
@@ -244,29 +266,25 @@ class Reader:
     def refused(self) -> RefusedAt:
         return RefusedAt(self.place + 1)
 
-    def next_if(self, read, before: list) -> Optional[object]:
-        """What the next line reads as, or None if it doesn't fit."""
-        if self.place == len(self.lines):
-            return None
+    def all_that(self, read) -> list:
+        """What the next lines read as, up to the first that doesn't fit."""
+        found: list = []
         try:
-            found = read(self.lines[self.place].decode("ascii"), before)
+            for line in islice(self.lines, self.place, None):
+                found.append(read(line.decode("ascii"), found))
         except (Misfit, UnicodeDecodeError):
-            return None
-        self.place += 1
+            pass
+        self.place += len(found)
         return found
 
-    def all_that(self, read) -> list:
-        found: list = []
-        while True:
-            one = self.next_if(read, found)
-            if one is None:
-                return found
-            found.append(one)
-
     def next(self, read) -> object:
-        found = self.next_if(read, [])
-        if found is None:
+        if self.place == len(self.lines):
             raise self.refused()
+        try:
+            found = read(self.lines[self.place].decode("ascii"), [])
+        except (Misfit, UnicodeDecodeError):
+            raise self.refused() from None
+        self.place += 1
         return found
 
 
@@ -279,7 +297,7 @@ def read_head(line: str, _before: list) -> int:
 def read_kinds(line: str, _before: list) -> int:
     word, kinds = split(line, 2)
     fits(word == "kinds")
-    return number(kinds, 1, 2)
+    return number(kinds, 1, NEWEST)
 
 
 def read_age(line: str, _before: list) -> int:

@@ -3,7 +3,7 @@
 A method's function takes the state and the argument, and gives the plan of a turn. A state of another shape, as a poke
 can leave one, counts as the kind's empty state; a plan that keeps the state leaves such a state as it is.
 
-There are two tables of methods. In the first, which old journals were written under, no grain rests or stays.
+There is one table of methods, each with the version of the logic since which it stands: a version hasn't those of a later one.
 """
 
 from __future__ import annotations
@@ -166,16 +166,24 @@ def stay(state: object, args: object) -> Plan:
     return Plan(state, keep=args["for"])
 
 
-STORING = {"save": asking(WRITE), "reload": asking(READ), "clear": asking(CLEAR)}
-RESTING = {"rest": rest, "stay": stay}
+class Kind(NamedTuple):
+    """The version of the logic since which the kind stands, and the state of a grain that was never written."""
+
+    since: int
+    empty: object
+
+
+KINDS = {"counter": Kind(1, 0), "sheet": Kind(1, {}), "relay": Kind(1, [])}
+# each method with the version since which it stands
+STORING = {"save": (1, asking(WRITE)), "reload": (1, asking(READ)), "clear": (1, asking(CLEAR))}
+RESTING = {"rest": (2, rest), "stay": (2, stay)}
+EVERY_KIND = {**RESTING, **STORING}
 METHODS = {
-    "counter": {"add": add, "get": get_number, **STORING},
-    "sheet": {"put": put, "get": get_value, "drop": drop, "list": list_names, **STORING},
-    "relay": {"join": join, "leave": leave, "send": send, **STORING},
+    "counter": {"add": (1, add), "get": (1, get_number), **EVERY_KIND},
+    "sheet": {"put": (1, put), "get": (1, get_value), "drop": (1, drop), "list": (1, list_names), **EVERY_KIND},
+    "relay": {"join": (1, join), "leave": (1, leave), "send": (1, send), **EVERY_KIND},
 }
-RESTING_METHODS = {kind: {**methods, **RESTING} for kind, methods in METHODS.items()}
 READ_METHODS = {"counter": ["get"], "sheet": ["get", "list"], "relay": []}
-EMPTY_STATES = {"counter": 0, "sheet": {}, "relay": []}
 
 
 def is_read(kind: str, method: str) -> bool:
@@ -184,21 +192,19 @@ def is_read(kind: str, method: str) -> bool:
 
 
 class Logic(NamedTuple):
-    """A table of methods, under the number by which a journal names it."""
+    """A version of the table, under the number by which a journal names it."""
 
     number: int
-    methods: dict
+
+    def knows(self, kind: str) -> bool:
+        return kind in KINDS and KINDS[kind].since <= self.number
 
     def plan_of(self, kind: str, method: str, state: object, args: object) -> Plan:
         """What a turn of a kind that is known comes to."""
-        if method not in self.methods[kind]:
-            return refuses(state, codes.UNKNOWN_METHOD)
-        return self.methods[kind][method](state, args)
+        since, plan = METHODS[kind].get(method, (self.number + 1, None))
+        return plan(state, args) if since <= self.number else refuses(state, codes.UNKNOWN_METHOD)
 
 
-KINDS = Logic(1, METHODS)
-RESTING_KINDS = Logic(2, RESTING_METHODS)
-
-
-def logic_of(number: int) -> Logic:
-    return KINDS if number == 1 else RESTING_KINDS
+# the number of the newest version, which the program runs
+NEWEST = 2
+FIRST_KINDS, NEWEST_KINDS = Logic(1), Logic(NEWEST)

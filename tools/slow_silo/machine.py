@@ -8,7 +8,7 @@ from __future__ import annotations
 from typing import NamedTuple, Optional, Union
 
 from . import codes
-from .kinds import CLEAR, EMPTY_STATES, READ, REST, SAME, Logic, Plan, Send, is_read
+from .kinds import CLEAR, KINDS, READ, REST, SAME, Logic, Plan, Send, is_read
 from .names import Grain
 from .steps import (MAX_NUMBER, Abandon, Activate, Begin, Call, Client, Deliver, End, Load, Poke, Refuse, Reply, Status,
                     Step, Store, Sweep, Tick, fault, ok)
@@ -142,7 +142,7 @@ class Machine:
             raise Refused(codes.UNKNOWN_TENANT, self.tenant)
         if grain.tenant != self.tenant:
             raise Refused(codes.ACROSS_TENANTS, self.tenant, grain.tenant)
-        if grain.kind not in self.logic.methods:
+        if not self.logic.knows(grain.kind):
             raise Refused(codes.UNKNOWN_KIND, grain.kind)
 
     def check_room(self, grain: Grain) -> None:
@@ -162,7 +162,9 @@ class Machine:
         except Refused as refusal:
             return [fault(sender, refusal.code, *refusal.names)]
         self.count += 1
-        entry = self.entries.setdefault(grain, Entry())
+        entry = self.entries.get(grain)
+        if entry is None:
+            entry = self.entries[grain] = Entry()
         entry.queue.append(Request(self.count, sender, method, args))
         entry.last = self.clock
         return []
@@ -204,7 +206,7 @@ class Machine:
 
     def take_row(self, grain: Grain, entry: Entry, row: Optional[Row]) -> None:
         has_content = row is not None and row.content is not CLEARED
-        entry.state = row.content if has_content else EMPTY_STATES[grain.kind]
+        entry.state = row.content if has_content else KINDS[grain.kind].empty
         entry.version = None if row is None else row.version
 
     # ---- turns
@@ -289,7 +291,7 @@ class Machine:
             self.take_row(grain, entry, self.storage.read(grain))
         elif plan.asks == CLEAR:
             entry.version = self.storage.clear(grain, entry.version)
-            entry.state = EMPTY_STATES[grain.kind]
+            entry.state = KINDS[grain.kind].empty
         else:
             entry.version = self.storage.write(grain, entry.version, entry.state)
 

@@ -2,12 +2,14 @@
 
 from __future__ import annotations
 
+import re
 from typing import NamedTuple, Optional
 
-LETTERS = b"abcdefghijklmnopqrstuvwxyz"
-WORD_BYTES = LETTERS + b"0123456789-"
 MAX_WORD = 32
 MAX_NAME = 128
+WORD = re.compile("[a-z][a-z0-9-]{0,%d}" % (MAX_WORD - 1))
+# visible ASCII
+NAME = re.compile("[!-~]{1,%d}" % MAX_NAME)
 
 
 class Grain(NamedTuple):
@@ -33,14 +35,12 @@ class Caller(NamedTuple):
 
 def is_word(text: str) -> bool:
     """A kind, a tenant or a client."""
-    data = text.encode()
-    return 1 <= len(data) <= MAX_WORD and data[0] in LETTERS and all(byte in WORD_BYTES for byte in data)
+    return WORD.fullmatch(text) is not None
 
 
 def is_name(text: str) -> bool:
     """The name of a grain within its kind and its tenant."""
-    data = text.encode()
-    return 1 <= len(data) <= MAX_NAME and all(0x21 <= byte <= 0x7E for byte in data)
+    return NAME.fullmatch(text) is not None
 
 
 def read_grain(text: str) -> Optional[Grain]:

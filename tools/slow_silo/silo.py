@@ -4,7 +4,7 @@ from __future__ import annotations
 
 from typing import Iterable, NamedTuple, Optional
 
-from .kinds import RESTING_KINDS, Logic
+from .kinds import NEWEST_KINDS, Logic
 from .machine import LOADING, WAITING, Limits, Machine
 from .names import Caller, Grain
 from .steps import (Activate, Begin, Client, Deliver, Load, Poke, Reply, Step, Store, Tick, owner)
@@ -24,7 +24,7 @@ class Setup(NamedTuple):
     rows: tuple[tuple[Grain, Row], ...] = ()
     # which of the storage's calls fail, by their numbers from 1
     failing: tuple[int, ...] = ()
-    logic: Logic = RESTING_KINDS
+    logic: Logic = NEWEST_KINDS
 
 
 class Silo:

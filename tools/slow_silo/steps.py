@@ -85,9 +85,10 @@ Step = Union[Refuse, Call, Poke, Status, Deliver, Activate, Load, Begin, Store, 
 
 def owner(step: Step) -> Optional[str]:
     """The tenant whose step it is. A call across tenants is its caller's."""
-    if isinstance(step, OF_NOBODY):
+    kind = type(step)
+    if kind in OF_NOBODY:
         return None
-    return step.caller.tenant if isinstance(step, OF_A_CALLER) else step.grain.tenant
+    return step.caller.tenant if kind in OF_A_CALLER else step.grain.tenant
 
 
 def concerns(step: Step, tenant: str) -> bool:

@@ -10,7 +10,7 @@ use Rattle.silo_event.specs.declared.reply.Reply.{Reply}
 use Rattle.silo_event.specs.declared.step.Step.{Step}
 use Rattle.silo_event.specs.declared.step.Step.TheVariants.{Refuse, Call, Poke, Status, Deliver, Activate, Load, Begin, Store, End}
 use Rattle.silo_event.specs.declared.step.Step.TheVariants.{Abandon, Tick, Sweep}
-use Rattle.grain_kinds.specs.Logic.{Logic}
+use Rattle.grain_logic.specs.Logic.{Logic}
 use Rattle.silo_model.specs.Machine.{Machine, Account, Entry, Request, Send}
 use Rattle.silo_model.specs.Pending.{sends_of}
 use Rattle.silo_model.specs.Step.{machine_step}

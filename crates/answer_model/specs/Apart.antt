@@ -1,6 +1,6 @@
 -- Each tenant has an answering silo of its own, as far as it can tell.
 use Rattle.std.specs.Prelude.{◌≡◌, ℕ, List, filter}
-use Rattle.grain_kinds.specs.Logic.{Logic}
+use Rattle.grain_logic.specs.Logic.{Logic}
 use Rattle.silo_event.specs.declared.step.Step.{Step}
 use Rattle.silo_model.specs.Whole.{Whole, shown_to}
 use Rattle.silo_model.specs.Run.{concerns}

@@ -3,7 +3,7 @@ use Rattle.std.specs.Prelude.{◌≡◌, ℕ, Bool, true, false, not, List, [], 
 use Rattle.silo_event.specs.declared.step.Step.{Step}
 use Rattle.silo_event.specs.declared.step.Step.TheVariants.{Refuse, Call, Poke, Status, Deliver, Activate, Load, Begin, Store, End}
 use Rattle.silo_event.specs.declared.step.Step.TheVariants.{Abandon, Tick, Sweep}
-use Rattle.grain_kinds.specs.Logic.{Logic}
+use Rattle.grain_logic.specs.Logic.{Logic}
 use Rattle.silo_model.specs.Whole.{Whole, whole_step}
 use Rattle.silo_model.specs.Run.{done_by}
 use Rattle.silo_model.specs.Opening.{Setup}

@@ -5,7 +5,7 @@ use Rattle.std.specs.FinMap as map
 use Rattle.grain_id.specs.Names.{Grain, grain_cmp}
 use Rattle.grain_storage.specs.Rows.{Rows}
 use Rattle.silo_event.specs.declared.step.Step.{Step}
-use Rattle.grain_kinds.specs.Logic.{Logic}
+use Rattle.grain_logic.specs.Logic.{Logic}
 use Rattle.silo_model.specs.Machine.{Machine}
 use Rattle.silo_model.specs.Step.{machine_step}
 use Rattle.silo_model.specs.Journal.{machine_all_done}

@@ -1,4 +1,3 @@
-pub mod Logics
 pub mod Parts
 pub mod Difference
 pub mod Report

@@ -6,7 +6,7 @@ use Rattle.std.specs.FinMap as map
 use Rattle.grain_id.specs.Names.{text_cmp, same_text}
 use Rattle.tenant_gate.specs.Table.{names_of, limits_of}
 use Rattle.grain_storage.specs.Memory.{rows_of}
-use Rattle.grain_kinds.specs.Logic.{Logic}
+use Rattle.grain_logic.specs.Logic.{Logic}
 use Rattle.silo_model.specs.Whole.{Whole}
 use Rattle.silo_model.specs.Run.{machine_run}
 use Rattle.silo_model.specs.Opening.{fresh_account, start_of}

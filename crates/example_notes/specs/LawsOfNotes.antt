@@ -3,12 +3,12 @@ use Rattle.std.proofs.Common.{◌≡◌, ℕ, Bool, true, false, List, Ok, arith
 use Rattle.std.specs.Prelude.{if◌then◌else◌}
 use Rattle.request_codec.specs.Call.{asks}
 use Rattle.request_codec.specs.Tree.{Tree, null}
-use Rattle.grain_kinds.specs.Laws.{IsLawful, FitsState, FitsMessage, ChangesNothing}
-use Rattle.grain_kinds.specs.LawsOfForms.{ObeysLaws, null_fits, if_holds, keeps_changes_nothing, keeps_obeys, becomes_obeys, asks_obeys}
-use Rattle.grain_kinds.specs.LawsOfForms.{fault_obeys}
-use Rattle.grain_kinds.specs.Logic.{Plan, writes_row}
-use Rattle.grain_kinds.specs.Shared.{keeps}
-use Rattle.grain_kinds.specs.declared.fault.MethodFault.TheVariants.{UnknownMethod}
+use Rattle.grain_logic.specs.Laws.{IsLawful, FitsState, FitsMessage, ChangesNothing}
+use Rattle.grain_logic.specs.LawsOfForms.{ObeysLaws, null_fits, if_holds, keeps_changes_nothing, keeps_obeys, becomes_obeys, asks_obeys}
+use Rattle.grain_logic.specs.LawsOfForms.{fault_obeys}
+use Rattle.grain_logic.specs.Logic.{Plan, writes_row}
+use Rattle.grain_logic.specs.Shared.{keeps}
+use Rattle.grain_logic.specs.declared.fault.MethodFault.TheVariants.{UnknownMethod}
 use Rattle.example_notes.specs.Notes.{is_get, is_put, is_save, note_plan, notes}
 
 -- what fits into a message fits into a state

@@ -7,9 +7,9 @@
 use Rattle.std.specs.Prelude.{ℕ, Bool, List, Ok, Err, codes, if◌then◌else◌}
 use Rattle.grain_id.specs.Names.{same_text}
 use Rattle.request_codec.specs.Tree.{Tree, null}
-use Rattle.grain_kinds.specs.Logic.{Logic, Plan, writes_row}
-use Rattle.grain_kinds.specs.Shared.{keeps, becomes, asks_storage}
-use Rattle.grain_kinds.specs.declared.fault.MethodFault.TheVariants.{UnknownMethod}
+use Rattle.grain_logic.specs.Logic.{Logic, Plan, writes_row}
+use Rattle.grain_logic.specs.Shared.{keeps, becomes, asks_storage}
+use Rattle.grain_logic.specs.declared.fault.MethodFault.TheVariants.{UnknownMethod}
 
 abbrev pub is_get : List ℕ → Bool
 is_get method = same_text method (codes "get")

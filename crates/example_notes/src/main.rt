@@ -3,7 +3,7 @@
 
 use bumpalo::Bump;
 use grain_id::{Caller, GrainId, Tenant};
-use grain_kinds::{GrainLogic, MethodFault, Plan, StoreCall, run_turn, state_of};
+use grain_logic::{GrainLogic, MethodFault, Plan, StoreCall, run_turn, state_of};
 use grain_storage::{GrainStorage, Row, StoreFault};
 use idle_collector::AgeTable;
 use request_codec::{Datum, StateBytes, decode_state, encode, to_json};

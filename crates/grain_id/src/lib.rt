@@ -4,8 +4,7 @@
 //! it as the bytes of its parts, and equality, order and hash are those of the parts. A value holds
 //! one text, which all clones share, so a clone and a comparison take no memory. The grammar and the
 //! order are in `specs/Words.antt`, `specs/Names.antt` and `specs/Reading.antt`; `laws` has the round trip,
-//! and `proofs/Order.antt`, `proofs/Maps.antt` and `proofs/ByGrain.antt` have the lemmas for the
-//! layers above.
+//! and `proofs/Order.antt` and `proofs/ByGrain.antt` have the lemmas for the layers above.
 #![tactic(auto)]
 
 mod caller;

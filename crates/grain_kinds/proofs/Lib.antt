@@ -1,7 +1,6 @@
-pub mod Sums
-pub mod Fits
-pub mod Nodes
-pub mod Shapes
+pub mod Standing
+pub mod Reading
+pub mod Shortcuts
 pub mod Fields
 pub mod Members
 pub mod KeepSame

@@ -20,16 +20,18 @@ use Rattle.request_codec.specs.Call.{Call, asks}
 use Rattle.request_codec.specs.Formed.{IsFormed, AreFormed}
 use Rattle.request_codec.specs.Tree as tree
 use Rattle.request_codec.specs.Tree.{Tree, truth, integer, members_depth, Members, no_members, member, members_count, members_of}
-use Rattle.grain_kinds.specs.declared.fault.MethodFault.{MethodFault}
-use Rattle.grain_kinds.specs.declared.fault.MethodFault.TheVariants.{OutOfRange}
+use Rattle.grain_logic.specs.declared.fault.MethodFault.{MethodFault}
+use Rattle.grain_logic.specs.declared.fault.MethodFault.TheVariants.{OutOfRange}
 use Rattle.grain_kinds.specs.inside.Held.{HoldsTwo, two_fields, two_fit, text_second, text_formed}
-use Rattle.grain_kinds.specs.Laws.{FitsState, FitsMessage, FitsSend}
-use Rattle.grain_kinds.specs.LawsOfForms.{ObeysLaws, truth_fits, whole_fits, if_holds, keeps_obeys, fault_obeys, becomes_obeys}
-use Rattle.grain_kinds.specs.LawsOfForms.{for_shape_obeys, shared_obeys}
+use Rattle.grain_logic.specs.Laws.{FitsState, FitsMessage, FitsSend}
+use Rattle.grain_logic.specs.LawsOfForms.{ObeysLaws, truth_fits, whole_fits, if_holds, keeps_obeys, fault_obeys, becomes_obeys}
+use Rattle.grain_logic.specs.LawsOfForms.{for_shape_obeys}
 use Rattle.grain_kinds.specs.Relay.{grain_found, grain_named, grain_value, grains_in, names_one, are_distinct, member_limit, members_in}
 use Rattle.grain_kinds.specs.Relay.{text_of, relay_of, without, joined_plan, join_plan, leave_plan, sends_to, send_plan, send_argument}
-use Rattle.grain_kinds.specs.Relay.{relay_plan}
-use Rattle.grain_kinds.specs.Shared.{only_fields, text_value, text_field}
+use Rattle.grain_kinds.specs.Relay.{relay_methods, relay}
+use Rattle.grain_logic.specs.LawsOfTables.{IsLawfulKind, changes_lawful}
+use Rattle.grain_kinds.specs.LawsOfEveryKind.{every_kind_lawful}
+use Rattle.grain_logic.specs.Shared.{only_fields, text_value, text_field}
 
 -- ---- what is read is the text of a grain
 
@@ -325,16 +327,24 @@ send_obeys state argument method v s held =
 
 -- ---- all methods
 
-pub relay_obeys : (method : List ℕ) (state argument : Tree) → ObeysLaws state (asks method argument) (relay_plan method state argument)
-unfolding relay_plan
-relay_obeys method state argument =
-    let call = asks method argument in
-    if_holds (ObeysLaws state call) (same_text method (codes "join")) _ _
-    (λ e. for_shape_obeys state call (text_field (codes "grain") argument) (join_plan state)
-    (λ s held. join_obeys state argument method s held))
-    (λ e. if_holds (ObeysLaws state call) (same_text method (codes "leave")) _ _
-    (λ e. for_shape_obeys state call (text_field (codes "grain") argument) (leave_plan state) (λ s held. leave_obeys state call s))
-    (λ e. if_holds (ObeysLaws state call) (same_text method (codes "send")) _ _
-    (λ e. for_shape_obeys state call (send_argument argument) (send_plan state)
-    (λ send held. send_obeys state argument method send.0 send.1 held))
-    (λ e. shared_obeys method state argument call)))
+pub relay_lawful : IsLawfulKind relay
+unfolding relay_methods
+relay_lawful = record {
+  empty_fits = record { formed = tt; depth_within = omega arith; length_within = omega arith };
+  methods_lawful = (
+    changes_lawful (codes "join") 1 _ (λ state argument.
+        for_shape_obeys state (asks (codes "join") argument) (text_field (codes "grain") argument) (join_plan state)
+        (λ s held. join_obeys state argument (codes "join") s held)),
+    (
+      changes_lawful (codes "leave") 1 _ (λ state argument.
+          for_shape_obeys state (asks (codes "leave") argument) (text_field (codes "grain") argument) (leave_plan state)
+          (λ s held. leave_obeys state _ s)),
+      (
+        changes_lawful (codes "send") 1 _ (λ state argument.
+            for_shape_obeys state (asks (codes "send") argument) (send_argument argument) (send_plan state)
+            (λ send held. send_obeys state argument (codes "send") send.0 send.1 held)),
+        every_kind_lawful,
+      ),
+    ),
+  );
+}

@@ -1,11 +1,11 @@
 -- The kind `relay`: at most 4 distinct grains, its members. Its state is the list of their texts; a state of another
 -- shape counts as the empty list.
 --
---   method   argument                       state                    answer
---   join     {"grain": text}                the grain added last     true; otherwise, with the state kept, Misfit
+--   method   since   argument                       state                    answer
+--   join     1       {"grain": text}                the grain added last     true; otherwise, with the state kept, Misfit
 --   where it is no grain's text, false where it is a member, OutOfRange where 4 others are
---   leave    {"grain": text}                the grain left out       whether it was a member
---   send     {"args": any, "method": text}  kept                     the number of members; each is sent that method and args, in order
+--   leave    1       {"grain": text}                the grain left out       whether it was a member
+--   send     1       {"args": any, "method": text}  kept                     the number of members; each is sent that method and args, in order
 use Rattle.std.specs.Prelude.{ℕ, Bool, true, false, not, ◌&&◌, ◌||◌, List, [], ◌∷◌, ◌++◌, length, map, nat_lt, Option, Some, None}
 use Rattle.std.specs.Prelude.{option_map, option_and_then, Result, Ok, Err, pos, if◌then◌else◌, codes}
 use Rattle.std.specs.Option.{unwrap_or}
@@ -14,10 +14,12 @@ use Rattle.grain_id.specs.Reading.{grain_read}
 use Rattle.grain_id.specs.declared.fault.IdFault.{IdFault}
 use Rattle.request_codec.specs.Call.{asks}
 use Rattle.request_codec.specs.Tree.{Tree, truth, integer, text, list, Members, no_members, member, members_count, members_of}
-use Rattle.grain_kinds.specs.declared.fault.MethodFault.TheVariants.{OutOfRange}
-use Rattle.grain_kinds.specs.Laws.{send_limit}
-use Rattle.grain_kinds.specs.Logic.{Plan, Outgoing, asks_nothing, same}
-use Rattle.grain_kinds.specs.Shared.{keeps, becomes, for_shape, text_value, text_field, only_fields, shared_plan}
+use Rattle.grain_logic.specs.declared.fault.MethodFault.TheVariants.{OutOfRange}
+use Rattle.grain_logic.specs.Laws.{send_limit}
+use Rattle.grain_logic.specs.Logic.{Plan, Outgoing, asks_nothing, same}
+use Rattle.grain_logic.specs.Tables.{Kind, Method, changes}
+use Rattle.grain_kinds.specs.EveryKind.{every_kind}
+use Rattle.grain_logic.specs.Shared.{keeps, becomes, for_shape, text_value, text_field, only_fields}
 
 -- how many members a relay may have: a turn may send to each
 abbrev pub member_limit : ℕ
@@ -105,10 +107,11 @@ send_argument argument =
     option_and_then (λ values. option_map (λ method. (values.0, method)) (text_value values.1))
     (only_fields (codes "args") (codes "method") argument)
 
--- `join`, `leave`, `send`, and the methods of every kind
-unfoldable pub relay_plan : List ℕ → Tree → Tree → Plan
-relay_plan method state argument =
-    if same_text method (codes "join") then for_shape state (text_field (codes "grain") argument) (join_plan state)
-    else if same_text method (codes "leave") then for_shape state (text_field (codes "grain") argument) (leave_plan state)
-    else if same_text method (codes "send") then for_shape state (send_argument argument) (send_plan state)
-    else shared_plan method state argument
+unfoldable pub relay_methods : List Method
+relay_methods =
+    changes (codes "join") 1 (λ state argument. for_shape state (text_field (codes "grain") argument) (join_plan state))
+    ∷ changes (codes "leave") 1 (λ state argument. for_shape state (text_field (codes "grain") argument) (leave_plan state))
+    ∷ changes (codes "send") 1 (λ state argument. for_shape state (send_argument argument) (send_plan state)) ∷ every_kind
+
+abbrev pub relay : Kind
+relay = record { word = codes "relay"; since = 1; empty = list no_members; methods = relay_methods }

@@ -1,26 +1,55 @@
 //! The kind `counter`.
 
-ghost use Rattle.std.specs.Prelude.{◌≡◌, true, ℤ};
-ghost use Rattle.request_codec.specs.Tree as tree;
-ghost use Rattle.request_codec.specs.Tree.{Tree, integer, field, no_fields};
+ghost use Rattle.std.specs.Prelude.{◌≡◌};
+ghost use Rattle.request_codec.specs.Tree.{Tree};
 ghost use Rattle.turn_arena.specs.NodeValue.{node_value};
-ghost use Rattle.grain_kinds.specs.Counter as counter;
-ghost use Rattle.grain_kinds.specs.Counter.{add_plan, counter_plan};
-ghost use Rattle.grain_kinds.specs.Planned.{plan_shown};
-ghost use Rattle.grain_kinds.specs.Shared.{for_null, for_shape, integer_field};
+ghost use Rattle.grain_logic.specs.Adding.{number_of};
+ghost use Rattle.grain_logic.specs.Counters as counters;
+ghost use Rattle.grain_logic.specs.Adding.{adds_number};
+ghost use Rattle.grain_kinds.specs.Counter.{counter_methods};
+ghost use Rattle.grain_logic.specs.Tables.{method_in, plan_by, reads_by, since_of};
+ghost use Rattle.grain_logic.specs.Planned.{plan_shown};
+ghost use Rattle.grain_logic.specs.Shared.{for_null, for_shape, integer_field};
+ghost use Rattle.grain_logic.specs.Shortcuts.{IsShortcut};
 
-use crate::arguments::{integer_field, is_null};
-use crate::fault::MethodFault;
-use crate::plan::Plan;
-use crate::shared::shared_plan;
+use crate::every_kind;
+use grain_logic::adding::number_of;
+use grain_logic::arguments::{integer_field, is_null};
+use grain_logic::{MethodFault, Plan, Shortcut};
 use std::alloc::Global;
 use turn_arena::Node;
 
+/// Whether the method only reads.
+#[tactic(auto, unfolding(crate::specs::Counter::counter_methods))]
+pub(crate) fn only_reads(method: &str) -> bool
+    ensures { result ≡ reads_by (method_in counter_methods method.now) }
+{
+    if method == "add" {
+        return false;
+    }
+    method == "get" || every_kind::only_reads(method)
+}
+
+/// The version since which the method stands: 1 if there is none of the word.
+#[tactic(auto, unfolding(crate::specs::Counter::counter_methods))]
+pub(crate) fn since(method: &str) -> u8
+    ensures { result ≡ since_of (method_in counter_methods method.now) }
+{
+    if method == "add" {
+        return 1;
+    }
+    if method == "get" {
+        return 1;
+    }
+    every_kind::since(method)
+}
+
 /// What a turn of a counter comes to.
-#[tactic(auto, unfolding(crate::specs::Counter::counter_plan, crate::specs::Counter::number_plan))]
+#[tactic(auto, unfolding(crate::specs::Counter::counter_methods))]
 #[inline(always)]
 pub(crate) fn plan_of<'a>(alloc: Global, method: &str, state: Node<'a>, args: Node<'a>) -> Plan<'a>
-    ensures { plan_shown (node_value state.entry) result ≡ counter_plan method.now (node_value state.entry) (node_value args.entry) }
+    ensures { plan_shown (node_value state.entry) result
+        ≡ plan_by (method_in counter_methods method.now) (node_value state.entry) (node_value args.entry) }
 {
     if method == "add" {
         return add(alloc, number_of(state), integer_field(args, "by"));
@@ -28,20 +57,22 @@ pub(crate) fn plan_of<'a>(alloc: Global, method: &str, state: Node<'a>, args: No
     if method == "get" {
         return get(alloc, number_of(state), args);
     }
-    shared_plan(alloc, method, args)
+    every_kind::plan_of(alloc, method, args)
 }
 
-/// Whether a turn of the method adds the number that stands under the name: `add` does, under `by`.
-pub(crate) fn adds(method: &str, name: &str) -> bool
-    ensures { result ≡ true → (state : Tree) → (number : ℤ)
-        → counter_plan method.now state (tree.map (field name.now (integer number) no_fields)) ≡ add_plan state number }
+/// `add` adds the number that stands under `by`.
+pub(crate) fn shortcut(method: &str) -> Shortcut
+    ensures { IsShortcut (plan_by (method_in counter_methods method.now)) result }
 {
-    method == "add" && name == "by"
+    if method == "add" {
+        return Shortcut::Adds("by");
+    }
+    Shortcut::None
 }
 
 /// The sum is the new number and the answer.
 fn add<'a>(alloc: Global, number: i64, by: Option<i64>) -> Plan<'a>
-    ensures { (state : Tree) → counter.number_of state ≡ number → plan_shown state result ≡ for_shape state by (add_plan state) }
+    ensures { (state : Tree) → number_of state ≡ number → plan_shown state result ≡ for_shape state by (adds_number state) }
 {
     let Some(by) = by else {
         return Plan::keeps(alloc, Err(MethodFault::Misfit));
@@ -54,27 +85,11 @@ fn add<'a>(alloc: Global, number: i64, by: Option<i64>) -> Plan<'a>
 
 /// The number is the answer.
 fn get<'a>(alloc: Global, number: i64, args: Node<'a>) -> Plan<'a>
-    ensures { (state : Tree) → counter.number_of state ≡ number
-        → plan_shown state result ≡ for_null state (node_value args.entry) (counter.get_plan state) }
+    ensures { (state : Tree) → number_of state ≡ number
+        → plan_shown state result ≡ for_null state (node_value args.entry) (counters.get_plan state) }
 {
     if is_null(args) {
         return Plan::keeps(alloc, Ok(Node::Int(number)));
     }
     Plan::keeps(alloc, Err(MethodFault::Misfit))
-}
-
-/// A counter's number. A state that is no whole number counts as 0.
-#[inline(always)]
-pub(crate) fn number_of(state: Node<'_>) -> i64
-    ensures { result ≡ counter.number_of (node_value state.entry) }
-{
-    match state {
-        Node::Int(number) => number,
-        Node::Null => 0,
-        Node::Bool(_) => 0,
-        Node::Text(_) => 0,
-        Node::List(_) => 0,
-        Node::Map(_) => 0,
-        Node::Bytes(_) => 0,
-    }
 }

@@ -1,44 +1,59 @@
-//! The kinds `counter`, `sheet` and `relay`.
+//! The table of the kinds `counter`, `sheet` and `relay`, at each version.
 
-ghost use Rattle.std.specs.Prelude.{◌≡◌, IfOk};
+ghost use Rattle.std.specs.Prelude.{◌≡◌, ◌≤◌, is_some, IfOk};
 ghost use Rattle.request_codec.specs.Tree as tree;
 ghost use Rattle.request_codec.specs.Tree.{no_members, no_fields};
 ghost use Rattle.turn_arena.specs.Ascending.{MapsAscend};
 ghost use Rattle.turn_arena.specs.NodeValue.{node_value};
-ghost use Rattle.grain_kinds.specs.Kinds.{is_counter, is_sheet, is_relay, is_known, only_reads, empty_state, plan_of};
-ghost use Rattle.grain_kinds.specs.Planned.{plan_shown};
+ghost use Rattle.grain_kinds.specs.Kinds.{table};
+ghost use Rattle.grain_logic.specs.Laws.{FitsState};
+ghost use Rattle.grain_logic.specs.Shortcuts.{IsShortcut};
+ghost use Rattle.grain_logic.specs.Tables.{kind_in, kind_at, method_at, method_of, empty_by, reads_by, plan_by, since_of};
+ghost use Rattle.grain_logic.specs.Planned.{plan_shown};
 
-use crate::fault::MethodFault;
-use crate::logic::GrainLogic;
-use crate::plan::Plan;
-use crate::writing::state_of;
 use crate::{counter, relay, sheet};
 use bumpalo::Bump;
+use grain_logic::{MethodFault, Plan, Shortcut, state_of};
 use request_codec::StateBytes;
 use std::alloc::{AllocError, Global};
 use turn_arena::Node;
 
-/// The logic of the kinds `counter`, `sheet` and `relay`.
-#[derive(Clone, Copy, Debug)]
-pub struct Kinds;
-
 fn is_known(kind: &str) -> bool
-    ensures { result ≡ is_known kind.now }
+    ensures { result ≡ is_some (kind_in table kind.now) }
 {
     kind == "counter" || kind == "sheet" || kind == "relay"
 }
 
-/// Whether it is a counter's `get`, or a sheet's `get` or `list`.
+/// Whether the method of the kind only reads.
 fn only_reads(kind: &str, method: &str) -> bool
-    ensures { result ≡ only_reads kind.now method.now }
+    ensures { result ≡ reads_by (method_of (kind_in table kind.now) method.now) }
 {
     if kind == "counter" {
-        return method == "get";
+        return counter::only_reads(method);
     }
     if kind == "sheet" {
-        return method == "get" || method == "list";
+        return sheet::only_reads(method);
+    }
+    if kind == "relay" {
+        return relay::only_reads(method);
     }
     false
+}
+
+/// The version since which the method of the kind stands: 1 if there is none.
+fn since(kind: &str, method: &str) -> u8
+    ensures { result ≡ since_of (method_of (kind_in table kind.now) method.now) }
+{
+    if kind == "counter" {
+        return counter::since(method);
+    }
+    if kind == "sheet" {
+        return sheet::since(method);
+    }
+    if kind == "relay" {
+        return relay::since(method);
+    }
+    1
 }
 
 fn empty_map<'a>() -> Node<'a>
@@ -55,7 +70,7 @@ fn empty_list<'a>() -> Node<'a>
 
 /// The empty state of a kind.
 fn empty_of<'a>(kind: &str) -> Node<'a>
-    ensures { node_value result ≡ empty_state kind.now }
+    ensures { node_value result ≡ empty_by (kind_in table kind.now) }
 {
     if kind == "counter" {
         return Node::Int(0);
@@ -81,7 +96,8 @@ fn plan_by<'a>(
 ) -> Result<Plan<'a>, AllocError>
     requires { MapsAscend (node_value state) }
     ensures { IfOk result
-        (λ plan. plan_shown (node_value state.entry) plan ≡ plan_of kind.now method.now (node_value state.entry) (node_value args.entry)) }
+        (λ plan. plan_shown (node_value state.entry) plan
+        ≡ plan_by (method_of (kind_in table kind.now) method.now) (node_value state.entry) (node_value args.entry)) }
 {
     if kind == "counter" {
         return Ok(counter::plan_of(alloc, method, state, args));
@@ -95,53 +111,77 @@ fn plan_by<'a>(
     Ok(Plan::keeps(alloc, Err(MethodFault::UnknownMethod)))
 }
 
-impl GrainLogic for Kinds {
-    ghost use Rattle.grain_kinds.specs.Kinds.{kinds};
-    ghost use Rattle.grain_kinds.specs.LawsOfKinds.{kinds_lawful};
-
-    ghost logic = { kinds };
-
-    ghost lawful = { kinds_lawful };
-
-    #[tactic(auto, unfolding(crate::specs::Kinds::kinds))]
-    fn knows(&self, kind: &str) -> bool {
-        is_known(kind)
+/// What every turn of the method does, if it is little.
+fn shortcut_of(kind: &str, method: &str) -> Shortcut
+    ensures { IsShortcut (plan_by (method_of (kind_in table kind.now) method.now)) result }
+{
+    if kind == "counter" {
+        return counter::shortcut(method);
     }
-
-    #[tactic(auto, unfolding(crate::specs::Kinds::kinds))]
-    fn is_read(&self, kind: &str, method: &str) -> bool {
-        only_reads(kind, method)
+    if kind == "sheet" {
+        return sheet::shortcut(method);
     }
+    Shortcut::None
+}
 
-    #[tactic(auto, unfolding(crate::specs::Kinds::kinds))]
-    fn empty(&self, alloc: Global, kind: &str) -> Result<StateBytes, AllocError> {
-        state_of(alloc, empty_of(kind))
-    }
+/// Whether grains of the kind are known at a version.
+pub(crate) fn knows_at(_version: u8, kind: &str) -> bool
+    requires { 1 ≤ _version }
+    ensures { result ≡ is_some (kind_at table _version kind.now) }
+{
+    is_known(kind)
+}
 
-    #[tactic(auto, using(crate::proofs::Fits::formed_ascends), unfolding(crate::specs::Kinds::kinds))]
-    #[inline(always)]
-    fn plan<'a>(
-        &self,
-        alloc: Global,
-        bump: &'a Bump,
-        kind: &str,
-        method: &'a str,
-        state: Node<'a>,
-        args: Node<'a>,
-    ) -> Result<Plan<'a>, AllocError> {
-        plan_by(alloc, bump, kind, method, state, args)
+/// Whether the method of the kind only reads, at a version.
+pub(crate) fn reads_at(version: u8, kind: &str, method: &str) -> bool
+    requires { 1 ≤ version }
+    ensures { result ≡ reads_by (method_at table version kind.now method.now) }
+{
+    if version < since(kind, method) {
+        return false;
     }
+    only_reads(kind, method)
+}
 
-    #[tactic(auto, unfolding(crate::specs::Kinds::kinds))]
-    fn sets<'a>(&self, kind: &str, method: &str, args: Node<'a>) -> Option<(&'a str, Node<'a>)> {
-        if kind == "sheet" {
-            return sheet::sets(method, args);
-        }
-        None
-    }
+/// The state of a grain of the kind that was never written, at a version.
+pub(crate) fn empty_at(_version: u8, alloc: Global, kind: &str) -> Result<StateBytes, AllocError>
+    requires { 1 ≤ _version }
+    ensures { IfOk result (λ state. state ≡ empty_by (kind_at table _version kind.now)) }
+{
+    state_of(alloc, empty_of(kind))
+}
 
-    #[tactic(auto, unfolding(crate::specs::Kinds::kinds))]
-    fn adds(&self, kind: &str, method: &str, name: &str) -> bool {
-        kind == "counter" && counter::adds(method, name)
+/// What a turn of the method comes to at a version. One that doesn't stand yet is unknown.
+#[tactic(auto, using(grain_logic::proofs::Fits::formed_ascends))]
+#[inline(always)]
+pub(crate) fn plan_at<'a>(
+    version: u8,
+    alloc: Global,
+    bump: &'a Bump,
+    kind: &str,
+    method: &str,
+    state: Node<'a>,
+    args: Node<'a>,
+) -> Result<Plan<'a>, AllocError>
+    requires first { 1 ≤ version }
+    requires fits { FitsState (node_value state) }
+    ensures { IfOk result
+        (λ plan. plan_shown (node_value state.entry) plan
+        ≡ plan_by (method_at table version kind.now method.now) (node_value state.entry) (node_value args.entry)) }
+{
+    if version < since(kind, method) {
+        return Ok(Plan::keeps(alloc, Err(MethodFault::UnknownMethod)));
     }
+    plan_by(alloc, bump, kind, method, state, args)
+}
+
+/// What every turn of the method does, if it is little, at a version.
+pub(crate) fn shortcut_at(version: u8, kind: &str, method: &str) -> Shortcut
+    requires { 1 ≤ version }
+    ensures { IsShortcut (plan_by (method_at table version kind.now method.now)) result }
+{
+    if version < since(kind, method) {
+        return Shortcut::None;
+    }
+    shortcut_of(kind, method)
 }

@@ -1,21 +1,21 @@
 //! Laws over the definitions alone, each the contract of a function that does nothing.
 
-ghost use Rattle.grain_kinds.specs.Counters.{counters};
-ghost use Rattle.grain_kinds.specs.Kinds.{kinds};
-ghost use Rattle.grain_kinds.specs.Laws.{IsLawful, KeepsSame, ReadersAskNothing};
-ghost use Rattle.grain_kinds.specs.Logic.{Logic};
-ghost use Rattle.grain_kinds.specs.Resting.{resting_kinds};
+ghost use Rattle.std.specs.Prelude.{ℕ, ◌≤◌};
+ghost use Rattle.grain_kinds.specs.Kinds.{kinds, logic_of, table};
+ghost use Rattle.grain_logic.specs.Laws.{IsLawful, KeepsSame};
+ghost use Rattle.grain_logic.specs.Tables.{Extends};
 
-/// The logics of this crate are lawful, and a lawful logic asks nothing of the storage in a method that only reads.
+/// The logic of each version is lawful.
 pub fn lawful()
-    ensures kinds { IsLawful kinds }
-    ensures counters { IsLawful counters }
-    ensures resting { IsLawful resting_kinds }
-    ensures readers { (logic : Logic) → IsLawful logic → ReadersAskNothing logic }
+    ensures { (version : ℕ) → IsLawful (logic_of version) }
 {}
 
-/// `Kinds`, and counters alone, say nothing of activations.
+/// A version answers whatever an older one knows as the older one does: a journal of the older one keeps its report.
+pub fn versions_extend()
+    ensures { (older newer : ℕ) → older ≤ newer → Extends table older newer }
+{}
+
+/// The first version says nothing of activations.
 pub fn kinds_keep_same()
-    ensures kinds { KeepsSame kinds }
-    ensures counters { KeepsSame counters }
+    ensures { KeepsSame kinds }
 {}

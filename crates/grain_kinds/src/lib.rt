@@ -1,36 +1,21 @@
-//! What grains do with their messages: the logic of each kind of grain.
+//! The kinds of grains that the program runs: `counter`, `sheet` and `relay`.
 //!
-//! A layer above may rely on this: a logic says which kinds it knows, which methods only read, the
-//! empty state of a kind, and the plan of a method, a state and an argument. What a logic is, and its
-//! laws, are in `specs/Logic.antt` and `specs/Laws.antt`; the kinds are in `specs/Kinds.antt` and the
-//! page of each.
-//!
-//! For a logic of one's own: `arguments` takes an argument apart, `shared` has the methods of every
-//! kind, `length` says whether a value is too long for a state, and `state_of` writes a state.
+//! A layer above may rely on this: each version of the table in `specs/Kinds.antt` is a logic
+//! (`grain_logic::GrainLogic`) and lawful, and a later one answers whatever an earlier one knows as the
+//! earlier one does. Each method has in the table the version since which it stands.
+//! What names a logic alone stands on `grain_logic`; a change of a kind is none of it.
 #![tactic(auto)]
 
-mod adding;
-pub mod arguments;
 mod counter;
-mod fault;
+mod every_kind;
 mod kinds;
 pub mod laws;
-pub mod length;
-mod logic;
-mod plan;
-mod reading;
 mod relay;
-mod resting;
-mod setting;
-pub mod shared;
 mod sheet;
-mod turn;
-mod writing;
+mod versions;
 
-pub use fault::MethodFault;
-pub use kinds::Kinds;
-pub use logic::GrainLogic;
-pub use plan::{Keep, MAX_STAY_MILLISECONDS, Plan, Send, StoreCall};
-pub use resting::RestingKinds;
-pub use turn::{FinishedTurn, OpenedTurn, OwnedPlan, plan_turn, run_turn};
-pub use writing::state_of;
+pub use grain_logic::{
+    FinishedTurn, GrainLogic, Keep, MAX_STAY_MILLISECONDS, MethodFault, OpenedTurn, OwnedPlan,
+    Plan, Send, StoreCall, plan_turn, run_turn, state_of,
+};
+pub use versions::{Kinds, RestingKinds, RestingKinds as NewestKinds, Version};

@@ -4,27 +4,61 @@ ghost use Rattle.std.specs.Prelude.{◌≡◌, ◌≤◌, length, map, option_ma
 ghost use Rattle.grain_id.specs.Names.{Grain};
 ghost use Rattle.request_codec.specs.Tree.{Tree};
 ghost use Rattle.turn_arena.specs.NodeValue.{node_value, node_values};
-ghost use Rattle.grain_kinds.specs.Planned.{plan_shown, send_shown};
+ghost use Rattle.grain_logic.specs.Tables.{method_in, plan_by, reads_by, since_of};
+ghost use Rattle.grain_logic.specs.Planned.{plan_shown, send_shown};
 ghost use Rattle.grain_kinds.specs.Relay as relay;
 ghost use Rattle.grain_kinds.specs.Relay.{member_limit, grains_in, grain_value, members_in, relay_of, sends_to, join_plan, joined_plan};
-ghost use Rattle.grain_kinds.specs.Relay.{leave_plan, send_plan, relay_plan};
-ghost use Rattle.grain_kinds.specs.Shared.{for_shape};
+ghost use Rattle.grain_kinds.specs.Relay.{leave_plan, send_plan, relay_methods};
+ghost use Rattle.grain_logic.specs.Shared.{for_shape};
 
-use crate::arguments::{only_fields, text_field, text_value};
-use crate::fault::MethodFault;
-use crate::plan::{Keep, Plan, Send, StoreCall};
-use crate::shared::shared_plan;
+use crate::every_kind;
 use bumpalo::Bump;
 use bumpalo::collections::into_bump_slice;
 use grain_id::{GrainId, IdFault};
+use grain_logic::arguments::{only_fields, text_field, text_value};
+use grain_logic::{Keep, MethodFault, Plan, Send, StoreCall};
 use std::alloc::{AllocError, Global};
 use turn_arena::{Node, text_in};
 
 /// How many members a relay may have.
 const MAX_MEMBERS: usize = 4;
 
+/// Whether the method only reads.
+#[tactic(auto, unfolding(crate::specs::Relay::relay_methods))]
+pub(crate) fn only_reads(method: &str) -> bool
+    ensures { result ≡ reads_by (method_in relay_methods method.now) }
+{
+    if method == "join" {
+        return false;
+    }
+    if method == "leave" {
+        return false;
+    }
+    if method == "send" {
+        return false;
+    }
+    every_kind::only_reads(method)
+}
+
+/// The version since which the method stands: 1 if there is none of the word.
+#[tactic(auto, unfolding(crate::specs::Relay::relay_methods))]
+pub(crate) fn since(method: &str) -> u8
+    ensures { result ≡ since_of (method_in relay_methods method.now) }
+{
+    if method == "join" {
+        return 1;
+    }
+    if method == "leave" {
+        return 1;
+    }
+    if method == "send" {
+        return 1;
+    }
+    every_kind::since(method)
+}
+
 /// What a turn of a relay comes to.
-#[tactic(auto, unfolding(crate::specs::Relay::relay_plan))]
+#[tactic(auto, unfolding(crate::specs::Relay::relay_methods))]
 pub(crate) fn plan_of<'a>(
     alloc: Global,
     bump: &'a Bump,
@@ -33,7 +67,8 @@ pub(crate) fn plan_of<'a>(
     args: Node<'a>,
 ) -> Result<Plan<'a>, AllocError>
     ensures { IfOk result
-        (λ plan. plan_shown (node_value state.entry) plan ≡ relay_plan method.now (node_value state.entry) (node_value args.entry)) }
+        (λ plan. plan_shown (node_value state.entry) plan
+        ≡ plan_by (method_in relay_methods method.now) (node_value state.entry) (node_value args.entry)) }
 {
     if method == "join" {
         return join(alloc, bump, state, text_field(args, "grain"));
@@ -44,7 +79,7 @@ pub(crate) fn plan_of<'a>(
     if method == "send" {
         return send(alloc, state, send_argument(args));
     }
-    Ok(shared_plan(alloc, method, args))
+    Ok(every_kind::plan_of(alloc, method, args))
 }
 
 /// The grain of the text is added last.

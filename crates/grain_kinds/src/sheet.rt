@@ -1,30 +1,67 @@
 //! The kind `sheet`.
 
-ghost use Rattle.std.specs.Prelude.{◌≡◌, option_map, IfOk, IfSome};
+ghost use Rattle.std.specs.Prelude.{◌≡◌, option_map, IfOk};
 ghost use Rattle.request_codec.specs.Tree as tree;
 ghost use Rattle.request_codec.specs.Tree.{Tree};
 ghost use Rattle.turn_arena.specs.Ascending.{NamesAscend, MapsAscend};
 ghost use Rattle.turn_arena.specs.Fields.{fields_in};
 ghost use Rattle.turn_arena.specs.NodeValue.{node_value, field_values};
-ghost use Rattle.request_codec.specs.Call.{asks};
-ghost use Rattle.grain_kinds.specs.Laws.{FitsMessage, FitsField};
-ghost use Rattle.grain_kinds.specs.Planned.{plan_shown};
-ghost use Rattle.grain_kinds.specs.Shared.{for_null, for_shape, text_field};
+ghost use Rattle.grain_logic.specs.Tables.{method_in, plan_by, reads_by, since_of};
+ghost use Rattle.grain_logic.specs.Planned.{plan_shown};
+ghost use Rattle.grain_logic.specs.Shared.{for_null, for_shape, text_field};
 ghost use Rattle.grain_kinds.specs.Sheet as sheet;
-ghost use Rattle.grain_kinds.specs.Sheet.{value_in, names_in, put_plan, sheet_plan};
+ghost use Rattle.grain_kinds.specs.Sheet.{value_in, names_in, sheet_methods};
+ghost use Rattle.grain_logic.specs.Setting.{set_to, sets_field};
+ghost use Rattle.grain_logic.specs.Shortcuts.{IsShortcut};
 
-use crate::arguments::{is_null, only_fields, text_field, text_value};
-use crate::fault::MethodFault;
-use crate::length::is_too_large;
-use crate::plan::Plan;
-use crate::shared::shared_plan;
+use crate::every_kind;
 use bumpalo::Bump;
 use bumpalo::collections::into_bump_slice;
+use grain_logic::arguments::{is_null, text_and_value, text_field};
+use grain_logic::length::is_too_large;
+use grain_logic::{MethodFault, Plan, Shortcut};
 use std::alloc::{AllocError, Global};
 use turn_arena::{Field, Node, drop_in, put_in};
 
+/// Whether the method only reads.
+#[tactic(auto, unfolding(crate::specs::Sheet::sheet_methods))]
+pub(crate) fn only_reads(method: &str) -> bool
+    ensures { result ≡ reads_by (method_in sheet_methods method.now) }
+{
+    if method == "put" {
+        return false;
+    }
+    if method == "get" {
+        return true;
+    }
+    if method == "drop" {
+        return false;
+    }
+    method == "list" || every_kind::only_reads(method)
+}
+
+/// The version since which the method stands: 1 if there is none of the word.
+#[tactic(auto, unfolding(crate::specs::Sheet::sheet_methods))]
+pub(crate) fn since(method: &str) -> u8
+    ensures { result ≡ since_of (method_in sheet_methods method.now) }
+{
+    if method == "put" {
+        return 1;
+    }
+    if method == "get" {
+        return 1;
+    }
+    if method == "drop" {
+        return 1;
+    }
+    if method == "list" {
+        return 1;
+    }
+    every_kind::since(method)
+}
+
 /// What a turn of a sheet comes to.
-#[tactic(auto, unfolding(crate::specs::Sheet::sheet_plan))]
+#[tactic(auto, unfolding(crate::specs::Sheet::sheet_methods))]
 pub(crate) fn plan_of<'a>(
     alloc: Global,
     bump: &'a Bump,
@@ -34,7 +71,8 @@ pub(crate) fn plan_of<'a>(
 ) -> Result<Plan<'a>, AllocError>
     requires { MapsAscend (node_value state) }
     ensures { IfOk result
-        (λ plan. plan_shown (node_value state.entry) plan ≡ sheet_plan method.now (node_value state.entry) (node_value args.entry)) }
+        (λ plan. plan_shown (node_value state.entry) plan
+        ≡ plan_by (method_in sheet_methods method.now) (node_value state.entry) (node_value args.entry)) }
 {
     let fields = fields_of(state);
     if method == "put" {
@@ -49,21 +87,17 @@ pub(crate) fn plan_of<'a>(
     if method == "list" {
         return list_names(alloc, bump, fields, args);
     }
-    Ok(shared_plan(alloc, method, args))
+    Ok(every_kind::plan_of(alloc, method, args))
 }
 
-/// The name and the value that a turn of the method sets, if it does that alone: `put` does, if its argument has the shape.
-#[tactic(auto, unfolding(crate::specs::Sheet::sheet_plan))]
-pub(crate) fn sets<'a>(method: &str, args: Node<'a>) -> Option<(&'a str, Node<'a>)>
-    requires { FitsMessage (asks method.now (node_value args)) }
-    ensures sets { IfSome result
-        (λ put. (state : Tree) → sheet_plan method.now state (node_value args.entry) ≡ put_plan state (put.0.now, node_value put.1)) }
-    ensures fits { IfSome result (λ put. FitsField (node_value put.1)) }
+/// `put` sets a field, if its argument has the shape.
+pub(crate) fn shortcut(method: &str) -> Shortcut
+    ensures { IsShortcut (plan_by (method_in sheet_methods method.now)) result }
 {
     if method == "put" {
-        return put_argument(args);
+        return Shortcut::Sets("name", "value");
     }
-    None
+    Shortcut::None
 }
 
 /// The fields of a sheet. A state that is no map counts as the empty one.
@@ -88,13 +122,12 @@ fn fields_of<'a>(state: Node<'a>) -> &'a [Field<'a>]
 fn put_argument<'a>(args: Node<'a>) -> Option<(&'a str, Node<'a>)>
     ensures { option_map (λ put. (put.0.now, node_value put.1)) result ≡ sheet.put_argument (node_value args.entry) }
 {
-    let (name, value) = only_fields(args, "name", "value")?;
-    Some((text_value(name)?, value))
+    text_and_value(args, "name", "value")
 }
 
 /// The sheet is the new state, if it is not too large.
 fn set_to<'a>(alloc: Global, made: Node<'a>) -> Plan<'a>
-    ensures { (state : Tree) → plan_shown state result ≡ sheet.set_to state (node_value made.entry) }
+    ensures { (state : Tree) → plan_shown state result ≡ set_to state (node_value made.entry) }
 {
     if is_too_large(made) {
         return Plan::keeps(alloc, Err(MethodFault::TooLarge));
@@ -111,7 +144,7 @@ fn put_value<'a>(
 ) -> Result<Plan<'a>, AllocError>
     requires { NamesAscend fields.now }
     ensures { IfOk result (λ plan. (state : Tree) → field_values fields.now ≡ fields_in state
-        → plan_shown state plan ≡ for_shape state (option_map (λ put. (put.0.now, node_value put.1)) put.entry) (sheet.put_plan state)) }
+        → plan_shown state plan ≡ for_shape state (option_map (λ put. (put.0.now, node_value put.1)) put.entry) (sets_field state)) }
 {
     let Some((name, value)) = put else {
         return Ok(Plan::keeps(alloc, Err(MethodFault::Misfit)));

@@ -4,7 +4,7 @@
 //! a content or none, and a count of the calls that failed; its calls answer and leave what the
 //! definitions say. What a write, a clearing and a poke are is in `specs/Rows.antt`, what the calls
 //! of a storage answer in `specs/Answers.antt`, and which call of a `FusedStorage` fails in
-//! `specs/Fuse.antt`. `GrainStorage` is the contract that each storage is proved against.
+//! `specs/inside/Fuse.antt`. `GrainStorage` is the contract that each storage is proved against.
 #![tactic(auto)]
 
 mod fault;

@@ -1,5 +1,5 @@
 //! The ages of the kinds that have one of their own: `specs/Ages.antt`, and how they are put in order,
-//! `specs/AgesInOrder.antt`.
+//! `specs/inside/AgesInOrder.antt`.
 
 ghost use Rattle.std.specs.Prelude.{◌≡◌, ◌+◌, ◌≤◌, ℕ, length, List, [], None, MatchResult, OnOk, option_map};
 ghost use Rattle.std.specs.FinMap.{put};

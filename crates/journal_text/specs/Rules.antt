@@ -15,6 +15,7 @@ use Rattle.silo_event.specs.declared.reply.Party.TheVariants as party
 use Rattle.silo_event.specs.declared.step.Step.{Step}
 use Rattle.silo_event.specs.declared.step.Step.TheVariants.{Refuse, Call as Calling, Poke, Status, Deliver, Activate}
 use Rattle.silo_event.specs.declared.step.Step.TheVariants.{Load, Begin, Store, End, Abandon, Tick, Sweep}
+use Rattle.logic_versions.specs.Versions.{IsVersion}
 use Rattle.request_codec.specs.Tree.{Tree}
 use Rattle.journal_text.specs.Form.{HasMessage, HasState, is_code, tells_kinds, written}
 use Rattle.journal_text.specs.declared.form.Form.{Form}
@@ -27,9 +28,9 @@ use Rattle.journal_text.specs.declared.line.Line.TheVariants as line
 abbrev pub IsNumber : ℕ → Type 0
 IsNumber n = n < 2 ^ 63
 
--- the number of one of the two logics
+-- the number of a version of the logic
 abbrev pub IsKinds : ℕ → Type 0
-IsKinds kinds = (1 ≤ kinds) × (kinds ≤ 2)
+IsKinds = IsVersion
 
 abbrev pub IsParty : Party → Type 0
 IsParty (party.Client client id) = IsTrue (is_client client) × IsNumber id

@@ -1,4 +1,4 @@
--- What only the contracts of this crate's own parts cite. No promise stands on it.
+-- For contracts of parts and for proofs. No promise of the silo, of journals or of the program stands on it.
 pub mod Candidates
 pub mod Draft
 pub mod Answers

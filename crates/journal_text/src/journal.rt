@@ -42,7 +42,7 @@ impl Model for Journal {
 }
 
 impl Journal {
-    /// Which logic the kinds had: 1, or 2, which also knows grains that rest and grains that stay.
+    /// Which logic the kinds had: the number of its version.
     pub fn kinds(&self) -> u8
         ensures kinds { result ≡ self.now.kinds }
         ensures in_range { IsKinds self.now.kinds }

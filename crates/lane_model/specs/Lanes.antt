@@ -12,7 +12,7 @@ pub use Rattle.silo_event.specs.Failed.{has_failed}
 use Rattle.silo_event.specs.declared.step.Step.{Step}
 use Rattle.silo_event.specs.declared.step.Step.TheVariants.{Refuse, Call, Poke, Status, Deliver, Activate, Load, Begin, Store, End}
 use Rattle.silo_event.specs.declared.step.Step.TheVariants.{Abandon, Tick, Sweep}
-use Rattle.grain_kinds.specs.Logic.{Logic}
+use Rattle.grain_logic.specs.Logic.{Logic}
 use Rattle.silo_model.specs.Machine.{Machine}
 use Rattle.silo_model.specs.Step.{machine_step}
 use Rattle.silo_model.specs.Run.{done_by}

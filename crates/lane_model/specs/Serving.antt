@@ -10,10 +10,10 @@ use Rattle.silo_event.specs.declared.reply.Party.TheVariants as party
 use Rattle.silo_event.specs.declared.reply.Reply.{Reply}
 use Rattle.silo_event.specs.declared.step.Step.{Step}
 use Rattle.silo_event.specs.declared.step.Step.TheVariants.{Call}
-use Rattle.grain_kinds.specs.Counter.{fits_64}
-use Rattle.grain_kinds.specs.Counters.{counters}
-use Rattle.grain_kinds.specs.Logic.{Logic}
-use Rattle.grain_kinds.specs.Laws.{ReadersAskNothing}
+use Rattle.grain_logic.specs.Adding.{fits_64}
+use Rattle.grain_logic.specs.Counters.{counters}
+use Rattle.grain_logic.specs.Logic.{Logic}
+use Rattle.grain_logic.specs.Laws.{ReadersAskNothing}
 use Rattle.silo_model.specs.Calls.{told}
 use Rattle.silo_model.specs.Whole.{Whole}
 use Rattle.silo_model.specs.Opening.{Setup}

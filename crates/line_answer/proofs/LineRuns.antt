@@ -2,7 +2,7 @@
 use Rattle.std.proofs.Common.{◌≡◌, ◌≢◌, ℕ, ◌+◌, Bool, true, false, List, [], ◌∷◌, ◌++◌, length, Option, Some, None, IfSome, refl, sym, ap, ◌∙◌, subst, inl, inr, arith, length-append}
 use Rattle.std.specs.Io.KnownBytes.{Appends, Keeps, IsAtEnd}
 use Rattle.std.proofs.KnownBytes.{Appends-trans, Appends-kept, Appends-nil}
-use Rattle.grain_kinds.specs.Logic.{Logic}
+use Rattle.grain_logic.specs.Logic.{Logic}
 use Rattle.silo_model.specs.Journal.{LeadsTo}
 use Rattle.silo_core.specs.History.{History}
 use Rattle.line_parser.specs.Meaning.{meaning_of}

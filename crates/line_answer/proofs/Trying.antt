@@ -11,7 +11,7 @@ use Rattle.silo_event.specs.Owner.{owner_of}
 use Rattle.silo_event.specs.Failed.{has_failed, may_fail, as_failed}
 use Rattle.silo_event.specs.declared.step.Step.{Step}
 use Rattle.silo_event.specs.declared.step.Step.TheVariants.{Refuse, Call, Poke, Status, Deliver, Activate, Load, Begin, Store, End, Abandon, Tick, Sweep}
-use Rattle.grain_kinds.specs.Logic.{Logic}
+use Rattle.grain_logic.specs.Logic.{Logic}
 use Rattle.silo_model.specs.Machine.{Entry, Request, Send, Phase, waiting, loading, ready}
 use Rattle.silo_model.specs.Opening.{Setup}
 use Rattle.silo_model.specs.Journal.{LeadsTo}
@@ -24,7 +24,7 @@ use Rattle.silo_model.specs.Run.{if_possible, done_by, whole_run}
 use Rattle.silo_model.proofs.Contexts.{step_at_own}
 use Rattle.silo_model.proofs.EntrySteps.{activate_found, begin_found}
 use Rattle.silo_model.proofs.Runs.{whole_after, run_by-append, done_by-append}
-use Rattle.silo_state.specs.Sends.{first_source}
+use Rattle.tenant_accounts.specs.Sends.{first_source}
 use Rattle.silo_state.specs.Work.{first_number, first_waiting}
 use Rattle.silo_core.specs.History.{History, Failures, Advances, Fails, StaysAsItWas, failed_since}
 use Rattle.silo_core.specs.AtOnce as at_once

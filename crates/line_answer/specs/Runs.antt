@@ -1,7 +1,7 @@
 -- What answering lines at once leaves: in the silo, in the reader and in the writer, and as each tenant sees it.
 use Rattle.std.specs.Prelude.{◌≡◌, ◌⊎◌, ℕ, Bool, true, false, List, [], ◌∷◌, ◌++◌, length, map, Option, Some}
 use Rattle.std.specs.Io.KnownBytes.{Appends, Keeps}
-use Rattle.grain_kinds.specs.Logic.{Logic}
+use Rattle.grain_logic.specs.Logic.{Logic}
 use Rattle.silo_model.specs.Whole.{shown_to}
 use Rattle.silo_core.specs.History.{History}
 use Rattle.line_parser.specs.Meaning.{meaning_of}

@@ -5,7 +5,7 @@ use Rattle.grain_id.specs.Names.{Grain}
 use Rattle.silo_event.specs.Failed.{has_failed}
 use Rattle.silo_event.specs.declared.step.Step.{Step}
 use Rattle.silo_event.specs.declared.step.Step.TheVariants.{Begin}
-use Rattle.grain_kinds.specs.Logic.{Logic}
+use Rattle.grain_logic.specs.Logic.{Logic}
 use Rattle.silo_model.specs.Machine.{Entry, Request, Send}
 use Rattle.silo_model.specs.Pending.{sends_of}
 use Rattle.silo_model.specs.Whole.{Whole, whole_step}

@@ -11,7 +11,7 @@ ghost use Rattle.line_answer.specs.Trying.{AnswersAsked};
 use crate::bringing::answer_step;
 use bumpalo::Bump;
 use grain_id::HashSeed;
-use grain_kinds::GrainLogic;
+use grain_logic::GrainLogic;
 use grain_storage::GrainStorage;
 use silo_core::{Setup, Silo};
 use silo_event::{Reply, Step};

@@ -12,7 +12,7 @@ ghost use Rattle.silo_event.specs.declared.step.Step.{Step};
 use crate::serving::{make_free, serve, take};
 use bumpalo::Bump;
 use grain_id::{Caller, GrainId};
-use grain_kinds::GrainLogic;
+use grain_logic::GrainLogic;
 use grain_storage::GrainStorage;
 use silo_core::Silo;
 use silo_event::Step;

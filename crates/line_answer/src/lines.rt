@@ -10,7 +10,7 @@ ghost use Rattle.line_answer.specs.Runs.{AnswersLine};
 use crate::answering::AnsweringSilo;
 use crate::bringing::is_asked;
 use bumpalo::Bump;
-use grain_kinds::GrainLogic;
+use grain_logic::GrainLogic;
 use grain_storage::GrainStorage;
 use line_parser::{Line, LineRefusal, LineScratch, read_line};
 use line_protocol::{push_not_now, push_refusal, push_replies};

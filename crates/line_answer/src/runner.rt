@@ -10,7 +10,7 @@ ghost use Rattle.line_answer.specs.Runs.{AnswersLine, AnswersAll, KeepsSetup, Li
 use crate::answering::AnsweringSilo;
 use crate::lines::answer_line;
 use bumpalo::Bump;
-use grain_kinds::GrainLogic;
+use grain_logic::GrainLogic;
 use grain_storage::GrainStorage;
 use line_parser::LineScratch;
 use line_protocol::{Input, LineFault, Output};

@@ -7,7 +7,7 @@ ghost use Rattle.line_answer.specs.Trying.{Begins, Opens, TakesNow, Tries};
 
 use bumpalo::Bump;
 use grain_id::GrainId;
-use grain_kinds::GrainLogic;
+use grain_logic::GrainLogic;
 use grain_storage::GrainStorage;
 use silo_core::Silo;
 use silo_event::{Answer, Step, StepFault};

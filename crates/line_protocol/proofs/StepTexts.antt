@@ -6,7 +6,7 @@ use Rattle.silo_event.specs.declared.reply.Reply.{Reply}
 use Rattle.silo_event.specs.declared.step.Answer.{Answer}
 use Rattle.silo_event.specs.declared.step.Answer.TheVariants.{Done, Failed, NotNow}
 use Rattle.silo_event.specs.declared.step.Step.{Step}
-use Rattle.grain_kinds.specs.Logic.{Logic}
+use Rattle.grain_logic.specs.Logic.{Logic}
 use Rattle.silo_core.specs.History.{History, Answered}
 use Rattle.line_protocol.specs.LineTexts.{whole_stepper, ended, texts_of, step_text, line_text}
 use Rattle.line_protocol.specs.Text.{line_of, not_now_line}

@@ -4,7 +4,7 @@ use Rattle.silo_event.specs.Failed.{marked_step}
 use Rattle.silo_event.specs.declared.step.Answer.{Answer}
 use Rattle.silo_event.specs.declared.step.Answer.TheVariants.{Done, Failed, NotNow}
 use Rattle.silo_event.specs.declared.step.Step.{Step}
-use Rattle.grain_kinds.specs.Logic.{Logic}
+use Rattle.grain_logic.specs.Logic.{Logic}
 use Rattle.silo_model.specs.Run.{concerns, answers_to}
 use Rattle.silo_core.specs.History.{History, Failures}
 use Rattle.silo_core.specs.Runs.{failed_in, Takes}

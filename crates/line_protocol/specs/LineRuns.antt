@@ -3,7 +3,7 @@ use Rattle.std.specs.Prelude.{◌≡◌, ◌≢◌, ℕ, ◌≤◌, List, [], �
 use Rattle.std.specs.Io.KnownBytes.{Appends, Keeps}
 use Rattle.silo_event.specs.Failed.{marked_step}
 use Rattle.silo_event.specs.declared.step.Answer.{Answer}
-use Rattle.grain_kinds.specs.Logic.{Logic}
+use Rattle.grain_logic.specs.Logic.{Logic}
 use Rattle.silo_model.specs.Whole.{Whole, shown_to}
 use Rattle.silo_model.specs.Run.{answers_to}
 use Rattle.silo_model.specs.Parts.{AnsweredAlone}

@@ -7,7 +7,7 @@ ghost use Rattle.line_parser.specs.declared.line.Line.TheVariants as line;
 
 use crate::replies::{push_not_now, push_refusal, push_replies};
 use bumpalo::Bump;
-use grain_kinds::GrainLogic;
+use grain_logic::GrainLogic;
 use grain_storage::GrainStorage;
 use line_parser::{Line, LineScratch, read_line};
 use silo_core::Silo;

@@ -11,7 +11,7 @@ use crate::answers::answer_line;
 use crate::fault::LineFault;
 use crate::streams::{Input, Output};
 use bumpalo::Bump;
-use grain_kinds::GrainLogic;
+use grain_logic::GrainLogic;
 use grain_storage::GrainStorage;
 use line_parser::LineScratch;
 use silo_core::Silo;

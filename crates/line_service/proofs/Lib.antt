@@ -5,5 +5,4 @@ pub mod Places
 mod Written
 mod Collected
 mod Ordered
-mod NoRows
-pub mod Stops
+pub mod TellingLemmas

@@ -1,4 +1,5 @@
 pub mod Asked
 pub mod ServedText
-pub mod Serving
+pub mod Reasons
+pub mod Counts
 pub mod inside

@@ -10,9 +10,7 @@ ghost use Rattle.line_service.specs.ServedText.{StopsWriting, replies_by_grain, 
 ghost use Rattle.line_service.specs.inside.Told.{replies_at};
 ghost use Rattle.line_service.specs.inside.Written.{LineStops};
 
-use crate::serving::ServedInput;
 use crate::told::{ToldByGrain, told_by_grain};
-use grain_kinds::GrainLogic;
 use line_parser::LineRefusal;
 use line_protocol::{LineFault, Output, push_refusal, push_reply};
 use silo_event::Reply;
@@ -165,25 +163,25 @@ fn write_told<W: Write>(
 }
 
 /// Writes the lines: of the refusals; of each lane's replies; and of what grains are told.
-fn write_parts<L: GrainLogic, W: Write>(
+fn write_parts<W: Write>(
     alloc: Global,
-    served: &ServedInput<L>,
+    refusals: &[LineRefusal],
+    answers: &[Vec<Reply>],
+    replies: &[Reply],
     output: &mut Output<W>,
 ) -> Result<(), LineFault>
     ensures written { OnOk result (Appends (W.contents output.old.writer) (W.contents output.new.writer)
-        (served_text served.now.refusals.items (map_list (λ v. v.items) served.now.report.answers.items)
-        served.now.report.silo.whole.replies)) }
+        (served_text refusals.now (map_list (λ v. v.items) answers.now) replies.now)) }
     ensures stopped { IfErr result (λ why. StopsWriting why
-        (served_lines served.now.refusals.items (map_list (λ v. v.items) served.now.report.answers.items)
-        served.now.report.silo.whole.replies)
+        (served_lines refusals.now (map_list (λ v. v.items) answers.now) replies.now)
         (W.contents output.old.writer) (W.contents output.new.writer)) }
     ensures cause { IfErr result (λ why. why ≡ line.Write → output.new.calls.failed ≡ true) }
     ensures unfailed { OnOk result (output.new.calls.failed ≡ output.old.calls.failed) }
 {
     let mut text = String::new(alloc);
-    write_lines(alloc, &mut text, served.refusals.as_slice(), output)?;
-    write_answers(alloc, &mut text, served.report.answers.as_slice(), output)?;
-    write_told(alloc, &mut text, served.report.silo.replies(), output)
+    write_lines(alloc, &mut text, refusals, output)?;
+    write_answers(alloc, &mut text, answers, output)?;
+    write_told(alloc, &mut text, replies, output)
 }
 
 /// Writes what was served, line by line: a line for each refusal, in the order of their lines; then the
@@ -196,24 +194,24 @@ fn write_parts<L: GrainLogic, W: Write>(
 /// `Memory`: the lines before the one that was being made were written, if the writer let them out. `Write` if a call of
 /// the writer failed: a part of the text was written, or all of it. The output notes that a call failed, so pass one that
 /// notes none.
-pub fn write_served<L: GrainLogic, W: Write>(
+pub fn write_outcome<W: Write>(
     alloc: Global,
-    served: &ServedInput<L>,
+    refusals: &[LineRefusal],
+    answers: &[Vec<Reply>],
+    replies: &[Reply],
     output: &mut Output<W>,
 ) -> Result<(), LineFault>
     ensures written { OnOk result (Appends (W.contents output.old.writer) (W.contents output.new.writer)
-        (served_text served.now.refusals.items (map_list (λ v. v.items) served.now.report.answers.items)
-        served.now.report.silo.whole.replies)) }
+        (served_text refusals.now (map_list (λ v. v.items) answers.now) replies.now)) }
 
     // Where memory was refused, the lines before the one that was being made were written whole.
     ensures stopped { IfErr result (λ why. StopsWriting why
-        (served_lines served.now.refusals.items (map_list (λ v. v.items) served.now.report.answers.items)
-        served.now.report.silo.whole.replies)
+        (served_lines refusals.now (map_list (λ v. v.items) answers.now) replies.now)
         (W.contents output.old.writer) (W.contents output.new.writer)) }
     ensures cause { IfErr result (λ why. why ≡ line.Write → output.new.calls.failed ≡ true) }
     ensures unfailed { OnOk result (output.new.calls.failed ≡ output.old.calls.failed) }
 {
-    match write_parts(alloc, served, output) {
+    match write_parts(alloc, refusals, answers, replies, output) {
         Ok(()) => output.flush(),
         Err(LineFault::Memory) => {
             // What was written goes out, if it can.

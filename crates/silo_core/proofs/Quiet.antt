@@ -16,7 +16,7 @@ use Rattle.silo_model.specs.Whole.{Whole, shown_to}
 use Rattle.silo_model.proofs.Fair.{within_all}
 use Rattle.silo_model.proofs.QuietCounts.{quiet_by_counts, in_weighs, one_weighs, zero_entries}
 use Rattle.silo_state.specs.Reads.{is_quiet}
-use Rattle.silo_state.specs.Sends.{HasSent, NothingSent, first_source}
+use Rattle.tenant_accounts.specs.Sends.{HasSent, NothingSent, first_source}
 use Rattle.silo_state.specs.Work.{is_settled}
 
 -- ---- an entry

@@ -8,7 +8,7 @@ use Rattle.silo_event.specs.Failed.{as_failed, marked_step}
 use Rattle.silo_event.specs.declared.step.Step.{Step}
 use Rattle.silo_event.specs.declared.step.Answer.{Answer}
 use Rattle.silo_event.specs.declared.step.Answer.TheVariants.{Done, Failed, NotNow}
-use Rattle.grain_kinds.specs.Logic.{Logic}
+use Rattle.grain_logic.specs.Logic.{Logic}
 use Rattle.silo_model.specs.Whole.{Whole, whole_step}
 use Rattle.silo_model.specs.Run.{run_by, if_possible, done_by, whole_run, marked}
 use Rattle.silo_model.specs.Answers.{AreAnswersBy, AreAnswers}

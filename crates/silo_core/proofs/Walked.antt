@@ -6,7 +6,7 @@ use Rattle.std.proofs.lemmas.Option.{same_Some, none-some}
 use Rattle.std.proofs.lemmas.Bool.{not-true}
 use Rattle.grain_id.specs.Names.{Grain}
 use Rattle.grain_id.proofs.Order.{grain_eq_decides}
-use Rattle.grain_kinds.specs.Logic.{Logic}
+use Rattle.grain_logic.specs.Logic.{Logic}
 use Rattle.silo_event.specs.declared.step.Step.{Step}
 use Rattle.silo_event.specs.declared.step.Step.TheVariants.{Activate, Load, Begin, Deliver}
 use Rattle.silo_model.specs.Machine.{Account, Send}
@@ -17,7 +17,7 @@ use Rattle.silo_model.specs.Whole.{Whole}
 use Rattle.silo_model.proofs.OwnSends.{delivers}
 use Rattle.silo_model.proofs.Sends.{has_sent}
 use Rattle.silo_model.proofs.WorkAtGrains.{nothing_at_entry, nothing_to_deliver, work_is_done}
-use Rattle.silo_state.specs.Sends.{HasSent, NothingSent, first_source}
+use Rattle.tenant_accounts.specs.Sends.{HasSent, NothingSent, first_source}
 
 -- ---- nothing was found
 

@@ -5,7 +5,7 @@ use Rattle.grain_id.specs.Names.{Client, Grain}
 use Rattle.request_codec.specs.Call as codec
 use Rattle.silo_event.specs.declared.step.Step.{Step}
 use Rattle.silo_event.specs.declared.step.Step.TheVariants.{Call, Begin, End}
-use Rattle.grain_kinds.specs.Logic.{Logic}
+use Rattle.grain_logic.specs.Logic.{Logic}
 use Rattle.silo_state.specs.Work.{first_waiting}
 use Rattle.silo_core.specs.History.{History, Advances}
 

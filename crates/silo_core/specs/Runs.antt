@@ -4,7 +4,7 @@ use Rattle.silo_event.specs.Failed.{as_failed}
 use Rattle.silo_event.specs.declared.step.Step.{Step}
 use Rattle.silo_event.specs.declared.step.Answer.{Answer}
 use Rattle.silo_event.specs.declared.step.Answer.TheVariants as answer
-use Rattle.grain_kinds.specs.Logic.{Logic}
+use Rattle.grain_logic.specs.Logic.{Logic}
 use Rattle.silo_model.specs.Whole.{Whole, shown_to, whole_step}
 use Rattle.silo_model.specs.Run.{done_by, machine_run, whole_run, restricted_to, concerns, answers_to, marked}
 use Rattle.silo_model.specs.Answers.{AreAnswers, AreMachineAnswers}

@@ -1,6 +1,6 @@
 //! What a silo is opened with.
 
-use grain_kinds::GrainLogic;
+use grain_logic::GrainLogic;
 use grain_storage::GrainStorage;
 use idle_collector::AgeTable;
 use tenant_gate::{Age, TenantTable};

@@ -14,7 +14,7 @@ ghost use Rattle.silo_core.specs.Runs.{noted};
 use crate::setup::Setup;
 use crate::{replies, rows};
 use grain_id::{GrainId, HashSeed, Tenant};
-use grain_kinds::GrainLogic;
+use grain_logic::GrainLogic;
 use grain_storage::{GrainStorage, Row};
 use idle_collector::AgeTable;
 use silo_event::{Answer, Reply, Step};

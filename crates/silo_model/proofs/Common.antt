@@ -36,9 +36,9 @@ pub use Rattle.tenant_gate.specs.declared.limits.Limits.{Limits}
 pub use Rattle.grain_storage.specs.Rows.{RowFault, Rows, content_or, spent, stale, version_of}
 pub use Rattle.grain_storage.specs.declared.row.Row.{Row}
 pub use Rattle.idle_collector.specs.Ages.{kind_age}
-unfoldable pub use Rattle.grain_kinds.specs.Counters.{counters}
-pub use Rattle.grain_kinds.specs.Laws.{ReadersAskNothing}
-pub use Rattle.grain_kinds.specs.Logic.{Keep, Logic, Outgoing, Plan, StorageCall, asks_nothing, clears_row, reads_row, same, writes_row}
+unfoldable pub use Rattle.grain_logic.specs.Counters.{counters}
+pub use Rattle.grain_logic.specs.Laws.{ReadersAskNothing}
+pub use Rattle.grain_logic.specs.Logic.{Keep, Logic, Outgoing, Plan, StorageCall, asks_nothing, clears_row, reads_row, same, writes_row}
 pub use Rattle.silo_event.specs.Asker.{asking_of}
 pub use Rattle.silo_event.specs.Failed.{as_failed}
 pub use Rattle.silo_event.specs.Owner.{owner_of, tenant_of}

@@ -4,11 +4,12 @@ use Rattle.silo_model.proofs.Common.{Result, Some, Tree, Whole, [], ap, asks_not
 use Rattle.silo_model.proofs.Common.{outcome_of, plan_of, ready, refl, reply_to, same, same_text, stays_or_goes, true, whole_step, ℕ, ℤ}
 use Rattle.std.specs.Prelude.{◌+ℤ◌, codes}
 use Rattle.std.specs.FinMap as map
-use Rattle.grain_kinds.specs.declared.fault.MethodFault.{MethodFault}
-use Rattle.grain_kinds.specs.declared.fault.MethodFault.TheVariants.{Misfit, OutOfRange, UnknownMethod}
-use Rattle.grain_kinds.specs.Shared.{becomes, for_null, for_shape, integer_field, is_null, keeps}
-use Rattle.grain_kinds.specs.Counter.{add_plan, fits_64, get_plan, number_of, number_plan}
-use Rattle.grain_kinds.proofs.KeepSame.{counters_keep_same}
+use Rattle.grain_logic.specs.declared.fault.MethodFault.{MethodFault}
+use Rattle.grain_logic.specs.declared.fault.MethodFault.TheVariants.{Misfit, OutOfRange, UnknownMethod}
+use Rattle.grain_logic.specs.Shared.{becomes, for_null, for_shape, integer_field, is_null, keeps}
+use Rattle.grain_logic.specs.Adding.{adds_number, fits_64, number_of}
+use Rattle.grain_logic.specs.Counters.{get_plan, number_plan}
+use Rattle.grain_logic.proofs.KeepSame.{counters_keep_same}
 use Rattle.silo_model.proofs.TurnSteps.{end_silent_turn}
 use Rattle.silo_model.proofs.Leaving.{awake_stays}
 
@@ -23,7 +24,7 @@ either false p q h k = k
 keeps_silent : (state : Tree) (outcome : Result Tree MethodFault) → IsSilent (keeps state outcome)
 keeps_silent state outcome = record { storage = refl; sends = refl }
 
-add_silent : (state : Tree) (by : Option ℤ) → IsSilent (for_shape state by (add_plan state))
+add_silent : (state : Tree) (by : Option ℤ) → IsSilent (for_shape state by (adds_number state))
 add_silent state None = keeps_silent state (Err Misfit)
 add_silent state (Some by) =
     let sum = number_of state +ℤ by in
@@ -38,7 +39,7 @@ counter_silent kind method state argument =
     let by = integer_field (codes "by") argument in
     let unknown = keeps state (Err UnknownMethod) in
     let get = for_null state argument (get_plan state) in
-    either (same_text method (codes "add")) (for_shape state by (add_plan state)) (if same_text method (codes "get") then get else unknown) (add_silent state by)
+    either (same_text method (codes "add")) (for_shape state by (adds_number state)) (if same_text method (codes "get") then get else unknown) (add_silent state by)
     (either (same_text method (codes "get")) get unknown (get_silent state argument) (keeps_silent state (Err UnknownMethod)))
 
 -- a counter's turn is closed by its plan, and its entry stays if it doesn't rest

@@ -194,7 +194,7 @@ module _ (logic : Logic) (s : Context) (step : Step) where
   first_does g a None is first = tt
   first_does g a (Some found) is first =
       let rest : Account = record a { sends = found.1 } in
-      let m : Outgoing = found.0.message in
+      let m = found.0.message in
       over_does (party.Grain g) m.target m.call rest _ (without a g found is first) (call_passes logic (seen rest) m.target)
 
   delivered_does : (g : Grain) (account : Option Account) → s.account ≡ account

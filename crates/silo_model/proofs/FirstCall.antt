@@ -8,9 +8,10 @@ use Rattle.silo_model.proofs.Common.{outcome_of, plan_of, ready, refl, reply_to,
 use Rattle.std.proofs.Math.IntN.{+ℤ_idl}
 use Rattle.std.specs.Prelude.{codes, pos}
 use Rattle.std.specs.FinMap as map
-use Rattle.grain_kinds.specs.Shared.{becomes, keeps}
-use Rattle.grain_kinds.specs.Counter.{add_to, fits_64, number_plan}
-use Rattle.grain_kinds.specs.declared.fault.MethodFault.TheVariants.{OutOfRange}
+use Rattle.grain_logic.specs.Shared.{becomes, keeps}
+use Rattle.grain_logic.specs.Adding.{add_to, fits_64}
+use Rattle.grain_logic.specs.Counters.{number_plan}
+use Rattle.grain_logic.specs.declared.fault.MethodFault.TheVariants.{OutOfRange}
 use Rattle.silo_event.specs.declared.reply.Party.TheVariants as party
 use Rattle.silo_model.specs.FirstCall.{FirstCallAnswered, add_call, first_call}
 use Rattle.silo_model.proofs.CallSteps.{call_new, next_request}

@@ -4,7 +4,7 @@ use Rattle.silo_model.proofs.Common.{Some, Whole, [], ap, arith, due_moment, inl
 use Rattle.silo_model.proofs.Common.{until_by, whole_swept, with_request, ℕ}
 use Rattle.std.specs.FinMap as map
 use Rattle.idle_collector.specs.Ages.{Ages}
-use Rattle.grain_kinds.specs.Laws.{KeepsSame}
+use Rattle.grain_logic.specs.Laws.{KeepsSame}
 use Rattle.silo_model.specs.Resting.{LeavesYounger, OneAgeCounts, StaysUntil}
 use Rattle.silo_model.proofs.Changes.{OfPut}
 use Rattle.silo_model.proofs.ClockSteps.{sweep_is}

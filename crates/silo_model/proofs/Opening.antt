@@ -1,12 +1,10 @@
 -- The opening whole is sound, and shows each tenant the start of its own machine.
-use Rattle.silo_model.proofs.Common.{◌∙◌, ◌≡◌, Entry, List, Setup, [], ap, fresh_account, grain_cmp, grain_cmp_exact, grain_cmp_total}
-use Rattle.silo_model.proofs.Common.{is_of, limits_of, machine_run, none-some, opening, option_map, restricted_to, shown_to, start_of, sym}
-use Rattle.silo_model.proofs.Common.{texts, ℕ}
+use Rattle.silo_model.proofs.Common.{◌∙◌, ◌≡◌, Entry, List, Setup, [], ap, grain_cmp, grain_cmp_exact, grain_cmp_total}
+use Rattle.silo_model.proofs.Common.{is_of, machine_run, none-some, opening, restricted_to, shown_to, start_of, sym}
+use Rattle.silo_model.proofs.Common.{ℕ}
 use Rattle.std.specs.FinMap as map
-use Rattle.finite_maps.proofs.Entries.{get-lookup_seen}
 use Rattle.finite_maps.proofs.Maps.{part-empty}
-use Rattle.tenant_gate.specs.Table.{Table}
-use Rattle.silo_model.specs.Opening.{fresh_accounts}
+pub use Rattle.tenant_accounts.proofs.Tables.{get-fresh_accounts}
 use Rattle.silo_model.specs.Laws.{AgreeingLists, ReplayIsRun}
 use Rattle.silo_model.proofs.Sound.{IsSound}
 use Rattle.silo_model.proofs.Runs.{run_shown}
@@ -14,12 +12,6 @@ use Rattle.silo_model.proofs.Runs.{run_shown}
 pub opening_sound : (setup : Setup) → IsSound (opening setup)
 unfolding opening
 opening_sound setup g e found = absurd (none-some e (sym (map.get-empty grain_cmp g) ∙ found))
-
--- ---- accounts
-
--- what is known of a tenant as a silo opens: the limits that the table has of it
-pub get-fresh_accounts : (tenants : Table) (t : List ℕ) → map.get (fresh_accounts tenants) t ≡ option_map fresh_account (limits_of tenants t)
-get-fresh_accounts tenants t = get-lookup_seen texts fresh_account tenants t
 
 -- ---- entries
 

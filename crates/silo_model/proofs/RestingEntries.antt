@@ -7,7 +7,7 @@ use Rattle.silo_model.proofs.Common.{reply_to, resting_by, stays_or_goes, sym, t
 use Rattle.std.specs.FinMap as map
 use Rattle.std.proofs.lemmas.Bool.{and_left}
 use Rattle.finite_maps.proofs.Maps.{get-remove_same}
-use Rattle.grain_kinds.specs.Logic.{rest}
+use Rattle.grain_logic.specs.Logic.{rest}
 use Rattle.silo_model.specs.Resting.{IsEnding, IsLast, RestingGoes, RestingIsUsed}
 use Rattle.silo_model.proofs.Changes.{OfPut}
 use Rattle.silo_model.proofs.Leaving.{idle_parts, resting_goes}

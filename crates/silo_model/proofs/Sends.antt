@@ -1,8 +1,9 @@
 -- A step but an End adds nothing to what grains sent, and an End adds what its own grain sends.
 use Rattle.silo_model.proofs.Common.{◌++◌, ◌||◌, ◌∙◌, ◌∷◌, ◌≡◌, ◌⊎◌, Account, Bool, Change, Context, Effect, Grain, List, Logic, None}
 use Rattle.silo_model.proofs.Common.{Option, Outgoing, Send, Some, Step, [], ap, change_option, cond, false, first_from, grain_eq, inl, inr}
-use Rattle.silo_model.proofs.Common.{is_among, is_some, is_some-option_map, map_list, none-some, option_map, or_parts, or_right, refl}
+use Rattle.silo_model.proofs.Common.{is_among, is_some, is_some-option_map, none-some, option_map, or_parts, or_right, refl}
 use Rattle.silo_model.proofs.Common.{same_Some, sender_by, sends_of, subst, sym, true, with_sends}
+use Rattle.silo_model.specs.Turns.{sent_by, sent_from}
 use Rattle.silo_model.proofs.Tests.{on_found, on_test}
 use Rattle.silo_model.proofs.EffectKinds.{Does, Remains, Role, accepts, closes, tells, untouched, without}
 
@@ -40,15 +41,12 @@ has_rest grain g (sent ∷ sends) found is h =
     or_instead here (has_sent g f.1) (has_sent g sends) (has_rest grain g sends f there)
     (sym (has-cons g sent f.1) ∙ found_has (behind sent f) e))) is
 
-abbrev sends_by : Grain → List Outgoing → List Send
-sends_by grain os = map_list (λ m. record { source = grain; message = m }) os
-
 -- sends of a grain after others add none of another grain
-has_more : (grain g : Grain) (sends : List Send) (os : List Outgoing) → grain_eq grain g ≡ false → has_sent g (sends ++ sends_by grain os) ≡ true → has_sent g sends ≡ true
+has_more : (grain g : Grain) (sends : List Send) (os : List Outgoing) → grain_eq grain g ≡ false → has_sent g (sends ++ sent_by grain os) ≡ true → has_sent g sends ≡ true
 has_more grain g [] [] apart h = h
-has_more grain g [] (o ∷ os) apart h = has_more grain g [] os apart (ap (λ b. b || has_sent g (sends_by grain os)) (sym apart) ∙ sym (has-cons g (record { source = grain; message = o }) (sends_by grain os)) ∙ h)
+has_more grain g [] (o ∷ os) apart h = has_more grain g [] os apart (ap (λ b. b || has_sent g (sent_by grain os)) (sym apart) ∙ sym (has-cons g (sent_from grain o) (sent_by grain os)) ∙ h)
 has_more grain g (sent ∷ sends) os apart h =
-    has-cons g sent sends ∙ or_instead (grain_eq sent.source g) _ (has_sent g sends) (has_more grain g sends os apart) (sym (has-cons g sent (sends ++ sends_by grain os)) ∙ h)
+    has-cons g sent sends ∙ or_instead (grain_eq sent.source g) _ (has_sent g sends) (has_more grain g sends os apart) (sym (has-cons g sent (sends ++ sent_by grain os)) ∙ h)
 
 -- ---- what a step does to them
 

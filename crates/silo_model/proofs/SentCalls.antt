@@ -8,7 +8,7 @@ use Rattle.silo_model.proofs.Common.{whole_step, with_request, with_sends, ℕ}
 use Rattle.std.specs.FinMap as map
 use Rattle.std.proofs.lemmas.Bool.{ltb-true}
 use Rattle.silo_event.specs.declared.reply.Party.TheVariants as party
-use Rattle.silo_model.specs.Turns.{sent_by}
+use Rattle.silo_model.specs.Turns.{sent_by, sent_from}
 use Rattle.silo_model.specs.Sent.{IsSending, SentArrives}
 use Rattle.silo_model.proofs.Actives.{active-changed}
 use Rattle.silo_model.proofs.Changes.{get-change_other}
@@ -21,8 +21,8 @@ abbrev found_first : Bool → Send → List Send → Option (Send × List Send) 
 found_first b s sends rest = if b then Some (s, sends) else option_map (λ found. (found.0, s ∷ found.1)) rest
 
 -- behind sends of others, what the grain sends next is its first
-first_from-append : (g : Grain) (sends : List Send) (o : Outgoing) (os : List Outgoing) → list_any (λ s. grain_eq s.source g) sends ≡ false → first_from g (sends ++ sent_by g (o ∷ os)) ≡ Some (record { source = g; message = o }, sends ++ sent_by g os)
-first_from-append g [] o os none = ap (λ b. found_first b (record { source = g; message = o }) (sent_by g os) (first_from g (sent_by g os))) ((grain_eq_decides g g).1 refl)
+first_from-append : (g : Grain) (sends : List Send) (o : Outgoing) (os : List Outgoing) → list_any (λ s. grain_eq s.source g) sends ≡ false → first_from g (sends ++ sent_by g (o ∷ os)) ≡ Some (sent_from g o, sends ++ sent_by g os)
+first_from-append g [] o os none = ap (λ b. found_first b (sent_from g o) (sent_by g os) (first_from g (sent_by g os))) ((grain_eq_decides g g).1 refl)
 first_from-append g (s ∷ sends) o os none =
     let parts = or_parts (grain_eq s.source g) (list_any (λ x. grain_eq x.source g) sends) none in
     ap (λ b. found_first b s (sends ++ sent_by g (o ∷ os)) (first_from g (sends ++ sent_by g (o ∷ os)))) parts.0
@@ -73,7 +73,7 @@ module _ (logic : Logic) (w : Whole) (g : Grain) (turn : ℕ) (a : Account) (o :
   deliver_is : whole_step logic sent (Deliver g) ≡ Some delivered
   deliver_is =
       deliver_new logic sent g account_sent (get-insert_same text_cmp_total text_cmp_exact w.accounts g.tenant account_sent)
-      (record { source = g; message = o }) (a.sends ++ sent_by g sending.others) (first_from-append g a.sends o sending.others sending.none_before)
+      (sent_from g o) (a.sends ++ sent_by g sending.others) (first_from-append g a.sends o sending.others sending.none_before)
       sending.own sending.knows sending.number_left
       (get-change_other grain_cmp_total grain_cmp_exact w.entries g o.target (stays_or_goes entry_closed) apart ∙ sending.absent)
       room_left

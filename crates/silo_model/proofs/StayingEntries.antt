@@ -6,7 +6,7 @@ use Rattle.silo_model.proofs.Common.{grain_cmp_exact, grain_cmp_total, grain_eq_
 use Rattle.silo_model.proofs.Common.{or_parts, put, refl, resting_by, same_Some, shown_to, some_from_and_then, spread, subst, sym, true}
 use Rattle.silo_model.proofs.Common.{true≢false, until_by, whole_step, whole_swept, with_request, ℕ}
 use Rattle.std.specs.FinMap as map
-use Rattle.grain_kinds.specs.Logic.{stay}
+use Rattle.grain_logic.specs.Logic.{stay}
 use Rattle.silo_model.specs.Resting.{IsEnding, StayingGoes, StayingStays, StaysUntil, may_close}
 use Rattle.silo_model.proofs.Changes.{WhereChanged, get-change_other, get-change_same}
 use Rattle.silo_model.proofs.ClockSteps.{sweep_is}

@@ -10,7 +10,7 @@ use Rattle.silo_event.specs.declared.fault.Fault.{Fault}
 use Rattle.silo_event.specs.declared.fault.Fault.TheVariants.{UnknownTenant, StorageFailed, StateChanged, VersionsSpent}
 use Rattle.silo_event.specs.declared.refusal.Refusal.{Refusal}
 use Rattle.silo_event.specs.declared.reply.Party.{Party}
-use Rattle.grain_kinds.specs.Logic.{Logic}
+use Rattle.grain_logic.specs.Logic.{Logic}
 use Rattle.silo_model.specs.Machine.{Account}
 use Rattle.silo_model.specs.Effect.{Context, Effect, Change, keep, only_replies}
 use Rattle.silo_model.specs.Calls.{told, gate}

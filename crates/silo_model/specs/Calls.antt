@@ -11,7 +11,8 @@ use Rattle.silo_event.specs.declared.fault.Fault.TheVariants.{NoNumber}
 use Rattle.silo_event.specs.declared.reply.Reply.{Reply}
 use Rattle.silo_event.specs.declared.reply.Party.{Party}
 use Rattle.silo_event.specs.declared.reply.Party.TheVariants as party
-use Rattle.grain_kinds.specs.Logic.{Logic}
+use Rattle.grain_logic.specs.Logic.{Logic}
+pub use Rattle.tenant_accounts.specs.Kept.{last_number}
 use Rattle.silo_model.specs.Machine.{Account, Entry, Request, waiting}
 use Rattle.silo_model.specs.Effect.{Context, Effect, keep, put, only_replies}
 
@@ -37,10 +38,6 @@ gate logic s (Some account) grain =
     if same_text grain.tenant s.tenant then kind_gate logic account grain else Err (AcrossTenants s.tenant grain.tenant)
 
 -- ---- behind the gate
-
--- the last number that a request may have: 2^63 - 1
-abbrev pub last_number : ℕ
-last_number = 9223372036854775807
 
 -- there is room in the grain's mailbox, or for one more entry of the tenant
 abbrev pub room : Context → Account → Grain → Option Entry → Result Account Fault

@@ -5,7 +5,7 @@ use Rattle.grain_id.specs.Names.{Grain}
 use Rattle.request_codec.specs.Tree.{Tree}
 use Rattle.idle_collector.specs.Ages.{kind_age}
 use Rattle.silo_event.specs.declared.step.Step.TheVariants.{Sweep}
-use Rattle.grain_kinds.specs.Logic.{Logic}
+use Rattle.grain_logic.specs.Logic.{Logic}
 use Rattle.silo_model.specs.Machine.{Entry, ready}
 use Rattle.silo_model.specs.Idle.{due_moment}
 use Rattle.silo_model.specs.Whole.{Whole, whole_step}

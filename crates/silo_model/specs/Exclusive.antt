@@ -10,8 +10,8 @@ use Rattle.silo_event.specs.declared.step.Step.{Step}
 use Rattle.silo_event.specs.declared.step.Step.TheVariants.{Begin, Store, End, Abandon}
 use Rattle.silo_event.specs.declared.step.Answer.{Answer}
 use Rattle.silo_event.specs.declared.step.Answer.TheVariants as answer
-use Rattle.grain_kinds.specs.Logic.{Logic}
-use Rattle.grain_kinds.specs.Laws.{ReadersAskNothing}
+use Rattle.grain_logic.specs.Logic.{Logic}
+use Rattle.grain_logic.specs.Laws.{ReadersAskNothing}
 use Rattle.silo_model.specs.Machine.{Entry, Request}
 use Rattle.silo_model.specs.Turns.{reads}
 use Rattle.silo_model.specs.Whole.{Whole}

@@ -5,8 +5,8 @@ use Rattle.grain_id.specs.Names.{Grain, Client}
 use Rattle.request_codec.specs.Tree.{integer, field, no_fields, map}
 use Rattle.request_codec.specs.Call as codec
 use Rattle.request_codec.specs.Call.{asks}
-use Rattle.grain_kinds.specs.Counter.{fits_64}
-use Rattle.grain_kinds.specs.Counters.{counters}
+use Rattle.grain_logic.specs.Adding.{fits_64}
+use Rattle.grain_logic.specs.Counters.{counters}
 use Rattle.tenant_gate.specs.declared.limits.Limits.{Limits}
 use Rattle.tenant_gate.specs.Table.{limits_of}
 use Rattle.silo_event.specs.declared.step.Step.{Step}

@@ -5,7 +5,7 @@ use Rattle.tenant_gate.specs.declared.fault.GateFault.{GateFault}
 use Rattle.tenant_gate.specs.declared.fault.GateFault.TheVariants as refusal
 use Rattle.tenant_gate.specs.Table.{Table, limits_of, call_fault}
 use Rattle.silo_event.specs.declared.fault.Fault.TheVariants.{UnknownTenant, AcrossTenants}
-use Rattle.grain_kinds.specs.Logic.{Logic}
+use Rattle.grain_logic.specs.Logic.{Logic}
 use Rattle.silo_model.specs.Machine.{Account}
 use Rattle.silo_model.specs.Effect.{Context}
 use Rattle.silo_model.specs.Calls.{kind_gate, gate}

@@ -1,6 +1,6 @@
 -- What the sender of a request is told whose method has no value.
-use Rattle.grain_kinds.specs.declared.fault.MethodFault.{MethodFault}
-use Rattle.grain_kinds.specs.declared.fault.MethodFault.TheVariants as method
+use Rattle.grain_logic.specs.declared.fault.MethodFault.{MethodFault}
+use Rattle.grain_logic.specs.declared.fault.MethodFault.TheVariants as method
 use Rattle.silo_event.specs.declared.fault.Fault.{Fault}
 use Rattle.silo_event.specs.declared.fault.Fault.TheVariants.{UnknownMethod, Misfit, OutOfRange, TooLarge}
 

@@ -1,11 +1,12 @@
 -- What of a client waits or is open; and a silo that has nothing left to do.
-use Rattle.std.specs.Prelude.{◌≡◌, ◌↔◌, ℕ, Bool, false, List, [], length, Option, Some, None, sum_by}
+use Rattle.std.specs.Prelude.{◌≡◌, ◌↔◌, ℕ, Bool, false, List, [], length, sum_by}
 use Rattle.std.specs.List.{list_any}
 use Rattle.std.specs.FinMap as map
 use Rattle.grain_id.specs.Names.{Client, client_eq}
 use Rattle.silo_event.specs.declared.reply.Party.{Party}
 use Rattle.silo_event.specs.declared.reply.Party.TheVariants as party
-use Rattle.silo_model.specs.Machine.{Machine, Account, Send}
+pub use Rattle.tenant_accounts.specs.Sends.{sends_of}
+use Rattle.silo_model.specs.Machine.{Machine, Account}
 use Rattle.silo_model.specs.Whole.{Whole, shown_to}
 use Rattle.silo_model.specs.Settled.{pending_at, all_pending}
 
@@ -17,11 +18,6 @@ is_of_client client (party.Grain grain) = false
 -- a request of the client waits or is open
 abbrev pub has_pending : Client → Machine → Bool
 has_pending client m = list_any (λ q. is_of_client client q.sender) (all_pending m)
-
--- what the tenant's grains sent, and is not yet delivered
-abbrev pub sends_of : Option Account → List Send
-sends_of None = []
-sends_of (Some account) = account.sends
 
 -- No request waits, no turn is open, and no send is left.
 pub record IsQuiet (m : Machine) : Type 0 where

@@ -9,8 +9,8 @@ use Rattle.grain_storage.specs.Rows.{version_of, content_or}
 use Rattle.idle_collector.specs.Ages.{kind_age}
 use Rattle.silo_event.specs.declared.step.Step.{Step}
 use Rattle.silo_event.specs.declared.step.Step.TheVariants.{Load, Store, End, Abandon, Sweep}
-use Rattle.grain_kinds.specs.Logic.{Logic, Keep, asks_nothing, rest, stay}
-use Rattle.grain_kinds.specs.Laws.{KeepsSame}
+use Rattle.grain_logic.specs.Logic.{Logic, Keep, asks_nothing, rest, stay}
+use Rattle.grain_logic.specs.Laws.{KeepsSame}
 use Rattle.silo_model.specs.Machine.{Entry, Request, loading, ready}
 use Rattle.silo_model.specs.Turns.{plan_of}
 use Rattle.silo_model.specs.Saved.{touches_row}

@@ -7,7 +7,7 @@ use Rattle.request_codec.specs.Tree.{Tree}
 use Rattle.grain_storage.specs.Rows.{is_stale, is_spent}
 use Rattle.silo_event.specs.declared.step.Step.{Step}
 use Rattle.silo_event.specs.declared.step.Step.TheVariants.{Poke, Load, Store}
-use Rattle.grain_kinds.specs.Logic.{Logic, writes_row}
+use Rattle.grain_logic.specs.Logic.{Logic, writes_row}
 use Rattle.silo_model.specs.Machine.{Entry, Request, loading, ready}
 use Rattle.silo_model.specs.Turns.{plan_of}
 use Rattle.silo_model.specs.Whole.{Whole, whole_step}

@@ -1,17 +1,12 @@
 -- How what a grain sent is delivered.
-use Rattle.std.specs.Prelude.{List, [], ◌∷◌, Option, Some, None, option_map, option_and_then, if◌then◌else◌}
-use Rattle.grain_id.specs.Names.{Grain, grain_eq}
+use Rattle.std.specs.Prelude.{List, Option, Some, option_map, option_and_then}
+use Rattle.grain_id.specs.Names.{Grain}
 use Rattle.silo_event.specs.declared.reply.Party.TheVariants as party
-use Rattle.grain_kinds.specs.Logic.{Logic}
+use Rattle.grain_logic.specs.Logic.{Logic}
+pub use Rattle.tenant_accounts.specs.Sends.{first_from}
 use Rattle.silo_model.specs.Machine.{Account, Send}
 use Rattle.silo_model.specs.Effect.{Context, Effect, Change, keep, put, drop}
 use Rattle.silo_model.specs.Calls.{called}
-
--- the first that the grain sent, and the others in order
-abbrev pub first_from : Grain → List Send → Option (Send × List Send)
-first_from grain [] = None
-first_from grain (sent ∷ sends) =
-    if grain_eq sent.source grain then Some (sent, sends) else option_map (λ found. (found.0, sent ∷ found.1)) (first_from grain sends)
 
 -- the target of the first that the grain sent
 abbrev pub first_target : Option Account → Grain → Option Grain

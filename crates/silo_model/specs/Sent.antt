@@ -6,7 +6,7 @@ use Rattle.grain_id.specs.Names.{Grain, grain_eq}
 use Rattle.request_codec.specs.Tree.{Tree}
 use Rattle.silo_event.specs.declared.reply.Party.TheVariants as party
 use Rattle.silo_event.specs.declared.step.Step.TheVariants.{Deliver, End}
-use Rattle.grain_kinds.specs.Logic.{Logic, Outgoing, asks_nothing}
+use Rattle.grain_logic.specs.Logic.{Logic, Outgoing, asks_nothing}
 use Rattle.silo_model.specs.Machine.{Account, Entry, Request, waiting, ready}
 use Rattle.silo_model.specs.Calls.{last_number}
 use Rattle.silo_model.specs.Turns.{plan_of, sent_by}

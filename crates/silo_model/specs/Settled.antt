@@ -7,8 +7,8 @@ use Rattle.silo_event.specs.declared.reply.Party.{Party}
 use Rattle.silo_event.specs.declared.reply.Party.TheVariants as party
 use Rattle.silo_event.specs.declared.step.Step.{Step}
 use Rattle.silo_event.specs.declared.step.Step.TheVariants.{Refuse, Call, Poke, Status}
-use Rattle.grain_kinds.specs.Logic.{Logic}
-use Rattle.grain_kinds.specs.Laws.{ReadersAskNothing}
+use Rattle.grain_logic.specs.Logic.{Logic}
+use Rattle.grain_logic.specs.Laws.{ReadersAskNothing}
 use Rattle.silo_model.specs.Machine.{Machine, Entry, Request}
 use Rattle.silo_model.specs.Whole.{Whole, shown_to}
 use Rattle.silo_model.specs.Run.{whole_run, restricted_to}

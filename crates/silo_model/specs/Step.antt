@@ -8,7 +8,7 @@ use Rattle.silo_event.specs.declared.step.Step.TheVariants.{Refuse, Call, Poke, 
 use Rattle.silo_event.specs.declared.step.Step.TheVariants.{Abandon, Tick, Sweep}
 use Rattle.silo_event.specs.declared.reply.Party.TheVariants as party
 use Rattle.idle_collector.specs.Ages.{kind_age}
-use Rattle.grain_kinds.specs.Logic.{Logic}
+use Rattle.grain_logic.specs.Logic.{Logic}
 use Rattle.silo_model.specs.Machine.{Machine, Account, Entry, Request}
 use Rattle.silo_model.specs.Effect.{Context, Effect, context_at, applied}
 use Rattle.silo_model.specs.Calls.{called}

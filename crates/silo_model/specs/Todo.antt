@@ -7,7 +7,7 @@ use Rattle.grain_id.specs.Names.{Grain, grain_eq}
 use Rattle.silo_event.specs.declared.step.Step.{Step}
 use Rattle.silo_event.specs.declared.step.Step.TheVariants.{Refuse, Call, Poke, Status, Deliver, Activate, Load, Begin, Store, End}
 use Rattle.silo_event.specs.declared.step.Step.TheVariants.{Abandon, Tick, Sweep}
-use Rattle.grain_kinds.specs.Logic.{Logic}
+use Rattle.grain_logic.specs.Logic.{Logic}
 use Rattle.silo_model.specs.Machine.{Account, Entry, Request, Phase, waiting, loading, ready}
 use Rattle.silo_model.specs.Turns.{may_open}
 use Rattle.silo_model.specs.Sends.{first_from}

@@ -9,9 +9,9 @@ use Rattle.grain_storage.specs.declared.row.Row.{Row}
 use Rattle.grain_storage.specs.Rows.{RowFault, stale, spent, version_of, content_or}
 use Rattle.silo_event.specs.declared.fault.Fault.{Fault}
 use Rattle.silo_event.specs.declared.fault.Fault.TheVariants.{StorageFailed, StateChanged, VersionsSpent, NoMemory}
-use Rattle.grain_kinds.specs.declared.fault.MethodFault.{MethodFault}
-use Rattle.grain_kinds.specs.Logic.{Logic, Plan, Outgoing, StorageCall, asks_nothing, reads_row, writes_row, clears_row}
-use Rattle.grain_kinds.specs.Logic.{Keep, same, rest, stay}
+use Rattle.grain_logic.specs.declared.fault.MethodFault.{MethodFault}
+use Rattle.grain_logic.specs.Logic.{Logic, Plan, Outgoing, StorageCall, asks_nothing, reads_row, writes_row, clears_row}
+use Rattle.grain_logic.specs.Logic.{Keep, same, rest, stay}
 use Rattle.silo_model.specs.Methods.{method_fault}
 use Rattle.silo_model.specs.Machine.{Account, Entry, Request, Send, Phase, waiting, loading, ready}
 use Rattle.silo_model.specs.Effect.{Context, Effect, Change, keep, put, drop, on_entry}
@@ -108,9 +108,13 @@ closed s e request state version said row outcome = record {
 
 -- ---- a turn that asks nothing of the storage ends by its plan
 
+-- a call that a grain sends
+abbrev pub sent_from : Grain → Outgoing → Send
+sent_from grain m = record { source = grain; message = record { target = m.target; call = m.call } }
+
 -- the grain sent these
 abbrev pub sent_by : Grain → List Outgoing → List Send
-sent_by grain outgoing = map (λ m. record { source = grain; message = m }) outgoing
+sent_by grain outgoing = map (sent_from grain) outgoing
 
 -- what a turn sends goes last among what its tenant's grains sent
 abbrev pub with_sends : Grain → Option Account → List Outgoing → Change Account

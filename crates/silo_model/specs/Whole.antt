@@ -9,7 +9,7 @@ use Rattle.silo_event.specs.Owner.{owner_of, tenant_of}
 use Rattle.silo_event.specs.declared.reply.Reply.{Reply}
 use Rattle.silo_event.specs.declared.step.Step.{Step}
 use Rattle.silo_event.specs.declared.step.Step.TheVariants.{Tick, Sweep}
-use Rattle.grain_kinds.specs.Logic.{Logic}
+use Rattle.grain_logic.specs.Logic.{Logic}
 use Rattle.silo_model.specs.Machine.{Machine, Account, Entries}
 use Rattle.silo_model.specs.Effect.{Effect, change_at, changed_at, context_at}
 use Rattle.silo_model.specs.Idle.{kept_entries}

@@ -1,12 +1,18 @@
 -- What the program says of a fault, by the status that it ends with.
-use Rattle.silo_program.proofs.Common.{Cause, End, EndsAs, FileClaims, IsFaultOf, List, Option, ProgramFault, Reading, Text, WriterCalls, ℕ}
-use Rattle.silo_program.proofs.Common.{◌≡◌, ◌≢◌}
+use Rattle.command_parts.specs.declared.failure.Cause.{Cause}
+use Rattle.command_parts.specs.declared.failure.End.{End}
+use Rattle.silo_program.specs.Ends.{AreRefusedBy, EndsAs, FailsBy, IsFaultOf}
+use Rattle.command_parts.specs.Files.{FileClaims}
+use Rattle.std.proofs.Common.{List, Option, ℕ, ◌≡◌, ◌≢◌}
+use Rattle.command_parts.specs.declared.failure.ProgramFault.{ProgramFault}
+use Rattle.line_protocol.specs.Reading.{Reading}
+use Rattle.clap.specs.Words.{Text}
+use Rattle.line_protocol.specs.declared.written.WriterCalls.{WriterCalls}
 use Rattle.std.specs.Prelude.{string_bytes}
-use Rattle.silo_program.specs.Ends.{AreRefusedBy, FailsBy, TellsEnd}
-use Rattle.silo_program.specs.Status.{end_status, failure_text, status_of, told_text}
-use Rattle.silo_program.specs.Streams.{Tells}
-use Rattle.silo_program.specs.declared.failure.End.TheVariants as end
-use Rattle.silo_program.specs.declared.failure.ProgramFault.TheVariants as fault
+use Rattle.command_parts.specs.Streams.{Tells, TellsEnd}
+use Rattle.command_parts.specs.Status.{end_status, failure_text, status_of, told_text}
+use Rattle.command_parts.specs.declared.failure.End.TheVariants as end
+use Rattle.command_parts.specs.declared.failure.ProgramFault.TheVariants as fault
 
 module _ (words : List Text) (files : FileClaims) (from left : Option (List ℕ)) (reading : Reading) (before after : Option (List ℕ)) (writing : WriterCalls) (said told : Option (List ℕ)) (telling : WriterCalls) where
   -- with status 1 the program failed

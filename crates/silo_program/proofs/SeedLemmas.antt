@@ -1,11 +1,17 @@
 -- The source of random bytes fails.
-use Rattle.silo_program.proofs.Common.{AskFor, Cause, Err, FileClaims, IfErr, IsFaultOf, Keeps-refl, List, Ok, Option, Reading, Result}
-use Rattle.silo_program.proofs.Common.{Text, WriterCalls, inl, inr, subst, sym, ℕ, ◌≡◌}
+use Rattle.silo_words.specs.Words.{AskFor}
+use Rattle.command_parts.specs.declared.failure.Cause.{Cause}
+use Rattle.std.proofs.Common.{Err, IfErr, List, Ok, Option, Result, inl, inr, subst, sym, ℕ, ◌≡◌}
+use Rattle.command_parts.specs.Files.{FileClaims}
+use Rattle.silo_program.specs.Ends.{AskForWork, IsFaultOf}
+use Rattle.std.proofs.KnownBytes.{Keeps-refl}
+use Rattle.line_protocol.specs.Reading.{Reading}
+use Rattle.clap.specs.Words.{Text}
+use Rattle.line_protocol.specs.declared.written.WriterCalls.{WriterCalls}
 use Rattle.silo_words.specs.declared.task.Task.{Task}
 use Rattle.silo_words.specs.declared.task.Task.TheVariants as task
-use Rattle.silo_program.specs.Ends.{AskForWork}
-use Rattle.silo_program.specs.declared.failure.Cause.TheVariants as cause
-use Rattle.silo_program.specs.declared.failure.ProgramFault.TheVariants as fault
+use Rattle.command_parts.specs.declared.failure.Cause.TheVariants as cause
+use Rattle.command_parts.specs.declared.failure.ProgramFault.TheVariants as fault
 
 -- the task takes maps
 abbrev pub TakesMaps : Task → Type 0

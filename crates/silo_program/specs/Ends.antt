@@ -7,27 +7,28 @@ use Rattle.idle_collector.specs.Ages.{Ages}
 use Rattle.line_protocol.specs.Reading.{Reading}
 use Rattle.line_protocol.specs.declared.written.WriterCalls.{WriterCalls}
 use Rattle.line_protocol.specs.declared.fault.LineFault.{LineFault}
-use Rattle.line_service.specs.Serving.{setup_of}
+use Rattle.command_parts.specs.Setups.{setup_of}
 use Rattle.silo_words.specs.Words.{AreRefused, AskForAnswering, AskForAudit, AskForHelp, AskForMigration, AskForNothing}
 use Rattle.silo_words.specs.Words.{AskForServing, AskForSteps, AskForVersion, EndsWithExample, nothing_told}
 use Rattle.silo_words.specs.declared.task.Telling.{Telling}
-use Rattle.silo_program.specs.Status.{cause_of, no_ages_text, refused_text, version_text}
-use Rattle.silo_program.specs.Streams.{BreaksOff, Tells}
-use Rattle.silo_program.specs.Telling.{asks_to_tell}
+use Rattle.command_parts.specs.Status.{cause_of}
+use Rattle.silo_program.specs.Arguments.{no_ages_text, refused_text, version_text}
+use Rattle.command_parts.specs.Streams.{BreaksOff}
+use Rattle.serve_command.specs.Telling.{asks_to_tell}
 use Rattle.silo_words.specs.Ages.{NamesAges}
 use Rattle.silo_words.specs.Tenants.{IsFirstRefused, NameTenants}
-use Rattle.silo_program.specs.Steps.{AnswersFrom, StopsFrom}
-use Rattle.silo_program.specs.Files.{FileClaims}
-use Rattle.silo_program.specs.Answering.{AnsweringFailsBy, AnswersLanes, WritesJournals}
-use Rattle.silo_program.specs.Serving.{ServesLanes, ServingFailsBy, WritesServed}
-use Rattle.silo_program.specs.Auditing.{AuditFailsBy, AuditsFile, RefusesFile}
-use Rattle.silo_program.specs.Migrating.{MigratesFile, MigrationFailsBy}
-use Rattle.silo_program.specs.declared.failure.Cause.{Cause}
-use Rattle.silo_program.specs.declared.failure.Cause.TheVariants as cause
-use Rattle.silo_program.specs.declared.failure.End.{End}
-use Rattle.silo_program.specs.declared.failure.End.TheVariants as end
-use Rattle.silo_program.specs.declared.failure.ProgramFault.{ProgramFault}
-use Rattle.silo_program.specs.declared.failure.ProgramFault.TheVariants as fault
+use Rattle.line_commands.specs.Steps.{AnswersFrom, StopsFrom}
+use Rattle.command_parts.specs.Files.{FileClaims}
+use Rattle.line_commands.specs.Answering.{AnsweringFailsBy, AnswersLanes, WritesJournals}
+use Rattle.serve_command.specs.Serving.{ServesLanes, ServingFailsBy, WritesServed}
+use Rattle.journal_commands.specs.Auditing.{AuditFailsBy, AuditsFile, RefusesFile}
+use Rattle.journal_commands.specs.Migrating.{MigratesFile, MigrationFailsBy}
+use Rattle.command_parts.specs.declared.failure.Cause.{Cause}
+use Rattle.command_parts.specs.declared.failure.Cause.TheVariants as cause
+use Rattle.command_parts.specs.declared.failure.End.{End}
+use Rattle.command_parts.specs.declared.failure.End.TheVariants as end
+use Rattle.command_parts.specs.declared.failure.ProgramFault.{ProgramFault}
+use Rattle.command_parts.specs.declared.failure.ProgramFault.TheVariants as fault
 
 -- ---- what the words ask for
 
@@ -297,12 +298,6 @@ EndsAs end.Well words files from left before after =
 EndsAs (end.Told text) words files from left before after =
     (telling : Telling) × (asks_to_tell telling ≡ true) × ServesInput words files telling from left before after (string_bytes text)
 EndsAs end.Differs words files from left before after = Audits words files end.Differs from left before after
-
--- What was told at such an end: nothing, or the text.
-abbrev pub TellsEnd : Option (List ℕ) → Option (List ℕ) → WriterCalls → End → Type 0
-TellsEnd before after writing end.Well = Keeps before after
-TellsEnd before after writing (end.Told text) = Tells before after writing (string_bytes text)
-TellsEnd before after writing end.Differs = Keeps before after
 
 -- How lines that are served end, if they do.
 abbrev pub EndsServing : End → List Text → FileClaims → Telling → Option (List ℕ) → Option (List ℕ) → Option (List ℕ) → Option (List ℕ)

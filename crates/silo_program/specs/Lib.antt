@@ -1,12 +1,2 @@
-pub mod Status
-pub mod Streams
-pub mod Files
-pub mod Steps
-pub mod Journals
-pub mod Kept
-pub mod Telling
-pub mod Serving
-pub mod Answering
-pub mod Auditing
-pub mod Migrating
+pub mod Arguments
 pub mod Ends

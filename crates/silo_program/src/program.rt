@@ -7,26 +7,23 @@ ghost use Rattle.line_protocol.specs.Reading.{IsFresh, Reading};
 ghost use Rattle.silo_words.specs.Ages.{NamesAges};
 ghost use Rattle.silo_words.specs.Tenants.{NameTenants};
 ghost use Rattle.silo_words.specs.Words.{AskForAnswering, AskForServing, AskForSteps, IsWhy, texts_of};
-ghost use Rattle.silo_program.specs.Status.{IsAgesFault, IsTenantsFault, failure_text};
-ghost use Rattle.silo_program.specs.Streams.{BreaksOff, Tells};
-ghost use Rattle.silo_program.specs.Files.{claims};
+ghost use Rattle.silo_program.specs.Arguments.{IsAgesFault, IsTenantsFault};
+ghost use Rattle.command_parts.specs.Status.{failure_text};
+ghost use Rattle.command_parts.specs.Streams.{BreaksOff, Tells, TellsEnd};
+ghost use Rattle.command_parts.specs.Files.{claims};
 ghost use Rattle.silo_program.specs.Ends.{AnswersAtOnce, AreRefusedBy, AskForJournal, EndsAs, EndsServing, FailsBy, IsAnsweringFault};
 ghost use Rattle.silo_program.specs.Ends.{IsFaultOf, IsNamingFault, IsServingFault, IsStreamFault, LeavesFiles, RefusesJournal};
-ghost use Rattle.silo_program.specs.Ends.{ServesSteps, ShowsText, TellsEnd};
-ghost use Rattle.silo_program.specs.declared.failure.End.{End as EndValue};
+ghost use Rattle.silo_program.specs.Ends.{ServesSteps, ShowsText};
+ghost use Rattle.command_parts.specs.declared.failure.End.{End as EndValue};
 
-use crate::answering::answer_input;
-use crate::auditing::audit_file;
-use crate::failure::{Cause, End, ProgramFault, cause_of, say, tell, tell_end};
-use crate::files::WholeFiles;
-use crate::migrating::migrate_file;
 use crate::seeding::seed_for;
-use crate::serving::serve_lines;
-use crate::stepping::answer_steps;
-use crate::telling::asks_to_tell;
+use command_parts::{Cause, End, ProgramFault, WholeFiles, cause_of, say, tell, tell_end};
 use grain_id::HashSeed;
 use idle_collector::AgeTable;
+use journal_commands::{audit_file, migrate_file};
+use line_commands::{answer_input, answer_steps};
 use line_protocol::{Input, Output};
+use serve_command::{asks_to_tell, serve_lines};
 use silo_words::{
     AgesFault, Task, Telling, TenantsFault, WordsFault, read_ages, read_tenants, read_words,
 };

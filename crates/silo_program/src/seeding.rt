@@ -5,7 +5,7 @@ ghost use Rattle.clap.specs.Words.{Text};
 ghost use Rattle.silo_words.specs.Words.{AskFor};
 ghost use Rattle.silo_program.specs.Ends.{AskForWork};
 
-use crate::failure::Cause;
+use command_parts::Cause;
 use grain_id::HashSeed;
 use silo_words::Task;
 use std::random::RandomSource;

@@ -9,7 +9,7 @@ use Rattle.std.proofs.lemmas.List.{map-append}
 use Rattle.std.proofs.lemmas.Option.{none-some}
 use Rattle.finite_maps.proofs.Lists.{all_append}
 use Rattle.grain_id.specs.Names.{Grain, grain_cmp}
-use Rattle.grain_kinds.specs.Logic.{Logic}
+use Rattle.grain_logic.specs.Logic.{Logic}
 use Rattle.turn_mailbox.specs.declared.request.Request.{Request}
 use Rattle.finite_maps.proofs.Mapped.{mapped-empty}
 use Rattle.activation_directory.specs.declared.activation.Activation.{Activation}

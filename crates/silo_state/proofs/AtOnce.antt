@@ -19,9 +19,9 @@ use Rattle.silo_event.specs.declared.step.Step.TheVariants.{Call, Begin, End}
 use Rattle.activation_directory.specs.declared.activation.Activation.{Activation}
 use Rattle.activation_directory.specs.declared.activation.Phase.{Phase}
 use Rattle.activation_directory.specs.declared.activation.Phase.TheVariants.{Waiting, Loading, Ready}
-use Rattle.grain_kinds.specs.Logic.{Logic, Plan, Outgoing, asks_nothing, same}
-use Rattle.grain_kinds.specs.Finished.{planned_shown}
-use Rattle.grain_kinds.specs.declared.turn.OwnedPlan.{OwnedPlan}
+use Rattle.grain_logic.specs.Logic.{Logic, Plan, Outgoing, asks_nothing, same}
+use Rattle.grain_logic.specs.Finished.{planned_shown}
+use Rattle.grain_logic.specs.declared.turn.OwnedPlan.{OwnedPlan}
 use Rattle.silo_model.specs.Machine.{Account, Entry, Request, ready}
 use Rattle.silo_model.specs.Calls.{told, last_number}
 use Rattle.silo_model.specs.Effect.{change_at, drop, put}
@@ -31,12 +31,13 @@ use Rattle.silo_model.specs.Whole.{Whole, whole_step}
 use Rattle.silo_model.proofs.CallSteps.{next_request, call_again}
 use Rattle.silo_model.proofs.EntrySteps.{begin_first}
 use Rattle.silo_model.proofs.TurnSteps.{end_turn}
-use Rattle.silo_state.specs.Sends.{with_more}
+use Rattle.silo_state.specs.inside.Sends.{with_more}
 use Rattle.silo_state.specs.Work.{first_number, first_waiting}
 use Rattle.silo_state.specs.AtOnce.{Serves}
 use Rattle.silo_state.specs.Shown.{phase_of, entry_of, entries_of}
-use Rattle.silo_state.specs.inside.AtOnce.{Numbers, Admits, IsIdleAt, PlansAt, PlansIdle, put_state, renewed}
-use Rattle.silo_state.specs.inside.Deliveries.{changed_account}
+use Rattle.tenant_accounts.specs.inside.Numbers.{Admits}
+use Rattle.silo_state.specs.inside.AtOnce.{IsIdleAt, PlansAt, PlansIdle, put_state, renewed}
+use Rattle.tenant_accounts.specs.inside.Deliveries.{changed_account}
 use Rattle.silo_state.specs.inside.Held.{Held}
 use Rattle.silo_state.specs.inside.Notes.{due_at}
 use Rattle.silo_state.proofs.Shows.{entries-put}
@@ -242,8 +243,3 @@ pub plans_in : {E : Type 0} (logic : Logic) (g : Grain) (entry : Entry) (found :
 plans_in logic g entry found message is knows (Err e) at = tt
 plans_in logic g entry found message is knows (Ok None) at = tt
 plans_in logic g entry found message is knows (Ok (Some p)) at = record { entry = entry; found_is = is; plans = at; knows = knows }
-
--- the account that is found gives its tenant's next number
-pub admits_by : (accounts : FinMap text_cmp Account) (tenant : List ℕ) (account : Account) → map.get accounts tenant ≡ Some account → (o : Option ℕ) → IfSome o (Numbers account) → IfSome o (Admits accounts tenant)
-admits_by accounts tenant account known None next = tt
-admits_by accounts tenant account known (Some number) next = record { account = account; known = known; next = next }

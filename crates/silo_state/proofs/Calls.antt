@@ -13,7 +13,7 @@ use Rattle.request_codec.specs.Call as codec
 use Rattle.silo_event.specs.declared.fault.Fault.{Fault}
 use Rattle.silo_event.specs.declared.reply.Party.TheVariants as party
 use Rattle.silo_event.specs.declared.step.Step.TheVariants.{Call, Deliver}
-use Rattle.grain_kinds.specs.Logic.{Logic}
+use Rattle.grain_logic.specs.Logic.{Logic}
 use Rattle.silo_model.specs.Machine.{Account, Entry, Send}
 use Rattle.silo_model.specs.Calls.{told, last_number, admitted, with_request}
 use Rattle.silo_model.specs.Sends.{first_from}
@@ -22,7 +22,7 @@ use Rattle.silo_model.specs.Contexts.{active_of, context_of}
 use Rattle.silo_model.proofs.CallSteps.{next_request}
 use Rattle.silo_state.specs.inside.Held.{Held}
 use Rattle.silo_state.specs.inside.Requests.{with_told, with_accepted}
-use Rattle.silo_state.specs.inside.Deliveries.{changed_account, without_first}
+use Rattle.tenant_accounts.specs.inside.Deliveries.{changed_account, without_first}
 use Rattle.silo_state.specs.Verdicts.{gated, verdict, Settles}
 use Rattle.silo_state.proofs.Verdicts.{accepts, call_made, call_is, delivery_made, delivery_is}
 

@@ -1,34 +1,38 @@
 -- What closing a turn by its own plan comes to, as a step of the whole.
 use Rattle.std.proofs.Common.{◌≡◌, ℕ, Bool, true, false, List, [], ◌∷◌, ◌++◌, Option, Some, None, refl, ap, sym, subst, ◌∙◌}
-use Rattle.std.specs.Prelude.{Result, Ok, option_and_then, option_map, unwrap_or}
+use Rattle.std.specs.Prelude.{Result, Ok, map as map_list, option_and_then, option_map, unwrap_or}
 use Rattle.std.specs.FinMap as map
 use Rattle.std.specs.FinMap.{FinMap}
 use Rattle.std.proofs.lemmas.Option.{same_Some}
 use Rattle.grain_id.specs.Names.{Grain, text_cmp}
+use Rattle.request_codec.specs.Call.{Call}
 use Rattle.request_codec.specs.Tree.{Tree}
+use Rattle.tenant_accounts.specs.Sends as kept
+use Rattle.tenant_accounts.specs.Sends.{with_sent}
 use Rattle.activation_directory.specs.declared.activation.Phase.TheVariants.{Ready}
-use Rattle.grain_kinds.specs.Laws.{IsKeep, IsLawful}
-use Rattle.grain_kinds.specs.Logic.{Logic, Plan, Keep, Outgoing, StorageCall, asks_nothing, reads_row, writes_row, clears_row}
-use Rattle.grain_kinds.specs.Finished.{planned_shown, turn_plan}
-use Rattle.grain_kinds.specs.Planned.{keep_of}
-use Rattle.grain_kinds.specs.declared.turn.OpenedTurn.{OpenedTurn}
-use Rattle.grain_kinds.specs.declared.turn.OwnedPlan.{OwnedPlan}
+use Rattle.grain_logic.specs.Laws.{IsKeep, IsLawful}
+use Rattle.grain_logic.specs.Logic.{Logic, Plan, Keep, Outgoing, StorageCall, asks_nothing, reads_row, writes_row, clears_row}
+use Rattle.grain_logic.specs.Finished as finished
+use Rattle.grain_logic.specs.Finished.{planned_shown, turn_plan}
+use Rattle.grain_logic.specs.Planned.{keep_of}
+use Rattle.silo_event.specs.declared.opened_turn.OpenedTurn.{OpenedTurn}
+use Rattle.grain_logic.specs.declared.turn.OwnedPlan.{OwnedPlan}
 use Rattle.silo_event.specs.declared.fault.Fault.{Fault}
 use Rattle.silo_event.specs.declared.reply.Party.{Party}
 use Rattle.silo_event.specs.declared.reply.Reply.{Reply}
 use Rattle.silo_event.specs.declared.step.Answer.TheVariants.{Done}
 use Rattle.silo_event.specs.declared.step.Step.TheVariants.{End}
-use Rattle.silo_model.specs.Machine.{Account, Entry, Entries, Phase, waiting, loading, ready}
+use Rattle.silo_model.specs.Machine.{Account, Entry, Entries, Phase, Send, waiting, loading, ready}
 use Rattle.silo_model.specs.Effect.{change_at}
 use Rattle.silo_model.specs.Calls.{reply_to}
-use Rattle.silo_model.specs.Turns.{plan_of, sent_by, with_sends, outcome_of, stays_or_goes}
+use Rattle.silo_model.specs.Turns.{plan_of, sent_by, sent_from, with_sends, outcome_of, stays_or_goes}
 use Rattle.silo_model.specs.Whole.{whole_step}
 use Rattle.silo_model.proofs.TurnSteps.{end_absent, end_closed, end_waiting, end_loading, end_reads, end_writes, end_clears, end_turn}
 use Rattle.silo_state.specs.inside.Activations.{Activations}
 use Rattle.silo_state.specs.inside.Held.{Held}
 use Rattle.silo_state.specs.inside.Notes.{none_waits}
 use Rattle.silo_state.specs.Moves.{Moves}
-use Rattle.silo_state.specs.Sends.{with_more}
+use Rattle.silo_state.specs.inside.Sends.{with_more}
 use Rattle.silo_state.specs.Entries.{ClosesEntry, closed_entry}
 use Rattle.silo_state.specs.Shown.{phase_of}
 use Rattle.silo_state.specs.Closings.{ClosesTold}
@@ -40,6 +44,20 @@ pub more_sent : (g : Grain) (account : Option Account) (outgoing : List Outgoing
 more_sent g account [] = refl
 more_sent g None (o ∷ outgoing) = refl
 more_sent g (Some a) (o ∷ outgoing) = refl
+
+-- and by the accounts' own words
+module _ (accounts : FinMap text_cmp Account) (g : Grain) where
+  same_sends : (sends : List (Grain × Call)) → kept.sent_by g sends ≡ sent_by g (map_list finished.sent sends)
+  same_sends [] = refl
+  same_sends (s ∷ sends) = ap (λ rest. sent_from g (finished.sent s) ∷ rest) (same_sends sends)
+
+  as_change : (t : List ℕ) (found : Option Account) (sends : List Send) → with_sent accounts t found sends ≡ change_at accounts t (with_more found sends)
+  as_change t found [] = refl
+  as_change t None (s ∷ sends) = refl
+  as_change t (Some a) (s ∷ sends) = refl
+
+  pub sent_each : (t : List ℕ) (sends : List (Grain × Call)) → with_sent accounts t (map.get accounts t) (kept.sent_by g sends) ≡ change_at accounts t (with_more (map.get accounts t) (sent_by g (map_list finished.sent sends)))
+  sent_each t sends = as_change t (map.get accounts t) (kept.sent_by g sends) ∙ ap (λ more. change_at accounts t (with_more (map.get accounts t) more)) (same_sends sends)
 
 -- whether no request waits is known of the turn that is closed
 pub waits_known : (g : Grain) (found : Option Entry) (turn : ℕ) (version : Option ℕ) (idle_after : Bool) (input : OpenedTurn) → IsOwn g found turn version idle_after input → (e : Entry) → found ≡ Some e → idle_after ≡ none_waits e

@@ -11,7 +11,7 @@ use Rattle.finite_maps.proofs.Maps as maps
 use Rattle.activation_directory.specs.declared.activation.Activation.{Activation}
 use Rattle.activation_directory.specs.declared.activation.Phase.{Phase}
 use Rattle.activation_directory.specs.declared.activation.Phase.TheVariants.{Waiting}
-use Rattle.grain_kinds.specs.Logic.{Logic, Keep}
+use Rattle.grain_logic.specs.Logic.{Logic, Keep}
 use Rattle.idle_collector.specs.Notes.{Collection, noted_if, forgotten}
 use Rattle.silo_event.specs.declared.reply.Party.{Party}
 use Rattle.silo_event.specs.declared.step.Answer.{Answer}

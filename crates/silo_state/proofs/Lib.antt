@@ -1,6 +1,4 @@
-pub mod AccountMaps
 pub mod Requests
-pub mod Tables
 pub mod Turns
 pub mod Idle
 pub mod InUse
@@ -9,8 +7,6 @@ pub mod OpenTurns
 pub mod Steps
 pub mod Verdicts
 pub mod Arrivals
-pub mod Queues
-pub mod Takes
 pub mod Asks
 pub mod Calls
 pub mod Sweeps
@@ -23,4 +19,3 @@ pub mod Versions
 pub mod Works
 pub mod Walks
 pub mod Pendings
-pub mod Senders

@@ -4,7 +4,7 @@ use Rattle.std.specs.Prelude.{Ok, Err, flat_map, map as map_list}
 use Rattle.std.specs.FinMap as map
 use Rattle.grain_id.specs.Names.{Grain}
 use Rattle.grain_storage.specs.Rows.{Rows, version_of, content_or}
-use Rattle.grain_kinds.specs.Logic.{Logic}
+use Rattle.grain_logic.specs.Logic.{Logic}
 use Rattle.request_codec.specs.Tree.{Tree}
 use Rattle.turn_mailbox.specs.declared.request.Request.{Request}
 use Rattle.silo_event.specs.declared.fault.Fault.TheVariants.{StorageFailed}

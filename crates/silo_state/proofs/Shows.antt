@@ -9,8 +9,8 @@ use Rattle.std.proofs.lemmas.Option.{same_Some}
 use Rattle.grain_id.specs.Names.{Grain, grain_cmp}
 use Rattle.grain_id.proofs.Order.{grain_cmp_total, grain_cmp_exact}
 use Rattle.grain_id.proofs.ByGrain.{insert-again}
-use Rattle.grain_kinds.specs.Logic.{Logic, Keep}
-use Rattle.grain_kinds.specs.declared.turn.OpenedTurn.{OpenedTurn}
+use Rattle.grain_logic.specs.Logic.{Logic, Keep}
+use Rattle.silo_event.specs.declared.opened_turn.OpenedTurn.{OpenedTurn}
 use Rattle.silo_event.specs.declared.step.Answer.{Answer}
 use Rattle.silo_event.specs.declared.step.Answer.TheVariants.{Done, Failed, NotNow}
 use Rattle.request_codec.specs.Tree.{Tree}

@@ -3,8 +3,8 @@ use Rattle.std.proofs.Common.{◌≡◌, ℕ, Option, Some, None, is_some, true,
 use Rattle.std.specs.Prelude.{Result, Ok, Err, IfOk, option_and_then}
 use Rattle.std.specs.FinMap as map
 use Rattle.grain_id.specs.Names.{Grain}
-use Rattle.grain_kinds.specs.Logic.{Logic, same}
-use Rattle.grain_kinds.specs.declared.turn.OpenedTurn.{OpenedTurn}
+use Rattle.grain_logic.specs.Logic.{Logic, same}
+use Rattle.silo_event.specs.declared.opened_turn.OpenedTurn.{OpenedTurn}
 use Rattle.silo_event.specs.declared.step.Answer.{Answer}
 use Rattle.silo_event.specs.declared.step.Answer.TheVariants.{Done, Failed, NotNow}
 use Rattle.silo_event.specs.declared.step.Step.TheVariants.{Activate, Begin, Abandon}

@@ -10,9 +10,9 @@ use Rattle.grain_storage.specs.declared.row.Row.{Row}
 use Rattle.grain_storage.specs.declared.fault.StoreFault.{StoreFault}
 use Rattle.grain_storage.specs.declared.fault.StoreFault.TheVariants as storage
 use Rattle.grain_storage.specs.Rows.{Rows, RowFault, stale, spent, written, cleared}
-use Rattle.grain_kinds.specs.Logic.{Logic, Plan, same, StorageCall, asks_nothing, reads_row, writes_row, clears_row}
-use Rattle.grain_kinds.specs.Finished.{turn_plan}
-use Rattle.grain_kinds.specs.declared.turn.OpenedTurn.{OpenedTurn}
+use Rattle.grain_logic.specs.Logic.{Logic, Plan, same, StorageCall, asks_nothing, reads_row, writes_row, clears_row}
+use Rattle.grain_logic.specs.Finished.{turn_plan}
+use Rattle.silo_event.specs.declared.opened_turn.OpenedTurn.{OpenedTurn}
 use Rattle.silo_event.specs.declared.fault.Fault.{Fault}
 use Rattle.silo_event.specs.declared.fault.Fault.TheVariants.{StorageFailed, StateChanged, VersionsSpent}
 use Rattle.silo_event.specs.declared.reply.Party.{Party}

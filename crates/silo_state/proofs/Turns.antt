@@ -10,7 +10,7 @@ use Rattle.std.proofs.Math.Bool.{and-false}
 use Rattle.grain_id.specs.Names.{Grain}
 use Rattle.grain_id.proofs.ByGrain.{insert-again}
 use Rattle.request_codec.specs.Tree.{Tree}
-use Rattle.grain_kinds.specs.Logic.{Logic}
+use Rattle.grain_logic.specs.Logic.{Logic}
 use Rattle.turn_mailbox.specs.declared.request.Request.{Request}
 use Rattle.turn_mailbox.specs.Contents.{Contents, begun, front_may_open, turn_of}
 use Rattle.finite_maps.proofs.Mapped.{mapped-insert}

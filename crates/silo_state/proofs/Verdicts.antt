@@ -11,7 +11,7 @@ use Rattle.silo_event.specs.declared.fault.Fault.TheVariants.{UnknownTenant, Unk
 use Rattle.silo_event.specs.declared.reply.Party.{Party}
 use Rattle.silo_event.specs.declared.reply.Party.TheVariants as party
 use Rattle.silo_event.specs.declared.step.Step.TheVariants.{Call, Deliver}
-use Rattle.grain_kinds.specs.Logic.{Logic}
+use Rattle.grain_logic.specs.Logic.{Logic}
 use Rattle.silo_model.specs.Machine.{Account, Entry, Send}
 use Rattle.silo_model.specs.Effect.{Context}
 use Rattle.silo_model.specs.Calls.{told, last_number, kind_gate, gate, room, admitted, with_request}

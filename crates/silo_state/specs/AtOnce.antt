@@ -5,7 +5,7 @@ use Rattle.grain_id.specs.Names.{Grain}
 use Rattle.silo_event.specs.declared.step.Step.{Step}
 use Rattle.silo_event.specs.declared.step.Step.TheVariants.{Begin, End}
 use Rattle.silo_event.specs.declared.step.Answer.TheVariants.{Done}
-use Rattle.grain_kinds.specs.Logic.{Logic}
+use Rattle.grain_logic.specs.Logic.{Logic}
 use Rattle.silo_state.specs.inside.Held.{Held}
 use Rattle.silo_state.specs.Moves.{Moves}
 use Rattle.silo_state.specs.Work.{first_waiting}

@@ -3,7 +3,7 @@ use Rattle.std.specs.Prelude.{◌≡◌, ℕ, Bool, List, ◌++◌, Option, Some
 use Rattle.std.specs.FinMap as map
 use Rattle.grain_id.specs.Names.{Grain}
 use Rattle.request_codec.specs.Tree.{Tree}
-use Rattle.grain_kinds.specs.Logic.{Keep, same}
+use Rattle.grain_logic.specs.Logic.{Keep, same}
 use Rattle.grain_storage.specs.declared.fault.StoreFault.{StoreFault}
 use Rattle.grain_storage.specs.declared.fault.StoreFault.TheVariants as storage
 use Rattle.silo_event.specs.declared.fault.Fault.{Fault}

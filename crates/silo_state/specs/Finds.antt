@@ -4,11 +4,11 @@ use Rattle.std.specs.FinMap as map
 use Rattle.grain_id.specs.Names.{Grain}
 use Rattle.request_codec.specs.Tree.{Tree}
 use Rattle.request_codec.specs.Call.{Call}
-use Rattle.grain_kinds.specs.Logic.{Logic, StorageCall, asks_nothing, reads_row, writes_row, clears_row}
-use Rattle.grain_kinds.specs.Finished.{planned_shown, turn_plan}
-use Rattle.grain_kinds.specs.Planned.{storage_call}
-use Rattle.grain_kinds.specs.declared.turn.OpenedTurn.{OpenedTurn}
-use Rattle.grain_kinds.specs.declared.turn.OwnedPlan.{OwnedPlan}
+use Rattle.grain_logic.specs.Logic.{Logic, StorageCall, asks_nothing, reads_row, writes_row, clears_row}
+use Rattle.grain_logic.specs.Finished.{planned_shown, turn_plan}
+use Rattle.grain_logic.specs.Planned.{storage_call}
+use Rattle.silo_event.specs.declared.opened_turn.OpenedTurn.{OpenedTurn}
+use Rattle.grain_logic.specs.declared.turn.OwnedPlan.{OwnedPlan}
 use Rattle.silo_model.specs.Machine.{Entry, Request, Phase, waiting, loading, ready}
 use Rattle.silo_state.specs.inside.Notes.{none_waits}
 use Rattle.silo_state.specs.declared.finding.AskedTurn.{AskedTurn}

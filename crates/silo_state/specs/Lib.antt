@@ -1,4 +1,3 @@
-pub mod Sends
 pub mod Shown
 pub mod Marks
 pub mod Entries

@@ -6,7 +6,7 @@ use Rattle.request_codec.specs.Tree.{Tree}
 use Rattle.grain_storage.specs.declared.fault.StoreFault.{StoreFault}
 use Rattle.grain_storage.specs.Rows.{Rows, version_of, content_or}
 use Rattle.grain_storage.specs.Answers.{ReadAnswers}
-use Rattle.grain_kinds.specs.Logic.{Logic}
+use Rattle.grain_logic.specs.Logic.{Logic}
 use Rattle.turn_mailbox.specs.declared.request.Request.{Request}
 use Rattle.silo_event.specs.declared.fault.Fault.TheVariants.{StorageFailed}
 use Rattle.silo_event.specs.declared.reply.Reply.{Reply}

@@ -1,16 +1,13 @@
--- What only the contracts of this crate's own parts cite. No promise stands on it.
-pub mod Accounts
+-- For contracts of parts and for proofs. No promise of the silo, of journals or of the program stands on it.
 pub mod Activations
 pub mod Arrivals
 pub mod AtOnce
 pub mod Changes
-pub mod Deliveries
 pub mod Held
-pub mod Lending
 pub mod Notes
 pub mod Overwrites
 pub mod Requests
+pub mod Sends
 pub mod Storing
 pub mod Sweeps
-pub mod Undelivered
 pub mod Versions

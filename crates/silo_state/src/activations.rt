@@ -11,7 +11,7 @@ ghost use Rattle.silo_state.specs.Entries.{Activates, Begins, opened_turn};
 use crate::change;
 use activation_directory::{Activation, Directory};
 use grain_id::{GrainId, HashSeed};
-use grain_kinds::{GrainLogic, OpenedTurn};
+use grain_logic::{GrainLogic, OpenedTurn};
 use idle_collector::{AgeTable, Collector};
 use silo_event::{Answer, Moment};
 use std::alloc::{AllocError, Global};

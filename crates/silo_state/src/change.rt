@@ -2,8 +2,8 @@
 
 ghost use Rattle.std.specs.Prelude.{◌≡◌, ◌+◌, ◌&&◌, false, IfOk, OnOk, OnErr, Some};
 ghost use Rattle.activation_directory.specs.declared.activation.Phase.TheVariants.{Ready};
-ghost use Rattle.grain_kinds.specs.Laws.{IsKeep};
-ghost use Rattle.grain_kinds.specs.Planned.{keep_of};
+ghost use Rattle.grain_logic.specs.Laws.{IsKeep};
+ghost use Rattle.grain_logic.specs.Planned.{keep_of};
 ghost use Rattle.idle_collector.specs.Ages.{kind_age};
 ghost use Rattle.silo_model.specs.Turns.{until_by, resting_by};
 ghost use Rattle.silo_state.specs.inside.Changes.{Starts, turn_at, opens_at, mail_begun, EndsTurn};
@@ -15,7 +15,7 @@ ghost use Rattle.silo_state.specs.Work.{first_number, step_at, work_at};
 
 use activation_directory::{Activation, Phase};
 use grain_id::GrainId;
-use grain_kinds::{Keep, OpenedTurn};
+use grain_logic::{Keep, OpenedTurn};
 use idle_collector::AgeTable;
 use request_codec::StateBytes;
 use silo_event::{Answer, Moment, Party, Step};

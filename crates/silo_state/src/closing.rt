@@ -3,8 +3,8 @@
 ghost use Rattle.std.specs.Prelude.{◌≡◌, ◌<◌, IsSome, Err, if◌then◌else◌, vec_len, vec_capacity};
 ghost use Rattle.std.specs.Option.{option_map, option_and_then};
 ghost use Rattle.std.specs.FinMap as map;
-ghost use Rattle.grain_kinds.specs.Laws.{IsKeep};
-ghost use Rattle.grain_kinds.specs.Planned.{keep_of};
+ghost use Rattle.grain_logic.specs.Laws.{IsKeep};
+ghost use Rattle.grain_logic.specs.Planned.{keep_of};
 ghost use Rattle.silo_state.specs.Shown.{phase_of};
 ghost use Rattle.silo_state.specs.Closings.{ClosesTold, EndsTold, ClosesBy, answer_failed};
 
@@ -13,7 +13,7 @@ use crate::storing::StorageAnswer;
 use crate::telling::tell;
 use activation_directory::Phase;
 use grain_id::GrainId;
-use grain_kinds::{GrainLogic, Keep};
+use grain_logic::{GrainLogic, Keep};
 use grain_storage::StoreFault;
 use request_codec::StateBytes;
 use silo_event::{Answer, Fault, Moment, Reply, StepFault};

@@ -5,13 +5,13 @@ ghost use Rattle.std.specs.Option.{option_map};
 ghost use Rattle.activation_directory.specs.declared.activation.Phase.TheVariants.{Ready};
 ghost use Rattle.silo_state.specs.Shown.{entry_of};
 ghost use Rattle.silo_state.specs.Finds.{open_in, IsOf, IsOpenTurn, Finds, PlansIfOpen, AsksIfOpen, asks};
-ghost use Rattle.grain_kinds.specs.Planned.{storage_call};
+ghost use Rattle.grain_logic.specs.Planned.{storage_call};
 
 use crate::change;
 use activation_directory::{Activation, Phase};
 use bumpalo::Bump;
 use grain_id::GrainId;
-use grain_kinds::{GrainLogic, OpenedTurn, OwnedPlan, StoreCall, plan_turn};
+use grain_logic::{GrainLogic, OpenedTurn, OwnedPlan, StoreCall, plan_turn};
 use request_codec::{Message, StateBytes};
 use std::alloc::{AllocError, Global};
 

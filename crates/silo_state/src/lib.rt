@@ -10,8 +10,6 @@
 //! machine of one tenant, which shares no directory, collector or accounts with the state, stands on them.
 #![tactic(auto)]
 
-mod account;
-mod accounts;
 mod activations;
 pub mod arrival;
 pub mod change;

@@ -4,7 +4,7 @@ ghost use Rattle.std.specs.Prelude.{◌≡◌, true};
 ghost use Rattle.silo_state.specs.Reads.{ReadsState};
 
 use grain_id::GrainId;
-use grain_kinds::GrainLogic;
+use grain_logic::GrainLogic;
 use grain_storage::{GrainStorage, StoreFault};
 use request_codec::StateBytes;
 use std::alloc::Global;

@@ -3,15 +3,15 @@
 ghost use Rattle.std.specs.Prelude.{◌≡◌, IfOk};
 ghost use Rattle.silo_model.specs.Opening.{opening};
 
-use crate::accounts::Accounts;
 use crate::activations::Activations;
 use grain_id::{HashSeed, Tenant};
-use grain_kinds::GrainLogic;
+use grain_logic::GrainLogic;
 use grain_storage::GrainStorage;
 use idle_collector::AgeTable;
 use silo_event::{Moment, Reply};
 use std::alloc::{AllocError, Global};
 use std::marker::Model;
+use tenant_accounts::Accounts;
 use tenant_gate::{Age, Limits};
 
 mod ask;

@@ -1,7 +1,7 @@
 //! What a turn asks of the storage, and what it is given.
 
 ghost use Rattle.std.specs.Prelude.{◌≡◌, Ok, true};
-ghost use Rattle.grain_kinds.specs.Planned.{storage_call};
+ghost use Rattle.grain_logic.specs.Planned.{storage_call};
 ghost use Rattle.grain_storage.specs.Rows.{written, cleared};
 ghost use Rattle.silo_state.specs.Finds.{asks};
 ghost use Rattle.silo_state.specs.inside.Storing.{read_again, with_state, given, Gives, GivesMarked};
@@ -9,7 +9,7 @@ ghost use Rattle.silo_state.specs.inside.Storing.{read_again, with_state, given,
 use crate::reading::read_state;
 use crate::version::{cleared_version, version_after, version_value};
 use grain_id::GrainId;
-use grain_kinds::{GrainLogic, StoreCall};
+use grain_logic::{GrainLogic, StoreCall};
 use grain_storage::{GrainStorage, StoreFault};
 use request_codec::StateBytes;
 use std::alloc::Global;

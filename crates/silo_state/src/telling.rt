@@ -6,7 +6,7 @@ ghost use Rattle.silo_model.specs.Methods.{method_fault};
 ghost use Rattle.silo_model.specs.Turns.{outcome_of};
 ghost use Rattle.silo_state.specs.Reads.{refused};
 
-use grain_kinds::MethodFault;
+use grain_logic::MethodFault;
 use request_codec::StateBytes;
 use silo_event::{Fault, Party, Reply};
 use std::alloc::AllocError;

@@ -5,7 +5,7 @@ use mathlib.Core.List.{map-map}
 use Rattle.std.proofs.lemmas.List.{map-append}
 use Rattle.std.proofs.lemmas.List.Elements.{All-push, All-map}
 use Rattle.journal_text.specs.Text.{History}
-use Rattle.audit_model.specs.Logics.{logic_of}
+use Rattle.grain_kinds.specs.Kinds.{logic_of}
 use Rattle.audit_model.specs.Parts.{tenants_in}
 use Rattle.audit_model.specs.Report.{TenantReport, IsTenantReport, IsReport}
 use Rattle.tenant_audit.specs.inside.Parts.{AreReports}

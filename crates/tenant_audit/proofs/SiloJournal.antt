@@ -4,7 +4,7 @@ use Rattle.std.specs.FinMap as map
 use Rattle.silo_core.specs.History as silo
 use Rattle.silo_core.specs.inside.Shown.{rows_in}
 use Rattle.silo_core.proofs.Opened.{rows_again}
-use Rattle.audit_model.specs.Logics.{logic_of}
+use Rattle.grain_kinds.specs.Kinds.{logic_of}
 use Rattle.audit_model.specs.Parts.{setup_of}
 use Rattle.audit_model.specs.Report.{IsFirstDifference}
 use Rattle.audit_model.proofs.Reports.{no_difference}

@@ -1,4 +1,3 @@
-pub mod LogicNumbers
 pub mod SiloJournal
 pub mod ReportView
 pub mod ReportText

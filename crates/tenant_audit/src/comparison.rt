@@ -15,7 +15,7 @@ use crate::parted_journal::PartedJournal;
 use crate::replies::first_reply_apart;
 use crate::rows::first_row_apart;
 use grain_id::{GrainId, HashSeed, Tenant};
-use grain_kinds::GrainLogic;
+use grain_logic::GrainLogic;
 use journal_text::Journal;
 use std::alloc::{AllocError, Global};
 use tenant_gate::Limits;

@@ -7,7 +7,7 @@ ghost use Rattle.tenant_audit.specs.inside.Comparison.{Stops};
 
 use crate::steps_of_tenant::StepsOfTenant;
 use grain_id::GrainId;
-use grain_kinds::GrainLogic;
+use grain_logic::GrainLogic;
 use std::alloc::{AllocError, Global};
 use tenant_machine::TenantMachine;
 

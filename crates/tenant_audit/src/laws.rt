@@ -5,7 +5,7 @@ ghost use Rattle.std.specs.Prelude.{◌≡◌, ℕ, List};
 ghost use Rattle.journal_text.specs.Rules.{KeepsRules};
 ghost use Rattle.journal_text.specs.Text.{History, journal_text};
 ghost use Rattle.journal_text.specs.JournalAnswers.{IsJournalText, IsMigrated};
-ghost use Rattle.audit_model.specs.Logics.{logic_of};
+ghost use Rattle.grain_kinds.specs.Kinds.{logic_of};
 ghost use Rattle.audit_model.specs.Report.{NoDifference, IsReport, TenantReport};
 
 /// No two journals that keep the rules have the same text.

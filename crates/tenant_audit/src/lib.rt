@@ -9,7 +9,6 @@
 mod comparison;
 mod difference;
 mod gate;
-mod journal_kinds;
 pub mod laws;
 mod parted_journal;
 mod parts;
@@ -25,7 +24,7 @@ mod threads;
 
 pub use difference::Difference;
 pub use gate::{AuditGate, FreeAuditGate};
-pub use journal_kinds::JournalKinds;
+pub use grain_kinds::Version as JournalKinds;
 pub use journal_text::{Journal, JournalFault, migrate_journal, read_journal};
 pub use plain_audit::audit_under;
 pub use report::{Report, TenantReport};

@@ -8,7 +8,7 @@ use crate::parted_journal::PartedJournal;
 use crate::report::{Report, TenantReport, report_on};
 use crate::tenants::tenants_of;
 use grain_id::HashSeed;
-use grain_kinds::GrainLogic;
+use grain_logic::GrainLogic;
 use journal_text::Journal;
 use std::alloc::{AllocError, Global};
 

@@ -1,7 +1,7 @@
 //! What an audit reports of one tenant.
 
 ghost use Rattle.std.specs.Prelude.{◌≡◌, IfOk, map};
-ghost use Rattle.audit_model.specs.Logics.{logic_of};
+ghost use Rattle.grain_kinds.specs.Kinds.{logic_of};
 ghost use Rattle.audit_model.specs.Report.{IsTenantReport};
 ghost use Rattle.tenant_audit.specs.ReportView.{tenant_report_of};
 
@@ -9,7 +9,8 @@ use crate::comparison::first_difference;
 use crate::difference::Difference;
 use crate::parted_journal::PartedJournal;
 use grain_id::{HashSeed, Tenant};
-use grain_kinds::{GrainLogic, Kinds, RestingKinds};
+use grain_kinds::{Kinds, RestingKinds};
+use grain_logic::GrainLogic;
 use std::alloc::{AllocError, Global};
 use std::marker::Model;
 

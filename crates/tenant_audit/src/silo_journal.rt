@@ -3,11 +3,11 @@
 ghost use Rattle.std.specs.Prelude.{◌≡◌, ℕ, List, [], None, IfOk};
 ghost use Rattle.std.specs.FinMap.{entries};
 ghost use Rattle.journal_text.specs.Text.{journal_text};
-ghost use Rattle.audit_model.specs.Logics.{logic_of};
+ghost use Rattle.grain_kinds.specs.Kinds.{logic_of};
 ghost use Rattle.audit_model.specs.Report.{IsFirstDifference};
 ghost use Rattle.tenant_audit.specs.SiloJournal.{journal_of};
 
-use crate::journal_kinds::JournalKinds;
+use grain_kinds::Version;
 use grain_storage::GrainStorage;
 use journal_text::{JournalParts, journal_of_parts};
 use silo_core::Silo;
@@ -20,7 +20,7 @@ use std::alloc::{AllocError, Global};
 /// # Errors
 ///
 /// Out of memory.
-pub fn write_journal<S: GrainStorage, L: JournalKinds>(
+pub fn write_journal<S: GrainStorage, L: Version>(
     alloc: Global,
     silo: &Silo<S, L>,
 ) -> Result<Vec<u8>, AllocError>
@@ -34,7 +34,7 @@ pub fn write_journal<S: GrainStorage, L: JournalKinds>(
     let steps = silo.journal();
     let rows = silo.rows(alloc)?;
     let parts = JournalParts {
-        kinds: L::kinds(),
+        kinds: L::number(),
         age: silo.age(),
         ages: silo.ages().list(),
         tenants: silo.tenants().list(),

@@ -2,7 +2,7 @@
 
 ghost use Rattle.std.specs.Prelude.{◌≡◌, ◌<◌, ◌≤◌, ℕ, true, false, Ok as ok, map, IfOk, IfErr, IfSome, is_err, length, slice_index_or};
 ghost use Rattle.std.specs.List.{list_any};
-ghost use Rattle.audit_model.specs.Logics.{logic_of};
+ghost use Rattle.grain_kinds.specs.Kinds.{logic_of};
 ghost use Rattle.audit_model.specs.Report.{IsReport};
 ghost use Rattle.tenant_audit.specs.inside.Parts.{AreParts, IsPart, IsShareOf, fault_of_start};
 ghost use Rattle.tenant_audit.specs.declared.threads.AuditFault.TheVariants as faults;

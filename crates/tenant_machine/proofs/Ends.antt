@@ -2,14 +2,14 @@
 use Rattle.silo_model.proofs.Common.{◌++◌, ◌∙◌, ◌≡◌, Abandon, Account, Bool, Effect, End, Entries, Entry, Err, Grain, Keep, List, Logic, Machine, NoMemory, None, Option, Outgoing, Party, Phase, Plan, Reply, Request, Some, StorageCall, ap, applied, asks_nothing, change_at, change_option, clears_row, context_at, effect_of, false, loading, machine_step, option_and_then, option_map, outcome_of, plan_of, reads_row, ready, refl, reply_to, same_Some, stays_or_goes, sym, true, waiting, writes_row, ℕ}
 use Rattle.std.specs.FinMap as map
 use Rattle.silo_state.proofs.Ends.{more_sent}
-use Rattle.grain_kinds.specs.Logic as say
-use Rattle.grain_kinds.specs.Finished.{turn_plan}
-use Rattle.grain_kinds.specs.declared.turn.OpenedTurn.{OpenedTurn}
+use Rattle.grain_logic.specs.Logic as say
+use Rattle.grain_logic.specs.Finished.{turn_plan}
+use Rattle.silo_event.specs.declared.opened_turn.OpenedTurn.{OpenedTurn}
 use Rattle.silo_model.specs.Step.{at_turn}
 use Rattle.silo_model.specs.Turns.{sent_by, ended, ended_by, abandoned}
 use Rattle.silo_state.specs.Entries.{closed_entry, ClosesEntry}
 use Rattle.silo_state.specs.Finds.{open_in, IsOwn, asks}
-use Rattle.silo_state.specs.Sends.{with_more}
+use Rattle.silo_state.specs.inside.Sends.{with_more}
 use Rattle.silo_state.specs.Closings.{ClosesTold}
 use Rattle.tenant_machine.specs.inside.Requests.{seen_at}
 

@@ -6,8 +6,8 @@ use Rattle.finite_maps.proofs.Maps as maps
 use Rattle.grain_storage.specs.declared.fault.StoreFault.{StoreFault}
 use Rattle.grain_storage.specs.declared.fault.StoreFault.TheVariants as storage
 use Rattle.grain_storage.specs.Rows.{written, cleared}
-use Rattle.grain_kinds.specs.Logic as say
-use Rattle.grain_kinds.specs.declared.turn.OpenedTurn.{OpenedTurn}
+use Rattle.grain_logic.specs.Logic as say
+use Rattle.silo_event.specs.declared.opened_turn.OpenedTurn.{OpenedTurn}
 use Rattle.silo_model.specs.Stores.{row_cleared, at_row}
 use Rattle.silo_model.proofs.Leaving.{busy_stays}
 use Rattle.silo_model.proofs.Stored.{stores_at_one_row}

@@ -4,7 +4,7 @@ use Rattle.std.specs.FinMap as map
 use Rattle.tenant_gate.specs.declared.limits.Limits.{Limits}
 use Rattle.silo_event.specs.declared.step.Step.{Step}
 use Rattle.idle_collector.specs.Ages.{Ages}
-use Rattle.grain_kinds.specs.Logic.{Logic}
+use Rattle.grain_logic.specs.Logic.{Logic}
 use Rattle.silo_model.specs.Machine.{Machine}
 use Rattle.silo_model.specs.Opening.{fresh_account}
 use Rattle.silo_model.specs.Step.{machine_step}

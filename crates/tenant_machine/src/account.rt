@@ -1,7 +1,7 @@
 //! What is kept of a known tenant.
 
 ghost use Rattle.std.specs.Prelude.{◌≡◌, ◌+◌, ◌<◌, ◌≤◌, ◌++◌, IfOk, IfSome, OnOk, OnErr, length, map};
-ghost use Rattle.grain_kinds.specs.Finished.{sent};
+ghost use Rattle.grain_logic.specs.Finished.{sent};
 ghost use Rattle.silo_model.specs.Calls.{last_number};
 ghost use Rattle.silo_model.specs.Opening.{fresh_account};
 ghost use Rattle.silo_model.specs.Turns.{sent_by};

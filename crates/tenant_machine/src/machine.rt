@@ -10,7 +10,7 @@ ghost use Rattle.tenant_machine.specs.Machines.{start_with, StepAnswers};
 use crate::account::Account;
 use crate::entries::Entries;
 use grain_id::{GrainId, HashSeed, Tenant};
-use grain_kinds::GrainLogic;
+use grain_logic::GrainLogic;
 use grain_storage::{GrainStorage, MemoryStorage, Row};
 use idle_collector::AgeTable;
 use silo_event::{Moment, Reply, Step};

@@ -1,148 +1,138 @@
 //! Tables of ages, the order of their faults, and which age a kind has.
 
-use crate::compare::{same, same_at};
-use crate::values::kind;
+use crate::rows::{Fields, MOST_FIELDS, Subject, hold, show, tell};
+use crate::values::{kind, numbered};
 use grain_id::Kind;
 use idle_collector::{AgeFault, AgeTable};
 use std::alloc::Global;
 use std::test::Fail;
 use tenant_gate::Age;
 
-type List = Vec<(Kind, u64)>;
+static AGES: &str = "
+# No kind has an age of its own: each has 900,000.
+age | counter | 900000
 
-fn numbered_name(alloc: Global, number: u64) -> Result<String, Fail> {
-    Ok(format!(in alloc; "k{number}")?)
+# So many kinds `k99`, `k98` and so on, each with its number for its age, and others with their ages.
+table | 64 | k99 | 0 | too many
+table | 63 | k99 | 0 | twice;k99;
+# A repeat comes before a range, and the first kind that stands a second time before others.
+table | 0 | sheet | 5 | relay | 0 | counter | 3 | counter | 3 | sheet | 5 | twice;counter;
+table | 0 | sheet | 86400000 | relay | 0 | counter | 86400001 | range;relay;
+
+# A kind has its own age, or that of the others.
+table | 0 | sheet | 86400000 | counter | 1 | relay-2 | 7 | made
+list | counter;1;relay-2;7;sheet;86400000;
+age | counter | 1
+age | count | 900000
+age | counter2 | 900000
+age | sheet | 86400000
+age | relay | 900000
+age | relay-2 | 7
+
+# Sixty-four kinds stand in order.
+table | 64 | made
+len | 64
+age | k36 | 36
+age | k99 | 99
+age | k35 | 900000
+";
+
+type Kinds = Vec<(Kind, u64)>;
+
+fn add_kind(alloc: Global, list: &mut Kinds, name: &str, age: u64) -> Result<(), Fail> {
+    Ok(list.push((kind(alloc, name)?, age))?)
 }
 
 /// The kinds `k99`, `k98` and so on, each with its number for its age.
-fn numbered(alloc: Global, count: u64) -> Result<List, Fail> {
-    let mut list = Vec::new(alloc);
+fn add_kinds(alloc: Global, list: &mut Kinds, count: u64) -> Result<(), Fail> {
     for place in 0..count {
         let number = 99_u64.saturating_sub(place);
-        let name = numbered_name(alloc, number)?;
-        list.push((kind(alloc, &name)?, number))?;
+        add_kind(alloc, list, &numbered(alloc, 'k', number)?, number)?;
     }
+    Ok(())
+}
+
+fn add_all(alloc: Global, list: &mut Kinds, fields: &mut Fields<'_>) -> Result<(), Fail> {
+    add_kinds(alloc, list, fields.number()?)?;
+    for _ in 0..MOST_FIELDS {
+        if fields.is_over() {
+            break;
+        }
+        add_kind(alloc, list, fields.text(), fields.number()?)?;
+    }
+    Ok(())
+}
+
+/// So many numbered kinds, and those of the fields behind the number.
+fn kinds(alloc: Global, fields: &mut Fields<'_>) -> Result<Kinds, Fail> {
+    let mut list = Vec::new(alloc);
+    add_all(alloc, &mut list, fields)?;
     Ok(list)
 }
 
-/// So many numbered kinds, and these behind them.
-fn kinds(alloc: Global, count: u64, rows: &[(&str, u64)]) -> Result<List, Fail> {
-    let mut list = numbered(alloc, count)?;
-    for (name, age) in rows {
-        list.push((kind(alloc, *name)?, *age))?;
-    }
-    Ok(list)
+fn put_age_fault(fault: &AgeFault, out: &mut String) -> Result<(), Fail> {
+    let (what, kind) = match fault {
+        AgeFault::TooMany => return Ok(out.push_str("too many")?),
+        AgeFault::Twice(kind) => ("twice", kind),
+        AgeFault::Range(kind) => ("range", kind),
+        AgeFault::Memory => return Err(Fail::from("out of memory")),
+    };
+    let name = kind.text();
+    write!(out, "{what};{name};")?;
+    Ok(())
 }
 
-/// What is wrong with a list, and with which kind of it.
-fn age_fault(fault: &AgeFault) -> (&str, &str) {
-    match fault {
-        AgeFault::TooMany => ("too many", ""),
-        AgeFault::Twice(kind) => ("twice", kind.text()),
-        AgeFault::Range(kind) => ("range", kind.text()),
-        AgeFault::Memory => ("memory", ""),
-    }
-}
-
-/// The list is refused for this.
-fn is_refused(alloc: Global, list: List, wanted: (&str, &str)) -> Result<(), Fail> {
-    match AgeTable::new(alloc, list) {
-        Ok(_) => same(("made", ""), wanted),
+/// Makes the table of a list, if it is one.
+fn make_ages(
+    alloc: Global,
+    table: &mut AgeTable,
+    list: Result<Kinds, Fail>,
+    out: &mut String,
+) -> Result<(), Fail> {
+    match AgeTable::new(alloc, list?) {
+        Ok(made) => {
+            *table = made;
+            Ok(out.push_str("made")?)
+        }
         Err(fault) => {
-            let found = same(age_fault(&fault), wanted);
+            let told = put_age_fault(&fault, out);
             drop(fault);
-            found
+            told
         }
     }
 }
 
-const OUT_OF_RANGE: [(&str, u64); 3] = [
-    ("sheet", 86_400_000),
-    ("relay", 0),
-    ("counter", 86_400_001),
-];
-
-/// A repeat comes before a range, and the first kind that stands a second time before others.
-const REPEATED: [(&str, u64); 5] = [
-    ("sheet", 5),
-    ("relay", 0),
-    ("counter", 3),
-    ("counter", 3),
-    ("sheet", 5),
-];
-
-/// How many numbered kinds, those behind them, and why the list is refused.
-static REFUSED: [(u64, &[(&str, u64)], (&str, &str)); 4] = [
-    (64, &[("k99", 0)], ("too many", "")),
-    (63, &[("k99", 0)], ("twice", "k99")),
-    (0, &REPEATED, ("twice", "counter")),
-    (0, &OUT_OF_RANGE, ("range", "relay")),
-];
-
-#[test]
-fn the_first_fault_of_a_list_of_ages_is_told(rt: HostRuntime) -> Result<(), Fail> {
-    for (count, rows, wanted) in &REFUSED {
-        is_refused(rt.alloc(), kinds(rt.alloc(), *count, *rows)?, *wanted)?;
+/// Writes the kinds of the table and their ages, in order.
+pub fn put_ages(list: &[(Kind, u64)], out: &mut String) -> Result<(), Fail> {
+    for (kind, age) in list {
+        let name = kind.text();
+        write!(out, "{name};{age};")?;
     }
     Ok(())
 }
 
-/// The kinds of the table and their ages, in order.
-fn listed(alloc: Global, table: &AgeTable) -> Result<String, Fail> {
-    let mut text = String::new(alloc);
-    for (kind, age) in table.list() {
-        text.push_str(kind.text())?;
-        write!(text, " {age};")?;
-    }
-    Ok(text)
-}
-
-fn table(alloc: Global, list: List) -> Result<AgeTable, Fail> {
-    Ok(AgeTable::new(alloc, list)?)
-}
-
-fn millis(table: &AgeTable, kind: &str) -> Result<u64, Fail> {
+fn age_in(table: &AgeTable, kind: &str) -> Result<u64, Fail> {
     Ok(table.age_of(kind, Age::new(900_000).ok_or("no age")?))
 }
 
-/// A kind, and its age in the table of three; all others have 900,000.
-static FOUND: [(&str, u64); 6] = [
-    ("counter", 1),
-    ("count", 900_000),
-    ("counter2", 900_000),
-    ("sheet", 86_400_000),
-    ("relay", 900_000),
-    ("relay-2", 7),
-];
-
-static THREE: [(&str, u64); 3] = [("sheet", 86_400_000), ("counter", 1), ("relay-2", 7)];
-
-fn are_found(table: &AgeTable) -> Result<(), Fail> {
-    for (name, wanted) in &FOUND {
-        same_at(*name, millis(table, *name)?, *wanted)?;
+impl Subject for AgeTable {
+    fn answer(
+        &mut self,
+        alloc: Global,
+        call: &str,
+        fields: &mut Fields<'_>,
+        out: &mut String,
+    ) -> Result<(), Fail> {
+        match call {
+            "table" => make_ages(alloc, self, kinds(alloc, fields), out),
+            "list" => put_ages(self.list(), out),
+            "len" => show(out, self.list().len()),
+            _ => tell(out, age_in(self, fields.text())),
+        }
     }
-    Ok(())
 }
 
 #[test]
-fn a_kind_has_its_own_age_or_that_of_the_others(rt: HostRuntime) -> Result<(), Fail> {
-    let table = table(rt.alloc(), kinds(rt.alloc(), 0, &THREE)?)?;
-    same(
-        listed(rt.alloc(), &table)?.as_str(),
-        "counter 1;relay-2 7;sheet 86400000;",
-    )?;
-    are_found(&table)
-}
-
-#[test]
-fn sixty_four_kinds_stand_in_order(rt: HostRuntime) -> Result<(), Fail> {
-    let table = table(rt.alloc(), numbered(rt.alloc(), 64)?)?;
-    same(table.list().len(), 64)?;
-    same((millis(&table, "k36")?, millis(&table, "k99")?), (36, 99))?;
-    same(millis(&table, "k35")?, 900_000)
-}
-
-#[test]
-fn no_kind_has_an_age_of_its_own(rt: HostRuntime) -> Result<(), Fail> {
-    same(millis(&AgeTable::none(rt.alloc()), "counter")?, 900_000)
+fn tables_of_ages(rt: HostRuntime) -> Result<(), Fail> {
+    hold(rt.alloc(), &mut AgeTable::none(rt.alloc()), AGES)
 }

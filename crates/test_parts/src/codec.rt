@@ -1,71 +1,249 @@
-//! Messages, states and JSON.
+//! Messages, states and JSON, in memory of their own and in an arena.
+//!
+//! The calls of `turn_arena` that aren't here are run by the turns of `kinds`.
 
 use crate::compare::{same, same_copy};
-use crate::spelled::{ADD, EACH_FORM, EACH_FORM_JSON, MESSAGES, STATES, joined};
-use crate::values::{message, parsed, read_state, state};
+use crate::rows::{Fields, Subject, hold, show, tell};
+use crate::values::{message, parsed, read_state, spelled, state};
+use bumpalo::Bump;
 use request_codec::{
     CodecFault, Datum, Message, SharedState, StateBytes, decode, decode_message, decode_state,
     encode, encode_json, from_json, migrate_message, read_old_state, to_json,
 };
 use serde_json::Value;
-use std::alloc::Global;
+use std::alloc::{AllocError, Global};
 use std::test::Fail;
+use turn_arena::{
+    ArenaFault, Node, bytes_in, decode_in, encode_node, list_in, map_in, node_in, put_in, text_in,
+};
 
-fn wanted(is_read: bool) -> Option<CodecFault> {
-    if is_read {
-        return None;
-    }
-    Some(CodecFault::NotAMessage)
-}
+/// Bytes that are read as a message, or refused: see `spelled`.
+static MESSAGES: &str = r#"
+# Bytes that are read or refused: as a call, as a message that is kept, and into an arena.
+message | 02 00000003 'add 06 00000001 00000002 'by 03 0000000000000003 | read
+message | 02 00000003 'add 06 00000002 00000001 'a 05 00000005 00 02 01 03 fffffffffffffffe 04 00000002 'hi 00000001 'b 06 00000000 | read
+# A part of a message, and one byte more.
+message |  | refused
+message | 02 00000003 'add | refused
+message | 02 00000003 'add 06 00000001 00000002 'by 03 0000000000000003 00 | refused
+# Another version.
+message | 00 00000001 'a 00 | refused
+message | 01 00000001 'a 00 | refused
+message | 03 00000001 'a 00 | refused
+# Names out of order.
+message | 02 00000001 'a 06 00000002 00000001 'b 00 00000001 'a 00 | refused
+# A name twice, and names in order.
+message | 02 00000001 'a 06 00000002 00000001 'a 00 00000001 'a 00 | refused
+message | 02 00000001 'a 06 00000002 00000001 'a 00 00000001 'b 00 | read
+# Counts above what is left.
+message | 02 00000001 'a 06 00000002 | refused
+message | 02 00000001 'a 05 ffffffff | refused
+# Text that isn't UTF-8.
+message | 02 00000001 'a 04 00000002 c080 | refused
+# 32 levels, and 33.
+message | 02 00000001 'a 0500000001*31 05 00000000 | read
+message | 02 00000001 'a 0500000001*32 05 00000000 | refused
+# 65,536 bytes, and one more.
+message | 02 00000001 'a 04 0000fff5 78*65525 | read
+message | 02 00000001 'a 04 0000fff6 78*65526 | refused
+# Bytes, no bytes, a count above what is left, and no value.
+message | 02 00000001 'a 07 00000002 00ff | read
+message | 02 00000001 'a 07 00000000 | read
+message | 02 00000001 'a 07 00000002 00 | refused
+message | 02 00000001 'a 08 00000000 | refused
+# Bytes at level 32, and at level 33.
+message | 02 00000001 'a 0500000001*31 07 00000000 | read
+message | 02 00000001 'a 0500000001*32 07 00000000 | refused
+# 65,536 bytes, and one more.
+message | 02 00000001 'a 07 0000fff5 78*65525 | read
+message | 02 00000001 'a 07 0000fff6 78*65526 | refused
 
-fn decoding_fault(alloc: Global, bytes: &[u8]) -> Option<CodecFault> {
-    decode(alloc, bytes).err()
-}
+# Nothing spells a part of a message: each of the 28 parts of this one is refused by all that read messages.
+cuts | 02 00000003 'add 06 00000001 00000002 'by 03 0000000000000003 | 28
 
-fn keeping_fault(alloc: Global, bytes: &[u8]) -> Option<CodecFault> {
-    Message::read(alloc, bytes).err()
-}
+# An arena takes no memory for a count above what is left. No clause says so.
+message room | 02 00000001 'a 05 ffffffff | (Some(NotAMessage), 0)
+state room | 06 ffffffff | (Some(NotAMessage), 0)
+"#;
 
-fn state_fault(alloc: Global, bytes: &[u8]) -> Option<CodecFault> {
-    StateBytes::read(alloc, bytes).err()
-}
+/// The same of a state.
+static STATES: &str = r#"
+# Bytes that are read or refused: as a state, and into an arena.
+state | 06 00000002 00000001 'a 05 00000005 00 02 01 03 fffffffffffffffe 04 00000002 'hi 00000001 'b 06 00000000 | read
+state | 02 | read
+# Many values, which an arena takes in several pieces.
+state | 05 000000c8 00*200 | read
+state |  | refused
+state | 06 00000002 00000001 'a 05 00000005 00 02 01 03 fffffffffffffffe 04 00000002 'hi 00000001 'b 06 00000000 00 | refused
+state | 07 | refused
+# Names out of order, one twice, and in order.
+state | 06 00000002 00000001 'b 00 00000001 'a 00 | refused
+state | 06 00000002 00000001 'a 00 00000001 'a 00 | refused
+state | 06 00000002 00000001 'a 00 00000001 'b 00 | read
+state | 06 ffffffff | refused
+# 32 levels, and 33.
+state | 0500000001*31 05 00000000 | read
+state | 0500000001*32 05 00000000 | refused
+# 262,144 bytes, and one more.
+state | 04 0003fffb 78*262139 | read
+state | 04 0003fffc 78*262140 | refused
+# Bytes that are no text, a count above what is left, and no value.
+state | 07 00000002 c080 | read
+state | 07 00000001 | refused
+state | 08 00000000 | refused
+# 262,144 bytes, and one more.
+state | 07 0003fffb 78*262139 | read
+state | 07 0003fffc 78*262140 | refused
+"#;
 
-#[test]
-fn messages_and_states_are_read(rt: HostRuntime) -> Result<(), Fail> {
-    for (parts, is_read) in &MESSAGES {
-        let bytes = joined(rt.alloc(), *parts)?;
-        let found = (
-            decoding_fault(rt.alloc(), &bytes),
-            keeping_fault(rt.alloc(), &bytes),
-        );
-        same(found, (wanted(*is_read), wanted(*is_read)))?;
-    }
-    for (parts, is_read) in &STATES {
-        let bytes = joined(rt.alloc(), *parts)?;
-        same(state_fault(rt.alloc(), &bytes), wanted(*is_read))?;
-    }
-    Ok(())
-}
+/// What is read and written.
+static WRITTEN: &str = r#"
+# A message has 65,536 bytes at most: how long a text is, and how long its message.
+length | 65525 | Ok(65536)
+length | 65526 | Err(TooLong)
 
-/// Nothing spells the first so many bytes of `ADD`, fewer than it has.
-fn is_cut(alloc: Global, count: usize) -> Result<(), Fail> {
-    let Some(bytes) = ADD.get(..count) else {
-        return same(count, ADD.len());
+# Bytes of a message, its method and its argument: read and written, from a value and from JSON.
+call | 02 00000003 'get 00 | get | null | true
+call | 02 00000003 'add 06 00000001 00000002 'by 03 0000000000000003 | add | {"by":3} | true
+call | 02 00000001 'a 06 00000002 00000001 'a 00 00000001 'b 00 | a | {"a":null,"b":null} | true
+call | 02 00000001 'a 07 00000002 00ff | a | {"$hex":"00ff"} | true
+
+# Bytes of a state, and its value: read, written and shared.
+value | 02 | true | true
+
+# Numbers are states.
+decimal | 04 00000004 '1024 | 1024 | true
+decimal | 04 00000014 '18446744073709551615 | 18446744073709551615 | true
+integer | 03 fffffffffffffffe | -2 | true
+integer | 03 8000000000000000 | -9223372036854775808 | true
+
+# Values are written by an arena as they were read.
+written | 06 00000002 00000001 'a 05 00000005 00 02 01 03 fffffffffffffffe 04 00000002 'hi 00000001 'b 06 00000000 | true
+written | 05 00000002 03 0000000000000001 04 00000001 'x | true
+written | 06 00000001 00000001 'a 00 | true
+written | 07 00000002 00ff | true
+"#;
+
+/// JSON that is converted.
+static JSON: &str = r#"
+# Whole numbers of 32 levels are converted alone: JSON, and its faults as a value and as a message.
+json | {"$hex":"0F"} | (Some(NotHex), Some(NotHex))
+json | {"$hex":"0"} | (Some(NotHex), Some(NotHex))
+json | {"$hex":null} | (Some(NotHex), Some(NotHex))
+# Nothing in it is looked at.
+json | {"$hex":1.5} | (Some(NotHex), Some(NotHex))
+json | {"$hex":{"$hex":"00"}} | (Some(NotHex), Some(NotHex))
+# A number comes first, wherever it stands.
+json | [{"$hex":"0F"},1.5] | (Some(NotWhole), Some(NotWhole))
+json | [1.5,{"$hex":"0F"}] | (Some(NotWhole), Some(NotWhole))
+# Beside another member it is a name as any other.
+json | {"$hex":"0F","x":1} | (None, None)
+json | {"$hex":1.5,"x":1} | (Some(NotWhole), Some(NotWhole))
+json | {"$hex":""} | (None, None)
+# At level 32, and at level 33.
+json | [[[[[[[[[[[[[[[[[[[[[[[[[[[[[[[{"$hex":[["00"]]}]]]]]]]]]]]]]]]]]]]]]]]]]]]]]]] | (Some(NotHex), Some(NotHex))
+json | [[[[[[[[[[[[[[[[[[[[[[[[[[[[[[[[{"$hex":"00"}]]]]]]]]]]]]]]]]]]]]]]]]]]]]]]]] | (Some(TooDeep), Some(TooDeep))
+json | 1.5 | (Some(NotWhole), Some(NotWhole))
+json | -0 | (Some(NotWhole), Some(NotWhole))
+json | 9223372036854775808 | (Some(NotWhole), Some(NotWhole))
+json | [1.0] | (Some(NotWhole), Some(NotWhole))
+json | {"a":1e2} | (Some(NotWhole), Some(NotWhole))
+json | {"by":[3.0]} | (Some(NotWhole), Some(NotWhole))
+json | 0 | (None, None)
+json | 9223372036854775807 | (None, None)
+json | -9223372036854775808 | (None, None)
+json | [[[[[[[[[[[[[[[[[[[[[[[[[[[[[[[[]]]]]]]]]]]]]]]]]]]]]]]]]]]]]]]] | (None, None)
+json | [[[[[[[[[[[[[[[[[[[[[[[[[[[[[[[[[]]]]]]]]]]]]]]]]]]]]]]]]]]]]]]]]] | (Some(TooDeep), Some(TooDeep))
+"#;
+
+/// Messages and states of the form before.
+static OLD_FORMS: &str = r#"
+# Messages of the form before, and those of now.
+migrated | 01 00000003 'get 00 | 02 00000003 'get 00 | true
+migrated | 01 00000001 'a 05 00000001 04 00000001 'x | 02 00000001 'a 05 00000001 04 00000001 'x | true
+# A map whose one name is the name of bytes in JSON stays a map.
+migrated | 01 00000001 'a 06 00000001 00000004 '$hex 04 00000002 '00 | 02 00000001 'a 06 00000001 00000004 '$hex 04 00000002 '00 | true
+
+# Bytes that are no message of the form before.
+old message |  | Some(NotAMessage)
+old message | 01 00000003 'get | Some(NotAMessage)
+old message | 01 00000003 'get 00 00 | Some(NotAMessage)
+old message | 02 00000003 'get 00 | Some(NotAMessage)
+old message | 01 00000001 'a 07 00000000 | Some(NotAMessage)
+old message | 01 00000001 'a 05 00000002 00 07 00000001 78 | Some(NotAMessage)
+
+# States of the form before hold no bytes.
+old state | 06 00000002 00000001 'a 05 00000005 00 02 01 03 fffffffffffffffe 04 00000002 'hi 00000001 'b 06 00000000 | None
+old state | 02 | None
+old state | 08 | Some(NotAMessage)
+old state | 07 00000000 | Some(NotAMessage)
+old state | 06 00000001 00000001 'a 05 00000001 07 00000001 78 | Some(NotAMessage)
+"#;
+
+/// The same of a value of each form, as a message and as a state.
+static EACH_FORM: [&str; 2] = [
+    "call | 02 00000003 'add 06 00000002 00000001 'a 05 00000005 00 02 01 03 fffffffffffffffe 04 00000002 'hi 00000001 'b 06 00000000 | add | {\"a\":[null,true,false,-2,\"hi\"],\"b\":{}} | true",
+    "value | 06 00000002 00000001 'a 05 00000005 00 02 01 03 fffffffffffffffe 04 00000002 'hi 00000001 'b 06 00000000 | {\"a\":[null,true,false,-2,\"hi\"],\"b\":{}} | true",
+];
+
+/// The same bytes are read by two crates.
+#[derive(Clone, Copy)]
+struct Codec;
+
+/// The fault of reading into an arena, and how many bytes the arena takes.
+fn arena_fault(alloc: Global, is_state: bool, bytes: &[u8]) -> (Option<ArenaFault>, usize) {
+    let bump = Bump::new(alloc);
+    let fault = if is_state {
+        node_in(&bump, bytes).err()
+    } else {
+        decode_in(&bump, bytes).err()
     };
-    let found = (decoding_fault(alloc, bytes), keeping_fault(alloc, bytes));
-    same(found, (wanted(false), wanted(false)))
+    (fault, bump.allocated_bytes())
 }
 
-#[test]
-fn no_part_of_a_message_is_a_message(rt: HostRuntime) -> Result<(), Fail> {
-    for count in 0..28 {
-        is_cut(rt.alloc(), count)?;
+/// The faults of a call, of a message that is kept, and of one in an arena.
+type Faults = (Option<CodecFault>, Option<CodecFault>, Option<ArenaFault>);
+
+const READ: Faults = (None, None, None);
+
+const REFUSED: Faults = (
+    Some(CodecFault::NotAMessage),
+    Some(CodecFault::NotAMessage),
+    Some(ArenaFault::NotAMessage),
+);
+
+fn message_faults(alloc: Global, bytes: &[u8]) -> Faults {
+    let called = decode(alloc, bytes).err();
+    let kept = Message::read(alloc, bytes).err();
+    (called, kept, arena_fault(alloc, false, bytes).0)
+}
+
+fn state_faults(alloc: Global, bytes: &[u8]) -> Faults {
+    let read = StateBytes::read(alloc, bytes).err();
+    (read, read, arena_fault(alloc, true, bytes).0)
+}
+
+/// Whether bytes are read or refused, by all.
+fn put_faults(faults: Faults, out: &mut String) -> Result<(), Fail> {
+    if faults == READ {
+        return Ok(out.push_str("read")?);
     }
-    Ok(())
+    if faults == REFUSED {
+        return Ok(out.push_str("refused")?);
+    }
+    show(out, faults)
+}
+
+/// Each part of bytes, from the first on, is refused by all that read messages. How many parts there are.
+fn refused_parts(alloc: Global, bytes: &[u8]) -> Result<usize, Fail> {
+    for count in 0..bytes.len() {
+        same(message_faults(alloc, &bytes[..count]), REFUSED)?;
+    }
+    Ok(bytes.len())
 }
 
 /// A text of so many bytes `x`.
-fn long_text(alloc: Global, count: u32) -> Result<Datum, Fail> {
+fn long_text(alloc: Global, count: u64) -> Result<Datum, Fail> {
     let mut text = String::new(alloc);
     for _ in 0..count {
         text.push('x')?;
@@ -74,326 +252,262 @@ fn long_text(alloc: Global, count: u32) -> Result<Datum, Fail> {
 }
 
 /// How long the message of the method `a` and of a value is, or its fault.
-fn message_length(alloc: Global, value: &Datum) -> Result<usize, CodecFault> {
-    Ok(encode(alloc, "a", value)?.bytes().len())
+fn message_length(alloc: Global, value: Datum) -> Result<usize, CodecFault> {
+    let message = encode(alloc, "a", &value);
+    drop(value);
+    Ok(message?.bytes().len())
 }
 
-/// How long a text is, and how long a message of it, or its fault.
-static LENGTHS: [(u32, Result<usize, CodecFault>); 2] = [
-    (65_525, Ok(65_536)),
-    (65_526, Err(CodecFault::TooLong)),
-];
-
-#[test]
-fn a_message_has_65_536_bytes_at_most(rt: HostRuntime) -> Result<(), Fail> {
-    for (count, wanted) in &LENGTHS {
-        let value = long_text(rt.alloc(), *count)?;
-        let found = message_length(rt.alloc(), &value);
-        drop(value);
-        same(found, *wanted)?;
-    }
-    Ok(())
+/// The same of a text of so many bytes.
+fn text_length(alloc: Global, count: &str) -> Result<Result<usize, CodecFault>, Fail> {
+    Ok(message_length(alloc, long_text(alloc, count.parse()?)?))
 }
 
-/// Bytes of a message, its method and its argument.
-type Call = (&'static [u8], &'static str, &'static str);
-
-static CALLS: [Call; 5] = [
-    (b"\x02\0\0\0\x03get\0", "get", "null"),
-    (ADD, "add", "{\"by\":3}"),
-    (
-        b"\x02\0\0\0\x01a\x06\0\0\0\x02\0\0\0\x01a\0\0\0\0\x01b\0",
-        "a",
-        "{\"a\":null,\"b\":null}",
-    ),
-    (
-        b"\x02\0\0\0\x03add\x06\0\0\0\x02\0\0\0\x01a\x05\0\0\0\x05\0\x02\x01\x03\xff\xff\xff\xff\xff\xff\xff\xfe\x04\0\0\0\x02hi\0\0\0\x01b\x06\0\0\0\0",
-        "add",
-        EACH_FORM_JSON,
-    ),
-    (
-        b"\x02\0\0\0\x01a\x07\0\0\0\x02\0\xff",
-        "a",
-        "{\"$hex\":\"00ff\"}",
-    ),
-];
-
-/// The value as JSON.
-fn json(alloc: Global, value: &Datum) -> Result<String, Fail> {
-    let json = to_json(alloc, value)?;
+/// Whether a value is this JSON.
+fn is_json(alloc: Global, value: Datum, wanted: &str) -> Result<bool, Fail> {
+    let json = to_json(alloc, &value);
+    drop(value);
+    let json = json?;
     let text = json.to_string(alloc);
     drop(json);
-    Ok(text?)
+    Ok(text?.as_str() == wanted)
 }
 
-/// The value is this JSON.
-fn is_json(alloc: Global, value: &Datum, wanted: &str) -> Result<(), Fail> {
-    same(json(alloc, value)?.as_str(), wanted)
+fn is_call(alloc: Global, call: (String, Datum), method: &str, json: &str) -> Result<bool, Fail> {
+    let (name, value) = call;
+    Ok(is_json(alloc, value, json)? && name.as_str() == method)
 }
 
-/// The method and the argument of a call are those of the row.
-fn is_call(alloc: Global, call: &(String, Datum), row: &Call) -> Result<(), Fail> {
-    same(call.0.as_str(), row.1)?;
-    is_json(alloc, &call.1, row.2)
-}
-
-/// A message that was kept, and a copy of it, are the row's.
-fn is_kept(alloc: Global, message: &Message, row: &Call) -> Result<(), Fail> {
-    same((message.bytes(), message.method()), (row.0, row.1))?;
+/// A message that was kept, and a copy of it, say this.
+fn is_kept(alloc: Global, message: &Message, method: &str, json: &str) -> Result<bool, Fail> {
     same_copy(message)?;
     let call = decode_message(alloc, message)?;
-    let found = is_call(alloc, &call, row);
-    drop(call);
-    found
-}
-
-fn decoded(alloc: Global, bytes: &[u8]) -> Result<(String, Datum), Fail> {
-    Ok(decode(alloc, bytes)?)
+    Ok(is_call(alloc, call, method, json)? && message.method() == method)
 }
 
 /// The message of a method and JSON, with no value made of it.
-fn direct(alloc: Global, row: &Call) -> Result<Message, Fail> {
-    let json = parsed(alloc, row.2)?;
-    let message = encode_json(alloc, row.1, &json);
+fn direct(alloc: Global, method: &str, json: &str) -> Result<Message, Fail> {
+    let json = parsed(alloc, json)?;
+    let message = encode_json(alloc, method, &json);
     drop(json);
     Ok(message?)
 }
 
-#[test]
-fn calls_are_read_and_written(rt: HostRuntime) -> Result<(), Fail> {
-    for row in &CALLS {
-        let call = decoded(rt.alloc(), row.0)?;
-        let is_read = is_call(rt.alloc(), &call, row);
-        drop(call);
-        is_read?;
-        let kept = message(rt.alloc(), row.1, row.2)?;
-        let is_written = is_kept(rt.alloc(), &kept, row);
-        drop(kept);
-        is_written?;
-        let direct = direct(rt.alloc(), row)?;
-        let is_same = same(direct.bytes(), row.0);
-        drop(direct);
-        is_same?;
-    }
-    Ok(())
+fn is_decoded(alloc: Global, bytes: &[u8], method: &str, json: &str) -> Result<bool, Fail> {
+    is_call(alloc, decode(alloc, bytes)?, method, json)
 }
 
-/// The states of JSON.
-static VALUES: [(&str, &[u8]); 2] = [("true", b"\x02"), (EACH_FORM_JSON, EACH_FORM)];
-
-fn shared(state: StateBytes, alloc: Global) -> Result<SharedState, Fail> {
-    Ok(SharedState::new(alloc, state)?.clone()?)
+fn is_encoded(alloc: Global, bytes: &[u8], method: &str, json: &str) -> Result<bool, Fail> {
+    let kept = message(alloc, method, json)?;
+    Ok(is_kept(alloc, &kept, method, json)? && kept.bytes() == bytes)
 }
 
-/// A state and a copy of it have these bytes and this value.
-fn is_state(alloc: Global, state: &StateBytes, json: &str, bytes: &[u8]) -> Result<(), Fail> {
-    same(state.bytes(), bytes)?;
+fn is_direct(alloc: Global, bytes: &[u8], method: &str, json: &str) -> Result<bool, Fail> {
+    Ok(direct(alloc, method, json)?.bytes() == bytes)
+}
+
+/// The bytes are the message of this method and this argument, and nothing else is.
+fn is_message(alloc: Global, bytes: &[u8], method: &str, json: &str) -> Result<bool, Fail> {
+    let decoded = is_decoded(alloc, bytes, method, json)?;
+    let encoded = is_encoded(alloc, bytes, method, json)?;
+    Ok(decoded && encoded && is_direct(alloc, bytes, method, json)?)
+}
+
+fn shared(alloc: Global, bytes: &[u8]) -> Result<SharedState, Fail> {
+    Ok(SharedState::new(alloc, read_state(alloc, bytes)?)?.clone()?)
+}
+
+/// A state has these bytes, its copy is the same, and its value is this JSON.
+fn is_of(alloc: Global, state: &StateBytes, bytes: &[u8], json: &str) -> Result<bool, Fail> {
     same_copy(state)?;
     let value = decode_state(alloc, state)?;
-    let found = is_json(alloc, &value, json);
-    drop(value);
-    found
+    Ok(is_json(alloc, value, json)? && state.bytes() == bytes)
 }
 
-/// A shared state is the state of these bytes.
-fn is_shared(alloc: Global, bytes: &[u8]) -> Result<(), Fail> {
-    let shared = shared(read_state(alloc, bytes)?, alloc)?;
-    same(shared.state().bytes(), bytes)
+fn is_shared(alloc: Global, bytes: &[u8]) -> Result<bool, Fail> {
+    Ok(shared(alloc, bytes)?.state().bytes() == bytes)
+}
+
+/// The bytes are the state of this value, and the state is shared.
+fn is_state(alloc: Global, bytes: &[u8], json: &str) -> Result<bool, Fail> {
+    let shared = is_shared(alloc, bytes)?;
+    Ok(shared && is_of(alloc, &state(alloc, json)?, bytes, json)?)
+}
+
+fn has(state: StateBytes, bytes: &[u8]) -> bool {
+    state.bytes() == bytes
+}
+
+/// The faults of JSON, if it is converted, and if it is encoded with no value made of it.
+fn json_faults(alloc: Global, json: Value) -> (Option<CodecFault>, Option<CodecFault>) {
+    let converted = from_json(alloc, &json).err();
+    let encoded = encode_json(alloc, "a", &json).err();
+    drop(json);
+    (converted, encoded)
+}
+
+type JsonFaults = Result<(Option<CodecFault>, Option<CodecFault>), Fail>;
+
+fn faults_of_json(alloc: Global, text: &str) -> JsonFaults {
+    Ok(json_faults(alloc, parsed(alloc, text)?))
+}
+
+/// The state of these bytes, read into an arena and written.
+fn written(alloc: Global, bytes: &[u8]) -> Result<StateBytes, Fail> {
+    let bump = Bump::new(alloc);
+    Ok(encode_node(alloc, node_in(&bump, bytes)?)?)
+}
+
+/// What bytes are read as.
+fn put_read(alloc: Global, call: &str, bytes: &[u8], out: &mut String) -> Result<(), Fail> {
+    match call {
+        "message" => put_faults(message_faults(alloc, bytes), out),
+        "state" => put_faults(state_faults(alloc, bytes), out),
+        "cuts" => tell(out, refused_parts(alloc, bytes)),
+        "message room" => show(out, arena_fault(alloc, false, bytes)),
+        "state room" => show(out, arena_fault(alloc, true, bytes)),
+        "old message" => show(out, migrate_message(alloc, bytes).err()),
+        _ => show(out, read_old_state(alloc, bytes).err()),
+    }
+}
+
+fn is_decimal(alloc: Global, bytes: &[u8], number: &str) -> Result<bool, Fail> {
+    Ok(has(StateBytes::decimal(alloc, number.parse()?)?, bytes))
+}
+
+fn is_integer(bytes: &[u8], number: &str) -> Result<bool, Fail> {
+    Ok(has(StateBytes::integer(number.parse()?), bytes))
+}
+
+/// Whether the bytes of a message are migrated to those.
+fn is_migrated(alloc: Global, bytes: &[u8], new: &str) -> Result<bool, Fail> {
+    let new = spelled(alloc, new)?;
+    Ok(migrate_message(alloc, bytes)?.bytes() == new.as_slice())
+}
+
+fn is_written(alloc: Global, bytes: &[u8]) -> Result<bool, Fail> {
+    Ok(has(written(alloc, bytes)?, bytes))
+}
+
+/// Whether bytes are what is written of the fields.
+fn are_of(alloc: Global, call: &str, bytes: &[u8], fields: &mut Fields<'_>) -> Result<bool, Fail> {
+    let first = fields.text();
+    match call {
+        "call" => is_message(alloc, bytes, first, fields.text()),
+        "value" => is_state(alloc, bytes, first),
+        "decimal" => is_decimal(alloc, bytes, first),
+        "integer" => is_integer(bytes, first),
+        "migrated" => is_migrated(alloc, bytes, first),
+        _ => is_written(alloc, bytes),
+    }
+}
+
+/// The same of bytes that words spell.
+fn are_spelled(
+    alloc: Global,
+    call: &str,
+    words: &str,
+    fields: &mut Fields<'_>,
+) -> Result<bool, Fail> {
+    are_of(alloc, call, &spelled(alloc, words)?, fields)
+}
+
+fn put_spelled(alloc: Global, call: &str, words: &str, out: &mut String) -> Result<(), Fail> {
+    put_read(alloc, call, &spelled(alloc, words)?, out)
+}
+
+impl Subject for Codec {
+    fn answer(
+        &mut self,
+        alloc: Global,
+        call: &str,
+        fields: &mut Fields<'_>,
+        out: &mut String,
+    ) -> Result<(), Fail> {
+        let first = fields.text();
+        match call {
+            "length" => tell(out, text_length(alloc, first)),
+            "json" => tell(out, faults_of_json(alloc, first)),
+            "call" | "value" | "decimal" | "integer" | "migrated" | "written" => tell(
+                out,
+                are_spelled(alloc, call, first, fields),
+            ),
+            _ => put_spelled(alloc, call, first, out),
+        }
+    }
 }
 
 #[test]
-fn states_are_read_and_written(rt: HostRuntime) -> Result<(), Fail> {
-    for (json, bytes) in &VALUES {
-        let state = state(rt.alloc(), *json)?;
-        let found = is_state(rt.alloc(), &state, *json, *bytes);
-        drop(state);
-        found?;
-        is_shared(rt.alloc(), *bytes)?;
-    }
-    Ok(())
-}
-
-/// A number, and the bytes of its text as a state.
-static DECIMALS: [(u64, &[u8]); 2] = [
-    (1024, b"\x04\0\0\0\x041024"),
-    (u64::MAX, b"\x04\0\0\0\x1418446744073709551615"),
-];
-
-/// A number, and its bytes as a state.
-static INTEGERS: [(i64, &[u8]); 2] = [
-    (-2, b"\x03\xff\xff\xff\xff\xff\xff\xff\xfe"),
-    (i64::MIN, b"\x03\x80\0\0\0\0\0\0\0"),
-];
-
-fn decimal(alloc: Global, number: u64) -> Result<StateBytes, Fail> {
-    Ok(StateBytes::decimal(alloc, number)?)
-}
-
-fn integer(number: i64) -> StateBytes {
-    StateBytes::integer(number)
-}
-
-/// The state has these bytes.
-fn has_bytes(state: StateBytes, bytes: &[u8]) -> Result<(), Fail> {
-    let found = same(state.bytes(), bytes);
-    drop(state);
-    found
+fn messages_are_read(rt: HostRuntime) -> Result<(), Fail> {
+    hold(rt.alloc(), &mut Codec, MESSAGES)
 }
 
 #[test]
-fn numbers_are_states(rt: HostRuntime) -> Result<(), Fail> {
-    for (number, bytes) in &DECIMALS {
-        has_bytes(decimal(rt.alloc(), *number)?, *bytes)?;
-    }
-    for (number, bytes) in &INTEGERS {
-        has_bytes(integer(*number), *bytes)?;
-    }
-    Ok(())
-}
-
-const NOT_WHOLE: Option<CodecFault> = Some(CodecFault::NotWhole);
-
-const NOT_HEX: Option<CodecFault> = Some(CodecFault::NotHex);
-
-/// JSON, and its fault.
-static JSON_FAULTS: [(&str, Option<CodecFault>); 23] = [
-    ("{\"$hex\":\"0F\"}", NOT_HEX),
-    ("{\"$hex\":\"0\"}", NOT_HEX),
-    ("{\"$hex\":null}", NOT_HEX),
-    // Nothing in it is looked at.
-    ("{\"$hex\":1.5}", NOT_HEX),
-    ("{\"$hex\":{\"$hex\":\"00\"}}", NOT_HEX),
-    // A number comes first, wherever it stands.
-    ("[{\"$hex\":\"0F\"},1.5]", NOT_WHOLE),
-    ("[1.5,{\"$hex\":\"0F\"}]", NOT_WHOLE),
-    // Beside another member it is a name as any other.
-    ("{\"$hex\":\"0F\",\"x\":1}", None),
-    ("{\"$hex\":1.5,\"x\":1}", NOT_WHOLE),
-    ("{\"$hex\":\"\"}", None),
-    // At level 32, and at level 33.
-    (
-        "[[[[[[[[[[[[[[[[[[[[[[[[[[[[[[[{\"$hex\":[[\"00\"]]}]]]]]]]]]]]]]]]]]]]]]]]]]]]]]]]",
-        NOT_HEX,
-    ),
-    (
-        "[[[[[[[[[[[[[[[[[[[[[[[[[[[[[[[[{\"$hex\":\"00\"}]]]]]]]]]]]]]]]]]]]]]]]]]]]]]]]]",
-        Some(CodecFault::TooDeep),
-    ),
-    ("1.5", NOT_WHOLE),
-    ("-0", NOT_WHOLE),
-    ("9223372036854775808", NOT_WHOLE),
-    ("[1.0]", NOT_WHOLE),
-    ("{\"a\":1e2}", NOT_WHOLE),
-    ("{\"by\":[3.0]}", NOT_WHOLE),
-    ("0", None),
-    ("9223372036854775807", None),
-    ("-9223372036854775808", None),
-    (
-        "[[[[[[[[[[[[[[[[[[[[[[[[[[[[[[[[]]]]]]]]]]]]]]]]]]]]]]]]]]]]]]]]",
-        None,
-    ),
-    (
-        "[[[[[[[[[[[[[[[[[[[[[[[[[[[[[[[[[]]]]]]]]]]]]]]]]]]]]]]]]]]]]]]]]]",
-        Some(CodecFault::TooDeep),
-    ),
-];
-
-fn conversion_fault(alloc: Global, json: &Value) -> Option<CodecFault> {
-    from_json(alloc, json).err()
-}
-
-fn encoding_fault(alloc: Global, json: &Value) -> Option<CodecFault> {
-    encode_json(alloc, "a", json).err()
-}
-
-/// JSON has this fault, if it is converted, and if it is encoded with no value made of it.
-fn has_fault(alloc: Global, json: &Value, wanted: Option<CodecFault>) -> Result<(), Fail> {
-    same(conversion_fault(alloc, json), wanted)?;
-    same(encoding_fault(alloc, json), wanted)
+fn states_are_read(rt: HostRuntime) -> Result<(), Fail> {
+    hold(rt.alloc(), &mut Codec, STATES)
 }
 
 #[test]
-fn whole_numbers_of_32_levels_are_converted_alone(rt: HostRuntime) -> Result<(), Fail> {
-    for (text, fault) in &JSON_FAULTS {
-        let json = parsed(rt.alloc(), *text)?;
-        let found = has_fault(rt.alloc(), &json, *fault);
-        drop(json);
-        found?;
+fn messages_and_states_are_written(rt: HostRuntime) -> Result<(), Fail> {
+    for row in &EACH_FORM {
+        hold(rt.alloc(), &mut Codec, *row)?;
     }
-    Ok(())
-}
-
-/// Bytes of a message of the form before, and those of now.
-static MIGRATED: [(&[u8], &[u8]); 3] = [
-    (b"\x01\0\0\0\x03get\0", b"\x02\0\0\0\x03get\0"),
-    (
-        b"\x01\0\0\0\x01a\x05\0\0\0\x01\x04\0\0\0\x01x",
-        b"\x02\0\0\0\x01a\x05\0\0\0\x01\x04\0\0\0\x01x",
-    ),
-    // A map whose one name is the name of bytes in JSON stays a map.
-    (
-        b"\x01\0\0\0\x01a\x06\0\0\0\x01\0\0\0\x04$hex\x04\0\0\0\x0200",
-        b"\x02\0\0\0\x01a\x06\0\0\0\x01\0\0\0\x04$hex\x04\0\0\0\x0200",
-    ),
-];
-
-/// Bytes that are no message of the form before.
-static NOT_OLD: [&[u8]; 6] = [
-    b"",
-    b"\x01\0\0\0\x03get",
-    b"\x01\0\0\0\x03get\0\0",
-    b"\x02\0\0\0\x03get\0",
-    b"\x01\0\0\0\x01a\x07\0\0\0\0",
-    b"\x01\0\0\0\x01a\x05\0\0\0\x02\0\x07\0\0\0\x01x",
-];
-
-fn migrated(alloc: Global, old: &[u8]) -> Result<Message, Fail> {
-    Ok(migrate_message(alloc, old)?)
-}
-
-fn migrating_fault(alloc: Global, bytes: &[u8]) -> Option<CodecFault> {
-    migrate_message(alloc, bytes).err()
-}
-
-/// The old bytes are the message of the new ones.
-fn is_migrated(alloc: Global, old: &[u8], new: &[u8]) -> Result<(), Fail> {
-    let message = migrated(alloc, old)?;
-    let found = same(message.bytes(), new);
-    drop(message);
-    found
+    hold(rt.alloc(), &mut Codec, WRITTEN)
 }
 
 #[test]
-fn messages_of_the_form_before_are_migrated(rt: HostRuntime) -> Result<(), Fail> {
-    for (old, new) in &MIGRATED {
-        is_migrated(rt.alloc(), *old, *new)?;
-    }
-    for bytes in &NOT_OLD {
-        same(migrating_fault(rt.alloc(), *bytes), wanted(false))?;
-    }
-    Ok(())
-}
-
-/// Bytes, and whether they are a state in which no bytes stand.
-static OLD_STATES: [(&[u8], bool); 5] = [
-    (EACH_FORM, true),
-    (b"\x02", true),
-    (b"\x08", false),
-    (b"\x07\0\0\0\0", false),
-    (
-        b"\x06\0\0\0\x01\0\0\0\x01a\x05\0\0\0\x01\x07\0\0\0\x01x",
-        false,
-    ),
-];
-
-fn old_state_fault(alloc: Global, bytes: &[u8]) -> Option<CodecFault> {
-    read_old_state(alloc, bytes).err()
+fn json_is_converted(rt: HostRuntime) -> Result<(), Fail> {
+    hold(rt.alloc(), &mut Codec, JSON)
 }
 
 #[test]
-fn states_of_before_hold_no_bytes(rt: HostRuntime) -> Result<(), Fail> {
-    for (bytes, is_read) in &OLD_STATES {
-        same(old_state_fault(rt.alloc(), *bytes), wanted(*is_read))?;
+fn old_forms_are_migrated(rt: HostRuntime) -> Result<(), Fail> {
+    hold(rt.alloc(), &mut Codec, OLD_FORMS)
+}
+
+/// A map of one field.
+#[tactic(auto, using(turn_arena::proofs::FieldPlaces::none_ascend))]
+fn map_of<'a>(bump: &'a Bump, name: &'a str, node: Node<'a>) -> Result<Node<'a>, AllocError> {
+    map_in(bump, put_in(bump, &[], name, node)?)
+}
+
+/// A list of the map of one field, of a text and of two bytes.
+fn list_of<'a>(bump: &'a Bump) -> Result<Node<'a>, AllocError> {
+    let items = [
+        map_of(bump, "a", Node::Int(2))?,
+        text_in(bump, "x")?,
+        bytes_in(bump, b"\0\xff")?,
+    ];
+    list_in(bump, &items)
+}
+
+/// Whether a node is the map of that list.
+fn is_map(node: Node<'_>) -> bool {
+    match node {
+        Node::Map([field]) => field.name == "a" && matches!(field.node, Node::Int(2)),
+        _ => false,
     }
-    Ok(())
+}
+
+/// Whether a node is the text or the bytes of that list.
+fn is_leaf(node: Node<'_>) -> bool {
+    match node {
+        Node::Text(text) => text == "x",
+        Node::Bytes(bytes) => bytes == b"\0\xff".as_slice(),
+        _ => false,
+    }
+}
+
+/// Whether a node is that list.
+fn is_list(node: Node<'_>) -> bool {
+    match node {
+        Node::List([map, text, bytes]) => is_map(*map) && is_leaf(*text) && is_leaf(*bytes),
+        _ => false,
+    }
+}
+
+#[test]
+fn nodes_are_made(rt: HostRuntime) -> Result<(), Fail> {
+    let bump = Bump::new(rt.alloc());
+    same(is_list(list_of(&bump)?), true)
 }

@@ -1,6 +1,6 @@
 //! Activations that come and go, and the numbers of their tenants.
 
-use crate::compare::same;
+use crate::rows::{Fields, Subject, hold, show, tell};
 use crate::values::grain;
 use activation_directory::{Activation, Directory, Phase};
 use grain_id::{GrainId, HashSeed};
@@ -9,18 +9,56 @@ use std::alloc::{AllocError, Global};
 use std::test::Fail;
 use turn_mailbox::Mailbox;
 
-/// A call of a directory.
-#[derive(Clone, Copy)]
-enum Call {
-    /// An activation that waits since that moment.
-    Insert(&'static str, u64),
-    Get(&'static str),
-    /// Another moment, written where the activation stands.
-    Change(&'static str, u64),
-    Remove(&'static str),
-    Count(&'static str),
-    Len,
-    At(usize),
+/// An activation waits since a moment, which stands for it; 0 is for none.
+static CALLS: &str = "
+# Each tenant has its own number.
+new | nothing
+insert | counter/red:a | 1 | 1
+insert | counter/blue:a | 2 | 1
+insert | counter/red:b | 3 | 1
+insert | counter/red:b | 4 | 0
+len | 3
+count | red | 2
+count | blue | 1
+count | green | 0
+remove | counter/red:a | 1
+count | red | 1
+
+# An activation is changed where it stands.
+new | nothing
+insert | counter/red:a | 1 | 1
+insert | counter/blue:a | 2 | 1
+change | counter/blue:a | 9 | 1
+change | counter/blue:b | 9 | 0
+get | counter/blue:a | 9
+get | counter/red:a | 1
+
+# Places are used again.
+new | nothing
+insert | counter/red:a | 1 | 1
+insert | counter/blue:a | 2 | 1
+insert | counter/red:b | 3 | 1
+remove | counter/red:a | 1
+remove | counter/red:a | 0
+insert | counter/red:c | 4 | 1
+len | 3
+at | 0 | 3
+at | 2 | 4
+at | 3 | 0
+";
+
+/// A directory, and whether the next one has another seed.
+#[derive(Drop)]
+struct Activations {
+    directory: Directory,
+    seeded: bool,
+}
+
+fn new(alloc: Global, seeded: bool) -> Directory {
+    if seeded {
+        return Directory::seeded(alloc, HashSeed::new(7));
+    }
+    Directory::new(alloc)
 }
 
 /// The moment of an activation, or 0 for none.
@@ -31,8 +69,9 @@ fn moment_of(activation: Option<&Activation>) -> u64 {
     }
 }
 
-fn moment(now: u64) -> Result<Moment, Fail> {
-    Ok(Moment::new(now).ok_or("no moment")?)
+/// The moment of a row.
+fn moment(fields: &mut Fields<'_>) -> Result<Moment, Fail> {
+    Ok(Moment::new(fields.number()?).ok_or("no moment")?)
 }
 
 /// An activation that waits since that moment.
@@ -97,98 +136,83 @@ fn at(directory: &Directory, place: usize) -> u64 {
     }
 }
 
-fn insert(alloc: Global, directory: &mut Directory, text: &str, last: u64) -> Result<u64, Fail> {
-    let id = grain(alloc, text)?;
-    inserted(alloc, directory, id, activation(alloc, moment(last)?)?)
+/// Adds an activation for a grain.
+fn added(
+    alloc: Global,
+    directory: &mut Directory,
+    id: &GrainId,
+    fields: &mut Fields<'_>,
+) -> Result<u64, Fail> {
+    let id = id.clone()?;
+    let made = activation(alloc, moment(fields)?)?;
+    inserted(alloc, directory, id, made)
 }
 
 /// What the directory answers to a call about the activation of a grain.
-fn answer_of(directory: &mut Directory, id: &GrainId, call: Call) -> Result<u64, Fail> {
+fn answer_of(
+    alloc: Global,
+    directory: &mut Directory,
+    id: &GrainId,
+    call: &str,
+    fields: &mut Fields<'_>,
+) -> Result<u64, Fail> {
     match call {
-        Call::Change(_, last) => Ok(changed(directory, id, moment(last)?)),
-        Call::Remove(_) => Ok(removed(directory, id)),
+        "insert" => added(alloc, directory, id, fields),
+        "change" => Ok(changed(directory, id, moment(fields)?)),
+        "remove" => Ok(removed(directory, id)),
         _ => Ok(moment_of(directory.get(id))),
     }
 }
 
-/// What the directory answers, as a number: a moment, a count, or 1 for yes.
-fn answer(alloc: Global, directory: &mut Directory, call: Call) -> Result<u64, Fail> {
-    match call {
-        Call::Insert(text, last) => insert(alloc, directory, text, last),
-        Call::Get(text) | Call::Change(text, _) | Call::Remove(text) => {
-            let id = grain(alloc, text)?;
-            let found = answer_of(directory, &id, call);
-            drop(id);
-            found
-        }
-        Call::Count(tenant) => Ok(directory.count(tenant) as u64),
-        Call::Len => Ok(directory.len() as u64),
-        Call::At(place) => Ok(at(directory, place)),
-    }
-}
-
-/// Each call is answered so. A wrong answer is shown with its place.
-fn answers_each(
+/// The same where the grain is yet to be read.
+fn answer_about(
     alloc: Global,
     directory: &mut Directory,
-    calls: &[(Call, u64)],
-) -> Result<(), Fail> {
-    for (place, (call, wanted)) in calls.iter().enumerate() {
-        let found = answer(alloc, directory, *call)?;
-        same((place, found), (place, *wanted))?;
+    id: &str,
+    call: &str,
+    fields: &mut Fields<'_>,
+) -> Result<u64, Fail> {
+    let id = grain(alloc, id)?;
+    answer_of(alloc, directory, &id, call, fields)
+}
+
+/// The moment of the activation at a place.
+fn found(directory: &Directory, place: &str) -> Result<u64, Fail> {
+    Ok(at(directory, place.parse()?))
+}
+
+impl Subject for Activations {
+    fn answer(
+        &mut self,
+        alloc: Global,
+        call: &str,
+        fields: &mut Fields<'_>,
+        out: &mut String,
+    ) -> Result<(), Fail> {
+        let first = fields.text();
+        match call {
+            "new" => {
+                self.directory = new(alloc, self.seeded);
+                Ok(())
+            }
+            "count" => show(out, self.directory.count(first)),
+            "len" => show(out, self.directory.len()),
+            "at" => tell(out, found(&self.directory, first)),
+            _ => {
+                let answer = answer_about(alloc, &mut self.directory, first, call, fields);
+                tell(out, answer)
+            }
+        }
     }
-    Ok(())
 }
 
-/// Makes the calls, of a new directory and of one with another seed.
-fn run(alloc: Global, calls: &[(Call, u64)]) -> Result<(), Fail> {
-    let mut directory = Directory::new(alloc);
-    answers_each(alloc, &mut directory, calls)?;
-    let mut seeded = Directory::seeded(alloc, HashSeed::new(7));
-    answers_each(alloc, &mut seeded, calls)
+fn holds(alloc: Global, seeded: bool) -> Result<(), Fail> {
+    let directory = new(alloc, seeded);
+    hold(alloc, &mut Activations { directory, seeded }, CALLS)
 }
-
-/// Each tenant has its own number.
-static EACH_TENANT: [(Call, u64); 10] = [
-    (Call::Insert("counter/red:a", 1), 1),
-    (Call::Insert("counter/blue:a", 2), 1),
-    (Call::Insert("counter/red:b", 3), 1),
-    (Call::Insert("counter/red:b", 4), 0),
-    (Call::Len, 3),
-    (Call::Count("red"), 2),
-    (Call::Count("blue"), 1),
-    (Call::Count("green"), 0),
-    (Call::Remove("counter/red:a"), 1),
-    (Call::Count("red"), 1),
-];
-
-/// An activation is changed where it stands.
-static WHERE_IT_STANDS: [(Call, u64); 6] = [
-    (Call::Insert("counter/red:a", 1), 1),
-    (Call::Insert("counter/blue:a", 2), 1),
-    (Call::Change("counter/blue:a", 9), 1),
-    (Call::Change("counter/blue:b", 9), 0),
-    (Call::Get("counter/blue:a"), 9),
-    (Call::Get("counter/red:a"), 1),
-];
-
-/// Places are used again.
-static PLACES: [(Call, u64); 10] = [
-    (Call::Insert("counter/red:a", 1), 1),
-    (Call::Insert("counter/blue:a", 2), 1),
-    (Call::Insert("counter/red:b", 3), 1),
-    (Call::Remove("counter/red:a"), 1),
-    (Call::Remove("counter/red:a"), 0),
-    (Call::Insert("counter/red:c", 4), 1),
-    (Call::Len, 3),
-    (Call::At(0), 3),
-    (Call::At(2), 4),
-    (Call::At(3), 0),
-];
 
 #[test]
 fn activations_come_and_go(rt: HostRuntime) -> Result<(), Fail> {
-    run(rt.alloc(), &EACH_TENANT)?;
-    run(rt.alloc(), &WHERE_IT_STANDS)?;
-    run(rt.alloc(), &PLACES)
+    holds(rt.alloc(), false)?;
+    holds(rt.alloc(), true)
 }

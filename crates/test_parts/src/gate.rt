@@ -1,113 +1,121 @@
 //! Tables of tenants, the order of their faults, and who may call whom.
 
-use crate::compare::{same, same_at};
-use crate::values::{grain, tenant};
+use crate::rows::{Fields, MOST_FIELDS, Subject, hold, show, tell};
+use crate::values::{grain, numbered, tenant};
 use grain_id::{GrainId, Tenant};
 use std::alloc::Global;
 use std::test::Fail;
 use tenant_gate::{Age, GateFault, Limits, TableFault, TenantTable};
 
-const LIMITS: Limits = Limits {
-    activations: 2,
-    mailbox: 4,
-};
+/// A table of tenants, and calls that look at it.
+#[derive(Drop)]
+struct Gate {
+    table: Option<TenantTable>,
+}
 
-/// Limits that are too low, and too high.
-const TOO_LOW: Limits = Limits {
-    activations: 0,
-    mailbox: 4,
-};
+static GATE: &str = "
+# So many tenants `t0`, `t1` and so on, and others with their limits.
+table | 0 | empty
+table | 0 | red | 2 | 4 | blue | 0 | 4 | green | 1 | 1001 | range;blue;
+# A repeat comes before a range.
+table | 0 | red | 2 | 4 | blue | 2 | 4 | green | 2 | 4 | blue | 2 | 4 | red | 2 | 4 | grey | 0 | 4 | twice;blue;
 
-const TOO_HIGH: Limits = Limits {
-    activations: 1,
-    mailbox: 1_001,
-};
+# Names that begin alike are told apart.
+table | 0 | red | 2 | 4 | reddish | 2 | 4 | made
+call | red | counter/red:a | passes
+call | reddish | counter/reddish:a | passes
+call | reddish | counter/red:a | across;reddish;red;
+call | red | counter/blue:a | across;red;blue;
+call | blue | counter/blue:a | unknown;blue;
 
-/// A call is let through.
-const PASSES: (&str, &str, &str) = ("passes", "", "");
+# Limits and ages have their ranges.
+limits | 2 | 4 | true
+limits | 0 | 4 | false
+limits | 1 | 1001 | false
+age | 0 | None
+age | 1 | Some(1)
+age | 86400000 | Some(86400000)
+age | 86400001 | None
 
-type List = Vec<(Tenant, Limits)>;
+# A thousand tenants and no more; each is found, and no other.
+table | 1000 | t0 | 2 | 4 | too many
+table | 1000 | made
+len | 1000
+found | 1000 | 1000
+activations | t1000 | 0
+activations | t | 0
+";
 
-fn numbered_name(alloc: Global, number: u32) -> Result<String, Fail> {
-    Ok(format!(in alloc; "t{number}")?)
+fn limits(fields: &mut Fields<'_>) -> Result<Limits, Fail> {
+    let activations = fields.text().parse()?;
+    let mailbox = fields.text().parse()?;
+    Ok(Limits {
+        activations,
+        mailbox,
+    })
+}
+
+type Tenants = Vec<(Tenant, Limits)>;
+
+fn add_tenant(alloc: Global, list: &mut Tenants, name: &str, limits: Limits) -> Result<(), Fail> {
+    Ok(list.push((tenant(alloc, name)?, limits))?)
 }
 
 /// The tenants `t0`, `t1` and so on; the n-th may have n + 1 activations.
-fn numbered(alloc: Global, count: u32) -> Result<List, Fail> {
-    let mut list = Vec::new(alloc);
+fn add_tenants(alloc: Global, list: &mut Tenants, count: u32) -> Result<(), Fail> {
     for number in 0..count {
-        let name = numbered_name(alloc, number)?;
         let limits = Limits {
             activations: number.saturating_add(1),
             mailbox: 1,
         };
-        list.push((tenant(alloc, &name)?, limits))?;
-    }
-    Ok(list)
-}
-
-/// So many numbered tenants, and these behind them.
-fn tenants(alloc: Global, count: u32, rows: &[(&str, Limits)]) -> Result<List, Fail> {
-    let mut list = numbered(alloc, count)?;
-    for (name, limits) in rows {
-        list.push((tenant(alloc, *name)?, *limits))?;
-    }
-    Ok(list)
-}
-
-fn table(alloc: Global, list: List) -> Result<TenantTable, Fail> {
-    Ok(TenantTable::new(alloc, list)?)
-}
-
-/// What is wrong with a list, and with which tenant of it.
-fn table_fault(fault: &TableFault) -> (&str, &str) {
-    match fault {
-        TableFault::Empty => ("empty", ""),
-        TableFault::TooMany => ("too many", ""),
-        TableFault::Twice(tenant) => ("twice", tenant.text()),
-        TableFault::Range(tenant) => ("range", tenant.text()),
-        TableFault::Memory => ("memory", ""),
-    }
-}
-
-/// The list is refused for this.
-fn is_refused(alloc: Global, list: List, wanted: (&str, &str)) -> Result<(), Fail> {
-    match TenantTable::new(alloc, list) {
-        Ok(_) => same(("made", ""), wanted),
-        Err(fault) => {
-            let found = same(table_fault(&fault), wanted);
-            drop(fault);
-            found
-        }
-    }
-}
-
-const OUT_OF_RANGE: [(&str, Limits); 3] = [("red", LIMITS), ("blue", TOO_LOW), ("green", TOO_HIGH)];
-
-/// A repeat comes before a range.
-const REPEATED: [(&str, Limits); 6] = [
-    ("red", LIMITS),
-    ("blue", LIMITS),
-    ("green", LIMITS),
-    ("blue", LIMITS),
-    ("red", LIMITS),
-    ("grey", TOO_LOW),
-];
-
-/// How many numbered tenants, those behind them, and why the list is refused.
-static REFUSED: [(u32, &[(&str, Limits)], (&str, &str)); 4] = [
-    (0, &[], ("empty", "")),
-    (1_000, &[("t0", LIMITS)], ("too many", "")),
-    (0, &OUT_OF_RANGE, ("range", "blue")),
-    (0, &REPEATED, ("twice", "blue")),
-];
-
-#[test]
-fn the_first_fault_of_a_table_is_told(rt: HostRuntime) -> Result<(), Fail> {
-    for (count, rows, wanted) in &REFUSED {
-        is_refused(rt.alloc(), tenants(rt.alloc(), *count, *rows)?, *wanted)?;
+        add_tenant(alloc, list, &numbered(alloc, 't', number as u64)?, limits)?;
     }
     Ok(())
+}
+
+fn add_all(alloc: Global, list: &mut Tenants, fields: &mut Fields<'_>) -> Result<(), Fail> {
+    add_tenants(alloc, list, fields.text().parse()?)?;
+    for _ in 0..MOST_FIELDS {
+        if fields.is_over() {
+            break;
+        }
+        add_tenant(alloc, list, fields.text(), limits(fields)?)?;
+    }
+    Ok(())
+}
+
+/// So many numbered tenants, and those of the fields behind the number.
+fn tenants(alloc: Global, fields: &mut Fields<'_>) -> Result<Tenants, Fail> {
+    let mut list = Vec::new(alloc);
+    add_all(alloc, &mut list, fields)?;
+    Ok(list)
+}
+
+fn put_table_fault(fault: &TableFault, out: &mut String) -> Result<(), Fail> {
+    let (what, tenant) = match fault {
+        TableFault::Empty => return Ok(out.push_str("empty")?),
+        TableFault::TooMany => return Ok(out.push_str("too many")?),
+        TableFault::Twice(tenant) => ("twice", tenant),
+        TableFault::Range(tenant) => ("range", tenant),
+        TableFault::Memory => return Err(Fail::from("out of memory")),
+    };
+    let name = tenant.text();
+    write!(out, "{what};{name};")?;
+    Ok(())
+}
+
+fn put_gate_fault(fault: &GateFault, out: &mut String) -> Result<(), Fail> {
+    match fault {
+        GateFault::Unknown(tenant) => {
+            let name = tenant.text();
+            Ok(write!(out, "unknown;{name};")?)
+        }
+        GateFault::Across(from, to) => {
+            let (from, to) = (from.text(), to.text());
+            Ok(write!(out, "across;{from};{to};")?)
+        }
+        GateFault::Memory => Err(Fail::from("out of memory")),
+    }
 }
 
 /// How many activations a tenant may have; 0 for one that isn't there.
@@ -118,113 +126,117 @@ fn activations(table: &TenantTable, name: &str) -> u32 {
     }
 }
 
-/// Each of so many tenants is found, and no other.
-fn are_found(alloc: Global, table: &TenantTable, count: u32) -> Result<(), Fail> {
-    same(table.list().len(), count as usize)?;
+/// How many of so many numbered tenants are found.
+fn found(alloc: Global, table: &TenantTable, count: &str) -> Result<u32, Fail> {
+    let count: u32 = count.parse()?;
+    let mut found = 0_u32;
     for number in 0..count {
-        let name = numbered_name(alloc, number)?;
-        same(activations(table, &name), number.saturating_add(1))?;
+        let name = numbered(alloc, 't', number as u64)?;
+        if activations(table, &name) == number.saturating_add(1) {
+            found = found.saturating_add(1);
+        }
     }
-    same(
-        (activations(table, "t1000"), activations(table, "t")),
-        (0, 0),
-    )
+    Ok(found)
 }
 
-#[test]
-fn each_of_a_thousand_tenants_is_found(rt: HostRuntime) -> Result<(), Fail> {
-    let table = table(rt.alloc(), numbered(rt.alloc(), 1_000)?)?;
-    are_found(rt.alloc(), &table, 1_000)
-}
-
-/// What is wrong with a call, and the tenants that the answer names.
-fn gate_fault(fault: &GateFault) -> (&str, &str, &str) {
-    match fault {
-        GateFault::Unknown(tenant) => ("unknown", tenant.text(), ""),
-        GateFault::Across(from, to) => ("across", from.text(), to.text()),
-        GateFault::Memory => ("memory", "", ""),
-    }
-}
-
-/// A call by a tenant of a grain is answered this.
-fn is_answered(
+fn call(
     alloc: Global,
     table: &TenantTable,
     caller: &Tenant,
-    grain: &GrainId,
-    wanted: (&str, &str, &str),
+    called: &GrainId,
+    out: &mut String,
 ) -> Result<(), Fail> {
-    match table.check_call(alloc, caller, grain) {
-        Ok(()) => same_at(grain.text(), PASSES, wanted),
-        Err(fault) => same_at(grain.text(), gate_fault(&fault), wanted),
+    match table.check_call(alloc, caller, called) {
+        Ok(()) => Ok(out.push_str("passes")?),
+        Err(fault) => {
+            let told = put_gate_fault(&fault, out);
+            drop(fault);
+            told
+        }
     }
 }
 
-/// A caller, a grain and the answer of a gate that knows `red` and `reddish`.
-type Call = (
-    &'static str,
-    &'static str,
-    (&'static str, &'static str, &'static str),
-);
-
-static CALLS: [Call; 5] = [
-    ("red", "counter/red:a", PASSES),
-    ("reddish", "counter/reddish:a", PASSES),
-    ("reddish", "counter/red:a", ("across", "reddish", "red")),
-    ("red", "counter/blue:a", ("across", "red", "blue")),
-    ("blue", "counter/blue:a", ("unknown", "blue", "")),
-];
-
-fn are_answered(alloc: Global, table: &TenantTable) -> Result<(), Fail> {
-    for (caller, called, wanted) in &CALLS {
-        let called = grain(alloc, *called)?;
-        let caller = tenant(alloc, *caller)?;
-        let answered = is_answered(alloc, table, &caller, &called, *wanted);
-        drop(caller);
-        drop(called);
-        answered?;
-    }
-    Ok(())
+/// The same of names that are yet to be read.
+fn called(
+    alloc: Global,
+    table: &TenantTable,
+    caller: &str,
+    called: &str,
+    out: &mut String,
+) -> Result<(), Fail> {
+    let caller = tenant(alloc, caller)?;
+    call(alloc, table, &caller, &grain(alloc, called)?, out)
 }
 
-/// Tenants whose names begin alike.
-static ALIKE: [(&str, Limits); 2] = [("red", LIMITS), ("reddish", LIMITS)];
+fn asked(
+    alloc: Global,
+    table: &TenantTable,
+    name: &str,
+    fields: &mut Fields<'_>,
+    out: &mut String,
+) -> Result<(), Fail> {
+    let first = fields.text();
+    match name {
+        "len" => show(out, table.list().len()),
+        "found" => tell(out, found(alloc, table, first)),
+        "activations" => show(out, activations(table, first)),
+        _ => called(alloc, table, first, fields.text(), out),
+    }
+}
+
+fn are_in_range(fields: &mut Fields<'_>) -> Result<bool, Fail> {
+    Ok(limits(fields)?.are_in_range())
+}
+
+fn millis(fields: &mut Fields<'_>) -> Result<Option<u64>, Fail> {
+    match Age::new(fields.number()?) {
+        Some(age) => Ok(Some(age.millis())),
+        None => Ok(None),
+    }
+}
+
+impl Gate {
+    fn make(
+        &mut self,
+        alloc: Global,
+        list: Result<Tenants, Fail>,
+        out: &mut String,
+    ) -> Result<(), Fail> {
+        match TenantTable::new(alloc, list?) {
+            Ok(table) => {
+                self.table = Some(table);
+                Ok(out.push_str("made")?)
+            }
+            Err(fault) => {
+                let told = put_table_fault(&fault, out);
+                drop(fault);
+                told
+            }
+        }
+    }
+}
+
+impl Subject for Gate {
+    fn answer(
+        &mut self,
+        alloc: Global,
+        call: &str,
+        fields: &mut Fields<'_>,
+        out: &mut String,
+    ) -> Result<(), Fail> {
+        match call {
+            "table" => self.make(alloc, tenants(alloc, fields), out),
+            "limits" => tell(out, are_in_range(fields)),
+            "age" => tell(out, millis(fields)),
+            _ => match &self.table {
+                Some(table) => asked(alloc, table, call, fields, out),
+                None => Err(Fail::from("no table")),
+            },
+        }
+    }
+}
 
 #[test]
-fn names_that_begin_alike_are_told_apart(rt: HostRuntime) -> Result<(), Fail> {
-    let table = table(rt.alloc(), tenants(rt.alloc(), 0, &ALIKE)?)?;
-    are_answered(rt.alloc(), &table)
-}
-
-/// Limits, and whether they are in range.
-static RANGES: [(Limits, bool); 3] = [(LIMITS, true), (TOO_LOW, false), (TOO_HIGH, false)];
-
-/// Milliseconds, and those of the age that they make.
-static AGES: [(u64, Option<u64>); 4] = [
-    (0, None),
-    (1, Some(1)),
-    (86_400_000, Some(86_400_000)),
-    (86_400_001, None),
-];
-
-fn are_in_range(limits: Limits) -> bool {
-    limits.are_in_range()
-}
-
-fn millis(number: u64) -> Option<u64> {
-    match Age::new(number) {
-        Some(age) => Some(age.millis()),
-        None => None,
-    }
-}
-
-#[test]
-fn limits_and_ages_have_their_ranges() -> Result<(), Fail> {
-    for (limits, wanted) in &RANGES {
-        same(are_in_range(*limits), *wanted)?;
-    }
-    for (number, wanted) in &AGES {
-        same(millis(*number), *wanted)?;
-    }
-    Ok(())
+fn tables_of_tenants_and_their_calls(rt: HostRuntime) -> Result<(), Fail> {
+    hold(rt.alloc(), &mut Gate { table: None }, GATE)
 }

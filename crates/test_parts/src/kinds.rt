@@ -1,215 +1,163 @@
-//! Turns of each method of each kind. States, arguments and answers are JSON.
+//! Turns of each method of each kind, and their plans. States, arguments and answers are JSON.
 
-use crate::compare::{same, same_at};
-use crate::spelled::{ADD, Parts, joined};
-use crate::values::{grain, message, read_state, state};
+use crate::compare::same;
+use crate::rows::{Fields, Subject, hold, put, show, tell};
+use crate::values::{grain, message, read_state, spelled, state};
 use bumpalo::Bump;
-use grain_kinds::{
-    FinishedTurn, GrainLogic, Kinds, MethodFault, OpenedTurn, RestingKinds, StoreCall, run_turn,
+use grain_kinds::{Kinds, NewestKinds, RestingKinds, Version};
+use grain_logic::{
+    FinishedTurn, GrainLogic, MethodFault, OpenedTurn, OwnedPlan, plan_turn, run_turn,
 };
-use request_codec::{Message, StateBytes};
+use logic_versions::newest;
+use request_codec::{Message, StateBytes, decode_state, to_json};
 use std::alloc::{AllocError, Global};
 use std::test::Fail;
 use turn_arena::number_asked;
 
-const FOUR: &str = "[\"counter/red:b\",\"counter/red:c\",\"counter/red:d\",\"counter/red:e\"]";
+/// Turns of all kinds: a grain, its state, a method and its argument.
+static TURNS: &str = r#"
+# The answer or the fault, and the state after it.
+turn | counter/red:a | 2 | add | {"by":3} | 5;5;
+turn | counter/red:a | null | add | {"by":3} | 3;3;
+turn | counter/red:a | 2 | get | null | 2;2;
+turn | sheet/red:a | 2 | put | {"name":"b","value":true} | null;{"b":true};
+turn | sheet/red:a | {"b":true,"d":[1]} | put | {"name":"c","value":{"x":2}} | null;{"b":true,"c":{"x":2},"d":[1]};
+turn | sheet/red:a | {"b":true,"c":{"x":2},"d":[1]} | put | {"name":"c","value":"y"} | null;{"b":true,"c":"y","d":[1]};
+turn | sheet/red:a | {"b":true} | put | {"name":"bb","value":-7} | null;{"b":true,"bb":-7};
+turn | sheet/red:a | {"b":true} | get | {"name":"b"} | true;{"b":true};
+turn | sheet/red:a | {"b":true} | get | {"name":"c"} | null;{"b":true};
+turn | sheet/red:a | {"b":true} | list | null | ["b"];{"b":true};
+turn | sheet/red:a | {"b":true} | drop | {"name":"b"} | true;{};
+turn | sheet/red:a | {"b":true} | drop | {"name":"c"} | false;{"b":true};
+turn | relay/red:a | [] | join | {"grain":"sheet/red:a"} | true;["sheet/red:a"];
+turn | relay/red:a | ["sheet/red:a"] | join | {"grain":"sheet/red:a"} | false;["sheet/red:a"];
+turn | relay/red:a | ["sheet/red:a"] | leave | {"grain":"sheet/red:a"} | true;[];
+turn | relay/red:a | ["sheet/red:a"] | leave | {"grain":"sheet"} | false;["sheet/red:a"];
+# A grain that stands twice, and a text that names none: no relay, so it counts as an empty one.
+turn | relay/red:a | ["sheet/red:b","sheet/red:b"] | join | {"grain":"sheet/red:a"} | true;["sheet/red:a"];
+turn | relay/red:a | ["sheet/red:b","sheet"] | join | {"grain":"sheet/red:a"} | true;["sheet/red:a"];
+turn | counter/red:a | 9223372036854775807 | add | {"by":3} | OutOfRange;9223372036854775807;
+turn | counter/red:a | 2 | add | 2 | Misfit;2;
+turn | counter/red:a | 2 | put | {"by":3} | UnknownMethod;2;
+turn | relay/red:a | 2 | clear | 2 | Misfit;2;
+turn | relay/red:a | [] | join | {"grain":"sheet"} | Misfit;[];
+turn | relay/red:a | ["counter/red:b","counter/red:c","counter/red:d","counter/red:e"] | join | {"grain":"sheet/red:a"} | OutOfRange;["counter/red:b","counter/red:c","counter/red:d","counter/red:e"];
 
-/// A grain, its state, a method and its argument; the answer or the fault, and the state after it.
-type Row = (
-    &'static str,
-    &'static str,
-    &'static str,
-    &'static str,
-    Result<&'static str, MethodFault>,
-    &'static str,
-);
+# What is asked of the storage, and what is sent.
+asked | counter/red:a | 2 | save | null | counter/red:a;Write
+asked | sheet/red:a | 2 | reload | null | sheet/red:a;Read
+asked | relay/red:a | 2 | clear | null | relay/red:a;Clear
+asked | counter/red:a | 2 | get | null | counter/red:a;None
 
-static ROWS: [Row; 24] = [
-    ("counter/red:a", "2", "add", "{\"by\":3}", Ok("5"), "5"),
-    ("counter/red:a", "null", "add", "{\"by\":3}", Ok("3"), "3"),
-    ("counter/red:a", "2", "get", "null", Ok("2"), "2"),
-    (
-        "sheet/red:a",
-        "2",
-        "put",
-        "{\"name\":\"b\",\"value\":true}",
-        Ok("null"),
-        "{\"b\":true}",
-    ),
-    (
-        "sheet/red:a",
-        "{\"b\":true,\"d\":[1]}",
-        "put",
-        "{\"name\":\"c\",\"value\":{\"x\":2}}",
-        Ok("null"),
-        "{\"b\":true,\"c\":{\"x\":2},\"d\":[1]}",
-    ),
-    (
-        "sheet/red:a",
-        "{\"b\":true,\"c\":{\"x\":2},\"d\":[1]}",
-        "put",
-        "{\"name\":\"c\",\"value\":\"y\"}",
-        Ok("null"),
-        "{\"b\":true,\"c\":\"y\",\"d\":[1]}",
-    ),
-    (
-        "sheet/red:a",
-        "{\"b\":true}",
-        "put",
-        "{\"name\":\"bb\",\"value\":-7}",
-        Ok("null"),
-        "{\"b\":true,\"bb\":-7}",
-    ),
-    (
-        "sheet/red:a",
-        "{\"b\":true}",
-        "get",
-        "{\"name\":\"b\"}",
-        Ok("true"),
-        "{\"b\":true}",
-    ),
-    (
-        "sheet/red:a",
-        "{\"b\":true}",
-        "get",
-        "{\"name\":\"c\"}",
-        Ok("null"),
-        "{\"b\":true}",
-    ),
-    (
-        "sheet/red:a",
-        "{\"b\":true}",
-        "list",
-        "null",
-        Ok("[\"b\"]"),
-        "{\"b\":true}",
-    ),
-    (
-        "sheet/red:a",
-        "{\"b\":true}",
-        "drop",
-        "{\"name\":\"b\"}",
-        Ok("true"),
-        "{}",
-    ),
-    (
-        "sheet/red:a",
-        "{\"b\":true}",
-        "drop",
-        "{\"name\":\"c\"}",
-        Ok("false"),
-        "{\"b\":true}",
-    ),
-    (
-        "relay/red:a",
-        "[]",
-        "join",
-        "{\"grain\":\"sheet/red:a\"}",
-        Ok("true"),
-        "[\"sheet/red:a\"]",
-    ),
-    (
-        "relay/red:a",
-        "[\"sheet/red:a\"]",
-        "join",
-        "{\"grain\":\"sheet/red:a\"}",
-        Ok("false"),
-        "[\"sheet/red:a\"]",
-    ),
-    (
-        "relay/red:a",
-        "[\"sheet/red:a\"]",
-        "leave",
-        "{\"grain\":\"sheet/red:a\"}",
-        Ok("true"),
-        "[]",
-    ),
-    (
-        "relay/red:a",
-        "[\"sheet/red:a\"]",
-        "leave",
-        "{\"grain\":\"sheet\"}",
-        Ok("false"),
-        "[\"sheet/red:a\"]",
-    ),
-    // A grain that stands twice, and a text that names none: no relay, so it counts as an empty one.
-    (
-        "relay/red:a",
-        "[\"sheet/red:b\",\"sheet/red:b\"]",
-        "join",
-        "{\"grain\":\"sheet/red:a\"}",
-        Ok("true"),
-        "[\"sheet/red:a\"]",
-    ),
-    (
-        "relay/red:a",
-        "[\"sheet/red:b\",\"sheet\"]",
-        "join",
-        "{\"grain\":\"sheet/red:a\"}",
-        Ok("true"),
-        "[\"sheet/red:a\"]",
-    ),
-    (
-        "counter/red:a",
-        "9223372036854775807",
-        "add",
-        "{\"by\":3}",
-        Err(MethodFault::OutOfRange),
-        "9223372036854775807",
-    ),
-    (
-        "counter/red:a",
-        "2",
-        "add",
-        "2",
-        Err(MethodFault::Misfit),
-        "2",
-    ),
-    (
-        "counter/red:a",
-        "2",
-        "put",
-        "{\"by\":3}",
-        Err(MethodFault::UnknownMethod),
-        "2",
-    ),
-    (
-        "relay/red:a",
-        "2",
-        "clear",
-        "2",
-        Err(MethodFault::Misfit),
-        "2",
-    ),
-    (
-        "relay/red:a",
-        "[]",
-        "join",
-        "{\"grain\":\"sheet\"}",
-        Err(MethodFault::Misfit),
-        "[]",
-    ),
-    (
-        "relay/red:a",
-        FOUR,
-        "join",
-        "{\"grain\":\"sheet/red:a\"}",
-        Err(MethodFault::OutOfRange),
-        FOUR,
-    ),
-];
+# Sheets of the field `a` with a text; a `put` makes them 8 bytes longer. Its fault, and how long the state is that it leaves.
+wide | sheet/red:a | 06 00000001 00000001 'a 04 0003ffe9 78*262121 | put | {"name":"bcd","value":null} | (None, 262144)
+wide | sheet/red:a | 06 00000001 00000001 'a 04 0003ffea 78*262122 | put | {"name":"bcd","value":null} | (Some(TooLarge), 262137)
+"#;
 
-/// Turn 7 of a grain, opened on this state.
-fn opened(
+/// A turn that sends as much as one may.
+static SENDING: &str =
+    "asked | relay/red:a | [\"counter/red:b\",\"counter/red:c\",\"counter/red:d\",\"counter/red:e\"] | send | {\"args\":5,\"method\":\"add\"} | relay/red:a;None;counter/red:b;add;counter/red:c;add;counter/red:d;add;counter/red:e;add";
+
+/// Turns that say that the activation rests or stays, and others beside them.
+static RESTING: &str = r#"
+# The answer or the fault, the state, which is kept, and what is said of the activation.
+turn | counter/red:a | 2 | rest | null | null;2;Rest
+turn | sheet/red:a | {"b":true} | rest | null | null;{"b":true};Rest
+turn | relay/red:a | 2 | rest | null | null;2;Rest
+turn | counter/red:a | 2 | stay | {"for":1} | null;2;Stay(1)
+turn | sheet/red:a | [1] | stay | {"for":50} | null;[1];Stay(50)
+turn | relay/red:a | [] | stay | {"for":86400000} | null;[];Stay(86400000)
+turn | counter/red:a | 2 | stay | {"for":0} | Misfit;2;Same
+turn | counter/red:a | 2 | stay | {"for":86400001} | Misfit;2;Same
+turn | counter/red:a | 2 | stay | {"for":-1} | Misfit;2;Same
+turn | counter/red:a | 2 | stay | {"for":"50"} | Misfit;2;Same
+turn | counter/red:a | 2 | stay | 50 | Misfit;2;Same
+turn | counter/red:a | 2 | rest | {} | Misfit;2;Same
+turn | counter/red:a | 2 | sleep | null | UnknownMethod;2;Same
+turn | lamp/red:a | 2 | rest | null | UnknownMethod;2;Same
+turn | counter/red:a | 2 | get | null | 2;2;Same
+turn | counter/red:a | 2 | save | null | null;2;Same
+turn | sheet/red:a | {"b":true} | put | {"name":"b","value":true} | null;{"b":true};Same
+"#;
+
+/// Plans of turns, in bytes of their own: the other state, the answer, and what is asked and sent.
+static PLANS: &str = r#"
+plan | sheet/red:a | {} | put | {"name":"b","value":true} | {"b":true};null;None;0
+plan | counter/red:a | 2 | get | null | none;2;None;0
+# The plan that a finished turn lends.
+lent plan | sheet/red:a | {} | put | {"name":"b","value":true} | {"b":true};null;None;0
+"#;
+
+/// What kinds are known, which of their methods only read, and which do no more than add a number or set a field.
+static KINDS: &str = r#"
+# A kind that is known, and whether the method only reads.
+reads | counter | get | (true, true)
+reads | sheet | get | (true, true)
+reads | sheet | list | (true, true)
+reads | relay | get | (true, false)
+reads | counter | list | (true, false)
+reads | counters | get | (false, false)
+
+# The empty state of a kind.
+empty | relay | 05 00000000 | true
+
+# A kind, a method, and what every turn of the method does, by both logics.
+shortcut | counter | add | (Adds("by"), Adds("by"))
+shortcut | counter | get | (None, None)
+shortcut | counter | put | (None, None)
+shortcut | counter | rest | (None, None)
+shortcut | sheet | put | (Sets("name", "value"), Sets("name", "value"))
+shortcut | sheet | add | (None, None)
+shortcut | sheet | drop | (None, None)
+shortcut | sheet | stay | (None, None)
+shortcut | relay | add | (None, None)
+shortcut | counters | add | (None, None)
+
+# What a message asks, if it is a number alone.
+asks | 02 00000003 'add 06 00000001 00000002 'by 03 0000000000000003 | Some(("add", "by", 3))
+asks | 02 00000003 'add 00 | None
+"#;
+
+/// Writes a state as JSON.
+fn put_state(alloc: Global, state: &StateBytes, out: &mut String) -> Result<(), Fail> {
+    let value = decode_state(alloc, state)?;
+    let json = to_json(alloc, &value);
+    drop(value);
+    let json = json?;
+    let text = json.to_string(alloc);
+    drop(json);
+    put(out, text?.as_str())
+}
+
+fn put_outcome(
     alloc: Global,
-    id: &str,
-    state: StateBytes,
-    method: &str,
-    args: &str,
-) -> Result<OpenedTurn, Fail> {
-    let message = message(alloc, method, args)?;
+    outcome: &Result<StateBytes, MethodFault>,
+    out: &mut String,
+) -> Result<(), Fail> {
+    match outcome {
+        Ok(answer) => put_state(alloc, answer, out),
+        Err(fault) => {
+            show(out, *fault)?;
+            put(out, "")
+        }
+    }
+}
+
+/// The state of a row, told by its bytes or as JSON.
+fn state_of(alloc: Global, call: &str, text: &str) -> Result<StateBytes, Fail> {
+    if call == "wide" {
+        return read_state(alloc, &spelled(alloc, text)?);
+    }
+    state(alloc, text)
+}
+
+/// Turn 7 of the grain of a row, opened on the row's state.
+fn opened(alloc: Global, call: &str, fields: &mut Fields<'_>) -> Result<OpenedTurn, Fail> {
+    let grain = grain(alloc, fields.text())?;
+    let state = state_of(alloc, call, fields.text())?;
+    let message = message(alloc, fields.text(), fields.text())?;
     Ok(OpenedTurn {
-        grain: grain(alloc, id)?,
+        grain,
         number: 7,
         reading: false,
         state,
@@ -217,10 +165,14 @@ fn opened(
     })
 }
 
-/// The turn, run by the logic of all kinds.
-fn finished(alloc: Global, opened: OpenedTurn) -> Result<FinishedTurn<Kinds>, Fail> {
+/// The turn, run by a logic.
+fn finished<L: GrainLogic>(
+    alloc: Global,
+    logic: &L,
+    opened: OpenedTurn,
+) -> Result<FinishedTurn<L>, Fail> {
     let bump = Bump::new(alloc);
-    match run_turn(alloc, &bump, &Kinds, opened) {
+    match run_turn(alloc, &bump, logic, opened) {
         Ok(finished) => Ok(finished),
         Err(back) => {
             drop(back);
@@ -229,158 +181,207 @@ fn finished(alloc: Global, opened: OpenedTurn) -> Result<FinishedTurn<Kinds>, Fa
     }
 }
 
-/// The turn of a method on a state of JSON, run.
-fn turn(
+/// What a turn comes to.
+fn put_turn<L: GrainLogic>(
     alloc: Global,
-    id: &str,
-    before: &str,
-    method: &str,
-    args: &str,
-) -> Result<FinishedTurn<Kinds>, Fail> {
-    let before = state(alloc, before)?;
-    finished(alloc, opened(alloc, id, before, method, args)?)
+    turn: &FinishedTurn<L>,
+    out: &mut String,
+) -> Result<(), Fail> {
+    put_outcome(alloc, turn.outcome(), out)?;
+    put_state(alloc, turn.state(), out)
 }
 
-/// Whether a turn has this answer or this fault.
-fn has_outcome(
+/// A turn is turn 7; its grain, and what it asks and sends.
+fn put_asked(turn: &FinishedTurn<Kinds>, out: &mut String) -> Result<(), Fail> {
+    same((turn.number(), turn.input().number), (7, 7))?;
+    let (grain, asked) = (turn.grain().text(), turn.store_call());
+    write!(out, "{grain};{asked:?}")?;
+    for (target, call) in turn.sends() {
+        let (target, method) = (target.text(), call.method());
+        write!(out, ";{target};{method}")?;
+    }
+    Ok(())
+}
+
+/// The fault of a turn, and how many bytes the state has that it leaves.
+fn put_length(turn: &FinishedTurn<Kinds>, out: &mut String) -> Result<(), Fail> {
+    let fault = match turn.outcome() {
+        Ok(_) => None,
+        Err(fault) => Some(*fault),
+    };
+    show(out, (fault, turn.state().bytes().len()))
+}
+
+fn put_parts(alloc: Global, plan: &OwnedPlan, out: &mut String) -> Result<(), Fail> {
+    match &plan.state {
+        Some(next) => put_state(alloc, next, out)?,
+        None => put(out, "none")?,
+    }
+    put_outcome(alloc, &plan.outcome, out)?;
+    let (store, sends) = (plan.store, plan.sends.len());
+    write!(out, "{store:?};{sends}")?;
+    Ok(())
+}
+
+fn put_plan(alloc: Global, plan: OwnedPlan, out: &mut String) -> Result<(), Fail> {
+    let told = put_parts(alloc, &plan, out);
+    drop(plan);
+    told
+}
+
+/// The plan of a turn.
+fn planned(alloc: Global, turn: &OpenedTurn) -> Result<OwnedPlan, AllocError> {
+    let bump = Bump::new(alloc);
+    plan_turn(
+        alloc,
+        &bump,
+        &Kinds,
+        &turn.grain,
+        &turn.state,
+        &turn.message,
+    )
+}
+
+/// What a turn is planned to come to.
+fn put_planned(
     alloc: Global,
+    turn: Result<OpenedTurn, Fail>,
+    out: &mut String,
+) -> Result<(), Fail> {
+    let turn = turn?;
+    let plan = planned(alloc, &turn);
+    drop(turn);
+    put_plan(alloc, plan?, out)
+}
+
+/// What a call asks of a turn that was run.
+fn put_finished(
+    alloc: Global,
+    call: &str,
     turn: &FinishedTurn<Kinds>,
-    wanted: Result<&str, MethodFault>,
-) -> Result<bool, Fail> {
-    match (turn.outcome(), wanted) {
-        (Ok(found), Ok(answer)) => Ok(*found == state(alloc, answer)?),
-        (Err(found), Err(fault)) => Ok(*found == fault),
-        _ => Ok(false),
+    out: &mut String,
+) -> Result<(), Fail> {
+    match call {
+        "turn" => put_turn(alloc, turn, out),
+        "wide" => put_length(turn, out),
+        "lent plan" => put_plan(alloc, turn.plan().clone()?, out),
+        _ => put_asked(turn, out),
     }
 }
 
-fn leaves(alloc: Global, turn: &FinishedTurn<Kinds>, after: &str) -> Result<bool, Fail> {
-    Ok(*turn.state() == state(alloc, after)?)
+/// The same of one that is yet to be run.
+fn put_run(
+    alloc: Global,
+    call: &str,
+    turn: Result<OpenedTurn, Fail>,
+    out: &mut String,
+) -> Result<(), Fail> {
+    put_finished(alloc, call, &finished(alloc, &Kinds, turn?)?, out)
 }
 
-/// A turn has the outcome of the row, and leaves its state.
-fn is_of_row(alloc: Global, turn: &FinishedTurn<Kinds>, row: &Row) -> Result<(), Fail> {
-    let found = has_outcome(alloc, turn, row.4)?;
-    same_at(row.3, (found, leaves(alloc, turn, row.5)?), (true, true))
+impl Subject for Kinds {
+    fn answer(
+        &mut self,
+        alloc: Global,
+        call: &str,
+        fields: &mut Fields<'_>,
+        out: &mut String,
+    ) -> Result<(), Fail> {
+        let turn = opened(alloc, call, fields);
+        if call == "plan" {
+            return put_planned(alloc, turn, out);
+        }
+        put_run(alloc, call, turn, out)
+    }
 }
 
 #[test]
 fn methods_answer_or_refuse(rt: HostRuntime) -> Result<(), Fail> {
-    for row in &ROWS {
-        let (id, before, method, args, _, _) = *row;
-        let turn = turn(rt.alloc(), id, before, method, args)?;
-        let found = is_of_row(rt.alloc(), &turn, row);
-        drop(turn);
-        found?;
-    }
-    Ok(())
-}
-
-/// A grain, its state, a method and its argument; what is asked of the storage, and what is sent.
-type Asked = (
-    &'static str,
-    &'static str,
-    &'static str,
-    &'static str,
-    StoreCall,
-    &'static str,
-);
-
-static ASKED: [Asked; 5] = [
-    ("counter/red:a", "2", "save", "null", StoreCall::Write, ""),
-    ("sheet/red:a", "2", "reload", "null", StoreCall::Read, ""),
-    ("relay/red:a", "2", "clear", "null", StoreCall::Clear, ""),
-    ("counter/red:a", "2", "get", "null", StoreCall::None, ""),
-    (
-        "relay/red:a",
-        FOUR,
-        "send",
-        "{\"args\":5,\"method\":\"add\"}",
-        StoreCall::None,
-        "counter/red:b add;counter/red:c add;counter/red:d add;counter/red:e add;",
-    ),
-];
-
-fn write_send(texts: &mut String, target: &str, method: &str) -> Result<(), Fail> {
-    write!(texts, "{target} {method};")?;
-    Ok(())
-}
-
-/// Each grain that is sent to, and the method.
-fn sent(alloc: Global, turn: &FinishedTurn<Kinds>) -> Result<String, Fail> {
-    let mut texts = String::new(alloc);
-    for (target, call) in turn.sends() {
-        write_send(&mut texts, target.text(), call.method())?;
-    }
-    Ok(texts)
-}
-
-/// A turn is turn 7 of the row's grain, and asks and sends what the row says.
-fn asks(alloc: Global, turn: &FinishedTurn<Kinds>, row: &Asked) -> Result<(), Fail> {
-    same((turn.number(), turn.input().number), (7, 7))?;
-    same((turn.grain().text(), turn.store_call()), (row.0, row.4))?;
-    same(sent(alloc, turn)?.as_str(), row.5)
+    hold(rt.alloc(), &mut Kinds, TURNS)?;
+    hold(rt.alloc(), &mut Kinds, SENDING)
 }
 
 #[test]
-fn methods_ask_the_storage_and_send(rt: HostRuntime) -> Result<(), Fail> {
-    for row in &ASKED {
-        let (id, before, method, args, _, _) = *row;
-        let turn = turn(rt.alloc(), id, before, method, args)?;
-        let found = asks(rt.alloc(), &turn, row);
+fn turns_are_planned(rt: HostRuntime) -> Result<(), Fail> {
+    hold(rt.alloc(), &mut Kinds, PLANS)
+}
+
+impl Subject for RestingKinds {
+    fn answer(
+        &mut self,
+        alloc: Global,
+        call: &str,
+        fields: &mut Fields<'_>,
+        out: &mut String,
+    ) -> Result<(), Fail> {
+        let turn = finished(alloc, self, opened(alloc, call, fields)?)?;
+        let told = put_turn(alloc, &turn, out);
+        let keep = turn.keep();
         drop(turn);
-        found?;
+        told?;
+        show(out, keep)
     }
-    Ok(())
-}
-
-/// Sheets of the field `a` with a text; the fault of a `put` that makes them 8 bytes longer, and how long the state is
-/// that it leaves.
-static WIDE: [(Parts, Option<MethodFault>, usize); 2] = [
-    (
-        &[
-            (b"\x06\0\0\0\x01\0\0\0\x01a\x04\0\x03\xff\xe9", 1),
-            (b"x", 262_121),
-        ],
-        None,
-        262_144,
-    ),
-    (
-        &[
-            (b"\x06\0\0\0\x01\0\0\0\x01a\x04\0\x03\xff\xea", 1),
-            (b"x", 262_122),
-        ],
-        Some(MethodFault::TooLarge),
-        262_137,
-    ),
-];
-
-/// The fault of a turn, and how many bytes the state has that it leaves.
-fn length_after(turn: &FinishedTurn<Kinds>) -> (Option<MethodFault>, usize) {
-    let length = turn.state().bytes().len();
-    match turn.outcome() {
-        Ok(_) => (None, length),
-        Err(fault) => (Some(*fault), length),
-    }
-}
-
-/// The same of the turn that puts a field of 8 bytes into a sheet.
-fn put(alloc: Global, sheet: Parts) -> Result<(Option<MethodFault>, usize), Fail> {
-    let sheet = read_state(alloc, &joined(alloc, sheet)?)?;
-    let args = "{\"name\":\"bcd\",\"value\":null}";
-    let opened = opened(alloc, "sheet/red:a", sheet, "put", args)?;
-    let turn = finished(alloc, opened)?;
-    let found = length_after(&turn);
-    drop(turn);
-    Ok(found)
 }
 
 #[test]
-fn a_sheet_has_262_144_bytes_at_most(rt: HostRuntime) -> Result<(), Fail> {
-    for (sheet, fault, length) in &WIDE {
-        same(put(rt.alloc(), *sheet)?, (*fault, *length))?;
+fn activations_rest_and_stay(rt: HostRuntime) -> Result<(), Fail> {
+    hold(rt.alloc(), &mut RestingKinds, RESTING)
+}
+
+/// What logics and messages say with no turn.
+#[derive(Clone, Copy)]
+struct Known;
+
+/// Whether the empty state of a kind has these bytes.
+fn begins_as(alloc: Global, kind: &str, bytes: &[u8]) -> Result<bool, Fail> {
+    if Kinds.knows(kind) {
+        return Ok(Kinds.empty(alloc, kind)?.bytes() == bytes);
     }
-    Ok(())
+    Err(Fail::from("the kind is unknown"))
+}
+
+/// The same of bytes that words spell.
+fn begins_as_spelled(alloc: Global, kind: &str, words: &str) -> Result<bool, Fail> {
+    begins_as(alloc, kind, &spelled(alloc, words)?)
+}
+
+/// Writes what a message asks, if it is a number alone.
+fn put_number_asked(alloc: Global, words: &str, out: &mut String) -> Result<(), Fail> {
+    let message = Message::read(alloc, &spelled(alloc, words)?)?;
+    show(out, number_asked(message.bytes()))
+}
+
+impl Subject for Known {
+    fn answer(
+        &mut self,
+        alloc: Global,
+        call: &str,
+        fields: &mut Fields<'_>,
+        out: &mut String,
+    ) -> Result<(), Fail> {
+        let first = fields.text();
+        let second = fields.text();
+        match call {
+            "reads" => show(out, (Kinds.knows(first), Kinds.is_read(first, second))),
+            "empty" => tell(out, begins_as_spelled(alloc, first, second)),
+            "asks" => put_number_asked(alloc, first, out),
+            _ => {
+                let alone = Kinds.shortcut(first, second);
+                show(out, (alone, RestingKinds.shortcut(first, second)))
+            }
+        }
+    }
+}
+
+#[test]
+fn three_kinds_are_known(rt: HostRuntime) -> Result<(), Fail> {
+    hold(rt.alloc(), &mut Known, KINDS)
+}
+
+#[test]
+fn each_version_has_its_number() -> Result<(), Fail> {
+    same((Kinds::number(), RestingKinds::number()), (1, 2))?;
+    same(NewestKinds::number(), newest())
 }
 
 /// The number of the turn that comes back, if memory is refused to its plan.
@@ -402,87 +403,7 @@ fn given_back(alloc: Global, opened: OpenedTurn) -> u64 {
 
 #[test]
 fn a_turn_comes_back_if_memory_is_refused(rt: HostRuntime) -> Result<(), Fail> {
-    let args = "{\"name\":\"b\",\"value\":true}";
-    let sheet = state(rt.alloc(), "{}")?;
-    let opened = opened(rt.alloc(), "sheet/red:a", sheet, "put", args)?;
+    let mut row = Fields::of("sheet/red:a | {} | put | {\"name\":\"b\",\"value\":true}");
+    let opened = opened(rt.alloc(), "turn", &mut row)?;
     same(given_back(rt.alloc(), opened), 7)
-}
-
-/// A logic knows this kind, whose empty state has these bytes.
-fn begins_as<L: GrainLogic>(
-    alloc: Global,
-    logic: &L,
-    kind: &str,
-    bytes: &[u8],
-) -> Result<(), Fail> {
-    if logic.knows(kind) {
-        return same(logic.empty(alloc, kind)?.bytes(), bytes);
-    }
-    Err(Fail::from("the kind is unknown"))
-}
-
-/// A kind, a method, whether the kind is known, and whether the method only reads.
-static READING: [(&str, &str, bool, bool); 6] = [
-    ("counter", "get", true, true),
-    ("sheet", "get", true, true),
-    ("sheet", "list", true, true),
-    ("relay", "get", true, false),
-    ("counter", "list", true, false),
-    ("counters", "get", false, false),
-];
-
-fn knows(kind: &str) -> bool {
-    Kinds.knows(kind)
-}
-
-fn is_read(kind: &str, method: &str) -> bool {
-    Kinds.is_read(kind, method)
-}
-
-#[test]
-fn three_kinds_are_known(rt: HostRuntime) -> Result<(), Fail> {
-    for (kind, method, known, reading) in &READING {
-        same_at(*kind, knows(*kind), *known)?;
-        same_at(*kind, is_read(*kind, *method), *reading)?;
-    }
-    begins_as(rt.alloc(), &Kinds, "relay", b"\x05\0\0\0\0")
-}
-
-/// A kind, a method, a name, and whether adding the number of that name is all that the method does.
-static ADDING: [(&str, &str, &str, bool); 6] = [
-    ("counter", "add", "by", true),
-    ("counter", "add", "to", false),
-    ("counter", "get", "by", false),
-    ("sheet", "add", "by", false),
-    ("relay", "add", "by", false),
-    ("counters", "add", "by", false),
-];
-
-#[test]
-fn add_of_a_counter_adds(rt: HostRuntime) -> Result<(), Fail> {
-    for (kind, method, name, adds) in &ADDING {
-        same_at(*kind, Kinds.adds(*kind, *method, *name), *adds)?;
-        same_at(*kind, RestingKinds.adds(*kind, *method, *name), *adds)?;
-    }
-    let message = Message::read(rt.alloc(), ADD)?;
-    same(number_asked(message.bytes()), Some(("add", "by", 3)))?;
-    let other = Message::read(rt.alloc(), b"\x02\0\0\0\x03add\0")?;
-    same(number_asked(other.bytes()), None)
-}
-
-/// What each fault of a method shows.
-static SHOWN: [(MethodFault, &str); 4] = [
-    (MethodFault::UnknownMethod, "method is unknown"),
-    (MethodFault::Misfit, "arguments do not fit"),
-    (MethodFault::OutOfRange, "result is out of range"),
-    (MethodFault::TooLarge, "state is too large"),
-];
-
-#[test]
-fn faults_of_methods_are_shown(rt: HostRuntime) -> Result<(), Fail> {
-    for (fault, text) in &SHOWN {
-        let shown = fault.to_string(rt.alloc())?;
-        same(shown.as_str(), *text)?;
-    }
-    Ok(())
 }

@@ -5,6 +5,8 @@ fn the_laws_are_stated() {
     grain_id::laws::reading_gives_back();
     request_codec::laws::one_spelling();
     request_codec::laws::no_prefix();
+    grain_logic::laws::lawful();
+    grain_logic::laws::counters_keep_same();
     grain_kinds::laws::lawful();
     grain_kinds::laws::kinds_keep_same();
     silo_event::laws::texts_are_visible();

@@ -7,8 +7,6 @@
 #[cfg(test)]
 mod ages;
 #[cfg(test)]
-mod arena;
-#[cfg(test)]
 mod codec;
 #[cfg(test)]
 mod collector;
@@ -23,7 +21,7 @@ mod fault_texts;
 #[cfg(test)]
 mod gate;
 #[cfg(test)]
-mod journal_lines;
+mod journal_texts;
 #[cfg(test)]
 mod journals;
 #[cfg(test)]
@@ -33,15 +31,9 @@ mod laws;
 #[cfg(test)]
 mod mailbox;
 #[cfg(test)]
-mod migrated_journals;
-#[cfg(test)]
 mod names;
 #[cfg(test)]
-mod plans;
-#[cfg(test)]
-mod resting;
-#[cfg(test)]
-mod spelled;
+mod rows;
 #[cfg(test)]
 mod storage;
 #[cfg(test)]

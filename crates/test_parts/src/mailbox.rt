@@ -1,31 +1,69 @@
 //! Requests that wait, turns that are open together or alone, and turns that end.
 
 use crate::compare::same;
+use crate::rows::{Fields, Subject, hold, tell};
 use crate::values::{caller, grain, message, state};
-use grain_id::GrainId;
+use grain_id::{Caller, GrainId};
 use request_codec::StateBytes;
 use silo_event::Party;
-use std::alloc::Global;
+use std::alloc::{AllocError, Global};
 use std::test::Fail;
 use turn_mailbox::{Mailbox, NoTurn, Request};
 
-/// A call of a mailbox.
-#[derive(Clone, Copy)]
-enum Call {
-    /// A request of that number, whose method only reads.
-    PushReader(u64),
-    PushWriter(u64),
-    /// Whether the request in front is from that client.
-    FrontIsFrom(&'static str),
-    Begin,
-    Finish(u64),
-    Opened(u64),
-    At(usize),
-    Len,
-    IsIdle,
-    MayBegin,
-    HasFrom(&'static str),
-}
+/// Calls of a mailbox for four. A request is told by its number, and 0 is for none; 1 is for yes.
+static CALLS: &str = "
+# Readers are open together, and no writer beside them.
+new | nothing
+push reader | 1 | 0
+push reader | 2 | 0
+push writer | 3 | 0
+begin | 1
+begin | 2
+begin | 0
+finish | 1 | 1
+may begin | 0
+finish | 2 | 2
+begin | 3
+
+# A writer is open alone, and ends once.
+new | nothing
+is idle | 1
+push writer | 3 | 0
+push reader | 4 | 0
+begin | 3
+begin | 0
+opened | 3 | 3
+finish | 3 | 3
+finish | 3 | 0
+opened | 3 | 0
+may begin | 1
+
+# A full mailbox gives the request back.
+new | nothing
+push writer | 1 | 0
+push reader | 2 | 0
+push writer | 3 | 0
+push reader | 4 | 0
+len | 4
+push reader | 5 | 5
+at | 3 | 4
+at | 4 | 0
+begin | 1
+push reader | 5 | 0
+is idle | 0
+
+# Requests are known by their client.
+new | nothing
+push writer | 1 | 0
+front is from | red/c1 | 1
+front is from | red/c2 | 0
+has from | red/c1 | 1
+has from | red/c2 | 0
+begin | 1
+has from | red/c1 | 1
+finish | 1 | 1
+has from | red/c1 | 0
+";
 
 /// A request of the client `red/c1`.
 fn request(alloc: Global, number: u64, reading: bool) -> Result<Request, Fail> {
@@ -46,14 +84,14 @@ fn number_of(request: Option<&Request>) -> u64 {
     }
 }
 
-/// 0 if a request of that number was taken, or else the number of the one that came back.
-fn pushed(alloc: Global, mailbox: &mut Mailbox, number: u64, reading: bool) -> Result<u64, Fail> {
-    match mailbox.push(request(alloc, number, reading)?) {
-        Ok(()) => Ok(0),
+/// 0 if a request was taken, or else the number of the one that came back.
+fn pushed(mailbox: &mut Mailbox, request: Request) -> u64 {
+    match mailbox.push(request) {
+        Ok(()) => 0,
         Err(back) => {
             let number = back.number;
             drop(back);
-            Ok(number)
+            number
         }
     }
 }
@@ -70,14 +108,6 @@ fn begun(mailbox: &mut Mailbox, grain: &GrainId, state: &StateBytes) -> Result<u
     }
 }
 
-fn begin(alloc: Global, mailbox: &mut Mailbox) -> Result<u64, Fail> {
-    let grain = grain(alloc, "counter/red:a")?;
-    let state = state(alloc, "3")?;
-    let number = begun(mailbox, &grain, &state);
-    drop(state);
-    number
-}
-
 /// The number of the turn that ends, or 0.
 fn finish(mailbox: &mut Mailbox, number: u64) -> u64 {
     match mailbox.finish(number) {
@@ -90,109 +120,97 @@ fn finish(mailbox: &mut Mailbox, number: u64) -> u64 {
     }
 }
 
-fn is_from(alloc: Global, request: Option<&Request>, client: &str) -> Result<u64, Fail> {
+fn is_from(request: Option<&Request>, client: &Caller) -> bool {
     match request {
-        Some(request) => Ok(request.is_from(&caller(alloc, client)?) as u64),
-        None => Ok(0),
+        Some(request) => request.is_from(client),
+        None => false,
     }
+}
+
+/// What the mailbox says of itself, as a number: a count, or 1 for yes.
+fn told(mailbox: &Mailbox, call: &str) -> u64 {
+    match call {
+        "len" => mailbox.len() as u64,
+        "is idle" => mailbox.is_idle() as u64,
+        _ => mailbox.may_begin() as u64,
+    }
+}
+
+/// 1 if it is so of a client.
+fn told_of(mailbox: &Mailbox, call: &str, client: &Caller) -> u64 {
+    if call == "has from" {
+        return mailbox.has_from(client) as u64;
+    }
+    is_from(mailbox.at(0), client) as u64
+}
+
+/// The number of the request that a call about a number or a place finds, or 0.
+fn found(mailbox: &mut Mailbox, call: &str, number: u64) -> u64 {
+    match call {
+        "finish" => finish(mailbox, number),
+        "opened" => number_of(mailbox.opened(number)),
+        _ => number_of(mailbox.at(number as usize)),
+    }
+}
+
+fn opened(alloc: Global, mailbox: &mut Mailbox) -> Result<u64, Fail> {
+    let grain = grain(alloc, "counter/red:a")?;
+    begun(mailbox, &grain, &state(alloc, "3")?)
+}
+
+fn requested(
+    alloc: Global,
+    mailbox: &mut Mailbox,
+    call: &str,
+    fields: &mut Fields<'_>,
+) -> Result<u64, Fail> {
+    let reading = call == "push reader";
+    Ok(pushed(mailbox, request(alloc, fields.number()?, reading)?))
+}
+
+fn asked(alloc: Global, mailbox: &Mailbox, call: &str, client: &str) -> Result<u64, Fail> {
+    Ok(told_of(mailbox, call, &caller(alloc, client)?))
 }
 
 /// What the mailbox answers, as a number: that of a request, a count, or 1 for yes.
-fn answer(alloc: Global, mailbox: &mut Mailbox, call: Call) -> Result<u64, Fail> {
+fn answer_of(
+    alloc: Global,
+    mailbox: &mut Mailbox,
+    call: &str,
+    fields: &mut Fields<'_>,
+) -> Result<u64, Fail> {
     match call {
-        Call::PushReader(number) => pushed(alloc, mailbox, number, true),
-        Call::PushWriter(number) => pushed(alloc, mailbox, number, false),
-        Call::FrontIsFrom(client) => is_from(alloc, mailbox.at(0), client),
-        Call::Begin => begin(alloc, mailbox),
-        Call::Finish(number) => Ok(finish(mailbox, number)),
-        Call::Opened(number) => Ok(number_of(mailbox.opened(number))),
-        Call::At(place) => Ok(number_of(mailbox.at(place))),
-        Call::Len => Ok(mailbox.len() as u64),
-        Call::IsIdle => Ok(mailbox.is_idle() as u64),
-        Call::MayBegin => Ok(mailbox.may_begin() as u64),
-        Call::HasFrom(client) => Ok(mailbox.has_from(&caller(alloc, client)?) as u64),
+        "push reader" | "push writer" => requested(alloc, mailbox, call, fields),
+        "front is from" | "has from" => asked(alloc, mailbox, call, fields.text()),
+        "finish" | "opened" | "at" => Ok(found(mailbox, call, fields.number()?)),
+        "begin" => opened(alloc, mailbox),
+        _ => Ok(told(mailbox, call)),
     }
 }
 
-/// Each call is answered so. A wrong answer is shown with its place.
-fn answers_each(alloc: Global, mailbox: &mut Mailbox, calls: &[(Call, u64)]) -> Result<(), Fail> {
-    for (place, (call, wanted)) in calls.iter().enumerate() {
-        let found = answer(alloc, mailbox, *call)?;
-        same((place, found), (place, *wanted))?;
-    }
+fn renew(alloc: Global, mailbox: &mut Mailbox) -> Result<(), Fail> {
+    *mailbox = Mailbox::new(alloc, 4)?;
     Ok(())
 }
 
-/// Makes the calls, of a mailbox for four.
-fn run(alloc: Global, calls: &[(Call, u64)]) -> Result<(), Fail> {
-    let mut mailbox = Mailbox::new(alloc, 4)?;
-    let answered = answers_each(alloc, &mut mailbox, calls);
-    drop(mailbox);
-    answered
+impl Subject for Mailbox {
+    fn answer(
+        &mut self,
+        alloc: Global,
+        call: &str,
+        fields: &mut Fields<'_>,
+        out: &mut String,
+    ) -> Result<(), Fail> {
+        if call == "new" {
+            return renew(alloc, self);
+        }
+        tell(out, answer_of(alloc, self, call, fields))
+    }
 }
-
-/// Readers are open together, and no writer beside them.
-static READERS_AND_A_WRITER: [(Call, u64); 10] = [
-    (Call::PushReader(1), 0),
-    (Call::PushReader(2), 0),
-    (Call::PushWriter(3), 0),
-    (Call::Begin, 1),
-    (Call::Begin, 2),
-    (Call::Begin, 0),
-    (Call::Finish(1), 1),
-    (Call::MayBegin, 0),
-    (Call::Finish(2), 2),
-    (Call::Begin, 3),
-];
-
-/// A writer is open alone, and ends once.
-static A_WRITER_ALONE: [(Call, u64); 10] = [
-    (Call::IsIdle, 1),
-    (Call::PushWriter(3), 0),
-    (Call::PushReader(4), 0),
-    (Call::Begin, 3),
-    (Call::Begin, 0),
-    (Call::Opened(3), 3),
-    (Call::Finish(3), 3),
-    (Call::Finish(3), 0),
-    (Call::Opened(3), 0),
-    (Call::MayBegin, 1),
-];
-
-/// A full mailbox gives the request back.
-static A_FULL_MAILBOX: [(Call, u64); 11] = [
-    (Call::PushWriter(1), 0),
-    (Call::PushReader(2), 0),
-    (Call::PushWriter(3), 0),
-    (Call::PushReader(4), 0),
-    (Call::Len, 4),
-    (Call::PushReader(5), 5),
-    (Call::At(3), 4),
-    (Call::At(4), 0),
-    (Call::Begin, 1),
-    (Call::PushReader(5), 0),
-    (Call::IsIdle, 0),
-];
-
-/// Requests are known by their client.
-static CLIENTS: [(Call, u64); 9] = [
-    (Call::PushWriter(1), 0),
-    (Call::FrontIsFrom("red/c1"), 1),
-    (Call::FrontIsFrom("red/c2"), 0),
-    (Call::HasFrom("red/c1"), 1),
-    (Call::HasFrom("red/c2"), 0),
-    (Call::Begin, 1),
-    (Call::HasFrom("red/c1"), 1),
-    (Call::Finish(1), 1),
-    (Call::HasFrom("red/c1"), 0),
-];
 
 #[test]
 fn requests_wait_and_turns_are_open(rt: HostRuntime) -> Result<(), Fail> {
-    run(rt.alloc(), &READERS_AND_A_WRITER)?;
-    run(rt.alloc(), &A_WRITER_ALONE)?;
-    run(rt.alloc(), &A_FULL_MAILBOX)?;
-    run(rt.alloc(), &CLIENTS)
+    hold(rt.alloc(), &mut Mailbox::new(rt.alloc(), 4)?, CALLS)
 }
 
 /// A request is the second one, a reader of `red/c1`.
@@ -207,14 +225,18 @@ fn is_second(alloc: Global, request: &Request) -> Result<(), Fail> {
     same(found, (2, true, true, "get"))
 }
 
+fn copied(request: Request) -> Result<Request, AllocError> {
+    let copy: Result<_, _> = request.clone();
+    drop(request);
+    copy
+}
+
 #[test]
 fn a_copy_of_a_request_is_the_same(rt: HostRuntime) -> Result<(), Fail> {
-    let request = request(rt.alloc(), 2, true)?;
-    let copy = request.clone()?;
-    drop(request);
-    let found = is_second(rt.alloc(), &copy);
+    let copy = copied(request(rt.alloc(), 2, true)?)?;
+    let told = is_second(rt.alloc(), &copy);
     drop(copy);
-    found
+    told
 }
 
 #[test]

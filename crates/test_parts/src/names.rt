@@ -1,6 +1,7 @@
 //! Names of kinds, tenants, clients and grains: their faults and lengths, as keys, names read before, and their hashes by a seed.
 
-use crate::compare::{same, same_at, same_copy};
+use crate::compare::{same, same_copy};
+use crate::rows::{Fields, Subject, hold, put, show, tell};
 use crate::values::{caller, grain, kind, tenant};
 use grain_id::{Caller, GrainId, HashSeed, IdFault, Kind, NameCache, Tenant};
 use std::alloc::{AllocError, Global};
@@ -8,203 +9,276 @@ use std::collections::{BTreeMap, BTreeSet, HashMap};
 use std::hash::{BuildHasher, Hash};
 use std::test::Fail;
 
-/// What a text is read as.
-#[derive(Clone, Copy)]
-enum Form {
-    Grain,
-    Caller,
-    Tenant,
-    Kind,
-}
-
 /// 32 bytes.
 const WORD: &str = "abcdefghijklmnopqrstuvwxyz-01234";
 
-const OF_KIND: Option<IdFault> = Some(IdFault::Kind);
-
-const OF_TENANT: Option<IdFault> = Some(IdFault::Tenant);
-
-const OF_NAME: Option<IdFault> = Some(IdFault::Name);
-
-const OF_CLIENT: Option<IdFault> = Some(IdFault::Client);
-
-/// Texts in which each `@` stands for `WORD`, and their faults.
-static FAULTS: [(Form, &str, Option<IdFault>); 44] = [
-    (Form::Grain, "counter/red:a/b:c", None),
-    (Form::Grain, "", OF_KIND),
-    (Form::Grain, "counter", OF_KIND),
-    (Form::Grain, "counter:a", OF_KIND),
-    (Form::Grain, "/red:a", OF_KIND),
-    (Form::Grain, "Counter/Red:", OF_KIND),
-    (Form::Grain, "coun:ter/red:a", OF_KIND),
-    (Form::Grain, "counter/red", OF_TENANT),
-    (Form::Grain, "counter/:a", OF_TENANT),
-    (Form::Grain, "counter/Red:", OF_TENANT),
-    (Form::Grain, "counter/red/x:a", OF_TENANT),
-    (Form::Grain, "counter/red:", OF_NAME),
-    (Form::Grain, "counter/red:a b", OF_NAME),
-    (Form::Grain, "counter/red:é", OF_NAME),
-    (Form::Grain, "counter/red:\x7f", OF_NAME),
-    // The greatest lengths, and one byte more.
-    (Form::Grain, "@/@:@@@@", None),
-    (Form::Grain, "@5/red:a", OF_KIND),
-    (Form::Grain, "counter/@5:a", OF_TENANT),
-    (Form::Grain, "counter/red:@@@@5", OF_NAME),
-    (Form::Caller, "red/c1", None),
-    (Form::Caller, "", OF_TENANT),
-    (Form::Caller, "red", OF_TENANT),
-    (Form::Caller, "/c1", OF_TENANT),
-    (Form::Caller, "Red/C1", OF_TENANT),
-    (Form::Caller, "red/", OF_CLIENT),
-    (Form::Caller, "red/C1", OF_CLIENT),
-    (Form::Caller, "red/c1/x", OF_CLIENT),
-    (Form::Caller, "@/@", None),
-    (Form::Caller, "@5/c1", OF_TENANT),
-    (Form::Caller, "red/@5", OF_CLIENT),
-    (Form::Tenant, "red-2", None),
-    (Form::Tenant, "", OF_TENANT),
-    (Form::Tenant, "2red", OF_TENANT),
-    (Form::Tenant, "-red", OF_TENANT),
-    (Form::Tenant, "Red", OF_TENANT),
-    (Form::Tenant, "red_2", OF_TENANT),
-    (Form::Tenant, "réd", OF_TENANT),
-    (Form::Kind, "counter", None),
-    (Form::Kind, "", OF_KIND),
-    (Form::Kind, "2red", OF_KIND),
-    (Form::Kind, "-red", OF_KIND),
-    (Form::Kind, "Red", OF_KIND),
-    (Form::Kind, "red_2", OF_KIND),
-    (Form::Kind, "red ", OF_KIND),
-];
-
-/// The text of a row.
-fn spelled_out(alloc: Global, row: &str) -> Result<String, Fail> {
-    Ok(row.replace(alloc, "@", WORD)?)
+/// Calls about names that stand alone, and a map of grains.
+#[derive(Drop)]
+struct Names {
+    places: BTreeMap<GrainId, u64>,
 }
 
-fn fault_of(alloc: Global, form: Form, text: &str) -> Option<IdFault> {
+/// What a text in which each `@` stands for `WORD` is read as, and its fault; the parts of a grain and of a caller; whether one
+/// of two names is below the other, and whether a hashed map that has one finds the other; the hash of a grain.
+static NAMES: &str = "
+# Texts, and their faults.
+grain | counter/red:a/b:c | None
+grain |  | Some(Kind)
+grain | counter | Some(Kind)
+grain | counter:a | Some(Kind)
+grain | /red:a | Some(Kind)
+grain | Counter/Red: | Some(Kind)
+grain | coun:ter/red:a | Some(Kind)
+grain | counter/red | Some(Tenant)
+grain | counter/:a | Some(Tenant)
+grain | counter/Red: | Some(Tenant)
+grain | counter/red/x:a | Some(Tenant)
+grain | counter/red: | Some(Name)
+grain | counter/red:a b | Some(Name)
+grain | counter/red:é | Some(Name)
+grain | counter/red:\x7f | Some(Name)
+# The greatest lengths, and one byte more.
+grain | @/@:@@@@ | None
+grain | @5/red:a | Some(Kind)
+grain | counter/@5:a | Some(Tenant)
+grain | counter/red:@@@@5 | Some(Name)
+caller | red/c1 | None
+caller |  | Some(Tenant)
+caller | red | Some(Tenant)
+caller | /c1 | Some(Tenant)
+caller | Red/C1 | Some(Tenant)
+caller | red/ | Some(Client)
+caller | red/C1 | Some(Client)
+caller | red/c1/x | Some(Client)
+caller | @/@ | None
+caller | @5/c1 | Some(Tenant)
+caller | red/@5 | Some(Client)
+tenant | red-2 | None
+tenant |  | Some(Tenant)
+tenant | 2red | Some(Tenant)
+tenant | -red | Some(Tenant)
+tenant | Red | Some(Tenant)
+tenant | red_2 | Some(Tenant)
+tenant | réd | Some(Tenant)
+kind | counter | None
+kind |  | Some(Kind)
+kind | 2red | Some(Kind)
+kind | -red | Some(Kind)
+kind | Red | Some(Kind)
+kind | red_2 | Some(Kind)
+kind | red  | Some(Kind)
+
+# The parts of a grain, and those that are made of it.
+parts | counter/red:a/b:c | counter;red;a/b:c;counter/red:a/b:c;counter;red;
+client | red/c1 | red/c1;red;c1;red;
+
+# Whether the first is below the second, and whether a hashed map that has the first finds the second.
+grains | counter/red:b | counter/red:b | (false, true)
+grains | counter/red:b | counter/red-2:a | (true, false)
+callers | red/c1 | red/c1 | (false, true)
+callers | red/z | red-2/a | (true, false)
+tenants | red | red | (false, true)
+tenants | red | red-2 | (true, false)
+kinds | sheet | sheet | (false, true)
+kinds | sheet | relay | (false, false)
+
+# The hashes were computed by another program.
+hash | fixed | counter/red:a | 6341382374643041536
+hash | seven | counter/red:a | 17233714272596419755
+
+# As keys of an ordered map each part decides before the next, whatever the texts as wholes say.
+place | counter/red2:a | 4 | None
+place | sheet/blue:a | 5 | None
+place | counter/red:b | 2 | None
+place | counter/red-2:a | 3 | None
+place | counter/red:a | 1 | None
+places | 12345
+
+# By the fixed seed a thousand names have one hash, by another they have as many as they are.
+hashes | fixed | 1
+hashes | seven | 1000
+";
+
+fn fault_of(alloc: Global, form: &str, text: &str) -> Option<IdFault> {
     match form {
-        Form::Grain => GrainId::read(alloc, text).err(),
-        Form::Caller => Caller::read(alloc, text).err(),
-        Form::Tenant => Tenant::read(alloc, text).err(),
-        Form::Kind => Kind::read(alloc, text).err(),
+        "grain" => GrainId::read(alloc, text).err(),
+        "caller" => Caller::read(alloc, text).err(),
+        "tenant" => Tenant::read(alloc, text).err(),
+        _ => Kind::read(alloc, text).err(),
     }
 }
 
-#[test]
-fn texts_are_read_or_their_faults_told(rt: HostRuntime) -> Result<(), Fail> {
-    for (form, row, wanted) in &FAULTS {
-        let text = spelled_out(rt.alloc(), *row)?;
-        same_at(&text, fault_of(rt.alloc(), *form, &text), *wanted)?;
-    }
-    Ok(())
+fn put_own(grain: &GrainId, out: &mut String) -> Result<(), Fail> {
+    put(out, grain.kind())?;
+    put(out, grain.tenant())?;
+    put(out, grain.name())?;
+    put(out, grain.text())
 }
 
-/// The grain is `counter/red:a/b:c`.
-fn is_grain(alloc: Global, grain: &GrainId) -> Result<(), Fail> {
-    let parts = (grain.kind(), grain.tenant(), grain.name());
-    same(parts, ("counter", "red", "a/b:c"))?;
-    let kind = grain.to_kind(alloc)?;
-    let tenant = grain.to_tenant(alloc)?;
-    let texts = (grain.text(), kind.text(), tenant.text());
-    same(texts, ("counter/red:a/b:c", "counter", "red"))
+fn put_made(alloc: Global, grain: &GrainId, out: &mut String) -> Result<(), Fail> {
+    put(out, grain.to_kind(alloc)?.text())?;
+    put(out, grain.to_tenant(alloc)?.text())
 }
 
-/// The caller is `red/c1`.
-fn is_caller(alloc: Global, caller: &Caller) -> Result<(), Fail> {
-    let parts = (caller.text(), caller.tenant(), caller.client());
-    same(parts, ("red/c1", "red", "c1"))?;
-    same(caller.to_tenant(alloc)?.text(), "red")
+/// Writes the parts of a grain, and those that are made of it.
+fn put_parts(alloc: Global, grain: Result<GrainId, Fail>, out: &mut String) -> Result<(), Fail> {
+    let grain = grain?;
+    put_own(&grain, out)?;
+    put_made(alloc, &grain, out)
 }
 
-#[test]
-fn parts_of_grains_and_callers(rt: HostRuntime) -> Result<(), Fail> {
-    is_grain(rt.alloc(), &grain(rt.alloc(), "counter/red:a/b:c")?)?;
-    is_caller(rt.alloc(), &caller(rt.alloc(), "red/c1")?)
+fn put_client(alloc: Global, caller: Result<Caller, Fail>, out: &mut String) -> Result<(), Fail> {
+    let caller = caller?;
+    let (text, tenant, client) = (caller.text(), caller.tenant(), caller.client());
+    write!(out, "{text};{tenant};{client};")?;
+    put(out, caller.to_tenant(alloc)?.text())
 }
 
-/// Grains, each with its place among them.
-static PLACES: [(&str, u8); 5] = [
-    ("counter/red2:a", 4),
-    ("sheet/blue:a", 5),
-    ("counter/red:b", 2),
-    ("counter/red-2:a", 3),
-    ("counter/red:a", 1),
-];
-
-fn places(alloc: Global) -> Result<BTreeMap<GrainId, u8>, Fail> {
-    let mut places = BTreeMap::new(alloc);
-    for (text, place) in &PLACES {
-        places.insert(grain(alloc, *text)?, *place)?;
-    }
-    Ok(places)
-}
-
-/// How many places there are, if each is above the one before it, and else 0.
-fn ascending(places: &BTreeMap<GrainId, u8>) -> usize {
-    let mut last = 0;
-    for place in places.values() {
-        if *place <= last {
-            return 0;
-        }
-        last = *place;
-    }
-    places.len()
-}
-
-/// Each part decides before the next, whatever the texts as wholes say.
-#[test]
-fn keys_of_an_ordered_map(rt: HostRuntime) -> Result<(), Fail> {
-    same(ascending(&places(rt.alloc())?), 5)
+/// Whether a hashed map that has one finds the other.
+fn finds<K: Eq + Hash + Drop>(alloc: Global, one: K, other: &K) -> Result<bool, Fail> {
+    let mut map = HashMap::new(alloc);
+    map.insert(one, 1)?;
+    Ok(map.get(other).is_some())
 }
 
 /// Whether one is below the other, and whether a hashed map that has one finds the other. Fails if a copy of one isn't equal.
 fn compared<K: Ord + Hash + Clone + Drop>(
     alloc: Global,
     one: K,
-    other: K,
+    other: Result<K, Fail>,
 ) -> Result<(bool, bool), Fail> {
+    let other = other?;
     same_copy(&one)?;
     let is_less = one < other;
-    let mut map = HashMap::new(alloc);
-    map.insert(one, 1)?;
-    Ok((is_less, map.get(&other).is_some()))
+    let found = finds(alloc, one, &other);
+    drop(other);
+    Ok((is_less, found?))
 }
 
 /// The same of two texts of a form.
-fn compared_as(alloc: Global, form: Form, one: &str, other: &str) -> Result<(bool, bool), Fail> {
+fn compared_as(alloc: Global, form: &str, one: &str, other: &str) -> Result<(bool, bool), Fail> {
     match form {
-        Form::Grain => compared(alloc, grain(alloc, one)?, grain(alloc, other)?),
-        Form::Caller => compared(alloc, caller(alloc, one)?, caller(alloc, other)?),
-        Form::Tenant => compared(alloc, tenant(alloc, one)?, tenant(alloc, other)?),
-        Form::Kind => compared(alloc, kind(alloc, one)?, kind(alloc, other)?),
+        "grains" => compared(alloc, grain(alloc, one)?, grain(alloc, other)),
+        "callers" => compared(alloc, caller(alloc, one)?, caller(alloc, other)),
+        "tenants" => compared(alloc, tenant(alloc, one)?, tenant(alloc, other)),
+        _ => compared(alloc, kind(alloc, one)?, kind(alloc, other)),
     }
 }
 
-/// Two texts of a form, and what comes of comparing them.
-static COMPARED: [(Form, &str, &str, (bool, bool)); 8] = [
-    (Form::Grain, "counter/red:b", "counter/red:b", (false, true)),
-    (
-        Form::Grain,
-        "counter/red:b",
-        "counter/red-2:a",
-        (true, false),
-    ),
-    (Form::Caller, "red/c1", "red/c1", (false, true)),
-    (Form::Caller, "red/z", "red-2/a", (true, false)),
-    (Form::Tenant, "red", "red", (false, true)),
-    (Form::Tenant, "red", "red-2", (true, false)),
-    (Form::Kind, "sheet", "sheet", (false, true)),
-    (Form::Kind, "sheet", "relay", (false, false)),
-];
+fn seed_of(word: &str) -> HashSeed {
+    match word {
+        "fixed" => HashSeed::fixed(),
+        _ => HashSeed::new(7),
+    }
+}
 
-#[test]
-fn copies_orders_and_keys_of_a_hashed_map(rt: HostRuntime) -> Result<(), Fail> {
-    for (form, one, other, wanted) in &COMPARED {
-        let found = compared_as(rt.alloc(), *form, *one, *other)?;
-        same_at(*one, found, *wanted)?;
+/// The hash of a grain, by a seed.
+fn hashed(alloc: Global, seed: HashSeed, text: &str) -> Result<u64, Fail> {
+    let grain = grain(alloc, text)?;
+    Ok(seed.hash_one(&grain))
+}
+
+/// The text of a grain, by number. By the fixed seed all of these have one hash: the eight bytes before the number are what the
+/// sixteen before them lead to, so that a product is 0.
+fn of_one_hash(alloc: Global, number: u32) -> Result<String, AllocError> {
+    format!(in alloc; "counter/red:nfnb0vHDf,J7{number:08}0123456789abcdef")
+}
+
+fn add_hash(
+    alloc: Global,
+    found: &mut BTreeSet<u64>,
+    seed: HashSeed,
+    number: u32,
+) -> Result<(), Fail> {
+    let text = of_one_hash(alloc, number)?;
+    found.insert(hashed(alloc, seed, &text)?)?;
+    Ok(())
+}
+
+/// How many hashes a thousand such grains have.
+fn hashes_of_a_thousand(alloc: Global, seed: HashSeed) -> Result<usize, Fail> {
+    let mut found = BTreeSet::new(alloc);
+    for number in 0..1000 {
+        add_hash(alloc, &mut found, seed, number)?;
+    }
+    Ok(found.len())
+}
+
+/// Writes the places, in the order of their grains.
+fn put_places(places: &BTreeMap<GrainId, u64>, out: &mut String) -> Result<(), Fail> {
+    for place in places.values() {
+        show(out, *place)?;
     }
     Ok(())
+}
+
+/// The fault of a text in which each `@` stands for `WORD`.
+fn fault_of_text(alloc: Global, form: &str, text: &str) -> Result<Option<IdFault>, Fail> {
+    let whole = text.replace(alloc, "@", WORD)?;
+    Ok(fault_of(alloc, form, &whole))
+}
+
+/// What is told of a text by itself.
+fn put_of_text(alloc: Global, call: &str, text: &str, out: &mut String) -> Result<(), Fail> {
+    match call {
+        "parts" => put_parts(alloc, grain(alloc, text), out),
+        "client" => put_client(alloc, caller(alloc, text), out),
+        "hashes" => tell(out, hashes_of_a_thousand(alloc, seed_of(text))),
+        _ => tell(out, fault_of_text(alloc, call, text)),
+    }
+}
+
+/// What is told of two texts.
+fn put_of_two(
+    alloc: Global,
+    call: &str,
+    one: &str,
+    other: &str,
+    out: &mut String,
+) -> Result<(), Fail> {
+    if call == "hash" {
+        return tell(out, hashed(alloc, seed_of(one), other));
+    }
+    tell(out, compared_as(alloc, call, one, other))
+}
+
+/// Places a grain: which place it had.
+fn placed(
+    alloc: Global,
+    places: &mut BTreeMap<GrainId, u64>,
+    text: &str,
+    fields: &mut Fields<'_>,
+) -> Result<Option<u64>, Fail> {
+    let place = fields.number()?;
+    Ok(places.insert(grain(alloc, text)?, place)?)
+}
+
+impl Subject for Names {
+    fn answer(
+        &mut self,
+        alloc: Global,
+        call: &str,
+        fields: &mut Fields<'_>,
+        out: &mut String,
+    ) -> Result<(), Fail> {
+        let first = fields.text();
+        match call {
+            "hash" | "grains" | "callers" | "tenants" | "kinds" => {
+                put_of_two(alloc, call, first, fields.text(), out)
+            }
+            "place" => tell(out, placed(alloc, &mut self.places, first, fields)),
+            "places" => put_places(&self.places, out),
+            _ => put_of_text(alloc, call, first, out),
+        }
+    }
+}
+
+#[test]
+fn names_are_read_compared_and_hashed(rt: HostRuntime) -> Result<(), Fail> {
+    let mut names = Names {
+        places: BTreeMap::new(rt.alloc()),
+    };
+    hold(rt.alloc(), &mut names, NAMES)
 }
 
 /// The text of a grain, by number.
@@ -214,22 +288,27 @@ fn numbered(alloc: Global, number: u32) -> Result<String, AllocError> {
 
 /// Reads a grain, which is to have this text.
 fn reads(names: &mut NameCache, alloc: Global, text: &str) -> Result<(), Fail> {
-    same(names.read_grain(alloc, text)?.text(), text)
+    same(names.read_grain(alloc, text)?.text() == text, true)
+}
+
+/// Reads the grain of a number twice.
+fn reads_twice(names: &mut NameCache, alloc: Global, number: u32) -> Result<(), Fail> {
+    let text = numbered(alloc, number)?;
+    reads(names, alloc, &text)?;
+    reads(names, alloc, &text)
 }
 
 /// Reads many grains, each twice.
 fn reads_many(names: &mut NameCache, alloc: Global) -> Result<(), Fail> {
     for number in 0..20_000 {
-        let text = numbered(alloc, number)?;
-        reads(names, alloc, &text)?;
-        reads(names, alloc, &text)?;
+        reads_twice(names, alloc, number)?;
     }
     Ok(())
 }
 
 /// Reads a client, which is to be `c1`.
 fn reads_client(names: &mut NameCache, alloc: Global) -> Result<(), Fail> {
-    same(names.read_caller(alloc, "red/c1")?.client(), "c1")
+    same(names.read_caller(alloc, "red/c1")?.client() == "c1", true)
 }
 
 /// More names are read than are kept, so that some take the place of others.
@@ -239,45 +318,4 @@ fn names_read_lately(rt: HostRuntime) -> Result<(), Fail> {
     reads_many(&mut names, rt.alloc())?;
     reads_client(&mut names, rt.alloc())?;
     reads_client(&mut names, rt.alloc())
-}
-
-/// The hash of a grain, by a seed.
-fn hashed(alloc: Global, seed: HashSeed, text: &str) -> Result<u64, Fail> {
-    let grain = grain(alloc, text)?;
-    Ok(seed.hash_one(&grain))
-}
-
-/// The hashes were computed by another program.
-#[test]
-fn hashes_by_a_seed(rt: HostRuntime) -> Result<(), Fail> {
-    same(
-        hashed(rt.alloc(), HashSeed::fixed(), "counter/red:a")?,
-        6_341_382_374_643_041_536,
-    )?;
-    same(
-        hashed(rt.alloc(), HashSeed::new(7), "counter/red:a")?,
-        17_233_714_272_596_419_755,
-    )
-}
-
-/// The text of a grain, by number. By the fixed seed all of these have one hash: the eight bytes before the number are what the
-/// sixteen before them lead to, so that a product is 0.
-fn of_one_hash(alloc: Global, number: u32) -> Result<String, AllocError> {
-    format!(in alloc; "counter/red:nfnb0vHDf,J7{number:08}0123456789abcdef")
-}
-
-/// How many hashes a thousand such grains have.
-fn hashes_of_a_thousand(alloc: Global, seed: HashSeed) -> Result<usize, Fail> {
-    let mut found = BTreeSet::new(alloc);
-    for number in 0..1000 {
-        let text = of_one_hash(alloc, number)?;
-        found.insert(hashed(alloc, seed, &text)?)?;
-    }
-    Ok(found.len())
-}
-
-#[test]
-fn grains_of_one_hash_have_others_by_another_seed(rt: HostRuntime) -> Result<(), Fail> {
-    same(hashes_of_a_thousand(rt.alloc(), HashSeed::fixed())?, 1)?;
-    same(hashes_of_a_thousand(rt.alloc(), HashSeed::new(7))?, 1000)
 }

@@ -1,6 +1,7 @@
 //! The versions of a row through writes, clearings and pokes, and the call that a fused storage fails.
 
 use crate::compare::{same, same_copy};
+use crate::rows::{Fields, Subject, hold, put, show, tell};
 use crate::values::grain;
 use grain_id::{GrainId, HashSeed};
 use grain_storage::{FusedStorage, GrainStorage, MemoryStorage, Row, StoreFault};
@@ -8,44 +9,97 @@ use request_codec::{CodecFault, StateBytes};
 use std::alloc::Global;
 use std::test::Fail;
 
-/// A call about the row of one grain, with the version that it expects and the number that it writes.
-#[derive(Clone, Copy)]
-enum Call {
-    /// The row's version.
-    Version,
-    /// The number that the row has.
-    Number,
-    Write(Option<u64>, u8),
-    Clear(Option<u64>),
-    Poke(u8),
-    /// How many calls failed.
-    Failures,
-}
+/// Each write, clearing and poke gives the next version, if it expects the one that is there; the rows of several grains are
+/// kept apart, and listed in order.
+static VERSIONS: &str = "
+version | counter/red:a | Ok(None)
+write | counter/red:a | None | 3 | Ok(Some(1))
+number | counter/red:a | Ok(Some(3))
+clear | counter/red:a | 1 | Ok(Some(2))
+number | counter/red:a | Ok(None)
+write | counter/red:a | 2 | 4 | Ok(Some(3))
+number | counter/red:a | Ok(Some(4))
+poke | counter/red:a | 5 | Ok(Some(4))
+write | counter/red:a | None | 6 | Err(Stale(Some(4)))
+number | counter/red:a | Ok(Some(5))
+failures | 0
+poke | sheet/red:s | 1 | Ok(Some(1))
+poke | counter/red:b | 1 | Ok(Some(1))
+poke | counter/blue:z | 1 | Ok(Some(1))
+list | counter/blue:z;counter/red:a;counter/red:b;sheet/red:s;
+";
+
+/// A row of the last version is neither written, cleared nor poked.
+static LAST_VERSION: &str = "
+write | counter/red:a | 18446744073709551615 | 4 | Err(Spent)
+poke | counter/red:a | 5 | Err(Spent)
+clear | counter/red:a | 18446744073709551615 | Err(Spent)
+clear | counter/red:a | None | Err(Stale(Some(18446744073709551615)))
+version | counter/red:a | Ok(Some(18446744073709551615))
+number | counter/red:a | Ok(Some(3))
+";
+
+/// The first call fails, the second and so on.
+static FUSED: [(u64, &str); 5] = [
+    (
+        1,
+        "
+failures | 0
+version | counter/red:a | Err(Failed)
+failures | 1
+version | counter/red:a | Ok(None)
+write | counter/red:a | None | 3 | Ok(Some(1))
+",
+    ),
+    (
+        2,
+        "
+version | counter/red:a | Ok(None)
+write | counter/red:a | None | 3 | Err(Failed)
+clear | counter/red:a | None | Ok(None)
+write | counter/red:a | None | 4 | Ok(Some(1))
+failures | 1
+",
+    ),
+    (
+        3,
+        "
+version | counter/red:a | Ok(None)
+write | counter/red:a | None | 3 | Ok(Some(1))
+clear | counter/red:a | 1 | Err(Failed)
+write | counter/red:a | 1 | 4 | Ok(Some(2))
+failures | 1
+",
+    ),
+    (
+        4,
+        "
+version | counter/red:a | Ok(None)
+write | counter/red:a | None | 3 | Ok(Some(1))
+clear | counter/red:a | 1 | Ok(Some(2))
+poke | counter/red:a | 4 | Err(Failed)
+version | counter/red:a | Ok(Some(2))
+failures | 1
+",
+    ),
+    (
+        5,
+        "
+version | counter/red:a | Ok(None)
+write | counter/red:a | None | 3 | Ok(Some(1))
+clear | counter/red:a | 1 | Ok(Some(2))
+write | counter/red:a | 2 | 4 | Ok(Some(3))
+failures | 0
+",
+    ),
+];
 
 /// A version, a number or none.
 type Answer = Result<Option<u64>, StoreFault>;
 
-const FAILED: Answer = Err(StoreFault::Failed);
-
-const SPENT: Answer = Err(StoreFault::Spent);
-
-const LAST: u64 = 18_446_744_073_709_551_615;
-
 /// The state that spells a whole number.
 fn number(alloc: Global, value: u8) -> Result<StateBytes, CodecFault> {
     StateBytes::read(alloc, &[3, 0, 0, 0, 0, 0, 0, 0, value])
-}
-
-fn version_of(read: Result<Option<Row>, StoreFault>) -> Answer {
-    match read {
-        Ok(Some(row)) => {
-            let version = row.version;
-            drop(row);
-            Ok(Some(version))
-        }
-        Ok(None) => Ok(None),
-        Err(fault) => Err(fault),
-    }
 }
 
 /// The last byte of a row's content.
@@ -59,12 +113,17 @@ fn number_in(row: &Row) -> Option<u64> {
     }
 }
 
-fn number_of(read: Result<Option<Row>, StoreFault>) -> Answer {
+/// The version or the number of a row that was read.
+fn part_of(read: Result<Option<Row>, StoreFault>, call: &str) -> Answer {
     match read {
         Ok(Some(row)) => {
-            let number = number_in(&row);
+            let part = if call == "version" {
+                Some(row.version)
+            } else {
+                number_in(&row)
+            };
             drop(row);
-            Ok(number)
+            Ok(part)
         }
         Ok(None) => Ok(None),
         Err(fault) => Err(fault),
@@ -78,106 +137,102 @@ fn version(written: Result<u64, StoreFault>) -> Answer {
     }
 }
 
-/// What a storage answers.
-fn answer<S: GrainStorage>(
-    alloc: Global,
-    storage: &mut S,
-    grain: &GrainId,
-    call: Call,
-) -> Result<Answer, Fail> {
-    match call {
-        Call::Version => Ok(version_of(storage.read(alloc, grain))),
-        Call::Number => Ok(number_of(storage.read(alloc, grain))),
-        Call::Write(expected, value) => {
-            let content = number(alloc, value)?;
-            Ok(version(storage.write(alloc, grain, expected, content)))
-        }
-        Call::Clear(expected) => Ok(storage.clear(alloc, grain, expected)),
-        Call::Poke(value) => {
-            let content = number(alloc, value)?;
-            Ok(version(storage.poke(alloc, grain, content)))
-        }
-        Call::Failures => Ok(Ok(Some(storage.failures()))),
+/// The version that a call expects.
+fn expected(fields: &mut Fields<'_>) -> Result<Option<u64>, Fail> {
+    match fields.text() {
+        "None" => Ok(None),
+        version => Ok(Some(version.parse()?)),
     }
 }
 
-/// Each call is answered so. A wrong answer is shown with its place.
-fn answers_each<S: GrainStorage>(
+fn written<S: GrainStorage>(
     alloc: Global,
     storage: &mut S,
     grain: &GrainId,
-    calls: &[(Call, Answer)],
-) -> Result<(), Fail> {
-    for (place, (call, wanted)) in calls.iter().enumerate() {
-        let found = answer(alloc, storage, grain, *call)?;
-        same((place, found), (place, *wanted))?;
+    fields: &mut Fields<'_>,
+) -> Result<Answer, Fail> {
+    let expected = expected(fields)?;
+    let content = number(alloc, fields.text().parse()?)?;
+    Ok(version(storage.write(alloc, grain, expected, content)))
+}
+
+fn poked<S: GrainStorage>(
+    alloc: Global,
+    storage: &mut S,
+    grain: &GrainId,
+    value: &str,
+) -> Result<Answer, Fail> {
+    let content = number(alloc, value.parse()?)?;
+    Ok(version(storage.poke(alloc, grain, content)))
+}
+
+/// What a storage answers to a call about the row of a grain.
+fn answer_of<S: GrainStorage>(
+    alloc: Global,
+    storage: &mut S,
+    grain: &GrainId,
+    call: &str,
+    fields: &mut Fields<'_>,
+) -> Result<Answer, Fail> {
+    match call {
+        "write" => written(alloc, storage, grain, fields),
+        "clear" => Ok(storage.clear(alloc, grain, expected(fields)?)),
+        "poke" => poked(alloc, storage, grain, fields.text()),
+        _ => Ok(part_of(storage.read(alloc, grain), call)),
+    }
+}
+
+/// The same of a grain that is yet to be read.
+fn answer_about<S: GrainStorage>(
+    alloc: Global,
+    storage: &mut S,
+    call: &str,
+    fields: &mut Fields<'_>,
+) -> Result<Answer, Fail> {
+    let grain = grain(alloc, fields.text())?;
+    answer_of(alloc, storage, &grain, call, fields)
+}
+
+/// The rows' grains.
+fn put_grains(rows: &[(GrainId, Row)], out: &mut String) -> Result<(), Fail> {
+    for (grain, _) in rows {
+        put(out, grain.text())?;
     }
     Ok(())
 }
 
-/// The same of the row of the grain with this text.
-fn answers_of<S: GrainStorage>(
-    alloc: Global,
-    storage: &mut S,
-    text: &str,
-    calls: &[(Call, Answer)],
-) -> Result<(), Fail> {
-    let grain = grain(alloc, text)?;
-    answers_each(alloc, storage, &grain, calls)
+/// A storage.
+#[derive(Drop)]
+struct Stored<S: Drop> {
+    storage: S,
 }
 
-/// Each write, clearing and poke gives the next version, if it expects the one that is there.
-static VERSIONS: [(Call, Answer); 11] = [
-    (Call::Version, Ok(None)),
-    (Call::Write(None, 3), Ok(Some(1))),
-    (Call::Number, Ok(Some(3))),
-    (Call::Clear(Some(1)), Ok(Some(2))),
-    (Call::Number, Ok(None)),
-    (Call::Write(Some(2), 4), Ok(Some(3))),
-    (Call::Number, Ok(Some(4))),
-    (Call::Poke(5), Ok(Some(4))),
-    (Call::Write(None, 6), Err(StoreFault::Stale(Some(4)))),
-    (Call::Number, Ok(Some(5))),
-    (Call::Failures, Ok(Some(0))),
-];
-
-/// Other grains, which are poked once.
-static OTHERS: [&str; 3] = ["sheet/red:s", "counter/red:b", "counter/blue:z"];
-
-static POKED: [(Call, Answer); 1] = [(Call::Poke(1), Ok(Some(1)))];
-
-/// The texts of rows' grains, each with a space behind it.
-fn texts(alloc: Global, rows: &[(GrainId, Row)]) -> Result<String, Fail> {
-    let mut texts = String::new(alloc);
-    for (grain, _) in rows {
-        texts.push_str(grain.text())?;
-        texts.push_str(" ")?;
+impl<S: GrainStorage + Drop> Subject for Stored<S> {
+    fn answer(
+        &mut self,
+        alloc: Global,
+        call: &str,
+        fields: &mut Fields<'_>,
+        out: &mut String,
+    ) -> Result<(), Fail> {
+        match call {
+            "failures" => show(out, self.storage.failures()),
+            "list" => put_grains(&self.storage.list(alloc)?, out),
+            _ => tell(out, answer_about(alloc, &mut self.storage, call, fields)),
+        }
     }
-    Ok(texts)
 }
 
-fn listed(alloc: Global, storage: &MemoryStorage) -> Result<String, Fail> {
-    texts(alloc, &storage.list(alloc)?)
-}
-
-/// The rows of several grains are kept apart, and listed in order.
-fn keeps_rows(alloc: Global, storage: &mut MemoryStorage) -> Result<(), Fail> {
-    answers_of(alloc, storage, "counter/red:a", &VERSIONS)?;
-    for text in &OTHERS {
-        answers_of(alloc, storage, *text, &POKED)?;
-    }
-    same(
-        listed(alloc, storage)?.as_str(),
-        "counter/blue:z counter/red:a counter/red:b sheet/red:s ",
-    )
+fn holds<S: GrainStorage + Drop>(alloc: Global, storage: S, rows: &str) -> Result<(), Fail> {
+    let mut stored = Stored { storage };
+    hold(alloc, &mut stored, rows)
 }
 
 #[test]
 fn rows_have_versions_and_are_listed(rt: HostRuntime) -> Result<(), Fail> {
-    let mut storage = MemoryStorage::new(rt.alloc());
-    keeps_rows(rt.alloc(), &mut storage)?;
-    let mut seeded = MemoryStorage::seeded(rt.alloc(), HashSeed::new(7));
-    keeps_rows(rt.alloc(), &mut seeded)
+    holds(rt.alloc(), MemoryStorage::new(rt.alloc()), VERSIONS)?;
+    let seeded = MemoryStorage::seeded(rt.alloc(), HashSeed::new(7));
+    holds(rt.alloc(), seeded, VERSIONS)
 }
 
 /// A row with the number 3 under a version.
@@ -189,109 +244,41 @@ fn row(alloc: Global, version: u64) -> Result<Row, Fail> {
 }
 
 /// A row equals its copy, and not the other row.
-fn are_told_apart(row: &Row, other: &Row) -> Result<(), Fail> {
-    same_copy(row)?;
-    same(row == other, false)
+fn are_told_apart(row: Row, other: Row) -> Result<(), Fail> {
+    let copied = same_copy(&row);
+    let alike = row == other;
+    drop(row);
+    drop(other);
+    copied?;
+    same(alike, false)
 }
 
 #[test]
 fn rows_are_compared(rt: HostRuntime) -> Result<(), Fail> {
-    let first = row(rt.alloc(), 1)?;
-    let last = row(rt.alloc(), LAST)?;
-    are_told_apart(&first, &last)
+    are_told_apart(row(rt.alloc(), 1)?, row(rt.alloc(), u64::MAX)?)
 }
 
 /// A storage whose row of a grain has the number 3 under the last version.
-fn with_last(alloc: Global, grain: &GrainId) -> Result<MemoryStorage, Fail> {
+fn with_last(alloc: Global) -> Result<MemoryStorage, Fail> {
+    let grain = grain(alloc, "counter/red:a")?;
     let row = Row {
-        version: LAST,
+        version: u64::MAX,
         content: Some(number(alloc, 3)?),
     };
-    let rows = vec![in alloc; (grain.clone()?, row)]?;
+    let rows = vec![in alloc; (grain, row)]?;
     Ok(MemoryStorage::with_rows(alloc, rows)?)
 }
 
-/// A row of the last version is neither written, cleared nor poked.
-static LAST_VERSION: [(Call, Answer); 6] = [
-    (Call::Write(Some(LAST), 4), SPENT),
-    (Call::Poke(5), SPENT),
-    (Call::Clear(Some(LAST)), SPENT),
-    (Call::Clear(None), Err(StoreFault::Stale(Some(LAST)))),
-    (Call::Version, Ok(Some(LAST))),
-    (Call::Number, Ok(Some(3))),
-];
-
 #[test]
 fn a_spent_row_stays(rt: HostRuntime) -> Result<(), Fail> {
-    let grain = grain(rt.alloc(), "counter/red:a")?;
-    let mut storage = with_last(rt.alloc(), &grain)?;
-    answers_each(rt.alloc(), &mut storage, &grain, &LAST_VERSION)
-}
-
-/// Which call fails, and what each is answered.
-static FUSED: [(u64, &[(Call, Answer)]); 5] = [
-    (
-        1,
-        &[
-            (Call::Failures, Ok(Some(0))),
-            (Call::Version, FAILED),
-            (Call::Failures, Ok(Some(1))),
-            (Call::Version, Ok(None)),
-            (Call::Write(None, 3), Ok(Some(1))),
-        ],
-    ),
-    (
-        2,
-        &[
-            (Call::Version, Ok(None)),
-            (Call::Write(None, 3), FAILED),
-            (Call::Clear(None), Ok(None)),
-            (Call::Write(None, 4), Ok(Some(1))),
-            (Call::Failures, Ok(Some(1))),
-        ],
-    ),
-    (
-        3,
-        &[
-            (Call::Version, Ok(None)),
-            (Call::Write(None, 3), Ok(Some(1))),
-            (Call::Clear(Some(1)), FAILED),
-            (Call::Write(Some(1), 4), Ok(Some(2))),
-            (Call::Failures, Ok(Some(1))),
-        ],
-    ),
-    (
-        4,
-        &[
-            (Call::Version, Ok(None)),
-            (Call::Write(None, 3), Ok(Some(1))),
-            (Call::Clear(Some(1)), Ok(Some(2))),
-            (Call::Poke(4), FAILED),
-            (Call::Version, Ok(Some(2))),
-            (Call::Failures, Ok(Some(1))),
-        ],
-    ),
-    (
-        5,
-        &[
-            (Call::Version, Ok(None)),
-            (Call::Write(None, 3), Ok(Some(1))),
-            (Call::Clear(Some(1)), Ok(Some(2))),
-            (Call::Write(Some(2), 4), Ok(Some(3))),
-            (Call::Failures, Ok(Some(0))),
-        ],
-    ),
-];
-
-fn fused(alloc: Global, fails_at: u64, calls: &[(Call, Answer)]) -> Result<(), Fail> {
-    let mut storage = FusedStorage::new(MemoryStorage::new(alloc), fails_at);
-    answers_of(alloc, &mut storage, "counter/red:a", calls)
+    holds(rt.alloc(), with_last(rt.alloc())?, LAST_VERSION)
 }
 
 #[test]
 fn a_chosen_call_fails(rt: HostRuntime) -> Result<(), Fail> {
-    for (fails_at, calls) in &FUSED {
-        fused(rt.alloc(), *fails_at, *calls)?;
+    for (fails_at, rows) in &FUSED {
+        let storage = FusedStorage::new(MemoryStorage::new(rt.alloc()), *fails_at);
+        holds(rt.alloc(), storage, *rows)?;
     }
     Ok(())
 }

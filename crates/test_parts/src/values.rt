@@ -1,4 +1,4 @@
-//! Names from texts; values, states and messages from JSON.
+//! Names from texts; values, states and messages from JSON; bytes.
 
 use grain_id::{Caller, GrainId, Kind, Tenant};
 use request_codec::{Datum, Message, StateBytes, encode, encode_state, from_json};
@@ -20,6 +20,11 @@ pub fn tenant(alloc: Global, text: &str) -> Result<Tenant, Fail> {
 
 pub fn kind(alloc: Global, text: &str) -> Result<Kind, Fail> {
     Ok(Kind::read(alloc, text)?)
+}
+
+/// A letter and a number.
+pub fn numbered(alloc: Global, letter: char, number: u64) -> Result<String, Fail> {
+    Ok(format!(in alloc; "{letter}{number}")?)
 }
 
 /// The JSON of a text.
@@ -54,4 +59,34 @@ pub fn message(alloc: Global, method: &str, json: &str) -> Result<Message, Fail>
 /// The state that bytes spell.
 pub fn read_state(alloc: Global, bytes: &[u8]) -> Result<StateBytes, Fail> {
     Ok(StateBytes::read(alloc, bytes)?)
+}
+
+/// The bytes of a word: those of the letters behind a `'`, or those that hex digits tell.
+fn word_bytes(alloc: Global, word: &str) -> Result<Vec<u8>, Fail> {
+    match word.strip_prefix('\'') {
+        Some(letters) => Ok(Vec::from_slice(alloc, letters.as_bytes())?),
+        None => Ok(hex::decode(alloc, word)?),
+    }
+}
+
+fn put_bytes(bytes: &mut Vec<u8>, part: &[u8], times: u32) -> Result<(), Fail> {
+    for _ in 0..times {
+        bytes.extend_from_slice(part)?;
+    }
+    Ok(())
+}
+
+/// Adds the bytes that a word spells.
+fn put_word(alloc: Global, bytes: &mut Vec<u8>, word: &str) -> Result<(), Fail> {
+    let (part, times) = word.split_once('*').unwrap_or((word, "1"));
+    put_bytes(bytes, &word_bytes(alloc, part)?, times.parse()?)
+}
+
+/// The bytes that words spell, with `*` and a number behind a word that stands there so often.
+pub fn spelled(alloc: Global, words: &str) -> Result<Vec<u8>, Fail> {
+    let mut bytes = Vec::new(alloc);
+    for word in words.split_whitespace() {
+        put_word(alloc, &mut bytes, word)?;
+    }
+    Ok(bytes)
 }

@@ -7,3 +7,4 @@ mod rows;
 mod silos;
 mod steps;
 mod streams;
+mod trials;

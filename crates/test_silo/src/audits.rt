@@ -1,5 +1,6 @@
 //! Journals, and their audit.
 
+mod gate;
 mod reports;
 mod resting;
-mod served;
+mod seen;

@@ -3,15 +3,16 @@
 use std::io;
 use std::io::{ErrorKind, Read, Write};
 
-/// Gives its bytes, and then fails.
+/// Gives its bytes, and then fails or ends.
 #[derive(Drop)]
 pub struct FailingReader<'a> {
     pub rest: &'a [u8],
+    pub fails: bool,
 }
 
 impl<'a> Read for FailingReader<'a> {
     fn read(&mut self, buffer: &mut [u8]) -> io::Result<usize> {
-        if self.rest.is_empty() {
+        if self.fails && self.rest.is_empty() {
             return Err(io::Error::from(ErrorKind::TimedOut));
         }
         self.rest.read(buffer)

@@ -5,7 +5,6 @@
 mod ages;
 mod arenas;
 mod at_once;
-mod lines;
 mod methods;
 mod refusals;
 mod rows;
@@ -13,4 +12,5 @@ mod silos;
 mod strangers;
 mod streams;
 mod todo;
+mod trials;
 mod worked;

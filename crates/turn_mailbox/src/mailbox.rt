@@ -10,8 +10,8 @@ ghost use Rattle.turn_mailbox.specs.Contents.{may_begin, begun, turn_of, is_idle
 use crate::request::Request;
 use crate::turns::Turns;
 use grain_id::{Caller, GrainId};
-use grain_kinds::OpenedTurn;
 use request_codec::StateBytes;
+use silo_event::OpenedTurn;
 use std::alloc::{AllocError, Global};
 use std::collections::VecDeque;
 use std::marker::Model;

@@ -5,9 +5,9 @@ use Rattle.std.proofs.Math.Seq.{take-length}
 use Rattle.std.proofs.lemmas.List.{length-append}
 use Rattle.indexmap.specs.IndexMap.{IndexMap}
 use Rattle.grain_id.specs.Names.{Client, Grain}
-use Rattle.grain_kinds.specs.Laws.{ReadersAskNothing}
-use Rattle.grain_kinds.specs.Logic.{Logic}
-use Rattle.grain_kinds.specs.declared.turn.OpenedTurn.{OpenedTurn}
+use Rattle.grain_logic.specs.Laws.{ReadersAskNothing}
+use Rattle.grain_logic.specs.Logic.{Logic}
+use Rattle.silo_event.specs.declared.opened_turn.OpenedTurn.{OpenedTurn}
 use Rattle.silo_event.specs.Failed.{as_failed}
 use Rattle.silo_event.specs.declared.reply.Reply.{Reply}
 use Rattle.silo_event.specs.declared.step.Step.{Step}
@@ -29,9 +29,10 @@ use Rattle.silo_core.specs.History.{Advances, Answered, History}
 use Rattle.silo_core.specs.AtOnce.{Serves}
 use Rattle.silo_core.specs.Turns.{AnsweredTurn}
 use Rattle.silo_core.proofs.Steps.{done_parts}
-use Rattle.worker_host.specs.declared.owed.Owed.{Owed}
-use Rattle.worker_host.specs.inside.Working.{IsWorking, ServedOrAnswered, asks_once, is_told, may_ask_in, owing_to, was_done, was_taken, with_answer}
-use Rattle.worker_host.proofs.Owing.{owed_less, owed_on, owes_some, told_parts}
+use Rattle.lane_workers.specs.declared.owed.Owed.{Owed}
+use Rattle.lane_workers.specs.Owing.{asks_once, is_told, owing_to}
+use Rattle.worker_host.specs.inside.Working.{IsWorking, ServedOrAnswered, may_ask_in, was_done, was_taken, with_answer}
+use Rattle.lane_workers.proofs.Owing.{owed_less, owed_on, owes_some, told_parts}
 use Rattle.worker_host.proofs.Paced.{asker_failed, paced_answer}
 
 -- ---- after a step

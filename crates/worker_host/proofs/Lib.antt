@@ -1,6 +1,4 @@
-pub mod Owing
-pub mod Places
 pub mod Paced
+pub mod Answered
 pub mod AtWork
 pub mod Served
-pub mod Batched

@@ -3,8 +3,8 @@ use Rattle.std.proofs.Common.{◌≡◌, ℕ, List, Some, sym, ◌∙◌}
 use Rattle.std.specs.FinMap as map
 use Rattle.std.proofs.lemmas.List.Elements.{All-weaker}
 use Rattle.grain_id.specs.Names.{Client}
-use Rattle.grain_kinds.specs.Logic.{Logic}
-use Rattle.grain_kinds.specs.Laws.{ReadersAskNothing}
+use Rattle.grain_logic.specs.Logic.{Logic}
+use Rattle.grain_logic.specs.Laws.{ReadersAskNothing}
 use Rattle.grain_storage.specs.Rows.{Rows}
 use Rattle.silo_event.specs.declared.reply.Reply.{Reply}
 use Rattle.silo_event.specs.declared.step.Step.{Step}

@@ -1,3 +1,3 @@
--- What only the contracts of this crate's own parts cite. No promise stands on it.
-pub mod Batches
+-- For contracts of parts and for proofs. No promise of the silo, of journals or of the program stands on it.
 pub mod Working
+pub mod Faults

@@ -7,13 +7,13 @@ ghost use Rattle.lane_model.specs.Pacing.{is_paced};
 ghost use Rattle.lane_model.specs.Serving.{AreServed};
 ghost use Rattle.worker_host.specs.SetupCopy.{AreAnswered, AreCopies, HasFailed, IsOpenedSo};
 
-use crate::same::are_same;
-use crate::schedule::Schedule;
+use crate::working::WorkingSilo;
 use client_lanes::{Lane, answers, failed_in, lanes_stand};
 use grain_id::{GrainId, HashSeed, Tenant};
-use grain_kinds::GrainLogic;
+use grain_logic::GrainLogic;
 use grain_storage::{GrainStorage, Row};
 use idle_collector::AgeTable;
+use lane_workers::{WorkFault, are_same};
 use silo_core::{Setup, Silo};
 use silo_event::Reply;
 use std::alloc::{AllocError, Global};
@@ -41,6 +41,19 @@ impl From<AllocError> for ServeFault {
 
     fn from(_refused: AllocError) -> ServeFault {
         ServeFault::Memory
+    }
+}
+
+impl From<WorkFault> for ServeFault {
+    ghost use Rattle.worker_host.specs.inside.Faults.{fault_of};
+
+    ghost from_gives = { λ why fault. fault ≡ fault_of why };
+
+    fn from(why: WorkFault) -> ServeFault {
+        match why {
+            WorkFault::Memory => ServeFault::Memory,
+            WorkFault::NoWorker => ServeFault::NoWorker,
+        }
     }
 }
 
@@ -156,7 +169,7 @@ fn served_answers<S: GrainStorage, L: GrainLogic>(
 pub fn settle<S: GrainStorage + Drop, L: GrainLogic + Drop>(
     alloc: Global,
     seed: HashSeed,
-    schedule: Schedule<S, L>,
+    left: WorkingSilo<S, L>,
     opened: &SetupCopy,
     lanes: &[Lane],
 ) -> Result<ServeReport<S, L>, ServeFault>
@@ -166,10 +179,7 @@ pub fn settle<S: GrainStorage + Drop, L: GrainLogic + Drop>(
         report.silo.failures.at_opening report.silo.failures.now (map_list (λ v. v.items) report.answers.items)) }
     ensures answered { IfOk result (λ report. AreAnswered lanes.now report.silo.whole.replies) }
 {
-    let Some(working) = schedule.into_silo() else {
-        return Err(ServeFault::Memory);
-    };
-    let silo = working.into_silo();
+    let silo = left.into_silo();
     must_hold(silo.is_quiet())?;
     let answers = served_answers(alloc, seed, &silo, opened, lanes)?;
     Ok(ServeReport { silo, answers })

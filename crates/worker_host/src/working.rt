@@ -1,27 +1,22 @@
 //! A silo at work: with what each client is owed, and a journal that is paced.
 
-ghost use Rattle.std.specs.Prelude.{◌≡◌, ◌-◌, [], true, false, IfOk, IfErr, OnErr, Ok, Some};
-ghost use Rattle.std.specs.FinMap as map;
-ghost use Rattle.silo_event.specs.declared.step.Answer.TheVariants as answer;
-ghost use Rattle.silo_event.specs.declared.step.Step.TheVariants as step;
+ghost use Rattle.std.specs.Prelude.{◌≡◌, ◌-◌, [], true, false, IfOk};
 ghost use Rattle.grain_id.specs.Names.{Client};
 ghost use Rattle.silo_model.specs.Opening.{opening};
 ghost use Rattle.lane_model.specs.Asking.{asker_of};
 ghost use Rattle.lane_model.specs.Pacing.{is_paced};
-ghost use Rattle.silo_state.specs.Entries.{opened_turn};
-ghost use Rattle.silo_state.specs.Moves.{done_if};
 ghost use Rattle.silo_core.specs.History.{Answered};
-ghost use Rattle.silo_core.specs.Turns.{AnsweredTurn};
-ghost use Rattle.worker_host.specs.inside.Working.{ServedOrAnswered, asks_once, may_ask_in, owing_to, was_done, was_taken, with_answer};
+ghost use Rattle.lane_workers.specs.Owing.{asks_once, owing_to};
+ghost use Rattle.worker_host.specs.inside.Working.{ServedOrAnswered, was_done, was_taken, with_answer};
 
-use crate::owed;
-use crate::owed::Owing;
 use bumpalo::Bump;
 use client_lanes::Lane;
 use grain_id::{Caller, GrainId, HashSeed};
-use grain_kinds::{FinishedTurn, GrainLogic, OpenedTurn};
+use grain_logic::{FinishedTurn, GrainLogic, OpenedTurn};
 use grain_storage::GrainStorage;
-use silo_core::{Setup, Silo};
+use lane_workers::owed::Owing;
+use lane_workers::{NextStep, ServedSilo, owed};
+use silo_core::{PossibleStep, Setup, Silo};
 use silo_event::{Answer, Step, StepFault};
 use std::alloc::{AllocError, Global};
 use std::collections::VecDeque;
@@ -153,13 +148,6 @@ impl<S: GrainStorage + Drop, L: GrainLogic + Drop> WorkingSilo<S, L> {
 }
 
 impl<S: GrainStorage, L: GrainLogic> WorkingSilo<S, L> {
-    /// The silo, to look at.
-    pub fn silo(&self) -> &Silo<S, L>
-        ensures { result.now ≡ self.now }
-    {
-        &self.silo
-    }
-
     /// The silo alone.
     pub fn into_silo(self) -> Silo<S, L>
         ensures same { result ≡ self }
@@ -168,6 +156,30 @@ impl<S: GrainStorage, L: GrainLogic> WorkingSilo<S, L> {
         let WorkingSilo { silo, .. } = self;
         silo
     }
+}
+
+impl<S: GrainStorage, L: GrainLogic + Copy + Send> ServedSilo for WorkingSilo<S, L> {
+    type Logic = L;
+
+    ghost use Rattle.std.specs.Prelude.{◌≡◌, Ok};
+    ghost use Rattle.std.specs.FinMap as map;
+    ghost use Rattle.silo_event.specs.declared.step.Step.TheVariants as step;
+    ghost use Rattle.silo_state.specs.Entries.{opened_turn};
+    ghost use Rattle.silo_state.specs.Moves.{done_if};
+    ghost use Rattle.silo_core.specs.History.{Answered};
+    ghost use Rattle.silo_core.specs.Turns.{AnsweredTurn};
+    ghost use Rattle.worker_host.specs.inside.Working.{ServedOrAnswered, may_ask_in};
+
+    ghost answers = { Answered L.logic };
+
+    ghost answers_at_once = { ServedOrAnswered L.logic };
+
+    ghost may_ask = { λ h asker. may_ask_in h.whole asker };
+
+    ghost begins = { λ old grain turn new. Answered L.logic old (step.Begin grain) (Ok (done_if turn)) new
+        × (turn ≡ opened_turn L.logic grain (map.get old.whole.entries grain)) };
+
+    ghost closes = { AnsweredTurn L.logic };
 
     /// Looks at the replies that weren't looked at yet, and puts the lanes of their clients behind those
     /// that were told before.
@@ -175,9 +187,7 @@ impl<S: GrainStorage, L: GrainLogic> WorkingSilo<S, L> {
     /// # Errors
     ///
     /// Out of memory: the replies were looked at all the same.
-    pub fn look_at_replies(&mut self, told: &mut VecDeque<usize>) -> Result<(), AllocError>
-        ensures { self.new ≡ self.old }
-    {
+    fn look_at_replies(&mut self, told: &mut VecDeque<usize>) -> Result<(), AllocError> {
         let replies = self.silo.replies();
         let noted = owed::tell_new(&mut self.owing, replies, self.seen, told);
         self.seen = replies.len();
@@ -190,11 +200,7 @@ impl<S: GrainStorage, L: GrainLogic> WorkingSilo<S, L> {
     /// # Errors
     ///
     /// Out of memory: nothing changed.
-    pub fn take(&mut self, alloc: Global, step: Step) -> Result<Answer, StepFault>
-        ensures taken { may_ask_in self.old.whole (asker_of step) ≡ true → Answered L.logic self.old step result self.new }
-        ensures refused { may_ask_in self.old.whole (asker_of step) ≡ false → result ≡ Ok answer.NotNow }
-        ensures unchanged { may_ask_in self.old.whole (asker_of step) ≡ false → self.new ≡ self.old }
-    {
+    fn take(&mut self, alloc: Global, step: Step) -> Result<Answer, StepFault> {
         let asked = match owed::ask(&mut self.owing, &step, self.silo.replies(), self.seen) {
             Ok(asked) => asked,
             Err(AllocError) => {
@@ -215,16 +221,12 @@ impl<S: GrainStorage, L: GrainLogic> WorkingSilo<S, L> {
     /// # Errors
     ///
     /// Out of memory: nothing changed.
-    pub fn take_at_once(
+    fn take_at_once(
         &mut self,
         alloc: Global,
         bump: &Bump,
         step: Step,
-    ) -> Result<Option<Answer>, StepFault>
-        ensures taken { may_ask_in self.old.whole (asker_of step) ≡ true → ServedOrAnswered L.logic self.old step result self.new }
-        ensures refused { may_ask_in self.old.whole (asker_of step) ≡ false → result ≡ Ok (Some answer.NotNow) }
-        ensures unchanged { may_ask_in self.old.whole (asker_of step) ≡ false → self.new ≡ self.old }
-    {
+    ) -> Result<Option<Answer>, StepFault> {
         let asked = match owed::ask(&mut self.owing, &step, self.silo.replies(), self.seen) {
             Ok(asked) => asked,
             Err(AllocError) => {
@@ -244,12 +246,7 @@ impl<S: GrainStorage, L: GrainLogic> WorkingSilo<S, L> {
     /// # Errors
     ///
     /// Out of memory: nothing changed.
-    pub fn begin(&mut self, alloc: Global, grain: GrainId) -> Result<Option<OpenedTurn>, StepFault>
-        ensures answered { IfOk result (λ turn. Answered L.logic self.old (step.Begin grain) (Ok (done_if turn)) self.new) }
-        ensures turn { IfOk result (λ turn. turn ≡ opened_turn L.logic grain (map.get self.old.whole.entries grain)) }
-        ensures unchanged { OnErr result (self.new ≡ self.old) }
-        ensures fault { IfErr result (λ fault. fault ≡ StepFault.Memory) }
-    {
+    fn begin(&mut self, alloc: Global, grain: GrainId) -> Result<Option<OpenedTurn>, StepFault> {
         self.silo.begin(alloc, grain)
     }
 
@@ -259,9 +256,7 @@ impl<S: GrainStorage, L: GrainLogic> WorkingSilo<S, L> {
     ///
     /// Out of memory; `Stranger`, if the turn is open and its own message or state isn't the finished
     /// turn's. Nothing changed.
-    pub fn store(&mut self, alloc: Global, finished: &FinishedTurn<L>) -> Result<Answer, StepFault>
-        ensures { AnsweredTurn L.logic self.old (step.Store finished.now.grain finished.now.number false) finished.now result self.new }
-    {
+    fn store(&mut self, alloc: Global, finished: &FinishedTurn<L>) -> Result<Answer, StepFault> {
         self.silo.store(alloc, finished, false)
     }
 
@@ -270,9 +265,20 @@ impl<S: GrainStorage, L: GrainLogic> WorkingSilo<S, L> {
     /// # Errors
     ///
     /// As of `store`.
-    pub fn end(&mut self, alloc: Global, finished: &FinishedTurn<L>) -> Result<Answer, StepFault>
-        ensures { AnsweredTurn L.logic self.old (step.End finished.now.grain finished.now.number) finished.now result self.new }
-    {
+    fn end(&mut self, alloc: Global, finished: &FinishedTurn<L>) -> Result<Answer, StepFault> {
         self.silo.end(alloc, finished)
+    }
+
+    fn work_on(&self, grain: &GrainId) -> Option<NextStep> {
+        match self.silo.work_on(grain) {
+            Some(PossibleStep::Begin) => Some(NextStep::Begin),
+            Some(PossibleStep::Load) => Some(NextStep::Load),
+            Some(PossibleStep::Activate) => Some(NextStep::Activate),
+            None => None,
+        }
+    }
+
+    fn first_target(&self, grain: &GrainId) -> Option<&GrainId> {
+        self.silo.first_target(grain)
     }
 }

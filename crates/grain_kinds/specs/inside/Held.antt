@@ -8,8 +8,8 @@ use Rattle.request_codec.specs.Formed.{IsFormed}
 use Rattle.request_codec.specs.Limits.{message_limit}
 use Rattle.request_codec.specs.Tree as tree
 use Rattle.request_codec.specs.Tree.{Tree, depth, no_fields, field}
-use Rattle.grain_kinds.specs.Laws.{FitsMessage}
-use Rattle.grain_kinds.specs.Shared.{only_field, only_fields, text_value, text_field}
+use Rattle.grain_logic.specs.Laws.{FitsMessage}
+use Rattle.grain_logic.specs.Shared.{only_field, only_fields, text_value, text_field}
 
 -- ---- two fields
 

@@ -3,7 +3,7 @@ use Rattle.std.specs.Prelude.{◌≡◌, ℕ, Option, Some, None}
 use Rattle.grain_id.specs.Names.{Grain}
 use Rattle.silo_event.specs.declared.step.Step.{Step}
 use Rattle.silo_event.specs.declared.step.Step.TheVariants.{Begin, End}
-use Rattle.grain_kinds.specs.Logic.{Logic}
+use Rattle.grain_logic.specs.Logic.{Logic}
 use Rattle.silo_state.specs.inside.Held.{Held}
 use Rattle.silo_state.specs.AtOnce as state
 use Rattle.silo_core.specs.AtOnce.{Calls}

@@ -6,7 +6,7 @@ ghost use Rattle.silo_core.specs.inside.AtOnce.{Served};
 
 use crate::silo::Silo;
 use bumpalo::Bump;
-use grain_kinds::GrainLogic;
+use grain_logic::GrainLogic;
 use grain_storage::GrainStorage;
 use silo_event::Step;
 use silo_state::SiloState;

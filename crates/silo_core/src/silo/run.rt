@@ -11,7 +11,7 @@ ghost use Rattle.silo_core.specs.History.{failed_since};
 ghost use Rattle.silo_core.specs.Runs.{failed_in, AllConcern, RunsInParts, RunAnswersInParts, Takes};
 
 use crate::silo::Silo;
-use grain_kinds::GrainLogic;
+use grain_logic::GrainLogic;
 use grain_storage::GrainStorage;
 use silo_event::{Answer, Step, StepFault};
 use std::alloc::Global;

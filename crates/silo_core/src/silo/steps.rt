@@ -16,7 +16,7 @@ ghost use Rattle.silo_core.specs.Turns.{AnsweredTurn};
 use crate::silo::{Silo, note};
 use bumpalo::Bump;
 use grain_id::{Caller, GrainId};
-use grain_kinds::{FinishedTurn, GrainLogic, OpenedTurn};
+use grain_logic::{FinishedTurn, GrainLogic, OpenedTurn};
 use grain_storage::GrainStorage;
 use request_codec::{Message, SharedState, StateBytes};
 use silo_event::{Answer, Moment, Refusal, Step, StepFault};

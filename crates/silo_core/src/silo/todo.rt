@@ -8,7 +8,7 @@ ghost use Rattle.silo_model.specs.Whole.{shown_to};
 
 use crate::silo::Silo;
 use grain_id::Caller;
-use grain_kinds::GrainLogic;
+use grain_logic::GrainLogic;
 use grain_storage::GrainStorage;
 use silo_event::Step;
 use std::alloc::AllocError;

@@ -7,12 +7,12 @@ ghost use Rattle.std.specs.Option.{option_copied};
 ghost use Rattle.silo_model.specs.Sends.{first_target};
 ghost use Rattle.silo_model.specs.Pending.{sends_of};
 ghost use Rattle.silo_model.specs.Todo.{work_on};
-ghost use Rattle.silo_state.specs.Sends.{first_source};
+ghost use Rattle.tenant_accounts.specs.Sends.{first_source};
 ghost use Rattle.silo_state.specs.Work.{first_waiting, step_at, is_settled};
 
 use crate::silo::Silo;
 use grain_id::GrainId;
-use grain_kinds::GrainLogic;
+use grain_logic::GrainLogic;
 use grain_storage::GrainStorage;
 use silo_state::PossibleStep;
 

@@ -1,31 +1,16 @@
 -- What a call finds that is served at once.
-use Rattle.std.specs.Prelude.{◌≡◌, ℕ, ◌+◌, ◌<◌, true, false, nat_lt, List, Option, Some, unwrap_or}
-use Rattle.std.specs.FinMap as map
-use Rattle.std.specs.FinMap.{FinMap}
-use Rattle.grain_id.specs.Names.{Grain, text_cmp}
+use Rattle.std.specs.Prelude.{◌≡◌, ℕ, true, false, Option, Some, unwrap_or}
+use Rattle.grain_id.specs.Names.{Grain}
 use Rattle.request_codec.specs.Tree.{Tree}
 use Rattle.request_codec.specs.Call.{Call}
 use Rattle.activation_directory.specs.declared.activation.Phase as declared
 use Rattle.activation_directory.specs.declared.activation.Phase.TheVariants.{Waiting, Loading, Ready}
-use Rattle.grain_kinds.specs.Logic.{Logic, asks_nothing, same}
-use Rattle.grain_kinds.specs.Planned.{keep_of, storage_call}
-use Rattle.grain_kinds.specs.Finished.{plan_at, planned_shown}
-use Rattle.grain_kinds.specs.declared.turn.OwnedPlan.{OwnedPlan}
-use Rattle.silo_model.specs.Machine.{Account, Entry, Phase, waiting, loading, ready}
-use Rattle.silo_model.specs.Calls.{last_number}
+use Rattle.grain_logic.specs.Logic.{Logic, asks_nothing, same}
+use Rattle.grain_logic.specs.Planned.{keep_of, storage_call}
+use Rattle.grain_logic.specs.Finished.{plan_at, planned_shown}
+use Rattle.grain_logic.specs.declared.turn.OwnedPlan.{OwnedPlan}
+use Rattle.silo_model.specs.Machine.{Entry, Phase, waiting, loading, ready}
 use Rattle.silo_model.specs.Idle.{is_idle}
-
--- The account's next request has this number, and requests may wait.
-pub record Numbers (account : Account) (number : ℕ) : Type 0 where
-  pub left : account.count < last_number
-  pub room : nat_lt 0 account.limits.mailbox ≡ true
-  pub numbered : number ≡ account.count + 1
-
--- The tenant is known, and so is its next request.
-pub record Admits (accounts : FinMap text_cmp Account) (tenant : List ℕ) (number : ℕ) : Type 0 where
-  pub account : Account
-  pub known : map.get accounts tenant ≡ Some account
-  pub next : Numbers account number
 
 -- The entry is ready in this state and idle, and doesn't rest.
 pub record IsIdleAt (e : Entry) (state : Tree) : Type 0 where

@@ -3,7 +3,7 @@ use Rattle.std.specs.Prelude.{◌≡◌, ℕ, ◌+◌, Bool, true, false, Option
 use Rattle.std.specs.FinMap as map
 use Rattle.grain_id.specs.Names.{Grain}
 use Rattle.request_codec.specs.Tree.{Tree}
-use Rattle.grain_kinds.specs.Logic.{Logic, StorageCall, asks_nothing, reads_row, writes_row, clears_row}
+use Rattle.grain_logic.specs.Logic.{Logic, StorageCall, asks_nothing, reads_row, writes_row, clears_row}
 use Rattle.grain_storage.specs.declared.fault.StoreFault.{StoreFault}
 use Rattle.grain_storage.specs.declared.fault.StoreFault.TheVariants as storage
 use Rattle.grain_storage.specs.Rows.{Rows, RowFault, stale, spent, version_of, content_or, written, cleared}

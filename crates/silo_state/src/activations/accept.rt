@@ -11,7 +11,7 @@ use crate::activations::Activations;
 use crate::{arrival, change};
 use activation_directory::Directory;
 use grain_id::GrainId;
-use grain_kinds::GrainLogic;
+use grain_logic::GrainLogic;
 use silo_event::Moment;
 use std::alloc::{AllocError, Global};
 use turn_mailbox::Request;

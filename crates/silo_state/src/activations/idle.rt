@@ -10,7 +10,7 @@ use crate::activations::Activations;
 use activation_directory::{Activation, Phase};
 use bumpalo::Bump;
 use grain_id::GrainId;
-use grain_kinds::{GrainLogic, OwnedPlan, plan_turn};
+use grain_logic::{GrainLogic, OwnedPlan, plan_turn};
 use request_codec::{Message, StateBytes};
 use silo_event::Moment;
 use std::alloc::{AllocError, Global};

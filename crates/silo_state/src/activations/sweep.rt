@@ -11,7 +11,7 @@ use crate::activations::Activations;
 use crate::change;
 use activation_directory::Activation;
 use grain_id::GrainId;
-use grain_kinds::GrainLogic;
+use grain_logic::GrainLogic;
 use idle_collector::AgeTable;
 use silo_event::Moment;
 use std::alloc::{AllocError, Global};

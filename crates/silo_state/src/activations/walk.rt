@@ -12,7 +12,7 @@ use crate::change;
 use crate::change::PossibleStep;
 use activation_directory::Activation;
 use grain_id::{Caller, GrainId};
-use grain_kinds::GrainLogic;
+use grain_logic::GrainLogic;
 
 impl<L: GrainLogic> Activations<L> {
     /// What is to do with the grain's activation, if anything is: at most one of the three is

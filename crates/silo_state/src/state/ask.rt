@@ -8,7 +8,7 @@ ghost use Rattle.silo_state.specs.inside.Overwrites.{Overwrites};
 use crate::state::SiloState;
 use crate::status::status_value;
 use grain_id::{Caller, GrainId};
-use grain_kinds::GrainLogic;
+use grain_logic::GrainLogic;
 use grain_storage::{GrainStorage, StoreFault};
 use request_codec::{DecimalRoom, StateBytes};
 use silo_event::{Answer, Fault, Party, Refusal, Reply, StepFault};

@@ -2,8 +2,8 @@
 
 ghost use Rattle.std.specs.Prelude.{◌≡◌, IfOk, OnErr, true};
 ghost use Rattle.silo_event.specs.declared.step.Step.TheVariants as step;
-ghost use Rattle.grain_kinds.specs.Logic.{asks_nothing, same};
-ghost use Rattle.grain_kinds.specs.Planned.{keep_of, storage_call};
+ghost use Rattle.grain_logic.specs.Logic.{asks_nothing, same};
+ghost use Rattle.grain_logic.specs.Planned.{keep_of, storage_call};
 ghost use Rattle.silo_state.specs.AtOnce.{ServesIf};
 ghost use Rattle.silo_state.specs.inside.AtOnce.{IsPlain};
 
@@ -12,7 +12,7 @@ use crate::state::SiloState;
 use crate::telling::told;
 use bumpalo::Bump;
 use grain_id::{Caller, GrainId};
-use grain_kinds::{GrainLogic, Keep, OwnedPlan};
+use grain_logic::{GrainLogic, Keep, OwnedPlan};
 use grain_storage::GrainStorage;
 use request_codec::Message;
 use silo_event::{Party, Reply};

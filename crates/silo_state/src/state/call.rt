@@ -9,15 +9,14 @@ ghost use Rattle.silo_state.specs.Moves.{Moves};
 ghost use Rattle.silo_state.specs.Verdicts.{gated, verdict, Passes, Settles};
 ghost use Rattle.silo_state.specs.inside.Requests.{with_told, with_accepted};
 
-use crate::account::Account;
-use crate::accounts::LAST_NUMBER;
 use crate::state::SiloState;
 use grain_id::{Caller, GrainId, Tenant};
-use grain_kinds::GrainLogic;
+use grain_logic::GrainLogic;
 use grain_storage::GrainStorage;
 use request_codec::{Message, StateBytes};
 use silo_event::{Answer, Fault, Party, Reply, StepFault};
 use std::alloc::{AllocError, Global};
+use tenant_accounts::{Account, LAST_NUMBER};
 use tenant_gate::{GateRefusal, judge};
 use turn_mailbox::Request;
 

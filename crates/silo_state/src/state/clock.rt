@@ -5,7 +5,7 @@ ghost use Rattle.silo_event.specs.declared.step.Step.TheVariants as step;
 ghost use Rattle.silo_state.specs.Moves.{Moves};
 
 use crate::state::SiloState;
-use grain_kinds::GrainLogic;
+use grain_logic::GrainLogic;
 use grain_storage::GrainStorage;
 use silo_event::{Answer, Moment, StepFault};
 use std::alloc::Global;

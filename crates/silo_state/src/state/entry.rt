@@ -14,7 +14,7 @@ use crate::reading::read_state;
 use crate::state::SiloState;
 use crate::telling::refuse_all;
 use grain_id::GrainId;
-use grain_kinds::GrainLogic;
+use grain_logic::GrainLogic;
 use grain_storage::{GrainStorage, StoreFault};
 use silo_event::{Answer, Reply, StepFault};
 use std::alloc::Global;

@@ -6,7 +6,7 @@ ghost use Rattle.silo_state.specs.Moves.{Moves};
 
 use crate::state::SiloState;
 use grain_id::GrainId;
-use grain_kinds::GrainLogic;
+use grain_logic::GrainLogic;
 use grain_storage::GrainStorage;
 use silo_event::{Answer, Party, StepFault};
 use std::alloc::Global;

@@ -11,7 +11,7 @@ use crate::finding::{AskedTurn, GrainAtClose};
 use crate::state::SiloState;
 use bumpalo::Bump;
 use grain_id::GrainId;
-use grain_kinds::{GrainLogic, OwnedPlan};
+use grain_logic::{GrainLogic, OwnedPlan};
 use grain_storage::GrainStorage;
 use silo_event::{Answer, Step, StepFault};
 use std::alloc::{AllocError, Global};

@@ -4,7 +4,7 @@ ghost use Rattle.std.specs.Prelude.{◌≡◌, ◌↔◌, Err};
 ghost use Rattle.std.specs.FinMap as map;
 ghost use Rattle.silo_event.specs.declared.step.Step.TheVariants as step;
 ghost use Rattle.silo_event.specs.declared.step.StepFault.TheVariants.{Stranger};
-ghost use Rattle.grain_kinds.specs.Planned.{storage_call};
+ghost use Rattle.grain_logic.specs.Planned.{storage_call};
 ghost use Rattle.silo_state.specs.Finds.{IsStranger, IsOwnCall};
 ghost use Rattle.silo_state.specs.Moves.{Moves, Ends};
 
@@ -13,7 +13,7 @@ use crate::finding::{TurnMatch, asks_storage};
 use crate::state::SiloState;
 use crate::storing::ask;
 use grain_id::GrainId;
-use grain_kinds::{FinishedTurn, GrainLogic, StoreCall};
+use grain_logic::{FinishedTurn, GrainLogic, StoreCall};
 use grain_storage::GrainStorage;
 use request_codec::StateBytes;
 use silo_event::{Answer, StepFault};

@@ -15,7 +15,7 @@ use crate::telling::{copied, told};
 use crate::{change, finding};
 use activation_directory::Phase;
 use grain_id::GrainId;
-use grain_kinds::{FinishedTurn, GrainLogic, Keep, OpenedTurn, OwnedPlan};
+use grain_logic::{FinishedTurn, GrainLogic, Keep, OpenedTurn, OwnedPlan};
 use grain_storage::GrainStorage;
 use silo_event::{Answer, Fault, StepFault};
 use std::alloc::{AllocError, Global};

@@ -10,12 +10,12 @@ ghost use Rattle.silo_model.specs.Pending.{has_pending, sends_of};
 ghost use Rattle.silo_model.specs.Todo.{work_on};
 ghost use Rattle.silo_model.specs.Whole.{shown_to};
 ghost use Rattle.silo_state.specs.Work.{first_waiting, step_at, is_settled};
-ghost use Rattle.silo_state.specs.Sends.{HasSent, NothingSent, first_source};
+ghost use Rattle.tenant_accounts.specs.Sends.{HasSent, NothingSent, first_source};
 
 use crate::change::PossibleStep;
 use crate::state::SiloState;
 use grain_id::{Caller, GrainId};
-use grain_kinds::GrainLogic;
+use grain_logic::GrainLogic;
 use grain_storage::GrainStorage;
 
 impl<S: GrainStorage, L: GrainLogic> SiloState<S, L> {

@@ -4,7 +4,7 @@ use Rattle.std.specs.Ordering.{is_lt}
 use Rattle.grain_id.specs.Names.{Grain, grain_cmp}
 use Rattle.grain_storage.specs.Rows.{Rows}
 use Rattle.silo_event.specs.declared.step.Step.{Step}
-use Rattle.grain_kinds.specs.Logic.{Logic}
+use Rattle.grain_logic.specs.Logic.{Logic}
 use Rattle.silo_model.specs.Machine.{Machine}
 use Rattle.silo_model.specs.Journal.{machine_all_done}
 use Rattle.audit_model.specs.Difference.{Difference, at_step, at_reply, at_row, StopsAt, DifferAt, RowsDifferAt}

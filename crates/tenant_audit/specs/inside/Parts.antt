@@ -6,7 +6,7 @@ use Rattle.std.specs.declared.alloc.AllocError.{AllocError}
 use Rattle.std.specs.declared.alloc.Global.{Global}
 use Rattle.std.specs.declared.collections.VecDeque.{VecDeque}
 use Rattle.journal_text.specs.Text.{History}
-use Rattle.audit_model.specs.Logics.{logic_of}
+use Rattle.grain_kinds.specs.Kinds.{logic_of}
 use Rattle.audit_model.specs.Report.{IsTenantReport}
 use Rattle.tenant_audit.specs.ReportView.{tenant_report_of}
 use Rattle.tenant_audit.specs.declared.report.TenantReport.{TenantReport}

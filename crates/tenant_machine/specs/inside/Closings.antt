@@ -1,7 +1,7 @@
 -- What closing a turn leaves of entries and replies.
 use Rattle.std.specs.Prelude.{◌≡◌, ℕ, Bool, true, List, Some, None, Result, Ok, Err, IsErr}
 use Rattle.grain_id.specs.Names.{Grain}
-use Rattle.grain_kinds.specs.Logic.{same}
+use Rattle.grain_logic.specs.Logic.{same}
 use Rattle.grain_storage.specs.declared.fault.StoreFault.{StoreFault}
 use Rattle.grain_storage.specs.declared.fault.StoreFault.TheVariants as storage
 use Rattle.silo_event.specs.declared.fault.Fault.TheVariants.{StorageFailed, StateChanged, VersionsSpent}

@@ -6,7 +6,7 @@ use Rattle.grain_id.specs.Names.{Grain}
 use Rattle.request_codec.specs.Tree.{Tree}
 use Rattle.request_codec.specs.Call.{Call}
 use Rattle.grain_storage.specs.Rows.{Rows, spent, poked}
-use Rattle.grain_kinds.specs.Logic.{Logic}
+use Rattle.grain_logic.specs.Logic.{Logic}
 use Rattle.silo_event.specs.declared.fault.Fault.{Fault}
 use Rattle.silo_event.specs.declared.fault.Fault.TheVariants.{UnknownTenant, VersionsSpent}
 use Rattle.silo_event.specs.declared.reply.Party.{Party}

@@ -7,7 +7,7 @@ ghost use Rattle.tenant_machine.specs.inside.Requests.{status_outcome, Overwrite
 
 use crate::machine::TenantMachine;
 use grain_id::{Caller, GrainId};
-use grain_kinds::GrainLogic;
+use grain_logic::GrainLogic;
 use grain_storage::{GrainStorage, MemoryStorage, StoreFault};
 use request_codec::{DecimalRoom, StateBytes};
 use silo_event::{Fault, Party, Refusal, Reply};

@@ -11,7 +11,7 @@ ghost use Rattle.tenant_machine.specs.inside.Requests.{gated, verdict, seen_at, 
 use crate::account::Account;
 use crate::machine::TenantMachine;
 use grain_id::{Caller, GrainId};
-use grain_kinds::GrainLogic;
+use grain_logic::GrainLogic;
 use request_codec::{Message, StateBytes};
 use silo_event::{Fault, Party, Reply};
 use std::alloc::{AllocError, Global};

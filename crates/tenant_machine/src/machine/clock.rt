@@ -4,7 +4,7 @@ ghost use Rattle.silo_event.specs.declared.step.Step.TheVariants as step;
 ghost use Rattle.tenant_machine.specs.Machines.{StepDoes};
 
 use crate::machine::TenantMachine;
-use grain_kinds::GrainLogic;
+use grain_logic::GrainLogic;
 use silo_event::Moment;
 
 impl<L: GrainLogic> TenantMachine<L> {

@@ -5,7 +5,7 @@ ghost use Rattle.std.specs.FinMap as map;
 ghost use Rattle.silo_event.specs.declared.step.Step.TheVariants as step;
 ghost use Rattle.silo_model.specs.Effect.{change_option};
 ghost use Rattle.silo_state.specs.Finds.{IsOwnPlan};
-ghost use Rattle.silo_state.specs.Sends.{with_more};
+ghost use Rattle.silo_state.specs.inside.Sends.{with_more};
 ghost use Rattle.tenant_machine.specs.Machines.{StepAnswers};
 ghost use Rattle.tenant_machine.specs.inside.Sends.{sends_of};
 
@@ -13,7 +13,7 @@ use crate::account::{Account, Sent, sent_by};
 use crate::closing::{ClosedTurn, close_turn};
 use crate::machine::TenantMachine;
 use grain_id::GrainId;
-use grain_kinds::{GrainLogic, OwnedPlan};
+use grain_logic::{GrainLogic, OwnedPlan};
 use silo_state::finding::{GrainAtClose, asks_storage, ready_in};
 use silo_state::telling::told;
 use std::alloc::{AllocError, Global};

@@ -6,7 +6,7 @@ ghost use Rattle.tenant_machine.specs.Machines.{StepAnswers, StepDoes};
 use crate::closing::unload;
 use crate::machine::TenantMachine;
 use grain_id::GrainId;
-use grain_kinds::GrainLogic;
+use grain_logic::GrainLogic;
 use grain_storage::StoreFault;
 use silo_event::Answer;
 use silo_state::change;

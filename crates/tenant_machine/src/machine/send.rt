@@ -7,7 +7,7 @@ ghost use Rattle.tenant_machine.specs.inside.Requests.{without_sent};
 
 use crate::machine::TenantMachine;
 use grain_id::GrainId;
-use grain_kinds::GrainLogic;
+use grain_logic::GrainLogic;
 use silo_event::Party;
 use std::alloc::{AllocError, Global};
 

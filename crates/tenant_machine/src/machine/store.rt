@@ -2,14 +2,14 @@
 
 ghost use Rattle.std.specs.FinMap as map;
 ghost use Rattle.silo_event.specs.declared.step.Step.TheVariants as step;
-ghost use Rattle.grain_kinds.specs.Planned.{storage_call};
+ghost use Rattle.grain_logic.specs.Planned.{storage_call};
 ghost use Rattle.silo_state.specs.Finds.{IsOwnCall};
 ghost use Rattle.tenant_machine.specs.Machines.{StepAnswers};
 
 use crate::closing::{ClosedTurn, close_by};
 use crate::machine::TenantMachine;
 use grain_id::GrainId;
-use grain_kinds::{GrainLogic, StoreCall};
+use grain_logic::{GrainLogic, StoreCall};
 use request_codec::StateBytes;
 use silo_state::finding::{AskedTurn, GrainAtClose, asks_storage};
 use silo_state::storing::ask;

@@ -10,7 +10,7 @@ use crate::closing::{ClosedTurn, close_turn};
 use crate::machine::TenantMachine;
 use bumpalo::Bump;
 use grain_id::GrainId;
-use grain_kinds::{GrainLogic, Keep, OwnedPlan};
+use grain_logic::{GrainLogic, Keep, OwnedPlan};
 use silo_event::Fault;
 use silo_state::finding;
 use silo_state::finding::{AskedTurn, GrainAtClose};

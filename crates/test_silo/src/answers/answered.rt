@@ -1,76 +1,58 @@
 //! Worked rows, answered line by line.
 
 use crate::answers::rows::{
-    Worked, counted, counted_but_saved, others, sent, sent_one_by_one, sent_to_nobody,
+    COUNTED, COUNTED_BUT_SAVED, End, OTHERS, SENT, SENT_ONE_BY_ONE, SENT_TO_NOBODY, Worked,
 };
-use crate::answers::silos::{TestedSilo, ended, new_silo, seeded_silo};
+use crate::answers::silos::{TestedSilo, ended};
+use crate::answers::trials::{Trial, tried, tried_by};
+use crate::failing::FailingReader;
 use line_answer::{Input, Output};
 use std::alloc::Global;
 use std::test::Fail;
 
-/// How many lines are answered if the row is, and none if something else is written.
-fn answered(alloc: Global, silo: &mut TestedSilo, row: &Worked) -> Result<u64, Fail> {
-    let mut input = Input::new(alloc, row.lines.as_bytes())?;
+/// Whether the row's lines are answered as it says.
+pub fn is_answered(alloc: Global, silo: &mut TestedSilo, row: &Worked) -> Result<bool, Fail> {
+    let reader = FailingReader {
+        rest: row.lines.as_bytes(),
+        fails: matches!(row.end, End::ReadingFails),
+    };
+    let mut input = Input::new(alloc, reader)?;
     let written: Vec<u8> = Vec::with_capacity(alloc, row.told.len())?;
     let mut output = Output::new(written);
     let end = ended(alloc, silo, row.most, &mut input, &mut output)?;
-    if output.writer.as_slice() != row.told.as_bytes() {
-        return Ok(0);
-    }
-    Ok(end.unwrap_or(0))
-}
-
-/// The same of a new silo, whose storage fails that call, or none if it is 0.
-fn answered_anew(alloc: Global, row: &Worked, fails_at: u64) -> Result<u64, Fail> {
-    let mut silo = new_silo(alloc, fails_at)?;
-    let lines = answered(alloc, &mut silo, row);
-    drop(silo);
-    lines
-}
-
-/// The same of a new silo whose grains are found by hashes from this seed.
-fn answered_by_seed(alloc: Global, row: &Worked, seed: u64) -> Result<u64, Fail> {
-    let mut silo = seeded_silo(alloc, seed)?;
-    let lines = answered(alloc, &mut silo, row);
-    drop(silo);
-    lines
+    Ok(row.end.is(&end) && output.writer.as_slice() == row.told.as_bytes())
 }
 
 #[test]
 fn each_line_is_answered_before_the_next(rt: HostRuntime) -> Result<(), Fail> {
-    assert_eq!(rt; answered_anew(rt.alloc(), &counted(), 0)?, 5);
-    Ok(())
+    tried(rt.alloc(), Trial::Lines, &COUNTED)
 }
 
 #[test]
 fn a_storage_that_fails_is_told_at_once(rt: HostRuntime) -> Result<(), Fail> {
-    assert_eq!(rt; answered_anew(rt.alloc(), &counted_but_saved(), 2)?, 5);
-    Ok(())
+    tried(rt.alloc(), Trial::Lines, &COUNTED_BUT_SAVED)
 }
 
 #[test]
 fn what_is_sent_is_delivered_behind_its_line(rt: HostRuntime) -> Result<(), Fail> {
-    assert_eq!(rt; answered_anew(rt.alloc(), &sent(), 0)?, 6);
-    Ok(())
+    tried(rt.alloc(), Trial::Lines, &SENT)
 }
 
 #[test]
 fn what_is_left_goes_on_behind_the_tenants_next_line(rt: HostRuntime) -> Result<(), Fail> {
-    assert_eq!(rt; answered_anew(rt.alloc(), &sent_one_by_one(), 0)?, 6);
-    assert_eq!(rt; answered_anew(rt.alloc(), &sent_to_nobody(), 0)?, 6);
-    Ok(())
+    tried(rt.alloc(), Trial::Lines, &SENT_ONE_BY_ONE)?;
+    tried(rt.alloc(), Trial::Lines, &SENT_TO_NOBODY)
 }
 
 #[test]
 fn other_lines_are_refused_or_ask_nothing(rt: HostRuntime) -> Result<(), Fail> {
-    assert_eq!(rt; answered_anew(rt.alloc(), &others(), 0)?, 11);
-    Ok(())
+    tried(rt.alloc(), Trial::Lines, &OTHERS)
 }
 
 #[test]
 fn answers_are_the_same_by_each_seed(rt: HostRuntime) -> Result<(), Fail> {
     for seed in 0..10 {
-        assert_eq!(rt; answered_by_seed(rt.alloc(), &sent(), seed)?, 6);
+        tried_by(rt.alloc(), &SENT, seed)?;
     }
     Ok(())
 }

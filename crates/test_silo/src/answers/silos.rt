@@ -1,7 +1,6 @@
 //! Silos that answer at once, and calls of them, each in a function without clauses: the clauses of a call stand before
 //! all later goals of the body that makes it.
 
-use crate::setups::setup_over;
 use grain_id::HashSeed;
 use grain_kinds::Kinds;
 use grain_storage::{FusedStorage, MemoryStorage};
@@ -11,6 +10,7 @@ use silo_event::{Moment, Reply, Step};
 use std::alloc::{AllocError, Global};
 use std::io::{Read, Write};
 use std::test::Fail;
+use test_helpers::setups::{Ages, setup_over};
 
 /// A silo of counters, sheets and relays over rows in memory, of whose calls one may fail.
 pub type TestedSilo = AnsweringSilo<FusedStorage, Kinds>;
@@ -19,29 +19,25 @@ pub type TestedSilo = AnsweringSilo<FusedStorage, Kinds>;
 /// milliseconds.
 fn setup(alloc: Global, fails_at: u64) -> Result<Setup<FusedStorage, Kinds>, Fail> {
     let storage = FusedStorage::new(MemoryStorage::new(alloc), fails_at);
-    setup_over(alloc, &["red", "blue"], 3, 5, storage, Kinds)
+    let ages = Ages { age: 5, kinds: &[] };
+    setup_over(alloc, &["red", "blue"], 3, ages, storage, Kinds)
 }
 
-fn opened(alloc: Global, setup: Setup<FusedStorage, Kinds>) -> Result<TestedSilo, AllocError> {
-    AnsweringSilo::new(alloc, setup)
-}
-
-fn opened_by(
+fn opened(
     alloc: Global,
     setup: Setup<FusedStorage, Kinds>,
-    seed: u64,
+    seed: Option<u64>,
 ) -> Result<TestedSilo, AllocError> {
-    AnsweringSilo::seeded(alloc, setup, HashSeed::new(seed))
+    match seed {
+        Some(seed) => AnsweringSilo::seeded(alloc, setup, HashSeed::new(seed)),
+        None => AnsweringSilo::new(alloc, setup),
+    }
 }
 
-/// A silo over no rows, whose storage fails that call, or none if it is 0.
-pub fn new_silo(alloc: Global, fails_at: u64) -> Result<TestedSilo, Fail> {
-    Ok(opened(alloc, setup(alloc, fails_at)?)?)
-}
-
-/// A silo over no rows, whose grains are found by hashes from this seed.
-pub fn seeded_silo(alloc: Global, seed: u64) -> Result<TestedSilo, Fail> {
-    Ok(opened_by(alloc, setup(alloc, 0)?, seed)?)
+/// A silo over no rows, whose storage fails that call, or none if it is 0. Its grains are found by hashes from this seed, if there is
+/// one.
+pub fn new_silo(alloc: Global, fails_at: u64, seed: Option<u64>) -> Result<TestedSilo, Fail> {
+    Ok(opened(alloc, setup(alloc, fails_at)?, seed)?)
 }
 
 /// Answers the lines of the reader: how that ends, but for want of memory.

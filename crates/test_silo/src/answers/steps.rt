@@ -1,8 +1,8 @@
 //! A silo that is asked step by step, and what it shows.
 
-use crate::answers::silos::{
-    TestedSilo, alone, journal, new_silo, replies, sweep, taken, taken_alone, tick,
-};
+use crate::answers::rows::COUNTED;
+use crate::answers::silos::{TestedSilo, journal, replies, sweep, taken, tick};
+use crate::answers::trials::{Trial, tried_to};
 use silo_event::Step;
 use std::alloc::Global;
 use std::test::Fail;
@@ -15,25 +15,15 @@ fn is_swept(silo: &TestedSilo, at: u64) -> bool {
 }
 
 /// Whether a silo takes a tick, refuses an earlier one, and is swept.
-fn is_asked(alloc: Global, silo: &mut TestedSilo) -> Result<bool, Fail> {
+pub fn is_asked(alloc: Global, silo: &mut TestedSilo) -> Result<bool, Fail> {
     let later = tick(alloc, silo, 7)?;
     let earlier = tick(alloc, silo, 6)?;
     let swept = sweep(alloc, silo)?;
     Ok(later && !earlier && swept && taken(silo) == 2 && is_swept(silo, 7))
 }
 
-/// The same of a new silo, whose steps are shown when it is a silo alone, too.
-fn is_asked_anew(alloc: Global) -> Result<bool, Fail> {
-    let mut silo = new_silo(alloc, 0)?;
-    let asked = is_asked(alloc, &mut silo);
-    let inside = alone(silo);
-    let count = taken_alone(&inside);
-    drop(inside);
-    Ok(asked? && count == 2)
-}
-
+/// Its steps are shown when it is a silo alone, too.
 #[test]
 fn steps_are_answered_one_by_one(rt: HostRuntime) -> Result<(), Fail> {
-    assert!(rt; is_asked_anew(rt.alloc())?);
-    Ok(())
+    tried_to(rt.alloc(), Trial::Steps, &COUNTED, 2)
 }

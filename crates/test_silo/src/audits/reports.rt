@@ -2,43 +2,38 @@
 
 ghost use Rattle.std.specs.Prelude.{◌≤◌};
 
-use crate::meeting::Meeting;
-use crate::setups::setup_of;
+use crate::audits::gate::TenantsMeet;
+use crate::audits::seen::{Seen, reports_under, seen_by, seen_under, seen_with};
 use grain_id::Tenant;
 use grain_kinds::{Kinds, RestingKinds};
-use grain_storage::MemoryStorage;
+use grain_logic::GrainLogic;
+use grain_storage::FusedStorage;
 use idle_collector::AgeTable;
 use silo_core::Silo;
-use silo_event::{Moment, Step};
+use silo_event::{Answer, Moment, Step, StepFault};
 use std::alloc::Global;
 use std::sync::Wait;
-use std::sync::atomic::{AtomicU64, Ordering};
 use std::test::Fail;
 use std::thread::Threads;
 use tenant_audit::{
-    AuditFault, AuditGate, JournalFault, JournalKinds, Report, TenantMachine, audit, audit_under,
-    audit_with, has_difference, laws, read_journal, report_text, write_journal,
+    AuditFault, JournalFault, JournalKinds, TenantMachine, laws, read_journal, write_journal,
 };
 use tenant_gate::{Age, Limits};
+use test_helpers::setups::setup_of;
+use test_helpers::verdicts::holds;
 
 /// The journal of one tenant whose counter is asked to add 3.
 const WORKED: &str =
     "silo-journal 1\nage 900000\ntenant red 2 4\ncall red/c1 1 counter/red:a 01000000036164640600000001000000026279030000000000000003\nactivate counter/red:a\nload counter/red:a ok\nbegin counter/red:a\nend counter/red:a 1\nreply red/c1 1 ok 030000000000000003\nclose 5\n";
 
-fn audited(alloc: Global, text: &str) -> Result<String, Fail> {
-    let journal = read_journal(alloc, text.as_bytes())?;
-    let report = audit_under(alloc, &journal, Kinds)?;
-    Ok(report_text(alloc, &report)?)
-}
-
 #[test]
 fn a_true_journal_has_no_difference(rt: HostRuntime) -> Result<(), Fail> {
-    let alloc = rt.alloc();
-    assert_eq!(rt;
-        audited(alloc, WORKED)?.as_str(),
-        "tenant red: 5 steps, 1 replies, 0 rows\n"
-    );
-    Ok(())
+    reports_under(
+        rt.alloc(),
+        WORKED,
+        Kinds,
+        "tenant red: 5 steps, 1 replies, 0 rows\n",
+    )
 }
 
 /// A journal of three tenants, of whom the table has one, and its report.
@@ -50,63 +45,27 @@ const OTHERS_REPORT: &str =
 
 #[test]
 fn others_are_reported_behind_the_table(rt: HostRuntime) -> Result<(), Fail> {
-    let alloc = rt.alloc();
-    assert_eq!(rt; audited(alloc, OTHERS)?.as_str(), OTHERS_REPORT);
-    Ok(())
+    reports_under(rt.alloc(), OTHERS, Kinds, OTHERS_REPORT)
 }
 
-/// A gate that counts the tenants that it is told of.
-#[derive(Drop)]
-struct Counting {
-    told: AtomicU64,
-}
-
-impl AuditGate for Counting {
-    fn entered(&self, _tenant: &Tenant) {
-        self.told.fetch_add(1, Ordering::SeqCst);
-    }
-}
-
-/// The report of three tenants by so many workers, and how many tenants the gate was told of.
-fn audited_by<R: Threads + Wait + Sync>(
+/// Fails, unless so many workers give the report, and a gate was told of each of the three tenants.
+fn is_reported_by<R: AllocGlobal + Threads + Wait + Sync>(
     rt: &R,
-    alloc: Global,
     workers: usize,
-) -> Result<(String, u64), Fail>
+) -> Result<(), Fail>
     requires { (1 ≤ workers) × (workers ≤ 64) }
 {
-    let gate = Counting {
-        told: AtomicU64::new(0),
-    };
-    let journal = read_journal(alloc, OTHERS.as_bytes())?;
-    let Ok(report) = audit_with(rt, alloc, &journal, workers, &gate) else {
-        return Err(Fail::from("no report: no memory, or no thread"));
-    };
-    Ok((
-        report_text(alloc, &report)?,
-        gate.told.load(Ordering::SeqCst),
-    ))
-}
-
-/// Whether so many workers give the report, and the gate was told of each tenant.
-fn is_report_by<R: Threads + Wait + Sync>(
-    rt: &R,
-    alloc: Global,
-    workers: usize,
-) -> Result<bool, Fail>
-    requires { (1 ≤ workers) × (workers ≤ 64) }
-{
-    let (text, told) = audited_by(rt, alloc, workers)?;
-    Ok(text.as_str() == OTHERS_REPORT && told == 3)
+    let gate = TenantsMeet::new(1);
+    let seen = seen_with(rt, OTHERS.as_bytes(), workers, &gate)?;
+    holds(seen.text.as_str() == OTHERS_REPORT && gate.meeting.come() == 3)
 }
 
 #[test]
 fn the_report_is_the_same_for_every_number_of_workers(rt: HostRuntime) -> Result<(), Fail> {
-    assert!(rt; is_report_by(&rt, rt.alloc(), 1)?);
-    assert!(rt; is_report_by(&rt, rt.alloc(), 2)?);
-    assert!(rt; is_report_by(&rt, rt.alloc(), 3)?);
-    assert!(rt; is_report_by(&rt, rt.alloc(), 64)?);
-    Ok(())
+    is_reported_by(&rt, 1)?;
+    is_reported_by(&rt, 2)?;
+    is_reported_by(&rt, 3)?;
+    is_reported_by(&rt, 64)
 }
 
 /// Two tenants that did nothing.
@@ -114,65 +73,72 @@ const QUIET: &str = "silo-journal 1\nage 1\ntenant red 1 1\ntenant blue 1 1\nclo
 
 #[test]
 fn two_tenants_are_audited_at_once(rt: HostRuntime) -> Result<(), Fail> {
-    let alloc = rt.alloc();
-    let gate = Meeting::new(2);
-    let journal = read_journal(alloc, QUIET.as_bytes())?;
-    let report = audit_with(&rt, alloc, &journal, 2, &gate)?;
-    assert_eq!(rt; report.tenants().len(), 2);
-    assert!(rt; !gate.was_missed(), "a tenant waited alone");
-    Ok(())
+    let gate = TenantsMeet::new(2);
+    let seen = seen_with(&rt, QUIET.as_bytes(), 2, &gate)?;
+    holds(seen.text.as_str().lines().count() == 2 && !gate.meeting.was_missed())
 }
 
 #[test]
 fn the_first_step_that_is_not_done_is_told(rt: HostRuntime) -> Result<(), Fail> {
-    let alloc = rt.alloc();
     let text =
         "silo-journal 1\nage 1\ntenant red 1 1\ntick 5\ntick 4\nbegin counter/red:a\nclose 3\n";
-    assert_eq!(rt;
-        audited(alloc, text)?.as_str(),
-        "tenant red: step 2 differs\n"
-    );
-    Ok(())
+    reports_under(rt.alloc(), text, Kinds, "tenant red: step 2 differs\n")
 }
 
 #[test]
 fn a_changed_reply_is_told(rt: HostRuntime) -> Result<(), Fail> {
-    let alloc = rt.alloc();
     let text =
         "silo-journal 1\nage 1\ntenant red 1 1\nstatus blue/c1 1\nreply blue/c1 1 no 22 tenant blue is unknown\nclose 1\n";
-    assert_eq!(rt;
-        audited(alloc, text)?.as_str(),
-        "tenant red: 0 steps, 0 replies, 0 rows\ntenant blue: reply 1 differs\n"
-    );
-    Ok(())
+    let wanted = "tenant red: 0 steps, 0 replies, 0 rows\ntenant blue: reply 1 differs\n";
+    reports_under(rt.alloc(), text, Kinds, wanted)
 }
 
-/// A silo of red alone, over no rows.
-fn new_silo<L: JournalKinds + Copy + Drop>(
+fn take<L: GrainLogic>(
     alloc: Global,
-    logic: L,
-) -> Result<Silo<MemoryStorage, L>, Fail> {
-    Ok(Silo::new(alloc, setup_of(alloc, &["red"], logic)?)?)
+    silo: &mut Silo<FusedStorage, L>,
+    step: Step,
+) -> Result<Answer, StepFault> {
+    silo.apply(alloc, step)
 }
 
-/// The journal of the silo after the worked journal's steps.
-fn written<L: JournalKinds + Copy + Drop>(
+/// The text of the silo's journal, if it opened with no rows.
+fn text_of<L: JournalKinds + Copy + Drop>(
     alloc: Global,
-    silo: &mut Silo<MemoryStorage, L>,
+    silo: &Silo<FusedStorage, L>,
 ) -> Result<Vec<u8>, Fail> {
-    let journal = read_journal(alloc, WORKED.as_bytes())?;
-    for step in journal.steps() {
-        drop(silo.apply(alloc, step.clone()?)?);
-    }
     if !silo.opening().is_empty() {
         return Err("it opened with rows".into());
     }
     Ok(write_journal(alloc, silo)?)
 }
 
-/// The same of a new silo.
+/// Takes a copy of each step.
+fn take_all<L: GrainLogic>(
+    alloc: Global,
+    silo: &mut Silo<FusedStorage, L>,
+    steps: &[Step],
+) -> Result<(), Fail> {
+    for step in steps {
+        take(alloc, silo, step.clone()?)?;
+    }
+    Ok(())
+}
+
+/// The journal of the silo after the worked journal's steps.
+fn written<L: JournalKinds + Copy + Drop>(
+    alloc: Global,
+    silo: &mut Silo<FusedStorage, L>,
+) -> Result<Vec<u8>, Fail> {
+    let journal = read_journal(alloc, WORKED.as_bytes())?;
+    let taken = take_all(alloc, silo, journal.steps());
+    drop(journal);
+    taken?;
+    text_of(alloc, silo)
+}
+
+/// The same of a new silo of red alone, over no rows.
 fn written_anew<L: JournalKinds + Copy + Drop>(alloc: Global, logic: L) -> Result<Vec<u8>, Fail> {
-    let mut silo = new_silo(alloc, logic)?;
+    let mut silo = Silo::new(alloc, setup_of(alloc, &["red"], &[], logic)?)?;
     let text = written(alloc, &mut silo);
     drop(silo);
     text
@@ -184,41 +150,40 @@ fn in_third_form(alloc: Global, head: &str) -> Result<String, Fail> {
     Ok(text.replace(alloc, " 01000000", " 02000000")?)
 }
 
-#[test]
-fn a_silo_writes_the_worked_journal(rt: HostRuntime) -> Result<(), Fail> {
-    let alloc = rt.alloc();
-    let text = written_anew(alloc, Kinds)?;
-    let first = in_third_form(alloc, "silo-journal 3\nkinds 1\n")?;
-    assert!(rt; text.as_slice() == first.as_bytes());
-    let text = written_anew(alloc, RestingKinds)?;
-    let second = in_third_form(alloc, "silo-journal 3\nkinds 2\n")?;
-    assert!(rt; text.as_slice() == second.as_bytes());
-    let journal = read_journal(alloc, text.as_slice())?;
-    let report = audit_under(alloc, &journal, RestingKinds)?;
-    assert!(rt; !has_difference(&report));
-    Ok(())
+/// Fails, unless a text is the worked journal with this head.
+fn is_third_form(alloc: Global, text: &[u8], head: &str) -> Result<(), Fail> {
+    holds(in_third_form(alloc, head)?.as_bytes() == text)
 }
 
-/// Whether the report says of its second tenant that there are no steps, no replies and a row that
-/// differs.
-fn has_amber(report: &Report) -> bool {
-    match report.tenants() {
-        [_, amber, _] => {
-            (amber.steps, amber.replies, amber.rows) == (1, 0, 1) && amber.difference.is_some()
-        }
-        _ => false,
-    }
+/// Fails, unless an audit found no difference.
+fn is_clean(seen: Result<Seen, Fail>) -> Result<(), Fail> {
+    let seen = seen?;
+    let differs = seen.differs;
+    drop(seen);
+    holds(!differs)
+}
+
+/// Fails, unless a silo of this logic writes the worked journal with this head, and its audit finds no difference.
+fn is_written<L: JournalKinds + Copy + Drop>(
+    alloc: Global,
+    logic: L,
+    head: &str,
+) -> Result<(), Fail> {
+    let text = written_anew(alloc, logic)?;
+    is_third_form(alloc, &text, head)?;
+    is_clean(seen_under(alloc, text.as_slice(), logic))
+}
+
+#[test]
+fn a_silo_writes_the_worked_journal(rt: HostRuntime) -> Result<(), Fail> {
+    is_written(rt.alloc(), Kinds, "silo-journal 3\nkinds 1\n")?;
+    is_written(rt.alloc(), RestingKinds, "silo-journal 3\nkinds 2\n")
 }
 
 #[test]
 fn an_audit_needs_no_gate(rt: HostRuntime) -> Result<(), Fail> {
-    let alloc = rt.alloc();
-    let journal = read_journal(alloc, OTHERS.as_bytes())?;
-    let report = audit(&rt, alloc, &journal, 4)?;
-    assert!(rt; has_difference(&report));
-    assert!(rt; has_amber(&report));
-    assert_eq!(rt; report_text(alloc, &report)?.as_str(), OTHERS_REPORT);
-    Ok(())
+    let seen = seen_by(&rt, OTHERS.as_bytes(), 4)?;
+    holds(seen.differs && seen.has_amber && seen.text.as_str() == OTHERS_REPORT)
 }
 
 /// A machine of red.
@@ -236,7 +201,10 @@ fn machine_of_red(alloc: Global) -> Result<TenantMachine<Kinds>, Fail> {
 /// Whether the machine takes this moment.
 fn is_taken(alloc: Global, machine: &mut TenantMachine<Kinds>, now: u64) -> Result<bool, Fail> {
     let now = Moment::new(now).ok_or("no moment")?;
-    Ok(machine.step(alloc, &Step::Tick { now })?)
+    let tick = Step::Tick { now };
+    let taken = machine.step(alloc, &tick);
+    drop(tick);
+    Ok(taken?)
 }
 
 /// Whether a tick of 5 is taken, one of 4 behind it is not, and nothing is replied or stored.
@@ -249,25 +217,21 @@ fn are_ticks_taken(alloc: Global, machine: &mut TenantMachine<Kinds>) -> Result<
 
 #[test]
 fn a_machine_takes_steps(rt: HostRuntime) -> Result<(), Fail> {
-    let alloc = rt.alloc();
-    let mut machine = machine_of_red(alloc)?;
-    let taken = are_ticks_taken(alloc, &mut machine);
+    let mut machine = machine_of_red(rt.alloc())?;
+    let taken = are_ticks_taken(rt.alloc(), &mut machine);
     drop(machine);
-    assert!(rt; taken?);
-    Ok(())
+    holds(taken?)
 }
 
 #[test]
 fn faults_are_told_in_plain_words(rt: HostRuntime) -> Result<(), Fail> {
-    let alloc = rt.alloc();
     let line = JournalFault::At { line: 7 };
     let (no_worker, memory) = (AuditFault::NoWorker, AuditFault::Memory);
-    let text = format!(in alloc; "{line}; {no_worker}; {memory}")?;
-    assert_eq!(rt;
-        text.as_str(),
-        "line 7 fits no form in its place; a thread couldn't be started; out of memory"
-    );
-    Ok(())
+    let text = format!(in rt.alloc(); "{line}; {no_worker}; {memory}")?;
+    holds(
+        text.as_str()
+            == "line 7 fits no form in its place; a thread couldn't be started; out of memory",
+    )
 }
 
 #[test]

@@ -1,11 +1,10 @@
 //! Audits of journals whose grains rest and stay, and of those in which they can't.
 
+use crate::audits::seen::{reports, reports_under};
 use grain_kinds::{Kinds, RestingKinds};
-use std::alloc::Global;
 use std::sync::Wait;
 use std::test::Fail;
 use std::thread::Threads;
-use tenant_audit::{audit, audit_under, read_journal, report_text};
 
 /// A counter goes before a sheet does, since its kind has a shorter age.
 const AGES: &str =
@@ -23,58 +22,39 @@ const RESTS: &str =
 const UNKNOWN: &str =
     "silo-journal 1\nage 900000\ntenant red 2 4\ncall red/c1 1 counter/red:a 01000000047265737400\nactivate counter/red:a\nload counter/red:a ok\nbegin counter/red:a\nend counter/red:a 1\nreply red/c1 1 no 60 method is unknown\nclose 5\n";
 
-/// The report of the journal, under the logic that it names.
-fn audited<R: Threads + Wait + Sync>(rt: &R, alloc: Global, text: &str) -> Result<String, Fail> {
-    let journal = read_journal(alloc, text.as_bytes())?;
-    let report = audit(rt, alloc, &journal, 1)?;
-    Ok(report_text(alloc, &report)?)
-}
-
 #[test]
 fn resting_and_staying_are_audited(rt: HostRuntime) -> Result<(), Fail> {
-    let alloc = rt.alloc();
-    assert_eq!(rt;
-        audited(&rt, alloc, AGES)?.as_str(),
-        "tenant red: 14 steps, 3 replies, 0 rows\n"
-    );
-    assert_eq!(rt;
-        audited(&rt, alloc, STAYS)?.as_str(),
-        "tenant red: 12 steps, 3 replies, 0 rows\n"
-    );
-    assert_eq!(rt;
-        audited(&rt, alloc, RESTS)?.as_str(),
-        "tenant red: 10 steps, 4 replies, 0 rows\n"
-    );
-    Ok(())
+    reports(&rt, AGES, "tenant red: 14 steps, 3 replies, 0 rows\n")?;
+    reports(&rt, STAYS, "tenant red: 12 steps, 3 replies, 0 rows\n")?;
+    reports(&rt, RESTS, "tenant red: 10 steps, 4 replies, 0 rows\n")
+}
+
+/// The report of `UNKNOWN`, where a counter has no such method.
+const CLEAN: &str = "tenant red: 5 steps, 1 replies, 0 rows\n";
+
+/// The report where it has.
+const DIFFERS: &str = "tenant red: reply 1 differs\n";
+
+/// Fails, unless an audit of `UNKNOWN` with this head reports that.
+fn reports_with<R: AllocGlobal + Threads + Wait + Sync>(
+    rt: &R,
+    head: &str,
+    wanted: &str,
+) -> Result<(), Fail> {
+    let text = UNKNOWN.replace(rt.alloc(), "silo-journal 1\n", head)?;
+    reports(rt, text.as_str(), wanted)
 }
 
 /// In the first form grains neither rest nor stay, and the second form says whether they do.
 #[test]
 fn a_journal_is_audited_under_the_logic_that_it_names(rt: HostRuntime) -> Result<(), Fail> {
-    let alloc = rt.alloc();
-    let clean = "tenant red: 5 steps, 1 replies, 0 rows\n";
-    let differs = "tenant red: reply 1 differs\n";
-    assert_eq!(rt; audited(&rt, alloc, UNKNOWN)?.as_str(), clean);
-    let first = UNKNOWN.replace(alloc, "silo-journal 1\n", "silo-journal 2\nkinds 1\n")?;
-    assert_eq!(rt; audited(&rt, alloc, first.as_str())?.as_str(), clean);
-    let second = UNKNOWN.replace(alloc, "silo-journal 1\n", "silo-journal 2\nkinds 2\n")?;
-    assert_eq!(rt; audited(&rt, alloc, second.as_str())?.as_str(), differs);
-    Ok(())
+    reports(&rt, UNKNOWN, CLEAN)?;
+    reports_with(&rt, "silo-journal 2\nkinds 1\n", CLEAN)?;
+    reports_with(&rt, "silo-journal 2\nkinds 2\n", DIFFERS)
 }
 
 #[test]
 fn any_logic_can_be_given_to_an_audit(rt: HostRuntime) -> Result<(), Fail> {
-    let alloc = rt.alloc();
-    let journal = read_journal(alloc, UNKNOWN.as_bytes())?;
-    let under_kinds = audit_under(alloc, &journal, Kinds)?;
-    assert_eq!(rt;
-        report_text(alloc, &under_kinds)?.as_str(),
-        "tenant red: 5 steps, 1 replies, 0 rows\n"
-    );
-    let under_resting = audit_under(alloc, &journal, RestingKinds)?;
-    assert_eq!(rt;
-        report_text(alloc, &under_resting)?.as_str(),
-        "tenant red: reply 1 differs\n"
-    );
-    Ok(())
+    reports_under(rt.alloc(), UNKNOWN, Kinds, CLEAN)?;
+    reports_under(rt.alloc(), UNKNOWN, RestingKinds, DIFFERS)
 }

@@ -1,87 +1,112 @@
 //! Rows of grains that rest and stay, and of kinds that have an age of their own, each in one run.
 
-use crate::setups::ages_told;
-use crate::steps::lines::steps_of;
-use crate::steps::refusals::{are_done, is_shown};
-use crate::steps::rows::{Worked, collected, knows_no_rest, one_kind_goes, rests, stays};
-use crate::steps::silos::{ages_of, answers, silo_of};
-use grain_kinds::{GrainLogic, Kinds, RestingKinds};
-use grain_storage::MemoryStorage;
-use silo_core::Silo;
+use crate::steps::refusals::are_done;
+use crate::steps::rows::{COLLECTED, KNOWS_NO_REST, NOTHING, ONE_KIND_GOES, RESTS, STAYS, Worked};
+use crate::steps::silos::{SiloOf, ages_of, answers, silo_of};
+use crate::steps::trials::is_shown;
+use grain_kinds::{Kinds, RestingKinds};
+use grain_logic::GrainLogic;
 use std::alloc::Global;
 use std::test::Fail;
+use test_helpers::lines::steps_of;
+use test_helpers::setups::{Ages, ages_told};
+use test_helpers::verdicts::holds;
 
 /// Whether the silo does all steps of the row in one run, and gives the row.
-fn is_run<L: GrainLogic>(
-    alloc: Global,
-    silo: &mut Silo<MemoryStorage, L>,
-    row: &Worked,
-) -> Result<bool, Fail> {
+fn is_run<L: GrainLogic>(alloc: Global, silo: &mut SiloOf<L>, row: &Worked) -> Result<bool, Fail> {
     let steps = steps_of(alloc, row.lines)?;
     let done = are_done(answers(alloc, silo, steps)?.as_slice());
     Ok(done && is_shown(alloc, silo, row)?)
 }
 
-/// The same of a new silo of this logic, with this age and the ages of these kinds.
-fn is_run_anew<L: GrainLogic + Drop>(
+/// Whether the silo does so, and tells its ages in these lines.
+fn is_aged<L: GrainLogic>(
     alloc: Global,
-    logic: L,
-    age: u64,
-    ages: &[(&str, u64)],
+    silo: &mut SiloOf<L>,
+    aged: &str,
     row: &Worked,
 ) -> Result<bool, Fail> {
-    let mut silo = silo_of(alloc, logic, age, ages)?;
-    let run = is_run(alloc, &mut silo, row);
-    drop(silo);
-    run
+    let ages = ages_told(alloc, ages_of(silo))?;
+    Ok(ages.as_str() == aged && is_run(alloc, silo, row)?)
 }
+
+/// Runs the row on a new silo of this logic with these ages, which it tells in these lines.
+fn run_anew<L: GrainLogic + Drop>(
+    alloc: Global,
+    logic: L,
+    ages: Ages,
+    aged: &str,
+    row: &Worked,
+) -> Result<(), Fail> {
+    let mut silo = silo_of(alloc, logic, ages, row)?;
+    let run = is_aged(alloc, &mut silo, aged, row);
+    drop(silo);
+    holds(run?)
+}
+
+/// All kinds have this age.
+fn alike(age: u64) -> Ages<'static> {
+    Ages { age, kinds: &[] }
+}
+
+/// Runs the row where grains may rest and stay, and have this age.
+fn run_resting(alloc: Global, age: u64, row: &Worked) -> Result<(), Fail> {
+    run_anew(alloc, RestingKinds, alike(age), "", row)
+}
+
+/// Runs the row where grains have this age, and neither rest nor stay.
+fn run_unrested(alloc: Global, age: u64, row: &Worked) -> Result<(), Fail> {
+    run_anew(alloc, Kinds, alike(age), "", row)
+}
+
+/// Counters go sooner.
+static TWO_AGES: Ages<'static> = Ages {
+    age: 1_000,
+    kinds: &[("counter", 10)],
+};
 
 #[test]
 fn each_kind_goes_by_its_own_age(rt: HostRuntime) -> Result<(), Fail> {
-    let alloc = rt.alloc();
-    assert!(rt;
-        is_run_anew(
-            alloc,
-            RestingKinds,
-            1_000,
-            &[("counter", 10)],
-            &one_kind_goes()
-        )?
-    );
-    Ok(())
+    run_anew(
+        rt.alloc(),
+        RestingKinds,
+        TWO_AGES,
+        "counter 10\n",
+        &ONE_KIND_GOES,
+    )
 }
 
 #[test]
 fn a_grain_stays(rt: HostRuntime) -> Result<(), Fail> {
-    assert!(rt; is_run_anew(rt.alloc(), RestingKinds, 10, &[], &stays())?);
-    Ok(())
+    run_resting(rt.alloc(), 10, &STAYS)
 }
 
 #[test]
 fn a_grain_rests(rt: HostRuntime) -> Result<(), Fail> {
-    assert!(rt; is_run_anew(rt.alloc(), RestingKinds, 900_000, &[], &rests())?);
-    Ok(())
+    run_resting(rt.alloc(), 900_000, &RESTS)
 }
 
 #[test]
 fn without_ages_all_is_as_before(rt: HostRuntime) -> Result<(), Fail> {
-    assert!(rt; is_run_anew(rt.alloc(), RestingKinds, 1_000, &[], &collected())?);
-    assert!(rt; is_run_anew(rt.alloc(), Kinds, 1_000, &[], &collected())?);
-    assert!(rt; is_run_anew(rt.alloc(), Kinds, 900_000, &[], &knows_no_rest())?);
-    Ok(())
+    let alloc = rt.alloc();
+    run_resting(alloc, 1_000, &COLLECTED)?;
+    run_unrested(alloc, 1_000, &COLLECTED)?;
+    run_unrested(alloc, 900_000, &KNOWS_NO_REST)
 }
 
-/// What a new silo with these ages tells of them.
-fn ages_told_anew(alloc: Global, ages: &[(&str, u64)]) -> Result<String, Fail> {
-    let silo = silo_of(alloc, RestingKinds, 1_000, ages)?;
-    let told = ages_told(alloc, ages_of(&silo));
-    drop(silo);
-    told
-}
+/// Both kinds go sooner.
+static THREE_AGES: Ages<'static> = Ages {
+    age: 1_000,
+    kinds: &[("sheet", 20), ("counter", 10)],
+};
 
 #[test]
 fn a_silo_shows_its_ages(rt: HostRuntime) -> Result<(), Fail> {
-    let told = ages_told_anew(rt.alloc(), &[("sheet", 20), ("counter", 10)])?;
-    assert!(rt; told.as_str() == "counter 10\nsheet 20\n");
-    Ok(())
+    run_anew(
+        rt.alloc(),
+        RestingKinds,
+        THREE_AGES,
+        "counter 10\nsheet 20\n",
+        &NOTHING,
+    )
 }

@@ -1,14 +1,15 @@
 //! Steps that are taken in one arena, which is reset between some of them.
 
-use crate::steps::lines::{shown, steps_of};
-use crate::steps::rows::{collected, overwritten, sent};
-use crate::steps::silos::{TestedSilo, answers, apply_in, new_silo};
+use crate::steps::rows::{COLLECTED, OVERWRITTEN, SENT, Worked};
+use crate::steps::silos::{TestedSilo, apply_in};
+use crate::steps::trials::{Way, are_alike};
 use bumpalo::Bump;
 use std::alloc::Global;
 use std::test::Fail;
+use test_helpers::lines::steps_of;
 
-/// What the silo shows after the lines, each taken in one arena that is reset after every other step.
-fn shown_by_one(alloc: Global, silo: &mut TestedSilo, lines: &str) -> Result<String, Fail> {
+/// Takes the steps of the lines in one arena that is reset after every other step.
+pub fn take_in_one_arena(alloc: Global, silo: &mut TestedSilo, lines: &str) -> Result<(), Fail> {
     let mut bump = Bump::new(alloc);
     let mut resets = false;
     for step in steps_of(alloc, lines)? {
@@ -18,43 +19,18 @@ fn shown_by_one(alloc: Global, silo: &mut TestedSilo, lines: &str) -> Result<Str
         }
         resets = !resets;
     }
-    shown(alloc, silo)
+    Ok(())
 }
 
-/// The same of a new silo.
-fn shown_by_one_anew(alloc: Global, lines: &str) -> Result<String, Fail> {
-    let mut silo = new_silo(alloc)?;
-    let text = shown_by_one(alloc, &mut silo, lines);
-    drop(silo);
-    text
-}
-
-/// What the silo shows after the lines, each turn run in an arena of its own.
-fn shown_by_many(alloc: Global, silo: &mut TestedSilo, lines: &str) -> Result<String, Fail> {
-    let steps = steps_of(alloc, lines)?;
-    drop(answers(alloc, silo, steps)?);
-    shown(alloc, silo)
-}
-
-/// The same of a new silo.
-fn shown_by_many_anew(alloc: Global, lines: &str) -> Result<String, Fail> {
-    let mut silo = new_silo(alloc)?;
-    let text = shown_by_many(alloc, &mut silo, lines);
-    drop(silo);
-    text
-}
-
-/// Whether one arena serves as well as many.
-fn is_alike(alloc: Global, lines: &str) -> Result<bool, Fail> {
-    let one = shown_by_one_anew(alloc, lines)?;
-    let many = shown_by_many_anew(alloc, lines)?;
-    Ok(one.as_str() == many.as_str())
+/// Fails, unless one arena serves the row as well as many.
+fn is_served(alloc: Global, row: &Worked) -> Result<(), Fail> {
+    are_alike(alloc, Way::InOneArena, Way::First(usize::MAX), row.lines)
 }
 
 #[test]
 fn one_arena_serves_all_steps(rt: HostRuntime) -> Result<(), Fail> {
-    assert!(rt; is_alike(rt.alloc(), overwritten().lines)?);
-    assert!(rt; is_alike(rt.alloc(), collected().lines)?);
-    assert!(rt; is_alike(rt.alloc(), sent().lines)?);
-    Ok(())
+    let alloc = rt.alloc();
+    is_served(alloc, &OVERWRITTEN)?;
+    is_served(alloc, &COLLECTED)?;
+    is_served(alloc, &SENT)
 }

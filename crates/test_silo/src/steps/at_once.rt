@@ -1,12 +1,14 @@
 //! Calls that are served at once, beside the same calls taken step by step.
 
-use crate::steps::lines::{shown, steps_of};
-use crate::steps::silos::{TestedSilo, apply, new_silo};
+use crate::steps::silos::{TestedSilo, apply};
+use crate::steps::trials::{Way, are_alike, take_first};
 use bumpalo::Bump;
 use grain_id::GrainId;
 use silo_event::Step;
-use std::alloc::Global;
+use std::alloc::{AllocError, Global};
 use std::test::Fail;
+use test_helpers::lines::steps_of;
+use test_helpers::verdicts::holds;
 
 /// What brings two grains up.
 static BEFORE: &str =
@@ -52,14 +54,16 @@ fn first_waiting(silo: &TestedSilo, grain: &GrainId) -> Option<u64> {
     silo.first_waiting(grain)
 }
 
-/// Takes a step; and if it is a call, begins its turn and ends it, step by step.
-fn serve_by_steps(alloc: Global, silo: &mut TestedSilo, call: Step) -> Result<(), Fail> {
-    let Step::Call { grain, .. } = &call else {
-        apply(alloc, silo, call)?;
-        return Ok(());
-    };
-    let grain = grain.clone()?;
-    apply(alloc, silo, call)?;
+/// The grain of a call.
+fn called(step: &Step) -> Result<Option<GrainId>, AllocError> {
+    match step {
+        Step::Call { grain, .. } => Ok(Some(grain.clone()?)),
+        _ => Ok(None),
+    }
+}
+
+/// Begins the turn of the grain's first waiting request and ends it, if there is one.
+fn serve_waiting(alloc: Global, silo: &mut TestedSilo, grain: GrainId) -> Result<(), Fail> {
     let Some(turn) = first_waiting(silo, &grain) else {
         return Ok(());
     };
@@ -69,6 +73,16 @@ fn serve_by_steps(alloc: Global, silo: &mut TestedSilo, call: Step) -> Result<()
     apply(alloc, silo, begin)?;
     apply(alloc, silo, Step::End { grain, turn })?;
     Ok(())
+}
+
+/// Takes a step; and if it is a call, begins its turn and ends it, step by step.
+fn serve_by_steps(alloc: Global, silo: &mut TestedSilo, call: Step) -> Result<(), Fail> {
+    let called = called(&call);
+    apply(alloc, silo, call)?;
+    match called? {
+        Some(grain) => serve_waiting(alloc, silo, grain),
+        None => Ok(()),
+    }
 }
 
 /// Serves a call at once, if the silo does so. A call comes back as it was, too, if memory is refused on its way: so it is tried
@@ -104,49 +118,28 @@ fn serve_one(
     Ok(())
 }
 
-/// Takes the steps that bring the grains up.
-fn bring_up(alloc: Global, silo: &mut TestedSilo) -> Result<(), Fail> {
-    for step in steps_of(alloc, BEFORE)? {
-        apply(alloc, silo, step)?;
-    }
-    Ok(())
-}
-
-/// What the silo shows after the calls, each taken at once if the silo does so; behind it which of them it took.
-fn shown_at_once(alloc: Global, silo: &mut TestedSilo) -> Result<(String, String), Fail> {
-    bring_up(alloc, silo)?;
+/// Takes the calls behind the grains' coming up, each at once if the silo does so; and fails, unless it did so with those calls that
+/// it is to.
+pub fn take_at_once(alloc: Global, silo: &mut TestedSilo, lines: &str) -> Result<(), Fail> {
+    take_first(alloc, silo, BEFORE, usize::MAX)?;
     let mut bump = Bump::new(alloc);
     let mut told = String::new(alloc);
-    for call in steps_of(alloc, CALLS)? {
+    for call in steps_of(alloc, lines)? {
         serve_one(alloc, &mut bump, silo, call, &mut told)?;
     }
-    Ok((shown(alloc, silo)?, told))
+    holds(told.as_str() == AT_ONCE)
 }
 
-/// What the silo shows after the calls, each taken step by step.
-fn shown_by_steps(alloc: Global, silo: &mut TestedSilo) -> Result<String, Fail> {
-    bring_up(alloc, silo)?;
-    for call in steps_of(alloc, CALLS)? {
+/// Takes the calls behind the grains' coming up, each step by step.
+pub fn take_by_steps(alloc: Global, silo: &mut TestedSilo, lines: &str) -> Result<(), Fail> {
+    take_first(alloc, silo, BEFORE, usize::MAX)?;
+    for call in steps_of(alloc, lines)? {
         serve_by_steps(alloc, silo, call)?;
     }
-    shown(alloc, silo)
-}
-
-/// Whether the silos show the same, and which calls were taken at once.
-fn are_alike(alloc: Global, one: &mut TestedSilo, other: &mut TestedSilo) -> Result<bool, Fail> {
-    let (shown, told) = shown_at_once(alloc, one)?;
-    let wanted = shown_by_steps(alloc, other)?;
-    Ok(shown.as_str() == wanted.as_str() && told.as_str() == AT_ONCE)
+    Ok(())
 }
 
 #[test]
 fn a_call_at_once_is_its_three_steps(rt: HostRuntime) -> Result<(), Fail> {
-    let alloc = rt.alloc();
-    let mut one = new_silo(alloc)?;
-    let mut other = new_silo(alloc)?;
-    let alike = are_alike(alloc, &mut one, &mut other);
-    drop(one);
-    drop(other);
-    assert!(rt; alike?);
-    Ok(())
+    are_alike(rt.alloc(), Way::AtOnce, Way::BySteps, CALLS)
 }

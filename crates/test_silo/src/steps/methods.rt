@@ -3,19 +3,14 @@
 use crate::steps::silos::{TestedSilo, apply};
 use bumpalo::Bump;
 use grain_id::GrainId;
-use grain_kinds::{FinishedTurn, GrainLogic, Kinds, OpenedTurn, run_turn};
-use grain_storage::GrainStorage;
-use silo_core::Silo;
+use grain_kinds::Kinds;
+use grain_logic::{FinishedTurn, OpenedTurn, run_turn};
 use silo_event::{Answer, Step, StepFault};
 use std::alloc::{AllocError, Global};
 use std::test::Fail;
 
 /// What a client asks, and a delivery. Any other step is a grain's.
-fn ask<S: GrainStorage, L: GrainLogic>(
-    alloc: Global,
-    silo: &mut Silo<S, L>,
-    step: Step,
-) -> Result<Answer, StepFault> {
+fn ask(alloc: Global, silo: &mut TestedSilo, step: Step) -> Result<Answer, StepFault> {
     match step {
         Step::Refuse { caller, id, code } => silo.refuse(alloc, caller, id, code),
         Step::Call {
@@ -38,11 +33,7 @@ fn ask<S: GrainStorage, L: GrainLogic>(
 }
 
 /// What comes of entries and of time.
-fn move_on<S: GrainStorage, L: GrainLogic>(
-    alloc: Global,
-    silo: &mut Silo<S, L>,
-    step: Step,
-) -> Result<Answer, StepFault> {
+fn move_on(alloc: Global, silo: &mut TestedSilo, step: Step) -> Result<Answer, StepFault> {
     match step {
         Step::Activate { grain } => silo.activate(alloc, grain),
         Step::Load { grain, failed } => silo.load(alloc, grain, failed),
@@ -54,28 +45,28 @@ fn move_on<S: GrainStorage, L: GrainLogic>(
 }
 
 /// The turn that is opened.
-pub fn begin<S: GrainStorage, L: GrainLogic>(
+pub fn begin(
     alloc: Global,
-    silo: &mut Silo<S, L>,
+    silo: &mut TestedSilo,
     grain: GrainId,
 ) -> Result<Option<OpenedTurn>, StepFault> {
     silo.begin(alloc, grain)
 }
 
 /// Closes a turn that asks for nothing of the storage.
-pub fn end<S: GrainStorage, L: GrainLogic>(
+pub fn end(
     alloc: Global,
-    silo: &mut Silo<S, L>,
-    turn: &FinishedTurn<L>,
+    silo: &mut TestedSilo,
+    turn: &FinishedTurn<Kinds>,
 ) -> Result<Answer, StepFault> {
     silo.end(alloc, turn)
 }
 
 /// Closes a turn that asks for the storage.
-fn store<S: GrainStorage, L: GrainLogic>(
+fn store(
     alloc: Global,
-    silo: &mut Silo<S, L>,
-    turn: &FinishedTurn<L>,
+    silo: &mut TestedSilo,
+    turn: &FinishedTurn<Kinds>,
 ) -> Result<Answer, StepFault> {
     silo.store(alloc, turn, false)
 }
@@ -85,7 +76,10 @@ pub fn finished(alloc: Global, turn: OpenedTurn) -> Result<FinishedTurn<Kinds>, 
     let bump = Bump::new(alloc);
     match run_turn(alloc, &bump, &Kinds, turn) {
         Ok(finished) => Ok(finished),
-        Err(_) => Err(AllocError),
+        Err(back) => {
+            drop(back);
+            Err(AllocError)
+        }
     }
 }
 

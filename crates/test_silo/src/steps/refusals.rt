@@ -1,15 +1,13 @@
 //! Runs of rows, of which any allocation may be refused: what was answered before it stands, and the rest of the steps
 //! gives the rest of the row.
 
-use crate::steps::lines::{shown, steps_behind, steps_of, stored, told};
-use crate::steps::rows::{Worked, across, cleared, collected, first_call, overwritten};
-use crate::steps::silos::{TestedSilo, new_silo, replies, rows, run};
-use grain_kinds::GrainLogic;
-use grain_storage::GrainStorage;
-use silo_core::Silo;
+use crate::steps::rows::{ACROSS, CLEARED, COLLECTED, FIRST_CALL, OVERWRITTEN, Worked};
+use crate::steps::silos::{TestedSilo, replies, run};
+use crate::steps::trials::{Trial, Way, is_shown, shown, shown_anew, tried};
 use silo_event::{Answer, Step};
 use std::alloc::Global;
 use std::test::Fail;
+use test_helpers::lines::{steps_behind, steps_of, told};
 
 pub fn are_done(answers: &[Answer]) -> bool {
     answers.iter().all(|answer| *answer == Answer::Done)
@@ -27,43 +25,12 @@ fn done(alloc: Global, silo: &mut TestedSilo, steps: Vec<Step>) -> Option<usize>
     }
 }
 
-/// What the silo shows after these steps.
-fn shown_by(alloc: Global, silo: &mut TestedSilo, steps: Vec<Step>) -> Result<String, Fail> {
-    drop(run(alloc, silo, steps));
-    shown(alloc, silo)
-}
-
-/// What a new silo shows after these steps.
-fn shown_anew(alloc: Global, steps: Vec<Step>) -> Result<String, Fail> {
-    let mut silo = new_silo(alloc)?;
-    let shown = shown_by(alloc, &mut silo, steps);
-    drop(silo);
-    shown
-}
-
-/// What a silo shows that took the first so many of the lines.
-fn shown_after(alloc: Global, lines: &str, first: usize) -> Result<String, Fail> {
-    let mut steps = steps_of(alloc, lines)?;
-    steps.truncate(first);
-    shown_anew(alloc, steps)
-}
-
 /// Whether the silo is where the first so many of the row's lines lead, and told a beginning of what is to be told.
 fn is_at(alloc: Global, silo: &TestedSilo, row: &Worked, first: usize) -> Result<bool, Fail> {
-    let same = shown(alloc, silo)?.as_str() == shown_after(alloc, row.lines, first)?.as_str();
+    let wanted = shown_anew(alloc, Way::First(first), row.lines)?;
+    let same = shown(alloc, silo)?.as_str() == wanted.as_str();
     let begins = row.told.starts_with(told(alloc, replies(silo))?.as_str());
     Ok(same && begins)
-}
-
-/// Whether the row is told and stored.
-pub fn is_shown<S: GrainStorage, L: GrainLogic>(
-    alloc: Global,
-    silo: &Silo<S, L>,
-    row: &Worked,
-) -> Result<bool, Fail> {
-    let said = told(alloc, replies(silo))?;
-    let kept = stored(alloc, rows(alloc, silo)?.as_slice())?;
-    Ok(said.as_str() == row.told && kept.as_str() == row.stored)
 }
 
 /// Runs the lines behind the first so many: whether all were done.
@@ -75,7 +42,7 @@ fn is_ended(alloc: Global, silo: &mut TestedSilo, lines: &str, first: usize) -> 
 
 /// Whether a run of the row's lines gives the row. A run that is stopped is at the lines that were answered, and the
 /// others are run after it.
-fn is_worked_by(alloc: Global, silo: &mut TestedSilo, row: &Worked) -> Result<bool, Fail> {
+pub fn is_run(alloc: Global, silo: &mut TestedSilo, row: &Worked) -> Result<bool, Fail> {
     let steps = steps_of(alloc, row.lines)?;
     let all = steps.len();
     let Some(first) = done(alloc, silo, steps) else {
@@ -91,40 +58,27 @@ fn is_worked_by(alloc: Global, silo: &mut TestedSilo, row: &Worked) -> Result<bo
     is_shown(alloc, silo, row)
 }
 
-/// The same of a new silo.
-fn is_worked(alloc: Global, row: &Worked) -> Result<bool, Fail> {
-    let mut silo = new_silo(alloc)?;
-    let worked = is_worked_by(alloc, &mut silo, row);
-    drop(silo);
-    worked
-}
-
 #[test]
 fn a_first_call(rt: HostRuntime) -> Result<(), Fail> {
-    assert!(rt; is_worked(rt.alloc(), &first_call())?);
-    Ok(())
+    tried(rt.alloc(), Trial::OneRun, &FIRST_CALL)
 }
 
 #[test]
 fn a_row_that_another_wrote(rt: HostRuntime) -> Result<(), Fail> {
-    assert!(rt; is_worked(rt.alloc(), &overwritten())?);
-    Ok(())
+    tried(rt.alloc(), Trial::OneRun, &OVERWRITTEN)
 }
 
 #[test]
 fn a_row_that_is_cleared(rt: HostRuntime) -> Result<(), Fail> {
-    assert!(rt; is_worked(rt.alloc(), &cleared())?);
-    Ok(())
+    tried(rt.alloc(), Trial::OneRun, &CLEARED)
 }
 
 #[test]
 fn a_grain_that_is_idle(rt: HostRuntime) -> Result<(), Fail> {
-    assert!(rt; is_worked(rt.alloc(), &collected())?);
-    Ok(())
+    tried(rt.alloc(), Trial::OneRun, &COLLECTED)
 }
 
 #[test]
 fn a_call_across_tenants(rt: HostRuntime) -> Result<(), Fail> {
-    assert!(rt; is_worked(rt.alloc(), &across())?);
-    Ok(())
+    tried(rt.alloc(), Trial::OneRun, &ACROSS)
 }

@@ -1,35 +1,49 @@
 //! Worked rows: lines of steps, with what is told and stored after them. Each can be followed by hand.
 //!
 //! The tenants are red and blue, each with 2 activations of 4 waiting requests, and the age is 1,000 where a row says no
-//! other. The texts come from functions, since a long text in a test's own body stands in all its goals.
+//! other. The rows are statics, since a long text in a test's own body stands in all its goals.
+
+/// Over which rows a silo is opened.
+#[derive(Clone, Copy)]
+pub enum Opened {
+    OverNone,
+    /// The counter's row, of the last version and with 3.
+    OverTheLastVersion,
+    /// The sheet's row, whose state is as long as one may be.
+    OverTheLongestState,
+}
 
 /// Lines, the lines of their replies, and the grains with the versions of their rows.
 #[derive(Clone, Copy)]
 pub struct Worked {
+    pub opened: Opened,
     pub lines: &'static str,
     pub told: &'static str,
     pub stored: &'static str,
+    /// The storage's call that fails, or 0.
+    pub fails_at: u64,
+    /// How many of its calls fail.
+    pub failed: u64,
 }
 
 /// A counter is asked to add 3.
-pub fn first_call() -> Worked {
-    Worked {
-        lines: r#"{"op":"call","from":"red/c1","id":1,"grain":"counter/red:a","method":"add","args":{"by":3}}
+pub static FIRST_CALL: Worked = Worked {
+    opened: Opened::OverNone,
+    lines: r#"{"op":"call","from":"red/c1","id":1,"grain":"counter/red:a","method":"add","args":{"by":3}}
 {"op":"activate","grain":"counter/red:a"}
 {"op":"load","grain":"counter/red:a"}
 {"op":"begin","grain":"counter/red:a"}
 {"op":"end","grain":"counter/red:a","turn":1}
 "#,
-        told: r#"{"from":"red/c1","id":1,"ok":3}
+    told: r#"{"from":"red/c1","id":1,"ok":3}
 "#,
-        stored: "",
-    }
-}
+    stored: "",
+    fails_at: 0,
+    failed: 0,
+};
 
-/// A row that another wrote ends the activation, and what waits is answered from the row.
-pub fn overwritten() -> Worked {
-    Worked {
-        lines: r#"{"op":"call","from":"red/c1","id":1,"grain":"counter/red:a","method":"add","args":{"by":3}}
+const OVERWRITTEN_LINES: &str =
+    r#"{"op":"call","from":"red/c1","id":1,"grain":"counter/red:a","method":"add","args":{"by":3}}
 {"op":"activate","grain":"counter/red:a"}
 {"op":"load","grain":"counter/red:a"}
 {"op":"begin","grain":"counter/red:a"}
@@ -46,21 +60,25 @@ pub fn overwritten() -> Worked {
 {"op":"load","grain":"counter/red:a"}
 {"op":"begin","grain":"counter/red:a"}
 {"op":"end","grain":"counter/red:a","turn":4}
-"#,
-        told: r#"{"from":"red/c1","id":1,"ok":3}
+"#;
+
+/// A row that another wrote ends the activation, and what waits is answered from the row.
+pub static OVERWRITTEN: Worked = Worked {
+    opened: Opened::OverNone,
+    lines: OVERWRITTEN_LINES,
+    told: r#"{"from":"red/c1","id":1,"ok":3}
 {"from":"red/c1","id":2,"ok":"1"}
 {"from":"red/c1","id":3,"ok":"2"}
 {"error":54,"from":"red/c1","id":4,"text":"stored state of counter/red:a has changed"}
 {"from":"red/c1","id":5,"ok":10}
 "#,
-        stored: "counter/red:a 2\n",
-    }
-}
+    stored: "counter/red:a 2\n",
+    fails_at: 0,
+    failed: 0,
+};
 
-/// A row is written, cleared and written again.
-pub fn cleared() -> Worked {
-    Worked {
-        lines: r#"{"op":"call","from":"red/c1","id":1,"grain":"counter/red:a","method":"save","args":null}
+const CLEARED_LINES: &str =
+    r#"{"op":"call","from":"red/c1","id":1,"grain":"counter/red:a","method":"save","args":null}
 {"op":"activate","grain":"counter/red:a"}
 {"op":"load","grain":"counter/red:a"}
 {"op":"begin","grain":"counter/red:a"}
@@ -71,19 +89,25 @@ pub fn cleared() -> Worked {
 {"op":"call","from":"red/c1","id":3,"grain":"counter/red:a","method":"save","args":null}
 {"op":"begin","grain":"counter/red:a"}
 {"op":"store","grain":"counter/red:a","turn":3}
-"#,
-        told: r#"{"from":"red/c1","id":1,"ok":"1"}
+"#;
+
+/// A row is written, cleared and written again.
+pub static CLEARED: Worked = Worked {
+    opened: Opened::OverNone,
+    lines: CLEARED_LINES,
+    told: r#"{"from":"red/c1","id":1,"ok":"1"}
 {"from":"red/c1","id":2,"ok":"2"}
 {"from":"red/c1","id":3,"ok":"3"}
 "#,
-        stored: "counter/red:a 3\n",
-    }
-}
+    stored: "counter/red:a 3\n",
+    fails_at: 0,
+    failed: 0,
+};
 
 /// An idle grain goes when it is as old as the age.
-pub fn collected() -> Worked {
-    Worked {
-        lines: r#"{"op":"tick","now":5000}
+pub static COLLECTED: Worked = Worked {
+    opened: Opened::OverNone,
+    lines: r#"{"op":"tick","now":5000}
 {"op":"call","from":"red/c1","id":1,"grain":"counter/red:a","method":"add","args":{"by":3}}
 {"op":"activate","grain":"counter/red:a"}
 {"op":"load","grain":"counter/red:a"}
@@ -101,19 +125,20 @@ pub fn collected() -> Worked {
 {"op":"begin","grain":"counter/red:a"}
 {"op":"end","grain":"counter/red:a","turn":2}
 "#,
-        told: r#"{"from":"red/c1","id":1,"ok":3}
+    told: r#"{"from":"red/c1","id":1,"ok":3}
 {"from":"red/c1","id":2,"ok":{"activations":1,"clock":5999,"requests":1}}
 {"from":"red/c1","id":3,"ok":{"activations":0,"clock":6000,"requests":1}}
 {"from":"red/c1","id":4,"ok":0}
 "#,
-        stored: "",
-    }
-}
+    stored: "",
+    fails_at: 0,
+    failed: 0,
+};
 
 /// What a relay sends across tenants is refused, and the relay is told.
-pub fn across() -> Worked {
-    Worked {
-        lines: r#"{"op":"call","from":"red/c1","id":1,"grain":"relay/red:r","method":"join","args":{"grain":"counter/blue:x"}}
+pub static ACROSS: Worked = Worked {
+    opened: Opened::OverNone,
+    lines: r#"{"op":"call","from":"red/c1","id":1,"grain":"relay/red:r","method":"join","args":{"grain":"counter/blue:x"}}
 {"op":"activate","grain":"relay/red:r"}
 {"op":"load","grain":"relay/red:r"}
 {"op":"begin","grain":"relay/red:r"}
@@ -123,18 +148,19 @@ pub fn across() -> Worked {
 {"op":"end","grain":"relay/red:r","turn":2}
 {"op":"deliver","grain":"relay/red:r"}
 "#,
-        told: r#"{"from":"red/c1","id":1,"ok":true}
+    told: r#"{"from":"red/c1","id":1,"ok":true}
 {"from":"red/c1","id":2,"ok":1}
 {"error":40,"from":"relay/red:r","text":"tenant red may not call a grain of tenant blue"}
 "#,
-        stored: "",
-    }
-}
+    stored: "",
+    fails_at: 0,
+    failed: 0,
+};
 
 /// A grain is loaded twice, and the first call of the storage fails.
-pub fn loaded_twice() -> Worked {
-    Worked {
-        lines: r#"{"op":"call","from":"red/c1","id":1,"grain":"counter/red:a","method":"get","args":null}
+pub static LOADED_TWICE: Worked = Worked {
+    opened: Opened::OverNone,
+    lines: r#"{"op":"call","from":"red/c1","id":1,"grain":"counter/red:a","method":"get","args":null}
 {"op":"activate","grain":"counter/red:a"}
 {"op":"load","grain":"counter/red:a"}
 {"op":"call","from":"red/c1","id":2,"grain":"counter/red:a","method":"get","args":null}
@@ -143,17 +169,18 @@ pub fn loaded_twice() -> Worked {
 {"op":"begin","grain":"counter/red:a"}
 {"op":"end","grain":"counter/red:a","turn":2}
 "#,
-        told: r#"{"error":53,"from":"red/c1","id":1,"text":"storage failed"}
+    told: r#"{"error":53,"from":"red/c1","id":1,"text":"storage failed"}
 {"from":"red/c1","id":2,"ok":0}
 "#,
-        stored: "",
-    }
-}
+    stored: "",
+    fails_at: 1,
+    failed: 1,
+};
 
 /// The row has the last version and 3, and is to be written.
-pub fn spent() -> Worked {
-    Worked {
-        lines: r#"{"op":"call","from":"red/c1","id":1,"grain":"counter/red:a","method":"save","args":null}
+pub static SPENT: Worked = Worked {
+    opened: Opened::OverTheLastVersion,
+    lines: r#"{"op":"call","from":"red/c1","id":1,"grain":"counter/red:a","method":"save","args":null}
 {"op":"activate","grain":"counter/red:a"}
 {"op":"load","grain":"counter/red:a"}
 {"op":"begin","grain":"counter/red:a"}
@@ -162,18 +189,20 @@ pub fn spent() -> Worked {
 {"op":"begin","grain":"counter/red:a"}
 {"op":"end","grain":"counter/red:a","turn":2}
 "#,
-        told: r#"{"error":56,"from":"red/c1","id":1,"text":"versions of counter/red:a are spent"}
+    told: r#"{"error":56,"from":"red/c1","id":1,"text":"versions of counter/red:a are spent"}
 {"from":"red/c1","id":2,"ok":3}
 "#,
-        stored: "counter/red:a 18446744073709551615\n",
-    }
-}
+    stored: "counter/red:a 18446744073709551615\n",
+    fails_at: 0,
+    failed: 0,
+};
 
-/// The lines of `cleared`, if the storage's call of that number fails. There is no fifth.
-pub fn cleared_but(number: u64) -> Worked {
-    let (told, stored) = match number {
-        1 => (
-            r#"{"error":53,"from":"red/c1","id":1,"text":"storage failed"}
+/// The lines of `CLEARED`, where the storage's first call fails, or its second, and so on. There is no fifth.
+pub static CLEARED_BUT: [Worked; 5] = [
+    Worked {
+        opened: Opened::OverNone,
+        lines: CLEARED_LINES,
+        told: r#"{"error":53,"from":"red/c1","id":1,"text":"storage failed"}
 {"text":"not now"}
 {"text":"not now"}
 {"text":"not now"}
@@ -181,44 +210,63 @@ pub fn cleared_but(number: u64) -> Worked {
 {"text":"not now"}
 {"text":"not now"}
 "#,
-            "",
-        ),
-        2 => (
-            r#"{"error":53,"from":"red/c1","id":1,"text":"storage failed"}
+        stored: "",
+        fails_at: 1,
+        failed: 1,
+    },
+    Worked {
+        opened: Opened::OverNone,
+        lines: CLEARED_LINES,
+        told: r#"{"error":53,"from":"red/c1","id":1,"text":"storage failed"}
 {"from":"red/c1","id":2,"ok":null}
 {"from":"red/c1","id":3,"ok":"1"}
 "#,
-            "counter/red:a 1\n",
-        ),
-        3 => (
-            r#"{"from":"red/c1","id":1,"ok":"1"}
+        stored: "counter/red:a 1\n",
+        fails_at: 2,
+        failed: 1,
+    },
+    Worked {
+        opened: Opened::OverNone,
+        lines: CLEARED_LINES,
+        told: r#"{"from":"red/c1","id":1,"ok":"1"}
 {"error":53,"from":"red/c1","id":2,"text":"storage failed"}
 {"from":"red/c1","id":3,"ok":"2"}
 "#,
-            "counter/red:a 2\n",
-        ),
-        4 => (
-            r#"{"from":"red/c1","id":1,"ok":"1"}
+        stored: "counter/red:a 2\n",
+        fails_at: 3,
+        failed: 1,
+    },
+    Worked {
+        opened: Opened::OverNone,
+        lines: CLEARED_LINES,
+        told: r#"{"from":"red/c1","id":1,"ok":"1"}
 {"from":"red/c1","id":2,"ok":"2"}
 {"error":53,"from":"red/c1","id":3,"text":"storage failed"}
 "#,
-            "counter/red:a 2\n",
-        ),
-        _ => return cleared(),
-    };
+        stored: "counter/red:a 2\n",
+        fails_at: 4,
+        failed: 1,
+    },
     Worked {
-        lines: cleared().lines,
-        told,
-        stored,
-    }
-}
+        opened: Opened::OverNone,
+        lines: CLEARED_LINES,
+        told: r#"{"from":"red/c1","id":1,"ok":"1"}
+{"from":"red/c1","id":2,"ok":"2"}
+{"from":"red/c1","id":3,"ok":"3"}
+"#,
+        stored: "counter/red:a 3\n",
+        fails_at: 5,
+        failed: 0,
+    },
+];
 
-/// The lines of `overwritten`, if the storage's call of that number fails: 1 loads, 2 saves, 3 is the poke, 4 saves and
-/// 5 loads again. There is no sixth.
-pub fn overwritten_but(number: u64) -> Worked {
-    let (told, stored) = match number {
-        1 => (
-            r#"{"error":53,"from":"red/c1","id":1,"text":"storage failed"}
+/// The lines of `OVERWRITTEN`, where the storage's first call fails, or its second, and so on: 1 loads, 2 saves, 3 is the
+/// poke, 4 saves and 5 loads again. There is no sixth.
+pub static OVERWRITTEN_BUT: [Worked; 6] = [
+    Worked {
+        opened: Opened::OverNone,
+        lines: OVERWRITTEN_LINES,
+        told: r#"{"error":53,"from":"red/c1","id":1,"text":"storage failed"}
 {"text":"not now"}
 {"text":"not now"}
 {"text":"not now"}
@@ -228,19 +276,27 @@ pub fn overwritten_but(number: u64) -> Worked {
 {"text":"not now"}
 {"text":"not now"}
 "#,
-            "counter/red:a 1\n",
-        ),
-        2 => (
-            r#"{"from":"red/c1","id":1,"ok":3}
+        stored: "counter/red:a 1\n",
+        fails_at: 1,
+        failed: 1,
+    },
+    Worked {
+        opened: Opened::OverNone,
+        lines: OVERWRITTEN_LINES,
+        told: r#"{"from":"red/c1","id":1,"ok":3}
 {"error":53,"from":"red/c1","id":2,"text":"storage failed"}
 {"from":"red/c1","id":3,"ok":"1"}
 {"error":54,"from":"red/c1","id":4,"text":"stored state of counter/red:a has changed"}
 {"from":"red/c1","id":5,"ok":10}
 "#,
-            "counter/red:a 1\n",
-        ),
-        3 => (
-            r#"{"from":"red/c1","id":1,"ok":3}
+        stored: "counter/red:a 1\n",
+        fails_at: 2,
+        failed: 1,
+    },
+    Worked {
+        opened: Opened::OverNone,
+        lines: OVERWRITTEN_LINES,
+        told: r#"{"from":"red/c1","id":1,"ok":3}
 {"from":"red/c1","id":2,"ok":"1"}
 {"error":53,"from":"red/c1","id":3,"text":"storage failed"}
 {"from":"red/c1","id":4,"ok":"2"}
@@ -248,10 +304,14 @@ pub fn overwritten_but(number: u64) -> Worked {
 {"text":"not now"}
 {"from":"red/c1","id":5,"ok":3}
 "#,
-            "counter/red:a 2\n",
-        ),
-        4 => (
-            r#"{"from":"red/c1","id":1,"ok":3}
+        stored: "counter/red:a 2\n",
+        fails_at: 3,
+        failed: 1,
+    },
+    Worked {
+        opened: Opened::OverNone,
+        lines: OVERWRITTEN_LINES,
+        told: r#"{"from":"red/c1","id":1,"ok":3}
 {"from":"red/c1","id":2,"ok":"1"}
 {"from":"red/c1","id":3,"ok":"2"}
 {"error":53,"from":"red/c1","id":4,"text":"storage failed"}
@@ -259,10 +319,14 @@ pub fn overwritten_but(number: u64) -> Worked {
 {"text":"not now"}
 {"from":"red/c1","id":5,"ok":3}
 "#,
-            "counter/red:a 2\n",
-        ),
-        5 => (
-            r#"{"from":"red/c1","id":1,"ok":3}
+        stored: "counter/red:a 2\n",
+        fails_at: 4,
+        failed: 1,
+    },
+    Worked {
+        opened: Opened::OverNone,
+        lines: OVERWRITTEN_LINES,
+        told: r#"{"from":"red/c1","id":1,"ok":3}
 {"from":"red/c1","id":2,"ok":"1"}
 {"from":"red/c1","id":3,"ok":"2"}
 {"error":54,"from":"red/c1","id":4,"text":"stored state of counter/red:a has changed"}
@@ -270,54 +334,47 @@ pub fn overwritten_but(number: u64) -> Worked {
 {"text":"not now"}
 {"text":"not now"}
 "#,
-            "counter/red:a 2\n",
-        ),
-        _ => return overwritten(),
-    };
+        stored: "counter/red:a 2\n",
+        fails_at: 5,
+        failed: 1,
+    },
     Worked {
-        lines: overwritten().lines,
-        told,
-        stored,
-    }
-}
-
-/// A call of a counter to add 3, which waits for its turn.
-pub fn add_3() -> &'static str {
-    r#"{"op":"call","from":"red/c1","id":1,"grain":"counter/red:a","method":"add","args":{"by":3}}
-{"op":"activate","grain":"counter/red:a"}
-{"op":"load","grain":"counter/red:a"}
-"#
-}
-
-/// A call of a counter to add 4, which waits for its turn.
-pub fn add_4() -> &'static str {
-    r#"{"op":"call","from":"red/c1","id":1,"grain":"counter/red:a","method":"add","args":{"by":4}}
-{"op":"activate","grain":"counter/red:a"}
-{"op":"load","grain":"counter/red:a"}
-"#
-}
+        opened: Opened::OverNone,
+        lines: OVERWRITTEN_LINES,
+        told: r#"{"from":"red/c1","id":1,"ok":3}
+{"from":"red/c1","id":2,"ok":"1"}
+{"from":"red/c1","id":3,"ok":"2"}
+{"error":54,"from":"red/c1","id":4,"text":"stored state of counter/red:a has changed"}
+{"from":"red/c1","id":5,"ok":10}
+"#,
+        stored: "counter/red:a 2\n",
+        fails_at: 6,
+        failed: 0,
+    },
+];
 
 /// A call is refused for its argument, and the turn of another is abandoned.
-pub fn abandoned() -> Worked {
-    Worked {
-        lines: r#"{"op":"call","from":"red/c1","id":1,"grain":"counter/red:a","method":"get","args":1.5}
+pub static ABANDONED: Worked = Worked {
+    opened: Opened::OverNone,
+    lines: r#"{"op":"call","from":"red/c1","id":1,"grain":"counter/red:a","method":"get","args":1.5}
 {"op":"call","from":"red/c1","id":2,"grain":"counter/red:a","method":"get","args":null}
 {"op":"activate","grain":"counter/red:a"}
 {"op":"load","grain":"counter/red:a"}
 {"op":"begin","grain":"counter/red:a"}
 {"op":"abandon","grain":"counter/red:a","turn":1}
 "#,
-        told: r#"{"error":13,"from":"red/c1","id":1,"text":"number is not a whole number of 64 bits"}
+    told: r#"{"error":13,"from":"red/c1","id":1,"text":"number is not a whole number of 64 bits"}
 {"error":70,"from":"red/c1","id":2,"text":"turn met want of memory"}
 "#,
-        stored: "",
-    }
-}
+    stored: "",
+    fails_at: 0,
+    failed: 0,
+};
 
 /// A relay sends to its two members, and the one of another tenant is refused.
-pub fn sent() -> Worked {
-    Worked {
-        lines: r#"{"from":"red/c1","id":1,"op":"call","grain":"relay/red:r","method":"join","args":{"grain":"counter/red:a"}}
+pub static SENT: Worked = Worked {
+    opened: Opened::OverNone,
+    lines: r#"{"from":"red/c1","id":1,"op":"call","grain":"relay/red:r","method":"join","args":{"grain":"counter/red:a"}}
 {"from":"red/c1","id":2,"op":"call","grain":"relay/red:r","method":"join","args":{"grain":"counter/blue:a"}}
 {"from":"red/c1","id":3,"op":"call","grain":"relay/red:r","method":"send","args":{"args":{"by":2},"method":"add"}}
 {"op":"activate","grain":"relay/red:r"}
@@ -338,20 +395,21 @@ pub fn sent() -> Worked {
 {"op":"begin","grain":"counter/red:a"}
 {"op":"end","grain":"counter/red:a","turn":5}
 "#,
-        told: r#"{"from":"red/c1","id":1,"ok":true}
+    told: r#"{"from":"red/c1","id":1,"ok":true}
 {"from":"red/c1","id":2,"ok":true}
 {"from":"red/c1","id":3,"ok":2}
 {"error":40,"from":"relay/red:r","text":"tenant red may not call a grain of tenant blue"}
 {"from":"red/c1","id":4,"ok":2}
 "#,
-        stored: "",
-    }
-}
+    stored: "",
+    fails_at: 0,
+    failed: 0,
+};
 
 /// A counter is asked for what it hasn't, for what doesn't fit, and for more than 64 bits hold.
-pub fn refused_methods() -> Worked {
-    Worked {
-        lines: r#"{"op":"call","from":"red/c1","id":1,"grain":"counter/red:a","method":"fly","args":null}
+pub static REFUSED_METHODS: Worked = Worked {
+    opened: Opened::OverNone,
+    lines: r#"{"op":"call","from":"red/c1","id":1,"grain":"counter/red:a","method":"fly","args":null}
 {"op":"call","from":"red/c1","id":2,"grain":"counter/red:a","method":"add","args":{"by":"x"}}
 {"op":"call","from":"red/c1","id":3,"grain":"counter/red:a","method":"add","args":{"by":9223372036854775807}}
 {"op":"call","from":"red/c1","id":4,"grain":"counter/red:a","method":"add","args":{"by":1}}
@@ -366,34 +424,36 @@ pub fn refused_methods() -> Worked {
 {"op":"begin","grain":"counter/red:a"}
 {"op":"end","grain":"counter/red:a","turn":4}
 "#,
-        told: r#"{"error":60,"from":"red/c1","id":1,"text":"method is unknown"}
+    told: r#"{"error":60,"from":"red/c1","id":1,"text":"method is unknown"}
 {"error":61,"from":"red/c1","id":2,"text":"arguments do not fit"}
 {"from":"red/c1","id":3,"ok":9223372036854775807}
 {"error":62,"from":"red/c1","id":4,"text":"result is out of range"}
 "#,
-        stored: "",
-    }
-}
+    stored: "",
+    fails_at: 0,
+    failed: 0,
+};
 
 /// A sheet whose state has no room for a name more is asked to put one.
-pub fn too_large() -> Worked {
-    Worked {
-        lines: r#"{"op":"call","from":"red/c1","id":1,"grain":"sheet/red:s","method":"put","args":{"name":"b","value":null}}
+pub static TOO_LARGE: Worked = Worked {
+    opened: Opened::OverTheLongestState,
+    lines: r#"{"op":"call","from":"red/c1","id":1,"grain":"sheet/red:s","method":"put","args":{"name":"b","value":null}}
 {"op":"activate","grain":"sheet/red:s"}
 {"op":"load","grain":"sheet/red:s"}
 {"op":"begin","grain":"sheet/red:s"}
 {"op":"end","grain":"sheet/red:s","turn":1}
 "#,
-        told: r#"{"error":63,"from":"red/c1","id":1,"text":"state is too large"}
+    told: r#"{"error":63,"from":"red/c1","id":1,"text":"state is too large"}
 "#,
-        stored: "sheet/red:s 1\n",
-    }
-}
+    stored: "sheet/red:s 1\n",
+    fails_at: 0,
+    failed: 0,
+};
 
 /// A counter and a sheet are idle for 10, after which counters go, and sheets not yet.
-pub fn one_kind_goes() -> Worked {
-    Worked {
-        lines: r#"{"op":"tick","now":100}
+pub static ONE_KIND_GOES: Worked = Worked {
+    opened: Opened::OverNone,
+    lines: r#"{"op":"tick","now":100}
 {"op":"call","from":"red/c1","id":1,"grain":"counter/red:a","method":"add","args":{"by":3}}
 {"op":"call","from":"red/c1","id":2,"grain":"sheet/red:s","method":"list","args":null}
 {"op":"activate","grain":"counter/red:a"}
@@ -408,18 +468,19 @@ pub fn one_kind_goes() -> Worked {
 {"op":"sweep"}
 {"op":"status","from":"red/c1","id":3}
 "#,
-        told: r#"{"from":"red/c1","id":1,"ok":3}
+    told: r#"{"from":"red/c1","id":1,"ok":3}
 {"from":"red/c1","id":2,"ok":[]}
 {"from":"red/c1","id":3,"ok":{"activations":1,"clock":110,"requests":2}}
 "#,
-        stored: "",
-    }
-}
+    stored: "",
+    fails_at: 0,
+    failed: 0,
+};
 
 /// A counter stays for 50, and grains go when they are idle for 10.
-pub fn stays() -> Worked {
-    Worked {
-        lines: r#"{"op":"tick","now":100}
+pub static STAYS: Worked = Worked {
+    opened: Opened::OverNone,
+    lines: r#"{"op":"tick","now":100}
 {"op":"call","from":"red/c1","id":1,"grain":"counter/red:a","method":"stay","args":{"for":50}}
 {"op":"activate","grain":"counter/red:a"}
 {"op":"load","grain":"counter/red:a"}
@@ -432,18 +493,17 @@ pub fn stays() -> Worked {
 {"op":"sweep"}
 {"op":"status","from":"red/c1","id":3}
 "#,
-        told: r#"{"from":"red/c1","id":1,"ok":null}
+    told: r#"{"from":"red/c1","id":1,"ok":null}
 {"from":"red/c1","id":2,"ok":{"activations":1,"clock":149,"requests":1}}
 {"from":"red/c1","id":3,"ok":{"activations":0,"clock":150,"requests":1}}
 "#,
-        stored: "",
-    }
-}
+    stored: "",
+    fails_at: 0,
+    failed: 0,
+};
 
-/// A counter rests while a request waits, and goes when that is answered.
-pub fn rests() -> Worked {
-    Worked {
-        lines: r#"{"op":"call","from":"red/c1","id":1,"grain":"counter/red:a","method":"rest","args":null}
+const RESTS_LINES: &str =
+    r#"{"op":"call","from":"red/c1","id":1,"grain":"counter/red:a","method":"rest","args":null}
 {"op":"call","from":"red/c1","id":2,"grain":"counter/red:a","method":"add","args":{"by":3}}
 {"op":"activate","grain":"counter/red:a"}
 {"op":"load","grain":"counter/red:a"}
@@ -453,25 +513,56 @@ pub fn rests() -> Worked {
 {"op":"begin","grain":"counter/red:a"}
 {"op":"end","grain":"counter/red:a","turn":2}
 {"op":"status","from":"red/c1","id":4}
-"#,
-        told: r#"{"from":"red/c1","id":1,"ok":null}
+"#;
+
+/// A counter rests while a request waits, and goes when that is answered.
+pub static RESTS: Worked = Worked {
+    opened: Opened::OverNone,
+    lines: RESTS_LINES,
+    told: r#"{"from":"red/c1","id":1,"ok":null}
 {"from":"red/c1","id":3,"ok":{"activations":1,"clock":0,"requests":2}}
 {"from":"red/c1","id":2,"ok":3}
 {"from":"red/c1","id":4,"ok":{"activations":0,"clock":0,"requests":2}}
 "#,
-        stored: "",
-    }
-}
+    stored: "",
+    fails_at: 0,
+    failed: 0,
+};
 
-/// The lines of `rests`, where grains don't know how to.
-pub fn knows_no_rest() -> Worked {
-    Worked {
-        lines: rests().lines,
-        told: r#"{"error":60,"from":"red/c1","id":1,"text":"method is unknown"}
+/// The lines of `RESTS`, where grains don't know how to.
+pub static KNOWS_NO_REST: Worked = Worked {
+    opened: Opened::OverNone,
+    lines: RESTS_LINES,
+    told: r#"{"error":60,"from":"red/c1","id":1,"text":"method is unknown"}
 {"from":"red/c1","id":3,"ok":{"activations":1,"clock":0,"requests":2}}
 {"from":"red/c1","id":2,"ok":3}
 {"from":"red/c1","id":4,"ok":{"activations":1,"clock":0,"requests":2}}
 "#,
-        stored: "",
-    }
-}
+    stored: "",
+    fails_at: 0,
+    failed: 0,
+};
+
+/// A call of a counter to add 3, which waits for its turn.
+pub static ADD_3: &str =
+    r#"{"op":"call","from":"red/c1","id":1,"grain":"counter/red:a","method":"add","args":{"by":3}}
+{"op":"activate","grain":"counter/red:a"}
+{"op":"load","grain":"counter/red:a"}
+"#;
+
+/// A call of a counter to add 4, which waits for its turn.
+pub static ADD_4: &str =
+    r#"{"op":"call","from":"red/c1","id":1,"grain":"counter/red:a","method":"add","args":{"by":4}}
+{"op":"activate","grain":"counter/red:a"}
+{"op":"load","grain":"counter/red:a"}
+"#;
+
+/// No step.
+pub static NOTHING: Worked = Worked {
+    opened: Opened::OverNone,
+    lines: "",
+    told: "",
+    stored: "",
+    fails_at: 0,
+    failed: 0,
+};

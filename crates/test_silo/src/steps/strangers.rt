@@ -1,20 +1,16 @@
 //! A turn of another silo is a stranger: nothing comes of it.
 
-use crate::steps::lines::{shown, steps_of, told};
 use crate::steps::methods::{begin, end, finished};
-use crate::steps::rows::{add_3, add_4, first_call};
-use crate::steps::silos::{TestedSilo, answers, new_silo, replies};
+use crate::steps::rows::{ADD_3, ADD_4, FIRST_CALL, NOTHING, Worked};
+use crate::steps::silos::{TestedSilo, new_silo, replies};
+use crate::steps::trials::{Trial, shown, take_first, tried};
 use grain_id::GrainId;
-use grain_kinds::{FinishedTurn, Kinds, OpenedTurn};
+use grain_kinds::Kinds;
+use grain_logic::{FinishedTurn, OpenedTurn};
 use silo_event::StepFault;
 use std::alloc::{AllocError, Global};
 use std::test::Fail;
-
-/// Has the silo take these lines.
-fn take_lines(alloc: Global, silo: &mut TestedSilo, lines: &str) -> Result<(), Fail> {
-    drop(answers(alloc, silo, steps_of(alloc, lines)?)?);
-    Ok(())
-}
+use test_helpers::lines::told;
 
 /// The next turn of the counter, opened.
 fn opened(alloc: Global, silo: &mut TestedSilo) -> Result<OpenedTurn, Fail> {
@@ -25,22 +21,21 @@ fn opened(alloc: Global, silo: &mut TestedSilo) -> Result<OpenedTurn, Fail> {
     }
 }
 
-/// The next turn of the counter, opened and run.
-fn turn_of(alloc: Global, silo: &mut TestedSilo) -> Result<FinishedTurn<Kinds>, Fail> {
+/// The turn behind the lines, opened and run.
+fn turn_behind(
+    alloc: Global,
+    silo: &mut TestedSilo,
+    lines: &str,
+) -> Result<FinishedTurn<Kinds>, Fail> {
+    take_first(alloc, silo, lines, usize::MAX)?;
     let turn = opened(alloc, silo)?;
     Ok(finished(alloc, turn)?)
 }
 
-/// The turn behind the lines that add 4.
-fn turn_that_adds_4(alloc: Global, silo: &mut TestedSilo) -> Result<FinishedTurn<Kinds>, Fail> {
-    take_lines(alloc, silo, add_4())?;
-    turn_of(alloc, silo)
-}
-
 /// The first turn of another silo, in which 4 is added.
 fn turn_of_another(alloc: Global) -> Result<FinishedTurn<Kinds>, Fail> {
-    let mut silo = new_silo(alloc)?;
-    let turn = turn_that_adds_4(alloc, &mut silo);
+    let mut silo = new_silo(alloc, &NOTHING)?;
+    let turn = turn_behind(alloc, &mut silo, ADD_4);
     drop(silo);
     turn
 }
@@ -66,18 +61,19 @@ fn is_left(alloc: Global, silo: &mut TestedSilo, turn: &FinishedTurn<Kinds>) -> 
     Ok(stranger && after.as_str() == before.as_str())
 }
 
-/// Whether the silo takes its own turn, and tells what the first call is to tell.
+/// Whether the silo takes its own turn, and tells what the row is to tell.
 fn is_taken(
     alloc: Global,
     silo: &mut TestedSilo,
     turn: &FinishedTurn<Kinds>,
+    row: &Worked,
 ) -> Result<bool, Fail> {
     let stranger = is_stranger(alloc, silo, turn)?;
     let said = told(alloc, replies(silo))?;
-    Ok(!stranger && said.as_str() == first_call().told)
+    Ok(!stranger && said.as_str() == row.told)
 }
 
-/// Whether the silo leaves the first turn of another.
+/// Whether the silo leaves another's first turn.
 fn leaves_another(alloc: Global, silo: &mut TestedSilo) -> Result<bool, Fail> {
     let other = turn_of_another(alloc)?;
     let left = is_left(alloc, silo, &other);
@@ -90,36 +86,22 @@ fn tells_apart_from(
     alloc: Global,
     silo: &mut TestedSilo,
     own: &FinishedTurn<Kinds>,
+    row: &Worked,
 ) -> Result<bool, Fail> {
     let left = leaves_another(alloc, silo)?;
-    let taken = is_taken(alloc, silo, own)?;
+    let taken = is_taken(alloc, silo, own, row)?;
     Ok(left && taken)
 }
 
-/// The same of the next turn of the counter.
-fn tells_apart(alloc: Global, silo: &mut TestedSilo) -> Result<bool, Fail> {
-    let own = turn_of(alloc, silo)?;
-    let apart = tells_apart_from(alloc, silo, &own);
+/// The same of its first turn, in which 3 is added.
+pub fn tells_apart(alloc: Global, silo: &mut TestedSilo, row: &Worked) -> Result<bool, Fail> {
+    let own = turn_behind(alloc, silo, ADD_3)?;
+    let apart = tells_apart_from(alloc, silo, &own, row);
     drop(own);
-    apart
-}
-
-/// Whether the silo does so behind the lines that add 3.
-fn tells_apart_behind_3(alloc: Global, silo: &mut TestedSilo) -> Result<bool, Fail> {
-    take_lines(alloc, silo, add_3())?;
-    tells_apart(alloc, silo)
-}
-
-/// Whether the first turns of two silos are told apart.
-fn are_told_apart(alloc: Global) -> Result<bool, Fail> {
-    let mut silo = new_silo(alloc)?;
-    let apart = tells_apart_behind_3(alloc, &mut silo);
-    drop(silo);
     apart
 }
 
 #[test]
 fn another_silos_turn_is_a_stranger(rt: HostRuntime) -> Result<(), Fail> {
-    assert!(rt; are_told_apart(rt.alloc())?);
-    Ok(())
+    tried(rt.alloc(), Trial::Stranger, &FIRST_CALL)
 }

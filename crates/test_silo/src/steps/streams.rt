@@ -1,8 +1,9 @@
 //! Lines that are run over a reader or a writer that fails.
 
 use crate::failing::{FailingReader, FailingWriter};
-use crate::steps::rows::first_call;
-use crate::steps::silos::{TestedSilo, journal, new_silo};
+use crate::steps::rows::{FIRST_CALL, Worked};
+use crate::steps::silos::{TestedSilo, journal};
+use crate::steps::trials::{Trial, tried};
 use line_protocol::{Input, LineFault, Output, run_lines};
 use silo_event::Step;
 use std::alloc::{AllocError, Global};
@@ -23,11 +24,11 @@ fn ended<R: Read + Drop, W: Write>(
     }
 }
 
-/// Whether reading fails behind the first row's last LF, and what the row tells was written whole.
-fn is_written(alloc: Global, silo: &mut TestedSilo) -> Result<bool, Fail> {
-    let row = first_call();
+/// Whether reading fails behind the row's last LF, and what the row tells was written whole.
+pub fn is_written(alloc: Global, silo: &mut TestedSilo, row: &Worked) -> Result<bool, Fail> {
     let reader = FailingReader {
         rest: row.lines.as_bytes(),
+        fails: true,
     };
     let written: Vec<u8> = Vec::with_capacity(alloc, row.told.len())?;
     let mut output = Output::new(written);
@@ -35,18 +36,9 @@ fn is_written(alloc: Global, silo: &mut TestedSilo) -> Result<bool, Fail> {
     Ok(matches!(end, Err(LineFault::Read)) && output.writer.as_slice() == row.told.as_bytes())
 }
 
-/// The same of a new silo.
-fn is_written_anew(alloc: Global) -> Result<bool, Fail> {
-    let mut silo = new_silo(alloc)?;
-    let written = is_written(alloc, &mut silo);
-    drop(silo);
-    written
-}
-
 #[test]
 fn what_was_read_is_answered_before_reading_fails(rt: HostRuntime) -> Result<(), Fail> {
-    assert!(rt; is_written_anew(rt.alloc())?);
-    Ok(())
+    tried(rt.alloc(), Trial::FailingReader, &FIRST_CALL)
 }
 
 /// Whether the silo took as many steps, and the last of them ended a turn.
@@ -55,24 +47,18 @@ fn has_ended_last(silo: &TestedSilo, count: usize) -> bool {
     taken.len() == count && matches!(taken.last(), Some(Step::End { .. }))
 }
 
-/// Whether writing the first row's only reply fails, and the silo took the step that was answered.
-fn is_taken(alloc: Global, silo: &mut TestedSilo) -> Result<bool, Fail> {
-    let row = first_call();
+/// Whether writing the row's only reply fails, and the silo took the step that was answered.
+pub fn is_taken(alloc: Global, silo: &mut TestedSilo, row: &Worked) -> Result<bool, Fail> {
+    let reader = FailingReader {
+        rest: row.lines.as_bytes(),
+        fails: false,
+    };
     let mut output = Output::new(FailingWriter);
-    let end = ended(alloc, silo, row.lines.as_bytes(), &mut output)?;
+    let end = ended(alloc, silo, reader, &mut output)?;
     Ok(matches!(end, Err(LineFault::Write)) && has_ended_last(silo, 5))
-}
-
-/// The same of a new silo.
-fn is_taken_anew(alloc: Global) -> Result<bool, Fail> {
-    let mut silo = new_silo(alloc)?;
-    let taken = is_taken(alloc, &mut silo);
-    drop(silo);
-    taken
 }
 
 #[test]
 fn a_step_whose_answer_is_not_written_was_taken(rt: HostRuntime) -> Result<(), Fail> {
-    assert!(rt; is_taken_anew(rt.alloc())?);
-    Ok(())
+    tried(rt.alloc(), Trial::FailingWriter, &FIRST_CALL)
 }

@@ -1,16 +1,17 @@
 //! What there is to do in a silo, what is pending, and whether it is quiet, before and after each step.
 
-use crate::steps::lines::steps_of;
-use crate::steps::rows::sent;
-use crate::steps::silos::{TestedSilo, apply, new_silo};
+use crate::steps::rows::{SENT, Worked};
+use crate::steps::silos::{TestedSilo, apply};
+use crate::steps::trials::{Trial, tried};
 use grain_id::Caller;
 use silo_event::Step;
 use std::alloc::{AllocError, Global};
 use std::test::Fail;
+use test_helpers::lines::steps_of;
 
 /// What is told while a relay is joined by two counters, one of another tenant, and sends to both: before
 /// the first step, and after each.
-static TOLD: &str = "none free quiet
+const TOLD: &str = "none free quiet
 activate pending busy
 activate pending busy
 activate pending busy
@@ -94,16 +95,12 @@ fn told_around(alloc: Global, silo: &mut TestedSilo, lines: &str) -> Result<Stri
     Ok(text)
 }
 
-fn told_anew(alloc: Global, lines: &str) -> Result<String, Fail> {
-    let mut silo = new_silo(alloc)?;
-    let told = told_around(alloc, &mut silo, lines);
-    drop(silo);
-    told
+/// Whether what is to be told around the steps of the row is told.
+pub fn is_told_around(alloc: Global, silo: &mut TestedSilo, row: &Worked) -> Result<bool, Fail> {
+    Ok(told_around(alloc, silo, row.lines)?.as_str() == TOLD)
 }
 
 #[test]
 fn what_is_to_do_is_told(rt: HostRuntime) -> Result<(), Fail> {
-    let told = told_anew(rt.alloc(), sent().lines)?;
-    assert!(rt; told.as_str() == TOLD);
-    Ok(())
+    tried(rt.alloc(), Trial::Todo, &SENT)
 }

@@ -1,14 +1,12 @@
 -- What a silo at work knows beside its history: how much each client is owed, as far as its replies were looked at; and that its
 -- journal is paced.
-use Rattle.std.specs.Prelude.{◌≡◌, ◌==◌, ℕ, ◌+◌, ◌≤◌, Bool, true, false, List, length, take, if◌then◌else◌}
-use Rattle.std.specs.Prelude.{Option, Some, None, Result, Ok, Err}
-use Rattle.indexmap.specs.IndexMap.{IndexMap, get}
-use Rattle.grain_id.specs.Names.{Client, client_eq}
-use Rattle.grain_kinds.specs.Logic.{Logic}
+use Rattle.std.specs.Prelude.{◌≡◌, ℕ, ◌+◌, ◌≤◌, Bool, true, false, length, take, Option, Some, None, Result, Ok, Err}
+use Rattle.indexmap.specs.IndexMap.{IndexMap}
+use Rattle.grain_id.specs.Names.{Client}
+use Rattle.grain_logic.specs.Logic.{Logic}
 use Rattle.silo_event.specs.declared.step.Answer.{Answer}
 use Rattle.silo_event.specs.declared.step.Answer.TheVariants.{Done, Failed, NotNow}
 use Rattle.silo_event.specs.declared.step.StepFault.{StepFault}
-use Rattle.silo_event.specs.declared.reply.Reply.{Reply}
 use Rattle.silo_event.specs.declared.step.Step.{Step}
 use Rattle.silo_model.specs.Whole.{Whole, shown_to}
 use Rattle.silo_model.specs.Journal.{LeadsTo}
@@ -16,7 +14,8 @@ use Rattle.lane_model.specs.Asking.{ids_asked, ids_told}
 use Rattle.lane_model.specs.Pacing.{is_paced, may_ask}
 use Rattle.silo_core.specs.History.{Answered, History}
 use Rattle.silo_core.specs.AtOnce.{Serves}
-use Rattle.worker_host.specs.declared.owed.Owed.{Owed}
+use Rattle.lane_workers.specs.declared.owed.Owed.{Owed}
+use Rattle.lane_workers.specs.Owing.{owing_to}
 
 -- a step with this answer was done
 abbrev pub was_done : Result Answer StepFault → Bool
@@ -24,29 +23,6 @@ was_done (Ok Done) = true
 was_done (Ok Failed) = true
 was_done (Ok NotNow) = false
 was_done (Err why) = false
-
--- how many answers a client is owed of whom this is known, if anything is
-abbrev pub count_in : Option Owed → ℕ
-count_in None = 0
-count_in (Some owed) = owed.count
-
--- how many answers the client is owed
-abbrev pub owing_to : {S : Type 0} → IndexMap Client Owed S → Client → ℕ
-owing_to owing client = count_in (get client_eq owing client)
-
--- how many more it is owed once this client, if any, has asked
-abbrev pub asks_once : Option Client → Client → ℕ
-asks_once None client = 0
-asks_once (Some caller) client = if client_eq caller client then 1 else 0
-
--- whether the client, if any, may ask: it is owed as many answers as these replies tell it
-abbrev pub is_told : {S : Type 0} → IndexMap Client Owed S → List Reply → Option Client → Bool
-is_told owing replies None = true
-is_told owing replies (Some client) = owing_to owing client == length (ids_told client replies)
-
--- how many more it is owed, if it asks
-abbrev pub asks_if : Bool → Option Client → Client → ℕ
-asks_if asked asker client = if asked then asks_once asker client else 0
 
 -- The journal leads to what the silo has, and is paced. What each client is owed, and what it was told by the replies that were
 -- looked at, is together what it asked.

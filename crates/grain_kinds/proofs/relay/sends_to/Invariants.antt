@@ -1,6 +1,6 @@
 use Rattle.std.proofs.Common.{◌≡◌, ◌++◌, map}
 use Rattle.turn_arena.specs.NodeValue.{node_value}
-use Rattle.grain_kinds.specs.Planned.{send_shown}
+use Rattle.grain_logic.specs.Planned.{send_shown}
 use Rattle.grain_kinds.specs.Relay.{sends_to}
 use Rattle.grain_kinds.proofs.relay.sends_to.Given as goal
 

@@ -3,7 +3,7 @@ use Rattle.std.specs.Prelude.{is_some}
 use Rattle.request_codec.specs.Tree as tree
 use Rattle.turn_arena.proofs.Levels.{node_value-Bool, node_value-Map}
 use Rattle.turn_arena.specs.Fields.{field_dropped}
-use Rattle.grain_kinds.specs.Shared.{becomes}
+use Rattle.grain_logic.specs.Shared.{becomes}
 use Rattle.turn_arena.specs.Fields.{fields_in}
 use Rattle.grain_kinds.specs.Sheet.{value_in}
 use Rattle.grain_kinds.proofs.Fields.{is_some-node_value}

@@ -3,7 +3,7 @@ use Rattle.request_codec.specs.Tree as tree
 use Rattle.turn_arena.proofs.Levels.{node_value-Map}
 use Rattle.turn_arena.specs.Fields.{field_put}
 use Rattle.turn_arena.specs.NodeValue.{node_value}
-use Rattle.grain_kinds.specs.Sheet.{set_to}
+use Rattle.grain_logic.specs.Setting.{set_to}
 use Rattle.grain_kinds.proofs.sheet.put_value.Goals as goal
 
 pub returns : goal.returns

@@ -4,7 +4,7 @@ use Rattle.std.specs.FinMap as map
 use Rattle.std.proofs.lemmas.Option.{none-some, same_Some}
 use Rattle.std.proofs.lemmas.Result.{on_ok_weaker}
 use Rattle.silo_model.specs.Pending.{sends_of}
-use Rattle.silo_state.specs.Sends.{first_source}
+use Rattle.tenant_accounts.specs.Sends.{first_source}
 use Rattle.answer_model.specs.Answering.{Luck, deliveries, whole_stepper}
 use Rattle.line_answer.specs.Trying.{Tries}
 use Rattle.line_answer.proofs.Trying.{goes_nowhere}

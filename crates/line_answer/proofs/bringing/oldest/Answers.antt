@@ -2,7 +2,7 @@ use Rattle.std.proofs.Common.{rules, ◌≡◌, Some, None}
 use Rattle.std.specs.FinMap as map
 use Rattle.silo_model.specs.Pending.{sends_of}
 use Rattle.silo_model.specs.Sends.{first_target}
-use Rattle.silo_state.specs.Sends.{first_source}
+use Rattle.tenant_accounts.specs.Sends.{first_source}
 use Rattle.line_answer.proofs.Trying.{has_target, oldest_is}
 use Rattle.line_answer.proofs.bringing.oldest.Goals as goal
 

@@ -1,8 +1,9 @@
-use Rattle.silo_program.proofs.Common.{Keeps-refl, claims, refl, rules}
+use Rattle.std.proofs.KnownBytes.{Keeps-refl}
+use Rattle.command_parts.specs.Files.{claims}
+use Rattle.std.proofs.Common.{refl, rules}
 use Rattle.silo_words.specs.Words.{texts_of}
-use Rattle.silo_program.proofs.MigrationLemmas.{migration_faults}
+use Rattle.silo_program.proofs.TaskLemmas.{ends_shown, migration_faults, stream_faults}
 use Rattle.silo_program.proofs.SeedLemmas.{not_seeded}
-use Rattle.silo_program.proofs.ServingLemmas.{ends_shown, stream_faults}
 use Rattle.silo_program.proofs.program.answer.Goals as goal
 
 pub returns-in-Err-clause-ended : goal.returns-in-Err-clause-ended

@@ -1,5 +1,6 @@
-use Rattle.silo_program.proofs.Common.{err_from_is_err_and, refl}
-use Rattle.silo_program.proofs.ServingLemmas.{answered_left, answering_refused}
+use Rattle.std.proofs.lemmas.Result.{err_from_is_err_and}
+use Rattle.std.proofs.Common.{refl}
+use Rattle.silo_program.proofs.TaskLemmas.{answered_left, answering_refused}
 use Rattle.silo_program.proofs.program.answer_tenants.Goals as goal
 
 pub returns-in_err-named-clause-fault : goal.returns-in_err-named-clause-fault

@@ -1,6 +1,6 @@
 use Rattle.std.proofs.Common.{◌∙◌, sym}
 use Rattle.silo_program.proofs.FaultLemmas.{ends_well, failed_by, refused_by}
-use Rattle.silo_program.proofs.ServingLemmas.{untouched}
+use Rattle.silo_program.proofs.TaskLemmas.{untouched}
 use Rattle.silo_program.proofs.program.run_program.Goals as goal
 
 pub returns-in-Ok-clause-files : goal.returns-in-Ok-clause-files

@@ -1,6 +1,9 @@
-use Rattle.silo_program.proofs.Common.{ServesInput, claims, err_from_is_err_and, refl, subst, sym, ◌∙◌}
-use Rattle.std.proofs.Common.{string_bytes}
-use Rattle.silo_program.proofs.ServingLemmas.{files_left, input_served, not_asked, serving_refused}
+use Rattle.silo_program.specs.Ends.{ServesInput}
+use Rattle.command_parts.specs.Files.{claims}
+use Rattle.std.proofs.lemmas.Result.{err_from_is_err_and}
+use Rattle.std.proofs.Common.{refl, string_bytes, subst, sym, ◌∙◌}
+use Rattle.silo_program.proofs.TaskLemmas.{files_left, input_served, serving_refused}
+use Rattle.serve_command.proofs.ServingLemmas.{not_asked}
 use Rattle.silo_program.proofs.program.serve_tenants.Goals as goal
 
 pub returns-in_err-named-clause-fault : goal.returns-in_err-named-clause-fault

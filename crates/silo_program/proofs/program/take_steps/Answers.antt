@@ -1,5 +1,5 @@
 use Rattle.std.proofs.lemmas.Result.{err_from_is_err_and}
-use Rattle.silo_program.proofs.ServingLemmas.{steps_refused}
+use Rattle.silo_program.proofs.TaskLemmas.{steps_refused}
 use Rattle.silo_program.proofs.program.take_steps.Goals as goal
 
 pub returns-in_err-named-clause-fault : goal.returns-in_err-named-clause-fault

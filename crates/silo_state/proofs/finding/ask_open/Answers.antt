@@ -1,6 +1,6 @@
 use Rattle.std.proofs.Common.{sym, ap, ◌∙◌}
-use Rattle.grain_kinds.specs.Logic.{Plan}
-use Rattle.grain_kinds.specs.Finished.{plan_at}
+use Rattle.grain_logic.specs.Logic.{Plan}
+use Rattle.grain_logic.specs.Finished.{plan_at}
 use Rattle.silo_state.specs.Finds.{turn_of}
 use Rattle.silo_state.proofs.OpenTurns.{own_turn}
 use Rattle.silo_state.proofs.finding.ask_open.Goals as goal

@@ -1,6 +1,6 @@
 use Rattle.std.proofs.Common.{◌≡◌, subst, sym}
 use Rattle.journal_text.specs.Text.{History}
-use Rattle.audit_model.specs.Logics.{logic_of}
+use Rattle.grain_kinds.specs.Kinds.{logic_of}
 use Rattle.audit_model.specs.Report.{IsReport}
 use Rattle.tenant_audit.proofs.laws.same_report.Goals as goal
 

@@ -1,7 +1,7 @@
 use Rattle.std.proofs.Common.{◌≡◌, ◌<◌, ◌++◌, ◌∷◌, [], length, take, ap, sym, ◌∙◌, subst, rules, arith}
 use Rattle.std.proofs.lemmas.List.{map-append, take_more}
 use Rattle.std.proofs.lemmas.List.Elements.{All-push}
-use Rattle.audit_model.specs.Logics.{logic_of}
+use Rattle.grain_kinds.specs.Kinds.{logic_of}
 use Rattle.audit_model.specs.Report.{IsTenantReport}
 use Rattle.tenant_audit.specs.ReportView.{tenant_report_of}
 use Rattle.tenant_audit.specs.inside.Parts.{AreReports, reported}

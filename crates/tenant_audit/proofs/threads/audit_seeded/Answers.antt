@@ -1,5 +1,5 @@
 use Rattle.std.proofs.Common.{◌≡◌, List, map, rules, sym, subst}
-use Rattle.audit_model.specs.Logics.{logic_of}
+use Rattle.grain_kinds.specs.Kinds.{logic_of}
 use Rattle.audit_model.specs.Parts.{tenants_in}
 use Rattle.audit_model.specs.Report.{TenantReport as Told, IsReport}
 use Rattle.tenant_audit.specs.declared.report.TenantReport.{TenantReport}

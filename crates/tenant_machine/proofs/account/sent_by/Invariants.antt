@@ -1,5 +1,5 @@
 use Rattle.std.proofs.Common.{◌≡◌, take, map}
-use Rattle.grain_kinds.specs.Finished.{sent}
+use Rattle.grain_logic.specs.Finished.{sent}
 use Rattle.silo_model.specs.Turns.{sent_by}
 use Rattle.tenant_machine.specs.inside.Sends.{sends_of}
 use Rattle.tenant_machine.proofs.account.sent_by.Given as goal

@@ -5,7 +5,7 @@ use Rattle.silo_event.specs.declared.step.Step.TheVariants.{Deliver}
 use Rattle.silo_model.specs.Todo.{IsTodo}
 use Rattle.silo_model.proofs.OwnSends.{sends_are_own}
 use Rattle.silo_model.proofs.WorkAtGrains.{work_is_done}
-use Rattle.silo_state.specs.Sends.{HasSent}
+use Rattle.tenant_accounts.specs.Sends.{HasSent}
 use Rattle.silo_state.specs.Work.{step_at}
 use Rattle.silo_core.specs.History.{History}
 use Rattle.silo_core.specs.inside.Shown.{setup_of}

@@ -1,7 +1,7 @@
 use Rattle.std.proofs.Common.{◌≡◌, true}
 use Rattle.std.specs.FinMap as map
 use Rattle.silo_state.specs.Work.{is_settled}
-use Rattle.silo_state.proofs.Walks.{HoldsBelow}
+use Rattle.tenant_accounts.proofs.Walks.{HoldsBelow}
 use Rattle.silo_state.proofs.activations.Activations.are_settled.Given as goal
 
 -- the grains so far are settled

@@ -7,7 +7,7 @@ use Rattle.grain_id.proofs.Order.{grain_cmp_total, grain_cmp_exact}
 use Rattle.finite_maps.proofs.Maps as maps
 use Rattle.activation_directory.specs.declared.activation.Activation.{Activation}
 use Rattle.activation_directory.specs.declared.activation.Phase.TheVariants.{Waiting}
-use Rattle.grain_kinds.specs.Planned.{keep_of}
+use Rattle.grain_logic.specs.Planned.{keep_of}
 use Rattle.idle_collector.specs.Ages.{kind_age}
 use Rattle.idle_collector.specs.Notes.{Collection}
 use Rattle.silo_model.specs.Effect.{put, drop}

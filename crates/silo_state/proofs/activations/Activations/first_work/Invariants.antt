@@ -1,7 +1,7 @@
 use Rattle.std.proofs.Common.{◌≡◌, None}
 use Rattle.std.specs.FinMap as map
 use Rattle.silo_model.specs.Todo.{work_on}
-use Rattle.silo_state.proofs.Walks.{HoldsBelow}
+use Rattle.tenant_accounts.proofs.Walks.{HoldsBelow}
 use Rattle.silo_state.proofs.activations.Activations.first_work.Given as goal
 
 -- nothing is to do at the grains so far

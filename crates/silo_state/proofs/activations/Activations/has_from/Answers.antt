@@ -1,7 +1,8 @@
 use Rattle.std.proofs.Common.{◌≡◌, ◌≤◌, false, sym, ap, ◌∙◌, arith, length}
 use Rattle.std.specs.FinMap as map
 use Rattle.silo_state.specs.inside.Activations.{Activations}
-use Rattle.silo_state.proofs.Walks.{of_each_grain, one_more}
+use Rattle.silo_state.proofs.Walks.{of_each_grain}
+use Rattle.tenant_accounts.proofs.Walks.{one_more}
 use Rattle.silo_state.proofs.Pendings.{absent, at_grain, none_pending, one_pending, part_of, pending_of}
 use Rattle.silo_state.proofs.activations.Activations.has_from.Goals as goal
 

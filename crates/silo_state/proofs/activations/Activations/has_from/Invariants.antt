@@ -1,7 +1,7 @@
 use Rattle.std.proofs.Common.{◌≡◌, false}
 use Rattle.std.specs.FinMap as map
 use Rattle.silo_state.proofs.Pendings.{part_of, pending_of}
-use Rattle.silo_state.proofs.Walks.{HoldsBelow}
+use Rattle.tenant_accounts.proofs.Walks.{HoldsBelow}
 use Rattle.silo_state.proofs.activations.Activations.has_from.Given as goal
 
 -- nothing of the client waits or is open at the grains so far

@@ -1,7 +1,7 @@
 use Rattle.std.proofs.Common.{List, None, Some, refl, ap, sym, ◌∙◌, subst}
 use Rattle.std.specs.Prelude.{Err, IsSome, option_and_then}
 use Rattle.std.specs.FinMap as map
-use Rattle.grain_kinds.specs.Logic.{same}
+use Rattle.grain_logic.specs.Logic.{same}
 use Rattle.silo_event.specs.declared.fault.Fault.TheVariants.{NoMemory}
 use Rattle.silo_event.specs.declared.reply.Reply.{Reply}
 use Rattle.silo_model.specs.Machine.{Entries}

@@ -6,7 +6,7 @@ use Rattle.silo_event.specs.declared.reply.Party.TheVariants as party
 use Rattle.silo_model.proofs.SendSteps.{deliver_unknown, deliver_nothing}
 use Rattle.silo_state.specs.inside.Held.{Held, held_of}
 use Rattle.silo_state.specs.inside.Requests.{with_told, with_accepted}
-use Rattle.silo_state.specs.Sends.{send_of}
+use Rattle.tenant_accounts.specs.Sends.{send_of}
 use Rattle.silo_state.specs.Verdicts.{verdict, Settles}
 use Rattle.silo_state.proofs.Calls.{deliver_told, deliver_taken, without_sent}
 use Rattle.silo_state.proofs.state.SiloState.deliver.Goals as goal

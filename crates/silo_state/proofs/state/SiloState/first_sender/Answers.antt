@@ -1,7 +1,7 @@
 use Rattle.std.proofs.Common.{subst}
 use Rattle.std.specs.Prelude.{IfNone}
 use Rattle.silo_state.specs.inside.Held.{Held}
-use Rattle.silo_state.specs.Sends.{NothingSent}
+use Rattle.tenant_accounts.specs.Sends.{NothingSent}
 use Rattle.silo_state.proofs.state.SiloState.first_sender.Goals as goal
 
 pub returns-clause-none : goal.returns-clause-none

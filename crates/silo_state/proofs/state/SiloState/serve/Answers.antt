@@ -3,9 +3,9 @@ use Rattle.std.specs.Prelude.{IfSome, map as map_list}
 use Rattle.std.specs.FinMap as map
 use Rattle.std.specs.FinMap.{FinMap}
 use Rattle.grain_id.specs.Names.{text_cmp}
-use Rattle.grain_kinds.specs.Finished.{planned_shown}
-use Rattle.grain_kinds.specs.Finished as finished
-use Rattle.grain_kinds.specs.declared.turn.OwnedPlan.{OwnedPlan}
+use Rattle.grain_logic.specs.Finished.{planned_shown}
+use Rattle.grain_logic.specs.Finished as finished
+use Rattle.grain_logic.specs.declared.turn.OwnedPlan.{OwnedPlan}
 use Rattle.silo_event.specs.declared.reply.Party.TheVariants as party
 use Rattle.silo_event.specs.declared.step.Step.TheVariants as step
 use Rattle.silo_model.specs.Calls.{last_number}
@@ -13,12 +13,14 @@ use Rattle.silo_model.specs.Effect.{change_at}
 use Rattle.silo_model.specs.Machine.{Account, Entry, Entries}
 use Rattle.silo_model.specs.Turns.{sent_by}
 use Rattle.silo_state.specs.AtOnce.{Serves}
-use Rattle.silo_state.specs.Sends.{with_more}
+use Rattle.silo_state.specs.inside.Sends.{with_more}
 use Rattle.silo_state.specs.inside.Activations.{Activations}
-use Rattle.silo_state.specs.inside.AtOnce.{Admits, PlansIdle, renewed}
-use Rattle.silo_state.specs.inside.Deliveries.{changed_account}
+use Rattle.tenant_accounts.specs.inside.Numbers.{Admits}
+use Rattle.silo_state.specs.inside.AtOnce.{PlansIdle, renewed}
+use Rattle.tenant_accounts.specs.inside.Deliveries.{changed_account}
 use Rattle.silo_state.specs.inside.Held.{Held, held_of}
 use Rattle.silo_state.proofs.AtOnce.{counted, counts_on, sent, serves}
+use Rattle.silo_state.proofs.Ends.{sent_each}
 use Rattle.silo_state.proofs.state.SiloState.serve.Goals as goal
 
 pub count_one-requires : goal.count_one-requires
@@ -28,7 +30,7 @@ count_one-requires g c =
     let admits = subst (λ (p : FinMap text_cmp Account × List ℕ). Admits p.0 p.1 c.in-Some.number) (λ i. (sym c.next_number.ensures.unchanged i, c.tenant-3.ensures i)) c.in-Some.ensures.number in
     let own : c.args.grain.now.tenant ≡ c.args.caller.now.tenant = search rules in
     let known = ap (map.get accounts) own ∙ admits.known in
-    let done = c.in_ok-send_each.ensures.done in
+    let done = c.in_ok-send_each.ensures.done ∙ sent_each accounts grain grain.tenant c.as_slice.result.now in
     subst (λ found. IfSome found (λ (a : Account). a.count < last_number)) (λ i. map.get (sym done i) (sym c.tenant-4.ensures i))
     (counts_on accounts grain admits.account grain.tenant (map_list finished.sent c.as_slice.result.now) known admits.next.left)
 
@@ -53,7 +55,7 @@ returns-clause-served g c =
     let plan = planned_shown plans.plans.state owned in
     let plain = c.is_plain.ensures c.if-not-is_plain.false in
     let done : c.send_each.new.self ≡ sent accounts grain admits.account grain.tenant plan.sends =
-    c.in_ok-send_each.ensures.done ∙ ap (λ ss. change_at accounts grain.tenant (with_more (map.get accounts grain.tenant) (sent_by grain (map_list finished.sent ss)))) c.as_slice.ensures.value in
+    c.in_ok-send_each.ensures.done ∙ sent_each accounts grain grain.tenant c.as_slice.result.now ∙ ap (λ ss. change_at accounts grain.tenant (with_more (map.get accounts grain.tenant) (sent_by grain (map_list finished.sent ss)))) c.as_slice.ensures.value in
     let kept = c.count_one.ensures ∙ (λ i. changed_account counted (done i) (c.tenant-4.ensures i) (map.get (done i) (c.tenant-4.ensures i))) in
     let entries =
     c.renew.ensures.entries e plans.found_is

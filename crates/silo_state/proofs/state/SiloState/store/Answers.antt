@@ -1,6 +1,6 @@
 use Rattle.std.proofs.Common.{refl, ap, sym, subst}
 use Rattle.std.specs.FinMap as map
-use Rattle.grain_kinds.specs.declared.turn.OpenedTurn.{OpenedTurn}
+use Rattle.silo_event.specs.declared.opened_turn.OpenedTurn.{OpenedTurn}
 use Rattle.silo_state.specs.Finds.{IsOwn}
 use Rattle.silo_state.proofs.Stores.{store_none}
 use Rattle.silo_state.proofs.state.SiloState.store.Goals as goal

@@ -2,7 +2,7 @@ use Rattle.std.proofs.Common.{List, refl, ap, sym, ◌∙◌, subst}
 use Rattle.std.specs.FinMap as map
 use Rattle.std.proofs.lemmas.Option.{same_Some}
 use Rattle.request_codec.specs.Tree.{Tree}
-use Rattle.grain_kinds.specs.Planned.{storage_call}
+use Rattle.grain_logic.specs.Planned.{storage_call}
 use Rattle.silo_event.specs.declared.reply.Reply.{Reply}
 use Rattle.silo_event.specs.declared.step.Step.TheVariants as step
 use Rattle.silo_model.specs.Machine.{Entry, Entries}

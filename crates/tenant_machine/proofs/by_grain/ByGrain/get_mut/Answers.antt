@@ -1,6 +1,6 @@
 use Rattle.std.proofs.Common.{ap, sym, ◌∙◌}
 use Rattle.std.specs.FinMap as map
-use Rattle.silo_state.proofs.AccountMaps.{lent, there}
+use Rattle.tenant_accounts.proofs.AccountMaps.{lent, there}
 use Rattle.tenant_machine.proofs.Trees.{shown, get-shown, put-shown}
 use Rattle.tenant_machine.proofs.by_grain.ByGrain.get_mut.Goals as goal
 

@@ -1,6 +1,6 @@
 use Rattle.silo_model.proofs.Common.{◌∙◌, Entries, FinMap, None, Some, ap, drop, grain_cmp, if◌then◌else◌, option_and_then, option_map, put, refl, subst, sym}
 use Rattle.std.specs.FinMap as map
-use Rattle.grain_kinds.specs.Planned.{keep_of}
+use Rattle.grain_logic.specs.Planned.{keep_of}
 use Rattle.activation_directory.specs.declared.activation.Activation.{Activation}
 use Rattle.silo_state.specs.Marks.{AllMarked}
 use Rattle.silo_state.specs.Shown.{phase_of, entry_of, entries_of}

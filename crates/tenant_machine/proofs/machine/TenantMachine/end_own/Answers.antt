@@ -1,13 +1,13 @@
 use Rattle.silo_model.proofs.Common.{◌∙◌, ◌≡◌, Fault, List, Machine, Option, Phase, Plan, Reply, Result, Some, Tree, ap, change_option, machine_step, option_map, refl, subst, sym}
 use Rattle.std.specs.FinMap as map
 use Rattle.std.specs.Prelude.{map as map_list}
-use Rattle.grain_kinds.specs.Finished as finished
-use Rattle.grain_kinds.specs.Planned.{keep_of}
+use Rattle.grain_logic.specs.Finished as finished
+use Rattle.grain_logic.specs.Planned.{keep_of}
 use Rattle.silo_event.specs.declared.step.Step.TheVariants as step
 use Rattle.silo_model.specs.Turns.{sent_by}
 use Rattle.silo_state.specs.Shown.{phase_of}
 use Rattle.silo_state.specs.Finds.{IsOwnPlan, asks}
-use Rattle.silo_state.specs.Sends.{with_more}
+use Rattle.silo_state.specs.inside.Sends.{with_more}
 use Rattle.silo_state.specs.Closings.{ClosesTold}
 use Rattle.silo_state.proofs.Ends.{plan_closes, plan_in_range}
 use Rattle.tenant_machine.proofs.Ends.{end_asks, end_done}

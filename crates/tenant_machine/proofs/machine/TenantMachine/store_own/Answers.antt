@@ -1,6 +1,6 @@
 use Rattle.silo_model.proofs.Common.{◌∙◌, Entry, List, Machine, Reply, Tree, ap, refl, same_Some, subst, sym}
 use Rattle.std.specs.FinMap as map
-use Rattle.grain_kinds.specs.Planned.{storage_call}
+use Rattle.grain_logic.specs.Planned.{storage_call}
 use Rattle.silo_event.specs.declared.step.Step.TheVariants as step
 use Rattle.silo_state.specs.Finds.{IsOwnCall, asks}
 use Rattle.silo_state.specs.Shown.{entry_of}

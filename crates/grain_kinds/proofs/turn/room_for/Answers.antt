@@ -1,5 +1,0 @@
-use Rattle.grain_kinds.proofs.Fits.{state_fits}
-use Rattle.grain_kinds.proofs.turn.room_for.Goals as goal
-
-pub returns : goal.returns
-returns c = state_fits c.args.state.now c.bytes-bytes.result.now c.bytes-bytes.ensures.spelled

@@ -1,0 +1,4 @@
+pub mod Fits
+pub mod Nodes
+pub mod Shapes
+pub mod KeepSame

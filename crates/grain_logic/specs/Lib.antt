@@ -1,0 +1,15 @@
+pub mod Logic
+pub mod Laws
+pub mod Shared
+pub mod Adding
+pub mod Setting
+pub mod Shortcuts
+pub mod Tables
+pub mod Counters
+pub mod Planned
+pub mod Finished
+pub mod LawsOfForms
+pub mod LawsOfSetting
+pub mod LawsOfCounters
+pub mod LawsOfTables
+pub mod inside

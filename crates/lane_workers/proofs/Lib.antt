@@ -1,0 +1,3 @@
+pub mod Owing
+pub mod Places
+pub mod Batched

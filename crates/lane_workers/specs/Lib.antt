@@ -1,0 +1,4 @@
+pub mod Owing
+pub mod Turns
+pub mod Served
+pub mod Batches

@@ -1,0 +1,12 @@
+//! The commands of the program `silo` that read, work and write line by line: `silo steps` and `silo answer`.
+//!
+//! A layer above may rely on this: `answer_steps` takes the steps of an input and writes what they answer, and
+//! `answer_input` answers each line before the next is read, and keeps the journal. What comes of them stands in
+//! `specs/Steps.antt` and in `specs/Answering.antt`.
+#![tactic(auto)]
+
+mod answering;
+mod stepping;
+
+pub use answering::answer_input;
+pub use stepping::answer_steps;

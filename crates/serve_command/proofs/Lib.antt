@@ -1,0 +1,3 @@
+mod NoRows
+pub mod Stops
+pub mod ServingLemmas

@@ -1,0 +1,19 @@
+//! Lines that are served by threads: the command `silo serve` of the program.
+//!
+//! A layer above may rely on this: `serve_input` reads all lines before it serves any, and what it answers is what serving
+//! their lanes leaves, over no rows at the start; `write_served` writes exactly the text of that. `serve_lines` does both, and
+//! keeps the journal: `telling` makes the text of what is told of the lines then. What was served is defined in
+//! `specs/Lanes.antt`, what is told in `specs/Telling.antt`, and what comes of it all in `specs/Serving.antt`.
+#![tactic(auto)]
+
+mod fault;
+mod lanes;
+mod serving;
+mod telling;
+mod writing;
+
+pub use fault::ServiceFault;
+pub use lanes::{ServedInput, serve_input, serve_read};
+pub use serving::serve_lines;
+pub use telling::asks_to_tell;
+pub use writing::write_served;

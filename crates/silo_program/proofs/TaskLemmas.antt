@@ -1,0 +1,186 @@
+-- What a task that was done, or wasn't, is to the words that ask for it.
+use Rattle.idle_collector.specs.Ages.{Ages}
+use Rattle.command_parts.specs.declared.failure.Cause.{Cause}
+use Rattle.command_parts.specs.declared.failure.End.{End}
+use Rattle.silo_program.specs.Ends.{AskForJournal, EndsAs, EndsServing, IsAnsweringFault, IsFaultOf, IsNamingFault, IsServingFault}
+use Rattle.silo_program.specs.Ends.{IsStreamFault, LeavesFiles, ServesInput, ShowsText, WritesAnswered, WritesJournal}
+use Rattle.command_parts.specs.Files.{FileClaims}
+use Rattle.std.proofs.Common.{IfErr, IfOk, List, None, Option, Result, Some, [], inl, inr, refl, subst, sym, ℕ, ⊎_elim, ◌≡◌}
+use Rattle.std.proofs.lemmas.Result.{IfErr-weaker, IfOk-weaker}
+use Rattle.std.specs.Io.KnownBytes.{Keeps}
+use Rattle.std.proofs.KnownBytes.{Keeps-refl}
+use Rattle.serve_command.specs.Serving.{ServesLanes, WritesJournalAtMost}
+use Rattle.command_parts.specs.declared.failure.ProgramFault.{ProgramFault}
+use Rattle.line_protocol.specs.Reading.{Reading}
+use Rattle.tenant_gate.specs.Table.{Table}
+use Rattle.clap.specs.Words.{Text}
+use Rattle.line_protocol.specs.declared.written.WriterCalls.{WriterCalls}
+use Rattle.line_commands.specs.Answering.{WritesJournalsAtMost}
+use Rattle.command_parts.specs.Setups.{setup_of}
+use Rattle.silo_words.specs.Ages.{IsWhyNoAges, NamesAges}
+use Rattle.silo_words.specs.Tenants.{IsReason, NameTenants}
+use Rattle.silo_words.specs.Words.{AskForAnswering, AskForAudit, AskForMigration, AskForServing, AskForSteps}
+use Rattle.silo_words.specs.declared.task.Telling.{Telling}
+use Rattle.silo_program.specs.Arguments.{IsAgesFault, IsTenantsFault}
+use Rattle.journal_commands.specs.Auditing.{AuditsFile}
+use Rattle.command_parts.specs.declared.failure.End.TheVariants as end
+use Rattle.command_parts.specs.declared.failure.ProgramFault.TheVariants as fault
+use Rattle.silo_words.specs.declared.ages.AgesFault.{AgesFault}
+use Rattle.silo_words.specs.declared.ages.AgesFault.TheVariants as ages
+use Rattle.silo_words.specs.declared.tenants.TenantsFault.{TenantsFault}
+use Rattle.silo_words.specs.declared.tenants.TenantsFault.TheVariants as tenants
+use Rattle.journal_commands.specs.Migrating.{IsMigrationFault}
+
+-- ---- what was written to files
+
+module _ (words : List Text) (files : FileClaims) (from left : Option (List ℕ)) (workers age : ℕ) (given : Option Text) (tenants : Table) (ages : Ages) (arguments : List Text) where
+  -- of what the words ask for
+  pub files_left : (journal : Option Text) (telling : Telling) → AskForServing words workers age given journal telling arguments → NameTenants arguments tenants × NamesAges given ages → WritesJournalAtMost (setup_of tenants age ages) files journal from left
+      → LeavesFiles words files from left
+  files_left None telling asked named same = inl same
+  files_left (Some path) telling asked named is =
+      ⊎_elim (λ same. inl same)
+      (λ written. inr (inl (record {
+        workers = workers;
+        tenants = tenants;
+        age = age;
+        ages = ages;
+        path = path;
+        telling = telling;
+        asked = record { given = given; arguments = arguments; asked = asked; named = named.0; aged = named.1 };
+        written = written;
+      }))) is
+
+-- no journal is asked for
+pub untouched : (words : List Text) (files : FileClaims) (from left : Option (List ℕ)) → LeavesFiles words files from left → ((path : Text) → ¬ AskForJournal words path) → files.same
+untouched words files from left leaves never =
+    ⊎_elim (λ same. same)
+    (λ written. ⊎_elim (λ (w : WritesJournal words files from left). absurd (never w.path (inl (w.workers, w.age, w.asked.given, w.telling, w.asked.arguments, w.asked.asked))))
+    (λ (w : WritesAnswered words files from). absurd (never w.path (inr (w.age, w.asked.given, w.sends, w.asked.arguments, w.asked.asked)))) written) leaves
+
+-- ---- tenants and ages aren't named
+
+-- by the tenant arguments
+pub tenants_not_named : (given : Option Text) (arguments : List Text) (why : TenantsFault) (told : ProgramFault) → IsReason arguments why → IsTenantsFault why told → IsNamingFault given arguments told
+tenants_not_named given arguments tenants.Memory told reason is = subst (λ (f : ProgramFault). IsNamingFault given arguments f) (sym is) refl
+tenants_not_named given arguments (tenants.Refused number) (fault.Failed why) reason is = is
+tenants_not_named given arguments (tenants.Refused number) (fault.Refused text) reason is = inl (number, reason, is)
+tenants_not_named given arguments (tenants.Refused number) (fault.NoJournal text) reason is = absurd is
+
+-- by the text of ages, where the arguments name tenants
+pub ages_not_named : (given : Option Text) (arguments : List Text) (tenants : Table) → NameTenants arguments tenants → (why : AgesFault) (told : ProgramFault) → IsWhyNoAges given why → IsAgesFault why told
+    → IsNamingFault given arguments told
+ages_not_named given arguments tenants named ages.Memory told refused is = subst (λ (f : ProgramFault). IsNamingFault given arguments f) (sym is) refl
+ages_not_named given arguments tenants named ages.Refused (fault.Failed why) refused is = is
+ages_not_named given arguments tenants named ages.Refused (fault.Refused text) refused is = inr (record { tenants = tenants; named = named; refused = refused }, is)
+ages_not_named given arguments tenants named ages.Refused (fault.NoJournal text) refused is = absurd is
+
+module _ (words : List Text) (from : Option (List ℕ)) (reading : Reading) (before : Option (List ℕ)) (writing : WriterCalls) (given : Option Text) (arguments : List Text) where
+  -- and so steps aren't taken
+  pub steps_refused : (age : ℕ) → AskForSteps words age given arguments → (told : ProgramFault) → IsNamingFault given arguments told → IsStreamFault words told from from reading before before writing
+  steps_refused age asked (fault.Failed why) is = subst (λ (c : Cause). IsStreamFault words (fault.Failed c) from from reading before before writing) (sym is) (inl (Keeps-refl from, Keeps-refl before))
+  steps_refused age asked (fault.Refused text) is = (inr (record { given = given; arguments = arguments; asked = inl (age, asked); why = is }), Keeps-refl from, Keeps-refl before)
+  steps_refused age asked (fault.NoJournal text) is = absurd is
+
+  module _ (files : FileClaims) (same : files.same) where
+    -- nor lines served
+    pub serving_refused : (workers age : ℕ) (journal : Option Text) (telling : Telling) → AskForServing words workers age given journal telling arguments → (told : ProgramFault) → IsNamingFault given arguments told
+        → IsServingFault words files told from from reading before before writing
+    serving_refused workers age journal telling asked (fault.Failed why) is =
+        subst (λ (c : Cause). IsServingFault words files (fault.Failed c) from from reading before before writing) (sym is) (inl (Keeps-refl from, Keeps-refl before))
+    serving_refused workers age journal telling asked (fault.Refused text) is =
+        (inr (record { given = given; arguments = arguments; asked = inr (inl (workers, age, journal, telling, asked)); why = is }), Keeps-refl from, Keeps-refl before, same)
+    serving_refused workers age journal telling asked (fault.NoJournal text) is = absurd is
+
+    -- nor answered at once
+    pub answering_refused : (age sends : ℕ) (journal : Option Text) → AskForAnswering words age given sends journal arguments → (told : ProgramFault) → IsNamingFault given arguments told
+        → IsAnsweringFault words files told from from reading before before writing
+    answering_refused age sends journal asked (fault.Failed why) is =
+        subst (λ (c : Cause). IsAnsweringFault words files (fault.Failed c) from from reading before before writing) (sym is) (inl (Keeps-refl from, Keeps-refl before))
+    answering_refused age sends journal asked (fault.Refused text) is =
+        (inr (record { given = given; arguments = arguments; asked = inr (inr (age, sends, journal, asked)); why = is }), Keeps-refl from, Keeps-refl before, same)
+    answering_refused age sends journal asked (fault.NoJournal text) is = absurd is
+
+-- ---- a text was asked for
+
+module _ (words : List Text) (files : FileClaims) (from left before after : Option (List ℕ)) where
+  shown : (how : End) → (how ≡ end.Well) × ShowsText words from left before after → EndsAs how words files from left before after
+  shown how is = subst (λ (e : End). EndsAs e words files from left before after) (sym is.0) (inl (inl is.1))
+
+  pub ends_shown : {E : Type 0} (result : Result End E) → IfOk result (λ how. (how ≡ end.Well) × ShowsText words from left before after) → IfOk result (λ how. EndsAs how words files from left before after)
+  ends_shown result is = IfOk-weaker result (λ how. (how ≡ end.Well) × ShowsText words from left before after) (λ how. EndsAs how words files from left before after) shown is
+
+module _ (words : List Text) (files : FileClaims) (from left : Option (List ℕ)) (reading : Reading) (before after : Option (List ℕ)) (writing : WriterCalls) (same : files.same) where
+  stream_fault : (why : ProgramFault) → IsStreamFault words why from left reading before after writing → IsFaultOf words files why from left reading before after writing
+  stream_fault (fault.Failed why) is = ⊎_elim (λ early. inl (inl early)) (λ steps. inr (inl steps)) is
+  stream_fault (fault.Refused text) is = (is.0, is.1, is.2, same)
+  stream_fault (fault.NoJournal text) is = absurd is
+
+  pub stream_faults : {T : Type 0} (result : Result T ProgramFault) → IfErr result (λ why. IsStreamFault words why from left reading before after writing) → IfErr result (λ why. IsFaultOf words files why from left reading before after writing)
+  stream_faults result is = IfErr-weaker result (λ why. IsStreamFault words why from left reading before after writing) (λ why. IsFaultOf words files why from left reading before after writing) stream_fault is
+
+-- ---- lines are answered at once
+
+module _ (words : List Text) (files : FileClaims) (from left : Option (List ℕ)) (age : ℕ) (given : Option Text) (sends : ℕ) (tenants : Table) (ages : Ages) (arguments : List Text) where
+  -- of what the words ask for
+  pub answered_left : (journal : Option Text) → AskForAnswering words age given sends journal arguments → NameTenants arguments tenants × NamesAges given ages → WritesJournalsAtMost (setup_of tenants age ages) sends files journal from
+      → LeavesFiles words files from left
+  answered_left None asked named same = inl same
+  answered_left (Some path) asked named is =
+      ⊎_elim (λ same. inl same)
+      (λ written. inr (inr (record {
+        tenants = tenants;
+        age = age;
+        ages = ages;
+        sends = sends;
+        path = path;
+        asked = record { given = given; arguments = arguments; asked = asked; named = named.0; aged = named.1 };
+        written = written;
+      }))) is
+
+-- ---- how lines that were served end
+
+module _ (words : List Text) (files : FileClaims) (telling : Telling) (from left before after : Option (List ℕ)) where
+  -- of what the words ask for
+  pub input_served : (workers age : ℕ) (given journal : Option Text) (tenants : Table) (ages : Ages) (arguments : List Text) (text : List ℕ) → AskForServing words workers age given journal telling arguments
+      → NameTenants arguments tenants × NamesAges given ages → ServesLanes (setup_of tenants age ages) files journal telling from left before after text → ServesInput words files telling from left before after text
+  input_served workers age given journal tenants ages arguments text asked named served = record {
+    workers = workers;
+    tenants = tenants;
+    age = age;
+    ages = ages;
+    journal = journal;
+    asked = record { given = given; arguments = arguments; asked = asked; named = named.0; aged = named.1 };
+    served = served;
+  }
+
+  served_end : (how : End) → EndsServing how words files telling from left before after → EndsAs how words files from left before after
+  served_end end.Well is = inr (inr (inl (subst (λ (t : Telling). ServesInput words files t from left before after []) is.0 is.1)))
+  served_end (end.Told text) is = (telling, is.0, is.1)
+  served_end end.Differs is = absurd is
+
+  pub ends_served : {E : Type 0} (result : Result End E) → IfOk result (λ how. EndsServing how words files telling from left before after) → IfOk result (λ how. EndsAs how words files from left before after)
+  ends_served result is = IfOk-weaker result (λ how. EndsServing how words files telling from left before after) (λ how. EndsAs how words files from left before after) served_end is
+
+-- a journal was audited
+module _ (words : List Text) (files : FileClaims) (path : Text) (asked : AskForAudit words path) (same : files.same) (from left before after : Option (List ℕ)) (kept : Keeps from left) where
+  audited_end : (how : End) → AuditsFile (files.may_hold path) how before after → EndsAs how words files from left before after
+  audited_end end.Well is = inr (inr (inr (inr (record { path = path; asked = asked; kept = kept; unwritten = same; audited = is }))))
+  audited_end (end.Told text) is = absurd is.found
+  audited_end end.Differs is = record { path = path; asked = asked; kept = kept; unwritten = same; audited = is }
+
+  pub ends_audited : {E : Type 0} (result : Result End E) → IfOk result (λ how. AuditsFile (files.may_hold path) how before after) → IfOk result (λ how. EndsAs how words files from left before after)
+  ends_audited result is = IfOk-weaker result (λ how. AuditsFile (files.may_hold path) how before after) (λ how. EndsAs how words files from left before after) audited_end is
+
+-- ---- it isn't migrated
+
+module _ (words : List Text) (files : FileClaims) (path : Text) (asked : AskForMigration words path) (same : files.same) (from left : Option (List ℕ)) (reading : Reading) (before after : Option (List ℕ)) (writing : WriterCalls) (kept : Keeps from left) where
+  migration_fault : (why : ProgramFault) → IsMigrationFault (files.may_hold path) (files.may_fail path) why before after writing → IsFaultOf words files why from left reading before after writing
+  migration_fault (fault.Failed why) is = inl (inr (record { path = path; asked = asked; kept = kept; unwritten = same; failed = is }))
+  migration_fault (fault.Refused text) is = absurd is
+  migration_fault (fault.NoJournal text) is = record { path = path; asked = inr asked; kept = kept; unwritten = same; refused = is }
+
+  pub migration_faults : {T : Type 0} (result : Result T ProgramFault) → IfErr result (λ why. IsMigrationFault (files.may_hold path) (files.may_fail path) why before after writing)
+      → IfErr result (λ why. IsFaultOf words files why from left reading before after writing)
+  migration_faults result is =
+      IfErr-weaker result (λ why. IsMigrationFault (files.may_hold path) (files.may_fail path) why before after writing) (λ why. IsFaultOf words files why from left reading before after writing) migration_fault is

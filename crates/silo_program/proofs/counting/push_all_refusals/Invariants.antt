@@ -1,6 +1,0 @@
-use Rattle.std.proofs.Common.{◌≡◌, ◌++◌, string_bytes, take}
-use Rattle.silo_program.specs.Telling.{refusals_lines}
-use Rattle.silo_program.proofs.counting.push_all_refusals.Given as goal
-
-abbrev pub invariant-codes : goal.invariant-codes
-invariant-codes l = string_bytes l.text ≡ string_bytes l.initial.text ++ refusals_lines l.list (take l.code-index l.all)

@@ -1,8 +1,0 @@
-use Rattle.silo_program.proofs.Common.{IfOk, IfOk-weaker, [], history_of, journal_text, kinds_number, rules, ◌∙◌, ◌≡◌}
-use Rattle.silo_program.proofs.KeptLemmas.{no_step}
-use Rattle.silo_program.proofs.first_journal.empty_text.Goals as goal
-
-pub returns : goal.returns
-returns c =
-    let parts : IfOk c.journal_of_parts.result (λ text. text.items ≡ journal_text (history_of kinds_number c.args.age c.args.ages.now c.args.tenants.now [] [] [])) = search rules in
-    IfOk-weaker c.journal_of_parts.result _ _ (λ text is. is ∙ no_step c.args.tenants.now c.args.age c.args.ages.now) parts

@@ -1,6 +1,0 @@
-use Rattle.std.proofs.Common.{◌≡◌, ◌++◌, string_bytes, take}
-use Rattle.silo_program.specs.Telling.{reasons_behind}
-use Rattle.silo_program.proofs.reasons.push_reasons.Given as goal
-
-abbrev pub invariant-lines : goal.invariant-lines
-invariant-lines l = string_bytes l.text ≡ string_bytes l.initial.text ++ reasons_behind 0 (take l.at l.lines)

@@ -1,8 +1,0 @@
-use Rattle.silo_program.proofs.EndLemmas.{StopsFrom-kept, steps_not_out}
-use Rattle.silo_program.proofs.stepping.answer_steps.Goals as goal
-
-pub returns-in-Ok-clause-stopped : goal.returns-in-Ok-clause-stopped
-returns-in-Ok-clause-stopped g c = steps_not_out _ _ _ _ _ _ _ _ c.flush.result c.flush.ensures.fault c.flush.ensures.failed c.flush.ensures.kept c.in-Ok.ensures.answered
-
-pub returns-in-Err-clause-stopped : goal.returns-in-Err-clause-stopped
-returns-in-Err-clause-stopped g c = StopsFrom-kept _ _ _ _ _ _ _ _ _ c.flush-in-Err.ensures.bytes c.in-Err.ensures.stopped

@@ -1,9 +1,0 @@
-use Rattle.std.proofs.Common.{false, refl}
-use Rattle.silo_event.specs.declared.step.Step.TheVariants as step
-use Rattle.worker_host.proofs.AtWork.{working_closed}
-use Rattle.worker_host.proofs.working.WorkingSilo.store.Goals as goal
-
-pub invariant_of-self : goal.invariant_of-self
-invariant_of-self g c =
-    let a = c.self.inside in
-    working_closed g.L.GrainLogic.logic a.silo c.store.new.self a.owing a.seen c.self.invariant (step.Store c.args.finished.now.grain c.args.finished.now.number false) refl c.args.finished.now c.store.result c.store.ensures.answered
