@@ -1,0 +1,11 @@
+pub mod CounterCalls
+pub mod SecondCall
+pub mod Limits
+pub mod Closings
+pub mod Use
+pub mod Refusals
+pub mod Rows
+pub mod AtOnce
+pub mod Behind
+pub mod AskedSteps
+pub mod Audits

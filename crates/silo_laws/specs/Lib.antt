@@ -1,0 +1,12 @@
+pub mod Counting
+pub mod SecondCall
+pub mod Status
+pub mod Limits
+pub mod Use
+pub mod Refusals
+pub mod Grains
+pub mod Rows
+pub mod AtOnce
+pub mod Behind
+pub mod AskedSteps
+pub mod Audits
