@@ -1,0 +1,4 @@
+pub mod Known
+pub mod Moments
+pub mod Starts
+pub mod Lives

@@ -1,0 +1,4 @@
+pub mod Acts
+pub mod Lasting
+pub mod Laws
+pub mod Memory

@@ -1,0 +1,12 @@
+pub mod Lines
+pub mod Sums
+pub mod Prefixes
+pub mod Written
+pub mod Stands
+pub mod Passes
+pub mod Spelled
+pub mod CutBytes
+pub mod Marks
+pub mod Batches
+pub mod Read
+pub mod Heads

@@ -1,0 +1,9 @@
+use Rattle.std.proofs.Common.{sym}
+use Rattle.log_text.proofs.Marks.{begins, begins_not}
+use Rattle.log_text.proofs.reader.is_a_mark.Goals as goal
+
+pub returns-in-Some : goal.returns-in-Some
+returns-in-Some c = sym (begins c.args.name.now c.args.line.now c.in-Some.field-0.now c.in-Some.ensures)
+
+pub returns-in-None : goal.returns-in-None
+returns-in-None c = sym (begins_not c.args.name.now c.args.line.now c.in-None.ensures)

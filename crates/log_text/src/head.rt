@@ -1,0 +1,81 @@
+//! The head of a log.
+
+ghost use Rattle.std.specs.Prelude.{◌≡◌, ◌↔◌, ◌++◌, List, ℕ, IsTrue, OnErr, OnOk, option_map};
+ghost use Rattle.log_text.specs.Lines.{IsPrefixOf};
+ghost use Rattle.log_text.specs.Sums.{spelled};
+ghost use Rattle.log_text.specs.Head.{CutsHead, form_line, head_start, head_text};
+ghost use Rattle.log_text.specs.Answers.{Strips};
+
+use crate::cuts::{behind, cut_line};
+use crate::sum::spell;
+use std::alloc::AllocError;
+
+/// The form, and its LF.
+const FORM: &[u8] = b"silo-log 1\n";
+
+/// Adds the head, or a part of it.
+fn push_head_parts(text: &mut Vec<u8>, words: &[u8], number: u64) -> Result<(), AllocError>
+    ensures ok { OnOk result (text.new.items ≡ text.old.items ++ head_text words.now (spelled number)) }
+    ensures err { IsPrefixOf text.old.items text.new.items }
+{
+    text.extend_from_slice(FORM)?;
+    text.extend_from_slice(words)?;
+    text.extend_from_slice(b"of ")?;
+    text.extend_from_slice(&spell(number))?;
+    text.push(b'\n')?;
+    Ok(())
+}
+
+/// Adds the head of a log that is begun for a silo with these words, each with its LF. No other log should have its number. An
+/// `Err` changes nothing.
+pub fn push_head(text: &mut Vec<u8>, words: &[u8], number: u64) -> Result<(), AllocError>
+    ensures ok { OnOk result (text.new.items ≡ text.old.items ++ head_text words.now (spelled number)) }
+    ensures err { OnErr result (text.new.items ≡ text.old.items) }
+{
+    let before = text.len();
+    if push_head_parts(text, words, number).is_err() {
+        text.truncate(before);
+        return Err(AllocError);
+    }
+    Ok(())
+}
+
+/// What stands behind the head's words.
+fn behind_words<'a>(words: &[u8], bytes: &'a [u8]) -> Option<&'a [u8]>
+    ensures { Strips (head_start words.now) bytes.now (option_map (λ rest. rest.now) result) }
+{
+    let Some(rest) = behind(FORM, bytes) else {
+        return None;
+    };
+    let Some(rest) = behind(words, rest) else {
+        return None;
+    };
+    behind(b"of ", rest)
+}
+
+/// The number in the head of a log that was begun for a silo with these words, and what stands behind the head.
+pub fn cut_head<'a>(words: &[u8], bytes: &'a [u8]) -> Option<(&'a [u8], &'a [u8])>
+    ensures { CutsHead words.now bytes.now (option_map (λ cut. (cut.0.now, cut.1.now)) result) }
+{
+    let Some(rest) = behind_words(words, bytes) else {
+        return None;
+    };
+    let Some((number, behind)) = cut_line(rest) else {
+        return None;
+    };
+    if number.len() == 16 {
+        Some((number, behind))
+    } else {
+        None
+    }
+}
+
+/// Whether the bytes begin as a log of this form does: of a log that isn't cut by `cut_head` the words are others.
+pub fn is_log(bytes: &[u8]) -> bool
+    ensures { IsTrue result ↔ ((rest : List ℕ) × (bytes.now ≡ form_line ++ rest)) }
+{
+    match behind(FORM, bytes) {
+        Some(_) => true,
+        None => false,
+    }
+}

@@ -1,0 +1,52 @@
+//! Laws over the definitions alone. Each is the contract of a function that does nothing.
+
+ghost use Rattle.log_text.specs.Laws.{EndsPass, OneText, PrefixesPass, PrefixesRead, ReadStands, ReadsBatches, WrittenReads};
+ghost use Rattle.log_text.specs.Sums.{SpellsPlain, own_sums};
+
+/// What is read of the first bytes of a log are the first batches of what is read of all.
+#[tactic(auto, using(crate::proofs::Prefixes::prefixes_read))]
+pub fn prefixes_read()
+    ensures { PrefixesRead }
+{}
+
+/// What was written is read, whatever stands behind it.
+#[tactic(auto, using(crate::proofs::Written::written_reads))]
+pub fn written_reads()
+    ensures { WrittenReads }
+{}
+
+/// What is read stands there, with the sums of its lines.
+#[tactic(auto, using(crate::proofs::Stands::read_stands))]
+pub fn read_stands()
+    ensures { ReadStands }
+{}
+
+/// The first bytes of what was written are not refused.
+#[tactic(auto, using(crate::proofs::Passes::prefixes_pass))]
+pub fn prefixes_pass()
+    ensures { PrefixesPass }
+{}
+
+/// Nor is what was written and a part of one batch behind it.
+#[tactic(auto, using(crate::proofs::Passes::ends_pass))]
+pub fn ends_pass()
+    ensures { EndsPass }
+{}
+
+/// No two lists of batches have one text.
+#[tactic(auto, using(crate::proofs::Written::one_text))]
+pub fn one_text()
+    ensures { OneText }
+{}
+
+/// The spelling of a sum has no LF.
+#[tactic(auto, using(crate::proofs::Spelled::spells_plain))]
+pub fn spells_plain()
+    ensures { SpellsPlain own_sums }
+{}
+
+/// What is read are batches, as what is written.
+#[tactic(auto, using(crate::proofs::Read::reads_batches))]
+pub fn reads_batches()
+    ensures { ReadsBatches }
+{}

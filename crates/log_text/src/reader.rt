@@ -1,0 +1,180 @@
+//! Batches, read.
+
+ghost use Rattle.std.specs.Prelude.{◌≡◌, ◌==◌, ◌<◌, IfSome, length, option_map};
+ghost use Rattle.log_text.specs.Lines.{tag_of, whole_lines};
+ghost use Rattle.log_text.specs.Sums.{own_sums};
+ghost use Rattle.log_text.specs.Batches.{mark_head};
+ghost use Rattle.log_text.specs.Reading.{ReadsBatch, asked_first, asked_lines, fault_in, is_mark, marks, next_of, same_text};
+ghost use Rattle.log_text.specs.Answers.{Closes, ReadsMark, Strips, TakesAsked};
+
+use crate::cuts::{behind, cut_line};
+use crate::sum::{spell, sum_after_both};
+
+/// What stands behind the head of a mark.
+fn behind_head<'a>(name: &[u8], line: &'a [u8]) -> Option<&'a [u8]>
+    ensures { Strips (mark_head name.now) line.now (option_map (λ rest. rest.now) result) }
+{
+    let Some(rest) = behind(b"=", line) else {
+        return None;
+    };
+    let Some(rest) = behind(name, rest) else {
+        return None;
+    };
+    behind(b" ", rest)
+}
+
+/// What a mark says was told, and its sum.
+fn mark_parts<'a>(name: &[u8], line: &'a [u8]) -> Option<(&'a [u8], &'a [u8])>
+    ensures { ReadsMark name.now line.now (option_map (λ mark. (mark.0.now, mark.1.now)) result) }
+{
+    let Some(rest) = behind_head(name, line) else {
+        return None;
+    };
+    let Some((told, rest)) = rest.split_at_checked(16) else {
+        return None;
+    };
+    let Some(sum) = behind(b" ", rest) else {
+        return None;
+    };
+    Some((told, sum))
+}
+
+/// Whether the bytes are the same.
+fn is_same(one: &[u8], other: &[u8]) -> bool
+    ensures { result ≡ same_text one.now other.now }
+{
+    one == other
+}
+
+/// What the mark of these bytes says was told, and the sum behind it.
+fn close<'a>(name: &[u8], sum: u64, asked: &[u8], line: &'a [u8]) -> Option<(&'a [u8], u64)>
+    ensures { Closes name.now sum asked.now line.now (option_map (λ mark. (mark.0.now, mark.1)) result) }
+{
+    let Some((told, given)) = mark_parts(name, line) else {
+        return None;
+    };
+    let next = sum_after_both(sum, asked, &line[..line.len() - given.len()]);
+    if is_same(given, &spell(next)) {
+        Some((told, next))
+    } else {
+        None
+    }
+}
+
+/// Whether it is a line that was asked.
+fn is_asked(line: &[u8]) -> bool
+    ensures { result ≡ (tag_of line.now == 43) }
+{
+    match line {
+        [tag, ..] => *tag == b'+',
+        [] => false,
+    }
+}
+
+/// A batch that was read: the bytes of its lines, what its mark says was told so far, the sum behind it, and what stands
+/// behind its mark.
+#[derive(Clone, Copy)]
+pub struct NextBatch<'a> {
+    pub asked: &'a [u8],
+    pub told: &'a [u8],
+    pub sum: u64,
+    pub behind: &'a [u8],
+}
+
+/// The first batch of the bytes, by the sum before it. With none the bytes are the end of the log, which no mark closes.
+pub fn next_batch<'a>(name: &[u8], sum: u64, bytes: &'a [u8]) -> Option<NextBatch<'a>>
+    ensures read { ReadsBatch own_sums name.now sum bytes.now
+        (option_map (λ next. next_of next.asked.now next.told.now next.sum next.behind.now) result) }
+    ensures shorter { IfSome result (λ next. length next.behind.now < length bytes.now) }
+{
+    let mut rest = bytes;
+    'lines: loop {
+        let Some((line, behind)) = cut_line(rest) else {
+            return None;
+        };
+        if is_asked(line) {
+            rest = behind;
+        } else {
+            let asked = &bytes[..bytes.len() - rest.len()];
+            let Some((told, sum)) = close(name, sum, asked, line) else {
+                return None;
+            };
+            return Some(NextBatch {
+                asked,
+                told,
+                sum,
+                behind,
+            });
+        }
+    }
+}
+
+/// The first line that was asked of a batch's bytes, and those behind it.
+pub fn next_asked(asked: &[u8]) -> Option<(&[u8], &[u8])>
+    ensures { TakesAsked asked.now (option_map (λ cut. (cut.0.now, cut.1.now)) result) }
+{
+    let Some((line, rest)) = cut_line(asked) else {
+        return None;
+    };
+    match line {
+        [_, text @ ..] => Some((text, rest)),
+        [] => Some((line, rest)),
+    }
+}
+
+/// Whether the line begins as each mark of the log.
+fn is_a_mark(name: &[u8], line: &[u8]) -> bool
+    ensures { result ≡ is_mark name.now line.now }
+{
+    match behind_head(name, line) {
+        Some(_) => true,
+        None => false,
+    }
+}
+
+/// How many marks of the log the whole lines have.
+fn count_marks(name: &[u8], bytes: &[u8]) -> usize
+    ensures { result ≡ marks name.now (whole_lines bytes.now) }
+{
+    let mut rest = bytes;
+    let mut count = 0;
+    'lines: loop {
+        let Some((line, behind)) = cut_line(rest) else {
+            return count;
+        };
+        if is_a_mark(name, line) {
+            count += 1;
+        }
+        rest = behind;
+    }
+}
+
+/// How many of the whole lines, from the first on, are lines that were asked.
+fn count_asked(bytes: &[u8]) -> usize
+    ensures { result ≡ asked_first (whole_lines bytes.now) }
+{
+    let mut rest = bytes;
+    let mut count = 0;
+    'lines: loop {
+        let Some((line, behind)) = cut_line(rest) else {
+            return count;
+        };
+        if is_asked(line) {
+            count += 1;
+            rest = behind;
+        } else {
+            return count;
+        }
+    }
+}
+
+/// The number of whole lines before the one that is at fault, if what stands behind the last batch is refused: if two
+/// marks of the log stand there. Otherwise it is the end of a batch that was never acknowledged.
+pub fn fault_behind(name: &[u8], bytes: &[u8]) -> Option<usize>
+    ensures { result ≡ fault_in name.now bytes.now }
+{
+    if count_marks(name, bytes) < 2 {
+        return None;
+    }
+    Some(count_asked(bytes))
+}

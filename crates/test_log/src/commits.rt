@@ -1,0 +1,70 @@
+//! Commits over a log in memory, of which each call fails in turn.
+
+use log_host::{CommitFault, Committed, Did, Fuse, MemoryLog, commit};
+use log_text::{push_line, sum_after};
+use std::alloc::Global;
+use std::test::Fail;
+
+/// What a log did, a word for each act with how many bytes it had.
+fn told_of(did: &[Did]) -> (usize, usize, usize) {
+    let mut wrote = 0;
+    let mut synced = 0;
+    let mut told = 0;
+    for one in did {
+        match one {
+            Did::Wrote(bytes) => wrote = bytes.len(),
+            Did::Synced => synced = 1,
+            Did::Told(bytes) => told = bytes.len(),
+        }
+    }
+    (wrote, synced, told)
+}
+
+/// Commits one line of two bytes with an answer of three, where the call of that number fails after two bytes.
+fn committed(
+    alloc: Global,
+    calls: u64,
+) -> Result<(Result<Committed, CommitFault>, (usize, usize, usize)), Fail> {
+    let mut log = MemoryLog::new(alloc, Vec::new(alloc), Fuse { calls, part: 2 });
+    let mut batch = Vec::new(alloc);
+    push_line(&mut batch, b"{}")?;
+    let done = commit(&mut log, b"01234567", 7, 0, &mut batch, b"ok\n");
+    let acts = told_of(log.did.as_slice());
+    Ok((done, acts))
+}
+
+/// Fails and shows what was found, if it isn't what was wanted.
+fn same(found: (usize, usize, usize), wanted: (usize, usize, usize)) -> Result<(), Fail> {
+    if found == wanted {
+        return Ok(());
+    }
+    Err(Fail::new(format_args!("{found:?} in place of {wanted:?}")))
+}
+
+#[test]
+fn a_batch_is_written_synced_and_told(rt: HostRuntime) -> Result<(), Fail> {
+    let (done, acts) = committed(rt.alloc(), 0)?;
+    let Ok(next) = done else {
+        return Err(Fail::new(format_args!("nothing failed")));
+    };
+    same(acts, (48, 1, 3))?;
+    if next.told == sum_after(0, b"ok\n") {
+        return Ok(());
+    }
+    Err(Fail::new(format_args!("another sum of what was told")))
+}
+
+#[test]
+fn nothing_is_told_before_it_is_synced(rt: HostRuntime) -> Result<(), Fail> {
+    let alloc = rt.alloc();
+    let (append, acts) = committed(alloc, 1)?;
+    same(acts, (2, 0, 0))?;
+    let (sync, acts) = committed(alloc, 2)?;
+    same(acts, (48, 0, 0))?;
+    let (tell, acts) = committed(alloc, 3)?;
+    same(acts, (48, 1, 2))?;
+    if append == Err(CommitFault::Host) && sync == append && tell == append {
+        return Ok(());
+    }
+    Err(Fail::new(format_args!("another fault")))
+}

@@ -1,0 +1,16 @@
+//! The laws that the crates state by functions: each is called, and has nothing to do.
+
+#[test]
+fn the_laws_are_stated() {
+    log_text::laws::prefixes_read();
+    log_text::laws::written_reads();
+    log_text::laws::read_stands();
+    log_text::laws::reads_batches();
+    log_text::laws::prefixes_pass();
+    log_text::laws::ends_pass();
+    log_text::laws::one_text();
+    log_text::laws::spells_plain();
+    log_host::laws::starts_settled();
+    log_host::laws::lives_last();
+    log_host::laws::lasts_on();
+}

@@ -1,0 +1,157 @@
+"""A log's text: what a silo was asked, in batches, each closed by a mark; written, and read as a crash may have left it.
+
+A mark has the log's name, the sum of all that was told so far, and the sum of all bytes of the log before it. What stands behind the
+last batch whose mark fits was never acknowledged. It is refused if it has two marks of the log: a crash leaves one at most.
+"""
+
+from __future__ import annotations
+
+from typing import NamedTuple, Optional
+
+FORM = b"silo-log 1\n"
+NAME = 8
+DIGITS = 16
+WORD = 2**64 - 1
+
+
+class NotALog(Exception):
+    """The bytes aren't a log of this form."""
+
+
+class OtherWords(Exception):
+    """The log was begun for a silo with other words."""
+
+
+def turned(number: int, by: int) -> int:
+    return (number << by | number >> (64 - by)) & WORD
+
+
+def mixed(v: list, times: int) -> None:
+    for _ in range(times):
+        v[0] = v[0] + v[1] & WORD
+        v[2] = v[2] + v[3] & WORD
+        v[1] = turned(v[1], 13) ^ v[0]
+        v[3] = turned(v[3], 16) ^ v[2]
+        v[0] = turned(v[0], 32)
+        v[2] = v[2] + v[1] & WORD
+        v[0] = v[0] + v[3] & WORD
+        v[1] = turned(v[1], 17) ^ v[2]
+        v[3] = turned(v[3], 21) ^ v[0]
+        v[2] = turned(v[2], 32)
+
+
+def hashed(content: bytes) -> int:
+    """SipHash-1-3 with both keys 0."""
+    v = [0x736F6D6570736575, 0x646F72616E646F6D, 0x6C7967656E657261, 0x7465646279746573]
+    end = len(content) // 8 * 8
+    words = [content[at:at + 8] for at in range(0, end, 8)]
+    words.append(content[end:].ljust(7, b"\0") + bytes([len(content) & 255]))
+    for word in words:
+        number = int.from_bytes(word, "little")
+        v[3] ^= number
+        mixed(v, 1)
+        v[0] ^= number
+    v[2] ^= 0xFF
+    mixed(v, 3)
+    return v[0] ^ v[1] ^ v[2] ^ v[3]
+
+
+def sum_after(before: int, content: bytes) -> int:
+    return hashed(before.to_bytes(8, "little") + content)
+
+
+def spelled(number: int) -> bytes:
+    return b"%016x" % number
+
+
+class Words(NamedTuple):
+    kinds: int
+    sends: int
+    age: int
+    # kinds with an age of their own, and tenants with their limits
+    ages: tuple = ()
+    tenants: tuple = ()
+
+
+def words_text(words: Words) -> bytes:
+    lines = [f"kinds {words.kinds}", f"sends {words.sends}", f"age {words.age}"]
+    lines += [f"kind {kind} {age}" for kind, age in words.ages]
+    lines += [f"tenant {tenant} {act} {mail}" for tenant, act, mail in words.tenants]
+    return "".join(line + "\n" for line in lines).encode()
+
+
+def head_text(words: Words, number: int) -> bytes:
+    return FORM + words_text(words) + b"of " + spelled(number) + b"\n"
+
+
+def mark_start(name: bytes, told: bytes) -> bytes:
+    return b"=" + name + b" " + told + b" "
+
+
+class Writer:
+    """Writes a log that begins with a head: its text so far, and the sums behind it."""
+
+    def __init__(self, words: Words, number: int):
+        self.text = head_text(words, number)
+        self.name = spelled(number)[:NAME]
+        self.sum = sum_after(0, self.text)
+        self.told = 0
+
+    def batch(self, lines: list, told: bytes) -> None:
+        """Adds the lines that were asked together, with the mark that says what was told for them."""
+        self.told = sum_after(self.told, told)
+        body = b"".join(b"+" + line + b"\n" for line in lines) + mark_start(self.name, spelled(self.told))
+        self.sum = sum_after(self.sum, body)
+        self.text += body + spelled(self.sum) + b"\n"
+
+
+class Batch(NamedTuple):
+    lines: tuple
+    # the sum of all that was told, as its mark says it
+    told: bytes
+
+
+class Read(NamedTuple):
+    batches: tuple
+    # how many bytes the head and these batches have
+    length: int
+    # the number of the line that is refused, counted from 1
+    fault: Optional[int]
+
+
+def cut_head(words: Words, content: bytes) -> tuple:
+    """The number in the head, and where the head ends."""
+    if not content.startswith(FORM):
+        raise NotALog()
+    start = FORM + words_text(words) + b"of "
+    end = content.find(b"\n", len(start))
+    if not content.startswith(start) or end != len(start) + DIGITS:
+        raise OtherWords()
+    return content[len(start):end], end + 1
+
+
+def read_log(words: Words, content: bytes) -> Read:
+    number, at = cut_head(words, content)
+    name = number[:NAME]
+    before = sum_after(0, content[:at])
+    whole = content.count(b"\n", 0, at)
+    batches: list = []
+    lines: list = []
+    length = end = at
+    faulty = marks = None
+    for line in content[at:].split(b"\n")[:-1]:
+        if marks is not None:
+            marks += line.startswith(b"=" + name + b" ")
+        elif line.startswith(b"+"):
+            lines.append(line[1:])
+        else:
+            start = mark_start(name, line[NAME + 2:NAME + 2 + DIGITS])
+            after = sum_after(before, content[length:end] + start)
+            if line == start + spelled(after):
+                batches.append(Batch(tuple(lines), line[NAME + 2:NAME + 2 + DIGITS]))
+                whole += len(lines) + 1
+                before, lines, length = after, [], end + len(line) + 1
+            else:
+                faulty, marks = whole + len(lines) + 1, int(line.startswith(b"=" + name + b" "))
+        end += len(line) + 1
+    return Read(tuple(batches), length, faulty if marks is not None and marks > 1 else None)
