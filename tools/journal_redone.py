@@ -5,14 +5,16 @@ A journal doesn't say of a `begin` which request it opens, nor of a reply at whi
 
 from __future__ import annotations
 
-from typing import NamedTuple, Optional
+from typing import NamedTuple, Optional, Union
 
 from slow_silo.audit import machine_of
 from slow_silo.journal import Journal
 from slow_silo.kinds import Send
 from slow_silo.machine import Entry, Request
 from slow_silo.names import Grain
-from slow_silo.steps import Abandon, Begin, Deliver, End, Reply, Step, Store, Sweep, owner
+from slow_silo.steps import Abandon, Begin, Deliver, End, Reply, Step, Store, Sweep
+
+OPENS_OR_CLOSES = frozenset([Begin, End, Store, Abandon])
 
 
 class Done(NamedTuple):
@@ -42,50 +44,40 @@ class Redone:
     def __init__(self, journal: Journal, tenant: str):
         self.machine = machine_of(journal, tenant)
         self.replies: list[Reply] = []
+        # how many steps were asked for, and whether the last of them wasn't possible
+        self.steps = 0
         self.stopped = False
 
     def take(self, number: int, step: Step) -> Optional[Done]:
         """Does a step of the tenant or of nobody; None if it isn't possible, or if one before it wasn't."""
-        machine, sent, request = self.machine, self.sent_by(step), self.turn_of(step)
+        if self.stopped:
+            return None
+        machine, kind = self.machine, type(step)
+        sent = self.sent_by(step) if kind is Deliver else None
         grain = getattr(step, "grain", None) if sent is None else sent.target
-        held = sorted(machine.entries) if isinstance(step, Sweep) else [grain] if grain in machine.entries else []
         count, waiting, entry = machine.count, len(machine.sends), machine.entries.get(grain)
-        replies = None if self.stopped else machine.step(step)
+        request = turn_of(step, entry) if entry is not None and kind in OPENS_OR_CLOSES else None
+        held = list(machine.entries) if kind is Sweep else []
+        replies = machine.step(step)
+        self.steps += 1
+        self.stopped = replies is None
         if replies is None:
-            self.stopped = True
             return None
         self.replies += replies
         if machine.count > count:
             request = machine.entries[grain].queue[-1]
-        sends = len(machine.sends) - waiting if isinstance(step, End) else 0
-        gone = [one for one in held if one not in machine.entries]
+        sends = len(machine.sends) - waiting if kind is End else 0
+        gone = sorted(one for one in held if one not in machine.entries) if held else \
+            [grain] if entry is not None and grain not in machine.entries else []
         return Done(number, step, grain, entry, request, sent, sends, gone, replies)
 
     def sent_by(self, step: Step) -> Optional[Send]:
         """What a delivery takes: the oldest call that its grain sent."""
-        if not isinstance(step, Deliver):
-            return None
         return next((sent for source, sent in self.machine.sends if source == step.grain), None)
 
-    def turn_of(self, step: Step) -> Optional[Request]:
-        """What the step opens or closes."""
-        entry = self.machine.entries.get(getattr(step, "grain", None))
-        if isinstance(step, Begin) and entry is not None:
-            return entry.queue[0] if entry.queue else None
-        if isinstance(step, (End, Store, Abandon)) and entry is not None:
-            return entry.turns.get(step.turn)
-        return None
 
-
-def struck(journal: Journal, tenant: str) -> Journal:
-    """The tenant's part of a journal: its limits, its steps and those of nobody, its replies and its rows."""
-    return Journal(
-        tuple((name, limits) for name, limits in journal.tenants if name == tenant),
-        journal.age,
-        tuple(step for step in journal.steps if owner(step) in (tenant, None)),
-        tuple(reply for reply in journal.replies if reply.tenant() == tenant),
-        tuple((grain, row) for grain, row in journal.rows if grain.tenant == tenant),
-        journal.kinds,
-        journal.ages,
-        journal.form,
-    )
+def turn_of(step: Union[Begin, End, Store, Abandon], entry: Entry) -> Optional[Request]:
+    """What the step opens or closes in its grain's entry."""
+    if type(step) is Begin:
+        return entry.queue[0] if entry.queue else None
+    return entry.turns.get(step.turn)

@@ -1,19 +1,23 @@
-"""What the steps of a journal came to, in words and as members of JSON objects."""
+"""What the steps of a journal came to, in words."""
 
 from __future__ import annotations
 
 import json
-from typing import Iterator, Optional
+from typing import Optional
 
-from journal_redone import Done, Redone
-from slow_silo.audit import Report, report
-from slow_silo.journal import Journal
+from journal_redone import Done
 from slow_silo.lines import object_of
 from slow_silo.machine import READY, Machine
-from slow_silo.steps import Client, Reply, Step, owner
+from slow_silo.steps import (Abandon, Activate, Begin, Call, Client, Deliver, End, Load, Poke, Refuse, Reply, Status, Store,
+                             Sweep, Tick)
 from slow_silo.storage import CLEARED, Row
 
 LONGEST = 100
+# made once, since to make one takes longer than to use it
+COMPACT = json.JSONEncoder(separators=(",", ":"), default=object_of)
+# words of arguments, by where the argument is
+KEPT: dict[int, tuple[object, str]] = {}
+MOST_KEPT = 8_192
 STORED = {"save": "was stored as", "clear": "cleared", "reload": "read"}
 
 
@@ -22,13 +26,27 @@ def shortened(text: str) -> str:
 
 
 def shown(value: object) -> str:
-    return shortened(json.dumps(value, separators=(",", ":"), default=object_of))
+    if value is None:
+        return "null"
+    return str(value) if type(value) is int else shortened(COMPACT.encode(value))
 
 
 def message_words(method: str, args: object) -> str:
     """A method and its argument, which is left out if it is null."""
-    name = json.dumps(method)[1:-1]
-    return shortened(name) if args is None else f"{shortened(name)} {shown(args)}"
+    # most are words, which are shown as they are
+    name = shortened(method if method.isascii() and method.isalnum() else json.dumps(method)[1:-1])
+    return name if args is None else f"{name} {argument_words(args)}"
+
+
+def argument_words(args: object) -> str:
+    """What is shown of an argument. It is kept beside the argument, which is one object in all steps with the same message."""
+    kept = KEPT.get(id(args))
+    if kept is not None and kept[0] is args:
+        return kept[1]
+    if len(KEPT) == MOST_KEPT:
+        KEPT.clear()
+    KEPT[id(args)] = args, shown(args)
+    return KEPT[id(args)][1]
 
 
 def who(asker: object) -> str:
@@ -68,6 +86,8 @@ def deliver_words(done: Done, _machine: Machine) -> str:
 
 def came_to(done: Done, what: str) -> str:
     """What came of requests that were accepted before, and who was told."""
+    if not done.replies:
+        return what
     return "; ".join([what, *(f"{who(reply.to)} was {told(reply)}" for reply in done.replies)])
 
 
@@ -107,120 +127,25 @@ def sweep_words(done: Done, _machine: Machine) -> str:
     return "a sweep: " + (", ".join(grain.text() for grain in done.gone) + " went" if done.gone else "nothing went")
 
 
+# what a step that was just done came to, on the machine that did it
 WORDS = {
-    "refuse": lambda done, _machine: by_client(done, "sent a line"),
-    "call": call_words,
-    "poke": poke_words,
-    "status": lambda done, _machine: by_client(done, "asked for the status"),
-    "deliver": deliver_words,
-    "activate": lambda done, _machine: f"{done.grain.text()} is being brought up",
-    "load": load_words,
-    "begin": begin_words,
-    "store": store_words,
-    "end": end_words,
-    "abandon": lambda done, _machine: turn_came_to(done, "was given up"),
-    "tick": lambda done, _machine: f"the clock is {done.step.now}",
-    "sweep": sweep_words,
+    Refuse: lambda done, _machine: by_client(done, "sent a line"),
+    Call: call_words,
+    Poke: poke_words,
+    Status: lambda done, _machine: by_client(done, "asked for the status"),
+    Deliver: deliver_words,
+    Activate: lambda done, _machine: f"{done.grain.text()} is being brought up",
+    Load: load_words,
+    Begin: begin_words,
+    Store: store_words,
+    End: end_words,
+    Abandon: lambda done, _machine: turn_came_to(done, "was given up"),
+    Tick: lambda done, _machine: f"the clock is {done.step.now}",
+    Sweep: sweep_words,
 }
-
-
-# ---- the members of each line as JSON
-
-def text_of(value: object) -> object:
-    return value.text() if hasattr(value, "text") else value
-
-
-def reply_members(reply: Reply) -> dict:
-    to = {"from": text_of(reply.to.caller), "id": reply.to.id} if isinstance(reply.to, Client) else \
-        {"from": reply.to.text()}
-    return {**to, "ok": reply.value} if reply.code is None else {**to, "error": reply.code, "text": reply.text}
-
-
-def step_members(number: int, step: Step) -> dict:
-    """The members of the line that says the step, with its place and its tenant."""
-    fields = {{"caller": "from"}.get(name, name): text_of(value) for name, value in step._asdict().items()}
-    return {"step": number, "tenant": owner(step), "op": type(step).__name__.lower(), **fields}
-
-
-def done_members(done: Done) -> dict:
-    members = step_members(done.number, done.step)
-    if done.sent is not None:
-        members.update(target=done.sent.target.text(), method=done.sent.method, args=done.sent.args)
-    if done.request is not None:
-        members["request"] = done.request.number
-    if done.sends:
-        members["sends"] = done.sends
-    if done.gone:
-        members["gone"] = [grain.text() for grain in done.gone]
-    if done.replies:
-        members["replies"] = [reply_members(reply) for reply in done.replies]
-    return members
-
-
-# ---- a journal
-
-def merged(found: list[Done]) -> Done:
-    """A step of nobody, as it was in each tenant's part."""
-    return found[0]._replace(gone=sorted(grain for done in found for grain in done.gone))
-
-
-def step_lines(journal: Journal, tenants: list[str]) -> Iterator[tuple[dict, str]]:
-    """The members and the words of each step of these tenants and of nobody, up to the first that isn't possible."""
-    parts = {tenant: Redone(journal, tenant) for tenant in tenants}
-    for number, step in enumerate(journal.steps, 1):
-        concerned = [tenant for tenant in tenants if owner(step) in (tenant, None) and not parts[tenant].stopped]
-        taken = {tenant: parts[tenant].take(number, step) for tenant in concerned}
-        for tenant in concerned:
-            if taken[tenant] is None:
-                kind = type(step).__name__.lower()
-                said = f"this {kind} isn't possible: no later step of tenant {tenant} is told"
-                yield {**step_members(number, step), "tenant": tenant, "possible": False}, said
-        found = [done for done in taken.values() if done is not None]
-        if found:
-            done = merged(found)
-            machine = parts[next(tenant for tenant in concerned if taken[tenant] is not None)].machine
-            yield done_members(done), WORDS[type(step).__name__.lower()](done, machine)
 
 
 def row_words(row: Optional[Row]) -> str:
     if row is None:
         return "no row"
     return f"version {row.version}, " + ("cleared" if row.content is CLEARED else shown(row.content))
-
-
-def row_lines(journal: Journal, tenants: list[str]) -> Iterator[tuple[dict, str]]:
-    for grain, row in journal.rows:
-        if grain.tenant in tenants:
-            content = {} if row.content is CLEARED else {"state": row.content}
-            members = {"row": grain.text(), "tenant": grain.tenant, "version": row.version, **content}
-            yield members, f"row {grain.text()}: {row_words(row)}"
-
-
-def what_differs(journal: Journal, found: Report) -> str:
-    """The recorded reply or row beside the machine's, or nothing if no reply or row differs."""
-    if found.difference is None:
-        return ""
-    part = Redone(journal, found.tenant)
-    for number, step in enumerate(journal.steps, 1):
-        if owner(step) in (found.tenant, None):
-            part.take(number, step)
-    word, _space, which = found.difference.partition(" ")
-    if word == "reply":
-        sides = [reply for reply in journal.replies if reply.tenant() == found.tenant], part.replies
-        one, other = (f"{who(side[int(which) - 1].to)} {told(side[int(which) - 1])}" if int(which) <= len(side)
-                      else "no reply" for side in sides)
-    elif word == "row":
-        one, other = (row_words({grain.text(): row for grain, row in side}.get(which))
-                      for side in (journal.rows, part.machine.storage.rows.items()))
-    else:
-        return ""
-    return f": recorded is {one}; expected is {other}"
-
-
-def report_lines(journal: Journal, tenants: list[str]) -> Iterator[tuple[dict, str]]:
-    """What an audit says of each tenant, and of a difference what was recorded and what was expected."""
-    for tenant in tenants:
-        found = report(journal, tenant)
-        counts = {"steps": found.steps, "replies": found.replies, "rows": found.rows}
-        members = {"tenant": tenant, **(counts if found.difference is None else {"differs": found.difference})}
-        yield members, found.text() + what_differs(journal, found)
