@@ -1,0 +1,1 @@
+"""Tests of the client, which `tools/check-client` runs beside a program."""

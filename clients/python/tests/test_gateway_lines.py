@@ -1,0 +1,228 @@
+"""Lines of a gateway, without a gateway: what they ask, how they come in pieces, and whose turn it is."""
+
+from __future__ import annotations
+
+import json
+import random
+import unittest
+from typing import Any, Callable, List
+from unittest import mock
+
+from silo.gateway import desk as desks
+from silo.gateway.asked import read_line
+from silo.gateway.desk import Desk
+from silo.gateway.figures import Histogram, Page
+from silo.gateway.guest import Guest
+from silo.gateway.lane import Lane
+from silo.gateway.pieces import Pieces
+from silo.gateway.replied import read_reply
+from silo.lines import StrangeReply
+
+from .gateways import call, echo
+
+
+def given(line: bytes, tenant: str = "red") -> bytes:
+    """What the program is given, if the gateway's number is 77."""
+    said = read_line(line, tenant)
+    return said.before + (b"77" + said.after if said.caller else b"")
+
+
+class Asked(unittest.TestCase):
+    def test_a_line_that_clients_write_stays_as_it_is(self) -> None:
+        line = call(12, method="put", args={"name": "x", "value": [1, {"a": None}]})[:-1]
+        self.assertEqual(given(line), line.replace(b'"id":12', b'"id":77'))
+
+    def test_any_other_line_is_written_anew(self) -> None:
+        for line in (
+            b' {"id":12,"from":"red/web","op":"status"}', b'{"op":"status","from":"red/web","id":12 }',
+            b'{"op":"status","id":1,"from":"red/web","id":12}',
+            b'{"op":"status","from":"r\\u0065d/web","id":12}', b'{"op":"status","from":"blue/x","id":12,"from":"red/web"}',
+        ):  # fmt: skip
+            self.assertEqual(given(line), b'{"op":"status","from":"red/web","id":77}', line)
+
+    def test_both_ways_of_reading_say_the_same(self) -> None:
+        chance = random.Random(7)
+        values = [1, "x", None, True, [[]], {"a": 1}, {"$hex": "00ff"}, "\u00e9\u2028\U0001f600", -(2**63), {"id": 3, "from": "blue/web"}]
+        for _ in range(300):
+            line = call(chance.randrange(10**6), method=chance.choice(["put", "add", "\u00e9"]), args=chance.choice(values))[:-1]
+            odd = b" " + line
+            plain, anew = read_line(line, "red"), read_line(odd, "red")
+            self.assertEqual((plain.caller, plain.number, plain.instead), (anew.caller, anew.number, None))
+            self.assertEqual(json.loads(plain.before + b"1" + plain.after), json.loads(anew.before + b"1" + anew.after))
+
+    def test_nothing_is_given_of_lines_that_others_answer(self) -> None:
+        steps = (b'{"op":"tick","now":1}', b'{"op":"sweep"}', b'{"op":"activate","grain":"counter/red:a"}')
+        for line in (*steps, call(1, "blue/web")[:-1], b"x", b'{"op":"call","from":"red/web"}'):
+            self.assertEqual(given(line), b"fence\n")
+        self.assertEqual(given(b'{"op":"tick", "now":1}', ""), b'{"op":"tick","now":1}\nfence\n')
+
+    def test_random_changes_never_bring_another_caller(self) -> None:
+        chance = random.Random(11)
+        words = [b'"from":"blue/x"', b'"id":5', b"\\u0066", b"}", b"{", b'"', b",", b"\\", b"red", b"blue", b" ", b"\xff", b"0"]
+        for _ in range(4_000):
+            line = bytearray(call(7, args={"by": 1})[:-1])
+            for _ in range(chance.randrange(1, 4)):
+                place = chance.randrange(len(line))
+                line[place : place + chance.randrange(3)] = chance.choice(words)
+            told = given(bytes(line))
+            if told != b"fence\n":
+                try:
+                    said = json.loads(told)
+                except ValueError:
+                    continue
+                self.assertEqual((said["from"].partition("/")[0], said["id"]), ("red", 77), bytes(line))
+
+
+class Split(unittest.TestCase):
+    def test_pieces_of_any_length(self) -> None:
+        chance = random.Random(3)
+        lines = [b"x" * chance.choice([0, 1, 5, 70, 65_536, 65_537, 140_000]) for _ in range(40)] + [b"last"]
+        data, pieces, found = b"\n".join(lines), Pieces(), []
+        while data:
+            length = chance.choice([1, 3, 100, 16_384])
+            found += pieces.feed(data[:length])
+            data = data[length:]
+        self.assertEqual(found + pieces.last(), [line if len(line) <= 65_536 else None for line in lines if line])
+        self.assertEqual(pieces.last(), [])
+
+    def test_no_more_than_a_line_is_kept(self) -> None:
+        pieces = Pieces()
+        for _ in range(100):
+            self.assertEqual(pieces.feed(b"x" * 16_384), [])
+        self.assertLessEqual(len(pieces._torn), 65_536)
+        self.assertEqual(pieces.feed(b"\nnext\n"), [None, b"next"])
+
+
+class Kept(Guest):
+    """A connection that is none: what it is told is kept."""
+
+    def __init__(self, desk: Desk, lane: Lane) -> None:
+        super().__init__(lane, 10_000, desk.lines_wait, lambda guest: None)
+        self.heard: List[Any] = []
+
+    def tell(self, reply: bytes) -> None:
+        self.heard += [json.loads(line) for line in reply.splitlines()]
+
+
+class Turns(unittest.TestCase):
+    def setUp(self) -> None:
+        self.later: List[Callable[[], None]] = []
+        # however slow this machine is
+        patched = mock.patch("silo.gateway.desk.MOST_SECONDS_AT_ONCE", 60.0)
+        patched.start()
+        self.addCleanup(patched.stop)
+        self.lanes = {name: Lane(name, name, 10_000, 10**9) for name in ("red", "blue", "")}
+        self.desk = Desk([*self.lanes.values()], Lane("own", "", 10, 10), self.later.append)
+        self.written: List[bytes] = []
+        self.desk.open(lambda data: self.written.extend(data.splitlines()))
+
+    def test_tenants_and_connections_take_turns(self) -> None:
+        red = [Kept(self.desk, self.lanes["red"]) for _ in range(2)]
+        self.desk.lose()
+        for guest in red:
+            guest.take(b"".join(echo(number, "r") for number in range(100)))
+        blue = Kept(self.desk, self.lanes["blue"])
+        blue.take(echo(1, "b", "blue/web") + echo(2, "b", "blue/web"))
+        self.desk.open(lambda data: self.written.extend(data.splitlines()))
+        self.desk.fill()
+        tenants = [json.loads(line)["from"].partition("/")[0] for line in self.written]
+        self.assertEqual(tenants[:5], ["red", "blue", "red", "blue", "red"])
+        # no tenant has more than so many under way
+        self.assertEqual(tenants.count("red"), 64)
+        self.assertEqual({len(guest.waiting) for guest in red}, {68})
+
+    def test_who_takes_long_is_given_less_at_once(self) -> None:
+        guest = Kept(self.desk, self.lanes["red"])
+        guest.take(b"".join(echo(number, "r") for number in range(1_000)))
+        for _ in range(200):
+            said = json.loads(self.written.pop(0))
+            self.desk.moved_at -= 0.004
+            self.desk.feed(b'{"error":22,"from":"red/web","id":%d,"text":"x"}\n' % said["id"])
+        self.assertLessEqual(self.lanes["red"].written, 1)
+        self.assertEqual([said["id"] for said in guest.heard], [*range(200)])
+
+    def test_lines_that_take_long_to_read_hold_nobody_up(self) -> None:
+        guest = Kept(self.desk, self.lanes["red"])
+        with mock.patch("silo.gateway.desk.MOST_SECONDS_AT_ONCE", 0.0):
+            guest.take(b"".join(echo(number, "r") for number in range(10)))
+            self.assertEqual((len(self.written), len(self.later)), (1, 1))
+        self.later.pop()()
+        self.assertEqual((len(self.written), len(self.later)), (10, 0))
+
+    def test_connections_that_wait_for_room_are_read_in_turn(self) -> None:
+        lane = Lane("red", "red", 2, 10**9)
+        guests = [mock.Mock() for _ in range(3)]
+        for guest in guests:
+            lane.stop(guest)
+        lane.hold(3, 0)
+        for wanted in ([0, 0, 0], [1, 0, 0], [1, 1, 1]):
+            lane.let_go(0)
+            self.assertEqual([guest.look.call_count for guest in guests], wanted)
+
+    def test_no_reply_strays(self) -> None:
+        for reply in (
+            b'{"from":"red/web","id":2,"ok":1}', b'{"from":"red/other","id":1,"ok":1}', b'{"from":"blue/web","id":1,"ok":1}', b'{"text":"not now"}',
+            b'{"id":1,"ok":1}', b"[]", b"", b'{"from":"counter/green:a","ok":1}', b'{"from":"red/web","ok":1}',
+        ):  # fmt: skip
+            guest = Kept(self.desk, self.lanes["red"])
+            guest.take(call(5))
+            with self.subTest(reply), self.assertRaises(StrangeReply):
+                self.desk.feed(reply + b"\n")
+            self.desk.lose()
+            text = "program has ended, and whether this was done is not known"
+            self.assertEqual(guest.heard, [{"error": 90, "from": "red/web", "id": 5, "text": text}])
+            self.setUp()
+
+    def test_what_is_left_when_the_program_ends(self) -> None:
+        guest, operator = Kept(self.desk, self.lanes["red"]), Kept(self.desk, self.lanes[""])
+        guest.take(call(1) + call(2, "blue/web") + b"fence\n")
+        operator.take(b'{"op":"tick","now":1}\n' + call(3, "blue/web"))
+        self.desk.feed(b'{"from":"red/web","id":1,"ok"')
+        self.desk.lose()
+        self.assertEqual([said.get("error") for said in guest.heard], [90, 40, 10])
+        self.assertEqual([said.get("error") for said in operator.heard], [None, 90])
+        self.assertTrue(self.desk.is_idle)
+        guest.take(call(4))
+        self.assertEqual(len(guest.heard), 3)
+        self.written.clear()
+        self.desk.open(lambda data: self.written.extend(data.splitlines()))
+        self.desk.fill()
+        self.assertEqual(len(self.written), 1)
+
+    def test_what_is_told_behind_the_gateways_own_line(self) -> None:
+        guests = [Kept(self.desk, self.lanes[name]) for name in ("red", "blue")]
+        for guest in guests:
+            guest.lane.guests.add(guest)
+        guests[1].take(echo(1, "x", "blue/web"))
+        number = json.loads(self.written[-1])["id"]
+        self.desk.feed(b'{"error":22,"from":"blue/web","id":%d,"text":"x"}\n{"error":40,"from":"relay/red:r","text":"y"}\n' % number)
+        self.assertEqual([len(guest.heard) for guest in guests], [1, 1])
+        self.assertEqual(guests[0].heard[0]["from"], "relay/red:r")
+
+    def test_bounds_of_what_the_program_is_given(self) -> None:
+        operator = Kept(self.desk, self.lanes[""])
+        for name in range(20):
+            self.desk.lanes[f"t{name}"] = Lane(f"t{name}", f"t{name}", 10_000, 10**9)
+            Kept(self.desk, self.desk.lanes[f"t{name}"]).take(b"".join(echo(number, "x", f"t{name}/w") for number in range(64)))
+        operator.take(echo(1, "x"))
+        self.assertLessEqual(len(self.written), desks.MOST_WRITTEN)
+
+
+class Figures(unittest.TestCase):
+    def test_a_histogram(self) -> None:
+        histogram, page = Histogram(), Page()
+        for seconds in (0.0001, 0.0005, 0.003, 9.0):
+            histogram.note(seconds)
+        page.histogram("h", "What.", [({"tenant": "red"}, histogram)])
+        lines = page.text().splitlines()
+        self.assertEqual(lines[2], 'h_bucket{tenant="red",le="0.0005"} 2')
+        self.assertEqual(lines[-3:], ['h_bucket{tenant="red",le="+Inf"} 4', 'h_sum{tenant="red"} 9.003600', 'h_count{tenant="red"} 4'])
+
+    def test_replies_as_the_silo_writes_them(self) -> None:
+        found = read_reply(b'{"error":40,"from":"red/web","id":12,"text":"\\"id\\":13"}')
+        self.assertEqual((found.caller, found.number, found.start, found.end), (b"red/web", b"12", 34, 36))
+        self.assertEqual(read_reply(b'{"error":40,"from":"relay/red:\\"x","text":"y"}').told, "red")
+
+
+if __name__ == "__main__":
+    unittest.main()

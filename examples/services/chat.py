@@ -1,0 +1,147 @@
+"""A chat with unread counts, as a service of which any number of processes may run: they share one silo by its gateway.
+
+    python3 chat.py unix:/tmp/chat/chat.sock 5001
+
+listens at that port of this machine. Who connects says a name, and then lines: `join ROOM`, `say ROOM TEXT`, `read ROOM`, `unread`.
+"""
+
+from __future__ import annotations
+
+import asyncio
+import re
+import sys
+from typing import List
+
+from silo import SiloEnded, SiloError, SiloTimeout, aio
+
+NAME = re.compile(r"[A-Za-z0-9._-]{1,40}")
+HELP = "join ROOM, say ROOM TEXT, read ROOM, unread"
+# how many lines of a room are kept
+MOST_LINES = 1_000
+MOST_BYTES = 2_000
+
+
+class Lines(aio.Sheet):
+    """What was said in a room, by its number."""
+
+    prefix = "lines/"
+
+
+class Members(aio.Sheet):
+    """Who is in a room."""
+
+    prefix = "members/"
+
+
+class Rooms(aio.Sheet):
+    """The rooms of one user."""
+
+    prefix = "rooms/"
+
+
+class Count(aio.Counter):
+    """How many lines were said in a room."""
+
+    prefix = "count/"
+
+
+class Unread(aio.Counter):
+    """How many lines of a room one user hasn't read."""
+
+    prefix = "unread/"
+
+
+class Chat:
+    def __init__(self, silo: aio.Silo) -> None:
+        self._web = silo.client("chat/web")
+
+    async def join(self, room: str, user: str) -> str:
+        members, rooms = Members(self._web, room), Rooms(self._web, user)
+        await asyncio.gather(members.put(user, True), rooms.put(room, True))
+        await asyncio.gather(members.save(), rooms.save())
+        return f"{user} is in {room}"
+
+    async def say(self, room: str, user: str, text: str) -> str:
+        count, lines = Count(self._web, room), Lines(self._web, room)
+        number = await count.add(by=1)
+        await lines.put(f"{number:09}", {"by": user, "text": text})
+        await lines.drop(f"{number - MOST_LINES:09}")
+        await asyncio.gather(count.save(), lines.save())
+        members = await Members(self._web, room).list()
+        await asyncio.gather(*(self._count_unread(room, member) for member in members if member != user))
+        return f"{number}"
+
+    async def read(self, room: str, user: str) -> str:
+        """What others said since the user read last."""
+        unread, lines = Unread(self._web, f"{room}/{user}"), Lines(self._web, room)
+        count = await unread.get()
+        said: List[str] = []
+        # from the last line on; the user's own aren't counted
+        for number in reversed(await lines.list() if count else []):
+            line = await lines.get(number)
+            if line and line["by"] != user:
+                said.insert(0, f"{line['by']}: {line['text']}")
+            if len(said) == count:
+                break
+        # what others say meanwhile stays unread
+        await unread.add(by=-count)
+        await unread.save()
+        return "\n".join(said)
+
+    async def unread(self, user: str) -> str:
+        rooms = await Rooms(self._web, user).list()
+        counts = await asyncio.gather(*(Unread(self._web, f"{room}/{user}").get() for room in rooms))
+        return "\n".join(f"{room}: {count}" for room, count in zip(rooms, counts))
+
+    async def _count_unread(self, room: str, user: str) -> None:
+        unread = Unread(self._web, f"{room}/{user}")
+        await unread.add(by=1)
+        await unread.save()
+
+    async def obey(self, user: str, words: List[str]) -> str:
+        """What a line of a user is answered."""
+        if words == ["unread"]:
+            return await self.unread(user)
+        if len(words) < 2 or not NAME.fullmatch(words[1]):
+            return HELP
+        if words[0] == "say" and len(words) == 3:
+            return await self.say(words[1], user, words[2])
+        if words[0] == "join" and len(words) == 2:
+            return await self.join(words[1], user)
+        return await self.read(words[1], user) if words[0] == "read" and len(words) == 2 else HELP
+
+
+async def talk(chat: Chat, reader: asyncio.StreamReader, writer: asyncio.StreamWriter) -> None:
+    """Answers one who has connected, until they go."""
+    try:
+        user = (await reader.readline()).decode(errors="replace").strip()
+        while NAME.fullmatch(user) and (line := await reader.readline()):
+            try:
+                told = await chat.obey(user, line.decode(errors="replace").strip().split(" ", 2))
+            except (SiloError, SiloTimeout, SiloEnded) as fault:
+                told = f"this may or may not be done: {fault}"
+            writer.write(f"{told or '-'}\n".encode())
+            await writer.drain()
+    except (ConnectionError, ValueError):
+        # they went away, or said a line that is too long
+        pass
+    finally:
+        writer.close()
+
+
+async def main(gateway: str, port: int) -> None:
+    async with aio.Silo.connect(gateway) as silo:
+        chat = Chat(silo)
+        server = await asyncio.start_server(lambda reader, writer: talk(chat, reader, writer), "127.0.0.1", port, limit=MOST_BYTES)
+        print(f"listens at port {server.sockets[0].getsockname()[1]}", flush=True)
+        async with server:
+            await server.serve_forever()
+
+
+if __name__ == "__main__":
+    if len(sys.argv) != 3:
+        sys.exit("usage: chat.py unix:PATH PORT")
+    try:
+        asyncio.run(main(sys.argv[1], int(sys.argv[2])))
+    except KeyboardInterrupt:
+        pass
