@@ -4,6 +4,7 @@ no client may ask, and lines with something wrong."""
 from __future__ import annotations
 
 from random import Random
+from typing import Optional
 
 from certain_input import Lanes
 from random_input import LENGTHS, TENANTS, Input, age_words, tenant_words
@@ -42,10 +43,10 @@ class Asking(Lanes):
         return self.odd_step().encode() if kind < 0.4 else self.request()
 
 
-def make_input(random: Random, journal: str = "j", lengths: list[int] = LENGTHS) -> Input:
+def make_input(random: Random, journal: Optional[str] = "j", lengths: list[int] = LENGTHS) -> Input:
     tenants = TENANTS[: random.choice([1, 2, 3, 4])]
     sends = random.choice(SENDS)
-    options = [*age_words(random), "--sends", sends, "--journal", journal]
+    options = [*age_words(random), "--sends", sends, *([] if journal is None else ["--journal", journal])]
     words = ["answer", *options, *tenant_words(random, tenants)]
     silo = Silo(program.setup_of_words(words))
     world = Asking(random, tenants, silo, random.random() < 0.3)

@@ -6,7 +6,8 @@ last batch whose mark fits was never acknowledged. It is refused if it has two m
 
 from __future__ import annotations
 
-from typing import NamedTuple, Optional
+import struct
+from typing import NamedTuple, Optional, Sequence
 
 FORM = b"silo-log 1\n"
 NAME = 8
@@ -22,38 +23,28 @@ class OtherWords(Exception):
     """The log was begun for a silo with other words."""
 
 
-def turned(number: int, by: int) -> int:
-    return (number << by | number >> (64 - by)) & WORD
-
-
-def mixed(v: list, times: int) -> None:
-    for _ in range(times):
-        v[0] = v[0] + v[1] & WORD
-        v[2] = v[2] + v[3] & WORD
-        v[1] = turned(v[1], 13) ^ v[0]
-        v[3] = turned(v[3], 16) ^ v[2]
-        v[0] = turned(v[0], 32)
-        v[2] = v[2] + v[1] & WORD
-        v[0] = v[0] + v[3] & WORD
-        v[1] = turned(v[1], 17) ^ v[2]
-        v[3] = turned(v[3], 21) ^ v[0]
-        v[2] = turned(v[2], 32)
-
-
 def hashed(content: bytes) -> int:
-    """SipHash-1-3 with both keys 0."""
-    v = [0x736F6D6570736575, 0x646F72616E646F6D, 0x6C7967656E657261, 0x7465646279746573]
-    end = len(content) // 8 * 8
-    words = [content[at:at + 8] for at in range(0, end, 8)]
-    words.append(content[end:].ljust(7, b"\0") + bytes([len(content) & 255]))
-    for word in words:
-        number = int.from_bytes(word, "little")
-        v[3] ^= number
-        mixed(v, 1)
-        v[0] ^= number
-    v[2] ^= 0xFF
-    mixed(v, 3)
-    return v[0] ^ v[1] ^ v[2] ^ v[3]
+    """SipHash-1-3 with both keys 0: a round for each word of eight bytes, and three more at the end."""
+    a, b, c, d = 0x736F6D6570736575, 0x646F72616E646F6D, 0x6C7967656E657261, 0x7465646279746573
+    whole = len(content) // 8
+    last = int.from_bytes(content[8 * whole:].ljust(7, b"\0") + bytes([len(content) & 255]), "little")
+    # a word of zeros changes nothing but by its round
+    for end, words in ((0, (*struct.unpack_from(f"<{whole}Q", content), last)), (0xFF, (0, 0, 0))):
+        c ^= end
+        for word in words:
+            d ^= word
+            a = a + b & WORD
+            c = c + d & WORD
+            b = (b << 13 & WORD | b >> 51) ^ a
+            d = (d << 16 & WORD | d >> 48) ^ c
+            a = a << 32 & WORD | a >> 32
+            c = c + b & WORD
+            a = a + d & WORD
+            b = (b << 17 & WORD | b >> 47) ^ c
+            d = (d << 21 & WORD | d >> 43) ^ a
+            c = c << 32 & WORD | c >> 32
+            a ^= word
+    return a ^ b ^ c ^ d
 
 
 def sum_after(before: int, content: bytes) -> int:
@@ -88,21 +79,31 @@ def mark_start(name: bytes, told: bytes) -> bytes:
     return b"=" + name + b" " + told + b" "
 
 
-class Writer:
-    """Writes a log that begins with a head: its text so far, and the sums behind it."""
+class Place:
+    """Where a log goes on: its name, the sum of the log so far, and the sum of all that was told."""
 
-    def __init__(self, words: Words, number: int):
-        self.text = head_text(words, number)
-        self.name = spelled(number)[:NAME]
-        self.sum = sum_after(0, self.text)
+    def __init__(self, head: bytes):
+        self.name = head[-1 - DIGITS:][:NAME]
+        self.sum = sum_after(0, head)
         self.told = 0
 
-    def batch(self, lines: list, told: bytes) -> None:
-        """Adds the lines that were asked together, with the mark that says what was told for them."""
+    def batch(self, lines: Sequence[bytes], told: bytes) -> bytes:
+        """The next batch: lines that were asked together, with the mark that says what was told for them."""
         self.told = sum_after(self.told, told)
         body = b"".join(b"+" + line + b"\n" for line in lines) + mark_start(self.name, spelled(self.told))
         self.sum = sum_after(self.sum, body)
-        self.text += body + spelled(self.sum) + b"\n"
+        return body + spelled(self.sum) + b"\n"
+
+
+class Writer:
+    """Writes a log that begins with a head: its text so far, and where it goes on."""
+
+    def __init__(self, words: Words, number: int):
+        self.text = head_text(words, number)
+        self.place = Place(self.text)
+
+    def batch(self, lines: Sequence[bytes], told: bytes) -> None:
+        self.text += self.place.batch(lines, told)
 
 
 class Batch(NamedTuple):

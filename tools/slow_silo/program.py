@@ -2,14 +2,17 @@
 
 from __future__ import annotations
 
+import os
 from random import Random
 from typing import Callable, Iterable, NamedTuple, Optional, Union
 
-from . import codes, lines
+from . import codes, lines, log, logged
 from .answer import DEFAULT_SENDS, MAX_SENDS, answer_lines, is_asked
 from .audit import audit
+from .data import Folder, InUse, MemoryFolder, NotRead, NotWritten
 from .journal import (MAX_ACTIVATIONS, MAX_AGE, MAX_AGES, MAX_MAILBOX, MAX_TENANTS, RefusedAt, journal_of,
                       journal_text, migrate_journal, read_journal)
+from .kinds import NEWEST
 from .machine import Limits
 from .names import is_word
 from .serve import answers_of, lanes_of, replies_to_grains, serve
@@ -100,16 +103,17 @@ IS_AGE = ("--age", lambda text: is_option_number(text, MAX_AGE))
 IS_AGES = ("--ages", lambda text: True)
 IS_WORKERS = ("--workers", lambda text: is_option_number(text, MAX_WORKERS))
 IS_PATH = ("--journal", lambda text: True)
+IS_DATA = ("--data", lambda text: True)
 IS_SENDS = ("--sends", is_sends)
 OPTIONS = {
     "steps": dict([IS_AGE, IS_AGES]),
-    "answer": dict([IS_AGE, IS_AGES, IS_SENDS, IS_PATH]),
+    "answer": dict([IS_AGE, IS_AGES, IS_SENDS, IS_PATH, IS_DATA]),
     "serve": dict([IS_AGE, IS_AGES, IS_WORKERS, IS_PATH]),
     "audit": {},
     "migrate": {},
 }
 # what takes no value
-FLAGS = {"serve": ["--explain-lines", "--summary"]}
+FLAGS = {"answer": ["--no-sync"], "serve": ["--explain-lines", "--summary"]}
 
 
 def split_words(words: list[str], options: dict, flags: list[str]) -> tuple[dict, list[str]]:
@@ -179,6 +183,41 @@ def run_answer(given: dict, words: list[str], data: bytes, files: dict, written:
     finally:
         if "--journal" in given:
             files[given["--journal"]] = journal_text(journal_of(silo))
+
+
+def words_of(setup: Setup, sends: int) -> log.Words:
+    """What a log says of the silo whose lines it has."""
+    tenants = tuple((tenant, limits.activations, limits.mailbox) for tenant, limits in setup.tenants)
+    return log.Words(NEWEST, sends, setup.age, setup.ages, tenants)
+
+
+def run_data(given: dict, words: list[str], data: Union[bytes, Iterable[bytes]], folder: Folder, written: list[bytes]) -> None:
+    """`answer` with a folder of data: what was answered before is answered again, and then the input."""
+    setup, most = setup_of(given, words), int(given.get("--sends", DEFAULT_SENDS))
+    silo, told = Silo(setup), words_of(setup, most)
+    try:
+        content = folder.open()
+        if content is None:
+            place = logged.begin_log(folder, told, int.from_bytes(os.urandom(8), "little"))
+        else:
+            place = logged.answer_again(silo, folder, content, told, most).place
+        logged.answer_logged(silo, folder, place, pieces_of(data), most, written.append)
+    except InUse as error:
+        raise Ended(BROKEN, "silo: the data are in use") from error
+    except NotRead as error:
+        raise Ended(BROKEN, "silo: reading failed") from error
+    except NotWritten as error:
+        raise Ended(BROKEN, "silo: writing failed") from error
+    except lines.TooMuchInput as error:
+        raise Ended(BROKEN, "silo: too much input") from error
+    except log.OtherWords as error:
+        raise Ended(BAD_WORDS, "silo: the data have other words") from error
+    except log.NotALog as error:
+        raise Ended(BAD_JOURNAL, "silo: log line 1 is refused") from error
+    except logged.AnsweredOtherwise as error:
+        raise Ended(BAD_JOURNAL, f"silo: log line {error.line} is answered otherwise") from error
+    except logged.LogRefused as error:
+        raise Ended(BAD_JOURNAL, f"silo: log line {error.line} is refused") from error
 
 
 def pieces_of(data: Union[bytes, Iterable[bytes]]) -> Iterable[bytes]:
@@ -270,11 +309,13 @@ def run_audit(words: list[str], files: dict) -> tuple[bytes, int]:
 # ---- one run
 
 def run_program(words: list[str], data: Union[bytes, Iterable[bytes]] = b"", files: Optional[dict] = None,
-                chance: Optional[Random] = None, written: Optional[list[bytes]] = None) -> Run:
+                chance: Optional[Random] = None, written: Optional[list[bytes]] = None,
+                folder_at: Optional[Callable[[str, bool], Folder]] = None) -> Run:
     """A run on this standard input; `files` are the contents of the files that there are, by their paths.
 
     With a chance, `serve` does its steps in any order. The input of `answer` may come in pieces, and what is written goes
-    to `written`, if it is given, as each line is answered.
+    to `written`, if it is given, as each line is answered. A folder of data is among the files, or is what `folder_at` gives for
+    its path, and for whether it is synced.
     """
     files = dict(files or {})
     if asks_for_help(words):
@@ -289,6 +330,12 @@ def run_program(words: list[str], data: Union[bytes, Iterable[bytes]] = b"", fil
         given, others = split_words(words[1:], OPTIONS[words[0]], FLAGS.get(words[0], []))
         if words[0] == "steps":
             run_steps(given, others, data, written)
+        elif words[0] == "answer" and ("--no-sync" in given and "--data" not in given or {"--data", "--journal"} <= set(given)):
+            raise Ended(BAD_WORDS)
+        elif "--data" in given:
+            path = given["--data"]
+            folder = folder_at(path, "--no-sync" not in given) if folder_at else MemoryFolder(files, path)
+            run_data(given, others, data, folder, written)
         elif words[0] == "answer":
             run_answer(given, others, data, files, written)
         elif words[0] == "serve":
@@ -302,4 +349,8 @@ def run_program(words: list[str], data: Union[bytes, Iterable[bytes]] = b"", fil
     except Ended as end:
         status = end.status
         errors = None if end.line is None else end.line.encode() + b"\n"
+    except lines.ReaderFailed:
+        status, errors = BROKEN, b"silo: reading failed\n"
+    except lines.WriterFailed:
+        status, errors = BROKEN, b"silo: writing failed\n"
     return Run(b"".join(written), errors, status, files)

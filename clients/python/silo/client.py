@@ -7,6 +7,7 @@ import math
 import queue
 from typing import Any, Callable, Mapping, Optional
 
+from silo.again import Again
 from silo.answer import Answer
 from silo.connection import Carrier, Connection
 from silo.errors import SiloTimeout
@@ -27,7 +28,14 @@ class Silo:
     deliveries follow a line at most; `journal` is where the journal goes. What the silo tells grains, which is that what they sent
     was refused, is handed to `on_told(grain, SiloError)`, in a thread of its own. `timeout` is how many seconds each call
     waits if it isn't told another number; None and `math.inf` are for ever. A word that the program would refuse is a ValueError.
+
+    `data` is a folder in which all that was answered is kept: a silo of the same words goes on from it. If the process ends by
+    itself, what is under way gets a SiloEnded, and the next request starts the process again, once. Without `sync` nothing is
+    waited for on the disk: then a power cut may lose what was answered, and the end of the process loses nothing.
     """
+
+    _again: Optional[Again]
+    _only: Connection
 
     def __init__(
         self,
@@ -36,11 +44,18 @@ class Silo:
         ages: Optional[Mapping[str, int]] = None,
         sends: Optional[int] = None,
         journal: Optional[Path] = None,
+        data: Optional[Path] = None,
+        sync: bool = True,
         program: Path = "silo",
         on_told: Optional[Callable[[str, Any], None]] = None,
         timeout: Optional[float] = DEFAULT_SECONDS,
     ) -> None:
-        self._begin(Process(answer_words(program, tenants, age, ages, sends, journal)), on_told, timeout)
+        words = answer_words(program, tenants, age, ages, sends, journal, data, sync)
+        if data is None:
+            self._begin(Process(words), on_told, timeout)
+            return
+        self._seconds = math.inf if timeout is None else timeout
+        self._again = Again(lambda: Connection(Process(words, is_wide=True), on_told))
 
     @classmethod
     def connect(
@@ -62,7 +77,17 @@ class Silo:
 
     def _begin(self, carrier: Carrier, on_told: Optional[Callable[[str, Any], None]], timeout: Optional[float]) -> None:
         self._seconds = math.inf if timeout is None else timeout
-        self._connection = Connection(carrier, on_told)
+        self._again = None
+        self._only = Connection(carrier, on_told)
+
+    @property
+    def _connection(self) -> Connection:
+        return self._only if self._again is None else self._again.current
+
+    @property
+    def _live(self) -> Connection:
+        """The connection to ask by."""
+        return self._only if self._again is None else self._again.live()
 
     def __enter__(self) -> Silo:
         return self
@@ -76,8 +101,10 @@ class Silo:
 
         It waits only while 10,000 lines of others are unwritten.
         """
-        answer = Answer(self._seconds, self._connection.later)
-        self._connection.ask(op, caller, members_of(op, members), answer)
+        said = members_of(op, members)
+        connection = self._live
+        answer = Answer(self._seconds, connection.later)
+        connection.ask(op, caller, said, answer)
         return answer
 
     def call(self, caller: str, grain: str, method: str, args: Value = None, *, timeout: Optional[float] = None) -> Any:
@@ -109,13 +136,15 @@ class Silo:
 
         Behind a gateway the silo runs on, and the status is 0 if all was answered.
         """
+        if self._again is not None:
+            self._again.end()
         return self._connection.close()
 
     def _answered(self, op: str, caller: str, members: str, timeout: Optional[float]) -> Any:
-        return self._come(functools.partial(self._connection.ask, op, caller, members, at_once=True), timeout)
+        return self._come(functools.partial(self._live.ask, op, caller, members, at_once=True), timeout)
 
     def _in_order(self, step: bytes, timeout: Optional[float]) -> bool:
-        return self._come(functools.partial(self._connection.ask_in_order, step + FENCE), timeout) is True
+        return self._come(functools.partial(self._live.ask_in_order, step + FENCE), timeout) is True
 
     def _come(self, ask: Callable[[queue.SimpleQueue[Any]], None], timeout: Optional[float]) -> Any:
         """Asks, and waits for what comes into the slot: by one call of C, which an interrupt can't tear."""

@@ -2,6 +2,8 @@
 
 from __future__ import annotations
 
+import contextlib
+import fcntl
 import io
 import os
 import select
@@ -12,6 +14,10 @@ from typing import List, Mapping, Optional, Sequence, Tuple, Union, cast
 from silo.names import MOST_AGE, MOST_SENDS, ages_text, check_tenants, checked_number
 
 Path = Union[str, "os.PathLike[str]"]
+# the call of Linux that gives a pipe its size, which Python names from 3.10 on
+F_SETPIPE_SZ = 1031
+# what the program reads at once if it has data
+BYTES_OF_WIDE_PIPE = 1_048_576
 # how long a process that has closed its output may take to end: it writes the journal before
 MOST_SECONDS_TO_END = 60.0
 
@@ -28,6 +34,8 @@ def answer_words(
     ages: Optional[Mapping[str, int]],
     sends: Optional[int],
     journal: Optional[Path],
+    data: Optional[Path],
+    sync: bool,
 ) -> List[str]:
     """The command line of `silo answer`; a ValueError if the program would refuse it."""
     check_tenants(tenants)
@@ -35,8 +43,18 @@ def answer_words(
         checked_number("age", age, 1, MOST_AGE)
     if sends is not None:
         checked_number("sends", sends, 0, MOST_SENDS)
-    given = {"--age": age, "--ages": ages_text(ages), "--sends": sends, "--journal": None if journal is None else os.fspath(journal)}
-    return [os.fspath(program), "answer", *option_words(given), "--", *tenants]
+    if data is not None and journal is not None:
+        raise ValueError("a silo with data has no journal")
+    if data is None and not sync:
+        raise ValueError("without data there is nothing to be synced")
+    given: Mapping[str, Union[int, Path, None]] = {
+        "--age": age,
+        "--ages": ages_text(ages),
+        "--sends": sends,
+        "--journal": None if journal is None else os.fspath(journal),
+        "--data": None if data is None else os.fspath(data),
+    }
+    return [os.fspath(program), "answer", *option_words(given), *([] if sync else ["--no-sync"]), "--", *tenants]
 
 
 class Process:
@@ -45,7 +63,8 @@ class Process:
     # what a pipe takes whole
     whole = select.PIPE_BUF
 
-    def __init__(self, words: Sequence[str]) -> None:
+    def __init__(self, words: Sequence[str], is_wide: bool = False) -> None:
+        """Runs the words. A wide pipe to it has room for as many lines as it puts on the disk at once."""
         self._told = tempfile.TemporaryFile()
         pipe = subprocess.PIPE
         try:
@@ -55,6 +74,10 @@ class Process:
             self._told.close()
             raise
         self.writing = cast(io.RawIOBase, self._process.stdin)
+        if is_wide:
+            # a system that gives no such pipe has smaller batches
+            with contextlib.suppress(OSError):
+                fcntl.fcntl(self.writing, F_SETPIPE_SZ, BYTES_OF_WIDE_PIPE)
         self.reading = cast(io.RawIOBase, self._process.stdout)
 
     @property

@@ -220,7 +220,7 @@ class Periods(Gateways):
     def test_figures_of_the_data(self) -> None:
         with tempfile.TemporaryDirectory() as folder:
             pathlib.Path(folder, "log").write_bytes(b"12345")
-            gateway = self.gateway(program=self.stub("while read(): pass"), further=["--data", folder])
+            gateway = self.gateway("--data", folder, program=self.stub("while read(): pass"))
             self.assertEqual(gateway.figure('silo_data_bytes{file="log"}'), 5)
             self.assertGreater(gateway.figure("silo_resident_bytes"), 0)
             gateway.close()
@@ -328,6 +328,14 @@ class Ends(Gateways):
                 read_options(["folder", *words])
             self.assertEqual(found.exception.code, 2)
 
+    def test_by_a_log_that_is_refused(self) -> None:
+        with tempfile.TemporaryDirectory() as folder:
+            pathlib.Path(folder, "log").write_bytes(b"what")
+            gateway = Gateway("--data", folder)
+            self.addCleanup(gateway.close)
+            self.assertEqual(gateway.process.wait(beside.SECONDS), 4)
+            self.assertIn("log line 1 is refused", gateway.told())
+
     def test_by_a_program_that_cant_be_started(self) -> None:
         for program, further, told in ((beside.program, ["--ages", "what"], "ages are refused"), ("/nowhere/silo", [], "can't be started")):
             gateway = Gateway(program=program, further=further)
@@ -336,8 +344,8 @@ class Ends(Gateways):
             self.assertIn(told, gateway.told())
 
     def test_words_for_the_program(self) -> None:
-        options = read_options(["--program", "p", "folder", "red:1:1", "--", "--sends", "3", "--data", "d"])
-        self.assertEqual((options.command, options.data), (["p", "answer", "--sends", "3", "--data", "d", "--", "red:1:1"], pathlib.Path("d")))
+        options = read_options(["--program", "p", "--data", "d", "folder", "red:1:1", "--", "--sends", "3", "--no-sync"])
+        self.assertEqual((options.command, options.data), (["p", "answer", "--data", "d", "--sends", "3", "--no-sync", "--", "red:1:1"], pathlib.Path("d")))
 
 
 if __name__ == "__main__":

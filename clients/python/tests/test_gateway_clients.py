@@ -135,6 +135,16 @@ class Ends(Gateways):
         # nothing of it is left: nobody told the program to keep it
         self.assertEqual(silo.call(WEB, COUNTER, "get"), 0)
 
+    def test_of_a_program_with_data_that_is_killed(self) -> None:
+        with tempfile.TemporaryDirectory() as folder:
+            gateway = self.gateway("--data", f"{folder}/data")
+            silo = Silo.connect(gateway.address(), timeout=SECONDS)
+            self.addCleanup(silo.close)
+            self.assertEqual([silo.call(WEB, COUNTER, "add", {"by": 1}) for _ in range(3)], [1, 2, 3])
+            gateway.kill_program()
+            self.assertEqual(silo.call(WEB, COUNTER, "add", {"by": 1}), 4)
+            gateway.close()
+
     def test_in_order_by_a_signal(self) -> None:
         gateway = self.gateway()
         silo = Silo.connect(gateway.address(), timeout=SECONDS)

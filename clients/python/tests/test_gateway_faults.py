@@ -10,6 +10,7 @@ import random
 import shutil
 import signal
 import statistics
+import tempfile
 import threading
 import time
 import unittest
@@ -326,6 +327,27 @@ class Programs(Case, unittest.IsolatedAsyncioTestCase):
 
 
 class Kills(Gateways):
+    def test_of_a_program_with_data(self) -> None:
+        """What was told is there again, and what wasn't told may be."""
+        with tempfile.TemporaryDirectory() as folder:
+            gateway = self.gateway("--data", f"{folder}/data")
+            wire, told, unknown = self.wire(gateway), 0, 0
+            for turn in range(3):
+                said = [call(number) for number in range(200)]
+                wire.say(b"".join(said))
+                time.sleep(0.02 * turn)
+                gateway.kill_program()
+                heard = [wire.hear() for _ in said]
+                self.assertTrue(all("ok" in it or it["error"] == 90 for it in heard))
+                told = max([told, *(it["ok"] for it in heard if "ok" in it)])
+                unknown += sum("error" in it for it in heard)
+                last = wire.ask(call(1, method="get"))["ok"]
+                self.assertTrue(told <= last <= told + unknown, (told, last, unknown))
+                told = last
+            self.assertEqual(gateway.end(), 0)
+            # nor does the gateway's own end lose anything
+            self.assertEqual(self.wire(self.gateway("--data", f"{folder}/data")).ask(call(1, method="get"))["ok"], told)
+
     def test_of_the_program_under_load(self) -> None:
         gateway = self.gateway()
         steady = [Steady(self.wire(gateway, name), f"{name}/web", f"{name}{each}x") for name in ("red", "blue") for each in range(4)]

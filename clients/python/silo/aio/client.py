@@ -7,8 +7,11 @@ import functools
 import math
 from typing import Any, Awaitable, Callable, List, Mapping, Optional
 
+from silo.again import REFUSED
 from silo.aio.stream import Answer, Carried, Stream
 from silo.client import DEFAULT_SECONDS
+from silo.errors import SiloEnded
+from silo.forks import LEFT
 from silo.grain import Caller, Grain
 from silo.lines import FENCE, SWEEP, call_members, members_of, poke_members, tick_line
 from silo.process import Path, Process, answer_words
@@ -16,8 +19,8 @@ from silo.sockets import SocketEnd, connected
 from silo.values import Value
 
 
-async def started(words: List[str]) -> Process:
-    return Process(words)
+async def started(words: List[str], is_wide: bool) -> Process:
+    return Process(words, is_wide)
 
 
 async def reached(address: str, tenant: Optional[str], token: Optional[str], seconds: Optional[float]) -> SocketEnd:
@@ -39,12 +42,16 @@ class Silo:
         ages: Optional[Mapping[str, int]] = None,
         sends: Optional[int] = None,
         journal: Optional[Path] = None,
+        data: Optional[Path] = None,
+        sync: bool = True,
         program: Path = "silo",
         on_told: Optional[Callable[[str, Any], object]] = None,
         timeout: Optional[float] = DEFAULT_SECONDS,
     ) -> None:
-        words = answer_words(program, tenants, age, ages, sends, journal)
-        self._begin(functools.partial(started, words), on_told, timeout)
+        words = answer_words(program, tenants, age, ages, sends, journal, data, sync)
+        self._begin(functools.partial(started, words, data is not None), on_told, timeout)
+        # the command line by which the silo goes on if its process ended
+        self._again = None if data is None else words
 
     @classmethod
     def connect(
@@ -67,6 +74,9 @@ class Silo:
         self._seconds = math.inf if timeout is None else timeout
         self._is_started = False
         self._stream: Optional[Stream] = None
+        self._again: Optional[List[str]] = None
+        # until what was started again is open
+        self._opening: Optional[asyncio.Task[None]] = None
 
     async def start(self) -> Silo:
         """Starts the program, or connects to the gateway."""
@@ -86,7 +96,8 @@ class Silo:
 
     def ask(self, caller: str, op: str, *, timeout: Optional[float] = None, **members: Any) -> Answer:
         """Asks as `call`, `poke` and `status` do, and gives at once a future of asyncio. It never waits, however full the pipe is."""
-        return self._started.ask(op, caller, members_of(op, members), self._time(timeout))
+        said = members_of(op, members)
+        return self._live.ask(op, caller, said, self._time(timeout))
 
     async def call(self, caller: str, grain: str, method: str, args: Value = None, *, timeout: Optional[float] = None) -> Any:
         """Calls a method of a grain, and waits for its value."""
@@ -102,11 +113,12 @@ class Silo:
 
     async def tick(self, now: int, *, timeout: Optional[float] = None) -> bool:
         """Sets the clock, in milliseconds; false if it is later already."""
-        return await self._started.ask_in_order(tick_line(now) + FENCE, self._time(timeout)) is True
+        step = tick_line(now) + FENCE
+        return await self._live.ask_in_order(step, self._time(timeout)) is True
 
     async def sweep(self, *, timeout: Optional[float] = None) -> None:
         """Lets activations go that are idle for the age of their kind."""
-        await self._started.ask_in_order(SWEEP + FENCE, self._time(timeout))
+        await self._live.ask_in_order(SWEEP + FENCE, self._time(timeout))
 
     def client(self, caller: str, *, timeout: Optional[float] = None) -> Client:
         """Who asks, such as `red/web`, and how many seconds its calls wait if that is another number than the silo's."""
@@ -114,7 +126,24 @@ class Silo:
 
     async def close(self) -> int:
         """Ends the input, waits until all is answered and the journal is written, and gives the status of the process."""
-        return await self._started.close()
+        stream, self._again = self._started, None
+        if self._opening is not None:
+            await self._opening
+        return await stream.close()
+
+    @property
+    def _live(self) -> Stream:
+        """The stream to ask by: a new one if the process of a silo with data has ended and wasn't closed. It starts one program at most."""
+        stream = self._started
+        ended = stream.exchange.ended
+        if self._again is None or ended is None or ended is LEFT or ended[0] in REFUSED:
+            return stream
+        try:
+            self._stream = stream = Stream(Process(self._again, is_wide=True), self._on_told)
+        except OSError as fault:
+            raise SiloEnded(1, f"it can't be started again: {fault}") from fault
+        self._opening = asyncio.ensure_future(stream.open())
+        return stream
 
     @property
     def _started(self) -> Stream:
@@ -123,7 +152,7 @@ class Silo:
         return self._stream
 
     async def _answered(self, op: str, caller: str, members: str, timeout: Optional[float]) -> Any:
-        stream = self._started
+        stream = self._live
         if stream.is_full:
             await stream.room()
         return await stream.ask(op, caller, members, self._time(timeout))

@@ -59,6 +59,8 @@ class Stream(asyncio.Protocol):
             return
         await self._loop.connect_read_pipe(lambda: self, self.carrier.reading)
         self._writing, _ = await self._loop.connect_write_pipe(functools.partial(Writing, self), self.carrier.writing)
+        # what was asked before is written now
+        self._flush()
 
     async def close(self) -> int:
         """Ends the input, waits until all is answered, and gives the status."""
@@ -106,7 +108,9 @@ class Stream(asyncio.Protocol):
             self._loop.call_later(SECONDS_BETWEEN_LOOKS, self._look)
 
     def _flush(self) -> None:
-        if self._lines and self._writing is not None and not self._writing.is_closing():
+        if self._writing is None:
+            return
+        if self._lines and not self._writing.is_closing():
             self._writing.write(b"".join(self._lines))
         self._lines.clear()
 

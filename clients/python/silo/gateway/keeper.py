@@ -15,8 +15,8 @@ MOST_SECONDS_DEAF = 60.0
 # a program that lived for less is started again only after a while, which grows
 SECONDS_OF_A_LIFE = 1.0
 FIRST_PAUSE, MOST_PAUSE = 0.05, 5.0
-# the status of a program that refuses its words
-REFUSES_WORDS = 2
+# the statuses of a program that refuses its words, and the log of its data
+REFUSES_WORDS, REFUSES_LOG = 2, 4
 
 
 class Life(asyncio.Protocol):
@@ -25,7 +25,7 @@ class Life(asyncio.Protocol):
     def __init__(self, words: List[str], desk: Desk) -> None:
         self._desk = desk
         self._loop = asyncio.get_running_loop()
-        self._process = Process(words)
+        self._process = Process(words, is_wide="--data" in words)
         self._writing: Optional[asyncio.WriteTransport] = None
         self._reading: Optional[asyncio.BaseTransport] = None
         self.over: asyncio.Future[Tuple[int, str]] = self._loop.create_future()
@@ -79,7 +79,7 @@ class Keeper:
         self.number: Optional[int] = None
 
     async def run(self) -> int:
-        """Gives the status of the last program. A first one that can't be started, or refuses its words, is not started again."""
+        """Gives the status of the last program. A first one that can't be started, or refuses its words or its log, is not started again."""
         pause = FIRST_PAUSE
         while True:
             begun = time.monotonic()
@@ -87,7 +87,7 @@ class Keeper:
             if self._is_ending:
                 return status
             tell("error", f"the program has ended with status {status}: {' '.join(told.split()) or 'it told nothing'}")
-            if status == REFUSES_WORDS and self.starts <= 1:
+            if status in (REFUSES_WORDS, REFUSES_LOG) and self.starts <= 1:
                 return status
             if time.monotonic() - begun >= SECONDS_OF_A_LIFE:
                 pause = FIRST_PAUSE

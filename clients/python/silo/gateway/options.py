@@ -20,6 +20,8 @@ class Options:
     # further words for the program
     words: List[str]
     program: str
+    # the folder of the silo's data
+    data: Optional[pathlib.Path]
     tick: float
     sweep: float
     tcp: Optional[int]
@@ -39,17 +41,8 @@ class Options:
     @property
     def command(self) -> List[str]:
         """The program's command line."""
-        return [self.program, "answer", *self.words, "--", *self.tenants]
-
-    @property
-    def data(self) -> Optional[pathlib.Path]:
-        """The folder of the silo's data, if the program is told one."""
-        for word, after in zip(self.words, [*self.words[1:], ""]):
-            if word == "--data" and after:
-                return pathlib.Path(after)
-            if word.startswith("--data="):
-                return pathlib.Path(word.partition("=")[2])
-        return None
+        data = [] if self.data is None else ["--data", str(self.data)]
+        return [self.program, "answer", *data, *self.words, "--", *self.tenants]
 
 
 def seconds(text: str) -> float:
@@ -83,6 +76,7 @@ def parser() -> argparse.ArgumentParser:
     words.add_argument("folder", metavar="FOLDER", type=pathlib.Path)
     words.add_argument("tenants", metavar="TENANT:ACT:MAIL", nargs="+")
     words.add_argument("--program", metavar="PATH", default="silo", help="what is run in place of `silo`")
+    words.add_argument("--data", metavar="DIR", type=pathlib.Path, help="what is answered is kept there, and a program that is started goes on from it")
     words.add_argument("--tick", metavar="SECONDS", type=seconds, default=1.0, help="how often the clock is set; 0 is never [1]")
     words.add_argument("--sweep", metavar="SECONDS", type=seconds, default=60.0, help="how often idle grains are let go; 0 is never [60]")
     words.add_argument("--tcp", metavar="PORT", type=port, help="tenants with tokens are let in at this port of 127.0.0.1")

@@ -1,0 +1,165 @@
+"""Worked rows of `answer --data`: folders before and after, to be followed by hand.
+
+Those of `DATA` are inputs of the program. Each of `DATA_CALLS` is a function that says whether it holds: of folders on the disk.
+"""
+
+from __future__ import annotations
+
+import pathlib
+import stat
+import tempfile
+from typing import Callable, Sequence
+
+from .data import DiskFolder, InUse
+from .log import Words, Writer, cut_head
+from .program import run_program
+from .row import Row
+from .short_lines import (A, BLUE, LINE_TOO_LONG, NOT_A_REQUEST, SHEET, SWEEP, call, no, ok, poke, seen, status, text, tick, told)
+
+NUMBER = 0x0123456789ABCDEF
+WORDS = Words(2, 1000, 900000, (), (("red", 2, 4),))
+ANSWER = ["answer", "--data", "d", "red:2:4"]
+ADD, MORE, GET = call(1, A, "add", {"by": 3}), call(2, A, "add", {"by": 4}), call(3, A, "get")
+LONG = "x" * 65_537
+
+
+def log_of(*batches: tuple, words: Words = WORDS, number: int = NUMBER) -> str:
+    """A log of batches, each as its lines and what is told for them."""
+    writer = Writer(words, number)
+    for lines, said in batches:
+        writer.batch([line.encode() for line in lines], text(said).encode())
+    return writer.text.decode()
+
+
+def goes_on(name: str, before: str, lines: list, out: list, after: str, words: Sequence[str] = ANSWER) -> Row:
+    """A start from a log, with the log that it leaves."""
+    return Row(name, list(words), lines, out, files={"d/log": before}, files_after={"d/log": after, "d/lock": ""})
+
+
+def refused(name: str, before: str, status: int, errors: str, words: Sequence[str] = ANSWER) -> Row:
+    """A log from which no start goes on, and which stays as it is; nothing is answered."""
+    return Row(name, list(words), GET, [], status, errors, {"d/log": before}, {"d/log": before, "d/lock": ""})
+
+
+FIRST, SECOND = (ADD, ok(1, 3)), (MORE, ok(2, 7))
+TWO = log_of(FIRST, SECOND)
+REST = call(4, A, "save") + call(5, A, "rest")
+RELAYS = (call(1, "relay/red:r", "join", {"grain": "counter/blue:x"}) + call(2, "relay/red:r", "send", {"method": "get", "args": None}),
+          ok(1, True) + ok(2, 1) + told(error=40, from_="relay/red:r", text="tenant red may not call a grain of tenant blue"))
+SET_UP = Words(2, 0, 10, (("counter", 5), ("sheet", 7)), (("red", 3, 4), ("blue", 1, 1)))
+SET_UP_WORDS = ["answer", "--sends", "0", "--age", "10", "--ages", "sheet=7,counter=5", "--data", "d", "red:3:4", "blue:1:1"]
+
+DATA = [
+    goes_on("what was answered is in the log, behind its head", log_of(), ADD, ok(1, 3), log_of(FIRST)),
+    goes_on("a start goes on from what the log has", TWO, GET, ok(3, 7), log_of(FIRST, SECOND, (GET, ok(3, 7)))),
+    goes_on("nothing is told of the log, and without a line nothing is added", TWO, [], [], TWO),
+    goes_on("rows, the clock and what rests come back",
+            log_of((ADD + REST + tick(5), ok(1, 3) + ok(4, "1") + ok(5, None))), status(6) + GET,
+            seen(6, 0, 5, 3) + ok(3, 3),
+            log_of((ADD + REST + tick(5), ok(1, 3) + ok(4, "1") + ok(5, None)), (status(6) + GET, seen(6, 0, 5, 3) + ok(3, 3)))),
+    goes_on("every line is in the log: an empty one, one that is refused, and of one that is too long what shows that",
+            log_of(), ["", "hello", LONG + "yyy", *SWEEP], NOT_A_REQUEST + LINE_TOO_LONG,
+            log_of((["", "hello", LONG, *SWEEP], NOT_A_REQUEST + LINE_TOO_LONG))),
+    goes_on("what grains are told is told for their line", log_of(words=SET_UP), [], [], log_of(words=SET_UP), SET_UP_WORDS),
+    goes_on("sends that are left go on behind the next line", log_of((RELAYS[0], ok(1, True) + ok(2, 1)), words=SET_UP),
+            status(3), seen(3, 1, 0, 2), log_of((RELAYS[0], ok(1, True) + ok(2, 1)), (status(3), seen(3, 1, 0, 2)), words=SET_UP),
+            SET_UP_WORDS),
+    goes_on("a line without a mark was never acknowledged, and is cut off", TWO + text(["+" + MORE[0]]), GET, ok(3, 7),
+            log_of(FIRST, SECOND, (GET, ok(3, 7)))),
+    goes_on("so is a torn line", TWO + "+{", GET, ok(3, 7), log_of(FIRST, SECOND, (GET, ok(3, 7)))),
+    goes_on("so is a torn mark", TWO[:-1], GET, ok(3, 3), log_of(FIRST, (GET, ok(3, 3)))),
+    goes_on("so are zeros", TWO + "\0" * 40, GET, ok(3, 7), log_of(FIRST, SECOND, (GET, ok(3, 7)))),
+    goes_on("so are the bytes of an older log", TWO + log_of(FIRST, SECOND, FIRST, number=7)[len(log_of()):], GET, ok(3, 7),
+            log_of(FIRST, SECOND, (GET, ok(3, 7)))),
+    goes_on("so is a last batch whose bytes were changed", TWO.replace('"by":4', '"by":5'), GET, ok(3, 3),
+            log_of(FIRST, (GET, ok(3, 3)))),
+    refused("a batch that was changed, with a good one behind it, is refused at its mark", TWO.replace('"by":3', '"by":5'), 4,
+            "silo: log line 8 is refused"),
+    refused("a line that no log has, with two marks behind it, is refused", TWO.replace("+" + ADD[0], "-" + ADD[0]), 4,
+            "silo: log line 7 is refused"),
+    refused("a log that is answered otherwise than it was told", log_of(FIRST, (MORE, ok(2, 8)), (GET, ok(3, 7))), 4,
+            "silo: log line 10 is answered otherwise"),
+    refused("that comes before a fault behind it", log_of((ADD, ok(1, 4)), SECOND).replace('"by":4', '"by":5'), 4,
+            "silo: log line 8 is answered otherwise"),
+    refused("other tenants", TWO, 2, "silo: the data have other words", ["answer", "--data", "d", "red:2:4", "blue:2:4"]),
+    refused("other limits", TWO, 2, "silo: the data have other words", ["answer", "--data", "d", "red:3:4"]),
+    refused("another age", TWO, 2, "silo: the data have other words", ["answer", "--age", "899999", "--data", "d", "red:2:4"]),
+    refused("an age of a kind", TWO, 2, "silo: the data have other words", ["answer", "--ages", "counter=5", "--data", "d", "red:2:4"]),
+    refused("other deliveries", TWO, 2, "silo: the data have other words", ["answer", "--sends", "999", "--data", "d", "red:2:4"]),
+    refused("a log of no form", "silo-log 2\n" + TWO[11:], 4, "silo: log line 1 is refused"),
+    refused("a log of no byte", "", 4, "silo: log line 1 is refused"),
+    refused("a head that is torn", log_of()[:-1], 2, "silo: the data have other words"),
+    goes_on("nothing is brought to the disk", TWO, GET, ok(3, 7), log_of(FIRST, SECOND, (GET, ok(3, 7))),
+            ["answer", "--data=d", "--no-sync", "red:2:4"]),
+    Row("a tenant argument that is refused comes before the folder", ["answer", "--data", "d", "red"], GET, [], 2,
+        "silo: tenant argument 1 is refused"),
+    Row("no journal beside the data", ["answer", "--data", "d", "--journal", "j", "red:2:4"], GET, [], 2, "error: not both"),
+    Row("no data that aren't synced without data", ["answer", "--no-sync", "red:2:4"], GET, [], 2, "error: --data is missing"),
+    Row("data twice", ["answer", "--data", "d", "--data", "e", "red:2:4"], GET, [], 2, "error: twice"),
+    Row("data that are no option of another command", ["steps", "--data", "d", "red:2:4"], [], [], 2, "error: unknown"),
+]
+
+
+def a_new_folder_has_a_log_of_its_lines() -> bool:
+    run = run_program(ANSWER, text(ADD).encode())
+    number, _end = cut_head(WORDS, run.files["d/log"])
+    return run.files == {"d/lock": b"", "d/log": log_of(FIRST, number=int(number, 16)).encode()}
+
+
+def two_new_logs_have_two_numbers() -> bool:
+    one, other = (cut_head(WORDS, run_program(ANSWER).files["d/log"])[0] for _ in range(2))
+    return one != other
+
+
+def on_disk(path: str, given: bytes) -> tuple:
+    held = []
+
+    def folder_at(place: str, is_synced: bool) -> DiskFolder:
+        held.append(DiskFolder(place, is_synced))
+        return held[-1]
+
+    run = run_program(["answer", "--data", path, "red:2:4"], given, folder_at=folder_at)
+    held[0].close()
+    return run.out, run.errors, run.status
+
+
+def what_is_on_the_disk_is_its_owners() -> bool:
+    with tempfile.TemporaryDirectory() as folder:
+        data = pathlib.Path(folder, "data")
+        first, second = on_disk(str(data), text(ADD).encode()), on_disk(str(data), text(MORE).encode())
+        modes = {path.name: stat.S_IMODE(path.stat().st_mode) for path in [data, *data.iterdir()]}
+    return (first, second) == ((text(ok(1, 3)).encode(), b"", 0), (text(ok(2, 7)).encode(), b"", 0)) and modes == {
+        "data": 0o700, "lock": 0o600, "log": 0o600}
+
+
+def a_folder_that_another_has_is_in_use() -> bool:
+    with tempfile.TemporaryDirectory() as folder:
+        held = DiskFolder(folder)
+        held.open()
+        found = on_disk(folder, b"")
+        held.close()
+        return found == (b"", b"silo: the data are in use\n", 1) and on_disk(folder, b"") == (b"", b"", 0)
+
+
+def a_folder_that_cant_be_made_cant_be_written() -> bool:
+    with tempfile.TemporaryDirectory() as folder:
+        file = pathlib.Path(folder, "file")
+        file.write_bytes(b"")
+        return all(on_disk(path, b"") == (b"", b"silo: writing failed\n", 1) for path in ("", f"{folder}/no/data", str(file)))
+
+
+def what_one_piece_brings_is_a_batch() -> bool:
+    """Also the end of a line whose beginning another brought, and one by one once they are above a megabyte."""
+    put = call(1, SHEET, "put", {"name": "k", "value": "x" * 60_000})
+    files = {"d/log": log_of().encode()}
+    lines = [line.encode() + b"\n" for line in ADD + MORE + GET] + [put[0].encode() + b"\n"] * 20
+    pieces = [lines[0] + lines[1][:9], lines[1][9:12], lines[1][12:] + lines[2], b"", b"".join(lines[3:]), b"last"]
+    run = run_program(ANSWER, pieces, files)
+    said = (put, ok(1, None))
+    batches = [FIRST, (MORE + GET, ok(2, 7) + ok(3, 7)), (put * 18, ok(1, None) * 18), (put * 2, ok(1, None) * 2), (["last"], NOT_A_REQUEST)]
+    return run.files["d/log"].decode() == log_of(*batches) and len(said[0][0]) * 17 < 1_048_576
+
+
+DATA_CALLS: tuple[Callable[[], bool], ...] = (
+    a_new_folder_has_a_log_of_its_lines, two_new_logs_have_two_numbers, what_is_on_the_disk_is_its_owners,
+    a_folder_that_another_has_is_in_use, a_folder_that_cant_be_made_cant_be_written, what_one_piece_brings_is_a_batch)
