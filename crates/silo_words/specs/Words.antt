@@ -1,6 +1,6 @@
 -- What the words of a command line ask for, by clap's own account of what it makes of words.
 use Rattle.std.specs.Prelude.{◌≡◌, ◌≢◌, ◌≤◌, ◌⊎◌, ◌++◌, ◌∷◌, ⊤, ℕ, Bool, true, false, List, [], Option, Some, None, codes, map, slice_get}
-use Rattle.std.specs.Prelude.{slice_index, String, string_bytes, unwrap_or, if◌then◌else◌}
+use Rattle.std.specs.Prelude.{not, slice_index, String, string_bytes, unwrap_or, if◌then◌else◌}
 use Rattle.std.specs.Option.{option_map}
 use Rattle.std.specs.Str.Parse.{IsNumeral, digits_value, without_leading_plus}
 use Rattle.grain_id.specs.Names.{same_text}
@@ -15,6 +15,7 @@ use Rattle.silo_words.specs.declared.fault.TheConstants.{ANSWER_EXAMPLE, AUDIT_E
 use Rattle.silo_words.specs.declared.fault.TheConstants.{STEPS_EXAMPLE}
 use Rattle.silo_words.specs.declared.fault.WordsFault.{WordsFault}
 use Rattle.silo_words.specs.declared.fault.WordsFault.TheVariants as fault
+use Rattle.silo_words.specs.declared.task.Data.{Data}
 use Rattle.silo_words.specs.declared.task.Task.{Task}
 use Rattle.silo_words.specs.declared.task.Task.TheVariants as task
 use Rattle.silo_words.specs.declared.task.Telling.{Telling}
@@ -41,6 +42,13 @@ sends_rule = record (new_rule (codes "sends")) { long = Some (codes "sends"); va
 abbrev pub journal_rule : Rule
 journal_rule = record (new_rule (codes "journal")) { long = Some (codes "journal"); value_names = 1 }
 
+-- `--data DIR`, a text, and `--no-sync`, which takes none
+abbrev pub data_rule : Rule
+data_rule = record (new_rule (codes "data")) { long = Some (codes "data"); value_names = 1 }
+
+abbrev pub no_sync_rule : Rule
+no_sync_rule = record (new_rule (codes "no-sync")) { long = Some (codes "no-sync"); action = Some SetTrue }
+
 -- `--explain-lines` and `--summary`, which take no text
 abbrev pub explain_rule : Rule
 explain_rule = record (new_rule (codes "explain-lines")) { long = Some (codes "explain-lines"); action = Some SetTrue }
@@ -65,10 +73,12 @@ path_rule = record (new_rule (codes "path")) { value_names = 1; required = true 
 abbrev pub steps_app : App
 steps_app = with_rule (with_rule (with_rule (new_app (codes "steps")) age_rule) ages_rule) tenants_rule
 
--- `answer`, with these and two options more
+-- `answer`, with these and four options more: at first with the options alone, but for the last two
+abbrev pub journaled_app : App
+journaled_app = with_rule (with_rule (with_rule (with_rule (new_app (codes "answer")) age_rule) ages_rule) sends_rule) journal_rule
+
 abbrev pub answer_app : App
-answer_app = with_rule (with_rule (with_rule (with_rule (with_rule (new_app (codes "answer")) age_rule) ages_rule) sends_rule) journal_rule)
-    tenants_rule
+answer_app = with_rule (with_rule (with_rule journaled_app data_rule) no_sync_rule) tenants_rule
 
 -- `serve`, with those of `steps` and four options more: at first with the options alone, but for the last two
 abbrev pub kept_app : App
@@ -180,6 +190,10 @@ abbrev pub IsTelling : List Row → Telling → Type 0
 IsTelling rows telling = (telling.explain_lines ≡ is_set (first_of (codes "explain-lines") rows))
     × (telling.summary ≡ is_set (first_of (codes "summary") rows))
 
+-- whether the flag is there by which replies don't wait for the disk
+abbrev pub is_unsynced : List Row → Bool
+is_unsynced rows = is_set (first_of (codes "no-sync") rows)
+
 -- nothing is to be told
 abbrev pub nothing_told : Telling
 nothing_told = record { explain_lines = false; summary = false }
@@ -197,7 +211,8 @@ pub record FindSteps (name : Text) (rows : List Row) (age : ℕ) (ages : Option 
   pub aged : ages ≡ first_of (codes "ages") rows
   pub named : tenants ≡ tenants_in rows
 
--- `answer`, with the age, the text of the kinds' ages, the deliveries, the journal's path and the tenant arguments that were found
+-- `answer`, with the age, the text of the kinds' ages, the deliveries, the journal's path and the tenant arguments that were found,
+-- and with no folder of data
 pub record FindAnswering (name : Text) (rows : List Row) (age : ℕ) (ages : Option Text) (sends : ℕ) (journal : Option Text)
     (tenants : List Text) : Type 0 where
   pub command : name ≡ codes "answer"
@@ -205,6 +220,21 @@ pub record FindAnswering (name : Text) (rows : List Row) (age : ℕ) (ages : Opt
   pub aged : ages ≡ first_of (codes "ages") rows
   pub behind : IsSends rows sends
   pub kept : journal ≡ first_of (codes "journal") rows
+  pub named : tenants ≡ tenants_in rows
+  pub no_data : first_of (codes "data") rows ≡ None
+  pub synced : is_unsynced rows ≡ false
+
+-- `answer`, with the age, the text of the kinds' ages, the deliveries, the folder of data and the tenant arguments that were found, and
+-- with no journal; replies wait for the disk, unless the flag is there
+pub record FindData (name : Text) (rows : List Row) (age : ℕ) (ages : Option Text) (sends : ℕ) (folder : Text) (sync : Bool)
+    (tenants : List Text) : Type 0 where
+  pub command : name ≡ codes "answer"
+  pub within : IsAge (one_of (codes "age") rows) age
+  pub aged : ages ≡ first_of (codes "ages") rows
+  pub behind : IsSends rows sends
+  pub given : Some folder ≡ first_of (codes "data") rows
+  pub synced : sync ≡ not (is_unsynced rows)
+  pub no_journal : first_of (codes "journal") rows ≡ None
   pub named : tenants ≡ tenants_in rows
 
 -- `serve`, with the workers, the age, the text of the kinds' ages, the journal's path, what is to be told and the tenant arguments
@@ -253,6 +283,16 @@ pub record AskForAnswering (words : List Text) (age : ℕ) (ages : Option Text) 
   pub is : found_in words ≡ Some (name, rows)
   pub found : FindAnswering name rows age ages sends journal tenants
 
+-- The words ask to answer lines at once under this age and with this text of the kinds' ages, with so many deliveries behind each, for
+-- these tenant arguments, and to keep what was answered in a folder, which replies wait for if they are to.
+pub record AskForData (words : List Text) (age : ℕ) (ages : Option Text) (sends : ℕ) (folder : Text) (sync : Bool) (tenants : List Text)
+    : Type 0 where
+  pub taken : AreTaken words
+  pub name : Text
+  pub rows : List Row
+  pub is : found_in words ≡ Some (name, rows)
+  pub found : FindData name rows age ages sends folder sync tenants
+
 -- The words ask so many workers to serve under this age and with this text of the kinds' ages, for these tenant arguments, to keep the
 -- journal at a path if there is one, and to tell this of it.
 pub record AskForServing (words : List Text) (workers age : ℕ) (ages journal : Option Text) (telling : Telling) (tenants : List Text)
@@ -284,12 +324,15 @@ pub record MakesNoTask (name : Text) (rows : List Row) : Type 0 where
   pub steps : (age : ℕ) (ages : Option Text) (tenants : List Text) → ¬ FindSteps name rows age ages tenants
   pub answering : (age : ℕ) (ages : Option Text) (sends : ℕ) (journal : Option Text) (tenants : List Text)
       → ¬ FindAnswering name rows age ages sends journal tenants
+  pub keeping : (age : ℕ) (ages : Option Text) (sends : ℕ) (folder : Text) (sync : Bool) (tenants : List Text)
+      → ¬ FindData name rows age ages sends folder sync tenants
   pub serving : (workers age : ℕ) (ages journal : Option Text) (telling : Telling) (tenants : List Text)
       → ¬ FindServing name rows workers age ages journal telling tenants
   pub audit : (path : Text) → ¬ FindAudit name rows path
   pub migration : (path : Text) → ¬ FindMigration name rows path
 
--- What was found in the words makes no task: a number is out of its range, or something that a task wants is not there.
+-- What was found in the words makes no task: a number is out of its range, or something that a task wants is not there, or two of its
+-- parts don't go together.
 pub record IsOutOfRange (words : List Text) : Type 0 where
   pub name : Text
   pub rows : List Row
@@ -306,12 +349,20 @@ AskForNothing words = AreTaken words × IsOutOfRange words
 abbrev pub IsTaskOf : Text → List Row → Task → Type 0
 IsTaskOf name rows (task.Steps age ages tenants) = FindSteps name rows age (option_map (λ text. text.now) ages)
     (map (λ t. t.now) tenants.items)
-IsTaskOf name rows (task.Answer age ages sends journal tenants) = FindAnswering name rows age (option_map (λ text. text.now) ages) sends
-    (option_map (λ path. path.now) journal) (map (λ t. t.now) tenants.items)
+IsTaskOf name rows (task.Answer age ages sends journal None tenants) = FindAnswering name rows age (option_map (λ text. text.now) ages)
+    sends (option_map (λ path. path.now) journal) (map (λ t. t.now) tenants.items)
+IsTaskOf name rows (task.Answer age ages sends journal (Some kept) tenants) = FindData name rows age (option_map (λ text. text.now) ages)
+    sends kept.path.now kept.sync (map (λ t. t.now) tenants.items)
 IsTaskOf name rows (task.Serve workers age ages journal telling tenants) = FindServing name rows workers age
     (option_map (λ text. text.now) ages) (option_map (λ path. path.now) journal) telling (map (λ t. t.now) tenants.items)
 IsTaskOf name rows (task.Audit path) = FindAudit name rows path.now
 IsTaskOf name rows (task.Migrate path) = FindMigration name rows path.now
+
+-- the folder of data that was found, if one was: then there is no journal, and if none was there is no flag of it
+abbrev pub IsData : List Row → Option Data → Type 0
+IsData rows None = (first_of (codes "data") rows ≡ None) × (is_unsynced rows ≡ false)
+IsData rows (Some kept) = (Some kept.path.now ≡ first_of (codes "data") rows) × (kept.sync ≡ not (is_unsynced rows))
+    × (first_of (codes "journal") rows ≡ None)
 
 -- why what was found is no task
 abbrev pub IsNoTaskFor : Text → List Row → WordsFault → Type 0
@@ -324,8 +375,10 @@ IsNoTaskFor name rows (fault.Wrong text) = MakesNoTask name rows
 abbrev pub AskFor : List Text → Task → Type 0
 AskFor words (task.Steps age ages tenants) = AskForSteps words age (option_map (λ text. text.now) ages)
     (map (λ t. t.now) tenants.items)
-AskFor words (task.Answer age ages sends journal tenants) = AskForAnswering words age (option_map (λ text. text.now) ages) sends
+AskFor words (task.Answer age ages sends journal None tenants) = AskForAnswering words age (option_map (λ text. text.now) ages) sends
     (option_map (λ path. path.now) journal) (map (λ t. t.now) tenants.items)
+AskFor words (task.Answer age ages sends journal (Some kept) tenants) = AskForData words age (option_map (λ text. text.now) ages) sends
+    kept.path.now kept.sync (map (λ t. t.now) tenants.items)
 AskFor words (task.Serve workers age ages journal telling tenants) = AskForServing words workers age (option_map (λ text. text.now) ages)
     (option_map (λ path. path.now) journal) telling (map (λ t. t.now) tenants.items)
 AskFor words (task.Audit path) = AskForAudit words path.now
@@ -373,7 +426,7 @@ abbrev pub after_silo : List Text → List Text
 after_silo words = codes "silo" ∷ words
 
 -- The account tells words apart: each subcommand with and without its options, help, the version, no words, numbers out of their range,
--- and a word too few.
+-- options that don't go together, and a word too few.
 pub record TellsWordsApart : Type 0 where
   pub steps : AskForSteps (after_silo (codes "steps" ∷ codes "red:2:4" ∷ [])) 900000 None (codes "red:2:4" ∷ [])
   pub aged : AskForSteps (after_silo (codes "steps" ∷ codes "--age" ∷ codes "5" ∷ codes "--ages" ∷ codes "sheet=9"
@@ -382,6 +435,10 @@ pub record TellsWordsApart : Type 0 where
   pub undelivered : AskForAnswering (after_silo (codes "answer" ∷ codes "--sends" ∷ codes "0" ∷ codes "--journal" ∷ codes "day"
       ∷ codes "--ages" ∷ codes "sheet=9" ∷ codes "red:2:4" ∷ [])) 900000 (Some (codes "sheet=9")) 0 (Some (codes "day"))
       (codes "red:2:4" ∷ [])
+  pub keeping : AskForData (after_silo (codes "answer" ∷ codes "--data" ∷ codes "kept" ∷ codes "red:2:4" ∷ [])) 900000 None 1000
+      (codes "kept") true (codes "red:2:4" ∷ [])
+  pub unsynced : AskForData (after_silo (codes "answer" ∷ codes "--no-sync" ∷ codes "--data" ∷ codes "kept" ∷ codes "--sends" ∷ codes "0"
+      ∷ codes "red:2:4" ∷ [])) 900000 None 0 (codes "kept") false (codes "red:2:4" ∷ [])
   pub serving : AskForServing (after_silo (codes "serve" ∷ codes "red:2:4" ∷ [])) 4 900000 None None nothing_told (codes "red:2:4" ∷ [])
   pub journaled : AskForServing (after_silo (codes "serve" ∷ codes "--workers" ∷ codes "8" ∷ codes "--age" ∷ codes "5"
       ∷ codes "--ages" ∷ codes "sheet=9" ∷ codes "--journal" ∷ codes "day" ∷ codes "red:2:4" ∷ [])) 8 5 (Some (codes "sheet=9"))
@@ -409,6 +466,11 @@ pub record TellsWordsApart : Type 0 where
   pub too_many_deliveries : AreRefused (after_silo (codes "answer" ∷ codes "--sends" ∷ codes "1000001" ∷ codes "red:2:4" ∷ []))
   pub signed_deliveries : AskForNothing (after_silo (codes "answer" ∷ codes "--sends" ∷ codes "+5" ∷ codes "red:2:4" ∷ []))
   pub padded_deliveries : AskForNothing (after_silo (codes "answer" ∷ codes "--sends" ∷ codes "05" ∷ codes "red:2:4" ∷ []))
+  pub no_data : AskForNothing (after_silo (codes "answer" ∷ codes "--no-sync" ∷ codes "red:2:4" ∷ []))
+  pub data_and_journal : AskForNothing (after_silo (codes "answer" ∷ codes "--data" ∷ codes "kept" ∷ codes "--journal" ∷ codes "day"
+      ∷ codes "red:2:4" ∷ []))
+  pub data_twice : AreRefused (after_silo (codes "answer" ∷ codes "--data" ∷ codes "kept" ∷ codes "--data" ∷ codes "kept"
+      ∷ codes "red:2:4" ∷ []))
   pub no_tenant_to_answer : AreRefused (after_silo (codes "answer" ∷ []))
   pub no_tenant_to_serve : AreRefused (after_silo (codes "serve" ∷ []))
   pub no_path : AreRefused (after_silo (codes "audit" ∷ []))

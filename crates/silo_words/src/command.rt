@@ -4,8 +4,9 @@ ghost use Rattle.std.specs.Prelude.{◌≡◌, IfOk, false, true};
 ghost use Rattle.clap.specs.Words.{App, Rule, app_of, new_app, rule_of, with_rule, with_subcommand};
 ghost use Rattle.clap.specs.declared.builder.command.Command.TheViews.{out-Command as fields_of};
 ghost use Rattle.silo_words.specs.Commands.{IsApp, bare_app, flag_rule, text_rule};
-ghost use Rattle.silo_words.specs.Words.{age_rule, ages_rule, answer_app, audit_app, explain_rule, journal_rule, migrate_app, path_rule};
-ghost use Rattle.silo_words.specs.Words.{sends_rule, serve_app, silo_app, steps_app, summary_rule, tenants_rule, workers_rule};
+ghost use Rattle.silo_words.specs.Words.{age_rule, ages_rule, answer_app, audit_app, data_rule, explain_rule, journal_rule, migrate_app};
+ghost use Rattle.silo_words.specs.Words.{no_sync_rule, path_rule, sends_rule, serve_app, silo_app, steps_app, summary_rule, tenants_rule};
+ghost use Rattle.silo_words.specs.Words.{workers_rule};
 
 use clap::{Arg, ArgAction, Command, value_parser};
 use std::alloc::{AllocError, Global};
@@ -77,6 +78,22 @@ fn journal_option<'a>(alloc: Global) -> Arg<'a>
 {
     let help = "The file that the journal goes to, for `silo audit`";
     text_option(alloc, "journal", "PATH", help)
+}
+
+fn data_option<'a>(alloc: Global) -> Arg<'a>
+    ensures rule { rule_of result ≡ data_rule }
+    ensures local { result.global ≡ false }
+{
+    let help = "The folder that keeps what was answered, from one start to the next";
+    text_option(alloc, "data", "DIR", help)
+}
+
+fn no_sync_option<'a>(alloc: Global) -> Arg<'a>
+    ensures rule { rule_of result ≡ no_sync_rule }
+    ensures local { result.global ≡ false }
+{
+    let help = "Answers before the folder of data is on the disk";
+    flag_option(alloc, "no-sync", help)
 }
 
 fn explain_option<'a>(alloc: Global) -> Arg<'a>
@@ -169,6 +186,8 @@ fn answer_command<'a>(alloc: Global) -> Result<Command<'a>, AllocError>
     let command = with_ages(alloc, Ok(bare(alloc, "answer", about)));
     let command = with_arg(command, sends_option(alloc));
     let command = with_arg(command, journal_option(alloc));
+    let command = with_arg(command, data_option(alloc));
+    let command = with_arg(command, no_sync_option(alloc));
     with_arg(command, tenant_arguments(alloc))
 }
 

@@ -34,8 +34,9 @@ pub const SILO_EXAMPLE: &str = concat!(
 
 /// What stands at the end of help on `answer`.
 pub const ANSWER_EXAMPLE: &str = concat!(
-    "\nExit status: 0 after the last line; 1 if a stream, the journal or memory failed,\n",
-    "or there are too many lines; 2 if the words are refused.\n",
+    "\nExit status: 0 after the last line; 1 if a stream, the journal, the data or memory\n",
+    "failed, or there are too many lines; 2 if the words are refused, or the data have\n",
+    "other words; 4 if the data are refused.\n",
     "\nExample: a counter is asked to add 3, and answers.\n",
     r#"  echo '{"op":"call","from":"red/c1","id":1,"grain":"counter/red:a","method":"add","args":{"by":3}}' |"#,
     "\n  silo answer red:2:4\n"

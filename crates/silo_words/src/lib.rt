@@ -25,5 +25,5 @@ pub use fault::{
 };
 pub use laws::words_are_told_apart;
 pub use reading::read_words;
-pub use task::{Task, Telling};
+pub use task::{Data, Task, Telling};
 pub use tenants::{TenantsFault, read_tenants};

@@ -3,7 +3,7 @@
 ghost use Rattle.std.specs.Prelude.{◌≡◌, ◌↔◌, ℕ, List, IfOk, IfErr, IfSome, IfNone, IsTrue, Some, codes, map, option_map};
 ghost use Rattle.clap.specs.Words.{Row, Text, first_of, found_of, one_of, rows_of};
 ghost use Rattle.grain_id.specs.Names.{same_text};
-ghost use Rattle.silo_words.specs.Words.{IsAge, IsNoAge, IsNoSends, IsNoTaskFor, IsNoWorkers, IsNumber, IsPlain, IsSends, IsTaskOf};
+ghost use Rattle.silo_words.specs.Words.{IsAge, IsData, IsNoAge, IsNoSends, IsNoTaskFor, IsNoWorkers, IsNumber, IsPlain, IsSends, IsTaskOf};
 ghost use Rattle.silo_words.specs.Words.{IsTelling, IsWorkers, MakesNoTask, is_set, tenants_in};
 
 use crate::fault::WordsFault;
@@ -26,6 +26,12 @@ const DEFAULT_SENDS: u64 = 1_000;
 /// The most deliveries that may be asked for.
 const MAX_SENDS: u64 = 1_000_000;
 
+/// What is said if `--no-sync` stands without `--data`.
+const NO_DATA: &str = "error: '--no-sync' needs '--data <DIR>'\n";
+
+/// What is said if both stand there.
+const DATA_AND_JOURNAL: &str = "error: '--data <DIR>' and '--journal <PATH>' don't go together\n";
+
 /// What is told of an input that is served, beside its answers.
 #[derive(Clone, Copy, Debug, PartialEq, Eq)]
 pub struct Telling {
@@ -33,6 +39,15 @@ pub struct Telling {
     pub explain_lines: bool,
     /// How many lines, answers, refusals by code and steps there are.
     pub summary: bool,
+}
+
+/// Where what was answered is kept, across starts of the program.
+#[derive(Clone, Copy, Debug, PartialEq, Eq)]
+pub struct Data<'a> {
+    /// The folder, as it is written.
+    pub path: &'a str,
+    /// Whether replies wait until what they tell is on the disk.
+    pub sync: bool,
 }
 
 /// What the words ask for. Tenant arguments, ages of kinds and paths are as they are written.
@@ -46,12 +61,13 @@ pub enum Task<'a> {
     },
 
     /// Answer each line on standard input before the next is read, with so many deliveries behind it (0 to 1,000,000), and
-    /// write the journal if it has a path.
+    /// write the journal if it has a path, or keep what was answered if there is a folder of data: never both.
     Answer {
         age: Age,
         ages: Option<&'a str>,
         sends: u64,
         journal: Option<&'a str>,
+        data: Option<Data<'a>>,
         tenants: Vec<&'a str>,
     },
 
@@ -179,14 +195,47 @@ fn telling_of(found: &ArgMatches<'_>) -> Telling
     }
 }
 
+/// The words are wrong, as the text says.
+fn wrong(alloc: Global, text: &str) -> WordsFault
+    ensures { (name : Text) (rows : List Row) → MakesNoTask name rows → IsNoTaskFor name rows result }
+{
+    match String::from_str(alloc, text) {
+        Ok(text) => WordsFault::Wrong(text),
+        Err(_) => WordsFault::Memory,
+    }
+}
+
 /// `clap` refuses what makes no task before this does.
 fn no_task(alloc: Global) -> WordsFault
     ensures { (name : Text) (rows : List Row) → MakesNoTask name rows → IsNoTaskFor name rows result }
 {
-    match String::from_str(alloc, "error: the words are out of range\n") {
-        Ok(text) => WordsFault::Wrong(text),
-        Err(_) => WordsFault::Memory,
+    wrong(alloc, "error: the words are out of range\n")
+}
+
+/// The folder of data that was found, if one was.
+///
+/// # Errors
+///
+/// `Wrong` if a folder and a journal were found, or no folder and the flag of one. `clap` could refuse both too, but then its
+/// account of what it refuses isn't exact.
+fn data_of<'a>(alloc: Global, found: &ArgMatches<'a>) -> Result<Option<Data<'a>>, WordsFault>
+    ensures folder { IfOk result (λ folder. IsData (rows_of (found_of found.now)) folder) }
+    ensures fault { IfErr result (λ fault. IsNoTaskFor (codes "answer") (rows_of (found_of found.now)) fault) }
+{
+    let no_sync = is_set(found, "no-sync");
+    let Some(path) = text_of(found, "data") else {
+        if no_sync {
+            return Err(wrong(alloc, NO_DATA));
+        }
+        return Ok(None);
+    };
+    if text_of(found, "journal").is_some() {
+        return Err(wrong(alloc, DATA_AND_JOURNAL));
     }
+    Ok(Some(Data {
+        path,
+        sync: !no_sync,
+    }))
 }
 
 fn steps_task<'a>(alloc: Global, found: &ArgMatches<'a>) -> Result<Task<'a>, WordsFault>
@@ -219,6 +268,13 @@ fn answer_task<'a>(alloc: Global, found: &ArgMatches<'a>) -> Result<Task<'a>, Wo
     let Ok(tenants) = tenants_of(alloc, found) else {
         return Err(WordsFault::Memory);
     };
+    let folder = match data_of(alloc, found) {
+        Ok(folder) => folder,
+        Err(fault) => {
+            drop(tenants);
+            return Err(fault);
+        }
+    };
     let ages = text_of(found, "ages");
     let journal = text_of(found, "journal");
     Ok(Task::Answer {
@@ -226,6 +282,7 @@ fn answer_task<'a>(alloc: Global, found: &ArgMatches<'a>) -> Result<Task<'a>, Wo
         ages,
         sends,
         journal,
+        data: folder,
         tenants,
     })
 }

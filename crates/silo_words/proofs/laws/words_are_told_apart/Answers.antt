@@ -1,9 +1,9 @@
-use Rattle.std.proofs.Common.{◌≡◌, List, Some, refl, subst, inl, inr, rules, arith, codes}
+use Rattle.std.proofs.Common.{◌≡◌, List, None, Some, true, refl, subst, inl, inr, rules, arith, codes}
 use Rattle.clap.specs.Words.{Row, Text, first_of}
 use Rattle.clap.specs.declared.error.kind.ErrorKind.TheVariants.{ArgumentConflict}
 use Rattle.clap.specs.declared.error.kind.ErrorKind.TheVariants.{MissingSubcommand, MissingRequiredArgument, ValueValidation}
 use Rattle.clap.proofs.OnLiterals.{clap_on_literals}
-use Rattle.silo_words.specs.Words.{FindAnswering, IsAge, IsNumber, IsPlain, IsWorkers, MakesNoTask}
+use Rattle.silo_words.specs.Words.{FindAnswering, FindData, IsAge, IsNumber, IsPlain, IsWorkers, MakesNoTask, is_unsynced}
 use Rattle.silo_words.proofs.laws.words_are_told_apart.Goals as goal
 
 -- ---- numbers
@@ -23,6 +23,34 @@ not_plain rows text written never = record {
   steps = λ age ages tenants found. absurd (cc (found.command));
   answering = λ age ages sends journal tenants (found : FindAnswering (codes "answer") rows age ages sends journal tenants).
       never (subst IsPlain written found.behind.1);
+  keeping = λ age ages sends folder sync tenants (found : FindData (codes "answer") rows age ages sends folder sync tenants).
+      never (subst IsPlain written found.behind.1);
+  serving = λ workers age ages journal telling tenants found. absurd (cc (found.command));
+  audit = λ path found. absurd (cc (found.command));
+  migration = λ path found. absurd (cc (found.command));
+}
+
+-- a flag of a folder without the folder makes no task, nor a folder with a journal
+no_folder : (rows : List Row) → first_of (codes "data") rows ≡ None → is_unsynced rows ≡ true → MakesNoTask (codes "answer") rows
+no_folder rows none unsynced = record {
+  steps = λ age ages tenants found. absurd (cc (found.command));
+  answering = λ age ages sends journal tenants (found : FindAnswering (codes "answer") rows age ages sends journal tenants).
+      absurd (cc (unsynced, found.synced));
+  keeping = λ age ages sends folder sync tenants (found : FindData (codes "answer") rows age ages sends folder sync tenants).
+      absurd (cc (none, found.given));
+  serving = λ workers age ages journal telling tenants found. absurd (cc (found.command));
+  audit = λ path found. absurd (cc (found.command));
+  migration = λ path found. absurd (cc (found.command));
+}
+
+both : (rows : List Row) (folder path : Text) → first_of (codes "data") rows ≡ Some folder → first_of (codes "journal") rows ≡ Some path
+    → MakesNoTask (codes "answer") rows
+both rows folder path given kept = record {
+  steps = λ age ages tenants found. absurd (cc (found.command));
+  answering = λ age ages sends journal tenants (found : FindAnswering (codes "answer") rows age ages sends journal tenants).
+      absurd (cc (given, found.no_data));
+  keeping = λ age ages sends other sync tenants (found : FindData (codes "answer") rows age ages sends other sync tenants).
+      absurd (cc (kept, found.no_journal));
   serving = λ workers age ages journal telling tenants found. absurd (cc (found.command));
   audit = λ path found. absurd (cc (found.command));
   migration = λ path found. absurd (cc (found.command));
@@ -59,14 +87,46 @@ returns c = record {
     name = codes "answer";
     rows = _;
     is = refl;
-    found = record { command = refl; within = refl; aged = refl; behind = (refl, tt); kept = refl; named = refl };
+    found = record { command = refl; within = refl; aged = refl; behind = (refl, tt); kept = refl; named = refl; no_data = refl; synced = refl };
   };
   undelivered = record {
     taken = refl;
     name = codes "answer";
     rows = _;
     is = refl;
-    found = record { command = refl; within = refl; aged = refl; behind = (zero, inl refl); kept = refl; named = refl };
+    found = record { command = refl; within = refl; aged = refl; behind = (zero, inl refl); kept = refl; named = refl; no_data = refl; synced = refl };
+  };
+  keeping = record {
+    taken = refl;
+    name = codes "answer";
+    rows = _;
+    is = refl;
+    found = record {
+      command = refl;
+      within = refl;
+      aged = refl;
+      behind = (refl, tt);
+      given = refl;
+      synced = refl;
+      no_journal = refl;
+      named = refl;
+    };
+  };
+  unsynced = record {
+    taken = refl;
+    name = codes "answer";
+    rows = _;
+    is = refl;
+    found = record {
+      command = refl;
+      within = refl;
+      aged = refl;
+      behind = (zero, inl refl);
+      given = refl;
+      synced = refl;
+      no_journal = refl;
+      named = refl;
+    };
   };
   serving = record {
     taken = refl;
@@ -114,6 +174,9 @@ returns c = record {
   too_many_deliveries = (ValueValidation, (λ e. absurd cc), (λ e. absurd cc), inl refl);
   signed_deliveries = (refl, record { name = codes "answer"; rows = _; is = refl; none = not_plain _ (codes "+5") refl signed });
   padded_deliveries = (refl, record { name = codes "answer"; rows = _; is = refl; none = not_plain _ (codes "05") refl padded });
+  no_data = (refl, record { name = codes "answer"; rows = _; is = refl; none = no_folder _ refl refl });
+  data_and_journal = (refl, record { name = codes "answer"; rows = _; is = refl; none = both _ (codes "kept") (codes "day") refl refl });
+  data_twice = (ArgumentConflict, (λ e. absurd cc), (λ e. absurd cc), inl refl);
   no_tenant_to_answer = (MissingRequiredArgument, (λ e. absurd cc), (λ e. absurd cc), inl refl);
   no_tenant_to_serve = (MissingRequiredArgument, (λ e. absurd cc), (λ e. absurd cc), inl refl);
   no_path = (MissingRequiredArgument, (λ e. absurd cc), (λ e. absurd cc), inl refl);
