@@ -4,6 +4,7 @@ from __future__ import annotations
 
 import os
 import pathlib
+import statistics
 import subprocess
 import sys
 import time
@@ -15,6 +16,8 @@ from tests.gateways import Gateway, call
 TOOLS = pathlib.Path(__file__).resolve().parent
 # how long the flood runs before it is measured
 SECONDS_BEFORE = 0.5
+# answers of which the 99th of 100 says something
+LEAST = 200
 
 
 class Way(NamedTuple):
@@ -40,21 +43,39 @@ WAYS = (
 
 
 class Flooded(NamedTuple):
+    """What the other waited, in milliseconds: the middle, the 99th of 100 and the most by the clock, and the 99th of what program and gateway
+    worked meanwhile, which doesn't count what other programs of this machine do. Then the flood's lines a second, and bytes of memory."""
+
     name: str
     middle: float
     late: float
     worst: float
+    work: float
     rate: float
     program: int
     gateway: int
 
     def row(self) -> str:
-        return (f"| {self.name} | {self.middle:.2f} | {self.late:.2f} | {self.worst:.1f} | {self.rate:,.0f} | {self.program >> 20:,} | "
-                f"{self.gateway >> 20:,} |")  # fmt: skip
+        return (f"| {self.name} | {self.middle:.2f} | {self.late:.2f} | {self.worst:.1f} | {self.work:.2f} | {self.rate:,.0f} | "
+                f"{self.program >> 20:,} | {self.gateway >> 20:,} |")  # fmt: skip
+
+
+HEAD = ("| one tenant | the other: p50 ms | p99 ms | worst | p99 of the work | flood's lines a second | program MiB | gateway MiB |\n"
+        "|---|---|---|---|---|---|---|---|")  # fmt: skip
 
 
 def resident(number: int) -> int:
     return int(pathlib.Path(f"/proc/{number}/statm").read_text().split()[1]) * os.sysconf("SC_PAGE_SIZE")
+
+
+def worked(number: int) -> float:
+    """How many seconds a process has had a processor, by Linux's clock of it."""
+    return time.clock_gettime(~number << 3 | 2)
+
+
+def late(values: List[float]) -> float:
+    """The 99th of 100 of them, which are seconds, in milliseconds."""
+    return 1000 * sorted(values)[len(values) * 99 // 100]
 
 
 def flooded(way: Way, seconds: float) -> Flooded:
@@ -70,21 +91,23 @@ def flooded(way: Way, seconds: float) -> Flooded:
         time.sleep(SECONDS_BEFORE)
         before = gateway.figure('silo_requests_total{tenant="red"}')
         times: List[float] = []
+        works: List[float] = []
+        numbers = (gateway.program(), gateway.process.pid)
         with gateway.connect("blue") as wire:
             begun = time.monotonic()
-            while time.monotonic() < begun + seconds:
-                asked = time.perf_counter()
+            while time.monotonic() < begun + seconds or len(times) < LEAST:
+                had_worked, asked = sum(map(worked, numbers)), time.perf_counter()
                 said = wire.ask(call(1, "blue/web", "counter/blue:a"))
                 times.append(time.perf_counter() - asked)
+                works.append(sum(map(worked, numbers)) - had_worked)
                 if "ok" not in said:
                     raise AssertionError(said)
             took = time.monotonic() - begun
         rate = (gateway.figure('silo_requests_total{tenant="red"}') - before) / took
-        kept = (resident(gateway.program()), resident(gateway.process.pid))
+        kept = [resident(number) for number in numbers]
     finally:
         for process in flooding:
             process.kill()
             process.wait()
         gateway.close()
-    ordered = sorted(1000 * it for it in times)
-    return Flooded(way.name, ordered[len(ordered) // 2], ordered[len(ordered) * 99 // 100], ordered[-1], rate, *kept)
+    return Flooded(way.name, 1000 * statistics.median(times), late(times), 1000 * max(times), late(works), rate, *kept)

@@ -61,6 +61,12 @@ def make(program: str, out: pathlib.Path, mask: int = 0o022) -> List[pathlib.Pat
     return [pathlib.Path(line) for line in ran.stdout.splitlines()]
 
 
+def refused(program: str, out: pathlib.Path) -> str:
+    """The one line that says why nothing can be made."""
+    ran = subprocess.run([str(TOOLS / "package"), program, os.fspath(out)], capture_output=True, text=True, stdin=subprocess.DEVNULL, check=False)
+    return ran.stderr if (ran.returncode, ran.stdout, ran.stderr.count("\n")) == (1, "", 1) else ""
+
+
 def used(folder: str, program: str) -> str:
     """What a counter of the program answers by the client of that folder; or what went wrong."""
     words = [sys.executable, "-I", "-B", "-W", "error", "-c", USE, folder, program]

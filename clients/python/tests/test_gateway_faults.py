@@ -34,7 +34,7 @@ UNNUMBERED = ({"error": 10, "text": "line is not a request"}, {"error": 11, "tex
 # bytes that a gateway may have in memory, whatever is tried
 MOST_RESIDENT = 150 * 2**20
 
-# answers each line of a request as the silo does where there is no such kind, a millisecond each, and keeps who asked
+# answers each line of a request as the silo does where there is no such kind, works a millisecond on each, and keeps who asked
 ONE_BY_ONE = """import json
 log = open("asked.log", "ab", buffering=0)
 while True:
@@ -45,7 +45,8 @@ while True:
         continue
     said = json.loads(line)
     if "from" not in said: continue
-    time.sleep(0.001)
+    until = time.process_time() + 0.001
+    while time.process_time() < until: pass
     log.write(said["from"].encode() + b"\\n")
     write(b'{"error":22,"from":"%b","id":%d,"text":"kind x is unknown"}\\n' % (said["from"].encode(), said["id"]))
 """

@@ -4,6 +4,7 @@ from __future__ import annotations
 
 import json
 import random
+import time
 import unittest
 from typing import Any, Callable, List
 from unittest import mock
@@ -13,7 +14,7 @@ from silo.gateway.asked import read_line
 from silo.gateway.desk import Desk
 from silo.gateway.figures import Histogram, Page
 from silo.gateway.guest import Guest
-from silo.gateway.lane import Lane
+from silo.gateway.lane import HALF_LIFE, Lane
 from silo.gateway.pieces import Pieces
 from silo.gateway.replied import read_reply
 from silo.lines import StrangeReply
@@ -114,7 +115,9 @@ class Turns(unittest.TestCase):
         self.lanes = {name: Lane(name, name, 10_000, 10**9) for name in ("red", "blue", "")}
         self.desk = Desk([*self.lanes.values()], Lane("own", "", 10, 10), self.later.append)
         self.written: List[bytes] = []
-        self.desk.open(lambda data: self.written.extend(data.splitlines()))
+        # how long the program has worked
+        self.worked = 0.0
+        self.desk.open(lambda data: self.written.extend(data.splitlines()), lambda: self.worked)
 
     def test_tenants_and_connections_take_turns(self) -> None:
         red = [Kept(self.desk, self.lanes["red"]) for _ in range(2)]
@@ -123,7 +126,7 @@ class Turns(unittest.TestCase):
             guest.take(b"".join(echo(number, "r") for number in range(100)))
         blue = Kept(self.desk, self.lanes["blue"])
         blue.take(echo(1, "b", "blue/web") + echo(2, "b", "blue/web"))
-        self.desk.open(lambda data: self.written.extend(data.splitlines()))
+        self.desk.open(lambda data: self.written.extend(data.splitlines()), lambda: self.worked)
         self.desk.fill()
         tenants = [json.loads(line)["from"].partition("/")[0] for line in self.written]
         self.assertEqual(tenants[:5], ["red", "blue", "red", "blue", "red"])
@@ -134,12 +137,32 @@ class Turns(unittest.TestCase):
     def test_who_takes_long_is_given_less_at_once(self) -> None:
         guest = Kept(self.desk, self.lanes["red"])
         guest.take(b"".join(echo(number, "r") for number in range(1_000)))
-        for _ in range(200):
+        self.assertEqual(self.lanes["red"].written, 64)
+        self.answer(64, 0.004)
+        self.assertEqual(self.lanes["red"].written, 1)
+        # nor do lines that take little hide that, but time does
+        self.answer(100, 0.0)
+        self.assertEqual(self.lanes["red"].written, 1)
+        later = time.monotonic() + 9 * HALF_LIFE
+        with mock.patch("silo.gateway.desk.time.monotonic", lambda: later):
+            self.answer(1, 0.0)
+            self.assertEqual(self.lanes["red"].written, 64)
+        self.assertEqual([said["id"] for said in guest.heard], [*range(165)])
+
+    def test_waiting_for_a_disk_is_no_work(self) -> None:
+        guest = Kept(self.desk, self.lanes["red"])
+        guest.take(b"".join(echo(number, "r") for number in range(1_000)))
+        for _ in range(100):
+            self.desk.moved_at -= 0.01
+            self.answer(1, 0.0)
+        self.assertEqual(self.lanes["red"].written, 64)
+
+    def answer(self, count: int, seconds: float) -> None:
+        """The program answers so many of red's lines, and works so long on each."""
+        for _ in range(count):
             said = json.loads(self.written.pop(0))
-            self.desk.moved_at -= 0.004
+            self.worked += seconds
             self.desk.feed(b'{"error":22,"from":"red/web","id":%d,"text":"x"}\n' % said["id"])
-        self.assertLessEqual(self.lanes["red"].written, 1)
-        self.assertEqual([said["id"] for said in guest.heard], [*range(200)])
 
     def test_lines_that_take_long_to_read_hold_nobody_up(self) -> None:
         guest = Kept(self.desk, self.lanes["red"])
@@ -185,7 +208,7 @@ class Turns(unittest.TestCase):
         guest.take(call(4))
         self.assertEqual(len(guest.heard), 3)
         self.written.clear()
-        self.desk.open(lambda data: self.written.extend(data.splitlines()))
+        self.desk.open(lambda data: self.written.extend(data.splitlines()), lambda: self.worked)
         self.desk.fill()
         self.assertEqual(len(self.written), 1)
 

@@ -64,14 +64,17 @@ class Desk:
         self._to_flush: Set[Asker] = set()
         # writes to the program; none while it doesn't run
         self._write: Optional[Callable[[bytes], None]] = None
+        # how long the program has worked, and had when it last answered
+        self._worked: Callable[[], float] = time.monotonic
+        self._had_worked = 0.0
         # when the program last answered, or was last given a line while none was under way
         self.moved_at = time.monotonic()
 
     # ---- the program
 
-    def open(self, write: Callable[[bytes], None]) -> None:
-        """The program runs."""
-        self._write = write
+    def open(self, write: Callable[[bytes], None], worked: Callable[[], float]) -> None:
+        """The program runs, and tells how many seconds it has worked: how long it waits for a processor or a disk says nothing of a line."""
+        self._write, self._worked, self._had_worked = write, worked, worked()
         self.moved_at = time.monotonic()
 
     def lose(self) -> None:
@@ -178,8 +181,9 @@ class Desk:
             return
         lines = b"".join([*self._torn, data[:end]]).split(b"\n")
         self._torn = [data[end + 1 :]]
-        now = time.monotonic()
-        seconds, self.moved_at = (now - self.moved_at) / len(lines), now
+        self.moved_at = now = time.monotonic()
+        worked = self._worked()
+        seconds, self._had_worked = (worked - self._had_worked) / len(lines), worked
         try:
             for line in lines:
                 self._take(line, now, seconds)
@@ -203,7 +207,7 @@ class Desk:
         self._hand(asked.asker, self._answer(asked, reply, line))
         self._asked.popleft()
         self._last = asked
-        asked.lane.weigh(seconds, len(line))
+        asked.lane.weigh(seconds, len(line), now)
         if asked.line.caller:
             asked.lane.latency.note(now - asked.since)
         self._let_go(asked)

@@ -30,6 +30,9 @@ class Life(asyncio.Protocol):
         self._reading: Optional[asyncio.BaseTransport] = None
         self.over: asyncio.Future[Tuple[int, str]] = self._loop.create_future()
         self.number = self._process.number
+        # Linux's name for the clock of that process's work
+        self._clock_of_work = ~self.number << 3 | 2
+        self._worked = 0.0
 
     async def begin(self) -> None:
         self._reading, _ = await self._loop.connect_read_pipe(lambda: self, self._process.reading)
@@ -38,6 +41,15 @@ class Life(asyncio.Protocol):
     def write(self, lines: bytes) -> None:
         if self._writing is not None and not self._writing.is_closing():
             self._writing.write(lines)
+
+    def worked(self) -> float:
+        """For how many seconds the program has had a processor; once it has ended, for how many it was last said to."""
+        try:
+            self._worked = time.clock_gettime(self._clock_of_work)
+        except (OSError, AttributeError):
+            # it has ended, or this system doesn't tell: then no line is taken to be dear
+            pass
+        return self._worked
 
     def end(self) -> None:
         """Ends the program's input, so that it ends in order."""
@@ -122,7 +134,7 @@ class Keeper:
         await life.begin()
         self.number = life.number
         tell("info", f"the program runs: process {life.number}")
-        self._desk.open(life.write)
+        self._desk.open(life.write, life.worked)
         self._on_begin()
         self._desk.fill()
         status = await life.over

@@ -3,6 +3,7 @@
 from __future__ import annotations
 
 import collections
+import time
 from typing import Deque, Dict, Optional, Set
 
 from silo.gateway.figures import Histogram
@@ -10,11 +11,11 @@ from silo.gateway.guest import Guest
 
 # how many lines of a tenant the program is given before it has answered them, at most
 MOST_WRITTEN = 64
-# and how much they may be, by what the tenant's last lines took: so long, and so many bytes of replies
+# and how much they may be, by what the tenant's dearest line of late took: so long, and so many bytes of replies
 BUDGET_SECONDS = 0.002
 BUDGET_BYTES = 1_048_576
-# how much of the mean of that the last line is
-SHARE_OF_LAST = 0.1
+# in how long a dear line counts for half as much: long, or else lines that cost little between bursts of dear ones would hide these
+HALF_LIFE = 2.0
 
 
 class Lane:
@@ -31,8 +32,8 @@ class Lane:
         self.is_in_turn = False
         # lines and bytes that were read and aren't answered yet; those lines that the program was given
         self.held = self.held_bytes = self.written = 0
-        # as how much of the budget the next line counts
-        self.weight = 1 / MOST_WRITTEN
+        # as how much of the budget the next line counts, and since when
+        self.weight, self._weighed_at = 1 / MOST_WRITTEN, time.monotonic()
         self.requests = self.told = self.lost = 0
         self.refusals: Dict[str, int] = collections.Counter()
         self.latency = Histogram()
@@ -81,7 +82,8 @@ class Lane:
     def stop(self, guest: Guest) -> None:
         self._stopped[guest] = None
 
-    def weigh(self, seconds: float, length: int) -> None:
+    def weigh(self, seconds: float, length: int, now: float) -> None:
         """A line took so long, and its reply is so long."""
         weight = max(seconds / BUDGET_SECONDS, length / BUDGET_BYTES, 1e-6)
-        self.weight += (weight - self.weight) * SHARE_OF_LAST
+        self.weight = max(weight, self.weight * 0.5 ** ((now - self._weighed_at) / HALF_LIFE))
+        self._weighed_at = now
