@@ -325,6 +325,30 @@ class Programs(Case, unittest.IsolatedAsyncioTestCase):
             self.assertEqual(await asyncio.wait_for(running[0], SECONDS), 0)
             running[1].cancel()
 
+    async def test_one_with_data_has_more_time_for_its_first_answer(self) -> None:
+        lane = Lane("red", "red", 10, 10**6)
+        desk = Desk([lane], Lane("own", "", 10, 10**6), asyncio.get_running_loop().call_soon)
+        reply = "write(b'{\"from\":\"red/web\",\"id\":1,\"ok\":1}\\n')"
+        keeper = Keeper([self.stub(f"read()\ntime.sleep(1)\n{reply}\nwhile read(): pass"), "--data", "d"], desk, lambda: None)
+        guest = Kept(desk, lane)
+        with mock.patch("silo.gateway.keeper.MOST_SECONDS_DEAF", 0.2), mock.patch("silo.gateway.keeper.tell"):
+            running = [asyncio.ensure_future(it) for it in (keeper.run(), keeper.watch())]
+            while keeper.number is None:
+                await asyncio.sleep(0.01)
+            guest.take(call(3))
+            while not guest.heard:
+                await asyncio.sleep(0.01)
+            # it is late with the second one
+            guest.take(call(4))
+            while len(guest.heard) < 2:
+                await asyncio.sleep(0.01)
+            self.assertEqual([said.get("error") for said in guest.heard], [None, 90])
+            while keeper.number is None:
+                await asyncio.sleep(0.01)
+            keeper.end()
+            self.assertIn(await asyncio.wait_for(running[0], SECONDS), (0, -9))
+            running[1].cancel()
+
 
 class Kills(Gateways):
     def test_of_a_program_with_data(self) -> None:
