@@ -27,6 +27,8 @@ from .test_gateway_lines import Kept
 
 # how many connections are tried that do what they shouldn't, and how many of them at once
 FUZZED, AT_ONCE = 3_000, 40
+# how often the other tenant asks at least beside one that floods
+LEAST_TURNS = 15
 # a line that red may not ask
 OTHERS = call(1, "blue/web", "counter/blue:a")
 # what lines without a number are told
@@ -83,7 +85,8 @@ class Steady(threading.Thread):
 
     def run(self) -> None:
         number = 0
-        while not self.is_over:
+        # one thing at least, however late it begins
+        while not self.is_over or number == 0:
             number += 1
             word = f"{self._word}{number}"
             begun = time.monotonic()
@@ -249,7 +252,7 @@ class Floods(Gateways):
         time.sleep(0.5)
         begun, times = time.monotonic(), []
         wire = self.wire(gateway, "blue")
-        while time.monotonic() < begun + 2.0:
+        while time.monotonic() < begun + 2.0 or len(times) < LEAST_TURNS:
             asked = time.monotonic()
             self.assertEqual(wire.ask(echo(1, "x", "blue/web"))["from"], "blue/web")
             times.append(time.monotonic() - asked)
@@ -257,7 +260,6 @@ class Floods(Gateways):
         self.end_at_once(gateway, threads)
         asked_by = (pathlib.Path(gateway.folder).parent / "asked.log").read_text().split()
         between = [len(part.split()) for part in " ".join(asked_by).split("blue/web")[1:-1]]
-        self.assertGreater(len(between), 10)
         # a line takes a millisecond, so red has one or two of them under way at once
         self.assertLessEqual(statistics.median(between), 6, between)
         self.assertLess(statistics.median(times), 0.5)
@@ -295,7 +297,7 @@ class Floods(Gateways):
         self.deaf(gateway, 15)
         for number in range(50):
             self.assertEqual(first.ask(echo(number, "d")), echoed(number, "d"))
-        self.assertIn("a connection of red reads no replies, and is cut off", gateway.told())
+        gateway.wait_for("a connection of red reads no replies, and is cut off")
 
     def deaf(self, gateway: Gateway, count: int) -> List[Wire]:
         """So many connections that ask, and read no reply."""
