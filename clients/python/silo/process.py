@@ -34,8 +34,8 @@ def answer_words(
     ages: Optional[Mapping[str, int]],
     sends: Optional[int],
     journal: Optional[Path],
-    data: Optional[Path],
-    sync: bool,
+    data: Optional[Path] = None,
+    sync: bool = True,
 ) -> List[str]:
     """The command line of `silo answer`; a ValueError if the program would refuse it."""
     check_tenants(tenants)

@@ -4,8 +4,10 @@ from __future__ import annotations
 
 import os
 import pathlib
+import signal
 import sys
 import tempfile
+import time
 import unittest
 from typing import Any, Callable, List, Tuple
 
@@ -55,6 +57,14 @@ class Red(Case):
         self.told: List[Tuple[str, Any]] = []
         self.silo = self.started("red:4:4", "blue:1:1", on_told=lambda grain, outcome: self.told.append((grain, outcome)))
         self.web = self.silo.client(WEB)
+
+
+def stop(number: int) -> None:
+    """Stops a process by a signal, and waits until it does nothing more."""
+    os.kill(number, signal.SIGSTOP)
+    # its state is told behind its name, which may have any sign in it
+    while pathlib.Path(f"/proc/{number}/stat").read_text().rpartition(")")[2].split()[0] != "T":
+        time.sleep(0.001)
 
 
 def settled(it: Callable[[], object]) -> object:

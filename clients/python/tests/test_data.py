@@ -6,7 +6,6 @@ import asyncio
 import fcntl
 import os
 import pathlib
-import signal
 import tempfile
 import threading
 from typing import Any, List
@@ -15,7 +14,7 @@ from silo import Silo, SiloEnded, aio
 from silo.process import BYTES_OF_WIDE_PIPE
 
 from . import beside
-from .beside import COUNTER, SECONDS, WEB, Case, settled
+from .beside import COUNTER, SECONDS, WEB, Case, settled, stop
 from .test_aio import Loop
 
 F_GETPIPE_SZ = 1032
@@ -62,7 +61,7 @@ class Kept(Data):
     def test_what_is_under_way_is_not_known(self) -> None:
         silo = self.lasting()
         self.add(silo)
-        os.kill(silo._connection.carrier.number, signal.SIGSTOP)  # type: ignore[attr-defined]
+        stop(silo._connection.carrier.number)  # type: ignore[attr-defined]
         asked = [silo.ask(WEB, "call", grain=COUNTER, method="add", args={"by": 1}) for _ in range(100)]
         silo._connection.carrier.kill()
         found = [settled(it.result) for it in asked]
@@ -222,7 +221,7 @@ class Tasks(Loop, Data):
         silo = await self.lasting_by_tasks()
         counter = silo.client(WEB).grain(COUNTER)
         await counter.add(by=1)
-        os.kill(silo._started.carrier.number, signal.SIGSTOP)  # type: ignore[union-attr]
+        stop(silo._started.carrier.number)  # type: ignore[union-attr]
         asked = [asyncio.ensure_future(counter.add(by=1)) for _ in range(20)]
         await asyncio.sleep(0)
         silo._started.carrier.kill()

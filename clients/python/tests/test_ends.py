@@ -15,7 +15,7 @@ from unittest import mock
 from silo import Silo, SiloEnded, SiloTimeout
 
 from . import beside
-from .beside import COUNTER, SECONDS, WEB, Case, settled
+from .beside import COUNTER, SECONDS, WEB, Case, settled, stop
 
 # replies to the first request of red/web, or to a fence, that no silo gives
 STRANGE = (
@@ -56,7 +56,10 @@ class Ends(Case):
 
     def test_what_is_asked_behind_it(self) -> None:
         """Nothing is asked of a silo that was closed, and that is known."""
-        silo = self.started(program=self.stub("read()\ntime.sleep(0.3)"))
+        folder = tempfile.TemporaryDirectory()
+        self.addCleanup(folder.cleanup)
+        over = pathlib.Path(folder.name) / "over"
+        silo = self.started(program=self.stub(f"while not os.path.exists({os.fspath(over)!r}): time.sleep(0.01)"))
         asked = silo.ask(WEB, "status")
         closing = threading.Thread(target=silo.close)
         closing.start()
@@ -66,17 +69,18 @@ class Ends(Case):
             with self.assertRaisesRegex(SiloEnded, "it was closed") as found:
                 ask()
             self.assertFalse(found.exception.under_way)
+        over.touch()
         closing.join()
         self.assertIsInstance(asked.exception(), SiloEnded)
 
     def test_of_the_interpreter(self) -> None:
-        """What was asked is answered, also if nobody closes the silo."""
+        """What was asked, which is more than a pipe takes, is answered, also if nobody closes the silo."""
         code = """if True:
             import sys
             from silo import Silo
             silo = Silo("red:2:4", program=sys.argv[1], journal=sys.argv[2])
-            for _ in range(1_000):
-                silo.ask("red/web", "call", grain="counter/red:a", method="add", args={"by": 1})"""
+            for _ in range(40):
+                silo.ask("red/web", "call", grain="sheet/red:a", method="put", args={"name": "k", "value": "x" * 4_000})"""
         with tempfile.TemporaryDirectory() as folder:
             journal = pathlib.Path(folder) / "journal"
             words = [sys.executable, "-c", code, beside.program, os.fspath(journal)]
@@ -85,10 +89,10 @@ class Ends(Case):
             until = time.monotonic() + SECONDS
             # the journal of no step may stand there at first
             told = ""
-            while told.count("\ncall ") < 1_000 and time.monotonic() < until:
+            while told.count("\ncall ") < 40 and time.monotonic() < until:
                 time.sleep(0.02)
                 told = journal.read_text(encoding="utf-8") if journal.exists() else ""
-            self.assertEqual(told.count("\ncall "), 1_000)
+            self.assertEqual(told.count("\ncall "), 40)
 
     def test_of_a_process_that_is_killed(self) -> None:
         silo = self.started()
@@ -103,6 +107,9 @@ class Ends(Case):
             silo.call(WEB, "sheet/red:s", "put", {"name": "k", "value": "x" * 60_000})
             asked = [silo.ask(WEB, "call", grain="sheet/red:s", method="get", args={"name": "k"}) for _ in range(300)]
             time.sleep(wait)
+            # however many were answered, some are not
+            stop(silo._connection.carrier.number)  # type: ignore[attr-defined]
+            asked += [silo.ask(WEB, "status") for _ in range(5)]
             silo._connection.carrier.kill()
             found = [settled(it.result) for it in asked]
             self.assertEqual({type(it) for it in found} - {str}, {SiloEnded})

@@ -317,7 +317,7 @@ class Ends(Gateways):
     def test_twice(self) -> None:
         gateway = self.gateway(program=self.stub("while read(): pass"))
         self.wire(gateway).say(echo(1, "x"))
-        time.sleep(0.2)
+        soon(lambda: gateway.figure('silo_under_way{tenant="red"}') == 1)
         gateway.process.send_signal(signal.SIGTERM)
         gateway.wait_for("is asked to end")
         self.assertNotEqual(gateway.end(), 0)

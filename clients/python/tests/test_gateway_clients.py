@@ -17,7 +17,7 @@ from typing import Any, List, Tuple
 from silo import Counter, Silo, SiloEnded, SiloError, SiloTimeout, aio
 
 from .beside import CLIENT, COUNTER, ROOT, SECONDS, WEB, settled
-from .gateways import Gateway, Gateways
+from .gateways import Gateway, Gateways, soon
 from .test_aio import Loop
 
 TOKEN = "a token of red's own"
@@ -149,7 +149,8 @@ class Ends(Gateways):
         gateway = self.gateway()
         silo = Silo.connect(gateway.address(), timeout=SECONDS)
         asked = [silo.ask(WEB, "call", grain=COUNTER, method="add", args={"by": 1}) for _ in range(300)]
-        asked[0].result()
+        # all have been read by the gateway: some of them may be answered, and are counted first
+        soon(lambda: gateway.figure('silo_latency_seconds_count{tenant="red"}') + gateway.figure('silo_held{tenant="red"}') == 300)
         self.assertEqual(gateway.end(), 0)
         found = [settled(it.result) for it in asked]
         self.assertEqual(found, [*range(1, 301)])

@@ -27,6 +27,8 @@ from .test_gateway_lines import Kept
 
 # how many connections are tried that do what they shouldn't, and how many of them at once
 FUZZED, AT_ONCE = 3_000, 40
+# how often the other tenant asks at least beside one that floods
+LEAST_TURNS = 15
 # a line that red may not ask
 OTHERS = call(1, "blue/web", "counter/blue:a")
 # what lines without a number are told
@@ -84,7 +86,8 @@ class Steady(threading.Thread):
 
     def run(self) -> None:
         number = 0
-        while not self.is_over:
+        # one thing at least, however late it begins
+        while not self.is_over or number == 0:
             number += 1
             word = f"{self._word}{number}"
             begun = time.monotonic()
@@ -250,7 +253,7 @@ class Floods(Gateways):
         time.sleep(0.5)
         begun, times = time.monotonic(), []
         wire = self.wire(gateway, "blue")
-        while time.monotonic() < begun + 2.0:
+        while time.monotonic() < begun + 2.0 or len(times) < LEAST_TURNS:
             asked = time.monotonic()
             self.assertEqual(wire.ask(echo(1, "x", "blue/web"))["from"], "blue/web")
             times.append(time.monotonic() - asked)
@@ -258,7 +261,6 @@ class Floods(Gateways):
         self.end_at_once(gateway, threads)
         asked_by = (pathlib.Path(gateway.folder).parent / "asked.log").read_text().split()
         between = [len(part.split()) for part in " ".join(asked_by).split("blue/web")[1:-1]]
-        self.assertGreater(len(between), 10)
         # a line takes a millisecond, so red has one or two of them under way at once
         self.assertLessEqual(statistics.median(between), 6, between)
         self.assertLess(statistics.median(times), 0.5)
@@ -296,7 +298,7 @@ class Floods(Gateways):
         self.deaf(gateway, 15)
         for number in range(50):
             self.assertEqual(first.ask(echo(number, "d")), echoed(number, "d"))
-        self.assertIn("a connection of red reads no replies, and is cut off", gateway.told())
+        gateway.wait_for("a connection of red reads no replies, and is cut off")
 
     def deaf(self, gateway: Gateway, count: int) -> List[Wire]:
         """So many connections that ask, and read no reply."""
@@ -324,6 +326,30 @@ class Programs(Case, unittest.IsolatedAsyncioTestCase):
             self.assertTrue(any("owes an answer" in told.args[1] for told in tell.mock_calls))
             keeper.end()
             self.assertEqual(await asyncio.wait_for(running[0], SECONDS), 0)
+            running[1].cancel()
+
+    async def test_one_with_data_has_more_time_for_its_first_answer(self) -> None:
+        lane = Lane("red", "red", 10, 10**6)
+        desk = Desk([lane], Lane("own", "", 10, 10**6), asyncio.get_running_loop().call_soon)
+        reply = "write(b'{\"from\":\"red/web\",\"id\":1,\"ok\":1}\\n')"
+        keeper = Keeper([self.stub(f"read()\ntime.sleep(1)\n{reply}\nwhile read(): pass"), "--data", "d"], desk, lambda: None)
+        guest = Kept(desk, lane)
+        with mock.patch("silo.gateway.keeper.MOST_SECONDS_DEAF", 0.2), mock.patch("silo.gateway.keeper.tell"):
+            running = [asyncio.ensure_future(it) for it in (keeper.run(), keeper.watch())]
+            while keeper.number is None:
+                await asyncio.sleep(0.01)
+            guest.take(call(3))
+            while not guest.heard:
+                await asyncio.sleep(0.01)
+            # it is late with the second one
+            guest.take(call(4))
+            while len(guest.heard) < 2:
+                await asyncio.sleep(0.01)
+            self.assertEqual([said.get("error") for said in guest.heard], [None, 90])
+            while keeper.number is None:
+                await asyncio.sleep(0.01)
+            keeper.end()
+            self.assertIn(await asyncio.wait_for(running[0], SECONDS), (0, -9))
             running[1].cancel()
 
 

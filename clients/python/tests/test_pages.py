@@ -42,8 +42,9 @@ class Pages(unittest.TestCase):
 
     def test_the_examples(self) -> None:
         self.assertEqual(self.told_by_example(0), b"3\n7\n40: tenant red may not call a grain of tenant blue\n")
-        self.assertEqual(self.told_by_example(1), b"2\n0\n")
-        self.assertEqual(self.told_by_example(2), b"[1, 2, 3]\n")
+        self.assertEqual(self.told_by_example(1), b"3\n6\n")
+        self.assertEqual(self.told_by_example(2), b"2\n0\n")
+        self.assertEqual(self.told_by_example(3), b"[1, 2, 3]\n")
 
     def test_the_first_program(self) -> None:
         page = (ROOT / "README.md").read_text(encoding="utf-8")

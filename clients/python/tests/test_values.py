@@ -4,6 +4,7 @@ from __future__ import annotations
 
 import enum
 import math
+import pathlib
 import unittest
 from collections import OrderedDict
 from typing import Any
@@ -75,6 +76,8 @@ class Names(unittest.TestCase):
 
     def test_of_the_command_line(self) -> None:
         self.assertEqual(answer_words("silo", ["red:1:1"], None, None, None, None), ["silo", "answer", "--", "red:1:1"])
+        lasting = answer_words("silo", ["red:1:1"], None, None, None, None, pathlib.Path("d"), False)
+        self.assertEqual(lasting, ["silo", "answer", "--data", "d", "--no-sync", "--", "red:1:1"])
         words = answer_words("silo", ["red:1:1"], 5, {"counter": 7, "sheet": 8}, 0, "j")
         self.assertEqual(words, ["silo", "answer", "--age", "5", "--ages", "counter=7,sheet=8", "--sends", "0", "--journal", "j", "--", "red:1:1"])
         self.assertEqual((ages_text(None), ages_text({})), (None, None))

@@ -12,6 +12,8 @@ from silo.process import Process
 
 # how long a program may owe an answer before it is killed
 MOST_SECONDS_DEAF = 60.0
+# the same of the first answer of one with data: it answers all of its log again before
+MOST_SECONDS_TO_BEGIN = 3_600.0
 # a program that lived for less is started again only after a while, which grows
 SECONDS_OF_A_LIFE = 1.0
 FIRST_PAUSE, MOST_PAUSE = 0.05, 5.0
@@ -25,7 +27,9 @@ class Life(asyncio.Protocol):
     def __init__(self, words: List[str], desk: Desk) -> None:
         self._desk = desk
         self._loop = asyncio.get_running_loop()
-        self._process = Process(words, is_wide="--data" in words)
+        self.has_data = "--data" in words
+        self.has_answered = False
+        self._process = Process(words, is_wide=self.has_data)
         self._writing: Optional[asyncio.WriteTransport] = None
         self._reading: Optional[asyncio.BaseTransport] = None
         self.over: asyncio.Future[Tuple[int, str]] = self._loop.create_future()
@@ -60,7 +64,12 @@ class Life(asyncio.Protocol):
         if not self.over.done():
             self._process.kill()
 
+    @property
+    def most_seconds_deaf(self) -> float:
+        return MOST_SECONDS_TO_BEGIN if self.has_data and not self.has_answered else MOST_SECONDS_DEAF
+
     def data_received(self, data: bytes) -> None:
+        self.has_answered = True
         try:
             self._desk.feed(data)
         except Exception as strange:
@@ -120,8 +129,9 @@ class Keeper:
         """Kills a program that owes an answer for too long. Until it is cancelled."""
         while True:
             await asyncio.sleep(MOST_SECONDS_DEAF / 20)
-            if self._desk.is_waiting and time.monotonic() - self._desk.moved_at > MOST_SECONDS_DEAF:
-                tell("error", f"the program owes an answer for {MOST_SECONDS_DEAF:g} s, so it is killed")
+            most = self._life.most_seconds_deaf if self._life is not None else MOST_SECONDS_DEAF
+            if self._desk.is_waiting and time.monotonic() - self._desk.moved_at > most:
+                tell("error", f"the program owes an answer for {most:g} s, so it is killed")
                 self.kill()
 
     async def _live(self) -> Tuple[int, str]:
