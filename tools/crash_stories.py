@@ -54,6 +54,10 @@ class Story:
             asked.append(b'{"op":"call","from":"%b/probe","id":2,"grain":"%b","method":"%b"}' % (tenant, grain, LOOKS[kind.decode()].encode()))
         return asked
 
+    def asks(self) -> bytes:
+        """The looks, as an input."""
+        return b"".join(line + b"\n" for line in self.probe)
+
     def data(self, first: int = 0) -> bytes:
         """The lines from one on, as an input."""
         return b"".join(line + b"\n" for line in self.lines[first:])

@@ -76,47 +76,54 @@ class DiskFolder:
         try:
             with contextlib.suppress(FileExistsError):
                 os.mkdir(self.path, FOLDER_OF_THE_OWNER)
-            self.lock = os.open(f"{self.path}/{LOCK}", os.O_RDWR | os.O_CREAT, OF_THE_OWNER)
+            self.lock = self.opened(LOCK, os.O_CREAT)
         except (OSError, ValueError) as error:
             raise NotWritten from error
         try:
             fcntl.flock(self.lock, fcntl.LOCK_EX | fcntl.LOCK_NB)
         except OSError as error:
             raise InUse from error
+        return self.read()
+
+    def read(self) -> Optional[bytes]:
+        """The bytes of the log, which is then on the disk, with its name."""
         try:
+            self.log = self.opened(LOG)
             content = pathlib.Path(self.path, LOG).read_bytes()
         except FileNotFoundError:
             return None
         except OSError as error:
             raise NotRead from error
-        self.open_log()
-        return content
-
-    def open_log(self) -> None:
         try:
-            self.log = os.open(f"{self.path}/{LOG}", os.O_WRONLY | os.O_APPEND)
+            os.fsync(self.log)
+            self.sync_names()
         except OSError as error:
             raise NotWritten from error
+        return content
+
+    def opened(self, name: str, flags: int = 0) -> int:
+        """A file of the folder, to be read and written at its end. It can't be a link."""
+        return os.open(f"{self.path}/{name}", os.O_RDWR | os.O_APPEND | os.O_NOFOLLOW | flags, OF_THE_OWNER)
 
     def begin(self, head: bytes) -> None:
         beside = f"{self.path}/{NEW_LOG}"
         try:
-            made = os.open(beside, os.O_WRONLY | os.O_CREAT | os.O_TRUNC | os.O_NOFOLLOW, OF_THE_OWNER)
+            # what an earlier start left
+            with contextlib.suppress(FileNotFoundError):
+                os.unlink(beside)
+            made = self.opened(NEW_LOG, os.O_CREAT | os.O_EXCL)
             write_whole(made, head)
-            self.sync_file(made)
-            os.close(made)
+            os.fsync(made)
             os.rename(beside, f"{self.path}/{LOG}")
-            folder = os.open(self.path, os.O_RDONLY)
-            self.sync_file(folder)
-            os.close(folder)
+            self.sync_names()
         except OSError as error:
             raise NotWritten from error
-        self.open_log()
+        self.log = made
 
     def keep(self, length: int) -> None:
         try:
             os.ftruncate(self.log, length)
-            self.sync_file(self.log)
+            os.fsync(self.log)
         except OSError as error:
             raise NotWritten from error
 
@@ -133,15 +140,18 @@ class DiskFolder:
         except OSError as error:
             raise NotWritten from error
 
+    def sync_names(self) -> None:
+        """Has the names of the folder's files, and its own, on the disk."""
+        for path in (self.path, f"{self.path}/.."):
+            folder = os.open(path, os.O_RDONLY)
+            os.fsync(folder)
+            os.close(folder)
+
     def close(self) -> None:
         """Lets go of it, as the end of the process does."""
         for file in (self.lock, self.log):
             if file >= 0:
                 os.close(file)
-
-    def sync_file(self, file: int) -> None:
-        if self.is_synced:
-            os.fsync(file)
 
 
 def write_whole(file: int, content: bytes) -> None:

@@ -141,6 +141,20 @@ def a_folder_that_another_has_is_in_use() -> bool:
         return found == (b"", b"silo: the data are in use\n", 1) and on_disk(folder, b"") == (b"", b"", 0)
 
 
+def links_are_no_files_of_the_folder() -> bool:
+    """A lock or a log that is a link is refused; one that an earlier start left beside is taken away, and what it leads to is kept."""
+    found = []
+    for name in ("lock", "log", "log.new"):
+        with tempfile.TemporaryDirectory() as folder:
+            aside, data = pathlib.Path(folder, "aside"), pathlib.Path(folder, "data")
+            aside.write_bytes(b"kept")
+            data.mkdir()
+            (data / name).symlink_to("../aside")
+            found.append((on_disk(str(data), b""), aside.read_bytes()))
+    writing, reading = ((b"", f"silo: {what} failed\n".encode(), 1) for what in ("writing", "reading"))
+    return found == [(writing, b"kept"), (reading, b"kept"), ((b"", b"", 0), b"kept")]
+
+
 def a_folder_that_cant_be_made_cant_be_written() -> bool:
     with tempfile.TemporaryDirectory() as folder:
         file = pathlib.Path(folder, "file")
@@ -149,17 +163,17 @@ def a_folder_that_cant_be_made_cant_be_written() -> bool:
 
 
 def what_one_piece_brings_is_a_batch() -> bool:
-    """Also the end of a line whose beginning another brought, and one by one once they are above a megabyte."""
+    """Also the end of a line whose beginning another brought. Once its lines have more than a megabyte, another begins."""
     put = call(1, SHEET, "put", {"name": "k", "value": "x" * 60_000})
     files = {"d/log": log_of().encode()}
     lines = [line.encode() + b"\n" for line in ADD + MORE + GET] + [put[0].encode() + b"\n"] * 20
+    # 17 lines have less than a megabyte, and 18 more
     pieces = [lines[0] + lines[1][:9], lines[1][9:12], lines[1][12:] + lines[2], b"", b"".join(lines[3:]), b"last"]
     run = run_program(ANSWER, pieces, files)
-    said = (put, ok(1, None))
     batches = [FIRST, (MORE + GET, ok(2, 7) + ok(3, 7)), (put * 18, ok(1, None) * 18), (put * 2, ok(1, None) * 2), (["last"], NOT_A_REQUEST)]
-    return run.files["d/log"].decode() == log_of(*batches) and len(said[0][0]) * 17 < 1_048_576
+    return run.files["d/log"].decode() == log_of(*batches)
 
 
 DATA_CALLS: tuple[Callable[[], bool], ...] = (
     a_new_folder_has_a_log_of_its_lines, two_new_logs_have_two_numbers, what_is_on_the_disk_is_its_owners,
-    a_folder_that_another_has_is_in_use, a_folder_that_cant_be_made_cant_be_written, what_one_piece_brings_is_a_batch)
+    a_folder_that_another_has_is_in_use, links_are_no_files_of_the_folder, a_folder_that_cant_be_made_cant_be_written, what_one_piece_brings_is_a_batch)

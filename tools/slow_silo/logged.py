@@ -10,7 +10,7 @@ from .lines import MAX_LINE, TooMuchInput
 from .log import Place, Words, cut_head, head_text, read_log, spelled
 from .silo import Silo
 
-# lines and texts of a batch above which it is closed, in bytes
+# bytes of lines, and of texts, above which a batch takes no line more
 MAX_BATCH = 1_048_576
 
 
@@ -69,14 +69,15 @@ class Batch:
         self.folder, self.place, self.tell = folder, place, tell
         self.lines: list[bytes] = []
         self.texts: list[bytes] = []
-        self.length = 0
+        # of the lines as they stand in the log, and of the texts
+        self.asked = self.told = 0
 
     def add(self, line: bytes, text: bytes) -> None:
         self.lines.append(line)
         self.texts.append(text)
-        # as a line of the log
-        self.length += 1 + len(line) + 1 + len(text)
-        if self.length > MAX_BATCH:
+        self.asked += 1 + len(line) + 1
+        self.told += len(text)
+        if self.asked > MAX_BATCH or self.told > MAX_BATCH:
             self.close()
 
     def close(self) -> None:
@@ -88,7 +89,7 @@ class Batch:
         self.folder.sync()
         if text:
             self.tell(text)
-        self.lines, self.texts, self.length = [], [], 0
+        self.lines, self.texts, self.asked, self.told = [], [], 0, 0
 
 
 def answer_logged(silo: Silo, folder: Folder, place: Place, pieces: Iterable[bytes], most: int, tell: Callable[[bytes], None]) -> None:
