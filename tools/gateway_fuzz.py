@@ -105,7 +105,8 @@ class Talk:
         self.say(line[: self.chance.randrange(1, len(line) - 2)] + b"\n", exactly({"error": 10, "text": UNNUMBERED[10]}))
 
     def flipped(self) -> None:
-        line = bytearray(echo(1, self.word()))
+        # without a word of its own, which a flip might turn into another's
+        line = bytearray(echo(1, "flipped"))
         for _ in range(self.chance.randrange(1, 4)):
             byte = self.chance.randrange(256)
             line[self.chance.randrange(len(line) - 1)] = byte if byte != 10 else 0
