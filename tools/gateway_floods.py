@@ -11,11 +11,11 @@ import time
 from typing import List, NamedTuple
 
 from tests.beside import CLIENT
-from tests.gateways import Gateway, call
+from tests.gateways import Gateway, call, soon
 
 TOOLS = pathlib.Path(__file__).resolve().parent
-# how long the flood runs before it is measured
-SECONDS_BEFORE = 0.5
+# how long the flood runs before it is measured, and how many of its lines are answered then: the first 64 are under way at once, whatever they cost
+SECONDS_BEFORE, LINES_BEFORE = 0.5, 100
 # answers of which the 99th of 100 says something
 LEAST = 200
 
@@ -89,6 +89,7 @@ def flooded(way: Way, seconds: float) -> Flooded:
         gateway.wait_for("the gateway listens")
         flooding += [subprocess.Popen(command, env=environment, stdin=subprocess.DEVNULL) for _ in range(way.connections)]
         time.sleep(SECONDS_BEFORE)
+        soon(lambda: not flooding or gateway.figure('silo_latency_seconds_count{tenant="red"}') >= LINES_BEFORE)
         before = gateway.figure('silo_requests_total{tenant="red"}')
         times: List[float] = []
         works: List[float] = []

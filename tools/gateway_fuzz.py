@@ -105,7 +105,8 @@ class Talk:
         self.say(line[: self.chance.randrange(1, len(line) - 2)] + b"\n", exactly({"error": 10, "text": UNNUMBERED[10]}))
 
     def flipped(self) -> None:
-        line = bytearray(echo(1, self.word()))
+        # without a word of its own, which a flip might turn into another's
+        line = bytearray(echo(1, "flipped"))
         for _ in range(self.chance.randrange(1, 4)):
             byte = self.chance.randrange(256)
             line[self.chance.randrange(len(line) - 1)] = byte if byte != 10 else 0
@@ -138,8 +139,11 @@ class Talk:
     def faults(self, told: bytes) -> List[Any]:
         """What is wrong with what it was told, up to where it stopped to read."""
         lines = told.split(b"\n")
-        heard = [json.loads(line) for line in lines[:-1]]
-        strange = [word for word in WORD.findall(told.decode()) if word.partition("-")[0] != f"f{self.number}"]
+        try:
+            heard = [json.loads(line) for line in lines[:-1]]
+        except ValueError as fault:
+            return [f"it was told what is no line: {fault}"]
+        strange = [word for word in WORD.findall(told.decode(errors="replace")) if word.partition("-")[0] != f"f{self.number}"]
         odd = [said for said, wanted in zip(heard, self.wanted) if not wanted(said)]
         return [*strange, *odd, *(["more than was asked"] if len(heard) > len(self.wanted) + (not self.is_whole) else [])]
 

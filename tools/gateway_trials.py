@@ -19,7 +19,6 @@ from tests.test_gateway_faults import Steady
 
 # connections at once, and bytes that the gateway may have in memory, whatever is tried
 AT_ONCE, MOST_RESIDENT = 40, 150 * 2**20
-MOST_RESIDENT_OF_PROGRAM = 512 * 2**20
 MOST_MILLISECONDS = 10.0
 # how often a flood is measured at most
 TIMES = 3
@@ -157,7 +156,8 @@ def floods(trial: Trial) -> None:
     for row in rows:
         trial.add(f"{row.name}: the other's p99 is below {MOST_MILLISECONDS:g} ms", not is_late(row), (row.late, row.work))
         trial.add(f"{row.name}: the gateway's memory is bounded", row.gateway < MOST_RESIDENT, row.gateway)
-        trial.add(f"{row.name}: the program's memory is bounded", row.program < MOST_RESIDENT_OF_PROGRAM, row.program)
+        if trial.words.most_memory is not None:
+            trial.add(f"{row.name}: the program's memory is bounded", row.program < trial.words.most_memory << 20, row.program)
 
 
 PARTS: Dict[str, Callable[[Trial], None]] = {"fuzz": fuzz, "kills": kills, "floods": floods}

@@ -25,7 +25,7 @@ ARCHITECTURES = {0x3E: "amd64", 0xB7: "arm64", 0xF3: "riscv64"}
 RUNNABLE = {"usr/bin/silo", "DEBIAN/postinst", "DEBIAN/prerm", "DEBIAN/postrm"}
 # where Debian's zsh looks; tools/install knows the place of everybody else's
 ZSH, ZSH_OF_DEBIAN = "share/zsh/site-functions/_silo", "share/zsh/vendor-completions/_silo"
-NO_DATA, DATA = '"DATA="', '"DATA=--data /var/lib/silo/%i"'
+NO_DATA, DATA = '"DATA="', '"DATA=--data /var/lib/silo/%i/data"'
 
 
 def said(*words: str) -> bytes:

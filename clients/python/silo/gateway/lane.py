@@ -32,8 +32,8 @@ class Lane:
         self.is_in_turn = False
         # lines and bytes that were read and aren't answered yet; those lines that the program was given
         self.held = self.held_bytes = self.written = 0
-        # as how much of the budget the next line counts, and since when
-        self.weight, self._weighed_at = 1 / MOST_WRITTEN, time.monotonic()
+        # as how much of the budget the next line counts, since when, and how many lines the program may be given by that
+        self._weight, self._weighed_at, self._most_written = 1 / MOST_WRITTEN, time.monotonic(), MOST_WRITTEN
         self.requests = self.told = self.lost = 0
         self.refusals: Dict[str, int] = collections.Counter()
         self.latency = Histogram()
@@ -47,7 +47,7 @@ class Lane:
     @property
     def may_write(self) -> bool:
         """Whether the program may be given a line more of it."""
-        return bool(self._turns) and self.written < max(1, min(MOST_WRITTEN, int(1 / self.weight)))
+        return bool(self._turns) and self.written < self._most_written
 
     def wait(self, guest: Guest) -> None:
         """A connection has lines that wait."""
@@ -83,7 +83,11 @@ class Lane:
         self._stopped[guest] = None
 
     def weigh(self, seconds: float, length: int, now: float) -> None:
-        """A line took so long, and its reply is so long."""
-        weight = max(seconds / BUDGET_SECONDS, length / BUDGET_BYTES, 1e-6)
-        self.weight = max(weight, self.weight * 0.5 ** ((now - self._weighed_at) / HALF_LIFE))
-        self._weighed_at = now
+        """A line took so long, and its reply is so long. It is called for each line, and most are answered at one moment and cost little."""
+        weight = seconds / BUDGET_SECONDS
+        if length > weight * BUDGET_BYTES:
+            weight = length / BUDGET_BYTES
+        if weight > self._weight or now > self._weighed_at:
+            self._weight = max(weight, self._weight * 0.5 ** ((now - self._weighed_at) / HALF_LIFE), 1e-6)
+            self._weighed_at = now
+            self._most_written = max(1, min(MOST_WRITTEN, int(1 / self._weight)))
