@@ -51,7 +51,8 @@ class Story:
         named = {found[0]: found for line in self.lines for found in GRAIN.findall(line) if found[2].decode() in tenants}
         asked = [b'{"op":"status","from":"%b/probe","id":1}' % tenant.encode() for tenant in tenants]
         for grain, kind, tenant in sorted(named.values())[:MOST_LOOKED_AT]:
-            asked.append(b'{"op":"call","from":"%b/probe","id":2,"grain":"%b","method":"%b"}' % (tenant, grain, LOOKS[kind.decode()].encode()))
+            method = LOOKS[kind.decode()].encode()
+            asked.append(b'{"op":"call","from":"%b/probe","id":2,"grain":"%b","method":"%b"}' % (tenant, grain, method))
         return asked
 
     def asks(self) -> bytes:

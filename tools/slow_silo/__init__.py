@@ -4,6 +4,7 @@ It shares no code with the program. To read it beside the definitions, begin wit
 (what a grain's methods come to), `storage` (rows under versions), `steps` (what a step says, and whose it is) and
 `machine` (one tenant's silo, one function for each kind of step). `silo` holds the machines of all tenants beside one
 another. `lines` reads and writes the lines, `answer` answers each at once, `serve` runs the lanes of several clients,
+`log` reads and writes a log's text, `data` has the folder of it, `logged` answers with one,
 `journal` reads and writes a journal's text, `audit` compares a journal with the machines, `laws` looks at what is promised
 of every run, and `program` reads the program's words. `rows`, `answer_rows` and `resting_rows` have worked examples in the
 words of `short_lines`, `call_rows` those that no line makes, and `row_checks` runs all.

@@ -170,7 +170,8 @@ def what_one_piece_brings_is_a_batch() -> bool:
     # 17 lines have less than a megabyte, and 18 more
     pieces = [lines[0] + lines[1][:9], lines[1][9:12], lines[1][12:] + lines[2], b"", b"".join(lines[3:]), b"last"]
     run = run_program(ANSWER, pieces, files)
-    batches = [FIRST, (MORE + GET, ok(2, 7) + ok(3, 7)), (put * 18, ok(1, None) * 18), (put * 2, ok(1, None) * 2), (["last"], NOT_A_REQUEST)]
+    batches = [FIRST, (MORE + GET, ok(2, 7) + ok(3, 7)), (put * 18, ok(1, None) * 18), (put * 2, ok(1, None) * 2),
+               (["last"], NOT_A_REQUEST)]
     return run.files["d/log"].decode() == log_of(*batches)
 
 

@@ -17,8 +17,8 @@ CLIENT = pathlib.Path(__file__).resolve().parent.parent
 ROOT = CLIENT.parent.parent
 WEB = "red/web"
 COUNTER = "counter/red:a"
-# how long a test waits for what has to come
-SECONDS = 20.0
+# how long a test waits for what has to come: only one that fails waits so long, and a machine may be busy
+SECONDS = 60.0
 # the path of the program, which `tools/check-client` sets
 program = ""
 

@@ -51,7 +51,7 @@ class Gateway:
         self._room = tempfile.TemporaryDirectory()
         self.folder = folder or pathlib.Path(self._room.name, "sockets")
         self._told = open(pathlib.Path(self._room.name, "told"), "wb")
-        command = [sys.executable, "-W", "error", "-m", "silo.gateway", "--program", program or beside.program, *words]
+        command = [sys.executable, "-W", "error", "-m", "silo.gateway", "--program", program or beside.program, "--grace", f"{SECONDS:g}", *words]
         command += [os.fspath(self.folder), *tenants, *(["--", *further] if further else [])]
         environment = {**os.environ, "PYTHONPATH": os.fspath(CLIENT)}
         self.process = subprocess.Popen(command, env=environment, stdin=subprocess.DEVNULL, stderr=self._told, cwd=self._room.name)
@@ -95,7 +95,7 @@ class Gateway:
         """Has it end, and gives its status."""
         if self.process.poll() is None:
             self.process.send_signal(number)
-        return self.process.wait(SECONDS)
+        return self.process.wait(2 * SECONDS)
 
     def close(self) -> None:
         if self._told.closed:

@@ -45,13 +45,13 @@ def ask(silo: Silo, turn: int) -> None:
     elif turn % 5 == 2:
         asked = silo.ask(WEB, "status")
         asked.add_done_callback(lambda it: None)
-        concurrent.futures.wait([asked], timeout=10)
+        concurrent.futures.wait([asked], timeout=60)
     else:
         silo.call(WEB, COUNTER, "get")
 
 
 def main() -> None:
-    silo = Silo("red:2:4", program=os.environ["SILO"], timeout=20)
+    silo = Silo("red:2:4", program=os.environ["SILO"], timeout=60)
     until = time.monotonic() + SECONDS_OF_ALL
     interrupts, turn = Interrupts(), 0
     thread = threading.Thread(target=interrupts.send)

@@ -156,7 +156,7 @@ class Ends(Loop):
 
     async def test_of_one_that_reads_no_more(self) -> None:
         with mock.patch("silo.aio.stream.MOST_SECONDS_DEAF", 0.1):
-            silo = await self.began("red:1:1", program=self.stub("os.close(0)\ntime.sleep(60)"))
+            silo = await self.began("red:1:1", program=self.stub("os.close(0)\ntime.sleep(600)"))
             with self.assertRaises(SiloEnded):
                 begun = time.monotonic()
                 while time.monotonic() < begun + SECONDS:

@@ -31,7 +31,7 @@ SAY_STRANGE = f"""said = {STRANGE!r}[int(sys.argv[3])]
 read()
 write(said.replace(b"DEEP", b"[" * 30_000 + b"]" * 30_000) + b"\\n")
 read()
-time.sleep(60)"""
+time.sleep(600)"""
 
 
 class Ends(Case):
@@ -150,7 +150,7 @@ class Ends(Case):
             self.assertEqual(silo.close(), 0)
 
     def test_of_one_that_reads_no_more(self) -> None:
-        silo = self.started("red:1:1", program=self.stub("os.close(0)\ntime.sleep(60)"))
+        silo = self.started("red:1:1", program=self.stub("os.close(0)\ntime.sleep(600)"))
         with mock.patch("silo.connection.MOST_SECONDS_DEAF", 0.1):
             self.assertIsInstance(settled(lambda: self.ask_until_it_ends(silo)), SiloEnded)
         self.assertEqual(silo.close(), -9)
@@ -275,5 +275,5 @@ class Processes(Case):
         """The main thread of a process of its own is interrupted all the time, whatever it asks; then all is as before."""
         path = pathlib.Path(__file__).with_name("interrupted.py")
         environment = {**os.environ, "PYTHONPATH": os.fspath(beside.CLIENT), "SILO": beside.program}
-        ran = subprocess.run([sys.executable, os.fspath(path)], env=environment, capture_output=True, timeout=60, check=False)
+        ran = subprocess.run([sys.executable, os.fspath(path)], env=environment, capture_output=True, timeout=300, check=False)
         self.assertEqual((ran.stdout, ran.stderr, ran.returncode), (b"as before\n", b"", 0))

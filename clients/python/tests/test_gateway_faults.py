@@ -69,7 +69,7 @@ while line and b'from' not in line:
     line = read()
 if line:
     write(said + b'\\n')
-    time.sleep(60)
+    time.sleep(600)
 """
 
 

@@ -14,7 +14,7 @@ from .beside import ROOT
 
 NODE = ROOT / "clients" / "node"
 LEAST_VERSION = 20
-MOST_SECONDS = 120
+MOST_SECONDS = 300
 
 
 class Node(unittest.TestCase):

@@ -7,6 +7,7 @@ import re
 import socket
 import subprocess
 import sys
+import tempfile
 from typing import IO, List
 
 from .beside import CLIENT, ROOT, SECONDS
@@ -79,3 +80,14 @@ class Chat(Gateways):
             self.assertEqual(self.told(users[0], ann[0]), [ann_told[1]])
             self.assertEqual(self.told(users[1], bob[0]), [bob_told[1]])
         self.assertEqual(len(rows), 4)
+
+    def test_the_program_may_end(self) -> None:
+        with tempfile.TemporaryDirectory() as folder:
+            gateway = self.gateway("--data", f"{folder}/data", tenants=["chat:10000:4"])
+            service = self.service(gateway)
+            ann, bob = self.user(service, "ann"), self.user(service, "bob")
+            self.assertEqual(self.told(ann, "join lobby"), ["ann is in lobby"])
+            self.assertEqual(self.told(bob, "join lobby", "say lobby hello"), ["bob is in lobby", "1"])
+            gateway.kill_program()
+            self.assertEqual(self.told(ann, "unread", "read lobby", "say lobby yes"), ["lobby: 1", "bob: hello", "2"])
+            gateway.close()
