@@ -3,3 +3,4 @@ pub mod Reports
 pub mod Tenants
 pub mod EachReport
 mod Owned
+pub mod Numbers

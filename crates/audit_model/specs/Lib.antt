@@ -1,3 +1,4 @@
 pub mod Parts
 pub mod Difference
 pub mod Report
+pub mod Numbers

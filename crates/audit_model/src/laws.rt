@@ -3,6 +3,7 @@
 
 ghost use Rattle.audit_model.specs.Report.{EachReport, NoDifference, NoneIsMachines, OneReport, OwnersReported, StartsAsRecorded};
 ghost use Rattle.audit_model.specs.Report.{TenantsInOrder};
+ghost use Rattle.audit_model.specs.Numbers.{NumbersInRange};
 
 /// A journal has a report.
 #[tactic(auto, using(crate::proofs::EachReport::each_report))]
@@ -45,4 +46,11 @@ pub fn owners_reported()
 #[tactic(auto, using(crate::proofs::Owned::starts_as_recorded))]
 pub fn starts_as_recorded()
     ensures { StartsAsRecorded }
+{}
+
+/// If each client of a silo that opened with no rows asked under a number in its range, all numbers of the
+/// silo's journal are in theirs.
+#[tactic(auto, using(crate::proofs::Numbers::numbers_in_range))]
+pub fn numbers_in_range()
+    ensures { NumbersInRange }
 {}

@@ -17,3 +17,4 @@ pub mod Faults
 pub mod Breaks
 pub mod JournalReads
 pub mod OneText
+mod KeptRules

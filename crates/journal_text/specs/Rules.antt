@@ -104,3 +104,40 @@ pub record KeepsRulesIn (form : Form) (j : History) : Type 0 where
 -- The same, of the form in which journals are written.
 abbrev pub KeepsRules : History → Type 0
 KeepsRules j = KeepsRulesIn written j
+
+-- ---- what of the rules no type keeps
+
+-- the number under which a client asks by the step, if one does, is in its range
+abbrev pub AsksInRange : Step → Type 0
+AsksInRange (Refuse caller id code) = IsNumber id
+AsksInRange (Calling caller id grain message) = IsNumber id
+AsksInRange (Poke failed caller id grain state) = IsNumber id
+AsksInRange (Status caller id) = IsNumber id
+AsksInRange _ = Unit {0}
+
+-- so is the number of the turn that the step closes, if it closes one
+abbrev pub HasNumbers : Step → Type 0
+HasNumbers (Store grain turn failed) = IsNumber turn
+HasNumbers (End grain turn) = IsNumber turn
+HasNumbers (Abandon grain turn) = IsNumber turn
+HasNumbers s = AsksInRange s
+
+-- so is the number of the client that is told, if one is
+abbrev pub ToNumber : Party → Type 0
+ToNumber (party.Client client id) = IsNumber id
+ToNumber (party.Grain grain) = Unit {0}
+
+-- The numbers of clients and of turns are in their range, and the versions of rows begin at 1.
+pub record HasNumbersInRange (j : History) : Type 0 where
+  pub steps : All HasNumbers j.steps
+  pub replies : All (λ reply. ToNumber reply.recipient) j.replies
+  pub versions : All (λ (row : Grain × Row). 1 ≤ row.1.version) j.rows
+
+-- What is left of the rules where names, codes, messages, states and moments are those of the types that keep them.
+pub record IsInRange (j : History) : Type 0 where
+  pub kinds : IsKinds j.kinds
+  pub age : IsAge j.age
+  pub ages : AreAges j.ages
+  pub is_table : IsTable j.tenants
+  pub numbers : HasNumbersInRange j
+  pub ascending : IsTrue (are_ascending None j.rows)

@@ -3,3 +3,4 @@ pub mod Candidates
 pub mod Draft
 pub mod Answers
 pub mod Sides
+pub mod Kept

@@ -3,13 +3,16 @@
 ghost use Rattle.std.specs.Prelude.{◌≡◌, ◌++◌, ◌<◌, ◌^◌, ◌∷◌, [], length, map, IfOk, OnOk, Ok, Err, string_bytes};
 ghost use Rattle.journal_text.specs.declared.line.Line.TheVariants as line;
 ghost use Rattle.journal_text.specs.Form.{written};
+ghost use Rattle.journal_text.specs.JournalAnswers.{IsJournalText};
 ghost use Rattle.journal_text.specs.RecordedReply.{recorded_of};
+ghost use Rattle.journal_text.specs.Rules.{IsInRange};
 ghost use Rattle.journal_text.specs.Text.{line_text, lines_text, kind_line, kinds_lines, tenant_line, row_line};
 ghost use Rattle.journal_text.specs.Text.{history_of, journal_text};
 ghost use Rattle.journal_text.specs.inside.Sides.{lines_before, lines_behind};
 
 use crate::form::Form;
 use crate::journal::Journal;
+use crate::kept::see_parts;
 use crate::line_writer::{
     push_age, push_close, push_fault, push_head, push_kind, push_kinds, push_recorded, push_row,
     push_step, push_tenant, push_value,
@@ -176,16 +179,24 @@ fn push_parts(alloc: Global, text: &mut String, parts: JournalParts<'_>) -> Resu
     push_behind(alloc, text, parts.rows, parts.steps.len())
 }
 
-/// The text of the journal that has these parts.
+/// The text of the journal that has these parts. It is read as that journal again if what no type keeps of them is in range: the
+/// numbers of clients and turns below 2^63, versions above 0, the ages, the table of tenants, and rows that ascend.
 ///
 /// # Errors
 ///
 /// Out of memory.
 pub fn journal_of_parts(alloc: Global, parts: JournalParts<'_>) -> Result<Vec<u8>, AllocError>
-    ensures { IfOk result (λ text. text.items ≡ journal_text (history_of parts.entry.kinds parts.entry.age
+    ensures text { IfOk result (λ text. text.items ≡ journal_text (history_of parts.entry.kinds parts.entry.age
         parts.entry.ages.now parts.entry.tenants.now parts.entry.steps.now (map recorded_of parts.entry.replies.now)
         parts.entry.rows.now)) }
+
+    // It is a journal's, if what no type keeps of its rules is in range.
+    ensures is_journal { IsInRange (history_of parts.entry.kinds parts.entry.age parts.entry.ages.now parts.entry.tenants.now
+        parts.entry.steps.now (map recorded_of parts.entry.replies.now) parts.entry.rows.now)
+        → IfOk result (λ text. IsJournalText text.items (history_of parts.entry.kinds parts.entry.age parts.entry.ages.now
+        parts.entry.tenants.now parts.entry.steps.now (map recorded_of parts.entry.replies.now) parts.entry.rows.now)) }
 {
+    see_parts(parts);
     let mut text = String::new(alloc);
     push_parts(alloc, &mut text, parts)?;
     Ok(text.into_bytes())

@@ -14,6 +14,7 @@ mod form;
 mod journal;
 mod journal_reader;
 mod journal_writer;
+mod kept;
 pub mod laws;
 mod line;
 mod line_reader;
