@@ -141,17 +141,24 @@ class DiskFolder:
             raise NotWritten from error
 
     def sync_names(self) -> None:
-        """Has the names of the folder's files, and its own, on the disk."""
-        for path in (self.path, f"{self.path}/.."):
-            folder = os.open(path, os.O_RDONLY)
-            os.fsync(folder)
-            os.close(folder)
+        """Has the names of the folder's files on the disk, and its own if the folder above may be read."""
+        sync_folder(self.path)
+        with contextlib.suppress(PermissionError):
+            sync_folder(f"{self.path}/..")
 
     def close(self) -> None:
         """Lets go of it, as the end of the process does."""
         for file in (self.lock, self.log):
             if file >= 0:
                 os.close(file)
+
+
+def sync_folder(path: str) -> None:
+    folder = os.open(path, os.O_RDONLY)
+    try:
+        os.fsync(folder)
+    finally:
+        os.close(folder)
 
 
 def write_whole(file: int, content: bytes) -> None:
