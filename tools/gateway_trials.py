@@ -19,7 +19,6 @@ from tests.test_gateway_faults import Steady
 
 # connections at once, and bytes that the gateway may have in memory, whatever is tried
 AT_ONCE, MOST_RESIDENT = 40, 150 * 2**20
-MOST_MILLISECONDS = 10.0
 # how often a flood is measured at most
 TIMES = 3
 SECONDS = 20.0
@@ -135,9 +134,9 @@ def kills(trial: Trial) -> None:
     print(f"kills: {counts}, in {time.monotonic() - begun:.0f} s; {faults.told:,} answers, and {faults.unknown:,} of which it wasn't known", flush=True)
 
 
-def is_late(row: Flooded) -> bool:
+def is_late(trial: Trial, row: Flooded) -> bool:
     """By the lower of both: beside other programs it is the work that counts."""
-    return min(row.late, row.work) >= MOST_MILLISECONDS
+    return min(row.late, row.work) >= float(trial.words.most_milliseconds)
 
 
 def floods(trial: Trial) -> None:
@@ -147,14 +146,14 @@ def floods(trial: Trial) -> None:
         row = flooded(way, trial.words.seconds)
         # once more if it was too late: what another program did to this machine it seldom does thrice
         for _ in range(0 if trial.words.table else TIMES - 1):
-            if is_late(row):
+            if is_late(trial, row):
                 row = flooded(way, trial.words.seconds)
         print(row.row(), flush=True)
         rows.append(row)
     if trial.words.table:
         return
     for row in rows:
-        trial.add(f"{row.name}: the other's p99 is below {MOST_MILLISECONDS:g} ms", not is_late(row), (row.late, row.work))
+        trial.add(f"{row.name}: the other's p99 is below {trial.words.most_milliseconds:g} ms", not is_late(trial, row), (row.late, row.work))
         trial.add(f"{row.name}: the gateway's memory is bounded", row.gateway < MOST_RESIDENT, row.gateway)
         if trial.words.most_memory is not None:
             trial.add(f"{row.name}: the program's memory is bounded", row.program < trial.words.most_memory << 20, row.program)

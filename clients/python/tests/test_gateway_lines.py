@@ -149,6 +149,23 @@ class Turns(unittest.TestCase):
             self.assertEqual(self.lanes["red"].written, 64)
         self.assertEqual([said["id"] for said in guest.heard], [*range(165)])
 
+    def test_who_takes_little_isnt_taken_for_who_takes_long(self) -> None:
+        for name in ("red", "blue"):
+            Kept(self.desk, self.lanes[name]).take(b"".join(echo(number, "x", f"{name}/web") for number in range(10_000)))
+        now = time.monotonic()
+        for turn in range(100):
+            # the program answers one line by itself, and then all: four milliseconds for each of red's
+            now += 0.2 * HALF_LIFE
+            with mock.patch("silo.gateway.desk.time.monotonic", lambda: now):
+                self.answer_together(1 if turn % 2 else len(self.written), 0.004)
+        self.assertEqual([self.lanes[name].written for name in ("red", "blue")], [1, 64])
+
+    def answer_together(self, count: int, seconds: float) -> None:
+        """The program answers so many lines at once, and works so long on each of red's."""
+        lines, self.written[:count] = [json.loads(line) for line in self.written[:count]], []
+        self.worked += seconds * sum(said["from"] == "red/web" for said in lines)
+        self.desk.feed(b"".join(b'{"error":22,"from":"%b","id":%d,"text":"x"}\n' % (said["from"].encode(), said["id"]) for said in lines))
+
     def test_waiting_for_a_disk_is_no_work(self) -> None:
         guest = Kept(self.desk, self.lanes["red"])
         guest.take(b"".join(echo(number, "r") for number in range(1_000)))

@@ -4,7 +4,7 @@ from __future__ import annotations
 
 import collections
 import time
-from typing import Callable, Deque, Dict, List, Optional, Protocol, Set
+from typing import Callable, Deque, Dict, List, Optional, Protocol, Set, Tuple
 
 from silo.gateway.asked import Line, read_line
 from silo.gateway.guest import Guest
@@ -18,6 +18,7 @@ MOST_WRITTEN = 256
 MOST_BYTES_WRITTEN = 1_048_576
 # how long lines are read before connections are looked at again
 MOST_SECONDS_AT_ONCE = 0.002
+NOTHING = (0, 0)
 # the operator's tenant
 OPERATOR = ""
 
@@ -67,6 +68,8 @@ class Desk:
         # how long the program has worked, and had when it last answered
         self._worked: Callable[[], float] = time.monotonic
         self._had_worked = 0.0
+        # of each tenant how many lines were answered by what was read last, and the longest reply
+        self._answered: Dict[Lane, Tuple[int, int]] = {}
         # when the program last answered, or was last given a line while none was under way
         self.moved_at = time.monotonic()
 
@@ -183,15 +186,28 @@ class Desk:
         self._torn = [data[end + 1 :]]
         self.moved_at = now = time.monotonic()
         worked = self._worked()
-        seconds, self._had_worked = (worked - self._had_worked) / len(lines), worked
+        seconds, self._had_worked = worked - self._had_worked, worked
         try:
             for line in lines:
-                self._take(line, now, seconds)
+                self._take(line, now)
         finally:
+            self._weigh(seconds, now)
             self._flush()
         self.fill()
 
-    def _take(self, line: bytes, now: float, seconds: float) -> None:
+    def _weigh(self, seconds: float, now: float) -> None:
+        """Shares out what the program has worked among the lines that it answered, by what their tenants' lines cost of late.
+
+        A sweep may take long, so where the gateway has asked too, no tenant is held to have.
+        """
+        whole = sum([lane.weight * count for lane, (count, _) in self._answered.items()])
+        if self.own in self._answered:
+            seconds = 0.0
+        for lane, (_, longest) in self._answered.items():
+            lane.weigh(seconds * lane.weight / whole, longest, now)
+        self._answered.clear()
+
+    def _take(self, line: bytes, now: float) -> None:
         reply = read_reply(line)
         if reply.told:
             self._hand_told(reply.told, line)
@@ -207,7 +223,8 @@ class Desk:
         self._hand(asked.asker, self._answer(asked, reply, line))
         self._asked.popleft()
         self._last = asked
-        asked.lane.weigh(seconds, len(line), now)
+        count, longest = self._answered.get(asked.lane, NOTHING)
+        self._answered[asked.lane] = (count + 1, longest if longest > len(line) else len(line))
         if asked.line.caller:
             asked.lane.latency.note(now - asked.since)
         self._let_go(asked)

@@ -15,7 +15,7 @@ MOST_WRITTEN = 64
 BUDGET_SECONDS = 0.002
 BUDGET_BYTES = 1_048_576
 # in how long a dear line counts for half as much: long, or else lines that cost little between bursts of dear ones would hide these
-HALF_LIFE = 2.0
+HALF_LIFE = 1.0
 
 
 class Lane:
@@ -33,7 +33,7 @@ class Lane:
         # lines and bytes that were read and aren't answered yet; those lines that the program was given
         self.held = self.held_bytes = self.written = 0
         # as how much of the budget the next line counts, since when, and how many lines the program may be given by that
-        self._weight, self._weighed_at, self._most_written = 1 / MOST_WRITTEN, time.monotonic(), MOST_WRITTEN
+        self.weight, self._weighed_at, self._most_written = 1 / MOST_WRITTEN, time.monotonic(), MOST_WRITTEN
         self.requests = self.told = self.lost = 0
         self.refusals: Dict[str, int] = collections.Counter()
         self.latency = Histogram()
@@ -83,11 +83,8 @@ class Lane:
         self._stopped[guest] = None
 
     def weigh(self, seconds: float, length: int, now: float) -> None:
-        """A line took so long, and its reply is so long. It is called for each line, and most are answered at one moment and cost little."""
-        weight = seconds / BUDGET_SECONDS
-        if length > weight * BUDGET_BYTES:
-            weight = length / BUDGET_BYTES
-        if weight > self._weight or now > self._weighed_at:
-            self._weight = max(weight, self._weight * 0.5 ** ((now - self._weighed_at) / HALF_LIFE), 1e-6)
-            self._weighed_at = now
-            self._most_written = max(1, min(MOST_WRITTEN, int(1 / self._weight)))
+        """Lines took so long each, and the longest of their replies is so long."""
+        old = self.weight * 0.5 ** ((now - self._weighed_at) / HALF_LIFE)
+        self.weight = max(seconds / BUDGET_SECONDS, length / BUDGET_BYTES, old, 1e-6)
+        self._weighed_at = now
+        self._most_written = max(1, min(MOST_WRITTEN, int(1 / self.weight)))
