@@ -15,3 +15,4 @@ mod Reports
 mod Strided
 mod PartsMerged
 mod PartsGiven
+mod ReadBack

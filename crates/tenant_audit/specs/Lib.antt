@@ -1,4 +1,5 @@
 pub mod SiloJournal
 pub mod ReportView
 pub mod ReportText
+pub mod ReadBack
 pub mod inside

@@ -7,6 +7,7 @@ ghost use Rattle.journal_text.specs.Text.{History, journal_text};
 ghost use Rattle.journal_text.specs.JournalAnswers.{IsJournalText, IsMigrated};
 ghost use Rattle.grain_kinds.specs.Kinds.{logic_of};
 ghost use Rattle.audit_model.specs.Report.{NoDifference, IsReport, TenantReport};
+ghost use Rattle.tenant_audit.specs.ReadBack.{ReadsBack, ReportsNone};
 
 /// No two journals that keep the rules have the same text.
 pub fn one_text()
@@ -32,3 +33,10 @@ pub fn same_report()
     journal_text::laws::one_journal();
     audit_model::laws::one_report();
 }
+
+/// What is written of a silo, as `write_journal` says of it, is read as the silo's journal and refused at no line; and whoever
+/// audits it reports no difference of any tenant.
+pub fn written_reads_back()
+    ensures read { ReadsBack }
+    ensures report { ReportsNone }
+{}

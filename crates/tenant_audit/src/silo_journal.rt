@@ -1,7 +1,9 @@
 //! The journal of a silo.
 
-ghost use Rattle.std.specs.Prelude.{◌≡◌, ℕ, List, [], None, IfOk};
+ghost use Rattle.std.specs.Prelude.{◌≡◌, ℕ, List, [], All, None, IfOk};
 ghost use Rattle.std.specs.FinMap.{entries};
+ghost use Rattle.journal_text.specs.JournalAnswers.{IsJournalText};
+ghost use Rattle.journal_text.specs.Rules.{AsksInRange};
 ghost use Rattle.journal_text.specs.Text.{journal_text};
 ghost use Rattle.grain_kinds.specs.Kinds.{logic_of};
 ghost use Rattle.audit_model.specs.Report.{IsFirstDifference};
@@ -26,6 +28,10 @@ pub fn write_journal<S: GrainStorage, L: Version>(
 ) -> Result<Vec<u8>, AllocError>
     requires { entries silo.now.setup.rows ≡ [] }
     ensures text { IfOk result (λ text. text.items ≡ journal_text (journal_of L.number silo.now)) }
+
+    // It is read as that journal again, if each client asked under a number below 2^63.
+    ensures is_journal { All AsksInRange silo.now.journal
+        → IfOk result (λ text. IsJournalText text.items (journal_of L.number silo.now)) }
 
     // What is recorded of each tenant is what the tenant's machine does, under the logic that is named.
     ensures no_difference { (tenant : List ℕ)
