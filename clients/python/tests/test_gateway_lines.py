@@ -98,7 +98,7 @@ class Kept(Guest):
     """A connection that is none: what it is told is kept."""
 
     def __init__(self, desk: Desk, lane: Lane) -> None:
-        super().__init__(lane, 10_000, desk.lines_wait, lambda guest: None)
+        super().__init__(lane, 10_000, desk.lines_wait, lambda guest: None, desk.close_later)
         self.heard: List[Any] = []
 
     def tell(self, reply: bytes) -> None:

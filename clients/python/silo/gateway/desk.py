@@ -6,7 +6,7 @@ import collections
 import time
 from typing import Callable, Deque, Dict, List, Optional, Protocol, Set, Tuple
 
-from silo.gateway.asked import Line, read_line
+from silo.gateway.asked import Line, answered, read_line
 from silo.gateway.guest import Guest
 from silo.gateway.lane import Lane
 from silo.gateway.replied import Reply, read_reply
@@ -31,6 +31,23 @@ class Asker(Protocol):
     def flush(self) -> None: ...
 
     def let_go(self, length: int) -> None: ...
+
+
+class LastWords:
+    """Who waits for all to be told to a connection that has ended."""
+
+    def __init__(self, guest: Guest) -> None:
+        self._guest = guest
+
+    def tell(self, reply: bytes) -> None:
+        pass
+
+    def flush(self) -> None:
+        pass
+
+    def let_go(self, length: int) -> None:
+        self._guest.flush()
+        self._guest.close()
 
 
 class Asked:
@@ -120,6 +137,11 @@ class Desk:
         self.own.hold(1, 0)
         self._write(self._put(Asked(asker, self.own, line, b"", time.monotonic(), 0)))
         return True
+
+    def close_later(self, guest: Guest) -> None:
+        """Closes a connection once the program has told all that it tells behind what was answered: a fence is answered behind that."""
+        if not self.ask(LastWords(guest), answered(b"")):
+            guest.close()
 
     def fill(self) -> None:
         """Gives the program as many lines as it may have."""

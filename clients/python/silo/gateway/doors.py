@@ -141,7 +141,7 @@ class Doors:
         """A connection more of a tenant, if it may have one."""
         if len(lane.guests) >= self._most_connections:
             return None
-        guest = Guest(lane, self._most_of_connection, self._desk.lines_wait, lane.guests.discard)
+        guest = Guest(lane, self._most_of_connection, self._desk.lines_wait, lane.guests.discard, self._desk.close_later)
         lane.guests.add(guest)
         return guest
 

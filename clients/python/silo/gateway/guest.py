@@ -30,10 +30,12 @@ ROOM = memoryview(bytearray(MOST_AT_ONCE))
 class Guest(asyncio.BufferedProtocol):
     """Reads lines, keeps them until their turn comes, and writes what is told. It isn't read while it has too much under way."""
 
-    def __init__(self, lane: Lane, most: int, on_lines: Callable[[Guest], None], on_gone: Callable[[Guest], None]) -> None:
+    def __init__(
+        self, lane: Lane, most: int, on_lines: Callable[[Guest], None], on_gone: Callable[[Guest], None], on_last: Callable[[Guest], None]
+    ) -> None:
         self.lane = lane
         self._most = most
-        self._on_lines, self._on_gone = on_lines, on_gone
+        self._on_lines, self._on_gone, self._on_last = on_lines, on_gone, on_last
         # lines that wait, and when each was read; none for one that was too long
         self.waiting: Deque[Tuple[Optional[bytes], float]] = collections.deque()
         # lines and bytes that were read and aren't answered yet
@@ -43,6 +45,7 @@ class Guest(asyncio.BufferedProtocol):
         self._transport: Optional[asyncio.Transport] = None
         self._told: List[bytes] = []
         self._is_reading = self._is_deaf = self._has_ended = self._is_lost = self._is_last_call_over = False
+        self._is_last_asked = False
         self._deaf_timer: Optional[asyncio.TimerHandle] = None
         self._unread = 0
         self._heard_at = 0.0
@@ -183,5 +186,7 @@ class Guest(asyncio.BufferedProtocol):
             self._deaf_timer = asyncio.get_running_loop().call_later(MOST_SECONDS_IN_THE_WAY / 2, self._look_again)
 
     def _close_if_done(self) -> None:
-        if self._has_ended and self.held == 0 and self._transport is not None:
-            self._transport.close()
+        if self._has_ended and self.held == 0 and self._transport is not None and not self._is_last_asked:
+            # what its grains are told comes behind the answer
+            self._is_last_asked = True
+            self._on_last(self)
