@@ -1,41 +1,34 @@
 //! The files of the host.
 
+ghost use Rattle.std.specs.Prelude.{◌≡◌, None};
+
 use crate::counted_reader::{CountedReader, read_to_end};
 use crate::files::{FileFault, WholeFiles, fault_of};
-use host_writing::{replace_file, write_file};
+use host_writing::TriedPath;
 use std::alloc::Global;
-use std::fs;
 use std::fs::File;
-use std::io::ErrorKind;
+use std::random::RandomSource;
 use std::rt::Files;
 
-/// What a new file's name ends with until it is in its place.
-const BESIDE: &str = ".new";
-
-/// The files of the host.
+/// The files of the host. What is written to a path first only tries it, if something is there: the older file stands until what
+/// is written next takes its place, and a pipe or a device is opened then, and gets what is written next. At a path where nothing is,
+/// what is written first is the file.
 #[derive(Drop)]
-pub struct HostFiles<'a, R> {
-    pub rt: &'a R,
+pub struct HostFiles<'a, R: Files> {
+    rt: &'a R,
+    tried: Option<TriedPath<R::File>>,
 }
 
-/// Whether a new file may take the path's place: there is a regular file, and no link to one, or nothing.
-fn is_replaceable(files: &impl Files, path: &str) -> bool {
-    match fs::symlink_metadata(files, path) {
-        Ok(found) => found.is_file(),
-        Err(error) => error.kind() == ErrorKind::NotFound,
+impl<'a, R: Files> HostFiles<'a, R> {
+    /// No path was tried yet.
+    pub fn new(rt: &'a R) -> HostFiles<'a, R>
+        ensures { result.tried ≡ None }
+    {
+        HostFiles { rt, tried: None }
     }
 }
 
-/// The name of a new file beside the path.
-fn name_beside(alloc: Global, path: &str) -> Result<String, FileFault> {
-    let mut name = String::new(alloc);
-    if name.push_str(path).is_err() || name.push_str(BESIDE).is_err() {
-        return Err(FileFault::Memory);
-    }
-    Ok(name)
-}
-
-impl<R: Files + AllocGlobal> WholeFiles for HostFiles<'_, R> {
+impl<R: Files + AllocGlobal + RandomSource> WholeFiles for HostFiles<'_, R> {
     fn read_whole(&self, alloc: Global, path: &str) -> Result<Vec<u8>, FileFault> {
         match File::open(self.rt, path) {
             Ok(file) => read_to_end(alloc, &mut CountedReader::new(file)),
@@ -44,10 +37,17 @@ impl<R: Files + AllocGlobal> WholeFiles for HostFiles<'_, R> {
     }
 
     fn write_whole(&mut self, alloc: Global, path: &str, bytes: &[u8]) -> Result<(), FileFault> {
-        if !is_replaceable(self.rt, path) {
-            return write_file(self.rt, path, bytes).map_err(fault_of);
+        if let Some(tried) = &mut self.tried {
+            if tried.is_at(path) {
+                return tried.write(self.rt, alloc, bytes).map_err(fault_of);
+            }
         }
-        let beside = name_beside(alloc, path)?;
-        replace_file(self.rt, path, beside.as_str(), bytes).map_err(fault_of)
+        match TriedPath::of(self.rt, alloc, path, bytes) {
+            Ok(tried) => {
+                self.tried = Some(tried);
+                Ok(())
+            }
+            Err(error) => Err(fault_of(error)),
+        }
     }
 }

@@ -1,18 +1,16 @@
-//! Writing a file whole.
+//! Writing a file whole, so that the older one stands until the new one does.
+
+ghost use Rattle.std.specs.Prelude.{◌≡◌, ◌+◌, ◌*◌, bit_and, if◌then◌else◌};
 
 use crate::limit::{length_of, size_limit};
-use std::fs::{File, OpenFile};
+use std::fs::{File, Metadata, OpenFile, OpenOptions, Permissions};
 use std::io::{ErrorKind, Write};
+use std::os::unix::fs::{MetadataExt, OpenOptionsExt, PermissionsExt};
 use std::rt::Files;
 use std::{fs, io};
 
-/// Whether a write to the path is a write to a regular file, or makes one. Links are followed.
-fn is_limited(files: &impl Files, path: &str) -> bool {
-    match fs::metadata(files, path) {
-        Ok(found) => found.is_file(),
-        Err(error) => error.kind() == ErrorKind::NotFound,
-    }
-}
+/// Who may read and write a new file: its owner.
+const NEW_MODE: u32 = 0o600;
 
 /// Fails where the bytes don't fit into a file.
 fn check_size(files: &impl Files, bytes: &[u8]) -> io::Result<()> {
@@ -22,53 +20,132 @@ fn check_size(files: &impl Files, bytes: &[u8]) -> io::Result<()> {
     }
 }
 
-/// Fails where a regular file hasn't the length that was written. Closing a file tells nothing; if it lost something, that shows
+/// Fails where the file hasn't the length that was written. Closing a file tells nothing; if it lost something, that shows
 /// here.
 fn check_length(files: &impl Files, path: &str, bytes: &[u8]) -> io::Result<()> {
     match length_of(files, path) {
-        Some(length) if length != bytes.len() as u64 => Err(io::Error::from(ErrorKind::Other)),
-        _ => Ok(()),
+        Some(length) if length == bytes.len() as u64 => Ok(()),
+        _ => Err(io::Error::from(ErrorKind::Other)),
     }
 }
 
-/// Writes the bytes over whatever is at the path. What is no regular file stays what it is.
-///
-/// # Errors
-///
-/// A call at the path failed, or a regular file has another length once it is closed, and then a part of the bytes may be there;
-/// or a regular file, or a link to one, may not be as long, and then nothing was done.
-pub fn write_file(files: &impl Files, path: &str, bytes: &[u8]) -> io::Result<()> {
-    if is_limited(files, path) {
-        check_size(files, bytes)?;
+/// Who may use a file that takes another's place: those who might use the other, by its mode. Of a file of another group the
+/// group may do no more than everybody.
+fn mode_kept(mode: u32, is_of_its_group: bool) -> u32
+    ensures { result ≡ bit_and mode (if is_of_its_group then 511 else 455 + 8 * bit_and mode 7) }
+{
+    if is_of_its_group {
+        mode & 0o777
+    } else {
+        mode & (0o707 + 8 * (mode & 0o007))
     }
-    fs::write(files, path, bytes)?;
-    check_length(files, path, bytes)
 }
 
-/// Writes a new file, waits until it is on the disk, and closes it.
-fn write_to_disk(files: &impl Files, path: &str, bytes: &[u8]) -> io::Result<()> {
-    let mut file = File::create(files, path)?;
+/// Makes a new file. It fails where anything has the path, a link as well.
+fn make_file<R: Files>(files: &R, path: &str) -> io::Result<R::File> {
+    let mut options = OpenOptions::new();
+    options.write(true).create_new(true);
+    options.mode(NEW_MODE);
+    options.open(files, path)
+}
+
+/// Writes a new file, gives it the rights of the older one, if there is one, waits until it is on the disk, and closes it.
+fn fill_file<F: OpenFile + Write + Drop>(
+    mut file: F,
+    older: Option<&Metadata>,
+    bytes: &[u8],
+) -> io::Result<()> {
     file.write_all(bytes)?;
-    file.sync_all()
+    if let Some(older) = older {
+        let made = OpenFile::metadata(&file)?;
+        let mode = mode_kept(older.mode(), made.gid() == older.gid());
+        if made.mode() & 0o777 != mode {
+            OpenFile::set_permissions(&file, Permissions::from_mode(mode))?;
+        }
+    }
+    OpenFile::sync_all(&file)
 }
 
-/// Writes a new file beside the path, and puts it in its place once it is on the disk and closed.
+/// Has a new file at this path, on the disk and closed, or none.
+fn make_beside(
+    files: &impl Files,
+    beside: &str,
+    older: Option<&Metadata>,
+    bytes: &[u8],
+) -> io::Result<()> {
+    let mut made = fill_file(make_file(files, beside)?, older, bytes);
+    if made.is_ok() {
+        made = check_length(files, beside, bytes);
+    }
+    if made.is_err() {
+        drop(fs::remove_file(files, beside));
+    }
+    made
+}
+
+/// What is known of the regular file at the path, and nothing if none is there.
 ///
 /// # Errors
 ///
-/// A call failed, or the new file has another length once it is closed, or a file may not be as long. The older file stands as it was
-/// then, and the new one was taken away again.
+/// A call failed, or what is there is no regular file.
+pub fn older_at(files: &impl Files, path: &str) -> io::Result<Option<Metadata>> {
+    match fs::symlink_metadata(files, path) {
+        Ok(found) if found.is_file() => Ok(Some(found)),
+        Ok(_) => Err(io::Error::from(ErrorKind::InvalidInput)),
+        Err(error) if error.kind() == ErrorKind::NotFound => Ok(None),
+        Err(error) => Err(error),
+    }
+}
+
+/// Writes a new file beside the path, where nothing may be, and puts it in the path's place once it is on the disk and closed. The
+/// mode of a regular file that was there stays; a new one is its owner's alone.
+///
+/// # Errors
+///
+/// A call failed, or the new file has another length once it is closed, or a file may not be as long. What was at the path stands as it was
+/// then, and the new file was taken away again.
 pub fn replace_file(files: &impl Files, path: &str, beside: &str, bytes: &[u8]) -> io::Result<()> {
+    let older = older_at(files, path)?;
     check_size(files, bytes)?;
-    let mut placed = write_to_disk(files, beside, bytes);
-    if placed.is_ok() {
-        placed = check_length(files, beside, bytes);
-    }
-    if placed.is_ok() {
-        placed = fs::rename(files, beside, path);
-    }
+    make_beside(files, beside, older.as_ref(), bytes)?;
+    let placed = fs::rename(files, beside, path);
     if placed.is_err() {
         drop(fs::remove_file(files, beside));
     }
     placed
+}
+
+/// Writes a new file beside a path, where nothing may be, has it on the disk, closes it, and takes it away again.
+///
+/// # Errors
+///
+/// As of `replace_file`; or it wasn't taken away.
+pub fn try_file(files: &impl Files, beside: &str, bytes: &[u8]) -> io::Result<()> {
+    check_size(files, bytes)?;
+    make_beside(files, beside, None, bytes)?;
+    fs::remove_file(files, beside)
+}
+
+/// Opens what is at the path, to write at its end: no file is made, and none is cut.
+///
+/// # Errors
+///
+/// The call failed, as where a folder is at the path.
+pub fn open_stream<R: Files>(files: &R, path: &str) -> io::Result<R::File> {
+    OpenOptions::new().append(true).open(files, path)
+}
+
+/// Writes all of the bytes.
+///
+/// # Errors
+///
+/// A call failed, and then a part of them may have gone out; or it is a file that may not be as long, and then nothing was written.
+pub fn write_stream<R: Files>(files: &R, stream: &mut R::File, bytes: &[u8]) -> io::Result<()> {
+    let found = OpenFile::metadata(stream)?;
+    if let (true, Some(limit)) = (found.is_file(), size_limit(files)) {
+        if limit.saturating_sub(found.len()) < bytes.len() as u64 {
+            return Err(io::Error::from(ErrorKind::FileTooLarge));
+        }
+    }
+    stream.write_all(bytes)
 }

@@ -39,7 +39,7 @@ where
     E: Write + Drop,
 {
     let mut errors = Output::new(LimitedWriter::new(rt, STDERR_FILE, stderr));
-    let mut files = HostFiles { rt };
+    let mut files = HostFiles::new(rt);
     let words = match words_of(rt) {
         Ok(words) => words,
         Err(fault) => return refuse_words(&fault, &mut errors),
