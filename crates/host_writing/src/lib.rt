@@ -10,5 +10,6 @@ mod limit;
 mod limited_writer;
 mod placing;
 
+pub use limit::size_limit;
 pub use limited_writer::LimitedWriter;
 pub use placing::{replace_file, write_file};
